@@ -1,0 +1,5 @@
+pub mod Told
+pub mod Front
+pub mod Cuts
+pub mod Answered
+pub mod InMemory

@@ -1,0 +1,76 @@
+-- What a value that cuts a stream into lines answers, and what it leaves.
+use Rattle.std.specs.Prelude.{◌≡◌, ◌≢◌, ℕ, ◌+◌, ◌<◌, ◌≤◌, List, [], ◌∷◌, length, Option, Some, None, option_map, IfSome, All, ◌==◌, if◌then◌else◌, MatchOption, ◌⊎◌}
+use Rattle.mk_io.specs.declared.lines.Next.{Next}
+use Rattle.mk_io.specs.declared.lines.Next.TheVariants.{Line, Long, End, ReadFault, TooMany}
+use Rattle.mk_io.specs.Outside.{prepend_known, IsAtEnd}
+use Rattle.mk_io.specs.Stream.{StreamLine, text, long, stream_lines, max_stream_lines, max_stream_bytes}
+
+-- what a `Lines` is seen as: the bytes that it took and has not given, the text of its last line, how many lines
+-- and bytes of lines it gave, and the answer that stays, once there is one
+pub record Cutting : Type 0 where
+  pub left : List ℕ
+  pub line : List ℕ
+  pub given : ℕ
+  pub spent : ℕ
+  pub last : Option Next
+
+abbrev pub fresh : Cutting
+fresh = record { left = []; line = []; given = 0; spent = 0; last = None }
+
+-- the bytes that are still to be given: those that were taken, and those that the source has left
+abbrev pub stream_left : Cutting → Option (List ℕ) → Option (List ℕ)
+stream_left cutting source = prepend_known cutting.left source
+
+-- the length of the first line with its LF
+abbrev pub first_size : List ℕ → ℕ
+first_size [] = 0
+first_size (b ∷ bytes) = if b == 10 then 1 else (1 + first_size bytes)
+
+-- a line was given: it stood in front of the lines that are left, and its bytes were counted
+pub record GivesLine (line : StreamLine) (old new : Cutting) (before after : Option (List ℕ)) : Type 0 where
+  pub lines : option_map stream_lines before ≡ option_map (λ rest. line ∷ stream_lines rest) after
+  pub counted : option_map (λ bytes. old.spent + length bytes) before ≡ option_map (λ rest. new.spent + length rest) after
+  pub given : new.given ≡ old.given + 1
+  pub within_lines : new.given ≤ max_stream_lines
+  pub within_bytes : new.spent ≤ max_stream_bytes
+  pub goes_on : new.last ≡ None
+
+-- nothing was taken, and the answer stays
+pub record Stays (old new : Cutting) (before after : Option (List ℕ)) (last : Next) : Type 0 where
+  pub same : new ≡ record old { line = []; last = Some last }
+  pub untouched : after ≡ before
+
+-- the source failed within a line: the bytes that were taken hold no whole line
+pub record StopsInLine (new : Cutting) (before source : Option (List ℕ)) : Type 0 where
+  pub part : List ℕ
+  pub taken : before ≡ prepend_known part source
+  pub no_lf : All (λ b. b ≢ 10) part
+  pub no_line : new.line ≡ []
+  pub stays : new.last ≡ Some ReadFault
+
+-- the next line is one too many, or holds a byte too many
+pub record IsTooMuch (old : Cutting) (bytes : List ℕ) : Type 0 where
+  pub more : 0 < length bytes
+  pub past : (old.given ≡ max_stream_lines) ⊎ (max_stream_bytes < old.spent + first_size bytes)
+
+-- there are too many lines or bytes: nothing of the line that is too much is given
+pub record Overruns (old new : Cutting) (before source : Option (List ℕ)) : Type 0 where
+  pub part : List ℕ
+  pub taken : before ≡ prepend_known part source
+  pub no_line : new.line ≡ []
+  pub stays : new.last ≡ Some TooMany
+  pub much : IfSome before (IsTooMuch old)
+
+-- what each answer of a call says, where no earlier call gave a last answer
+abbrev pub IsFreshAnswer : Next → Cutting → Cutting → Option (List ℕ) → Option (List ℕ) → Type 0
+IsFreshAnswer Line old new source rest = GivesLine (text new.line) old new (stream_left old source) (stream_left new rest)
+IsFreshAnswer Long old new source rest = GivesLine long old new (stream_left old source) (stream_left new rest) × (new.line ≡ [])
+IsFreshAnswer End old new source rest = Stays old new source rest End × IsAtEnd (stream_left old source)
+IsFreshAnswer ReadFault old new source rest = StopsInLine new (stream_left old source) rest
+IsFreshAnswer TooMany old new source rest = Overruns old new (stream_left old source) rest
+
+-- what a call answers: the last answer again, or a fresh one
+abbrev pub IsAnswer : Next → Cutting → Cutting → Option (List ℕ) → Option (List ℕ) → Type 0
+IsAnswer result old new source rest =
+    MatchOption old.last (IsFreshAnswer result old new source rest)
+    (λ last. (result ≡ last) × Stays old new source rest last)

@@ -1,0 +1,51 @@
+//! The cutting of one line.
+
+ghost use Rattle.std.specs.Prelude.{◌≡◌, ℕ, ◌≤◌, List, Option};
+ghost use Rattle.mk_io.specs.Outside.{Rose, prepend_known};
+ghost use Rattle.mk_io.specs.Cut.{CutsLine};
+
+use crate::outside::Inputs;
+use crate::pending::Pending;
+use crate::text::Text;
+
+/// How the bytes of a line ended.
+pub enum Cut {
+    /// With an LF, which was taken and is counted in the number of bytes.
+    Whole(u64),
+    /// With the stream, after this number of bytes.
+    Last(u64),
+    /// With a read that failed.
+    Fault,
+    /// With a byte for which there was no room.
+    Full,
+}
+
+/// Takes the bytes of a line up to its LF, of which there may be `room`, and keeps the first of them.
+pub fn cut_line<I: Inputs>(pending: &mut Pending, text: &mut Text, inputs: &mut I, room: u64) -> Cut
+    ensures cut { CutsLine result 1025 text.new room
+        (prepend_known pending.old (I.commands inputs.old)) pending.new (I.commands inputs.new) }
+    ensures market { I.market inputs.new ≡ I.market inputs.old }
+    ensures files { (other : List ℕ) → I.file inputs.new other ≡ I.file inputs.old other }
+    ensures later { I.faults inputs.old ≤ I.faults inputs.new }
+    ensures cause { result ≡ Cut.Fault → Rose (I.faults inputs.old) (I.faults inputs.new) }
+{
+    text.clear();
+    let mut size = 0;
+    loop {
+        match pending.refill(inputs) {
+            Err(_) => return Cut::Fault,
+            Ok(false) => return Cut::Last(size),
+            Ok(true) => {
+                let byte = pending.next_byte();
+                if size == room {
+                    return Cut::Full;
+                }
+                size += 1;
+                if byte == b'\n' {
+                    return Cut::Whole(size);
+                }
+                text.push(byte);
+            }
+        }
+    }
+}

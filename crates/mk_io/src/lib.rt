@@ -1,0 +1,20 @@
+//! The outside of the market: where its bytes come from and go to, and the lines of a stream of commands.
+#![tactic(auto)]
+
+mod calls;
+mod cut;
+mod lines;
+mod memory;
+mod outside;
+mod pending;
+mod standard;
+mod status;
+#[cfg(test)]
+mod tests;
+mod text;
+
+pub use lines::{Lines, Next};
+pub use memory::{MemoryInputs, MemorySink, NamedFile};
+pub use outside::{InputFailed, Inputs, Sink, SinkFailed, write_all};
+pub use standard::{StdInputs, StdSink};
+pub use status::Status;

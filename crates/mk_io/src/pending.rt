@@ -1,0 +1,68 @@
+//! Bytes that were read and are still to be taken.
+
+ghost use Rattle.std.specs.Prelude.{◌≡◌, ℕ, ◌<◌, List, [], ◌∷◌, Option, length};
+ghost use Rattle.mk_io.specs.Outside.{HasCause};
+ghost use Rattle.mk_io.specs.Cut.{Refills};
+
+use crate::outside::{InputFailed, Inputs};
+use std::marker::Model;
+
+const READ_BYTES: usize = 4096;
+
+/// The bytes that were read and are still to be taken.
+#[derive(Drop)]
+pub struct Pending {
+    buf: [u8; READ_BYTES],
+    from: usize,
+    to: usize,
+}
+
+impl Model for Pending {
+    ghost use Rattle.std.specs.Prelude.{ℕ, ◌-◌, ◌≤◌, List, take, drop};
+
+    ghost Value = { List ℕ };
+
+    ghost view = { λ p. take (p.to - p.from) (drop p.from p.buf) };
+
+    ghost invariant = { λ p. (p.from ≤ p.to) × (p.to ≤ 4096) };
+}
+
+impl Pending {
+    /// No bytes.
+    pub fn new() -> Pending
+        ensures { result ≡ [] }
+    {
+        Pending {
+            buf: [0; READ_BYTES],
+            from: 0,
+            to: 0,
+        }
+    }
+
+    /// Whether a byte is there, after a read where none was.
+    pub fn refill<I: Inputs>(&mut self, inputs: &mut I) -> Result<bool, InputFailed>
+        ensures cause { HasCause (I.faults inputs.old) (I.faults inputs.new) result }
+        ensures bytes { Refills self.old self.new (I.commands inputs.old) (I.commands inputs.new) result }
+        ensures market { I.market inputs.new ≡ I.market inputs.old }
+        ensures files { (other : List ℕ) → I.file inputs.new other ≡ I.file inputs.old other }
+    {
+        if self.from < self.to {
+            return Ok(true);
+        }
+        self.from = 0;
+        self.to = 0;
+        let count = inputs.read_commands(&mut self.buf)?;
+        self.to = count;
+        Ok(count > 0)
+    }
+
+    /// Takes the next byte.
+    pub fn next_byte(&mut self) -> u8
+        requires { 0 < length self.old }
+        ensures { self.old ≡ result ∷ self.new }
+    {
+        let byte = self.buf[self.from];
+        self.from += 1;
+        byte
+    }
+}

@@ -1,0 +1,79 @@
+//! The text of one line.
+
+ghost use Rattle.std.specs.Prelude.{◌≡◌, ℕ, ◌+◌, List, [], ◌∷◌, ◌++◌, length};
+ghost use Rattle.mk_io.specs.Stream.{max_line_bytes};
+ghost use Rattle.mk_io.specs.Cut.{front, Settles};
+
+use std::marker::Model;
+
+const MAX_LINE_BYTES: usize = 1024;
+
+// one more than a line may have, so that a longer one shows
+const TEXT_BYTES: usize = 1025;
+
+/// The first bytes of a line: one more than a line may have.
+#[derive(Drop)]
+pub struct Text {
+    buf: [u8; TEXT_BYTES],
+    len: usize,
+}
+
+impl Model for Text {
+    ghost use Rattle.std.specs.Prelude.{ℕ, ◌≤◌, List, take};
+
+    ghost Value = { List ℕ };
+
+    ghost view = { λ t. take t.len t.buf };
+
+    ghost invariant = { λ t. t.len ≤ 1025 };
+}
+
+impl Text {
+    /// No bytes.
+    pub fn new() -> Text
+        ensures { result ≡ [] }
+    {
+        Text {
+            buf: [0; TEXT_BYTES],
+            len: 0,
+        }
+    }
+
+    /// Drops all bytes.
+    pub fn clear(&mut self)
+        ensures { self.new ≡ [] }
+    {
+        self.len = 0;
+    }
+
+    /// Adds a byte where there is room for it.
+    pub fn push(&mut self, byte: u8)
+        ensures { self.new ≡ front 1025 (self.old ++ byte ∷ []) }
+    {
+        if self.len < TEXT_BYTES {
+            self.buf[self.len] = byte;
+            self.len += 1;
+        }
+    }
+
+    /// Makes the text that of a whole line, without one CR at its end, and says whether the line is short enough.
+    pub fn settle(&mut self) -> bool
+        ensures { Settles max_line_bytes self.old self.new result }
+    {
+        if self.len > MAX_LINE_BYTES {
+            self.len = 0;
+            return false;
+        }
+        if self.len > 0 && self.buf[self.len - 1] == b'\r' {
+            self.len -= 1;
+        }
+        true
+    }
+
+    /// The bytes.
+    pub fn as_slice(&self) -> &[u8]
+        ensures { result.now ≡ self.now }
+    {
+        &self.buf[..self.len]
+    }
+}
