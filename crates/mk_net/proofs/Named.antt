@@ -1,0 +1,140 @@
+-- The pair that two words name, from the first places of the words.
+use Rattle.std.specs.Prelude.{◌≡◌, ℕ, ◌+◌, ◌<◌, ◌≤◌, List, [], ◌∷◌, Bool, true, false, cond, length, get_or, Option, Some, None, option_map, option_and_then, position, find, slice_get, ltb, slice_index, slice_index_or}
+use Rattle.std.specs.List.{enumerate_from, position_or_len}
+use Rattle.std.proofs.lemmas.List.{length-map}
+use Rattle.std.proofs.lemmas.List.FromFn.{get_or-enumerate_from, length-enumerate_from}
+use Rattle.std.proofs.lemmas.List.Folds.{find_at}
+use Rattle.std.proofs.Common.{refl, sym, ap, ◌∙◌, arith, zero-add}
+use Rattle.std.proofs.lemmas.Bool.{ltb-true, ltb-false}
+use Rattle.std.proofs.lemmas.Option.{slice_get_past, slice_get-get_or}
+use Rattle.std.proofs.lemmas.List.Quantifiers.{position-Some}
+use Rattle.mk_net.specs.Network.{Variable, sizes}
+use Rattle.mk_net.specs.Texts.{same_text}
+use Rattle.mk_net.specs.Named.{nobody, variable_at, value_named, pair_named}
+use Rattle.mk_net.specs.Stored.{variable_of, variables_of}
+use Rattle.mk_net.specs.declared.network.StoredVariable.{StoredVariable}
+use Rattle.mk_net.specs.declared.words.Pair.{Pair}
+use Rattle.mk_net.specs.declared.words.PairText.{PairText}
+use Rattle.mk_net.proofs.StoredReads.{stored_at}
+use Rattle.mk_net.proofs.Networks.{size_at}
+use Rattle.mk_net.proofs.SameText.{equal_of_same_text}
+
+places : (p : Variable → Bool) (xs : List Variable) (j : ℕ) →
+    position_or_len (λ (n : ℕ × Variable). p (n.1)) (enumerate_from j xs) ≡ position_or_len p xs
+places p [] j = refl
+places p (x ∷ xs) j = rw (places p xs (j + 1)) refl
+
+at_place_by : (xs : List Variable) (i : ℕ) (b : Bool) → ltb i (length xs) ≡ b → slice_get (enumerate_from 0 xs) i ≡
+    option_map (λ (k : ℕ). let r : ℕ × Variable = (k, get_or xs k nobody) in r) (cond b (Some i) None)
+at_place_by xs i true h =
+    let within : i < length xs = ltb-true i (length xs) h in
+    let inside : i < length (enumerate_from 0 xs) = rw (length-enumerate_from 0 xs) within in
+    slice_get-get_or (enumerate_from 0 xs) i (0, nobody) inside ∙
+    ap (λ (r : ℕ × Variable). Some r) (get_or-enumerate_from 0 xs i (0, nobody) within ∙
+    ap (λ (k : ℕ). let r : ℕ × Variable = (k, get_or xs i nobody) in r) (zero-add i))
+at_place_by xs i false h =
+    let past : length xs ≤ i = ltb-false i (length xs) h in
+    slice_get_past (enumerate_from 0 xs) i (rw (length-enumerate_from 0 xs) past)
+
+at_place : (xs : List Variable) (i : ℕ) → slice_get (enumerate_from 0 xs) i ≡
+    option_map (λ (k : ℕ). let r : ℕ × Variable = (k, get_or xs k nobody) in r) (cond (ltb i (length xs)) (Some i) None)
+at_place xs i = at_place_by xs i (ltb i (length xs)) refl
+
+-- the first passing element with its number
+numbered : (p : Variable → Bool) (xs : List Variable) →
+    find (λ (n : ℕ × Variable). p (n.1)) (enumerate_from 0 xs) ≡
+    option_map (λ (k : ℕ). let r : ℕ × Variable = (k, get_or xs k nobody) in r) (position p xs)
+numbered p xs = find_at (λ (n : ℕ × Variable). p (n.1)) (enumerate_from 0 xs) ∙
+    ap (λ (i : ℕ). slice_get (enumerate_from 0 xs) i) (places p xs 0) ∙ at_place xs (position_or_len p xs)
+
+stored_place : (p : Variable → Bool) (vs : List StoredVariable) →
+    position_or_len p (variables_of vs) ≡ position_or_len (λ (v : StoredVariable). p (variable_of v)) vs
+stored_place p [] = refl
+stored_place p (v ∷ vs) = rw (stored_place p vs) refl
+
+stored_position : (p : Variable → Bool) (vs : List StoredVariable) →
+    position p (variables_of vs) ≡ position (λ (v : StoredVariable). p (variable_of v)) vs
+stored_position p vs = rw (stored_place p vs, length-map vs variable_of) refl
+
+and_then_map : (value : List ℕ) (network : List Variable) (o : Option ℕ) →
+    option_and_then (value_named value) (option_map (λ (k : ℕ). let r : ℕ × Variable = (k, get_or network k nobody) in r) o) ≡
+    option_and_then (λ (k : ℕ). value_named value (let r : ℕ × Variable = (k, variable_at network k) in r)) o
+and_then_map value network None = refl
+and_then_map value network (Some k) = refl
+
+pub pair_of_places : (network : List Variable) (p : PairText) →
+    pair_named network p ≡ option_and_then (λ (k : ℕ). value_named p.value (let r : ℕ × Variable = (k, variable_at network k) in r))
+    (position (λ (v : Variable). same_text p.variable v.name) network)
+pair_of_places network p =
+    ap (λ (o : Option (ℕ × Variable)). option_and_then (value_named p.value) o) (numbered (λ (v : Variable). same_text p.variable v.name) network)
+    ∙ and_then_map p.value network (position (λ (v : Variable). same_text p.variable v.name) network)
+
+stored_pair : (vs : List StoredVariable) (network : List Variable) (p : PairText) (o : Option ℕ) → variables_of vs ≡ network →
+    o ≡ position (λ (v : StoredVariable). same_text p.variable v.name) vs →
+    pair_named network p ≡ option_and_then (λ (k : ℕ). value_named p.value (let r : ℕ × Variable = (k, variable_at network k) in r)) o
+stored_pair vs network p o view place =
+    let places_are : position (λ (v : Variable). same_text p.variable v.name) network ≡ o =
+    ap (λ (us : List Variable). position (λ (v : Variable). same_text p.variable v.name) us) (sym view) ∙
+    stored_position (λ (v : Variable). same_text p.variable v.name) vs ∙ sym place in
+    pair_of_places network p ∙
+    ap (λ (o : Option ℕ). option_and_then (λ (k : ℕ). value_named p.value (let r : ℕ × Variable = (k, variable_at network k) in r)) o) places_are
+
+pub unknown_variable : (vs : List StoredVariable) (network : List Variable) (p : PairText) → variables_of vs ≡ network →
+    None ≡ position (λ (v : StoredVariable). same_text p.variable v.name) vs → pair_named network p ≡ None
+unknown_variable vs network p view place = stored_pair vs network p None view place
+
+pub known_variable : (vs : List StoredVariable) (network : List Variable) (p : PairText) (k : ℕ) (v : StoredVariable) (o : Option ℕ) →
+    variables_of vs ≡ network → Some k ≡ position (λ (v : StoredVariable). same_text p.variable v.name) vs →
+    k < length vs → v ≡ get_or vs k v → o ≡ position (same_text p.value) v.values.items →
+    pair_named network p ≡ option_map (λ (x : ℕ). let r : Pair = record { variable = k; value = x } in r) o
+known_variable vs network p k v o view place h is values =
+    let inside : k < length network = omega (arith, h, ap (λ (us : List Variable). length us) view, length-map vs variable_of) in
+    stored_pair vs network p (Some k) view place ∙
+    ap (λ (u : Variable). value_named p.value (let r : ℕ × Variable = (k, u) in r)) (stored_at vs network k v view inside is) ∙
+    ap (λ (o : Option ℕ). option_map (λ (x : ℕ). let r : Pair = record { variable = k; value = x } in r) o) (sym values)
+
+value_place : (pair : Pair) (k : ℕ) (o : Option ℕ) → Some pair ≡ option_map (λ (x : ℕ). let r : Pair = record { variable = k; value = x } in r) o →
+    (k ≡ pair.variable) × (o ≡ Some pair.value)
+value_place pair k None h = cc
+value_place pair k (Some x) h =
+    let e : pair ≡ record { variable = k; value = x } = cc in
+    (sym (ap (λ (r : Pair). r.variable) e), ap (λ (r : Pair). Some r.value) (sym e))
+
+places_of : (network : List Variable) (words : PairText) (pair : Pair) (o : Option ℕ) →
+    Some pair ≡ option_and_then (λ (k : ℕ). value_named words.value (let r : ℕ × Variable = (k, variable_at network k) in r)) o →
+    (o ≡ Some pair.variable) × (position (same_text words.value) (variable_at network pair.variable).values ≡ Some pair.value)
+places_of network words pair None h = cc
+places_of network words pair (Some k) h =
+    let place : (k ≡ pair.variable) × (position (same_text words.value) (variable_at network k).values ≡ Some pair.value) =
+    value_place pair k (position (same_text words.value) (variable_at network k).values) h in
+    (ap (λ (k : ℕ). Some k) (place.0), rw (place.0) at (place.1))
+
+-- the first places of the words
+pub pair_places : (network : List Variable) (words : PairText) (pair : Pair) → Some pair ≡ pair_named network words →
+    (position (λ (v : Variable). same_text words.variable v.name) network ≡ Some pair.variable) ×
+    (position (same_text words.value) (variable_at network pair.variable).values ≡ Some pair.value)
+pair_places network words pair h =
+    places_of network words pair (position (λ (v : Variable). same_text words.variable v.name) network) (h ∙ pair_of_places network words)
+
+pub pair_variable_in_range : (network : List Variable) (words : PairText) (pair : Pair) → Some pair ≡ pair_named network words →
+    pair.variable < length network
+pair_variable_in_range network words pair h =
+    (position-Some (λ (v : Variable). same_text words.variable v.name) network pair.variable nobody (pair_places network words pair h).0).0
+
+pub pair_value_in_range : (network : List Variable) (words : PairText) (pair : Pair) → Some pair ≡ pair_named network words →
+    pair.value < slice_index (sizes network) pair.variable
+pair_value_in_range network words pair h = rw (size_at network pair.variable (pair_variable_in_range network words pair h))
+    ((position-Some (same_text words.value) (variable_at network pair.variable).values pair.value [] (pair_places network words pair h).1).0)
+
+-- the pair has these names
+pub pair_variable_name : (network : List Variable) (words : PairText) (pair : Pair) → Some pair ≡ pair_named network words →
+    (variable_at network pair.variable).name ≡ words.variable
+pair_variable_name network words pair h =
+    sym (equal_of_same_text words.variable (variable_at network pair.variable).name
+    (position-Some (λ (v : Variable). same_text words.variable v.name) network pair.variable nobody (pair_places network words pair h).0).1)
+
+pub pair_value_name : (network : List Variable) (words : PairText) (pair : Pair) → Some pair ≡ pair_named network words →
+    slice_index_or (variable_at network pair.variable).values pair.value [] ≡ words.value
+pair_value_name network words pair h =
+    sym (equal_of_same_text words.value (slice_index_or (variable_at network pair.variable).values pair.value [])
+    (position-Some (same_text words.value) (variable_at network pair.variable).values pair.value [] (pair_places network words pair h).1).1)

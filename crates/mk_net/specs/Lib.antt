@@ -1,0 +1,10 @@
+pub mod Name
+pub mod Network
+pub mod Asked
+pub mod Padded
+pub mod PaddedLaws
+pub mod Texts
+pub mod Named
+pub mod Stored
+pub mod Key
+pub mod Drafts

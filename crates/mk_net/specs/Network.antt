@@ -1,0 +1,38 @@
+-- Networks of variables: what each layer knows of the questions of a market.
+use Rattle.std.specs.Prelude.{◌≡◌, ℕ, ◌*◌, ◌<◌, ◌≤◌, List, [], ◌∷◌, length, map, sum, All, slice_index, slice_index_or}
+
+-- a variable: its name, the names of its values, its parents' numbers, and one row for each list of the parents' values
+pub record Variable : Type 0 where
+  pub name : List ℕ
+  pub values : List (List ℕ)
+  pub parents : List ℕ
+  pub rows : List (List ℕ)
+
+-- the numbers of values of the variables, in order
+abbrev pub sizes : List Variable → List ℕ
+sizes network = map (λ (v : Variable). length v.values) network
+
+-- how many lists of values some variables have together
+abbrev pub choices : List ℕ → List ℕ → ℕ
+choices values [] = 1
+choices values (p ∷ parents) = slice_index values p * choices values parents
+
+-- a row gives each value a share of a million, and none nothing
+pub record IsRow (values : ℕ) (row : List ℕ) : Type 0 where
+  pub one_each : length row ≡ values
+  pub positive : All (λ n. 1 ≤ n) row
+  pub whole : sum row ≡ 1000000
+
+-- variable number k, where `values` has the number of values of each variable
+pub record IsVariable (values : List ℕ) (k : ℕ) (v : Variable) : Type 0 where
+  pub two_values : 2 ≤ length v.values
+  pub few_values : length v.values ≤ 16
+  pub few_parents : length v.parents ≤ 8
+  pub parents_earlier : All (λ p. p < k) v.parents
+  pub one_row_each : length v.rows ≡ choices values v.parents
+  pub rows_fit : All (IsRow (length v.values)) v.rows
+
+-- a network: at most 256 variables, each with earlier ones as parents
+pub record IsNetwork (network : List Variable) : Type 0 where
+  pub few : length network ≤ 256
+  pub each : (k : ℕ) (d : Variable) → k < length network → IsVariable (sizes network) k (slice_index_or network k d)

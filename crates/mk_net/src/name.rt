@@ -1,0 +1,142 @@
+//! Names of users, variables and values.
+
+ghost use Rattle.std.specs.Prelude.{◌≡◌, IfSome, IsSome, IsTrue, ◌↔◌};
+ghost use Rattle.mk_net.specs.Name.{IsName};
+ghost use Rattle.mk_net.specs.Name as name;
+ghost use Rattle.std.specs.List.{list_all};
+
+use std::marker::Model;
+
+/// A name: one letter from `a` to `z` and then letters, digits and `_`, at most 32 bytes together.
+#[derive(Clone, Copy, Debug, PartialEq, Eq, Hash)]
+pub struct Name {
+    bytes: [u8; 32],
+    size: u8,
+}
+
+impl Model for Name {
+    ghost use Rattle.std.specs.Prelude.{ℕ, List, length, take};
+    ghost use Rattle.mk_net.specs.Padded.{IsPadded, padded};
+
+    ghost Value = { List ℕ };
+
+    ghost view = { λ n. take n.size n.bytes };
+
+    ghost invariant = { λ n. IsPadded n.bytes n.size };
+
+    ghost inverse = { λ name. record { bytes = padded name; size = length name } };
+
+    ghost use Rattle.std.specs.Prelude.{refl};
+    ghost use Rattle.mk_net.specs.PaddedLaws.{padded_inverse};
+
+    ghost inverse_ok = { λ n kept. padded_inverse n (record { bytes = padded (take n.size n.bytes); size = length (take n.size n.bytes) }) refl refl kept };
+}
+
+/// The name `a`.
+impl Default for Name {
+    ghost use Rattle.std.specs.Prelude.{◌≡◌, [], ◌∷◌};
+
+    ghost is_default = { λ name. name ≡ 97 ∷ [] };
+
+    fn default() -> Name {
+        let mut bytes = [0; 32];
+        bytes[0] = b'a';
+        Name { bytes, size: 1 }
+    }
+}
+
+impl Name {
+    /// The name with these bytes. None exactly where they are no name.
+    pub fn read(bytes: &[u8]) -> Option<Name>
+        ensures some { IsSome result ↔ IsName bytes.now }
+        ensures same { IfSome result (λ name. name ≡ bytes.now) }
+    {
+        if !is_name(bytes) {
+            return None;
+        }
+        let mut kept = [0; 32];
+        kept[..bytes.len()].copy_from_slice(bytes);
+        Some(Name {
+            bytes: kept,
+            size: bytes.len() as u8,
+        })
+    }
+
+    /// Its bytes.
+    pub fn bytes(&self) -> &[u8]
+        ensures same { result.now ≡ self.now }
+        ensures name { IsName self.now }
+    {
+        &self.bytes[..self.size as usize]
+    }
+}
+
+fn is_name(bytes: &[u8]) -> bool
+    ensures { IsTrue result ↔ IsName bytes.now }
+{
+    if bytes.len() > 32 {
+        return false;
+    }
+    begins_with_letter(bytes) && all_name_bytes(bytes)
+}
+
+fn all_name_bytes(bytes: &[u8]) -> bool
+    ensures { result ≡ list_all name.is_name_byte bytes.now }
+{
+    bytes.iter().all(|byte| is_name_byte(*byte))
+}
+
+fn begins_with_letter(bytes: &[u8]) -> bool
+    ensures { result ≡ name.begins_with_letter bytes.now }
+{
+    match bytes {
+        [] => false,
+        [first, ..] => is_lowercase(*first),
+    }
+}
+
+fn is_lowercase(byte: u8) -> bool
+    ensures { result ≡ name.is_lowercase byte }
+{
+    byte.is_ascii_lowercase()
+}
+
+fn is_name_byte(byte: u8) -> bool
+    ensures { result ≡ name.is_name_byte byte }
+{
+    is_lowercase(byte) || byte.is_ascii_digit() || byte == b'_'
+}
+
+#[cfg(test)]
+mod tests {
+    use super::*;
+
+    #[test]
+    fn reads_names_alone(rt: HostRuntime) {
+        for (bytes, is_one) in [
+            (&b"a"[..], true),
+            (&b"rain_2"[..], true),
+            (&b"z__9"[..], true),
+            (&b"abcdefghijklmnopqrstuvwxyz_01234"[..], true),
+            (&b"abcdefghijklmnopqrstuvwxyz_012345"[..], false),
+            (&b""[..], false),
+            (&b"Rain"[..], false),
+            (&b"raiN"[..], false),
+            (&b"2rain"[..], false),
+            (&b"_rain"[..], false),
+            (&b"rain fall"[..], false),
+            (&b"rain\n"[..], false),
+            (&b"r\xc3\xa9gn"[..], false),
+        ] {
+            assert_eq!(rt; Name::read(bytes).is_some(), is_one, "{bytes:?}");
+        }
+    }
+
+    #[test]
+    fn keeps_its_bytes(rt: HostRuntime) {
+        let name = Name::read(b"rain_2").expect(&rt, "a name");
+        assert_eq!(rt; name.bytes(), b"rain_2".as_slice());
+        assert_ne!(rt; name, Name::default());
+        assert_eq!(rt; Name::default().bytes(), b"a".as_slice());
+    }
+}
