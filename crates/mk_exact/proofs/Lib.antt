@@ -1,0 +1,10 @@
+pub mod Sums
+pub mod After
+pub mod Totals
+pub mod Fair
+pub mod Solvent
+pub mod Next
+pub mod Single
+pub mod Range
+pub mod Positive
+pub mod Gains

@@ -1,0 +1,17 @@
+pub mod States
+pub mod InitialWeight
+pub mod Events
+pub mod Ratios
+pub mod History
+pub mod Weight
+pub mod Factors
+pub mod Prices
+pub mod Limits
+pub mod Cash
+pub mod Sound
+pub mod Proper
+pub mod Market
+pub mod Sides
+pub mod Accepted
+pub mod Laws
+pub mod Examples

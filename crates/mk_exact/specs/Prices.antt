@@ -1,0 +1,38 @@
+-- The exact price of a question, and what a printed price and a ratio owe it.
+use Rattle.std.specs.Prelude.{ℕ, ◌+◌, ◌-◌, ◌*◌, ◌^◌, ◌<◌, ◌≤◌, List, Bool}
+use Rattle.mk_net.specs.Network.{Variable}
+use Rattle.mk_net.specs.Asked.{Asked}
+use Rattle.mk_exact.specs.Events.{holds, with_target}
+use Rattle.mk_exact.specs.Ratios.{unit}
+use Rattle.mk_exact.specs.History.{Entry}
+use Rattle.mk_exact.specs.Weight.{total}
+use Rattle.mk_exact.specs.Factors.{Fraction}
+
+-- the share of the states that pass a test among those where the condition holds
+abbrev pub price_where : List Variable → List Entry → Asked → (List ℕ → Bool) → Fraction
+price_where network H asked test = record { num = total network H test; den = total network H (holds asked.condition) }
+
+-- the exact price of a question
+abbrev pub exact_price : List Variable → List Entry → Asked → Fraction
+exact_price network H asked = price_where network H asked (with_target asked)
+
+-- low .. high, in units of 10^-10, covers the price; in the small case they are its floor and its ceiling
+pub record CoversPrice (small : Type 0) (price : Fraction) (low high : ℕ) : Type 0 where
+  pub below : low * price.den ≤ 10 ^ 10 * price.num
+  pub above : 10 ^ 10 * price.num ≤ high * price.den
+  pub at_most_one : high ≤ 10 ^ 10
+  pub narrow : high ≤ low + 2
+  pub floor : small → 10 ^ 10 * price.num < (low + 1) * price.den
+  pub ceiling : small → high * price.den < 10 ^ 10 * price.num + price.den
+
+-- F units take the price to X parts in a million and no further, and nearly so far
+pub record IsFair (small : Type 0) (F X : ℕ) (price : Fraction) : Type 0 where
+  pub positive : 1 ≤ F
+  pub fits : F < 2 ^ 63
+  pub not_above : F * 10 ^ 6 * price.num ≤ X * unit * price.den
+  pub close : X * unit * price.den * (2 ^ 30 - 1) < (F + 1) * 10 ^ 6 * price.num * 2 ^ 30
+  pub floor : small → X * unit * price.den < (F + 1) * 10 ^ 6 * price.num
+
+-- F units leave a factor at least one
+abbrev pub IsSolvent : ℕ → Fraction → Type 0
+IsSolvent F q = unit * q.den ≤ F * q.num

@@ -1,0 +1,24 @@
+-- The ratio of a trade: by how many units it multiplies the weight of a state.
+use Rattle.std.specs.Prelude.{ℕ, ◌^◌, List, ◌==◌, if◌then◌else◌}
+use Rattle.mk_net.specs.declared.words.Pair.{Pair}
+use Rattle.mk_net.specs.Asked.{TradeRatio}
+use Rattle.mk_exact.specs.InitialWeight.{value_at}
+use Rattle.mk_exact.specs.Events.{holds}
+
+-- a ratio of this many units leaves a weight as it was
+abbrev pub unit : ℕ
+unit = 2 ^ 40
+
+abbrev pub variable_of : TradeRatio → ℕ
+variable_of r = r.question.target.variable
+
+abbrev pub condition_of : TradeRatio → List Pair
+condition_of r = r.question.condition
+
+-- the units for each value of the target's variable
+abbrev pub units_of : TradeRatio → ℕ → ℕ
+units_of r value = if value == r.question.target.value then r.hit else r.miss
+
+-- the units for the state's value where the condition holds, and one whole unit where it does not
+abbrev pub ratio_at : TradeRatio → List ℕ → ℕ
+ratio_at r s = if holds (condition_of r) s then units_of r (value_at s (variable_of r)) else unit

@@ -1,0 +1,22 @@
+//! What every accepted change keeps.
+ghost use Rattle.mk_exact.specs.Laws.{SoundNext, ProperNext, SoundAlways, FairPairIsSafe};
+
+/// An acceptable change leads from a sound market to a sound one.
+pub fn sound_next()
+    ensures { SoundNext }
+{}
+
+/// A change in range leads from a proper history to a proper one.
+pub fn proper_next()
+    ensures { ProperNext }
+{}
+
+/// After any number of accepted changes a market is sound, and its history proper.
+pub fn sound_always()
+    ensures { SoundAlways }
+{}
+
+/// A fair and solvent pair, as right limits promise it for each share inside, makes a safe trade.
+pub fn fair_pair_is_safe()
+    ensures { FairPairIsSafe }
+{}

@@ -1,0 +1,18 @@
+//! The exact market: one table over all states, and one factor per user and state. Nothing here runs in the market;
+//! the definitions in `specs/` are what its answers are measured against, and the functions below state laws of them.
+#![tactic(auto)]
+
+mod changes;
+mod examples;
+mod opening;
+mod settling;
+mod trading;
+
+pub use changes::{fair_pair_is_safe, proper_next, sound_always, sound_next};
+pub use examples::{
+    example_cash, example_condition, example_limits, example_networks, example_prices,
+    example_safety, example_trade, example_traders, example_weights,
+};
+pub use opening::{begins_sound, shares_positive, single_opens, weights_begin, weights_positive};
+pub use settling::{gains_bounded, settlement_bounded};
+pub use trading::{price_moves, solvent_stays, total_never_rises};
