@@ -1,0 +1,10 @@
+use Rattle.std.proofs.Common.{◌≡◌, ◌<◌, ◌+◌, ◌*◌, ◌^◌, take, fold, slice_index}
+use Rattle.mk_net.specs.Network.{sizes}
+use Rattle.mk_walk.proofs.weight.row_of.Given as goal
+
+-- the number so far is that of the parents so far, each of which has at most 16 values
+abbrev pub invariant-loop-parent : goal.invariant-loop-parent
+invariant-loop-parent l = record {
+  number : l.row ≡ fold (λ r p. r * slice_index (sizes l.network) p + slice_index l.state p) 0 (take l.parent-index l.parent-items);
+  small : l.row < 16 ^ l.parent-index;
+}

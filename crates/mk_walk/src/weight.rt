@@ -1,0 +1,117 @@
+//! The weight of one state.
+
+ghost use Rattle.std.specs.Prelude.{◌≡◌, ℕ, ◌<◌, ◌≤◌, List, All, length, slice_index};
+ghost use Rattle.mk_net.specs.Network.{sizes};
+ghost use Rattle.mk_net.specs.Named.{variable_at};
+ghost use Rattle.mk_exact.specs.States.{IsState, product_by, numbers_below};
+ghost use Rattle.mk_exact.specs.InitialWeight.{value_at, row_number, entry, initial_weight};
+ghost use Rattle.mk_exact.specs.Events.{holds};
+ghost use Rattle.mk_exact.specs.Ratios.{ratio_at};
+ghost use Rattle.mk_exact.specs.History.{Entry};
+ghost use Rattle.mk_exact.specs.Weight.{weight};
+ghost use Rattle.mk_exact.specs.Factors.{gain};
+ghost use Rattle.mk_walk.specs.Walked.{ratio_of, HasUnits, capped, walked_weight, walked_gain};
+
+use mk_net::{Network, Pair};
+
+/// A trade, as the walk reads it.
+#[derive(Drop)]
+pub struct WalkTrade {
+    pub user: u32,
+    pub target: Pair,
+    pub condition: Vec<Pair>,
+    pub hit: u64,
+    pub miss: u64,
+}
+
+fn value_of(state: &[u32], variable: u32) -> u32
+    ensures { result ≡ value_at state.now variable }
+{
+    state.get(variable as usize).copied().unwrap_or(0)
+}
+
+/// Whether a state has the value of each pair.
+pub fn holds(pairs: &[Pair], state: &[u32]) -> bool
+    ensures { result ≡ holds pairs.now state.now }
+{
+    for pair in pairs {
+        if value_of(state, pair.variable) != pair.value {
+            return false;
+        }
+    }
+    true
+}
+
+fn ratio(trade: &WalkTrade, state: &[u32]) -> u64
+    ensures { result ≡ ratio_at (ratio_of trade.now) state.now }
+{
+    if !holds(&trade.condition, state) {
+        1 << 40
+    } else if value_of(state, trade.target.variable) == trade.target.value {
+        trade.hit
+    } else {
+        trade.miss
+    }
+}
+
+fn row_of(network: &Network, variable: u32, state: &[u32]) -> u32
+    requires variable { variable < length network.now }
+    requires state { IsState (sizes network.now) state.now }
+    ensures number { result ≡ row_number (sizes network.now) (variable_at network.now variable).parents state.now }
+    ensures within { result < length (variable_at network.now variable).rows }
+{
+    let _ = network.variables();
+    let mut row: u64 = 0;
+    for parent in network.parents(variable) {
+        row = row * network.values(*parent) as u64 + value_of(state, *parent) as u64;
+    }
+    row as u32
+}
+
+fn share(network: &Network, variable: u32, state: &[u32]) -> u32
+    requires variable { variable < length network.now }
+    requires state { IsState (sizes network.now) state.now }
+    ensures { result ≡ entry network.now variable state.now }
+{
+    let row = row_of(network, variable, state);
+    network.entry(variable, row, value_of(state, variable))
+}
+
+/// The initial weight of a state, or the greatest u128 where it is more.
+fn initial(network: &Network, state: &[u32]) -> u128
+    requires { IsState (sizes network.now) state.now }
+    ensures { result ≡ capped (initial_weight network.now state.now) }
+{
+    let mut weight: u128 = 1;
+    for variable in 0..network.variables() {
+        weight = weight.saturating_mul(share(network, variable, state) as u128);
+    }
+    weight
+}
+
+/// The weight of a state after these trades, or the greatest u128 where it is more.
+pub fn state_weight(network: &Network, trades: &[WalkTrade], state: &[u32]) -> u128
+    requires state { IsState (sizes network.now) state.now }
+    requires units { All HasUnits trades.now }
+    ensures { result ≡ capped (walked_weight network.now trades.now state.now) }
+{
+    let mut weight = initial(network, state);
+    for trade in trades {
+        weight = weight.saturating_mul(ratio(trade, state) as u128);
+    }
+    weight
+}
+
+/// The gain of a user in a state, or the greatest u128 where it is more.
+pub fn state_gain(trades: &[WalkTrade], user: u32, state: &[u32]) -> u128
+    requires { All HasUnits trades.now }
+    ensures { result ≡ capped (walked_gain trades.now user state.now) }
+{
+    let mut gain: u128 = 1;
+    for trade in trades {
+        if trade.user == user {
+            gain = gain.saturating_mul(ratio(trade, state) as u128);
+        }
+    }
+    gain
+}
