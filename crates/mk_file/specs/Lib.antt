@@ -1,0 +1,4 @@
+pub mod Walk
+pub mod File
+pub mod Views
+pub mod MarketOf

@@ -1,0 +1,13 @@
+-- The market that an accepted file stands for.
+use Rattle.std.specs.Prelude.{[], ◌∷◌}
+use Rattle.mk_exact.specs.Market.{Market}
+use Rattle.mk_file.specs.declared.opened.MarketFile.{MarketFile}
+
+-- its one clique holds its one variable
+abbrev pub market_of : MarketFile → Market
+market_of file = record {
+  network = file.net;
+  cliques = (0 ∷ []) ∷ [];
+  points_per_bit = file.points_per_bit;
+  max_trades = file.max_trades;
+}

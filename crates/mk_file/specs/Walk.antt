@@ -1,0 +1,80 @@
+-- The walk over a document: each key there and of its kind, or the first that is not.
+use Rattle.std.specs.Prelude.{ℕ, ◌+◌, ℤ, List, [], ◌∷◌, Option, Some, None, option_map, option_and_then, Result, Ok, Err}
+use Rattle.toml.specs.Data.{Data, Items, no_items, item, Members, get_member, as_str, as_integer, as_array, as_table}
+use Rattle.mk_net.specs.declared.key.Key.{Key}
+use Rattle.mk_net.specs.declared.key.Key.TheVariants.{PointsPerBit, MaxTrades, Variable, Cliques, Links, Name, Values, Parents, Rows}
+use Rattle.mk_net.specs.Key.{key_text}
+use Rattle.mk_net.specs.Drafts.{DraftOfVariable}
+
+-- a key that is not there, or whose value is of another kind; the place is 0 at the top, or a variable's number from 1
+pub data WalkFault : Type 0 where
+  missing : Key → ℕ → WalkFault
+  wrong_type : Key → ℕ → WalkFault
+
+-- what a document says, once each key is there and of its kind
+pub record DraftOfMarket : Type 0 where
+  pub points_per_bit : ℤ
+  pub max_trades : ℤ
+  pub variables : List DraftOfVariable
+  pub cliques : List (List (List ℕ))
+  pub links : List ℤ
+
+-- each item is of a kind
+abbrev pub all_of : {X : Type 0} → (Data → Option X) → Items → Option (List X)
+all_of kind no_items = Some []
+all_of kind (item d ds) = option_and_then (λ x. option_map (λ xs. x ∷ xs) (all_of kind ds)) (kind d)
+
+-- a list of items of a kind
+abbrev pub list_of : {X : Type 0} → (Data → Option X) → Data → Option (List X)
+list_of kind d = option_and_then (all_of kind) (as_array d)
+
+abbrev pub texts : Data → Option (List (List ℕ))
+texts d = list_of as_str d
+
+abbrev pub wholes : Data → Option (List ℤ)
+wholes d = list_of as_integer d
+
+-- a value that was found at a key, by its kind
+abbrev pub of_kind : {X : Type 0} → Key → ℕ → Option X → Result X WalkFault
+of_kind key place None = Err (wrong_type key place)
+of_kind key place (Some x) = Ok x
+
+abbrev pub found : {X : Type 0} → Key → ℕ → (Data → Option X) → Option Data → Result X WalkFault
+found key place kind None = Err (missing key place)
+found key place kind (Some d) = of_kind key place (kind d)
+
+-- the value of a key that has to be there
+abbrev pub required : {X : Type 0} → Key → ℕ → (Data → Option X) → Members → Result X WalkFault
+required key place kind table = found key place kind (get_member (key_text key) table)
+
+-- goes on with a value, unless there was a fault
+abbrev pub then_with : {X Y : Type 0} → Result X WalkFault → (X → Result Y WalkFault) → Result Y WalkFault
+then_with (Ok x) go = go x
+then_with (Err fault) go = Err fault
+
+-- the variable of one table
+abbrev pub variable_in : ℕ → Members → Result DraftOfVariable WalkFault
+variable_in place table =
+    then_with (required Name place as_str table) (λ name.
+    then_with (required Values place texts table) (λ values.
+    then_with (required Parents place texts table) (λ parents.
+    then_with (required Rows place (list_of wholes) table) (λ rows.
+    Ok (record { name = name; values = values; parents = parents; rows = rows })))))
+
+-- the variables of the tables, from a number on
+abbrev pub variables_in : ℕ → List Members → Result (List DraftOfVariable) WalkFault
+variables_in place [] = Ok []
+variables_in place (table ∷ tables) =
+    then_with (variable_in place table) (λ variable.
+    then_with (variables_in (place + 1) tables) (λ variables. Ok (variable ∷ variables)))
+
+-- what a document says, or the first key that is missing or of another kind: the top keys first, then the variables
+abbrev pub draft_in : Members → Result DraftOfMarket WalkFault
+draft_in document =
+    then_with (required PointsPerBit 0 as_integer document) (λ points_per_bit.
+    then_with (required MaxTrades 0 as_integer document) (λ max_trades.
+    then_with (required Variable 0 (list_of as_table) document) (λ tables.
+    then_with (required Cliques 0 (list_of texts) document) (λ cliques.
+    then_with (required Links 0 wholes document) (λ links.
+    then_with (variables_in 1 tables) (λ variables.
+    Ok (record { points_per_bit = points_per_bit; max_trades = max_trades; variables = variables; cliques = cliques; links = links })))))))

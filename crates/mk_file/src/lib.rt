@@ -1,0 +1,18 @@
+//! The market file: TOML text that gives the questions of a market, its tree and two numbers.
+#![tactic(auto)]
+
+mod accept;
+mod checks;
+mod fault;
+mod kinds;
+mod market_file;
+mod opened;
+mod required;
+mod walk;
+
+pub use fault::FileFault;
+pub use market_file::read_market;
+pub use opened::MarketFile;
+
+#[cfg(test)]
+mod tests;

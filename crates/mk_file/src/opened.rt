@@ -1,0 +1,18 @@
+//! An accepted market file.
+
+ghost use Rattle.std.specs.Prelude.{◌≤◌};
+
+use mk_net::Network;
+
+/// An accepted market file: the network of its questions, the points of one bit of score, and how many trades the
+/// market takes.
+#[derive(Drop)]
+pub struct MarketFile {
+    pub net: Network,
+    pub points_per_bit: u32,
+    pub max_trades: u32,
+    ghost points_positive: { 1 ≤ points_per_bit },
+    ghost points_most: { points_per_bit ≤ 1000000 },
+    ghost trades_positive: { 1 ≤ max_trades },
+    ghost trades_most: { max_trades ≤ 65536 },
+}

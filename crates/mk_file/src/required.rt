@@ -1,0 +1,130 @@
+//! Keys that have to be there, with values of a kind.
+
+ghost use Rattle.std.specs.Prelude.{◌≡◌, Some, None, IfOk, IfErr, OnErr, string_bytes};
+ghost use Rattle.toml.specs.Data.{get_member, as_str, as_integer, as_table};
+ghost use Rattle.toml.specs.View.{view, table_view};
+ghost use Rattle.mk_net.specs.Key.{key_text};
+ghost use Rattle.mk_net.specs.Drafts.{texts_of, rows_of};
+ghost use Rattle.mk_file.specs.Walk.{required, list_of, texts, wholes};
+ghost use Rattle.mk_file.specs.Views.{Gives, lists_of, tables_of};
+
+use crate::kinds::{read_lists, read_rows, read_tables, read_text, read_texts, read_wholes};
+use crate::walk::WalkStop;
+use mk_net::Key;
+use std::alloc::Global;
+use toml::{Table, Value};
+
+/// How a key is written.
+fn text_of(key: Key) -> &'static str
+    ensures { result.now ≡ key_text key }
+{
+    match key {
+        Key::PointsPerBit => "points_per_bit",
+        Key::MaxTrades => "max_trades",
+        Key::Variable => "variable",
+        Key::Cliques => "cliques",
+        Key::Links => "links",
+        Key::Name => "name",
+        Key::Values => "values",
+        Key::Parents => "parents",
+        Key::Rows => "rows",
+    }
+}
+
+/// The value at a key.
+fn value_at<'a>(table: &'a Table, key: Key, place: usize) -> Result<&'a Value, WalkStop>
+    ensures at_key { IfOk result (λ value. get_member (key_text key) (table_view table.now) ≡ Some (view value.now)) }
+    ensures missing { OnErr result (get_member (key_text key) (table_view table.now) ≡ None) }
+    ensures stop { IfErr result (λ stop. stop ≡ WalkStop.Missing key place) }
+{
+    match table.get(text_of(key)) {
+        Some(value) => Ok(value),
+        None => Err(WalkStop::Missing { key, place }),
+    }
+}
+
+/// The text at a key.
+pub fn required_text(
+    alloc: Global,
+    table: &Table,
+    key: Key,
+    place: usize,
+) -> Result<String, WalkStop>
+    ensures { Gives (λ s. string_bytes s) result (required key place as_str (table_view table.now)) }
+{
+    let read = read_text(alloc, value_at(table, key, place)?)?;
+    read.ok_or(WalkStop::WrongType { key, place })
+}
+
+/// The list of texts at a key.
+pub fn required_texts(
+    alloc: Global,
+    table: &Table,
+    key: Key,
+    place: usize,
+) -> Result<Vec<String>, WalkStop>
+    ensures { Gives texts_of result (required key place texts (table_view table.now)) }
+{
+    let read = read_texts(alloc, value_at(table, key, place)?)?;
+    read.ok_or(WalkStop::WrongType { key, place })
+}
+
+/// The list of lists of texts at a key.
+pub fn required_lists(
+    alloc: Global,
+    table: &Table,
+    key: Key,
+    place: usize,
+) -> Result<Vec<Vec<String>>, WalkStop>
+    ensures { Gives lists_of result (required key place (list_of texts) (table_view table.now)) }
+{
+    let read = read_lists(alloc, value_at(table, key, place)?)?;
+    read.ok_or(WalkStop::WrongType { key, place })
+}
+
+/// The whole number at a key.
+pub fn required_whole(table: &Table, key: Key, place: usize) -> Result<i64, WalkStop>
+    ensures { Gives (λ z. z) result (required key place as_integer (table_view table.now)) }
+{
+    let read = value_at(table, key, place)?.as_integer();
+    read.ok_or(WalkStop::WrongType { key, place })
+}
+
+/// The list of whole numbers at a key.
+pub fn required_wholes(
+    alloc: Global,
+    table: &Table,
+    key: Key,
+    place: usize,
+) -> Result<Vec<i64>, WalkStop>
+    ensures { Gives (λ v. v.items) result (required key place wholes (table_view table.now)) }
+{
+    let read = read_wholes(alloc, value_at(table, key, place)?)?;
+    read.ok_or(WalkStop::WrongType { key, place })
+}
+
+/// The rows of whole numbers at a key.
+pub fn required_rows(
+    alloc: Global,
+    table: &Table,
+    key: Key,
+    place: usize,
+) -> Result<Vec<Vec<i64>>, WalkStop>
+    ensures { Gives rows_of result (required key place (list_of wholes) (table_view table.now)) }
+{
+    let read = read_rows(alloc, value_at(table, key, place)?)?;
+    read.ok_or(WalkStop::WrongType { key, place })
+}
+
+/// The tables at a key.
+pub fn required_tables<'a>(
+    alloc: Global,
+    table: &'a Table,
+    key: Key,
+    place: usize,
+) -> Result<Vec<&'a Table>, WalkStop>
+    ensures { Gives tables_of result (required key place (list_of as_table) (table_view table.now)) }
+{
+    let read = read_tables(alloc, value_at(table, key, place)?)?;
+    read.ok_or(WalkStop::WrongType { key, place })
+}

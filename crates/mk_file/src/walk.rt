@@ -1,0 +1,100 @@
+//! The walk over a document: each key there and of its kind, or the first that is not.
+
+ghost use Rattle.std.specs.Prelude.{◌≡◌, map};
+ghost use Rattle.toml.specs.View.{table_view};
+ghost use Rattle.mk_net.specs.Drafts.{draft_of_variable};
+ghost use Rattle.mk_file.specs.Walk.{variable_in, variables_in, draft_in};
+ghost use Rattle.mk_file.specs.Views.{Gives, draft_of};
+ghost use Rattle.mk_file.specs.declared.walk.WalkStop.TheVariants.{Memory};
+
+use crate::required::{
+    required_lists, required_rows, required_tables, required_text, required_texts, required_whole,
+    required_wholes,
+};
+use mk_net::{Key, VariableDraft};
+use std::alloc::{AllocError, AllocFailed, Global};
+use toml::Table;
+
+/// What a document says, once each key is there and of its kind.
+#[derive(Debug, Drop)]
+pub struct MarketDraft {
+    pub points_per_bit: i64,
+    pub max_trades: i64,
+    pub variables: Vec<VariableDraft>,
+    pub cliques: Vec<Vec<String>>,
+    pub links: Vec<i64>,
+}
+
+/// Why the walk stopped.
+#[derive(Clone, Copy, Debug, PartialEq, Eq)]
+pub enum WalkStop {
+    /// A key is not there; the place is 0 at the top, or the number of a variable from 1.
+    Missing { key: Key, place: usize },
+    /// A key's value is of another kind.
+    WrongType { key: Key, place: usize },
+    /// Memory was wanting.
+    Memory,
+}
+
+impl From<AllocError> for WalkStop {
+    ghost from_gives = { λ _ e. e ≡ Memory };
+
+    fn from(_e: AllocError) -> WalkStop {
+        WalkStop::Memory
+    }
+}
+
+impl<T: Drop> From<AllocFailed<T>> for WalkStop {
+    ghost from_gives = { λ _ e. e ≡ Memory };
+
+    fn from(_e: AllocFailed<T>) -> WalkStop {
+        WalkStop::Memory
+    }
+}
+
+/// The variable of one table.
+fn read_variable(alloc: Global, table: &Table, place: usize) -> Result<VariableDraft, WalkStop>
+    ensures { Gives draft_of_variable result (variable_in place (table_view table.now)) }
+{
+    let name = required_text(alloc, table, Key::Name, place)?;
+    let values = required_texts(alloc, table, Key::Values, place)?;
+    let parents = required_texts(alloc, table, Key::Parents, place)?;
+    let rows = required_rows(alloc, table, Key::Rows, place)?;
+    Ok(VariableDraft {
+        name,
+        values,
+        parents,
+        rows,
+    })
+}
+
+/// The variables of the tables, whose places are counted from 1.
+fn read_variables(alloc: Global, tables: &[&Table]) -> Result<Vec<VariableDraft>, WalkStop>
+    ensures { Gives (λ v. map draft_of_variable v.items) result
+        (variables_in 1 (map (λ table. table_view table.now) tables.now)) }
+{
+    let mut variables = Vec::new(alloc);
+    'tables: for (index, table) in tables.iter().enumerate() {
+        variables.push(read_variable(alloc, table, index + 1)?)?;
+    }
+    Ok(variables)
+}
+
+/// What a document says, or the first of its keys that is missing or of another kind.
+pub fn read_draft(alloc: Global, document: &Table) -> Result<MarketDraft, WalkStop>
+    ensures { Gives draft_of result (draft_in (table_view document.now)) }
+{
+    let points_per_bit = required_whole(document, Key::PointsPerBit, 0)?;
+    let max_trades = required_whole(document, Key::MaxTrades, 0)?;
+    let tables = required_tables(alloc, document, Key::Variable, 0)?;
+    let cliques = required_lists(alloc, document, Key::Cliques, 0)?;
+    let links = required_wholes(alloc, document, Key::Links, 0)?;
+    let variables = read_variables(alloc, &tables)?;
+    Ok(MarketDraft {
+        points_per_bit,
+        max_trades,
+        variables,
+        cliques,
+        links,
+    })
+}
