@@ -1,0 +1,76 @@
+-- What the two loops of a run keep.
+use Rattle.std.proofs.Common.{◌≡◌, ℕ, ◌+◌, ◌≤◌, List, [], ◌∷◌, ◌++◌, length, take, Option, Some, None, refl, sym, ap, subst, ◌∙◌, arith, append_assoc}
+use Rattle.std.proofs.lemmas.List.{take_all}
+use Rattle.std.proofs.Math.Seq.{take-append_seam}
+use Rattle.mk_session.proofs.Underway.{no_more}
+use Rattle.mk_io.specs.Outside.{prepend_known, append_known, IsAtEnd}
+use Rattle.mk_io.specs.Cutting.{Cutting, fresh}
+use Rattle.mk_io.proofs.Told.{append_known_none, prepend_known_none}
+use Rattle.mk_exact.specs.Market.{Market}
+use Rattle.mk_session.specs.Rules.{Standing, opening}
+use Rattle.mk_session.specs.Progress.{IsSoFar}
+use Rattle.mk_session.specs.Served.{IsTaken}
+
+-- between two lines: the market is the same, no last answer came, no count fell, and the run is so far
+pub record IsGoing (start market : Market) (commands : Option (List ℕ)) (lines : Cutting) (source : Option (List ℕ)) (now : Standing)
+    (before written : Option (List ℕ)) (inputs_before inputs sink_before sink : ℕ) : Type 0 where
+  pub same : market ≡ start
+  pub goes_on : lines.last ≡ None
+  pub inputs_later : inputs_before ≤ inputs
+  pub sink_later : sink_before ≤ sink
+  pub far : (all : List ℕ) → commands ≡ Some all → IsSoFar start all lines source now before written
+
+pub far_at_start : (market : Market) (all : List ℕ) (source : Option (List ℕ)) (now : Standing) (before : Option (List ℕ)) → source ≡ Some all
+    → now ≡ opening → IsSoFar market all fresh source now before before
+far_at_start market all source now before told begins = record {
+  left = all;
+  known = prepend_known_none source ∙ told;
+  done = [];
+  replies = [];
+  lines = refl;
+  run = begins;
+  added = append_known_none before;
+  given = refl;
+  counted = omega arith;
+}
+
+-- between two pieces of a file: what was read so far, at most `most` bytes
+pub record IsLoading (most : ℕ) (opened : Option (List ℕ)) (bytes : List ℕ) (source commands_before commands : Option (List ℕ)) (before now : ℕ) : Type 0 where
+  pub short : length bytes ≤ most
+  pub taken : (file : List ℕ) → opened ≡ Some file → IsTaken file bytes source
+  pub commands_stay : commands ≡ commands_before
+  pub later : before ≤ now
+
+pub taken_at_start : (file : List ℕ) (source : Option (List ℕ)) → source ≡ Some file → IsTaken file [] source
+taken_at_start file source told = record { rest = file; told = told; parts = refl }
+
+-- a piece more
+taken_of : (file bytes piece left : List ℕ) (rest : Option (List ℕ)) → file ≡ bytes ++ left → Some left ≡ prepend_known piece rest → IsTaken file (bytes ++ piece) rest
+taken_of file bytes piece left None parts e = absurd (cc)
+taken_of file bytes piece left (Some rest) parts e =
+    let next : left ≡ piece ++ rest = cc in
+    record { rest = rest; told = refl; parts = parts ∙ ap (λ (xs : List ℕ). bytes ++ xs) next ∙ sym (append_assoc bytes piece rest) }
+
+pub taken_more : (file bytes piece : List ℕ) (source rest : Option (List ℕ)) → IsTaken file bytes source → source ≡ prepend_known piece rest
+    → IsTaken file (bytes ++ piece) rest
+taken_more file bytes piece source rest taken e = taken_of file bytes piece taken.rest rest taken.parts (sym taken.told ∙ e)
+
+-- all that could be read was read, or as much as is wanted
+take_short : (most : ℕ) (bytes : List ℕ) → length bytes ≤ most → bytes ≡ take most bytes
+take_short most bytes h = sym (take_all most bytes h)
+
+pub whole_file : (most : ℕ) (file bytes : List ℕ) (source : Option (List ℕ)) → IsTaken file bytes source → length bytes ≤ most → IsAtEnd source
+    → bytes ≡ take most file
+whole_file most file bytes source taken short at_end =
+    let none : taken.rest ≡ [] = subst (λ (o : Option (List ℕ)). IsAtEnd o) taken.told at_end in
+    let whole : file ≡ bytes = taken.parts ∙ ap (λ (xs : List ℕ). bytes ++ xs) none ∙ append_nil bytes in
+    take_short most bytes short ∙ ap (take most) (sym whole)
+  where
+    append_nil : (xs : List ℕ) → xs ++ [] ≡ xs
+    append_nil xs = no_more xs
+
+pub front_of_file : (most : ℕ) (file bytes : List ℕ) (source : Option (List ℕ)) → IsTaken file bytes source → length bytes ≤ most → most ≤ length bytes
+    → bytes ≡ take most file
+front_of_file most file bytes source taken short long =
+    let size : length bytes ≡ most = omega arith in
+    sym (ap (take most) taken.parts ∙ ap (λ n. take n (bytes ++ taken.rest)) (sym size) ∙ take-append_seam bytes taken.rest)

@@ -1,0 +1,131 @@
+-- The opening of a run, and what its end says of the whole run.
+use Rattle.std.proofs.Common.{◌≡◌, ◌≢◌, ℕ, ◌+◌, ◌<◌, ◌≤◌, List, [], ◌∷◌, ◌++◌, length, take, Bool, true, false, Option, Some, None, Result, Ok, Err, inl, inr, refl, sym, ap, subst, ◌∙◌, arith, codes, decimal, nat_lt, ◌⊎◌}
+use Rattle.std.specs.Prelude.{if◌then◌else◌}
+use Rattle.std.proofs.lemmas.List.{take_all, length-take}
+use Rattle.std.proofs.lemmas.Bool.{cases_lt, lt-ltb}
+use Rattle.mk_io.specs.declared.status.Status.{Status}
+use Rattle.mk_io.specs.declared.status.Status.TheVariants.{MarketRefused, ReadFault, WriteFault, Memory}
+use Rattle.mk_io.specs.Outside.{append_known, AddsFront}
+use Rattle.mk_io.specs.Stream.{stream_lines}
+use Rattle.mk_io.proofs.Told.{append_known_none, append_known_twice}
+use Rattle.mk_exact.specs.Market.{Market}
+use Rattle.mk_file.specs.declared.fault.FileFault.{FileFault}
+use Rattle.mk_file.specs.declared.fault.FileFault.TheVariants.{TooLong}
+use Rattle.mk_file.specs.File.{file_of, of_document, document_of}
+use Rattle.mk_session.specs.Texts.{ready_line, fault_line, as_line}
+use Rattle.mk_session.specs.Rules.{opening}
+use Rattle.mk_session.specs.Transcript.{transcript_text}
+use Rattle.mk_session.specs.Outcome.{Adds, Ends, Serves}
+use Rattle.mk_session.specs.Progress.{IsEnded}
+use Rattle.mk_session.specs.Served.{opened_part, IsServedBy}
+use Rattle.mk_session.proofs.Underway.{no_more}
+use Rattle.mk_exact.proofs.Single.{empty_sound}
+
+memory_ends : (given : Result Market FileFault) (all : List ℕ) → Ends Memory given all all []
+memory_ends (Ok market) all = record { nothing = refl; unread = refl }
+memory_ends (Err fault) all = record { nothing = refl; unread = refl }
+
+read_fault_ends : (given : Result Market FileFault) (all : List ℕ) → Ends ReadFault given all all []
+read_fault_ends (Ok market) all = inl (record { nothing = refl; unread = refl })
+read_fault_ends (Err fault) all = record { nothing = refl; unread = refl }
+
+-- nothing was written
+pub adds_nothing : (before : Option (List ℕ)) (P : List ℕ → Type 0) → P [] → Adds before before P
+adds_nothing before P holds = record { bytes = []; added = append_known_none before; holds = holds }
+
+pub out_of_memory : (given : Result Market FileFault) (all : List ℕ) (before : Option (List ℕ)) → Adds before before (Ends Memory given all all)
+out_of_memory given all before = adds_nothing before (Ends Memory given all all) (memory_ends given all)
+
+pub not_read : (given : Result Market FileFault) (all : List ℕ) (source before : Option (List ℕ)) → source ≡ Some all
+    → IsServedBy ReadFault given all source before before
+not_read given all source before told =
+    record { rest = all; told = told; output = adds_nothing before (Ends ReadFault given all all) (read_fault_ends given all) }
+
+pub no_memory : (given : Result Market FileFault) (all : List ℕ) (source before : Option (List ℕ)) → source ≡ Some all
+    → IsServedBy Memory given all source before before
+no_memory given all source before told = record { rest = all; told = told; output = out_of_memory given all before }
+
+-- the line of a refused file was written, or a front of it
+pub refused_whole : (given : Result Market FileFault) (fault : FileFault) (all : List ℕ) (before after : Option (List ℕ)) → given ≡ Err fault
+    → after ≡ append_known before (fault_line fault) → Adds before after (Ends MarketRefused given all all)
+refused_whole given fault all before after e added = record {
+  bytes = fault_line fault;
+  added = added;
+  holds = subst (λ (r : Result Market FileFault). Ends MarketRefused r all all (fault_line fault)) (sym e) (refl, refl);
+}
+
+pub refused_front : (given : Result Market FileFault) (fault : FileFault) (all : List ℕ) (before after : Option (List ℕ)) → given ≡ Err fault
+    → AddsFront before after (fault_line fault) → Adds before after (Ends WriteFault given all all)
+refused_front given fault all before after e front = record {
+  bytes = front.front;
+  added = front.added;
+  holds = subst (λ (r : Result Market FileFault). Ends WriteFault r all all front.front) (sym e)
+      (record { rest = front.rest; parts = front.parts }, refl);
+}
+
+-- the ready line of a market
+pub ready_is : (market : Market) (variables points : ℕ) (line shown : List ℕ) → variables ≡ length market.network → points ≡ market.points_per_bit
+    → line ≡ as_line (codes "ready " ++ decimal variables ++ codes " " ++ decimal points) → shown ≡ line → shown ≡ ready_line market
+ready_is market variables points line shown v p e s =
+    s ∙ e ∙ ap (λ (n : ℕ). as_line (codes "ready " ++ decimal n ++ codes " " ++ decimal points)) v
+    ∙ ap (λ (n : ℕ). as_line (codes "ready " ++ decimal (length market.network) ++ codes " " ++ decimal n)) p
+
+-- a run that ended behind its ready line
+pub served_when_ended : (status : Status) (market file : Market) (all line : List ℕ) (source before ready after : Option (List ℕ)) → market ≡ file
+    → line ≡ ready_line market → ready ≡ append_known before line → IsEnded status market all source ready after
+    → IsServedBy status (Ok file) all source before after
+served_when_ended status market file all line source before ready after same is added ended =
+    let bytes = ended.output.bytes in
+    record {
+      rest = ended.rest;
+      told = ended.told;
+      output = record {
+        bytes = ready_line market ++ bytes;
+        added = ended.output.added ∙ ap (λ (w : Option (List ℕ)). append_known w bytes) (added ∙ ap (append_known before) is)
+            ∙ append_known_twice before (ready_line market) bytes;
+        holds = subst (λ (m : Market). Serves status m all ended.rest (ready_line market ++ bytes)) same ended.output.holds;
+      };
+    }
+
+-- a run whose ready line was cut off
+pub broken_at_ready : (market file : Market) (all line : List ℕ) (source before after : Option (List ℕ)) → market ≡ file
+    → line ≡ ready_line market → source ≡ Some all → AddsFront before after line → IsServedBy WriteFault (Ok file) all source before after
+broken_at_ready market file all line source before after same is told front =
+    record {
+      rest = all;
+      told = told;
+      output = record {
+        bytes = front.front;
+        added = front.added;
+        holds = subst (λ (m : Market). Serves WriteFault m all all front.front) same (record {
+          done = [];
+          later = stream_lines all;
+          whole = transcript_text market [];
+          lines = refl;
+          transcript = record { replies = []; after = opening; run = refl; printed = refl; sound = empty_sound market.network };
+          front = record { rest = front.rest; parts = no_more (ready_line market) ∙ sym is ∙ front.parts };
+        });
+      };
+    }
+
+-- the opened part of a file gives what the file gives: a longer file is too long by that part
+gate : ℕ → List ℕ → Result Market FileFault
+gate most bytes = if nat_lt most (length bytes) then Err TooLong else of_document (document_of bytes)
+
+too_long : (most : ℕ) (bytes : List ℕ) → most < length bytes → gate most bytes ≡ Err TooLong
+unfolding gate
+too_long most bytes h = rw (lt-ltb most (length bytes) h) refl
+
+gate_take : (most limit : ℕ) (file : List ℕ) → most < limit → gate most (take limit file) ≡ gate most file
+gate_take most limit file h = at (cases_lt limit (length file))
+  where
+    at : ((limit < length file) ⊎ (length file ≤ limit)) → gate most (take limit file) ≡ gate most file
+    at (inl longer) =
+        let whole : most < length file = omega arith in
+        let cut : most < length (take limit file) = rw (length-take limit file) (omega arith) in
+        too_long most (take limit file) cut ∙ sym (too_long most file whole)
+    at (inr shorter) = ap (gate most) (take_all limit file shorter)
+
+pub opened_same : (file : List ℕ) → file_of (opened_part file) ≡ file_of file
+unfolding opened_part gate
+opened_same file = gate_take 1048576 1048577 file (omega arith)

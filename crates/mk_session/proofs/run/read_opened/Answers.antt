@@ -1,0 +1,17 @@
+use Rattle.std.proofs.Common.{◌≡◌, ◌≤◌, ◌+◌, ℕ, List, length, arith, rules, refl}
+use Rattle.mk_session.specs.Served.{opened_part}
+use Rattle.mk_session.proofs.Going.{whole_file, front_of_file}
+use Rattle.mk_session.proofs.run.read_opened.Goals as goal
+
+pub returns-in-Ok-eq0-clause-bytes : goal.returns-in-Ok-eq0-clause-bytes
+unfolding opened_part
+returns-in-Ok-eq0-clause-bytes g c = λ file told.
+    let taken = c.in-Ok-eq0.ensures.taken file (c.pieces.invariant.taken file told) in
+    let short : length c.read_piece.new.bytes.items ≤ 1048577 = omega (arith, c.in-Ok-eq0.ensures.grows, c.pieces.invariant.short) in
+    whole_file 1048577 file c.read_piece.new.bytes.items (g.I.Inputs.market c.read_piece.new.inputs) taken short (c.in-Ok-eq0.ensures.at_end (search rules))
+
+pub returns-clause-bytes : goal.returns-clause-bytes
+unfolding opened_part
+returns-clause-bytes g c = λ file told.
+    let long : 1048577 ≤ length c.pieces.bytes.items = omega (arith, c.len.ensures) in
+    front_of_file 1048577 file c.pieces.bytes.items (g.I.Inputs.market c.pieces.inputs) (c.pieces.invariant.taken file told) c.pieces.invariant.short long

@@ -1,0 +1,146 @@
+//! Answering the lines of a stream, one after another.
+
+ghost use Rattle.std.specs.Prelude.{◌≡◌, ◌≢◌, ◌+◌, ◌≤◌, ℕ, List, None, Option, Some, ◌==◌, OnOk, OnErr, IfNone, IfSome, MatchResult};
+ghost use Rattle.std.specs.List.{list_all};
+ghost use Rattle.mk_io.specs.Outside.{HasCause, Rose, AddsFront, append_known};
+ghost use Rattle.mk_io.specs.Stream.{StreamLine, text, long, max_stream_lines};
+ghost use Rattle.mk_session.specs.Texts.{reply_line};
+ghost use Rattle.mk_session.specs.Rules.{opening};
+ghost use Rattle.mk_session.specs.Transcript.{Step};
+ghost use Rattle.mk_session.specs.Progress.{IsAnswered, IsCutOff, IsSoFar, IsEnded};
+
+use crate::price::PriceMarket;
+use crate::print::{LineBuffer, print_reply};
+use crate::read::read_command;
+use crate::words::{Refusal, Reply};
+use mk_io::{Inputs, Lines, Next, Sink, SinkFailed, Status, write_all};
+
+/// Whether a line holds no byte but spaces.
+fn is_blank(line: &[u8]) -> bool
+    ensures { result ≡ list_all (λ b. b == 32) line.now }
+{
+    line.iter().all(|byte| *byte == b' ')
+}
+
+/// The reply to a line that is not too long and not blank.
+fn reply_to(market: &mut PriceMarket, line: &[u8]) -> Reply
+    ensures step { Step (market.old.market) (market.old.standing) (text line.now) result (market.new.standing) }
+    ensures market { market.new.market ≡ market.old.market }
+{
+    match read_command(line) {
+        None => Reply::Refused {
+            why: Refusal::Syntax,
+        },
+        Some(command) => market.apply(&command),
+    }
+}
+
+/// Writes the line of a reply.
+fn say<S: Sink>(reply: &Reply, out: &mut S) -> Result<(), SinkFailed>
+    ensures cause { HasCause (S.faults out.old) (S.faults out.new) result }
+    ensures whole { OnOk result (S.written out.new ≡ append_known (S.written out.old) (reply_line reply.now)) }
+    ensures front { OnErr result (AddsFront (S.written out.old) (S.written out.new) (reply_line reply.now)) }
+{
+    let mut line = LineBuffer::new();
+    print_reply(reply, &mut line);
+    write_all(out, line.as_slice())
+}
+
+/// Answers a line that is not too long: nothing is written for a blank one.
+fn answer_text<S: Sink>(
+    market: &mut PriceMarket,
+    line: &[u8],
+    out: &mut S,
+) -> Result<(), SinkFailed>
+    ensures market { market.new.market ≡ market.old.market }
+    ensures cause { HasCause (S.faults out.old) (S.faults out.new) result }
+    ensures answered { OnOk result (IsAnswered market.old.market market.old.standing (text line.now) market.new.standing
+        (S.written out.old) (S.written out.new)) }
+    ensures cut_off { OnErr result (IsCutOff market.old.market market.old.standing (text line.now) market.new.standing
+        (S.written out.old) (S.written out.new)) }
+{
+    if is_blank(line) {
+        return Ok(());
+    }
+    let reply = reply_to(market, line);
+    say(&reply, out)
+}
+
+/// Answers a line that is too long.
+fn answer_long<S: Sink>(market: &mut PriceMarket, out: &mut S) -> Result<(), SinkFailed>
+    ensures market { market.new.market ≡ market.old.market }
+    ensures cause { HasCause (S.faults out.old) (S.faults out.new) result }
+    ensures answered { OnOk result (IsAnswered market.old.market market.old.standing long market.new.standing
+        (S.written out.old) (S.written out.new)) }
+    ensures cut_off { OnErr result (IsCutOff market.old.market market.old.standing long market.new.standing
+        (S.written out.old) (S.written out.new)) }
+{
+    let _ = market.variables();
+    say(&Reply::Refused { why: Refusal::Long }, out)
+}
+
+/// Takes the next line of the stream and answers it. None where the run goes on; else how it ends.
+fn take_turn<I: Inputs, S: Sink>(
+    market: &mut PriceMarket,
+    lines: &mut Lines,
+    inputs: &mut I,
+    out: &mut S,
+) -> Option<Status>
+    requires { lines.old.last ≡ None }
+    ensures market { market.new.market ≡ market.old.market }
+    ensures goes_on { IfNone result (lines.new.last ≡ None) }
+    ensures counts { IfNone result (lines.new.given ≡ lines.old.given + 1) }
+    ensures within { lines.new.given ≤ max_stream_lines }
+    ensures so_far { IfNone result ((all : List ℕ) (before : Option (List ℕ)) →
+        IsSoFar market.old.market all lines.old (I.commands inputs.old) market.old.standing before (S.written out.old) →
+        IsSoFar market.old.market all lines.new (I.commands inputs.new) market.new.standing before (S.written out.new)) }
+    ensures ended { IfSome result (λ status. (all : List ℕ) (before : Option (List ℕ)) →
+        IsSoFar market.old.market all lines.old (I.commands inputs.old) market.old.standing before (S.written out.old) →
+        IsEnded status market.old.market all (I.commands inputs.new) before (S.written out.new)) }
+    ensures inputs_later { I.faults inputs.old ≤ I.faults inputs.new }
+    ensures sink_later { S.faults out.old ≤ S.faults out.new }
+    ensures read_fault { result ≡ Some Status.ReadFault → Rose (I.faults inputs.old) (I.faults inputs.new) }
+    ensures write_fault { result ≡ Some Status.WriteFault → Rose (S.faults out.old) (S.faults out.new) }
+    ensures not_usage { IfSome result (λ status. status ≢ Status.Usage) }
+{
+    match lines.next(inputs) {
+        Next::Line => end_after(answer_text(market, lines.line(), out)),
+        Next::Long => end_after(answer_long(market, out)),
+        Next::End => Some(Status::Done),
+        Next::ReadFault => Some(Status::ReadFault),
+        Next::TooMany => Some(Status::TooMany),
+    }
+}
+
+/// The run goes on where a line was answered, and ends where its reply could not be written.
+fn end_after(said: Result<(), SinkFailed>) -> Option<Status>
+    ensures { MatchResult said (λ _. result ≡ None) (λ _. result ≡ Some Status.WriteFault) }
+{
+    match said {
+        Ok(()) => None,
+        Err(SinkFailed) => Some(Status::WriteFault),
+    }
+}
+
+/// Answers the commands to their end, or until reading or writing fails.
+pub fn answer_lines<I: Inputs, S: Sink>(
+    market: &mut PriceMarket,
+    inputs: &mut I,
+    out: &mut S,
+) -> Status
+    requires { market.old.standing ≡ opening }
+    ensures ended { (all : List ℕ) → I.commands inputs.old ≡ Some all →
+        IsEnded result market.old.market all (I.commands inputs.new) (S.written out.old) (S.written out.new) }
+    ensures inputs_later { I.faults inputs.old ≤ I.faults inputs.new }
+    ensures sink_later { S.faults out.old ≤ S.faults out.new }
+    ensures read_fault { result ≡ Status.ReadFault → Rose (I.faults inputs.old) (I.faults inputs.new) }
+    ensures write_fault { result ≡ Status.WriteFault → Rose (S.faults out.old) (S.faults out.new) }
+    ensures not_usage { result ≢ Status.Usage }
+{
+    let mut lines = Lines::new();
+    loop {
+        if let Some(status) = take_turn(market, &mut lines, inputs, out) {
+            return status;
+        }
+    }
+}

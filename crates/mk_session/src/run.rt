@@ -1,0 +1,172 @@
+//! A whole run.
+
+ghost use Rattle.std.specs.Prelude.{◌≡◌, ◌≢◌, ◌+◌, ◌<◌, ◌≤◌, ℕ, List, Some, Ok, Err, Result, length, IfOk, IfErr};
+ghost use Rattle.mk_io.specs.Outside.{Rose, IsAtEnd};
+ghost use Rattle.mk_file.specs.File.{file_of};
+ghost use Rattle.mk_file.specs.MarketOf.{market_of};
+ghost use Rattle.mk_exact.specs.Market.{Market};
+ghost use Rattle.mk_file.specs.declared.fault.FileFault.{FileFault};
+ghost use Rattle.mk_session.specs.Outcome.{Adds, Ends};
+ghost use Rattle.mk_session.specs.Served.{opened_part, IsTaken, IsServedBy, IsServed};
+
+use crate::answer::answer_lines;
+use crate::price::PriceMarket;
+use crate::print::{LineBuffer, fault_line_of, print_ready};
+use mk_file::{FileFault, MarketFile, read_market};
+use mk_io::{InputFailed, Inputs, Sink, Status, write_all};
+use std::alloc::Global;
+
+/// One byte more than a market file may have.
+const READ_AT_MOST: usize = 1_048_577;
+
+/// Why a market file could not be read.
+#[derive(Clone, Copy)]
+pub enum LoadFault {
+    Input,
+    Memory,
+}
+
+/// Runs the market of the file `name` over all commands, and writes `ready V B` and one line for each command line
+/// that is not blank, or the one line of a refused file.
+pub fn serve<I: Inputs, S: Sink>(alloc: Global, name: &str, inputs: &mut I, out: &mut S) -> Status
+    requires { I.admits name.now }
+    ensures outcome { (file all : List ℕ) → I.file inputs.old name.now ≡ Some file → I.commands inputs.old ≡ Some all →
+        IsServed result file all (I.commands inputs.new) (S.written out.old) (S.written out.new) }
+    ensures inputs_later { I.faults inputs.old ≤ I.faults inputs.new }
+    ensures sink_later { S.faults out.old ≤ S.faults out.new }
+    ensures read_fault { result ≡ Status.ReadFault → Rose (I.faults inputs.old) (I.faults inputs.new) }
+    ensures write_fault { result ≡ Status.WriteFault → Rose (S.faults out.old) (S.faults out.new) }
+    ensures not_usage { result ≢ Status.Usage }
+{
+    match load(alloc, name, inputs) {
+        Err(LoadFault::Input) => Status::ReadFault,
+        Err(LoadFault::Memory) => Status::Memory,
+        Ok(bytes) => serve_bytes(alloc, bytes.as_slice(), inputs, out),
+    }
+}
+
+/// Runs the market of these bytes of a file.
+fn serve_bytes<I: Inputs, S: Sink>(
+    alloc: Global,
+    bytes: &[u8],
+    inputs: &mut I,
+    out: &mut S,
+) -> Status
+    ensures outcome { (all : List ℕ) → I.commands inputs.old ≡ Some all →
+        IsServedBy result (file_of bytes.now) all (I.commands inputs.new) (S.written out.old) (S.written out.new) }
+    ensures inputs_later { I.faults inputs.old ≤ I.faults inputs.new }
+    ensures sink_later { S.faults out.old ≤ S.faults out.new }
+    ensures read_fault { result ≡ Status.ReadFault → Rose (I.faults inputs.old) (I.faults inputs.new) }
+    ensures write_fault { result ≡ Status.WriteFault → Rose (S.faults out.old) (S.faults out.new) }
+    ensures not_usage { result ≢ Status.Usage }
+{
+    match read_market(alloc, bytes) {
+        Err(fault) => refuse(fault, out),
+        Ok(file) => answer_file(alloc, file, inputs, out),
+    }
+}
+
+/// Writes the one line of a refused file, unless memory was wanting.
+fn refuse<S: Sink>(fault: FileFault, out: &mut S) -> Status
+    ensures output { (given : Result Market FileFault) (all : List ℕ) → (fault ≢ FileFault.Memory → given ≡ Err fault) →
+        Adds (S.written out.old) (S.written out.new) (Ends result given all all) }
+    ensures sink_later { S.faults out.old ≤ S.faults out.new }
+    ensures not_read_fault { result ≢ Status.ReadFault }
+    ensures write_fault { result ≡ Status.WriteFault → Rose (S.faults out.old) (S.faults out.new) }
+    ensures not_usage { result ≢ Status.Usage }
+{
+    match fault {
+        FileFault::Memory => Status::Memory,
+        _ => match write_all(out, fault_line_of(fault)) {
+            Ok(()) => Status::MarketRefused,
+            Err(_) => Status::WriteFault,
+        },
+    }
+}
+
+/// Opens the market of an accepted file, and answers its commands.
+fn answer_file<I: Inputs, S: Sink>(
+    alloc: Global,
+    file: MarketFile,
+    inputs: &mut I,
+    out: &mut S,
+) -> Status
+    requires { length file.net ≡ 1 }
+    ensures outcome { (all : List ℕ) → I.commands inputs.old ≡ Some all →
+        IsServedBy result (Ok (market_of file)) all (I.commands inputs.new) (S.written out.old) (S.written out.new) }
+    ensures inputs_later { I.faults inputs.old ≤ I.faults inputs.new }
+    ensures sink_later { S.faults out.old ≤ S.faults out.new }
+    ensures read_fault { result ≡ Status.ReadFault → Rose (I.faults inputs.old) (I.faults inputs.new) }
+    ensures write_fault { result ≡ Status.WriteFault → Rose (S.faults out.old) (S.faults out.new) }
+    ensures not_usage { result ≢ Status.Usage }
+{
+    let mut market = match PriceMarket::start(alloc, file) {
+        Ok(market) => market,
+        Err(_) => return Status::Memory,
+    };
+    let mut line = LineBuffer::new();
+    print_ready(market.variables(), market.points_per_bit(), &mut line);
+    match write_all(out, line.as_slice()) {
+        Ok(()) => answer_lines(&mut market, inputs, out),
+        Err(_) => Status::WriteFault,
+    }
+}
+
+/// The first bytes of the market file of a name, at most one byte more than a market file may have.
+fn load<I: Inputs>(alloc: Global, name: &str, inputs: &mut I) -> Result<Vec<u8>, LoadFault>
+    requires { I.admits name.now }
+    ensures bytes { IfOk result (λ bytes. (file : List ℕ) → I.file inputs.old name.now ≡ Some file → bytes.items ≡ opened_part file) }
+    ensures commands { I.commands inputs.new ≡ I.commands inputs.old }
+    ensures later { I.faults inputs.old ≤ I.faults inputs.new }
+    ensures cause { IfErr result (λ fault. fault ≡ LoadFault.Input → Rose (I.faults inputs.old) (I.faults inputs.new)) }
+{
+    match inputs.open_market(name) {
+        Ok(()) => read_opened(alloc, inputs),
+        Err(InputFailed) => Err(LoadFault::Input),
+    }
+}
+
+/// The first bytes of the opened market file.
+fn read_opened<I: Inputs>(alloc: Global, inputs: &mut I) -> Result<Vec<u8>, LoadFault>
+    ensures bytes { IfOk result (λ bytes. (file : List ℕ) → I.market inputs.old ≡ Some file → bytes.items ≡ opened_part file) }
+    ensures commands { I.commands inputs.new ≡ I.commands inputs.old }
+    ensures later { I.faults inputs.old ≤ I.faults inputs.new }
+    ensures cause { IfErr result (λ fault. fault ≡ LoadFault.Input → Rose (I.faults inputs.old) (I.faults inputs.new)) }
+{
+    let mut bytes = Vec::new(alloc);
+    let mut buffer = [0u8; 4096];
+    'pieces: while bytes.len() < READ_AT_MOST {
+        let room = (READ_AT_MOST - bytes.len()).min(4096);
+        match read_piece(inputs, &mut buffer[..room], &mut bytes) {
+            Ok(0) => return Ok(bytes),
+            Ok(_) => {}
+            Err(fault) => return Err(fault),
+        }
+    }
+    Ok(bytes)
+}
+
+/// Reads the next piece of the opened market file behind the bytes before, and says how long it is.
+fn read_piece<I: Inputs>(
+    inputs: &mut I,
+    piece: &mut [u8],
+    bytes: &mut Vec<u8>,
+) -> Result<usize, LoadFault>
+    requires { 0 < length piece.old }
+    ensures count { IfOk result (λ count. count ≤ length piece.old) }
+    ensures grows { IfOk result (λ count. length bytes.new.items ≡ length bytes.old.items + count) }
+    ensures taken { IfOk result (λ count. (file : List ℕ) → IsTaken file bytes.old.items (I.market inputs.old) →
+        IsTaken file bytes.new.items (I.market inputs.new)) }
+    ensures at_end { IfOk result (λ count. count ≡ 0 → IsAtEnd (I.market inputs.new)) }
+    ensures commands { I.commands inputs.new ≡ I.commands inputs.old }
+    ensures later { I.faults inputs.old ≤ I.faults inputs.new }
+    ensures cause { IfErr result (λ fault. fault ≡ LoadFault.Input → Rose (I.faults inputs.old) (I.faults inputs.new)) }
+{
+    match inputs.read_market(piece) {
+        Err(InputFailed) => Err(LoadFault::Input),
+        Ok(count) => match bytes.extend_from_slice(&piece[..count]) {
+            Ok(()) => Ok(count),
+            Err(_) => Err(LoadFault::Memory),
+        },
+    }
+}
