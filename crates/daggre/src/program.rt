@@ -1,0 +1,70 @@
+//! The program, over any inputs and any sink.
+
+ghost use Rattle.std.specs.Prelude.{◌≡◌, ◌≢◌, ℕ, ◌≤◌, List, map, codes, None, Some};
+ghost use Rattle.std.specs.Option.{option_copied};
+ghost use Rattle.mk_io.specs.Outside.{Rose};
+ghost use Rattle.mk_net.specs.Texts.{same_text};
+ghost use Rattle.mk_session.specs.Outcome.{Adds};
+ghost use Rattle.mk_session.specs.Served.{IsServed};
+ghost use Rattle.daggre.specs.Words.{market_to_run, EndsUsage};
+
+use mk_io::{Inputs, Sink, Status, write_all};
+use mk_session::serve;
+use std::alloc::Global;
+
+/// Does what the words ask: `run NAME` serves the market of that file.
+///
+/// Where the bytes of the file and of the commands are told, the status says what was written: with `Done` the
+/// transcript of the whole stream, one that the exact joint table allows.
+pub fn program<I: Inputs, S: Sink>(
+    alloc: Global,
+    words: &[&str],
+    inputs: &mut I,
+    out: &mut S,
+) -> Status
+    requires { (name : List ℕ) → market_to_run (map (λ w. w.now) words.now) ≡ Some name → I.admits name }
+    ensures run { (name file all : List ℕ) → market_to_run (map (λ w. w.now) words.now) ≡ Some name →
+        I.file inputs.old name ≡ Some file → I.commands inputs.old ≡ Some all →
+        IsServed result file all (I.commands inputs.new) (S.written out.old) (S.written out.new) }
+    ensures other_words { market_to_run (map (λ w. w.now) words.now) ≡ None →
+        Adds (S.written out.old) (S.written out.new) (EndsUsage result) }
+    ensures usage { result ≡ Status.Usage → market_to_run (map (λ w. w.now) words.now) ≡ None }
+    ensures inputs_later { I.faults inputs.old ≤ I.faults inputs.new }
+    ensures sink_later { S.faults out.old ≤ S.faults out.new }
+    ensures read_fault { result ≡ Status.ReadFault → Rose (I.faults inputs.old) (I.faults inputs.new) }
+    ensures write_fault { result ≡ Status.WriteFault → Rose (S.faults out.old) (S.faults out.new) }
+{
+    match market_name(words) {
+        Some(name) => serve(alloc, name, inputs, out),
+        None => explain(out),
+    }
+}
+
+/// The name of the market that the words ask to run. None where they ask for nothing that the program knows.
+fn market_name<'a>(words: &[&'a str]) -> Option<&'a str>
+    ensures { option_copied result ≡ market_to_run (map (λ w. w.now) words.now) }
+{
+    match words {
+        [word, name] => { if is_run(word) { Some(*name) } else { None } }
+        _ => None,
+    }
+}
+
+fn is_run(word: &str) -> bool
+    ensures { result ≡ same_text word.now (codes "run") }
+{
+    word == "run"
+}
+
+/// Writes how the program is called.
+fn explain<S: Sink>(out: &mut S) -> Status
+    ensures output { Adds (S.written out.old) (S.written out.new) (EndsUsage result) }
+    ensures sink_later { S.faults out.old ≤ S.faults out.new }
+    ensures not_read_fault { result ≢ Status.ReadFault }
+    ensures write_fault { result ≡ Status.WriteFault → Rose (S.faults out.old) (S.faults out.new) }
+{
+    match write_all(out, b"usage: daggre run NAME | daggre sample N\n") {
+        Ok(()) => Status::Usage,
+        Err(_) => Status::WriteFault,
+    }
+}

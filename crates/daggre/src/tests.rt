@@ -1,0 +1,228 @@
+//! The worked rows of the first commands, from bytes to bytes.
+
+ghost use Rattle.std.specs.Prelude.{◌≤◌};
+
+use crate::program::program;
+use mk_io::{MemoryInputs, MemorySink, NamedFile, Status};
+use std::alloc::{AllocError, Global};
+use std::process::Abort;
+use std::test::Fail;
+
+const COIN: &str =
+    "points_per_bit = 100\nmax_trades = 1000\ncliques = [[\"coin\"]]\nlinks = []\n\n[[variable]]\nname = \"coin\"\nvalues = [\"heads\", \"tails\"]\nparents = []\nrows = [[500000, 500000]]\n";
+
+const DIE: &str =
+    "points_per_bit = 100\nmax_trades = 1000\ncliques = [[\"die\"]]\nlinks = []\n\n[[variable]]\nname = \"die\"\nvalues = [\"low\", \"mid\", \"high\"]\nparents = []\nrows = [[333333, 333333, 333334]]\n";
+
+const TWO: &str =
+    "points_per_bit = 100\nmax_trades = 1000\ncliques = [[\"a\", \"b\"]]\nlinks = []\n\n[[variable]]\nname = \"a\"\nvalues = [\"heads\", \"tails\"]\nparents = []\nrows = [[500000, 500000]]\n\n[[variable]]\nname = \"b\"\nvalues = [\"heads\", \"tails\"]\nparents = []\nrows = [[500000, 500000]]\n";
+
+struct Row {
+    market: &'static str,
+    commands: &'static str,
+    output: &'static str,
+    status: Status,
+}
+
+const ROWS: [Row; 8] = [
+    Row {
+        market: COIN,
+        commands: "",
+        output: "ready 1 100\n",
+        status: Status::Done,
+    },
+    Row {
+        market: COIN,
+        commands: "price coin=heads\n",
+        output: "ready 1 100\nprice 0.5000000000..0.5000000000\n",
+        status: Status::Done,
+    },
+    Row {
+        market: DIE,
+        commands: "price die=low\n\n   \nprice die=high",
+        output: "ready 1 100\nprice 0.3333330000..0.3333330000\nprice 0.3333340000..0.3333340000\n",
+        status: Status::Done,
+    },
+    Row {
+        market: COIN,
+        commands: "price coin\r\nprice coin=side\r\n\r\nprice coin=tails\r",
+        output: "ready 1 100\nrefused syntax\nrefused name coin=side\nprice 0.5000000000..0.5000000000\n",
+        status: Status::Done,
+    },
+    Row {
+        market: TWO,
+        commands: "price a=heads\n",
+        output: "refused market later\n",
+        status: Status::MarketRefused,
+    },
+    Row {
+        market: "points_per_bit = \n",
+        commands: "",
+        output: "refused market toml\n",
+        status: Status::MarketRefused,
+    },
+    Row {
+        market: "\u{fffd}",
+        commands: "",
+        output: "refused market toml\n",
+        status: Status::MarketRefused,
+    },
+    Row {
+        market: "",
+        commands: "",
+        output: "refused market later\n",
+        status: Status::MarketRefused,
+    },
+];
+
+/// Runs a market over commands, with the numbers of the calls that are to fail.
+fn run(
+    alloc: Global,
+    words: &[&str],
+    market: &[u8],
+    commands: &[u8],
+    piece: usize,
+    failing: (&[u64], &[u64]),
+) -> Result<(MemorySink, Status), AllocError>
+    requires { 1 ≤ piece }
+{
+    let mut files = Vec::new(alloc);
+    files.push(NamedFile {
+        name: String::from_str(alloc, "m.toml")?,
+        bytes: market.to_vec(alloc)?,
+    })?;
+    let (reads, writes) = failing;
+    let mut inputs = MemoryInputs::new(files, commands.to_vec(alloc)?, piece, reads.to_vec(alloc)?);
+    let mut out = MemorySink::new(vec![in alloc; 0u8; 256]?, piece, writes.to_vec(alloc)?);
+    let status = program(alloc, words, &mut inputs, &mut out);
+    Ok((out, status))
+}
+
+/// Expects an output and a status, whatever the size of the pieces.
+fn expect_run(
+    rt: &impl Abort,
+    alloc: Global,
+    words: &[&str],
+    market: &[u8],
+    commands: &[u8],
+    output: &[u8],
+    status: Status,
+) -> Result<(), AllocError> {
+    for piece in [1, 3, 4096] {
+        assert!(rt; piece >= 1);
+        let (out, ended) = run(alloc, words, market, commands, piece, (&[], &[]))?;
+        assert!(rt; out.written() == output);
+        assert!(rt; ended == status);
+    }
+    Ok(())
+}
+
+#[test]
+fn worked_rows(rt: HostRuntime) -> Result<(), Fail> {
+    for row in &ROWS {
+        let (market, commands, output) = (
+            row.market.as_bytes(),
+            row.commands.as_bytes(),
+            row.output.as_bytes(),
+        );
+        expect_run(
+            &rt,
+            rt.alloc(),
+            &["run", "m.toml"],
+            market,
+            commands,
+            output,
+            row.status,
+        )?;
+    }
+    Ok(())
+}
+
+#[test]
+fn other_words(rt: HostRuntime) -> Result<(), Fail> {
+    let usage = b"usage: daggre run NAME | daggre sample N\n";
+    let calls: [&[&str]; 5] = [
+        &[],
+        &["run"],
+        &["sample", "1"],
+        &["sample", "02"],
+        &["run", "m.toml", "m.toml"],
+    ];
+    for words in calls {
+        expect_run(
+            &rt,
+            rt.alloc(),
+            words,
+            COIN.as_bytes(),
+            b"",
+            usage,
+            Status::Usage,
+        )?;
+    }
+    Ok(())
+}
+
+#[test]
+fn long_lines_and_files(rt: HostRuntime) -> Result<(), Fail> {
+    let alloc = rt.alloc();
+    let line = vec![in alloc; b'a'; 1025]?;
+    let words = ["run", "m.toml"];
+    expect_run(
+        &rt,
+        alloc,
+        &words,
+        COIN.as_bytes(),
+        &line,
+        b"ready 1 100\nrefused long\n",
+        Status::Done,
+    )?;
+    let file = vec![in alloc; b' '; 1_048_577]?;
+    let (out, status) = run(alloc, &words, &file, b"", 4096, (&[], &[]))?;
+    assert!(rt; out.written() == b"refused market long\n".as_slice());
+    assert!(rt; status == Status::MarketRefused);
+    Ok(())
+}
+
+#[test]
+fn missing_file(rt: HostRuntime) -> Result<(), Fail> {
+    expect_run(
+        &rt,
+        rt.alloc(),
+        &["run", "none.toml"],
+        COIN.as_bytes(),
+        b"",
+        b"",
+        Status::ReadFault,
+    )?;
+    Ok(())
+}
+
+/// Each read, and each write, fails in turn: what was written before is a front of the whole output.
+#[test]
+fn each_call_fails_in_turn(rt: HostRuntime) -> Result<(), Fail> {
+    let alloc = rt.alloc();
+    let words = ["run", "m.toml"];
+    let whole = b"ready 1 100\nprice 0.5000000000..0.5000000000\nrefused syntax\n";
+    let commands = b"price coin=heads\nprice\n";
+    let mut failed = 0u32;
+    for call in 1..20u64 {
+        let (out, status) = run(alloc, &words, COIN.as_bytes(), commands, 64, (&[call], &[]))?;
+        assert!(rt; whole.starts_with(out.written()));
+        assert!(rt;
+            status == Status::ReadFault
+                || (status == Status::Done && out.written() == whole.as_slice())
+        );
+        let (out, status) = run(alloc, &words, COIN.as_bytes(), commands, 16, (&[], &[call]))?;
+        assert!(rt; whole.starts_with(out.written()));
+        assert!(rt;
+            status == Status::WriteFault
+                || (status == Status::Done && out.written() == whole.as_slice())
+        );
+        if status == Status::WriteFault && failed < 100 {
+            failed += 1;
+        }
+    }
+    // the reply lines take five writes of at most 16 bytes
+    assert!(rt; failed == 5);
+    Ok(())
+}
