@@ -1,0 +1,9 @@
+pub mod Rounded
+pub mod Cut
+pub mod Widened
+pub mod Ranges
+pub mod Logs
+pub mod Order
+pub mod Quotients
+pub mod Powers
+pub mod Trailing

@@ -1,0 +1,8 @@
+use Rattle.mk_scaled.proofs.Ranges.{near_range}
+use Rattle.mk_scaled.proofs.scaled.Scaled.add_down.Goals as goal
+
+pub sum-requires : goal.sum-requires
+sum-requires c = near_range _ c.requires
+
+pub returns : goal.returns
+returns c = c.round_down.ensures _ c.sum.ensures.exact

@@ -1,0 +1,9 @@
+pub mod Form
+pub mod UniqueForm
+pub mod Fields
+pub mod Range
+pub mod Rounding
+pub mod Wide
+pub mod Near
+pub mod Closeness
+pub mod Quotient
