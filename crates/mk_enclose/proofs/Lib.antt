@@ -1,0 +1,3 @@
+pub mod Grades
+pub mod Parts
+pub mod Bits

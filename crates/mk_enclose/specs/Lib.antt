@@ -1,0 +1,3 @@
+pub mod Enclosure
+pub mod Widths
+pub mod Factor
