@@ -1,0 +1,41 @@
+//! The value that the semirings share.
+ghost use Rattle.std.specs.Prelude.{◌≡◌, ℕ, ◌+◌, ◌*◌, ◌^◌, ◌<◌, ◌≤◌};
+ghost use Rattle.mk_semiring.specs.Held.{HeldEncloses, HasHeldGrade, IsHeldExact, CanTimes};
+
+use mk_enclose::Enclosure;
+
+/// Absent, or a number that is enclosed. Absent encloses the exact Absent alone.
+#[derive(Clone, Copy, Debug)]
+pub enum Held {
+    Absent,
+    Present(Enclosure),
+}
+
+const _: () = prove!(size_of::<Held>() <= 48);
+
+/// The number `n`, exactly.
+pub fn whole(n: u64) -> Held
+    requires { 1 ≤ n }
+    ensures value { HeldEncloses result n }
+    ensures grade { HasHeldGrade result 0 }
+    ensures exact { IsHeldExact result }
+{
+    Held::Present(Enclosure::exact(n))
+}
+
+/// The product, which is absent where one of the two is.
+#[inline]
+pub fn product(a: &Held, b: &Held) -> Held
+    requires { CanTimes a.now b.now }
+    ensures value { (v w : ℕ) → HeldEncloses a.now v → HeldEncloses b.now w → HeldEncloses result (v * w) }
+    ensures grade { (g h : ℕ) → HasHeldGrade a.now g → HasHeldGrade b.now h → HasHeldGrade result (g + h + 1) }
+    ensures exact { (v w : ℕ) → HeldEncloses a.now v → HeldEncloses b.now w → IsHeldExact a.now → IsHeldExact b.now → v * w < 2 ^ 63 → IsHeldExact result }
+{
+    match a {
+        Held::Absent => Held::Absent,
+        Held::Present(x) => match b {
+            Held::Absent => Held::Absent,
+            Held::Present(y) => Held::Present(x.mul(y)),
+        },
+    }
+}

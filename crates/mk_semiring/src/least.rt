@@ -1,0 +1,62 @@
+//! Minima and products.
+ghost use Rattle.std.specs.Prelude.{◌≡◌, ℕ, ◌+◌, ◌*◌, ◌^◌, ◌<◌, ◌≤◌};
+ghost use Rattle.mk_semiring.specs.Held.{HeldEncloses, HasHeldGrade, IsHeldExact, CanTimes, held_grade_more, held_times_fits};
+ghost use Rattle.mk_semiring.specs.Least.{least, least_lawful};
+
+use crate::{Held, Semiring, held};
+
+/// Minima and products: plus is the lesser number, and Absent gives way.
+#[derive(Clone, Copy, Debug)]
+pub struct MinProd;
+
+impl Semiring for MinProd {
+    type Value = Held;
+
+    ghost plus_of = { least };
+
+    ghost encloses = { HeldEncloses };
+
+    ghost has_grade = { HasHeldGrade };
+
+    ghost is_exact = { IsHeldExact };
+
+    ghost can_plus = { λ a b. Unit {0} };
+
+    ghost can_times = { CanTimes };
+
+    ghost lawful = { least_lawful };
+
+    ghost grade_more = { held_grade_more };
+
+    ghost plus_fits = { λ a b g h k l. tt };
+
+    ghost times_fits = { held_times_fits };
+
+    fn absent() -> Held {
+        Held::Absent
+    }
+
+    fn one() -> Held {
+        held::whole(1)
+    }
+
+    fn of_whole(n: u64) -> Held {
+        held::whole(n)
+    }
+
+    #[inline]
+    fn plus(a: &Held, b: &Held) -> Held {
+        match a {
+            Held::Absent => *b,
+            Held::Present(x) => match b {
+                Held::Absent => Held::Present(*x),
+                Held::Present(y) => Held::Present(x.min(y)),
+            },
+        }
+    }
+
+    #[inline]
+    fn times(a: &Held, b: &Held) -> Held {
+        held::product(a, b)
+    }
+}
