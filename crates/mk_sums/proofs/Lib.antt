@@ -1,0 +1,14 @@
+pub mod Sums
+pub mod Hops
+pub mod Sides
+pub mod Sets
+pub mod Groups
+pub mod Stale
+pub mod States
+pub mod Items
+pub mod Tables
+pub mod Unread
+pub mod Bounds
+pub mod Grades
+pub mod Lawfuls
+pub mod Small

@@ -1,0 +1,7 @@
+pub mod Lawful
+pub mod Sums
+pub mod Trees
+pub mod Cells
+pub mod Joint
+pub mod Laws
+pub mod Examples
