@@ -12,3 +12,4 @@ pub mod Bounds
 pub mod Grades
 pub mod Lawfuls
 pub mod Small
+pub mod Ways

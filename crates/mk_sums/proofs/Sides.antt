@@ -30,7 +30,7 @@ held_by set (suc n) clique x j p q h k = at (cases_eq j (suc n)) (λ l. held_by 
 
 module _ (link : ℕ → ℕ) (m : ℕ) (clique : ℕ → ℕ → Bool) (links : Links link m) where
   -- the one link that leaves the side of c
-  leaves : (c a i j : ℕ) → AreLinked link m c a → AreLinked link m i j → behind link m c a i ≡ true → behind link m c a j ≡ false → (i ≡ c) × (j ≡ a)
+  pub leaves : (c a i j : ℕ) → AreLinked link m c a → AreLinked link m i j → behind link m c a i ≡ true → behind link m c a j ≡ false → (i ≡ c) × (j ≡ a)
   leaves c a i j h k p q = at (cases_eq j a)
     where
       at : ((j ≡ a) ⊎ (j ≡ a → ⊥)) → (i ≡ c) × (j ≡ a)

@@ -1,11 +1,11 @@
 -- The laws of the tree. Each is the contract of a function of this crate, and so proved.
-use Rattle.std.specs.Prelude.{◌≡◌, ◌≢◌, ℕ, ◌+◌, ◌*◌, ◌<◌, ◌≤◌, Bool, true, false, cond, not, ◌&&◌, ◌↔◌, List, [], ◌++◌, map, slice_index, All}
+use Rattle.std.specs.Prelude.{◌≡◌, ◌≢◌, ℕ, ◌+◌, ◌*◌, ◌<◌, ◌≤◌, Bool, true, false, cond, not, ◌&&◌, ◌↔◌, List, [], ◌++◌, map, length, slice_index, All}
 use Rattle.mk_net.specs.declared.words.Pair.{Pair}
 use Rattle.mk_exact.specs.States.{states, plus_over, product_by}
 use Rattle.mk_exact.specs.InitialWeight.{value_at}
 use Rattle.mk_sums.specs.Lawful.{Lawful, lesser_present}
 use Rattle.mk_sums.specs.Sums.{plus_below, over, Within, listed}
-use Rattle.mk_sums.specs.Trees.{times_of, held, Links, linked, hop, behind, Running, OneTop, IsTree, right_message, linked_to, linked_but, joint_at, Covers, towards, sum_of, message_grade}
+use Rattle.mk_sums.specs.Trees.{times_of, held, Links, linked, hop, behind, Running, OneTop, IsTree, right_message, linked_to, linked_but, joint_at, Covers, towards, sum_of, message_grade, way, passes}
 use Rattle.mk_sums.specs.Cells.{keep, cells, cell_of, place, Apart, InRange}
 use Rattle.mk_sums.specs.Joint.{joint, where_has, where_holds, Item, placed_in, IsItem, variables}
 
@@ -138,3 +138,10 @@ SmallCase = (sizes : List ℕ) (clique : ℕ → ℕ → Bool) (factors known : 
     → (variables_of cliques_of : ℕ → Bool) (s : ℕ → ℕ) → InRange (slice_index sizes) (variables sizes) s
     → over ◌+◌ (slice_index sizes) variables_of (variables sizes) (times_of cliques_of m (placed_in (factors ++ known))) s
     ≤ plus_over ◌+◌ 0 (λ (t : List ℕ). product_by (λ (i : Item). i.value (value_at t)) factors) (states sizes)
+
+-- the messages towards c that a change at b does not leave right are those that the cliques on the way from b to c send, and so as many as links lie between
+abbrev pub StaleOnWay : Type 0
+StaleOnWay = (link : ℕ → ℕ) (m : ℕ) → Links link m → (b c : ℕ) → 1 ≤ b → b ≤ m → 1 ≤ c → c ≤ m
+    → ((k : ℕ) → 1 ≤ k → k ≤ m → passes link m b c k ≡ listed (way link m b c) k)
+    × Apart (way link m b c)
+    × (sum_of (passes link m b c) m (λ k. 1) ≡ length (way link m b c))

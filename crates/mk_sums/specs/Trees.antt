@@ -1,5 +1,5 @@
 -- Trees of cliques, and the exact messages in them. The cliques are numbered from 1, and each after the first is linked to an earlier one.
-use Rattle.std.specs.Prelude.{◌≡◌, ℕ, zero, suc, ◌+◌, ◌-◌, ◌*◌, ◌<◌, ◌≤◌, Bool, true, false, cond, not, ◌&&◌, ◌||◌, ◌==◌, nat_lt, nat_le, List}
+use Rattle.std.specs.Prelude.{◌≡◌, ℕ, zero, suc, ◌+◌, ◌-◌, ◌*◌, ◌<◌, ◌≤◌, Bool, true, false, cond, not, ◌&&◌, ◌||◌, ◌==◌, nat_lt, nat_le, List, [], ◌∷◌}
 use Rattle.mk_sums.specs.Sums.{over, Within, listed}
 
 -- the product of what is placed in the cliques 1 to m of a set
@@ -97,3 +97,16 @@ sum_of set (suc k) w = sum_of set k w + cond (set (suc k)) (w (suc k)) 0
 abbrev pub message_grade : (ℕ → ℕ) → (ℕ → ℕ) → (ℕ → ℕ) → ℕ → ℕ → ℕ → ℕ
 message_grade placed_number cell_number link m c a =
     sum_of (behind link m c a) m (λ j. placed_number j + cell_number j + 2) - 2
+
+-- the cliques on the way from b to c but c itself, at most n of them
+abbrev pub way_within : (ℕ → ℕ) → ℕ → ℕ → ℕ → ℕ → List ℕ
+way_within link m zero b c = []
+way_within link m (suc n) b c = cond (b == c) [] (b ∷ way_within link m n (hop link m b c) c)
+
+-- all of them: as many as there are links between b and c
+abbrev pub way : (ℕ → ℕ) → ℕ → ℕ → ℕ → List ℕ
+way link m b c = way_within link m m b c
+
+-- the message from k towards c has b on its sender's side
+abbrev pub passes : (ℕ → ℕ) → ℕ → ℕ → ℕ → ℕ → Bool
+passes link m b c k = not (k == c) && behind link m k (towards link m c k) b

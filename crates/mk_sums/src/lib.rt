@@ -11,7 +11,7 @@ mod messages;
 mod trees;
 
 pub use cells::{cells_inverse, cells_nest};
-pub use changes::{change_leaves, collects_in_order, leads_towards};
+pub use changes::{change_leaves, collects_in_order, leads_towards, stale_on_way};
 pub use examples::{chain_cells, chain_is_tree, chain_minima, chain_sums, chain_ways};
 pub use joints::{joint_is_read, known_are_factors, states_nest};
 pub use limits::{are_lawful, grades_add, read_grades_add, small_case, sums_bound};
