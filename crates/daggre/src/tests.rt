@@ -204,7 +204,7 @@ fn each_call_fails_in_turn(rt: HostRuntime) -> Result<(), Fail> {
     let words = ["run", "m.toml"];
     let whole = b"ready 1 100\nprice 0.5000000000..0.5000000000\nrefused syntax\n";
     let commands = b"price coin=heads\nprice\n";
-    let mut failed = 0u32;
+    let (mut failed_reads, mut failed_writes) = (0u32, 0u32);
     for call in 1..20u64 {
         let (out, status) = run(alloc, &words, COIN.as_bytes(), commands, 64, (&[call], &[]))?;
         assert!(rt; whole.starts_with(out.written()));
@@ -212,17 +212,22 @@ fn each_call_fails_in_turn(rt: HostRuntime) -> Result<(), Fail> {
             status == Status::ReadFault
                 || (status == Status::Done && out.written() == whole.as_slice())
         );
+        if status == Status::ReadFault && failed_reads < 100 {
+            failed_reads += 1;
+        }
         let (out, status) = run(alloc, &words, COIN.as_bytes(), commands, 16, (&[], &[call]))?;
         assert!(rt; whole.starts_with(out.written()));
         assert!(rt;
             status == Status::WriteFault
                 || (status == Status::Done && out.written() == whole.as_slice())
         );
-        if status == Status::WriteFault && failed < 100 {
-            failed += 1;
+        if status == Status::WriteFault && failed_writes < 100 {
+            failed_writes += 1;
         }
     }
-    // the reply lines take five writes of at most 16 bytes
-    assert!(rt; failed == 5);
+    // the opening, three pieces of the file and its end, the commands and their end
+    assert!(rt; failed_reads == 7);
+    // the lines take five writes of at most 16 bytes
+    assert!(rt; failed_writes == 5);
     Ok(())
 }

@@ -15,3 +15,4 @@ pub mod Sides
 pub mod Accepted
 pub mod Laws
 pub mod Examples
+pub mod Lawful

@@ -3,7 +3,7 @@ use Rattle.std.specs.Prelude.{◌≡◌, ℕ, zero, suc, ◌+◌, ◌*◌, ◌<�
 use Rattle.std.proofs.Common.{sym, ap, ◌∙◌, ⊎_elim, arith, inl, inr, ◌⊎◌}
 use Rattle.std.proofs.lemmas.Bool.{cases_lt}
 use Rattle.std.proofs.Math.Nat.{mul-le-mul_left, mul-zero, one-le-mul}
-use Rattle.mk_semiring.specs.Lawful.{Lawful}
+use Rattle.mk_exact.specs.Lawful.{Lawful}
 
 unfoldable pub least : ℕ → ℕ → ℕ
 least zero b = b

@@ -1,6 +1,6 @@
 //! The trait.
 ghost use Rattle.std.specs.Prelude.{◌≡◌, ℕ, ◌+◌, ◌*◌, ◌^◌, ◌<◌, ◌≤◌};
-ghost use Rattle.mk_semiring.specs.Lawful.{Lawful};
+ghost use Rattle.mk_exact.specs.Lawful.{Lawful};
 
 /// A semiring over whole numbers, and values that enclose them.
 ///

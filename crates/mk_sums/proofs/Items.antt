@@ -9,7 +9,7 @@ use Rattle.mk_exact.specs.States.{states, plus_over, product_by}
 use Rattle.mk_exact.specs.InitialWeight.{value_at}
 use Rattle.mk_exact.specs.Events.{holds}
 use Rattle.mk_exact.proofs.Sums.{plus_over-filter, plus_over-map, product_by-append}
-use Rattle.mk_sums.specs.Lawful.{Lawful}
+use Rattle.mk_exact.specs.Lawful.{Lawful}
 use Rattle.mk_sums.specs.Sums.{over, Within}
 use Rattle.mk_sums.specs.Trees.{times_of, Links, Running, Covers, right_message, linked_to}
 use Rattle.mk_sums.specs.Joint.{joint, where_has, where_holds, Item, placed_in, IsItem, variables}

@@ -5,7 +5,7 @@ use Rattle.std.specs.List.{range_with_len}
 use Rattle.mk_exact.specs.States.{states, numbers_below, plus_over}
 use Rattle.mk_exact.specs.InitialWeight.{value_at}
 use Rattle.mk_exact.proofs.Sums.{IsPlus, plus_over-states}
-use Rattle.mk_sums.specs.Lawful.{Lawful}
+use Rattle.mk_exact.specs.Lawful.{Lawful}
 use Rattle.mk_sums.specs.Sums.{upd, plus_below, over}
 use Rattle.mk_sums.specs.Joint.{variables}
 

@@ -1,14 +1,5 @@
--- Exact values: whole numbers, where 0 stands for an absent one. The exact times is the product.
-use Rattle.std.specs.Prelude.{◌≡◌, ℕ, ◌+◌, ◌*◌, ◌<◌, ◌≤◌, cond, min, ◌==◌}
-
--- the laws of an exact plus: any order, nothing from an absent value, through the product, never absent beside a present value, and at most the sum
-pub record Lawful (plus : ℕ → ℕ → ℕ) : Type 0 where
-  pub commutes : (a b : ℕ) → plus a b ≡ plus b a
-  pub associates : (a b c : ℕ) → plus (plus a b) c ≡ plus a (plus b c)
-  pub neutral : (a : ℕ) → plus 0 a ≡ a
-  pub distributes : (a b c : ℕ) → a * plus b c ≡ plus (a * b) (a * c)
-  pub present : (a b : ℕ) → 0 < a → 0 < plus a b
-  pub bounded : (a b : ℕ) → plus a b ≤ a + b
+-- The least of exact values, of which 0 stands for an absent one.
+use Rattle.std.specs.Prelude.{ℕ, cond, min, ◌==◌}
 
 -- the lesser of the values that are present
 abbrev pub lesser_present : ℕ → ℕ → ℕ

@@ -3,7 +3,8 @@ use Rattle.std.specs.Prelude.{◌≡◌, ◌≢◌, ℕ, ◌+◌, ◌*◌, ◌<�
 use Rattle.mk_net.specs.declared.words.Pair.{Pair}
 use Rattle.mk_exact.specs.States.{states, plus_over, product_by}
 use Rattle.mk_exact.specs.InitialWeight.{value_at}
-use Rattle.mk_sums.specs.Lawful.{Lawful, lesser_present}
+use Rattle.mk_exact.specs.Lawful.{Lawful}
+use Rattle.mk_sums.specs.Lawful.{lesser_present}
 use Rattle.mk_sums.specs.Sums.{plus_below, over, Within, listed}
 use Rattle.mk_sums.specs.Trees.{times_of, held, Links, linked, hop, behind, Running, OneTop, IsTree, right_message, linked_to, linked_but, joint_at, Covers, towards, sum_of, message_grade, way, passes}
 use Rattle.mk_sums.specs.Cells.{keep, cells, cell_of, place, Apart, InRange}
