@@ -3,6 +3,8 @@
 
 mod program;
 #[cfg(test)]
+mod rows;
+#[cfg(test)]
 mod tests;
 
 use mk_io::{StdInputs, StdSink};

@@ -1,9 +1,11 @@
 //! The program, over any inputs and any sink.
 
-ghost use Rattle.std.specs.Prelude.{◌≡◌, ◌≢◌, ℕ, ◌≤◌, List, map, codes, None, Some};
+ghost use Rattle.std.specs.Prelude.{◌≡◌, ◌≢◌, ℕ, ◌≤◌, List, map, codes, None, Some, ◌⊎◌, IsOk};
 ghost use Rattle.std.specs.Option.{option_copied};
 ghost use Rattle.mk_io.specs.Outside.{Rose};
 ghost use Rattle.mk_net.specs.Texts.{same_text};
+ghost use Rattle.mk_file.specs.File.{file_of};
+ghost use Rattle.mk_session.specs.Complete.{AreWithin};
 ghost use Rattle.mk_session.specs.Outcome.{Adds};
 ghost use Rattle.mk_session.specs.Served.{IsServed};
 ghost use Rattle.daggre.specs.Words.{market_to_run, EndsUsage};
@@ -15,7 +17,8 @@ use std::alloc::Global;
 /// Does what the words ask: `run NAME` serves the market of that file.
 ///
 /// Where the bytes of the file and of the commands are told, the status says what was written: with `Done` the
-/// transcript of the whole stream, one that the exact joint table allows.
+/// transcript of the whole stream, one that the exact joint table allows. It is `Done` for each accepted market and each
+/// stream within the limits, unless reading, writing or memory fails.
 pub fn program<I: Inputs, S: Sink>(
     alloc: Global,
     words: &[&str],
@@ -26,6 +29,10 @@ pub fn program<I: Inputs, S: Sink>(
     ensures run { (name file all : List ℕ) → market_to_run (map (λ w. w.now) words.now) ≡ Some name →
         I.file inputs.old name ≡ Some file → I.commands inputs.old ≡ Some all →
         IsServed result file all (I.commands inputs.new) (S.written out.old) (S.written out.new) }
+    ensures complete { (name file all : List ℕ) → market_to_run (map (λ w. w.now) words.now) ≡ Some name →
+        I.file inputs.old name ≡ Some file → I.commands inputs.old ≡ Some all → IsOk (file_of file) → AreWithin all →
+        (Rose (I.faults inputs.old) (I.faults inputs.new) → ⊥) → (Rose (S.faults out.old) (S.faults out.new) → ⊥) →
+        (result ≡ Status.Done) ⊎ (result ≡ Status.Memory) }
     ensures other_words { market_to_run (map (λ w. w.now) words.now) ≡ None →
         Adds (S.written out.old) (S.written out.new) (EndsUsage result) }
     ensures usage { result ≡ Status.Usage → market_to_run (map (λ w. w.now) words.now) ≡ None }

@@ -1,79 +1,22 @@
-//! The worked rows of the first commands, from bytes to bytes.
+//! Whole runs of the program, from bytes to bytes.
 
 ghost use Rattle.std.specs.Prelude.{◌≤◌};
 
 use crate::program::program;
+use crate::rows::{COIN, REFUSED, Row, SERVED};
 use mk_io::{MemoryInputs, MemorySink, NamedFile, Status};
 use std::alloc::{AllocError, Global};
 use std::process::Abort;
 use std::test::Fail;
 
-const COIN: &str =
-    "points_per_bit = 100\nmax_trades = 1000\ncliques = [[\"coin\"]]\nlinks = []\n\n[[variable]]\nname = \"coin\"\nvalues = [\"heads\", \"tails\"]\nparents = []\nrows = [[500000, 500000]]\n";
-
-const DIE: &str =
-    "points_per_bit = 100\nmax_trades = 1000\ncliques = [[\"die\"]]\nlinks = []\n\n[[variable]]\nname = \"die\"\nvalues = [\"low\", \"mid\", \"high\"]\nparents = []\nrows = [[333333, 333333, 333334]]\n";
-
-const TWO: &str =
-    "points_per_bit = 100\nmax_trades = 1000\ncliques = [[\"a\", \"b\"]]\nlinks = []\n\n[[variable]]\nname = \"a\"\nvalues = [\"heads\", \"tails\"]\nparents = []\nrows = [[500000, 500000]]\n\n[[variable]]\nname = \"b\"\nvalues = [\"heads\", \"tails\"]\nparents = []\nrows = [[500000, 500000]]\n";
-
-struct Row {
-    market: &'static str,
-    commands: &'static str,
-    output: &'static str,
-    status: Status,
+/// The text of a market file that is given in pieces.
+fn text_of(alloc: Global, pieces: &[&str]) -> Result<Vec<u8>, AllocError> {
+    let mut text = Vec::new(alloc);
+    for piece in pieces {
+        text.extend_from_slice(piece.as_bytes())?;
+    }
+    Ok(text)
 }
-
-const ROWS: [Row; 8] = [
-    Row {
-        market: COIN,
-        commands: "",
-        output: "ready 1 100\n",
-        status: Status::Done,
-    },
-    Row {
-        market: COIN,
-        commands: "price coin=heads\n",
-        output: "ready 1 100\nprice 0.5000000000..0.5000000000\n",
-        status: Status::Done,
-    },
-    Row {
-        market: DIE,
-        commands: "price die=low\n\n   \nprice die=high",
-        output: "ready 1 100\nprice 0.3333330000..0.3333330000\nprice 0.3333340000..0.3333340000\n",
-        status: Status::Done,
-    },
-    Row {
-        market: COIN,
-        commands: "price coin\r\nprice coin=side\r\n\r\nprice coin=tails\r",
-        output: "ready 1 100\nrefused syntax\nrefused name coin=side\nprice 0.5000000000..0.5000000000\n",
-        status: Status::Done,
-    },
-    Row {
-        market: TWO,
-        commands: "price a=heads\n",
-        output: "refused market later\n",
-        status: Status::MarketRefused,
-    },
-    Row {
-        market: "points_per_bit = \n",
-        commands: "",
-        output: "refused market toml\n",
-        status: Status::MarketRefused,
-    },
-    Row {
-        market: "\u{fffd}",
-        commands: "",
-        output: "refused market toml\n",
-        status: Status::MarketRefused,
-    },
-    Row {
-        market: "",
-        commands: "",
-        output: "refused market later\n",
-        status: Status::MarketRefused,
-    },
-];
 
 /// Runs a market over commands, with the numbers of the calls that are to fail.
 fn run(
@@ -117,24 +60,33 @@ fn expect_run(
     Ok(())
 }
 
-#[test]
-fn worked_rows(rt: HostRuntime) -> Result<(), Fail> {
-    for row in &ROWS {
-        let (market, commands, output) = (
-            row.market.as_bytes(),
-            row.commands.as_bytes(),
-            row.output.as_bytes(),
-        );
+/// Expects of each row its output and its status.
+fn expect_rows(rt: &impl Abort, alloc: Global, rows: &[Row]) -> Result<(), AllocError> {
+    for row in rows {
+        let market = text_of(alloc, row.market)?;
+        let (commands, output) = (row.commands.as_bytes(), row.output.as_bytes());
         expect_run(
-            &rt,
-            rt.alloc(),
+            rt,
+            alloc,
             &["run", "m.toml"],
-            market,
+            &market,
             commands,
             output,
             row.status,
         )?;
     }
+    Ok(())
+}
+
+#[test]
+fn served_markets(rt: HostRuntime) -> Result<(), Fail> {
+    expect_rows(&rt, rt.alloc(), &SERVED)?;
+    Ok(())
+}
+
+#[test]
+fn refused_markets(rt: HostRuntime) -> Result<(), Fail> {
+    expect_rows(&rt, rt.alloc(), &REFUSED)?;
     Ok(())
 }
 
@@ -148,16 +100,9 @@ fn other_words(rt: HostRuntime) -> Result<(), Fail> {
         &["sample", "02"],
         &["run", "m.toml", "m.toml"],
     ];
+    let market = text_of(rt.alloc(), COIN)?;
     for words in calls {
-        expect_run(
-            &rt,
-            rt.alloc(),
-            words,
-            COIN.as_bytes(),
-            b"",
-            usage,
-            Status::Usage,
-        )?;
+        expect_run(&rt, rt.alloc(), words, &market, b"", usage, Status::Usage)?;
     }
     Ok(())
 }
@@ -166,18 +111,19 @@ fn other_words(rt: HostRuntime) -> Result<(), Fail> {
 fn long_lines_and_files(rt: HostRuntime) -> Result<(), Fail> {
     let alloc = rt.alloc();
     let line = vec![in alloc; b'a'; 1025]?;
+    let mut market = text_of(alloc, COIN)?;
     let words = ["run", "m.toml"];
     expect_run(
         &rt,
         alloc,
         &words,
-        COIN.as_bytes(),
+        &market,
         &line,
         b"ready 1 100\nrefused long\n",
         Status::Done,
     )?;
-    let file = vec![in alloc; b' '; 1_048_577]?;
-    let (out, status) = run(alloc, &words, &file, b"", 4096, (&[], &[]))?;
+    market.resize(1_048_577, b' ')?;
+    let (out, status) = run(alloc, &words, &market, b"", 4096, (&[], &[]))?;
     assert!(rt; out.written() == b"refused market long\n".as_slice());
     assert!(rt; status == Status::MarketRefused);
     Ok(())
@@ -185,11 +131,12 @@ fn long_lines_and_files(rt: HostRuntime) -> Result<(), Fail> {
 
 #[test]
 fn missing_file(rt: HostRuntime) -> Result<(), Fail> {
+    let market = text_of(rt.alloc(), COIN)?;
     expect_run(
         &rt,
         rt.alloc(),
         &["run", "none.toml"],
-        COIN.as_bytes(),
+        &market,
         b"",
         b"",
         Status::ReadFault,
@@ -202,11 +149,12 @@ fn missing_file(rt: HostRuntime) -> Result<(), Fail> {
 fn each_call_fails_in_turn(rt: HostRuntime) -> Result<(), Fail> {
     let alloc = rt.alloc();
     let words = ["run", "m.toml"];
+    let market = text_of(alloc, COIN)?;
     let whole = b"ready 1 100\nprice 0.5000000000..0.5000000000\nrefused syntax\n";
     let commands = b"price coin=heads\nprice\n";
     let (mut failed_reads, mut failed_writes) = (0u32, 0u32);
     for call in 1..20u64 {
-        let (out, status) = run(alloc, &words, COIN.as_bytes(), commands, 64, (&[call], &[]))?;
+        let (out, status) = run(alloc, &words, &market, commands, 64, (&[call], &[]))?;
         assert!(rt; whole.starts_with(out.written()));
         assert!(rt;
             status == Status::ReadFault
@@ -215,7 +163,7 @@ fn each_call_fails_in_turn(rt: HostRuntime) -> Result<(), Fail> {
         if status == Status::ReadFault && failed_reads < 100 {
             failed_reads += 1;
         }
-        let (out, status) = run(alloc, &words, COIN.as_bytes(), commands, 16, (&[], &[call]))?;
+        let (out, status) = run(alloc, &words, &market, commands, 16, (&[], &[call]))?;
         assert!(rt; whole.starts_with(out.written()));
         assert!(rt;
             status == Status::WriteFault

@@ -1,4 +1,6 @@
 pub mod Walk
+pub mod Counts
 pub mod File
 pub mod Views
 pub mod MarketOf
+pub mod Few

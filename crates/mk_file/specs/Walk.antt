@@ -1,15 +1,13 @@
--- The walk over a document: each key there and of its kind, or the first that is not.
+-- The walk over a document: each key there and of its kind, or the first that is not; its place is 0 at the top, or a
+-- variable's number from 1.
 use Rattle.std.specs.Prelude.{ℕ, ◌+◌, ℤ, List, [], ◌∷◌, Option, Some, None, option_map, option_and_then, Result, Ok, Err}
 use Rattle.toml.specs.Data.{Data, Items, no_items, item, Members, get_member, as_str, as_integer, as_array, as_table}
+use Rattle.mk_file.specs.declared.fault.FileFault.{FileFault}
+use Rattle.mk_file.specs.declared.fault.FileFault.TheVariants.{Missing, WrongType}
 use Rattle.mk_net.specs.declared.key.Key.{Key}
 use Rattle.mk_net.specs.declared.key.Key.TheVariants.{PointsPerBit, MaxTrades, Variable, Cliques, Links, Name, Values, Parents, Rows}
 use Rattle.mk_net.specs.Key.{key_text}
 use Rattle.mk_net.specs.Drafts.{DraftOfVariable}
-
--- a key that is not there, or whose value is of another kind; the place is 0 at the top, or a variable's number from 1
-pub data WalkFault : Type 0 where
-  missing : Key → ℕ → WalkFault
-  wrong_type : Key → ℕ → WalkFault
 
 -- what a document says, once each key is there and of its kind
 pub record DraftOfMarket : Type 0 where
@@ -35,25 +33,25 @@ abbrev pub wholes : Data → Option (List ℤ)
 wholes d = list_of as_integer d
 
 -- a value that was found at a key, by its kind
-abbrev pub of_kind : {X : Type 0} → Key → ℕ → Option X → Result X WalkFault
-of_kind key place None = Err (wrong_type key place)
+abbrev pub of_kind : {X : Type 0} → Key → ℕ → Option X → Result X FileFault
+of_kind key place None = Err (WrongType key place)
 of_kind key place (Some x) = Ok x
 
-abbrev pub found : {X : Type 0} → Key → ℕ → (Data → Option X) → Option Data → Result X WalkFault
-found key place kind None = Err (missing key place)
+abbrev pub found : {X : Type 0} → Key → ℕ → (Data → Option X) → Option Data → Result X FileFault
+found key place kind None = Err (Missing key place)
 found key place kind (Some d) = of_kind key place (kind d)
 
 -- the value of a key that has to be there
-abbrev pub required : {X : Type 0} → Key → ℕ → (Data → Option X) → Members → Result X WalkFault
+abbrev pub required : {X : Type 0} → Key → ℕ → (Data → Option X) → Members → Result X FileFault
 required key place kind table = found key place kind (get_member (key_text key) table)
 
 -- goes on with a value, unless there was a fault
-abbrev pub then_with : {X Y : Type 0} → Result X WalkFault → (X → Result Y WalkFault) → Result Y WalkFault
+abbrev pub then_with : {X Y : Type 0} → Result X FileFault → (X → Result Y FileFault) → Result Y FileFault
 then_with (Ok x) go = go x
 then_with (Err fault) go = Err fault
 
 -- the variable of one table
-abbrev pub variable_in : ℕ → Members → Result DraftOfVariable WalkFault
+abbrev pub variable_in : ℕ → Members → Result DraftOfVariable FileFault
 variable_in place table =
     then_with (required Name place as_str table) (λ name.
     then_with (required Values place texts table) (λ values.
@@ -62,14 +60,14 @@ variable_in place table =
     Ok (record { name = name; values = values; parents = parents; rows = rows })))))
 
 -- the variables of the tables, from a number on
-abbrev pub variables_in : ℕ → List Members → Result (List DraftOfVariable) WalkFault
+abbrev pub variables_in : ℕ → List Members → Result (List DraftOfVariable) FileFault
 variables_in place [] = Ok []
 variables_in place (table ∷ tables) =
     then_with (variable_in place table) (λ variable.
     then_with (variables_in (place + 1) tables) (λ variables. Ok (variable ∷ variables)))
 
 -- what a document says, or the first key that is missing or of another kind: the top keys first, then the variables
-abbrev pub draft_in : Members → Result DraftOfMarket WalkFault
+abbrev pub draft_in : Members → Result DraftOfMarket FileFault
 draft_in document =
     then_with (required PointsPerBit 0 as_integer document) (λ points_per_bit.
     then_with (required MaxTrades 0 as_integer document) (λ max_trades.

@@ -2,9 +2,10 @@
 #![tactic(auto)]
 
 mod accept;
-mod checks;
+mod counts;
 mod fault;
 mod kinds;
+mod later;
 mod market_file;
 mod opened;
 mod required;

@@ -8,8 +8,8 @@ ghost use Rattle.mk_net.specs.Drafts.{texts_of, rows_of};
 ghost use Rattle.mk_file.specs.Walk.{required, list_of, texts, wholes};
 ghost use Rattle.mk_file.specs.Views.{Gives, lists_of, tables_of};
 
+use crate::fault::FileFault;
 use crate::kinds::{read_lists, read_rows, read_tables, read_text, read_texts, read_wholes};
-use crate::walk::WalkStop;
 use mk_net::Key;
 use std::alloc::Global;
 use toml::{Table, Value};
@@ -32,14 +32,14 @@ fn text_of(key: Key) -> &'static str
 }
 
 /// The value at a key.
-fn value_at<'a>(table: &'a Table, key: Key, place: usize) -> Result<&'a Value, WalkStop>
+fn value_at<'a>(table: &'a Table, key: Key, place: u32) -> Result<&'a Value, FileFault>
     ensures at_key { IfOk result (λ value. get_member (key_text key) (table_view table.now) ≡ Some (view value.now)) }
     ensures missing { OnErr result (get_member (key_text key) (table_view table.now) ≡ None) }
-    ensures stop { IfErr result (λ stop. stop ≡ WalkStop.Missing key place) }
+    ensures fault { IfErr result (λ fault. fault ≡ FileFault.Missing key place) }
 {
     match table.get(text_of(key)) {
         Some(value) => Ok(value),
-        None => Err(WalkStop::Missing { key, place }),
+        None => Err(FileFault::Missing { key, place }),
     }
 }
 
@@ -48,12 +48,12 @@ pub fn required_text(
     alloc: Global,
     table: &Table,
     key: Key,
-    place: usize,
-) -> Result<String, WalkStop>
+    place: u32,
+) -> Result<String, FileFault>
     ensures { Gives (λ s. string_bytes s) result (required key place as_str (table_view table.now)) }
 {
     let read = read_text(alloc, value_at(table, key, place)?)?;
-    read.ok_or(WalkStop::WrongType { key, place })
+    read.ok_or(FileFault::WrongType { key, place })
 }
 
 /// The list of texts at a key.
@@ -61,12 +61,12 @@ pub fn required_texts(
     alloc: Global,
     table: &Table,
     key: Key,
-    place: usize,
-) -> Result<Vec<String>, WalkStop>
+    place: u32,
+) -> Result<Vec<String>, FileFault>
     ensures { Gives texts_of result (required key place texts (table_view table.now)) }
 {
     let read = read_texts(alloc, value_at(table, key, place)?)?;
-    read.ok_or(WalkStop::WrongType { key, place })
+    read.ok_or(FileFault::WrongType { key, place })
 }
 
 /// The list of lists of texts at a key.
@@ -74,20 +74,20 @@ pub fn required_lists(
     alloc: Global,
     table: &Table,
     key: Key,
-    place: usize,
-) -> Result<Vec<Vec<String>>, WalkStop>
+    place: u32,
+) -> Result<Vec<Vec<String>>, FileFault>
     ensures { Gives lists_of result (required key place (list_of texts) (table_view table.now)) }
 {
     let read = read_lists(alloc, value_at(table, key, place)?)?;
-    read.ok_or(WalkStop::WrongType { key, place })
+    read.ok_or(FileFault::WrongType { key, place })
 }
 
 /// The whole number at a key.
-pub fn required_whole(table: &Table, key: Key, place: usize) -> Result<i64, WalkStop>
+pub fn required_whole(table: &Table, key: Key, place: u32) -> Result<i64, FileFault>
     ensures { Gives (λ z. z) result (required key place as_integer (table_view table.now)) }
 {
     let read = value_at(table, key, place)?.as_integer();
-    read.ok_or(WalkStop::WrongType { key, place })
+    read.ok_or(FileFault::WrongType { key, place })
 }
 
 /// The list of whole numbers at a key.
@@ -95,12 +95,12 @@ pub fn required_wholes(
     alloc: Global,
     table: &Table,
     key: Key,
-    place: usize,
-) -> Result<Vec<i64>, WalkStop>
+    place: u32,
+) -> Result<Vec<i64>, FileFault>
     ensures { Gives (λ v. v.items) result (required key place wholes (table_view table.now)) }
 {
     let read = read_wholes(alloc, value_at(table, key, place)?)?;
-    read.ok_or(WalkStop::WrongType { key, place })
+    read.ok_or(FileFault::WrongType { key, place })
 }
 
 /// The rows of whole numbers at a key.
@@ -108,12 +108,12 @@ pub fn required_rows(
     alloc: Global,
     table: &Table,
     key: Key,
-    place: usize,
-) -> Result<Vec<Vec<i64>>, WalkStop>
+    place: u32,
+) -> Result<Vec<Vec<i64>>, FileFault>
     ensures { Gives rows_of result (required key place (list_of wholes) (table_view table.now)) }
 {
     let read = read_rows(alloc, value_at(table, key, place)?)?;
-    read.ok_or(WalkStop::WrongType { key, place })
+    read.ok_or(FileFault::WrongType { key, place })
 }
 
 /// The tables at a key.
@@ -121,10 +121,10 @@ pub fn required_tables<'a>(
     alloc: Global,
     table: &'a Table,
     key: Key,
-    place: usize,
-) -> Result<Vec<&'a Table>, WalkStop>
+    place: u32,
+) -> Result<Vec<&'a Table>, FileFault>
     ensures { Gives tables_of result (required key place (list_of as_table) (table_view table.now)) }
 {
     let read = read_tables(alloc, value_at(table, key, place)?)?;
-    read.ok_or(WalkStop::WrongType { key, place })
+    read.ok_or(FileFault::WrongType { key, place })
 }

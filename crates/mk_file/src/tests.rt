@@ -1,24 +1,132 @@
 use super::*;
+use crate::fault::FileFault::{BadToml, Later};
+use mk_net::Key;
+use mk_net::Key::{Cliques, Links, MaxTrades, Name, Parents, PointsPerBit, Rows, Values, Variable};
 use std::alloc::Global;
+use std::process::Abort;
 use std::test::Fail;
 
-const COIN: &str = r#"points_per_bit = 100
-max_trades = 1000
-cliques = [["coin"]]
+const COIN: &str = "points_per_bit = 100
+max_trades = 77
+cliques = [['coin']]
 links = []
 
 [[variable]]
-name = "coin"
-values = ["heads", "tails"]
+name = 'coin'
+values = ['heads', 'tails']
 parents = []
 rows = [[500000, 500000]]
-"#;
+";
+
+/// Each variable with another number of values and of parents.
+const THREE: &str = "points_per_bit = 100
+max_trades = 77
+cliques = [['a', 'b', 'c']]
+links = []
+
+[[variable]]
+name = 'a'
+values = ['a1', 'a2']
+parents = []
+rows = [[400000, 600000]]
+
+[[variable]]
+name = 'b'
+values = ['b1', 'b2', 'b3']
+parents = ['a']
+rows = [[10, 20, 999970], [30, 40, 999930]]
+
+[[variable]]
+name = 'c'
+values = ['c1', 'c2']
+parents = ['a', 'b']
+rows = [[1, 999999], [2, 999998], [3, 999997], [4, 999996], [5, 999995], [6, 999994]]
+";
+
+fn missing(key: Key, place: u32) -> FileFault {
+    FileFault::Missing { key, place }
+}
+
+fn wrong_type(key: Key, place: u32) -> FileFault {
+    FileFault::WrongType { key, place }
+}
+
+fn count(key: Key, place: u32, n: i64) -> FileFault {
+    FileFault::Count { key, place, n }
+}
+
+fn bad_name(variable: u32) -> FileFault {
+    FileFault::BadName { variable }
+}
+
+fn repeat(variable: u32) -> FileFault {
+    FileFault::Repeat { variable }
+}
+
+fn parent(variable: u32) -> FileFault {
+    FileFault::Parent { variable }
+}
+
+fn rows(variable: u32, n: i64) -> FileFault {
+    FileFault::Rows { variable, n }
+}
+
+fn width(variable: u32, row: u32, n: i64) -> FileFault {
+    FileFault::Width { variable, row, n }
+}
+
+fn entry(variable: u32, row: u32, column: u32) -> FileFault {
+    FileFault::Entry {
+        variable,
+        row,
+        column,
+    }
+}
+
+fn sum(variable: u32, row: u32, sum: i64) -> FileFault {
+    FileFault::Sum { variable, row, sum }
+}
+
+/// A file with some parts replaced, as `old -> new; old -> new`.
+fn edited(alloc: Global, base: &str, edits: &str) -> Result<String, Fail> {
+    let mut text = String::from_str(alloc, base)?;
+    for edit in edits.split("; ") {
+        let (old, new) = edit.split_once(" -> ").ok_or("no arrow")?;
+        text = text.replace(alloc, old, new)?;
+    }
+    Ok(text)
+}
+
+/// Each of these edits leaves a file accepted.
+fn accepts(rt: &impl Abort, alloc: Global, base: &str, cases: &[&str]) -> Result<(), Fail> {
+    for edits in cases {
+        let text = edited(alloc, base, *edits)?;
+        let fault = read_market(alloc, text.as_bytes()).err();
+        assert_eq!(rt; fault, None, "at {edits}");
+    }
+    Ok(())
+}
+
+/// Each of these edits gives a file its fault.
+fn refuses(
+    rt: &impl Abort,
+    alloc: Global,
+    base: &str,
+    cases: &[(&str, FileFault)],
+) -> Result<(), Fail> {
+    for (edits, fault) in cases {
+        let text = edited(alloc, base, *edits)?;
+        let answer = read_market(alloc, text.as_bytes()).err();
+        assert_eq!(rt; answer, Some(*fault), "at {edits}");
+    }
+    Ok(())
+}
 
 #[test]
 fn reads_a_coin(rt: HostRuntime) -> Result<(), Fail> {
     let file = read_market(rt.alloc(), COIN.as_bytes())?;
     assert_eq!(rt; file.points_per_bit, 100);
-    assert_eq!(rt; file.max_trades, 1000);
+    assert_eq!(rt; file.max_trades, 77);
     assert_eq!(rt; file.net.variables(), 1);
     assert_eq!(rt; file.net.name(0).bytes(), b"coin".as_slice());
     assert_eq!(rt; file.net.values(0), 2);
@@ -26,42 +134,6 @@ fn reads_a_coin(rt: HostRuntime) -> Result<(), Fail> {
     assert_eq!(rt; file.net.value_name(0, 1).bytes(), b"tails".as_slice());
     assert_eq!(rt; file.net.parents(0).len(), 0);
     assert_eq!(rt; file.net.entry(0, 0, 1), 500_000);
-    Ok(())
-}
-
-/// The coin's file with a part replaced.
-fn edited(alloc: Global, old: &str, new: &str) -> Result<String, Fail> {
-    Ok(COIN.replace(alloc, old, new)?)
-}
-
-#[test]
-fn refuses_other_files(rt: HostRuntime) -> Result<(), Fail> {
-    let alloc = rt.alloc();
-    for (old, new) in [
-        (
-            "[[500000, 500000]]",
-            "[[500000, 500000]]\n[[variable]]\nname = \"b\"\nvalues = [\"x\", \"y\"]\nparents = []\nrows = [[1, 999999]]",
-        ),
-        ("[500000, 500000]", "[500000, 499999]"),
-        ("[500000, 500000]", "[1000000, 0]"),
-        ("cliques = [[\"coin\"]]\n", ""),
-        ("points_per_bit = 100", "points_per_bit = \"100\""),
-        ("points_per_bit = 100", "points_per_bit = 0"),
-        ("max_trades = 1000", "max_trades = 65537"),
-        (
-            "[\"heads\", \"tails\"]",
-            "[\"a\", \"b\", \"c\", \"d\", \"e\"]",
-        ),
-        ("[\"heads\", \"tails\"]", "[\"heads\", \"heads\"]"),
-        ("parents = []", "parents = [\"coin\"]"),
-        ("links = []", "links = [1]"),
-        ("[[\"coin\"]]", "[[\"dice\"]]"),
-        ("name = \"coin\"", "name = \"Coin\""),
-    ] {
-        let text = edited(alloc, old, new)?;
-        let answer = read_market(alloc, text.as_bytes()).err();
-        assert_eq!(rt; answer, Some(FileFault::Later), "at {new}");
-    }
     Ok(())
 }
 
@@ -74,15 +146,306 @@ fn refuses_what_is_no_document(rt: HostRuntime) -> Result<(), Fail> {
     ] {
         assert_eq!(rt;
             read_market(alloc, bytes).err(),
-            Some(FileFault::BadToml),
+            Some(BadToml),
             "at {bytes:?}"
         );
     }
-    let long = vec![in alloc; b' '; 1_048_577]?;
+    let long = vec![in alloc; b'='; 1_048_577]?;
     assert_eq!(rt; read_market(alloc, &long).err(), Some(FileFault::TooLong));
+    let blank = vec![in alloc; b' '; 1_048_576]?;
     assert_eq!(rt;
-        read_market(alloc, &long[1..]).err(),
-        Some(FileFault::Later)
+        read_market(alloc, &blank).err(),
+        Some(missing(PointsPerBit, 0))
     );
     Ok(())
+}
+
+#[test]
+fn accepts_odd_documents(rt: HostRuntime) -> Result<(), Fail> {
+    let edits = [
+        "100 -> 0x64",
+        "77 -> 1_000 # trades",
+        r#"points_per_bit -> "points_per_bit""#,
+        r#"'coin' -> "coin""#,
+        "links = [] -> links = []\nfees = [1, 'two']",
+        "[[variable]]\nname = 'coin'\nvalues = ['heads', 'tails']\nparents = []\nrows = [[500000, 500000]]\n -> variable = [{ name = 'coin', values = ['a', 'b'], parents = [], rows = [[1, 999999]] }]",
+        "100 -> 1000000",
+        "77 -> 65536",
+        "77 -> 1",
+        "'coin' -> 'c234567890_234567890_234567890_2'",
+        "['heads', 'tails']\nparents = []\nrows = [[500000, 500000]] -> ['a', 'b', 'c', 'd']\nparents = []\nrows = [[1, 2, 3, 999994]]",
+    ];
+    accepts(&rt, rt.alloc(), COIN, &edits)
+}
+
+#[test]
+fn refuses_what_is_no_toml(rt: HostRuntime) -> Result<(), Fail> {
+    let edits = [
+        ("points_per_bit -> points per bit", BadToml),
+        ("100 -> 9223372036854775808", BadToml),
+        ("100 -> 00100", BadToml),
+        ("links = [] -> links = []\nlinks = []", BadToml),
+        ("[[variable]] -> variable = []\n[[variable]]", BadToml),
+    ];
+    refuses(&rt, rt.alloc(), COIN, &edits)
+}
+
+#[test]
+fn refuses_other_kinds(rt: HostRuntime) -> Result<(), Fail> {
+    let edits = [
+        ("[[variable]] -> [variable]", wrong_type(Variable, 0)),
+        (
+            "[[variable]]\n -> variable = ['coin']\n",
+            wrong_type(Variable, 0),
+        ),
+        (
+            "[[variable]]\nname = 'coin'\nvalues = ['heads', 'tails']\nparents = []\nrows = [[500000, 500000]]\n -> variable = []",
+            count(Variable, 0, 0),
+        ),
+        ("100 -> 100.0", wrong_type(PointsPerBit, 0)),
+        ("100 -> 2026-11-27", wrong_type(PointsPerBit, 0)),
+        ("100 -> true", wrong_type(PointsPerBit, 0)),
+        ("100 -> { whole = 100 }", wrong_type(PointsPerBit, 0)),
+        (
+            "max_trades = -> max_trades.whole =",
+            wrong_type(MaxTrades, 0),
+        ),
+        ("'heads', 'tails' -> 'heads', 1", wrong_type(Values, 1)),
+        (
+            "[[500000, 500000]] -> [[500000, 500000], 1]",
+            wrong_type(Rows, 1),
+        ),
+        ("500000]] -> 5e5]]", wrong_type(Rows, 1)),
+        ("['coin'] -> [['coin']]", wrong_type(Cliques, 0)),
+        ("links = [] -> links = [[]]", wrong_type(Links, 0)),
+        ("parents = [] -> parents = ''", wrong_type(Parents, 1)),
+    ];
+    refuses(&rt, rt.alloc(), COIN, &edits)
+}
+
+#[test]
+fn refuses_missing_keys(rt: HostRuntime) -> Result<(), Fail> {
+    let edits = [
+        ("points_per_bit -> points", missing(PointsPerBit, 0)),
+        ("max_trades -> trades", missing(MaxTrades, 0)),
+        ("[[variable]] -> [[variables]]", missing(Variable, 0)),
+        ("cliques -> clique", missing(Cliques, 0)),
+        ("links -> link", missing(Links, 0)),
+    ];
+    refuses(&rt, rt.alloc(), COIN, &edits)
+}
+
+#[test]
+fn refuses_missing_keys_of_variables(rt: HostRuntime) -> Result<(), Fail> {
+    let edits = [
+        ("name = 'a' -> nome = 'a'", missing(Name, 1)),
+        ("values = ['b1 -> valves = ['b1", missing(Values, 2)),
+        (
+            "parents = ['a', 'b'] -> parent = ['a', 'b']",
+            missing(Parents, 3),
+        ),
+        ("rows = [[1, -> row = [[1,", missing(Rows, 3)),
+    ];
+    refuses(&rt, rt.alloc(), THREE, &edits)
+}
+
+#[test]
+fn refuses_numbers(rt: HostRuntime) -> Result<(), Fail> {
+    let edits = [
+        ("100 -> 0", count(PointsPerBit, 0, 0)),
+        ("100 -> 1000001", count(PointsPerBit, 0, 1_000_001)),
+        (
+            "100 -> -9223372036854775808",
+            count(PointsPerBit, 0, i64::MIN),
+        ),
+        (
+            "100 -> 9223372036854775807",
+            count(PointsPerBit, 0, i64::MAX),
+        ),
+        ("77 -> 0", count(MaxTrades, 0, 0)),
+        ("77 -> 65537", count(MaxTrades, 0, 65_537)),
+        ("[['coin']] -> []", count(Cliques, 0, 0)),
+        ("links = [] -> links = [1]", count(Links, 0, 1)),
+        ("[['coin']] -> [['coin'], ['coin']]", count(Links, 0, 0)),
+        ("['coin'] -> []", count(Cliques, 1, 0)),
+        ("'heads', 'tails' -> 'heads'", count(Values, 1, 1)),
+        (
+            "'heads', 'tails' -> 'a', 'b', 'c', 'd', 'e', 'f', 'g', 'h', 'i', 'j', 'k', 'l', 'm', 'n', 'o', 'p', 'q'",
+            count(Values, 1, 17),
+        ),
+        (
+            "parents = [] -> parents = ['a', 'b', 'c', 'd', 'e', 'f', 'g', 'h', 'i']",
+            count(Parents, 1, 9),
+        ),
+    ];
+    refuses(&rt, rt.alloc(), COIN, &edits)
+}
+
+#[test]
+fn refuses_names(rt: HostRuntime) -> Result<(), Fail> {
+    let edits = [
+        ("'coin' -> 'c234567890_234567890_234567890_23'", bad_name(1)),
+        ("tails -> täils", bad_name(1)),
+        ("coin -> ", bad_name(1)),
+        ("heads -> _heads", bad_name(1)),
+    ];
+    refuses(&rt, rt.alloc(), COIN, &edits)
+}
+
+#[test]
+fn refuses_variables(rt: HostRuntime) -> Result<(), Fail> {
+    let edits = [
+        ("'a1', 'a2' -> 'a1'", count(Values, 1, 1)),
+        (
+            "parents = ['a'] -> parents = ['a', 'b', 'c', 'd', 'e', 'f', 'g', 'h', 'i']",
+            count(Parents, 2, 9),
+        ),
+        ("'c1', 'c2' -> ", count(Values, 3, 0)),
+        ("name = 'a' -> name = 'A'", bad_name(1)),
+        ("'b3' -> 'b-3'", bad_name(2)),
+        ("'c2' -> ''", bad_name(3)),
+        ("'a2' -> 'a1'", repeat(1)),
+        ("name = 'b' -> name = 'a'", repeat(2)),
+        ("name = 'c' -> name = 'a'", repeat(3)),
+        ("'b3' -> 'b1'", repeat(2)),
+        ("parents = [] -> parents = ['a']", parent(1)),
+        ("parents = ['a'] -> parents = ['c']", parent(2)),
+        ("parents = ['a', 'b'] -> parents = ['a', 'a']", parent(3)),
+    ];
+    refuses(&rt, rt.alloc(), THREE, &edits)
+}
+
+#[test]
+fn refuses_rows(rt: HostRuntime) -> Result<(), Fail> {
+    let edits = [
+        ("600000]] -> 600000], [1, 999999]]", rows(1, 2)),
+        ("], [30, 40, 999930] -> ]", rows(2, 1)),
+        (", [6, 999994]] -> ]", rows(3, 5)),
+        ("400000, 600000 -> ", width(1, 1, 0)),
+        ("30, 40, 999930 -> 30, 40, 999929, 1", width(2, 2, 4)),
+        ("6, 999994 -> 6", width(3, 6, 1)),
+        ("400000, 600000 -> 0, 1000000", entry(1, 1, 1)),
+        ("30, 40, 999930 -> 30, 1000001, 40", entry(2, 2, 2)),
+        ("6, 999994 -> 6, -1", entry(3, 6, 2)),
+        ("400000, 600000 -> 400000, 600001", sum(1, 1, 1_000_001)),
+        ("30, 40, 999930 -> 30, 40, 999929", sum(2, 2, 999_999)),
+        ("6, 999994 -> 1000000, 1000000", sum(3, 6, 2_000_000)),
+    ];
+    refuses(&rt, rt.alloc(), THREE, &edits)
+}
+
+#[test]
+fn answers_later(rt: HostRuntime) -> Result<(), Fail> {
+    let edits = [
+        ("'a', 'b', 'c' -> 'a', 'b', 'b'", Later),
+        ("'a', 'b', 'c' -> 'a', 'b', 'd'", Later),
+        ("'a', 'b', 'c' -> 'a', 'b', 'c', 'd'", Later),
+        ("'a', 'b', 'c' -> 'a'", Later),
+        (
+            "[['a', 'b', 'c']]\nlinks = [] -> [['a', 'b', 'c'], ['a']]\nlinks = [1]",
+            Later,
+        ),
+    ];
+    refuses(&rt, rt.alloc(), THREE, &edits)
+}
+
+#[test]
+fn answers_later_to_wide_variables(rt: HostRuntime) -> Result<(), Fail> {
+    let edits = [(
+        "['heads', 'tails']\nparents = []\nrows = [[500000, 500000]] -> ['a', 'b', 'c', 'd', 'e']\nparents = []\nrows = [[1, 2, 3, 4, 999990]]",
+        Later,
+    )];
+    refuses(&rt, rt.alloc(), COIN, &edits)
+}
+
+#[test]
+fn accepts_names_in_any_order(rt: HostRuntime) -> Result<(), Fail> {
+    let edits = [
+        "'a', 'b', 'c' -> 'a', 'b', 'c'",
+        "'a', 'b', 'c' -> 'c', 'a', 'b'",
+    ];
+    accepts(&rt, rt.alloc(), THREE, &edits)
+}
+
+#[test]
+fn refuses_the_first_of_two_keys(rt: HostRuntime) -> Result<(), Fail> {
+    let edits = [
+        ("77 -> true; 100 -> 100 100", BadToml),
+        (
+            "points_per_bit -> points; 77 -> true",
+            missing(PointsPerBit, 0),
+        ),
+        (
+            "max_trades -> trades; 100 -> true",
+            wrong_type(PointsPerBit, 0),
+        ),
+        (
+            "name = 'b' -> name = 2; rows = [[4 -> row = [[4",
+            missing(Rows, 1),
+        ),
+        (
+            "rows = [[4 -> row = [[4; name = 'b' -> name = 2",
+            missing(Rows, 1),
+        ),
+        ("rows = [[1, -> row = [[1,; 100 -> 0", missing(Rows, 3)),
+        (
+            "'c1', 'c2' -> 'c1', 2; 'a1', 'a2' -> 'a1'",
+            wrong_type(Values, 3),
+        ),
+        ("77 -> 0; 100 -> 0", count(PointsPerBit, 0, 0)),
+    ];
+    refuses(&rt, rt.alloc(), THREE, &edits)
+}
+
+#[test]
+fn refuses_the_first_of_two_numbers(rt: HostRuntime) -> Result<(), Fail> {
+    let edits = [
+        (
+            "'a1', 'a2' -> 'a1'; links = [] -> links = [1]",
+            count(Links, 0, 1),
+        ),
+        (
+            "'a1', 'a2' -> 'a1'; cliques = [['a', 'b', 'c'] -> cliques = [[]",
+            count(Values, 1, 1),
+        ),
+        (
+            "parents = ['a', 'b'] -> parents = ['a', 'b', 'c', 'd', 'e', 'f', 'g', 'h', 'i']; 'b1', 'b2', 'b3' -> 'b1'",
+            count(Values, 2, 1),
+        ),
+        (
+            "'c1', 'c2' -> 'c1'; name = 'a' -> name = 'A'",
+            count(Values, 3, 1),
+        ),
+        (
+            "cliques = [['a', 'b', 'c'] -> cliques = [[]; name = 'a' -> name = 'A'",
+            count(Cliques, 1, 0),
+        ),
+    ];
+    refuses(&rt, rt.alloc(), THREE, &edits)
+}
+
+#[test]
+fn refuses_the_first_of_two_of_variables(rt: HostRuntime) -> Result<(), Fail> {
+    let edits = [
+        ("'c2' -> 'C2'; 'a2' -> 'a1'", bad_name(3)),
+        ("'c2' -> 'c1'; parents = [] -> parents = ['a']", repeat(3)),
+        (
+            "parents = ['a', 'b'] -> parents = ['a', 'd']; [[400000, 600000]] -> []",
+            parent(3),
+        ),
+        (", [6, 999994]] -> ]; 400000, 600000 -> 1000000", rows(3, 5)),
+        (
+            "6, 999994 -> 6; 400000, 600000 -> 0, 1000000",
+            width(3, 6, 1),
+        ),
+        (
+            "6, 999994 -> 6, -1; 400000, 600000 -> 400000, 600001",
+            entry(3, 6, 2),
+        ),
+        (
+            "6, 999994 -> 6, 6; 'a', 'b', 'c' -> 'a', 'b'",
+            sum(3, 6, 12),
+        ),
+    ];
+    refuses(&rt, rt.alloc(), THREE, &edits)
 }

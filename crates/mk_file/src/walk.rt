@@ -1,18 +1,18 @@
 //! The walk over a document: each key there and of its kind, or the first that is not.
 
-ghost use Rattle.std.specs.Prelude.{◌≡◌, map};
+ghost use Rattle.std.specs.Prelude.{◌≡◌, ◌+◌, map, MatchResult};
 ghost use Rattle.toml.specs.View.{table_view};
 ghost use Rattle.mk_net.specs.Drafts.{draft_of_variable};
 ghost use Rattle.mk_file.specs.Walk.{variable_in, variables_in, draft_in};
 ghost use Rattle.mk_file.specs.Views.{Gives, draft_of};
-ghost use Rattle.mk_file.specs.declared.walk.WalkStop.TheVariants.{Memory};
 
+use crate::fault::FileFault;
 use crate::required::{
     required_lists, required_rows, required_tables, required_text, required_texts, required_whole,
     required_wholes,
 };
-use mk_net::{Key, VariableDraft};
-use std::alloc::{AllocError, AllocFailed, Global};
+use mk_net::{Draft, Key, VariableDraft};
+use std::alloc::Global;
 use toml::Table;
 
 /// What a document says, once each key is there and of its kind.
@@ -20,42 +20,27 @@ use toml::Table;
 pub struct MarketDraft {
     pub points_per_bit: i64,
     pub max_trades: i64,
-    pub variables: Vec<VariableDraft>,
+    pub draft: Draft,
     pub cliques: Vec<Vec<String>>,
     pub links: Vec<i64>,
 }
 
-/// Why the walk stopped.
-#[derive(Clone, Copy, Debug, PartialEq, Eq)]
-pub enum WalkStop {
-    /// A key is not there; the place is 0 at the top, or the number of a variable from 1.
-    Missing { key: Key, place: usize },
-    /// A key's value is of another kind.
-    WrongType { key: Key, place: usize },
-    /// Memory was wanting.
-    Memory,
-}
-
-impl From<AllocError> for WalkStop {
-    ghost from_gives = { λ _ e. e ≡ Memory };
-
-    fn from(_e: AllocError) -> WalkStop {
-        WalkStop::Memory
-    }
-}
-
-impl<T: Drop> From<AllocFailed<T>> for WalkStop {
-    ghost from_gives = { λ _ e. e ≡ Memory };
-
-    fn from(_e: AllocFailed<T>) -> WalkStop {
-        WalkStop::Memory
+/// The number of a table, counted from 1.
+fn number_of(index: usize) -> Result<u32, FileFault>
+    ensures { MatchResult result (λ number. number ≡ index + 1) (λ fault. fault ≡ FileFault.Memory) }
+{
+    match u32::try_from(index) {
+        Ok(index) if index < u32::MAX => Ok(index + 1),
+        // No place can tell the number: so many tables are more than can be held.
+        _ => Err(FileFault::Memory),
     }
 }
 
 /// The variable of one table.
-fn read_variable(alloc: Global, table: &Table, place: usize) -> Result<VariableDraft, WalkStop>
-    ensures { Gives draft_of_variable result (variable_in place (table_view table.now)) }
+fn read_variable(alloc: Global, table: &Table, index: usize) -> Result<VariableDraft, FileFault>
+    ensures { Gives draft_of_variable result (variable_in (index + 1) (table_view table.now)) }
 {
+    let place = number_of(index)?;
     let name = required_text(alloc, table, Key::Name, place)?;
     let values = required_texts(alloc, table, Key::Values, place)?;
     let parents = required_texts(alloc, table, Key::Parents, place)?;
@@ -69,19 +54,19 @@ fn read_variable(alloc: Global, table: &Table, place: usize) -> Result<VariableD
 }
 
 /// The variables of the tables, whose places are counted from 1.
-fn read_variables(alloc: Global, tables: &[&Table]) -> Result<Vec<VariableDraft>, WalkStop>
+fn read_variables(alloc: Global, tables: &[&Table]) -> Result<Vec<VariableDraft>, FileFault>
     ensures { Gives (λ v. map draft_of_variable v.items) result
         (variables_in 1 (map (λ table. table_view table.now) tables.now)) }
 {
     let mut variables = Vec::new(alloc);
     'tables: for (index, table) in tables.iter().enumerate() {
-        variables.push(read_variable(alloc, table, index + 1)?)?;
+        variables.push(read_variable(alloc, table, index)?)?;
     }
     Ok(variables)
 }
 
 /// What a document says, or the first of its keys that is missing or of another kind.
-pub fn read_draft(alloc: Global, document: &Table) -> Result<MarketDraft, WalkStop>
+pub fn read_draft(alloc: Global, document: &Table) -> Result<MarketDraft, FileFault>
     ensures { Gives draft_of result (draft_in (table_view document.now)) }
 {
     let points_per_bit = required_whole(document, Key::PointsPerBit, 0)?;
@@ -93,7 +78,7 @@ pub fn read_draft(alloc: Global, document: &Table) -> Result<MarketDraft, WalkSt
     Ok(MarketDraft {
         points_per_bit,
         max_trades,
-        variables,
+        draft: Draft { variables },
         cliques,
         links,
     })

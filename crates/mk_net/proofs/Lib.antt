@@ -3,3 +3,13 @@ pub mod Networks
 pub mod StoredReads
 pub mod SameText
 pub mod Named
+pub mod Bits
+pub mod Events
+pub mod Mapped
+pub mod Numbers
+pub mod Choices
+pub mod Firsts
+pub mod Counting
+pub mod Taken
+pub mod Checked
+pub mod Build

@@ -1,21 +1,22 @@
 -- The pair that two words name, from the first places of the words.
 use Rattle.std.specs.Prelude.{◌≡◌, ℕ, ◌+◌, ◌<◌, ◌≤◌, List, [], ◌∷◌, Bool, true, false, cond, length, get_or, Option, Some, None, option_map, option_and_then, position, find, slice_get, ltb, slice_index, slice_index_or}
 use Rattle.std.specs.List.{enumerate_from, position_or_len}
-use Rattle.std.proofs.lemmas.List.{length-map}
+use Rattle.std.specs.Map.{keys_of, values_of}
 use Rattle.std.proofs.lemmas.List.FromFn.{get_or-enumerate_from, length-enumerate_from}
 use Rattle.std.proofs.lemmas.List.Folds.{find_at}
-use Rattle.std.proofs.Common.{refl, sym, ap, ◌∙◌, arith, zero-add}
+use Rattle.std.proofs.Common.{refl, sym, ap, ◌∙◌, zero-add}
 use Rattle.std.proofs.lemmas.Bool.{ltb-true, ltb-false}
 use Rattle.std.proofs.lemmas.Option.{slice_get_past, slice_get-get_or}
 use Rattle.std.proofs.lemmas.List.Quantifiers.{position-Some}
 use Rattle.mk_net.specs.Network.{Variable, sizes}
 use Rattle.mk_net.specs.Texts.{same_text}
 use Rattle.mk_net.specs.Named.{nobody, variable_at, value_named, pair_named}
-use Rattle.mk_net.specs.Stored.{variable_of, variables_of}
+use Rattle.mk_net.specs.Stored.{variables_of}
 use Rattle.mk_net.specs.declared.network.StoredVariable.{StoredVariable}
 use Rattle.mk_net.specs.declared.words.Pair.{Pair}
 use Rattle.mk_net.specs.declared.words.PairText.{PairText}
-use Rattle.mk_net.proofs.StoredReads.{stored_at}
+use Rattle.mk_net.proofs.StoredReads.{names_stored, values_stored}
+use Rattle.mk_net.proofs.Mapped.{position_of_map}
 use Rattle.mk_net.proofs.Networks.{size_at}
 use Rattle.mk_net.proofs.SameText.{equal_of_same_text}
 
@@ -47,15 +48,6 @@ numbered : (p : Variable → Bool) (xs : List Variable) →
 numbered p xs = find_at (λ (n : ℕ × Variable). p (n.1)) (enumerate_from 0 xs) ∙
     ap (λ (i : ℕ). slice_get (enumerate_from 0 xs) i) (places p xs 0) ∙ at_place xs (position_or_len p xs)
 
-stored_place : (p : Variable → Bool) (vs : List StoredVariable) →
-    position_or_len p (variables_of vs) ≡ position_or_len (λ (v : StoredVariable). p (variable_of v)) vs
-stored_place p [] = refl
-stored_place p (v ∷ vs) = rw (stored_place p vs) refl
-
-stored_position : (p : Variable → Bool) (vs : List StoredVariable) →
-    position p (variables_of vs) ≡ position (λ (v : StoredVariable). p (variable_of v)) vs
-stored_position p vs = rw (stored_place p vs, length-map vs variable_of) refl
-
 and_then_map : (value : List ℕ) (network : List Variable) (o : Option ℕ) →
     option_and_then (value_named value) (option_map (λ (k : ℕ). let r : ℕ × Variable = (k, get_or network k nobody) in r) o) ≡
     option_and_then (λ (k : ℕ). value_named value (let r : ℕ × Variable = (k, variable_at network k) in r)) o
@@ -69,29 +61,29 @@ pair_of_places network p =
     ap (λ (o : Option (ℕ × Variable)). option_and_then (value_named p.value) o) (numbered (λ (v : Variable). same_text p.variable v.name) network)
     ∙ and_then_map p.value network (position (λ (v : Variable). same_text p.variable v.name) network)
 
-stored_pair : (vs : List StoredVariable) (network : List Variable) (p : PairText) (o : Option ℕ) → variables_of vs ≡ network →
-    o ≡ position (λ (v : StoredVariable). same_text p.variable v.name) vs →
-    pair_named network p ≡ option_and_then (λ (k : ℕ). value_named p.value (let r : ℕ × Variable = (k, variable_at network k) in r)) o
-stored_pair vs network p o view place =
-    let places_are : position (λ (v : Variable). same_text p.variable v.name) network ≡ o =
-    ap (λ (us : List Variable). position (λ (v : Variable). same_text p.variable v.name) us) (sym view) ∙
-    stored_position (λ (v : Variable). same_text p.variable v.name) vs ∙ sym place in
-    pair_of_places network p ∙
-    ap (λ (o : Option ℕ). option_and_then (λ (k : ℕ). value_named p.value (let r : ℕ × Variable = (k, variable_at network k) in r)) o) places_are
+module _ (es : List (List ℕ × StoredVariable)) (network : List Variable) (view : variables_of es ≡ network) where
+  -- the place of a name
+  pub position_stored : (name : List ℕ) (o : Option ℕ) → o ≡ position (same_text name) (keys_of es) →
+      position (λ (v : Variable). same_text name v.name) network ≡ o
+  position_stored name o place =
+      sym (position_of_map (λ (v : Variable). v.name) (same_text name) network) ∙ ap (λ (ns : List (List ℕ)). position (same_text name) ns) (names_stored es network view) ∙ sym place
 
-pub unknown_variable : (vs : List StoredVariable) (network : List Variable) (p : PairText) → variables_of vs ≡ network →
-    None ≡ position (λ (v : StoredVariable). same_text p.variable v.name) vs → pair_named network p ≡ None
-unknown_variable vs network p view place = stored_pair vs network p None view place
+  stored_pair : (p : PairText) (o : Option ℕ) → o ≡ position (same_text p.variable) (keys_of es) →
+      pair_named network p ≡ option_and_then (λ (k : ℕ). value_named p.value (let r : ℕ × Variable = (k, variable_at network k) in r)) o
+  stored_pair p o place =
+      pair_of_places network p ∙
+      ap (λ (o : Option ℕ). option_and_then (λ (k : ℕ). value_named p.value (let r : ℕ × Variable = (k, variable_at network k) in r)) o) (position_stored p.variable o place)
 
-pub known_variable : (vs : List StoredVariable) (network : List Variable) (p : PairText) (k : ℕ) (v : StoredVariable) (o : Option ℕ) →
-    variables_of vs ≡ network → Some k ≡ position (λ (v : StoredVariable). same_text p.variable v.name) vs →
-    k < length vs → v ≡ get_or vs k v → o ≡ position (same_text p.value) v.values.items →
-    pair_named network p ≡ option_map (λ (x : ℕ). let r : Pair = record { variable = k; value = x } in r) o
-known_variable vs network p k v o view place h is values =
-    let inside : k < length network = omega (arith, h, ap (λ (us : List Variable). length us) view, length-map vs variable_of) in
-    stored_pair vs network p (Some k) view place ∙
-    ap (λ (u : Variable). value_named p.value (let r : ℕ × Variable = (k, u) in r)) (stored_at vs network k v view inside is) ∙
-    ap (λ (o : Option ℕ). option_map (λ (x : ℕ). let r : Pair = record { variable = k; value = x } in r) o) (sym values)
+  pub unknown_variable : (p : PairText) → None ≡ position (same_text p.variable) (keys_of es) → pair_named network p ≡ None
+  unknown_variable p place = stored_pair p None place
+
+  pub known_variable : (p : PairText) (k : ℕ) (v : StoredVariable) (o : Option ℕ) → Some k ≡ position (same_text p.variable) (keys_of es) →
+      slice_get (values_of es) k ≡ Some v → o ≡ position (same_text p.value) v.values.keys →
+      pair_named network p ≡ option_map (λ (x : ℕ). let r : Pair = record { variable = k; value = x } in r) o
+  known_variable p k v o place is values =
+      stored_pair p (Some k) place ∙
+      ap (λ (names : List (List ℕ)). option_map (λ (x : ℕ). let r : Pair = record { variable = k; value = x } in r) (position (same_text p.value) names)) (values_stored es network view k v is) ∙
+      ap (λ (o : Option ℕ). option_map (λ (x : ℕ). let r : Pair = record { variable = k; value = x } in r) o) (sym values)
 
 value_place : (pair : Pair) (k : ℕ) (o : Option ℕ) → Some pair ≡ option_map (λ (x : ℕ). let r : Pair = record { variable = k; value = x } in r) o →
     (k ≡ pair.variable) × (o ≡ Some pair.value)

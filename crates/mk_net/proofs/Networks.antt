@@ -1,6 +1,5 @@
 -- What is known of each network.
-use Rattle.std.specs.Prelude.{◌≡◌, ℕ, ◌<◌, ◌≤◌, List, [], ◌∷◌, length, slice_index, slice_index_or}
-use Rattle.std.proofs.Common.{rules}
+use Rattle.std.specs.Prelude.{◌≡◌, ℕ, ◌<◌, ◌≤◌, List, [], length, slice_index, slice_index_or}
 use Rattle.std.proofs.lemmas.List.{get_or-map}
 use Rattle.std.proofs.lemmas.List.Elements.{All-get_or}
 use Rattle.mk_net.specs.Network.{Variable, IsNetwork, IsRow, sizes}
@@ -21,8 +20,3 @@ row_at network k row is h within =
 
 pub two_values : (network : List Variable) (k : ℕ) → IsNetwork network → k < length network → 2 ≤ slice_index (sizes network) k
 two_values network k is h = rw (size_at network k h) ((is.each k nobody h).two_values)
-
--- a variable without parents is a network
-pub one_variable : (name : List ℕ) (values : List (List ℕ)) (row : List ℕ) → 2 ≤ length values → length values ≤ 16 →
-    IsRow (length values) row → IsNetwork (record { name = name; values = values; parents = []; rows = row ∷ [] } ∷ [])
-one_variable name values row two few shares = search rules

@@ -2,6 +2,7 @@
 use Rattle.std.specs.Prelude.{ℕ, ℤ, List, map, String, Vec, string_bytes}
 use Rattle.std.specs.declared.alloc.Global.{Global}
 use Rattle.mk_net.specs.declared.draft.VariableDraft.{VariableDraft}
+use Rattle.mk_net.specs.declared.draft.Draft.{Draft}
 
 pub record DraftOfVariable : Type 0 where
   pub name : List ℕ
@@ -17,3 +18,6 @@ rows_of v = map (λ row. row.items) v.items
 
 abbrev pub draft_of_variable : VariableDraft → DraftOfVariable
 draft_of_variable v = record { name = string_bytes v.name; values = texts_of v.values; parents = texts_of v.parents; rows = rows_of v.rows }
+
+abbrev pub drafts_of : Draft → List DraftOfVariable
+drafts_of draft = map draft_of_variable draft.variables.items

@@ -4,7 +4,16 @@ pub mod Asked
 pub mod Padded
 pub mod PaddedLaws
 pub mod Texts
+pub mod TextLaws
 pub mod Named
 pub mod Stored
 pub mod Key
 pub mod Drafts
+pub mod Firsts
+pub mod Checked
+pub mod Events
+pub mod Sets
+pub mod KeptEvents
+pub mod KeptQuestions
+pub mod Trades
+pub mod Counted

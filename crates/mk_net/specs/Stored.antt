@@ -1,10 +1,10 @@
--- The variable that is kept in a network's list.
-use Rattle.std.specs.Prelude.{List, map}
+-- The variable that is kept in a network's map, under its name.
+use Rattle.std.specs.Prelude.{ℕ, List, map}
 use Rattle.mk_net.specs.declared.network.StoredVariable.{StoredVariable}
 use Rattle.mk_net.specs.Network.{Variable}
 
-abbrev pub variable_of : StoredVariable → Variable
-variable_of v = record { name = v.name; values = v.values.items; parents = v.parents.items; rows = map (λ row. row.items) v.rows.items }
+abbrev pub variable_of : List ℕ × StoredVariable → Variable
+variable_of (name, v) = record { name = name; values = v.values.keys; parents = v.parents.items; rows = map (λ row. row.items) v.rows.items }
 
-abbrev pub variables_of : List StoredVariable → List Variable
-variables_of vs = map variable_of vs
+abbrev pub variables_of : List (List ℕ × StoredVariable) → List Variable
+variables_of entries = map variable_of entries

@@ -1,5 +1,12 @@
 //! Variables as a market file gives them, before anything of them is checked.
 
+ghost use Rattle.std.specs.Prelude.{◌≡◌};
+ghost use Rattle.mk_net.specs.Drafts.{drafts_of, draft_of_variable};
+ghost use Rattle.mk_net.specs.Checked.{count_fault, count_at};
+
+use crate::fault::NetFault;
+use crate::key::Key;
+
 /// A variable: its words as texts, its rows as whole numbers.
 #[derive(Debug, Drop)]
 pub struct VariableDraft {
@@ -13,4 +20,53 @@ pub struct VariableDraft {
 #[derive(Debug, Drop)]
 pub struct Draft {
     pub variables: Vec<VariableDraft>,
+}
+
+impl Draft {
+    /// The first number of variables, values or parents that is outside its limits.
+    pub fn count_fault(&self) -> Option<NetFault>
+        ensures { result ≡ count_fault (drafts_of self.now) }
+    {
+        let count = self.variables.len();
+        if count < 1 || count > 256 {
+            return Some(NetFault::Count {
+                key: Key::Variable,
+                place: 0,
+                n: count as i64,
+            });
+        }
+        let mut place = 0;
+        'variables: for variable in &self.variables {
+            place += 1;
+            if let Some(fault) = variable.count_fault(place) {
+                return Some(fault);
+            }
+        }
+        None
+    }
+}
+
+impl VariableDraft {
+    /// The number of values or of parents that is outside its limits, for the variable of this number.
+    fn count_fault(&self, place: u32) -> Option<NetFault>
+        ensures { result ≡ count_at place (draft_of_variable self.now) }
+    {
+        let values = self.values.len();
+        if values < 2 || values > 16 {
+            return Some(NetFault::Count {
+                key: Key::Values,
+                place,
+                n: values as i64,
+            });
+        }
+        let parents = self.parents.len();
+        if parents > 8 {
+            return Some(NetFault::Count {
+                key: Key::Parents,
+                place,
+                n: parents as i64,
+            });
+        }
+        None
+    }
 }

@@ -2,13 +2,28 @@
 #![tactic(auto)]
 
 mod draft;
+mod event;
+mod fault;
 mod key;
 mod name;
+mod naming;
 mod network;
+mod order;
+mod question;
+mod ratio;
+mod rows;
+mod sets;
+#[cfg(test)]
+mod tests;
 mod words;
 
 pub use draft::{Draft, VariableDraft};
+pub use event::Event;
+pub use fault::NetFault;
 pub use key::Key;
 pub use name::Name;
 pub use network::Network;
-pub use words::{NoMemory, Pair, PairText, Syntax};
+pub use question::Question;
+pub use ratio::Ratio;
+pub use sets::VarSet;
+pub use words::{NoMemory, Pair, PairText, QuestionText, Syntax};

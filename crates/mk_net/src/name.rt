@@ -1,14 +1,19 @@
 //! Names of users, variables and values.
 
 ghost use Rattle.std.specs.Prelude.{◌≡◌, IfSome, IsSome, IsTrue, ◌↔◌};
+ghost use Rattle.std.specs.Cmp.{partial_equiv_from_equiv};
+ghost use Rattle.std.specs.Hash as fed;
+ghost use Rattle.std.specs.List.{list_all};
 ghost use Rattle.mk_net.specs.Name.{IsName};
 ghost use Rattle.mk_net.specs.Name as name;
-ghost use Rattle.std.specs.List.{list_all};
+ghost use Rattle.mk_net.specs.Texts.{same_text};
+ghost use Rattle.mk_net.specs.TextLaws.{same_text_equiv, alike_fed};
 
+use std::hash::{Hash, Hasher};
 use std::marker::Model;
 
 /// A name: one letter from `a` to `z` and then letters, digits and `_`, at most 32 bytes together.
-#[derive(Clone, Copy, Debug, PartialEq, Eq, Hash)]
+#[derive(Clone, Copy, Debug)]
 pub struct Name {
     bytes: [u8; 32],
     size: u8,
@@ -45,6 +50,31 @@ impl Default for Name {
     }
 }
 
+/// Names are equal where their bytes are.
+impl PartialEq for Name {
+    ghost eq = { same_text };
+
+    ghost laws = { partial_equiv_from_equiv same_text_equiv };
+
+    fn eq(&self, other: &Name) -> bool {
+        self.bytes() == other.bytes()
+    }
+}
+
+impl Eq for Name {
+    ghost laws = { same_text_equiv };
+}
+
+impl Hash for Name {
+    ghost hash_input = { fed.slice fed.u8 };
+
+    ghost respects_eq = { alike_fed };
+
+    fn hash<H: Hasher>(&self, state: &mut H) {
+        self.bytes().hash(state);
+    }
+}
+
 impl Name {
     /// The name with these bytes. None exactly where they are no name.
     pub fn read(bytes: &[u8]) -> Option<Name>
@@ -71,8 +101,10 @@ impl Name {
     }
 }
 
-fn is_name(bytes: &[u8]) -> bool
-    ensures { IsTrue result ↔ IsName bytes.now }
+/// Whether the bytes are a name.
+pub(crate) fn is_name(bytes: &[u8]) -> bool
+    ensures test { result ≡ name.is_name bytes.now }
+    ensures name { IsTrue result ↔ IsName bytes.now }
 {
     if bytes.len() > 32 {
         return false;

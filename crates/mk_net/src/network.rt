@@ -1,18 +1,19 @@
 //! The network of a market's variables.
 
-ghost use Rattle.std.specs.Prelude.{◌≡◌, ◌<◌, length, position, IfSome};
-ghost use Rattle.mk_net.specs.Texts.{same_text};
-
+use crate::draft::Draft;
+use crate::fault::NetFault;
 use crate::name::Name;
-use crate::words::{NoMemory, Pair, PairText};
-use std::alloc::{AllocError, Global};
+use crate::words::{Pair, PairText};
+use indexmap::{IndexMap, IndexSet};
+use std::alloc::Global;
 use std::marker::Model;
 
-/// A variable as it is kept.
+mod build;
+
+/// A variable as it is kept, beside its name.
 #[derive(Drop)]
 pub struct StoredVariable {
-    name: Name,
-    values: Vec<Name>,
+    values: IndexSet<Name>,
     parents: Vec<u32>,
     rows: Vec<Vec<u32>>,
 }
@@ -21,7 +22,7 @@ pub struct StoredVariable {
 /// list of the parents' values, in parts per million.
 #[derive(Drop)]
 pub struct Network {
-    variables: Vec<StoredVariable>,
+    variables: IndexMap<Name, StoredVariable>,
 }
 
 impl Model for Network {
@@ -31,44 +32,29 @@ impl Model for Network {
 
     ghost Value = { List Variable };
 
-    ghost view = { λ n. variables_of n.variables.items };
+    ghost view = { λ n. variables_of n.variables.entries };
 
-    ghost invariant = { λ n. IsNetwork (variables_of n.variables.items) };
+    ghost invariant = { λ n. IsNetwork (variables_of n.variables.entries) };
 }
 
 impl Network {
-    ghost use Rattle.std.specs.Prelude.{◌≡◌, ℕ, ◌<◌, ◌≤◌, [], ◌∷◌, length, IfOk, slice_index, slice_index_or};
-    ghost use Rattle.mk_net.specs.Network.{IsNetwork, IsRow, sizes};
+    ghost use Rattle.std.specs.Prelude.{◌≡◌, ◌≢◌, ◌<◌, [], length, position, None, Some, IfOk, IfErr, IfSome, slice_index, slice_index_or};
+    ghost use Rattle.mk_net.specs.Network.{IsNetwork, sizes};
     ghost use Rattle.mk_net.specs.Named.{variable_at, pair_named};
+    ghost use Rattle.mk_net.specs.Texts.{same_text};
+    ghost use Rattle.mk_net.specs.Drafts.{drafts_of};
+    ghost use Rattle.mk_net.specs.Checked.{checked_network, first_fault};
 
-    /// The network of one variable without parents.
-    pub fn of_variable(
-        alloc: Global,
-        name: Name,
-        values: Vec<Name>,
-        row: Vec<u32>,
-    ) -> Result<Network, NoMemory>
-        requires two_values { 2 ≤ length values.items }
-        requires few_values { length values.items ≤ 16 }
-        requires shares { IsRow (length values.items) row.items }
-        ensures { IfOk result (λ network. network ≡
-            record { name = name; values = values.items; parents = []; rows = row.items ∷ [] } ∷ []) }
+    /// The network of a draft, or the draft's first fault.
+    pub fn check(alloc: Global, draft: &Draft) -> Result<Network, NetFault>
+        ensures network { IfOk result (λ network. network ≡ checked_network (drafts_of draft.now)) }
+        ensures faultless { IfOk result (λ network. first_fault (drafts_of draft.now) ≡ None) }
+        ensures fault { IfErr result (λ fault. fault ≢ NetFault.Memory → first_fault (drafts_of draft.now) ≡ Some fault) }
     {
-        let mut rows = Vec::new(alloc);
-        let mut variables = Vec::new(alloc);
-        if rows.push(row).is_err() {
-            return Err(NoMemory);
+        match draft.first_fault() {
+            Some(fault) => Err(fault),
+            None => build::network(alloc, draft),
         }
-        let variable = StoredVariable {
-            name,
-            values,
-            parents: Vec::new(alloc),
-            rows,
-        };
-        if variables.push(variable).is_err() {
-            return Err(NoMemory);
-        }
-        Ok(Network { variables })
     }
 
     /// How many variables there are.
@@ -110,7 +96,7 @@ impl Network {
         requires { variable < length self.now }
         ensures { result ≡ (variable_at self.now variable).name }
     {
-        self.variables[variable as usize].name
+        self.variables.keys().as_slice()[variable as usize]
     }
 
     /// The name of a variable's value.
@@ -122,83 +108,24 @@ impl Network {
         self.variables[variable as usize].values[value as usize]
     }
 
+    /// The number of the variable of a name. None exactly where it is unknown.
+    pub fn find_variable(&self, name: &Name) -> Option<u32>
+        ensures first { result ≡ position (λ variable. same_text name.now variable.name) self.now }
+        ensures within { IfSome result (λ number. number < length self.now) }
+    {
+        let number = self.variables.get_index_of(name)?;
+        Some(number as u32)
+    }
+
     /// The numbers of the variable and the value that two words name. None exactly where either is unknown.
     pub fn find(&self, pair: &PairText) -> Option<Pair>
         ensures { result ≡ pair_named self.now pair.now }
     {
-        let variable = find_variable(&self.variables, &pair.variable)?;
-        let value = find_value(&self.variables[variable].values, &pair.value)?;
+        let (variable, _, stored) = self.variables.get_full(&pair.variable)?;
+        let value = stored.values.get_index_of(&pair.value)?;
         Some(Pair {
             variable: variable as u32,
             value: value as u32,
         })
-    }
-}
-
-fn find_variable(variables: &[StoredVariable], name: &Name) -> Option<usize>
-    ensures first { result ≡ position (λ variable. same_text name.now variable.name) variables.now }
-    ensures within { IfSome result (λ number. number < length variables.now) }
-{
-    variables
-        .iter()
-        .position(|variable| is_same_name(name, &variable.name))
-}
-
-fn find_value(values: &[Name], name: &Name) -> Option<usize>
-    ensures first { result ≡ position (same_text name.now) values.now }
-    ensures within { IfSome result (λ number. number < length values.now) }
-{
-    values.iter().position(|value| is_same_name(name, value))
-}
-
-fn is_same_name(first: &Name, second: &Name) -> bool
-    ensures { result ≡ same_text first.now second.now }
-{
-    first == second
-}
-
-#[cfg(test)]
-mod tests {
-    use super::*;
-    use std::test::Fail;
-
-    #[test]
-    fn reads_one_variable(rt: HostRuntime) -> Result<(), Fail> {
-        let rain = Name::read(b"rain").expect(&rt, "a name");
-        let no = Name::read(b"no").expect(&rt, "a name");
-        let yes = Name::read(b"yes").expect(&rt, "a name");
-        let values = vec![in rt.alloc(); no, yes]?;
-        let shares = vec![in rt.alloc(); 700_000, 300_000]?;
-        let network = Network::of_variable(rt.alloc(), rain, values, shares)?;
-        assert_eq!(rt; network.variables(), 1);
-        assert_eq!(rt; network.values(0), 2);
-        assert_eq!(rt; network.parents(0).len(), 0);
-        assert_eq!(rt; network.entry(0, 0, 0), 700_000);
-        assert_eq!(rt; network.entry(0, 0, 1), 300_000);
-        assert_eq!(rt; network.name(0), rain);
-        assert_eq!(rt; network.value_name(0, 1), yes);
-        for (variable, value, place) in [
-            (
-                rain,
-                no,
-                Some(Pair {
-                    variable: 0,
-                    value: 0,
-                }),
-            ),
-            (
-                rain,
-                yes,
-                Some(Pair {
-                    variable: 0,
-                    value: 1,
-                }),
-            ),
-            (rain, rain, None),
-            (yes, yes, None),
-        ] {
-            assert_eq!(rt; network.find(&PairText { variable, value }), place);
-        }
-        Ok(())
     }
 }

@@ -1,21 +1,20 @@
 -- How a run ends, from what it has come to.
-use Rattle.std.proofs.Common.{◌≡◌, ℕ, ◌+◌, ◌<◌, ◌≤◌, List, [], ◌∷◌, ◌++◌, length, map, Option, Some, None, option_map, Result, Ok, Err, MatchResult, MatchOption, OnOk, OnErr, IfSome, IfNone, ◌⊎◌, inl, inr, refl, sym, ap, subst, ◌∙◌, arith, append_assoc}
+use Rattle.std.proofs.Common.{◌≡◌, ℕ, ◌≤◌, List, [], ◌∷◌, ◌++◌, length, Option, Some, None, Result, Ok, Err, MatchResult, MatchOption, OnOk, OnErr, IfSome, IfNone, ◌⊎◌, inl, inr, refl, sym, ap, subst, ◌∙◌, arith, append_assoc}
 use Rattle.std.specs.List.{flat_map}
 use Rattle.std.proofs.lemmas.Grind.{flat_map-append}
 use Rattle.std.proofs.lemmas.List.Concat.{flat_map-cons}
 use Rattle.mk_io.specs.declared.status.Status.{Status}
 use Rattle.mk_io.specs.declared.status.Status.TheVariants.{Done, ReadFault, WriteFault, TooMany}
 use Rattle.mk_io.specs.declared.lines.Next.{Next}
-use Rattle.mk_io.specs.Outside.{append_known, prepend_known, AddsFront, IsAtEnd}
-use Rattle.mk_io.specs.Stream.{StreamLine, asks, stream_lines, max_stream_lines, max_stream_bytes}
+use Rattle.mk_io.specs.Outside.{append_known, prepend_known, IsAtEnd}
+use Rattle.mk_io.specs.Stream.{StreamLine, stream_lines, max_stream_lines, max_stream_bytes}
 use Rattle.mk_io.specs.Cutting.{Cutting, stream_left, GivesLine, Stays, IsAnswer, IsFreshAnswer, StopsInLine, Overruns, IsTooMuch}
 use Rattle.mk_io.proofs.Told.{append_known_twice}
 use Rattle.mk_exact.specs.Market.{Market}
 use Rattle.mk_session.specs.declared.words.Reply.{Reply}
 use Rattle.mk_session.specs.Texts.{reply_line, ready_line}
 use Rattle.mk_session.specs.Rules.{Standing, opening}
-use Rattle.mk_session.specs.Transcript.{Step, Run, Transcript, asked, transcript_text}
-use Rattle.mk_session.specs.Outcome.{Adds, Serves, IsWhole, IsStopped, IsOverrun, IsBroken, IsFrontOf}
+use Rattle.mk_session.specs.Transcript.{Run, Transcript, asked, transcript_text}
 use Rattle.mk_session.specs.Progress.{IsCutOff, IsSoFar, IsEnded, IsAnswered}
 use Rattle.mk_session.proofs.Underway.{behind, done_push, run_push, run_sound, asked_push, so_far_next, no_more}
 use Rattle.mk_exact.proofs.Single.{empty_sound}

@@ -1,9 +1,9 @@
 -- What the two loops of a run keep.
-use Rattle.std.proofs.Common.{◌≡◌, ℕ, ◌+◌, ◌≤◌, List, [], ◌∷◌, ◌++◌, length, take, Option, Some, None, refl, sym, ap, subst, ◌∙◌, arith, append_assoc}
+use Rattle.std.proofs.Common.{◌≡◌, ℕ, ◌≤◌, List, [], ◌++◌, length, take, Option, Some, None, refl, sym, ap, subst, ◌∙◌, arith, append_assoc}
 use Rattle.std.proofs.lemmas.List.{take_all}
 use Rattle.std.proofs.Math.Seq.{take-append_seam}
 use Rattle.mk_session.proofs.Underway.{no_more}
-use Rattle.mk_io.specs.Outside.{prepend_known, append_known, IsAtEnd}
+use Rattle.mk_io.specs.Outside.{prepend_known, IsAtEnd}
 use Rattle.mk_io.specs.Cutting.{Cutting, fresh}
 use Rattle.mk_io.proofs.Told.{append_known_none, prepend_known_none}
 use Rattle.mk_exact.specs.Market.{Market}

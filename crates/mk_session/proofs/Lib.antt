@@ -1,4 +1,4 @@
-pub mod OneVariable
+pub mod Tables
 pub mod Answering
 pub mod Underway
 pub mod Endings
@@ -6,3 +6,4 @@ pub mod ReadingPairs
 pub mod PrintingDigits
 pub mod Going
 pub mod Serving
+pub mod Completing

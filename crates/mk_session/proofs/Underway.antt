@@ -1,20 +1,20 @@
 -- What a line that was given and answered leaves of a run.
-use Rattle.std.proofs.Common.{◌≡◌, ℕ, ◌+◌, ◌<◌, ◌≤◌, List, [], ◌∷◌, ◌++◌, length, map, filter, true, false, Bool, Option, Some, None, option_map, ◌⊎◌, inl, inr, refl, sym, ap, subst, ◌∙◌, arith, append_assoc, length-append}
+use Rattle.std.proofs.Common.{◌≡◌, ℕ, ◌+◌, List, [], ◌∷◌, ◌++◌, length, true, false, Option, Some, None, option_map, inl, inr, refl, sym, ap, subst, ◌∙◌, arith, append_assoc, length-append}
 use Rattle.std.specs.List.{flat_map}
 use Rattle.std.proofs.lemmas.List.Elements.{filter-append}
 use Rattle.std.proofs.lemmas.Grind.{flat_map-append}
 use Rattle.std.proofs.lemmas.List.Concat.{flat_map-cons}
-use Rattle.mk_io.specs.Outside.{append_known, prepend_known, AddsFront}
+use Rattle.mk_io.specs.Outside.{append_known}
 use Rattle.mk_io.specs.Stream.{StreamLine, asks, stream_lines}
 use Rattle.mk_io.specs.Cutting.{Cutting, stream_left, GivesLine}
-use Rattle.mk_io.proofs.Told.{append_known_twice, append_known_none}
+use Rattle.mk_io.proofs.Told.{append_known_twice}
 use Rattle.mk_exact.specs.Market.{Market, network_of}
 use Rattle.mk_exact.specs.Sound.{IsSound}
 use Rattle.mk_session.specs.declared.words.Reply.{Reply}
 use Rattle.mk_session.specs.Texts.{reply_line}
 use Rattle.mk_session.specs.Rules.{Standing, opening}
 use Rattle.mk_session.specs.Transcript.{Step, Run, asked}
-use Rattle.mk_session.specs.Progress.{IsPassedOver, IsReplied, IsAnswered, IsSoFar}
+use Rattle.mk_session.specs.Progress.{IsAnswered, IsSoFar}
 
 -- one step more at the end of a run
 pub run_push : (market : Market) (lines : List StreamLine) (replies : List Reply) (old mid new : Standing) (line : StreamLine) (reply : Reply)

@@ -5,3 +5,4 @@ pub mod Outcome
 pub mod Trading
 pub mod Progress
 pub mod Served
+pub mod Complete

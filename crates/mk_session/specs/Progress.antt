@@ -1,5 +1,5 @@
 -- How far a run has come: what each line leaves, and what stands between two lines.
-use Rattle.std.specs.Prelude.{◌≡◌, ℕ, ◌+◌, List, [], ◌++◌, length, Bool, true, false, Option, Some, ◌⊎◌}
+use Rattle.std.specs.Prelude.{◌≡◌, ℕ, ◌+◌, List, ◌++◌, length, true, false, Option, Some, ◌⊎◌}
 use Rattle.std.specs.List.{flat_map}
 use Rattle.mk_io.specs.declared.status.Status.{Status}
 use Rattle.mk_io.specs.Outside.{append_known, AddsFront}

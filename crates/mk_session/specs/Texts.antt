@@ -1,9 +1,11 @@
 -- How commands and replies are written.
-use Rattle.std.specs.Prelude.{◌≡◌, ℕ, suc, zero, ◌+◌, ◌/◌, ◌%◌, ◌^◌, List, [], ◌∷◌, ◌++◌, codes, decimal, length, Option, Some, None, MatchOption}
+use Rattle.std.specs.Prelude.{◌≡◌, ℕ, suc, zero, ◌+◌, ◌/◌, ◌%◌, ◌^◌, List, [], ◌∷◌, ◌++◌, codes, decimal, length, Option, MatchOption}
+use Rattle.std.specs.Fmt.{signed_decimal}
 use Rattle.mk_net.specs.declared.words.PairText.{PairText}
 use Rattle.mk_net.specs.Name.{IsName}
+use Rattle.mk_net.specs.Key.{key_text}
 use Rattle.mk_file.specs.declared.fault.FileFault.{FileFault}
-use Rattle.mk_file.specs.declared.fault.FileFault.TheVariants.{TooLong, BadToml, Later, Memory}
+use Rattle.mk_file.specs.declared.fault.FileFault.TheVariants.{TooLong, BadToml, Missing, WrongType, Count, BadName, Repeat, Parent, Rows, Width, Entry, Sum, Clique, Link, Cover, NotRunning, Cells, Later, Memory}
 use Rattle.mk_exact.specs.Market.{Market}
 use Rattle.mk_session.specs.declared.words.Command.{Command}
 use Rattle.mk_session.specs.declared.words.Command.TheVariants.{Price}
@@ -68,9 +70,25 @@ reply_line reply = as_line (reply_text reply)
 abbrev pub ready_line : Market → List ℕ
 ready_line market = as_line (codes "ready " ++ decimal (length market.network) ++ codes " " ++ decimal market.points_per_bit)
 
+-- what a market file is refused for
 abbrev pub fault_text : FileFault → List ℕ
 fault_text TooLong = codes "long"
 fault_text BadToml = codes "toml"
+fault_text (Missing key place) = codes "missing " ++ key_text key ++ codes " " ++ decimal place
+fault_text (WrongType key place) = codes "type " ++ key_text key ++ codes " " ++ decimal place
+fault_text (Count key place n) = codes "count " ++ key_text key ++ codes " " ++ decimal place ++ codes " " ++ signed_decimal n
+fault_text (BadName variable) = codes "name " ++ decimal variable
+fault_text (Repeat variable) = codes "repeat " ++ decimal variable
+fault_text (Parent variable) = codes "parent " ++ decimal variable
+fault_text (Rows variable n) = codes "rows " ++ decimal variable ++ codes " " ++ signed_decimal n
+fault_text (Width variable row n) = codes "width " ++ decimal variable ++ codes " " ++ decimal row ++ codes " " ++ signed_decimal n
+fault_text (Entry variable row column) = codes "entry " ++ decimal variable ++ codes " " ++ decimal row ++ codes " " ++ decimal column
+fault_text (Sum variable row sum) = codes "sum " ++ decimal variable ++ codes " " ++ decimal row ++ codes " " ++ signed_decimal sum
+fault_text (Clique clique) = codes "clique " ++ decimal clique
+fault_text (Link clique) = codes "link " ++ decimal clique
+fault_text (Cover variable) = codes "cover " ++ decimal variable
+fault_text (NotRunning variable) = codes "running " ++ decimal variable
+fault_text (Cells clique) = codes "cells " ++ decimal clique
 fault_text Later = codes "later"
 fault_text Memory = []
 

@@ -2,10 +2,12 @@
 #![tactic(auto)]
 
 mod answer;
+mod fault_line;
 mod price;
 mod print;
 mod read;
 mod run;
+mod table;
 mod words;
 
 pub use run::serve;

@@ -1,8 +1,9 @@
 //! The market of a run: its exact weights, and the answers to its commands.
 
+use crate::table::{WeighedState, table_of, weights_with};
 use crate::words::{Command, Refusal, Reply};
 use mk_file::MarketFile;
-use mk_net::{Network, NoMemory, Pair};
+use mk_net::{NoMemory, Pair};
 use std::alloc::Global;
 use std::marker::Model;
 
@@ -10,11 +11,11 @@ use std::marker::Model;
 #[derive(Drop)]
 pub struct PriceMarket {
     file: MarketFile,
-    weights: Vec<u128>,
+    table: Vec<WeighedState>,
 }
 
 impl Model for PriceMarket {
-    ghost use Rattle.mk_session.specs.Trading.{Trading, AreWeights};
+    ghost use Rattle.mk_session.specs.Trading.{Trading, IsTable};
     ghost use Rattle.mk_session.specs.Rules.{opening};
     ghost use Rattle.mk_file.specs.MarketOf.{market_of};
 
@@ -22,23 +23,23 @@ impl Model for PriceMarket {
 
     ghost view = { λ m. record { market = market_of m.file; standing = opening } };
 
-    ghost invariant = { λ m. AreWeights m.file.net m.weights.items };
+    ghost invariant = { λ m. IsTable m.file.net m.table.items };
 }
 
 impl PriceMarket {
-    ghost use Rattle.std.specs.Prelude.{◌≡◌, ℕ, ◌<◌, [], length, slice_index, IfOk};
-    ghost use Rattle.mk_net.specs.Network.{sizes};
+    ghost use Rattle.std.specs.Prelude.{◌≡◌, ℕ, [], length, IfOk};
+    ghost use Rattle.mk_file.specs.Few.{AreFew};
     ghost use Rattle.mk_file.specs.MarketOf.{market_of};
     ghost use Rattle.mk_session.specs.Rules.{opening, plain_question, IsAllowed, IsPriceOf};
     ghost use Rattle.mk_session.specs.Trading.{Trading};
 
     /// Opens the market of a file.
     pub fn start(alloc: Global, file: MarketFile) -> Result<PriceMarket, NoMemory>
-        requires { length file.net ≡ 1 }
+        requires { AreFew file.net }
         ensures { IfOk result (λ market. market ≡ record { market = market_of file; standing = opening }) }
     {
-        let weights = weights_of(alloc, &file.net)?;
-        Ok(PriceMarket { file, weights })
+        let table = table_of(alloc, &file.net)?;
+        Ok(PriceMarket { file, table })
     }
 
     /// How many variables the market has.
@@ -57,12 +58,10 @@ impl PriceMarket {
 
     /// The price of a pair.
     fn price(&self, pair: Pair) -> Reply
-        requires variable { pair.variable < length (self.now.market).network }
-        requires value { pair.value < slice_index (sizes (self.now.market).network) pair.variable }
         ensures { IsPriceOf (self.now.market).network [] (plain_question pair) result }
     {
-        let weights = self.weights.as_slice();
-        let (low, high) = interval(weights[pair.value as usize], total_of(weights));
+        let (part, whole) = weights_with(self.table.as_slice(), pair);
+        let (low, high) = interval(part, whole);
         Reply::Price { low, high }
     }
 
@@ -81,17 +80,8 @@ impl PriceMarket {
     }
 }
 
-ghost use Rattle.std.specs.Prelude.{◌≡◌, ℕ, ◌^◌, ◌<◌, ◌≤◌, length, map, sum, IfOk};
-ghost use Rattle.mk_exact.specs.InitialWeight.{initial_weight, all_states};
+ghost use Rattle.std.specs.Prelude.{◌≡◌, ℕ, ◌*◌, ◌^◌, ◌<◌, ◌≤◌};
 ghost use Rattle.mk_exact.specs.Prices.{CoversPrice};
-
-/// The sum of some weights.
-fn total_of(weights: &[u128]) -> u128
-    requires { sum weights.now < 2 ^ 64 }
-    ensures { result ≡ sum weights.now }
-{
-    weights.iter().sum()
-}
 
 /// The units of 10^-10 in one.
 const UNITS: u128 = 10_000_000_000;
@@ -100,27 +90,11 @@ const UNITS: u128 = 10_000_000_000;
 fn interval(share: u128, whole: u128) -> (u64, u64)
     requires positive { 0 < whole }
     requires within { share ≤ whole }
-    requires fits { whole < 2 ^ 64 }
+    requires fits { whole ≤ 256 * 10 ^ 24 }
     ensures { CoversPrice (Unit {0}) (record { num = share; den = whole }) result.0 result.1 }
 {
     let units = share * UNITS;
     let low = units / whole;
     let high = units.div_ceil(whole);
     (low as u64, high as u64)
-}
-
-/// The weights of all states of a network of one variable.
-fn weights_of(alloc: Global, net: &Network) -> Result<Vec<u128>, NoMemory>
-    requires { length net.now ≡ 1 }
-    ensures { IfOk result (λ weights. weights.items ≡ map (initial_weight net.now) (all_states net.now)) }
-{
-    let mut weights = Vec::new(alloc);
-    let _count = net.variables();
-    for value in 0..net.values(0) {
-        let weight = u128::from(net.entry(0, 0, value));
-        if weights.push(weight).is_err() {
-            return Err(NoMemory);
-        }
-    }
-    Ok(weights)
 }

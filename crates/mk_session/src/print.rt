@@ -2,12 +2,11 @@
 
 ghost use Rattle.std.specs.Prelude.{◌≡◌, ℕ, ◌+◌, ◌≤◌, ◌∷◌, [], ◌++◌, length, codes, decimal};
 ghost use Rattle.arrayvec.specs.ArrayVec.{array_vec_len};
-ghost use Rattle.mk_session.specs.Texts.{reply_line, as_line, fault_line, pair_text, price_text, refusal_text, last_digits};
+ghost use Rattle.mk_session.specs.Texts.{reply_line, as_line, pair_text, price_text, refusal_text, last_digits};
 
 use crate::words::{Refusal, Reply};
 use arrayvec::ArrayVec;
 use itoa::Buffer;
-use mk_file::FileFault;
 use mk_net::PairText;
 
 /// A line of the output, its LF included.
@@ -46,18 +45,6 @@ pub fn print_ready(variables: u32, points_per_bit: u32, line: &mut LineBuffer)
     push_bytes(line, b" ");
     push_number(line, points_per_bit as u64);
     line.push(b'\n');
-}
-
-/// The line of a refused market file.
-pub fn fault_line_of(fault: FileFault) -> &'static [u8]
-    ensures { result.now ≡ fault_line fault }
-{
-    match fault {
-        FileFault::TooLong => b"refused market long\n",
-        FileFault::BadToml => b"refused market toml\n",
-        FileFault::Later => b"refused market later\n",
-        FileFault::Memory => b"refused market \n",
-    }
 }
 
 // The functions below append to a line, which must have room for the longest text that they can append.
@@ -106,7 +93,8 @@ fn push_number(line: &mut LineBuffer, number: u64)
     push_bytes(line, buffer.format(number).as_bytes());
 }
 
-fn push_bytes(line: &mut LineBuffer, bytes: &[u8])
+/// Appends bytes to a line.
+pub fn push_bytes(line: &mut LineBuffer, bytes: &[u8])
     requires { array_vec_len line.old + length bytes.now ≤ 128 }
     ensures text { line.new.items ≡ line.old.items ++ bytes.now }
     ensures room { array_vec_len line.new ≡ array_vec_len line.old + length bytes.now }
@@ -182,13 +170,9 @@ mod tests {
     }
 
     #[test]
-    fn prints_first_lines(rt: HostRuntime) {
+    fn prints_the_first_line(rt: HostRuntime) {
         let mut line = LineBuffer::new();
         print_ready(12, 100, &mut line);
         assert_eq!(rt; line.as_slice(), b"ready 12 100\n".as_slice());
-        assert_eq!(rt;
-            fault_line_of(FileFault::BadToml),
-            b"refused market toml\n".as_slice()
-        );
     }
 }

@@ -1,17 +1,20 @@
 //! A whole run.
 
-ghost use Rattle.std.specs.Prelude.{◌≡◌, ◌≢◌, ◌+◌, ◌<◌, ◌≤◌, ℕ, List, Some, Ok, Err, Result, length, IfOk, IfErr};
+ghost use Rattle.std.specs.Prelude.{◌≡◌, ◌≢◌, ◌+◌, ◌<◌, ◌≤◌, ℕ, List, Some, Ok, Err, Result, length, ◌⊎◌, IsOk, IfOk, IfErr};
 ghost use Rattle.mk_io.specs.Outside.{Rose, IsAtEnd};
 ghost use Rattle.mk_file.specs.File.{file_of};
+ghost use Rattle.mk_file.specs.Few.{AreFew};
 ghost use Rattle.mk_file.specs.MarketOf.{market_of};
 ghost use Rattle.mk_exact.specs.Market.{Market};
 ghost use Rattle.mk_file.specs.declared.fault.FileFault.{FileFault};
 ghost use Rattle.mk_session.specs.Outcome.{Adds, Ends};
+ghost use Rattle.mk_session.specs.Complete.{AreWithin};
 ghost use Rattle.mk_session.specs.Served.{opened_part, IsTaken, IsServedBy, IsServed};
 
 use crate::answer::answer_lines;
+use crate::fault_line::print_fault;
 use crate::price::PriceMarket;
-use crate::print::{LineBuffer, fault_line_of, print_ready};
+use crate::print::{LineBuffer, print_ready};
 use mk_file::{FileFault, MarketFile, read_market};
 use mk_io::{InputFailed, Inputs, Sink, Status, write_all};
 use std::alloc::Global;
@@ -32,6 +35,9 @@ pub fn serve<I: Inputs, S: Sink>(alloc: Global, name: &str, inputs: &mut I, out:
     requires { I.admits name.now }
     ensures outcome { (file all : List ℕ) → I.file inputs.old name.now ≡ Some file → I.commands inputs.old ≡ Some all →
         IsServed result file all (I.commands inputs.new) (S.written out.old) (S.written out.new) }
+    ensures complete { (file all : List ℕ) → I.file inputs.old name.now ≡ Some file → I.commands inputs.old ≡ Some all →
+        IsOk (file_of file) → AreWithin all → (Rose (I.faults inputs.old) (I.faults inputs.new) → ⊥) →
+        (Rose (S.faults out.old) (S.faults out.new) → ⊥) → (result ≡ Status.Done) ⊎ (result ≡ Status.Memory) }
     ensures inputs_later { I.faults inputs.old ≤ I.faults inputs.new }
     ensures sink_later { S.faults out.old ≤ S.faults out.new }
     ensures read_fault { result ≡ Status.ReadFault → Rose (I.faults inputs.old) (I.faults inputs.new) }
@@ -77,10 +83,14 @@ fn refuse<S: Sink>(fault: FileFault, out: &mut S) -> Status
 {
     match fault {
         FileFault::Memory => Status::Memory,
-        _ => match write_all(out, fault_line_of(fault)) {
-            Ok(()) => Status::MarketRefused,
-            Err(_) => Status::WriteFault,
-        },
+        _ => {
+            let mut line = LineBuffer::new();
+            print_fault(&fault, &mut line);
+            match write_all(out, line.as_slice()) {
+                Ok(()) => Status::MarketRefused,
+                Err(_) => Status::WriteFault,
+            }
+        }
     }
 }
 
@@ -91,7 +101,7 @@ fn answer_file<I: Inputs, S: Sink>(
     inputs: &mut I,
     out: &mut S,
 ) -> Status
-    requires { length file.net ≡ 1 }
+    requires { AreFew file.net }
     ensures outcome { (all : List ℕ) → I.commands inputs.old ≡ Some all →
         IsServedBy result (Ok (market_of file)) all (I.commands inputs.new) (S.written out.old) (S.written out.new) }
     ensures inputs_later { I.faults inputs.old ≤ I.faults inputs.new }

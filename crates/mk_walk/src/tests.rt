@@ -1,9 +1,8 @@
 //! One coin after a trade that takes heads to 600,000 parts in a million: each call once, by numbers worked out by hand.
 
 use crate::{WalkTrade, all_states, least_gain, state_gain, total};
-use mk_net::{Name, Network, Pair};
+use mk_net::{Draft, Network, Pair, VariableDraft};
 use std::alloc::Global;
-use std::process::Abort;
 use std::test::Fail;
 
 const HEADS: Pair = Pair {
@@ -16,24 +15,31 @@ const TAILS: Pair = Pair {
     value: 1,
 };
 
-fn name(rt: &impl Abort, text: &[u8]) -> Name {
-    Name::read(text).expect(rt, "a name")
+fn texts(alloc: Global, given: &[&str]) -> Result<Vec<String>, Fail> {
+    let mut texts = Vec::new(alloc);
+    for text in given {
+        texts.push(String::from_str(alloc, *text)?)?;
+    }
+    Ok(texts)
 }
 
-fn coin(rt: &impl Abort, alloc: Global) -> Result<Network, Fail> {
-    let values = vec![in alloc; name(rt, b"heads"), name(rt, b"tails")]?;
-    let row = vec![in alloc; 500_000u32, 500_000]?;
-    Ok(
-        Network::of_variable(alloc, name(rt, b"coin"), values, row)
-            .ok()
-            .expect(rt, "memory"),
-    )
+fn coin(alloc: Global) -> Result<Network, Fail> {
+    let coin = VariableDraft {
+        name: String::from_str(alloc, "coin")?,
+        values: texts(alloc, &["heads", "tails"])?,
+        parents: Vec::new(alloc),
+        rows: vec![in alloc; vec![in alloc; 500_000, 500_000]?]?,
+    };
+    let draft = Draft {
+        variables: vec![in alloc; coin]?,
+    };
+    Ok(Network::check(alloc, &draft)?)
 }
 
 #[test]
 fn one_trade(rt: HostRuntime) -> Result<(), Fail> {
     let alloc = rt.alloc();
-    let network = coin(&rt, alloc)?;
+    let network = coin(alloc)?;
     let trades = vec![in alloc;
         WalkTrade {
             user: 0,

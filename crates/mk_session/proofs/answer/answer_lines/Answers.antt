@@ -1,5 +1,5 @@
-use Rattle.std.proofs.Common.{◌≡◌, ap, sym, subst, refl, le_refl, Option, List, ℕ}
-use Rattle.mk_io.specs.Cutting.{Cutting, fresh}
+use Rattle.std.proofs.Common.{ap, sym, subst, refl, le_refl}
+use Rattle.mk_io.specs.Cutting.{Cutting}
 use Rattle.mk_session.specs.Progress.{IsSoFar}
 use Rattle.mk_session.proofs.Going.{far_at_start}
 use Rattle.mk_session.proofs.answer.answer_lines.Goals as goal

@@ -1,4 +1,4 @@
-use Rattle.std.proofs.Common.{ap, ◌∙◌}
+use Rattle.std.proofs.Common.{ap}
 use Rattle.mk_file.specs.MarketOf.{market_of}
 use Rattle.mk_session.specs.Trading.{Trading}
 use Rattle.mk_session.proofs.Serving.{ready_is, served_when_ended, broken_at_ready}

@@ -1,9 +1,10 @@
-use Rattle.std.proofs.Common.{◌≡◌, ap, sym, subst, ◌∙◌, Option, List, ℕ, Result}
+use Rattle.std.proofs.Common.{ap, sym, subst, ◌∙◌, Result, IsOk, arith}
 use Rattle.mk_exact.specs.Market.{Market}
 use Rattle.mk_file.specs.declared.fault.FileFault.{FileFault}
 use Rattle.mk_file.specs.File.{file_of}
 use Rattle.mk_session.specs.Served.{IsServedBy}
 use Rattle.mk_session.proofs.Serving.{opened_same}
+use Rattle.mk_session.proofs.Completing.{completes}
 use Rattle.mk_session.proofs.run.serve.Goals as goal
 
 pub returns-in-Ok-clause-outcome : goal.returns-in-Ok-clause-outcome
@@ -12,3 +13,13 @@ returns-in-Ok-clause-outcome g c = λ file all told_file told_all.
     subst (λ (given : Result Market FileFault). IsServedBy c.serve_bytes.result given all (g.I.Inputs.commands c.serve_bytes.new.inputs)
     (g.S.Sink.written c.args.out.now) (g.S.Sink.written c.serve_bytes.new.out)) same
     (c.serve_bytes.ensures.outcome all (c.load.ensures.commands ∙ told_all))
+
+pub returns-in-Ok-clause-complete : goal.returns-in-Ok-clause-complete
+returns-in-Ok-clause-complete g c = λ file all told_file told_all ok within steady_inputs steady_sink.
+    let same = ap file_of (c.as_slice.ensures.value ∙ c.in-Ok.ensures.bytes file told_file) ∙ opened_same file in
+    completes c.serve_bytes.result (file_of c.as_slice.result.now) all (g.I.Inputs.commands c.serve_bytes.new.inputs)
+    (g.S.Sink.written c.args.out.now) (g.S.Sink.written c.serve_bytes.new.out)
+    (g.I.Inputs.faults c.args.inputs.now) (g.I.Inputs.faults c.serve_bytes.new.inputs) (g.S.Sink.faults c.args.out.now) (g.S.Sink.faults c.serve_bytes.new.out)
+    (c.serve_bytes.ensures.outcome all (c.load.ensures.commands ∙ told_all))
+    (subst (λ (given : Result Market FileFault). IsOk given) (sym same) ok) within
+    (λ e. omega (arith, c.serve_bytes.ensures.read_fault e, c.load.ensures.later)) c.serve_bytes.ensures.write_fault steady_inputs steady_sink

@@ -1,0 +1,190 @@
+//! Markets with their commands and outputs, as data.
+
+use mk_io::Status;
+
+/// A market file in pieces, commands, and what is written for them.
+pub struct Row {
+    pub market: &'static [&'static str],
+    pub commands: &'static str,
+    pub output: &'static str,
+    pub status: Status,
+}
+
+const HEAD: &str = "points_per_bit = 100\nmax_trades = 1000\n";
+
+const COIN_CLIQUE: &str = "cliques = [[\"coin\"]]\nlinks = []\n";
+
+const COIN_NAME: &str = "\n[[variable]]\nname = \"coin\"\n";
+
+const FAIR: &str = "values = [\"heads\", \"tails\"]\nparents = []\nrows = [[500000, 500000]]\n";
+
+pub const COIN: &[&str] = &[HEAD, COIN_CLIQUE, COIN_NAME, FAIR];
+
+const DIE: &[&str] = &[
+    HEAD,
+    "cliques = [[\"die\"]]\nlinks = []\n\n[[variable]]\nname = \"die\"\n",
+    "values = [\"low\", \"mid\", \"high\"]\nparents = []\nrows = [[333333, 333333, 333334]]\n",
+];
+
+const WEATHER: &[&str] = &[
+    HEAD,
+    "cliques = [[\"season\", \"rain\"]]\nlinks = []\n",
+    "\n[[variable]]\nname = \"season\"\nvalues = [\"wet\", \"dry\"]\nparents = []\nrows = [[400000, 600000]]\n",
+    "\n[[variable]]\nname = \"rain\"\nvalues = [\"yes\", \"no\"]\nparents = [\"season\"]\n",
+    "rows = [[700000, 300000], [100000, 900000]]\n",
+];
+
+const A: &str = "\n[[variable]]\nname = \"a\"\n";
+
+const B: &str = "\n[[variable]]\nname = \"b\"\n";
+
+const TWO_COINS: &[&str] = &[
+    HEAD,
+    "cliques = [[\"a\", \"b\"]]\nlinks = []\n",
+    A,
+    FAIR,
+    B,
+    FAIR,
+];
+
+const FIVE_COINS: &[&str] = &[
+    HEAD,
+    "cliques = [[\"a\", \"b\", \"c\", \"d\", \"e\"]]\nlinks = []\n",
+    A,
+    FAIR,
+    B,
+    FAIR,
+    "\n[[variable]]\nname = \"c\"\n",
+    FAIR,
+    "\n[[variable]]\nname = \"d\"\n",
+    FAIR,
+    "\n[[variable]]\nname = \"e\"\n",
+    FAIR,
+];
+
+const LATE_PARENT: &[&str] = &[
+    HEAD,
+    "cliques = [[\"coin\", \"late\"]]\nlinks = []\n",
+    COIN_NAME,
+    "values = [\"heads\", \"tails\"]\nparents = [\"late\"]\nrows = [[500000, 500000], [500000, 500000]]\n",
+    "\n[[variable]]\nname = \"late\"\n",
+    FAIR,
+];
+
+/// Markets that are served.
+pub const SERVED: [Row; 6] = [
+    Row {
+        market: COIN,
+        commands: "",
+        output: "ready 1 100\n",
+        status: Status::Done,
+    },
+    Row {
+        market: COIN,
+        commands: "price coin=heads\n",
+        output: "ready 1 100\nprice 0.5000000000..0.5000000000\n",
+        status: Status::Done,
+    },
+    Row {
+        market: DIE,
+        commands: "price die=low\n\n   \nprice die=high",
+        output: "ready 1 100\nprice 0.3333330000..0.3333330000\nprice 0.3333340000..0.3333340000\n",
+        status: Status::Done,
+    },
+    Row {
+        market: COIN,
+        commands: "price coin\r\nprice coin=side\r\n\r\nprice coin=tails\r",
+        output: "ready 1 100\nrefused syntax\nrefused name coin=side\nprice 0.5000000000..0.5000000000\n",
+        status: Status::Done,
+    },
+    Row {
+        market: TWO_COINS,
+        commands: "",
+        output: "ready 2 100\n",
+        status: Status::Done,
+    },
+    Row {
+        market: WEATHER,
+        commands: "price season=wet\nprice rain=yes\nprice rain=no\n",
+        output: "ready 2 100\nprice 0.4000000000..0.4000000000\nprice 0.3400000000..0.3400000000\nprice 0.6600000000..0.6600000000\n",
+        status: Status::Done,
+    },
+];
+
+/// Markets that are refused, and not asked anything.
+pub const REFUSED: [Row; 9] = [
+    Row {
+        market: FIVE_COINS,
+        commands: "price coin=heads\n",
+        output: "refused market later\n",
+        status: Status::MarketRefused,
+    },
+    Row {
+        market: &[
+            HEAD,
+            COIN_CLIQUE,
+            COIN_NAME,
+            "values = [\"heads\", \"tails\"]\nparents = []\nrows = [[500000, 499999]]\n",
+        ],
+        commands: "price coin=heads\n",
+        output: "refused market sum 1 1 999999\n",
+        status: Status::MarketRefused,
+    },
+    Row {
+        market: &[
+            HEAD,
+            COIN_CLIQUE,
+            COIN_NAME,
+            "values = [\"heads\", \"tails\"]\nparents = []\nrows = [[0, 1000000]]\n",
+        ],
+        commands: "price coin=heads\n",
+        output: "refused market entry 1 1 1\n",
+        status: Status::MarketRefused,
+    },
+    Row {
+        market: &[
+            HEAD,
+            COIN_CLIQUE,
+            COIN_NAME,
+            "values = [\"heads\", \"tails\"]\nparents = []\nrows = [[0, 999999]]\n",
+        ],
+        commands: "price coin=heads\n",
+        output: "refused market entry 1 1 1\n",
+        status: Status::MarketRefused,
+    },
+    Row {
+        market: LATE_PARENT,
+        commands: "price coin=heads\n",
+        output: "refused market parent 1\n",
+        status: Status::MarketRefused,
+    },
+    Row {
+        market: &[HEAD, "links = []\n", COIN_NAME, FAIR],
+        commands: "price coin=heads\n",
+        output: "refused market missing cliques 0\n",
+        status: Status::MarketRefused,
+    },
+    Row {
+        market: &[
+            "points_per_bit = \nmax_trades = 1000\n",
+            COIN_CLIQUE,
+            COIN_NAME,
+            FAIR,
+        ],
+        commands: "price coin=heads\n",
+        output: "refused market toml\n",
+        status: Status::MarketRefused,
+    },
+    Row {
+        market: &["\u{fffd}"],
+        commands: "price coin=heads\n",
+        output: "refused market toml\n",
+        status: Status::MarketRefused,
+    },
+    Row {
+        market: &[],
+        commands: "price coin=heads\n",
+        output: "refused market missing points_per_bit 0\n",
+        status: Status::MarketRefused,
+    },
+];

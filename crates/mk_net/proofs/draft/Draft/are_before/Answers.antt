@@ -1,0 +1,12 @@
+use Rattle.std.proofs.Common.{◌∙◌, sym, rules, tests, string_bytes}
+use Rattle.std.proofs.lemmas.Iterator.{YieldsList-from_slice}
+use Rattle.std.proofs.lemmas.Iterator.Search.{all_from_yields_List}
+use Rattle.mk_net.specs.Drafts.{drafts_of}
+use Rattle.mk_net.specs.Checked.{is_before}
+use Rattle.mk_net.proofs.Mapped.{all_of_map}
+use Rattle.mk_net.proofs.draft.Draft.are_before.Goals as goal
+
+pub returns : goal.returns
+returns c =
+    all_from_yields_List (λ s. is_before (drafts_of c.args.self.now) c.args.place (string_bytes s)) _ _ c.all.result c.all.ensures.ran (YieldsList-from_slice c.args.names.now cc) (λ x b q k. search (rules, tests))
+    ∙ sym (all_of_map string_bytes (is_before (drafts_of c.args.self.now) c.args.place) c.args.names.now)
