@@ -1,0 +1,27 @@
+-- What an assignment picks: the share of a variable, the units of a trade, and whether an event holds. For the assignment of
+-- a state these are what the exact market says of that state.
+use Rattle.std.specs.Prelude.{ℕ, ◌+◌, ◌*◌, List, [], slice_index, slice_index_or, fold, Bool, ◌==◌, if◌then◌else◌}
+use Rattle.std.specs.List.{list_all}
+use Rattle.mk_net.specs.declared.words.Pair.{Pair}
+use Rattle.mk_net.specs.Asked.{TradeRatio}
+use Rattle.mk_net.specs.Network.{Variable, sizes}
+use Rattle.mk_net.specs.Named.{variable_at}
+use Rattle.mk_exact.specs.Ratios.{unit, units_of, variable_of, condition_of}
+
+-- the number of the row for the parents' values, the last parent's value changing fastest
+abbrev pub row_there : List ℕ → List ℕ → (ℕ → ℕ) → ℕ
+row_there sizes parents a = fold (λ row p. row * slice_index sizes p + a p) 0 parents
+
+-- the share of variable k
+abbrev pub share_there : List Variable → ℕ → (ℕ → ℕ) → ℕ
+share_there network k a =
+    let v = variable_at network k in
+    slice_index (slice_index_or v.rows (row_there (sizes network) v.parents a) []) (a k)
+
+-- whether each pair of an event holds
+abbrev pub holds_there : List Pair → (ℕ → ℕ) → Bool
+holds_there event a = list_all (λ (p : Pair). a p.variable == p.value) event
+
+-- the units of a trade
+abbrev pub ratio_there : TradeRatio → (ℕ → ℕ) → ℕ
+ratio_there r a = if holds_there (condition_of r) a then units_of r (a (variable_of r)) else unit

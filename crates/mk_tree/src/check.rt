@@ -1,0 +1,143 @@
+//! What a tree is refused for.
+
+ghost use Rattle.std.specs.Prelude.{◌≡◌, ℕ, ◌+◌, ◌<◌, ◌≤◌, ◌↔◌, List, length, not, true, Some, None, nat_le, if◌then◌else◌};
+ghost use Rattle.mk_net.specs.Sets.{is_member, IsSubset};
+ghost use Rattle.mk_net.specs.Network.{Variable, IsNetwork};
+ghost use Rattle.mk_tree.specs.Given.{AreLinked, AreOfNetwork};
+ghost use Rattle.mk_tree.specs.Tests.{holds_family, is_covered, is_top, has_one_top, cells_of, first_failing, first_too_large, tree_fault};
+
+use crate::fault::TreeFault;
+use mk_net::{Network, VarSet};
+
+/// The most cells of a clique.
+const MAX_CLIQUE: u32 = 4_096;
+
+/// The most cells of all cliques together.
+const MAX_TREE: u32 = 32_768;
+
+/// The first fault of a tree.
+pub fn find_fault(net: &Network, cliques: &[VarSet], links: &[u32]) -> Option<TreeFault>
+    requires linked { AreLinked (record { cliques = cliques.now; links = links.now }) }
+    requires of_network { AreOfNetwork net.now cliques.now }
+    ensures { result ≡ tree_fault net.now (record { cliques = cliques.now; links = links.now }) }
+{
+    if let Some(variable) = first_uncovered(net, cliques) {
+        return Some(TreeFault::Cover { variable });
+    }
+    if let Some(variable) = first_apart(cliques, links) {
+        return Some(TreeFault::NotRunning { variable });
+    }
+    let clique = first_too_large(net, cliques)?;
+    Some(TreeFault::Cells { clique })
+}
+
+/// The first variable, counted from 1, that lies in no clique together with its parents.
+fn first_uncovered(net: &Network, cliques: &[VarSet]) -> Option<u32>
+    ensures network { IsNetwork net.now }
+    ensures first { result ≡ first_failing net.now (is_covered net.now cliques.now) }
+{
+    for variable in 0..net.variables() {
+        if !is_covered(net, cliques, variable) {
+            return Some(variable + 1);
+        }
+    }
+    None
+}
+
+/// Whether some clique holds a variable and its parents.
+fn is_covered(net: &Network, cliques: &[VarSet], variable: u32) -> bool
+    requires network { IsNetwork net.now }
+    requires variable { variable < length net.now }
+    ensures { result ≡ is_covered net.now cliques.now variable }
+{
+    let family = family(net, variable);
+    cliques.iter().any(|set| family.is_within(set))
+}
+
+/// The set of a variable and its parents.
+fn family(net: &Network, variable: u32) -> VarSet
+    requires network { IsNetwork net.now }
+    requires variable { variable < length net.now }
+    ensures { (set : VarSet) → IsSubset result set ↔ (holds_family net.now variable set ≡ true) }
+{
+    let mut family = VarSet::empty().with(variable);
+    for parent in net.parents(variable) {
+        family = family.with(*parent);
+    }
+    family
+}
+
+/// The first variable, counted from 1, whose cliques are not connected.
+fn first_apart(cliques: &[VarSet], links: &[u32]) -> Option<u32>
+    requires { AreLinked (record { cliques = cliques.now; links = links.now }) }
+    ensures { (network : List Variable) → AreOfNetwork network cliques.now
+        → result ≡ first_failing network (has_one_top (record { cliques = cliques.now; links = links.now })) }
+{
+    let variable = with_several_tops(cliques, links).first()?;
+    Some(variable + 1)
+}
+
+/// The variables that have more than one top. A top of a variable is a clique that holds it, and is the first or is
+/// linked to one that does not.
+fn with_several_tops(cliques: &[VarSet], links: &[u32]) -> VarSet
+    requires { AreLinked (record { cliques = cliques.now; links = links.now }) }
+    ensures { (x : ℕ) → is_member result x ≡ not (has_one_top (record { cliques = cliques.now; links = links.now }) x) }
+{
+    let mut once = VarSet::empty();
+    let mut twice = VarSet::empty();
+    for place in 0..cliques.len() {
+        let tops = top_variables(cliques, links, place);
+        twice = twice.union(&once.common(&tops));
+        once = once.union(&tops);
+    }
+    twice
+}
+
+/// The variables of which a clique is a top. Its place is counted from 0.
+fn top_variables(cliques: &[VarSet], links: &[u32], place: usize) -> VarSet
+    requires linked { AreLinked (record { cliques = cliques.now; links = links.now }) }
+    requires place { place < length cliques.now }
+    ensures { (x : ℕ) → is_member result x ≡ is_top (record { cliques = cliques.now; links = links.now }) x (place + 1) }
+{
+    let clique = cliques[place];
+    if place == 0 {
+        return clique;
+    }
+    let link = links[place - 1] as usize;
+    clique.without(&cliques[link - 1])
+}
+
+/// The first clique, counted from 1, that has too many cells, or with which there are too many.
+fn first_too_large(net: &Network, cliques: &[VarSet]) -> Option<u32>
+    requires network { IsNetwork net.now }
+    requires of_network { AreOfNetwork net.now cliques.now }
+    requires few { length cliques.now ≤ 256 }
+    ensures { result ≡ first_too_large net.now 1 0 cliques.now }
+{
+    let mut total = 0;
+    for (place, clique) in cliques.iter().enumerate() {
+        match cells(net, clique) {
+            Some(cells) if total + cells <= MAX_TREE => total += cells,
+            _ => return Some(place as u32 + 1),
+        }
+    }
+    None
+}
+
+/// How many cells a clique has. None exactly where it has more than 4,096.
+fn cells(net: &Network, clique: &VarSet) -> Option<u32>
+    requires network { IsNetwork net.now }
+    requires of_network { (x : ℕ) → is_member clique.now x ≡ true → x < length net.now }
+    ensures { result ≡ (if nat_le (cells_of net.now clique.now) 4096 then Some (cells_of net.now clique.now) else None) }
+{
+    let mut cells = 1;
+    let mut left = *clique;
+    while let Some(variable) = left.first() {
+        left = left.without(&VarSet::empty().with(variable));
+        cells *= net.values(variable);
+        if cells > MAX_CLIQUE {
+            return None;
+        }
+    }
+    Some(cells)
+}

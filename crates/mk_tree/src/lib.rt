@@ -1,0 +1,14 @@
+//! Trees of cliques: the sets of variables over which a market keeps its tables.
+#![tactic(auto)]
+
+mod check;
+mod fault;
+mod laws;
+mod tree;
+
+pub use fault::TreeFault;
+pub use laws::one_top_is_connected;
+pub use tree::Tree;
+
+#[cfg(test)]
+mod tests;

@@ -1,0 +1,121 @@
+//! A checked tree.
+
+ghost use Rattle.std.specs.Prelude.{◌≡◌, ◌≢◌, ℕ, ◌<◌, ◌≤◌, length, None, Some, IfOk, IfErr, IfSome, position};
+ghost use Rattle.mk_tree.specs.Given.{AreLinked, AreOfNetwork, clique_at, link_of, home, holds_event};
+ghost use Rattle.mk_tree.specs.Tests.{tree_fault};
+ghost use Rattle.mk_tree.specs.Checked.{IsTreeOf};
+
+use crate::check::find_fault;
+use crate::fault::TreeFault;
+use mk_net::{Event, Network, NoMemory, Pair, VarSet};
+use std::alloc::Global;
+use std::marker::Model;
+
+/// A tree of cliques, each of which after the first is linked to an earlier one. Cliques are numbered from 1; clique 1
+/// is the root.
+#[derive(Drop)]
+pub struct Tree {
+    cliques: Vec<VarSet>,
+    links: Vec<u32>,
+}
+
+impl Model for Tree {
+    ghost use Rattle.mk_tree.specs.Given.{GivenTree, AreLinked};
+
+    ghost Value = { GivenTree };
+
+    ghost view = { λ t. record { cliques = t.cliques.items; links = t.links.items } };
+
+    ghost invariant = { λ t. AreLinked (record { cliques = t.cliques.items; links = t.links.items }) };
+}
+
+impl Tree {
+    /// The tree of these cliques and links, or its first fault: a variable that no clique holds together with its
+    /// parents, then a variable whose cliques are not connected, then a clique with too many cells.
+    pub fn from_cliques(
+        alloc: Global,
+        net: &Network,
+        cliques: &[VarSet],
+        links: &[u32],
+    ) -> Result<Tree, TreeFault>
+        requires linked { AreLinked (record { cliques = cliques.now; links = links.now }) }
+        requires of_network { AreOfNetwork net.now cliques.now }
+        ensures same { IfOk result (λ tree. tree ≡ record { cliques = cliques.now; links = links.now }) }
+        ensures tree { IfOk result (λ tree. IsTreeOf net.now tree) }
+        ensures faultless { IfOk result (λ tree. tree_fault net.now tree ≡ None) }
+        ensures fault { IfErr result (λ fault. fault ≢ TreeFault.Memory → tree_fault net.now (record { cliques = cliques.now; links = links.now }) ≡ Some fault) }
+    {
+        if let Some(fault) = find_fault(net, cliques, links) {
+            return Err(fault);
+        }
+        Ok(Tree {
+            cliques: cliques.to_vec(alloc)?,
+            links: links.to_vec(alloc)?,
+        })
+    }
+
+    /// How many cliques there are.
+    pub fn cliques(&self) -> u32
+        ensures count { result ≡ length self.now.cliques }
+        ensures linked { AreLinked self.now }
+    {
+        self.cliques.len() as u32
+    }
+
+    /// A clique.
+    pub fn clique(&self, k: u32) -> VarSet
+        requires first { 1 ≤ k }
+        requires last { k ≤ length self.now.cliques }
+        ensures { result ≡ clique_at self.now k }
+    {
+        self.cliques[k as usize - 1]
+    }
+
+    /// The clique to which a clique is linked. None exactly at the root.
+    pub fn link(&self, k: u32) -> Option<u32>
+        requires first { 1 ≤ k }
+        requires last { k ≤ length self.now.cliques }
+        ensures root { k ≡ 1 → result ≡ None }
+        ensures link { 1 < k → result ≡ Some (link_of self.now k) }
+    {
+        if k == 1 {
+            None
+        } else {
+            Some(self.links[k as usize - 2])
+        }
+    }
+
+    /// An equal tree.
+    pub fn copy(&self, alloc: Global) -> Result<Tree, NoMemory>
+        ensures { IfOk result (λ tree. tree ≡ self.now) }
+    {
+        let mut cliques = Vec::new(alloc);
+        let mut links = Vec::new(alloc);
+        cliques.extend_from_slice(&self.cliques)?;
+        links.extend_from_slice(&self.links)?;
+        Ok(Tree { cliques, links })
+    }
+
+    /// The first clique that holds each variable of the event. None exactly where no clique does.
+    pub fn home(&self, event: &Event) -> Option<u32>
+        ensures home { result ≡ home self.now event.now }
+        ensures within { IfSome result (λ k. k ≤ length self.now.cliques) }
+    {
+        let place = first_holder(&self.cliques, event.pairs())?;
+        Some(place as u32 + 1)
+    }
+}
+
+/// The place, counted from 0, of the first clique that holds each variable of the pairs.
+fn first_holder(cliques: &[VarSet], pairs: &[Pair]) -> Option<usize>
+    ensures first { result ≡ position (holds_event pairs.now) cliques.now }
+    ensures within { IfSome result (λ place. place < length cliques.now) }
+{
+    cliques.iter().position(|clique| holds_event(clique, pairs))
+}
+
+fn holds_event(clique: &VarSet, pairs: &[Pair]) -> bool
+    ensures { result ≡ holds_event pairs.now clique.now }
+{
+    pairs.iter().all(|pair| clique.has(pair.variable))
+}
