@@ -1,17 +1,17 @@
 -- The market of a file, or its first fault.
-use Rattle.std.specs.Prelude.{ℕ, List, [], ◌∷◌, length, nat_abs, Bool, false, ◌&&◌, ◌||◌, not, ◌==◌, nat_lt, if◌then◌else◌, Option, Some, None, Result, Ok, Err}
-use Rattle.std.specs.List.{list_all, list_any}
+use Rattle.std.specs.Prelude.{ℕ, List, [], ◌∷◌, length, map, nat_abs, Bool, ◌||◌, nat_lt, if◌then◌else◌, Option, Some, None, option_map, Result, Ok, Err}
+use Rattle.std.specs.List.{list_any}
 use Rattle.std.specs.Str.{is_utf8}
 use Rattle.toml.specs.Data.{Members}
 use Rattle.toml.specs.Parse.{parse_document}
-use Rattle.mk_net.specs.Texts.{same_text}
 use Rattle.mk_net.specs.Drafts.{DraftOfVariable}
-use Rattle.mk_net.specs.Firsts.{fault_if, first_of}
+use Rattle.mk_net.specs.Firsts.{fault_if, first_of, first_in}
 use Rattle.mk_net.specs.Checked.{checked_network}
-use Rattle.mk_exact.specs.States.{numbers_below}
 use Rattle.mk_exact.specs.Market.{Market}
+use Rattle.mk_tree.specs.Tests.{members, tree_fault}
 use Rattle.mk_file.specs.Walk.{DraftOfMarket, draft_in}
 use Rattle.mk_file.specs.Counts.{counts_fault, variables_fault}
+use Rattle.mk_file.specs.Cliques.{clique_at, link_at, given_tree, of_tree}
 use Rattle.mk_file.specs.declared.fault.FileFault.{FileFault}
 use Rattle.mk_file.specs.declared.fault.FileFault.TheVariants.{TooLong, BadToml, Later}
 
@@ -23,25 +23,26 @@ max_file_bytes = 1048576
 abbrev pub is_wide : List DraftOfVariable → Bool
 is_wide variables = nat_lt 4 (length variables) || list_any (λ (v : DraftOfVariable). nat_lt 4 (length v.values)) variables
 
--- one clique, which names each variable once and nothing else
-abbrev pub is_one_clique : List DraftOfVariable → List (List (List ℕ)) → Bool
-is_one_clique variables (names ∷ []) =
-    (length names == length variables) && list_all (λ (v : DraftOfVariable). list_any (same_text v.name) names) variables
-is_one_clique variables _ = false
-
 -- a market that is served later
 abbrev pub later_fault : DraftOfMarket → Option FileFault
-later_fault draft = fault_if (is_wide draft.variables || not (is_one_clique draft.variables draft.cliques)) Later
+later_fault draft = fault_if (is_wide draft.variables) Later
 
 -- the first fault of a draft
 abbrev pub draft_fault : DraftOfMarket → Option FileFault
-draft_fault draft = first_of (counts_fault draft ∷ variables_fault draft ∷ later_fault draft ∷ [])
+draft_fault draft = first_of (
+    counts_fault draft
+    ∷ variables_fault draft
+    ∷ first_in (clique_at draft) 1 draft.cliques
+    ∷ first_in link_at 2 draft.links
+    ∷ option_map of_tree (tree_fault (checked_network draft.variables) (given_tree draft))
+    ∷ later_fault draft
+    ∷ [])
 
 -- the market of a draft without a fault; both numbers are positive there
 abbrev pub market_in : DraftOfMarket → Market
 market_in draft = record {
   network = checked_network draft.variables;
-  cliques = numbers_below (length draft.variables) ∷ [];
+  cliques = map (members (checked_network draft.variables)) (given_tree draft).cliques;
   points_per_bit = nat_abs draft.points_per_bit;
   max_trades = nat_abs draft.max_trades;
 }

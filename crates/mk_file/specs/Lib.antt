@@ -1,6 +1,8 @@
 pub mod Walk
 pub mod Counts
+pub mod Cliques
 pub mod File
 pub mod Views
 pub mod MarketOf
 pub mod Few
+pub mod Known

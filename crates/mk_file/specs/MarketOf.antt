@@ -1,14 +1,14 @@
 -- The market that an accepted file stands for.
-use Rattle.std.specs.Prelude.{[], ◌∷◌, length}
-use Rattle.mk_exact.specs.States.{numbers_below}
+use Rattle.std.specs.Prelude.{map}
 use Rattle.mk_exact.specs.Market.{Market}
+use Rattle.mk_tree.specs.Tests.{members}
 use Rattle.mk_file.specs.declared.opened.MarketFile.{MarketFile}
 
--- its one clique holds all its variables
+-- its cliques are lists of variables in rising order
 abbrev pub market_of : MarketFile → Market
 market_of file = record {
   network = file.net;
-  cliques = numbers_below (length file.net) ∷ [];
+  cliques = map (members file.net) file.tree.cliques;
   points_per_bit = file.points_per_bit;
   max_trades = file.max_trades;
 }

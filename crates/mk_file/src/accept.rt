@@ -1,31 +1,59 @@
 //! The market that a draft gives.
 
-ghost use Rattle.std.specs.Prelude.{Ok, IfOk};
+ghost use Rattle.std.specs.Prelude.{◌≡◌, ◌≢◌, None, Some, Ok, IfOk, IfErr};
+ghost use Rattle.mk_net.specs.Drafts.{drafts_of};
+ghost use Rattle.mk_net.specs.Checked.{checked_network, first_fault};
+ghost use Rattle.mk_tree.specs.Checked.{IsTreeOf};
+ghost use Rattle.mk_tree.specs.Tests.{tree_fault};
+ghost use Rattle.mk_file.specs.Counts.{counts_fault};
+ghost use Rattle.mk_file.specs.Cliques.{given_tree};
+ghost use Rattle.mk_file.specs.Known.{trees_fault};
 ghost use Rattle.mk_file.specs.File.{of_draft};
 ghost use Rattle.mk_file.specs.Few.{AreFew};
 ghost use Rattle.mk_file.specs.Views.{Gives, draft_of};
 ghost use Rattle.mk_file.specs.MarketOf.{market_of};
 
+use crate::cliques::{read_cliques, read_links};
 use crate::counts::check_counts;
 use crate::fault::FileFault;
-use crate::later::later_fault;
+use crate::later::is_wide;
 use crate::opened::MarketFile;
 use crate::walk::MarketDraft;
 use mk_net::Network;
+use mk_tree::Tree;
 use std::alloc::Global;
+
+/// The tree of a draft over its checked network, or the first fault of its cliques, its links and its tree.
+fn read_tree(alloc: Global, net: &Network, draft: &MarketDraft) -> Result<Tree, FileFault>
+    requires counted { counts_fault (draft_of draft.now) ≡ None }
+    requires checked { net.now ≡ checked_network (drafts_of draft.now.draft) }
+    requires faultless { first_fault (drafts_of draft.now.draft) ≡ None }
+    ensures given { IfOk result (λ tree. tree ≡ given_tree (draft_of draft.now)) }
+    ensures tree { IfOk result (λ tree. IsTreeOf net.now tree) }
+    ensures passes { IfOk result (λ tree. tree_fault net.now tree ≡ None) }
+    ensures whole { IfOk result (λ _. trees_fault (draft_of draft.now) ≡ None) }
+    ensures fault { IfErr result (λ fault. fault ≢ FileFault.Memory → trees_fault (draft_of draft.now) ≡ Some fault) }
+{
+    let cliques = read_cliques(alloc, net, &draft.cliques)?;
+    let links = read_links(alloc, &draft.links)?;
+    Ok(Tree::from_cliques(alloc, net, &cliques, &links)?)
+}
 
 /// The market of a draft, or the draft's first fault.
 pub fn accept(alloc: Global, draft: &MarketDraft) -> Result<MarketFile, FileFault>
     ensures market { Gives market_of result (of_draft (Ok (draft_of draft.now))) }
     ensures few { IfOk result (λ file. AreFew file.net) }
+    ensures tree { IfOk result (λ file. IsTreeOf file.net file.tree) }
 {
     check_counts(draft)?;
     let net = Network::check(alloc, &draft.draft)?;
-    if let Some(fault) = later_fault(draft) {
-        return Err(fault);
+    let tree = read_tree(alloc, &net, draft)?;
+    if is_wide(&draft.draft) {
+        return Err(FileFault::Later);
     }
     Ok(MarketFile {
         net,
+        tree,
         points_per_bit: draft.points_per_bit as u32,
         max_trades: draft.max_trades as u32,
     })

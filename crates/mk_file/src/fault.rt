@@ -2,9 +2,11 @@
 
 ghost use Rattle.std.specs.Prelude.{◌≡◌};
 ghost use Rattle.mk_file.specs.Counts.{of_net};
+ghost use Rattle.mk_file.specs.Cliques.{of_tree};
 ghost use Rattle.mk_file.specs.declared.fault.FileFault.TheVariants.{Memory};
 
 use mk_net::{Key, NetFault};
+use mk_tree::TreeFault;
 use std::alloc::{AllocError, AllocFailed};
 use thiserror::Error;
 
@@ -150,6 +152,19 @@ impl From<NetFault> for FileFault {
             },
             NetFault::Sum { variable, row, sum } => FileFault::Sum { variable, row, sum },
             NetFault::Memory => FileFault::Memory,
+        }
+    }
+}
+
+impl From<TreeFault> for FileFault {
+    ghost from_gives = { λ fault e. e ≡ of_tree fault };
+
+    fn from(fault: TreeFault) -> FileFault {
+        match fault {
+            TreeFault::Cover { variable } => FileFault::Cover { variable },
+            TreeFault::NotRunning { variable } => FileFault::NotRunning { variable },
+            TreeFault::Cells { clique } => FileFault::Cells { clique },
+            TreeFault::Memory => FileFault::Memory,
         }
     }
 }

@@ -2,6 +2,7 @@
 #![tactic(auto)]
 
 mod accept;
+mod cliques;
 mod counts;
 mod fault;
 mod kinds;

@@ -14,30 +14,13 @@ use mk_net::Key;
 use std::alloc::Global;
 use toml::{Table, Value};
 
-/// How a key is written.
-fn text_of(key: Key) -> &'static str
-    ensures { result.now ≡ key_text key }
-{
-    match key {
-        Key::PointsPerBit => "points_per_bit",
-        Key::MaxTrades => "max_trades",
-        Key::Variable => "variable",
-        Key::Cliques => "cliques",
-        Key::Links => "links",
-        Key::Name => "name",
-        Key::Values => "values",
-        Key::Parents => "parents",
-        Key::Rows => "rows",
-    }
-}
-
 /// The value at a key.
 fn value_at<'a>(table: &'a Table, key: Key, place: u32) -> Result<&'a Value, FileFault>
     ensures at_key { IfOk result (λ value. get_member (key_text key) (table_view table.now) ≡ Some (view value.now)) }
     ensures missing { OnErr result (get_member (key_text key) (table_view table.now) ≡ None) }
     ensures fault { IfErr result (λ fault. fault ≡ FileFault.Missing key place) }
 {
-    match table.get(text_of(key)) {
+    match table.get(key.text()) {
         Some(value) => Ok(value),
         None => Err(FileFault::Missing { key, place }),
     }

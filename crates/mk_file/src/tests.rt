@@ -1,7 +1,7 @@
 use super::*;
 use crate::fault::FileFault::{BadToml, Later};
-use mk_net::Key;
 use mk_net::Key::{Cliques, Links, MaxTrades, Name, Parents, PointsPerBit, Rows, Values, Variable};
+use mk_net::{Key, VarSet};
 use std::alloc::Global;
 use std::process::Abort;
 use std::test::Fail;
@@ -21,8 +21,8 @@ rows = [[500000, 500000]]
 /// Each variable with another number of values and of parents.
 const THREE: &str = "points_per_bit = 100
 max_trades = 77
-cliques = [['a', 'b', 'c']]
-links = []
+cliques = [['a', 'b', 'c'], ['a', 'b'], ['a']]
+links = [1, 2]
 
 [[variable]]
 name = 'a'
@@ -42,6 +42,77 @@ values = ['c1', 'c2']
 parents = ['a', 'b']
 rows = [[1, 999999], [2, 999998], [3, 999997], [4, 999996], [5, 999995], [6, 999994]]
 ";
+
+/// Its cliques are linked in a row.
+const CHAIN: &str = "points_per_bit = 100
+max_trades = 77
+cliques = [['a', 'b'], ['b', 'c'], ['c']]
+links = [1, 2]
+
+[[variable]]
+name = 'a'
+values = ['up', 'down']
+parents = []
+rows = [[500000, 500000]]
+
+[[variable]]
+name = 'b'
+values = ['up', 'down']
+parents = ['a']
+rows = [[600000, 400000], [300000, 700000]]
+
+[[variable]]
+name = 'c'
+values = ['up', 'down']
+parents = ['b']
+rows = [[800000, 200000], [100000, 900000]]
+";
+
+/// Its second clique holds the first variable alone.
+const WEATHER: &str = "points_per_bit = 100
+max_trades = 77
+cliques = [['season', 'rain'], ['season']]
+links = [1]
+
+[[variable]]
+name = 'season'
+values = ['wet', 'dry']
+parents = []
+rows = [[400000, 600000]]
+
+[[variable]]
+name = 'rain'
+values = ['yes', 'no']
+parents = ['season']
+rows = [[700000, 300000], [100000, 900000]]
+";
+
+/// A variable stands in two cliques that are linked through one without it.
+const APART: &str = "points_per_bit = 100
+max_trades = 77
+cliques = [['a'], ['b'], ['a']]
+links = [1, 2]
+
+[[variable]]
+name = 'a'
+values = ['up', 'down']
+parents = []
+rows = [[500000, 500000]]
+
+[[variable]]
+name = 'b'
+values = ['up', 'down']
+parents = []
+rows = [[500000, 500000]]
+";
+
+const NAMES: [&str; 13] = [
+    "a", "b", "c", "d", "e", "f", "g", "h", "i", "j", "k", "l", "m",
+];
+
+const NUMBERS: &str = "points_per_bit = 100\nmax_trades = 77\n";
+
+const SIDES: &str = "values = ['up', 'down']\nparents = []\nrows = [[500000, 500000]]\n";
 
 fn missing(key: Key, place: u32) -> FileFault {
     FileFault::Missing { key, place }
@@ -87,6 +158,26 @@ fn sum(variable: u32, row: u32, sum: i64) -> FileFault {
     FileFault::Sum { variable, row, sum }
 }
 
+fn clique(clique: u32) -> FileFault {
+    FileFault::Clique { clique }
+}
+
+fn link(clique: u32) -> FileFault {
+    FileFault::Link { clique }
+}
+
+fn cover(variable: u32) -> FileFault {
+    FileFault::Cover { variable }
+}
+
+fn not_running(variable: u32) -> FileFault {
+    FileFault::NotRunning { variable }
+}
+
+fn cells(clique: u32) -> FileFault {
+    FileFault::Cells { clique }
+}
+
 /// A file with some parts replaced, as `old -> new; old -> new`.
 fn edited(alloc: Global, base: &str, edits: &str) -> Result<String, Fail> {
     let mut text = String::from_str(alloc, base)?;
@@ -95,6 +186,25 @@ fn edited(alloc: Global, base: &str, edits: &str) -> Result<String, Fail> {
         text = text.replace(alloc, old, new)?;
     }
     Ok(text)
+}
+
+/// A file of as many coins and cliques, each clique with all the coins and linked to the first.
+fn coins(alloc: Global, variables: usize, cliques: usize) -> Result<String, Fail> {
+    let mut names = String::new(alloc);
+    let mut tables = String::new(alloc);
+    for name in NAMES.iter().take(variables) {
+        names.push_str(&format!(in alloc; "'{name}', ")?)?;
+        tables.push_str(&format!(in alloc; "[[variable]]\nname = '{name}'\n{SIDES}")?)?;
+    }
+    let mut lists = String::new(alloc);
+    let mut links = String::new(alloc);
+    for number in 0..cliques {
+        lists.push_str(&format!(in alloc; "[{names}], ")?)?;
+        if number > 0 {
+            links.push_str("1, ")?;
+        }
+    }
+    Ok(format!(in alloc; "{NUMBERS}cliques = [{lists}]\nlinks = [{links}]\n{tables}")?)
 }
 
 /// Each of these edits leaves a file accepted.
@@ -133,7 +243,55 @@ fn reads_a_coin(rt: HostRuntime) -> Result<(), Fail> {
     assert_eq!(rt; file.net.value_name(0, 0).bytes(), b"heads".as_slice());
     assert_eq!(rt; file.net.value_name(0, 1).bytes(), b"tails".as_slice());
     assert_eq!(rt; file.net.parents(0).len(), 0);
-    assert_eq!(rt; file.net.entry(0, 0, 1), 500_000);
+    Ok(())
+}
+
+#[test]
+fn reads_a_chain(rt: HostRuntime) -> Result<(), Fail> {
+    let file = read_market(rt.alloc(), CHAIN.as_bytes())?;
+    assert_eq!(rt; file.net.variables(), 3);
+    assert_eq!(rt; file.tree.cliques(), 3);
+    assert_eq!(rt; file.tree.link(1), None);
+    assert_eq!(rt; file.tree.link(2), Some(1));
+    assert_eq!(rt; file.tree.link(3), Some(2));
+    for (clique, first, last) in [(1, 0, 1), (2, 1, 2), (3, 2, 2)] {
+        let set = file.tree.clique(clique);
+        assert_eq!(rt; set, VarSet::empty().with(first).with(last));
+    }
+    Ok(())
+}
+
+#[test]
+fn refuses_variables_apart(rt: HostRuntime) -> Result<(), Fail> {
+    let answer = read_market(rt.alloc(), APART.as_bytes()).err();
+    assert_eq!(rt; answer, Some(not_running(1)));
+    Ok(())
+}
+
+#[test]
+fn counts_cliques_and_cells(rt: HostRuntime) -> Result<(), Fail> {
+    let alloc = rt.alloc();
+    for (variables, cliques, fault) in [
+        (1, 256, None),
+        (1, 257, Some(count(Cliques, 0, 257))),
+        (4, 256, None),
+        (5, 1, Some(Later)),
+        (12, 8, Some(Later)),
+        (12, 9, Some(cells(9))),
+        (13, 1, Some(cells(1))),
+    ] {
+        let text = coins(alloc, variables, cliques)?;
+        let answer = read_market(alloc, text.as_bytes()).err();
+        assert_eq!(rt; answer, fault, "at {variables} and {cliques}");
+    }
+    let large = coins(alloc, 13, 1)?;
+    let text = edited(
+        alloc,
+        large.as_str(),
+        "], ]\nlinks = [] -> ], ['b'], ['a']]\nlinks = [1, 2]",
+    )?;
+    let answer = read_market(alloc, text.as_bytes()).err();
+    assert_eq!(rt; answer, Some(not_running(1)));
     Ok(())
 }
 
@@ -335,36 +493,113 @@ fn refuses_rows(rt: HostRuntime) -> Result<(), Fail> {
 }
 
 #[test]
-fn answers_later(rt: HostRuntime) -> Result<(), Fail> {
+fn accepts_chains(rt: HostRuntime) -> Result<(), Fail> {
+    let edits = ["['b', 'c'] -> ['c', 'b']"];
+    accepts(&rt, rt.alloc(), CHAIN, &edits)
+}
+
+#[test]
+fn refuses_chains(rt: HostRuntime) -> Result<(), Fail> {
+    let edits = [("links = [1, 2] -> links = [1, 1]", not_running(3))];
+    refuses(&rt, rt.alloc(), CHAIN, &edits)
+}
+
+#[test]
+fn accepts_linked_sets(rt: HostRuntime) -> Result<(), Fail> {
+    let edits = ["77 -> 78", "'rain'], ['season']] -> 'rain'], ['rain']]"];
+    accepts(&rt, rt.alloc(), WEATHER, &edits)
+}
+
+#[test]
+fn accepts_cliques_apart(rt: HostRuntime) -> Result<(), Fail> {
     let edits = [
-        ("'a', 'b', 'c' -> 'a', 'b', 'b'", Later),
-        ("'a', 'b', 'c' -> 'a', 'b', 'd'", Later),
-        ("'a', 'b', 'c' -> 'a', 'b', 'c', 'd'", Later),
-        ("'a', 'b', 'c' -> 'a'", Later),
+        "[['a'], ['b'], ['a']]\nlinks = [1, 2] -> [['a'], ['b']]\nlinks = [1]",
+        "links = [1, 2] -> links = [1, 1]",
+    ];
+    accepts(&rt, rt.alloc(), APART, &edits)
+}
+
+#[test]
+fn refuses_cliques(rt: HostRuntime) -> Result<(), Fail> {
+    let edits = [
+        ("[['a', 'b', 'c'] -> [['a', 'b', 'd']", clique(1)),
+        ("['a', 'b'], -> ['b', 'b'],", clique(2)),
+        ("['a']] -> ['A']]", clique(3)),
+        ("[['a', 'b', 'c'] -> [['a', 'b', 'c', 'a']", clique(1)),
+        ("['a']]\n -> ['a', 'a']]\n", clique(3)),
+    ];
+    refuses(&rt, rt.alloc(), THREE, &edits)
+}
+
+#[test]
+fn refuses_links(rt: HostRuntime) -> Result<(), Fail> {
+    let edits = [
+        ("links = [1, 2] -> links = [0, 2]", link(2)),
+        ("links = [1, 2] -> links = [2, 2]", link(2)),
+        ("links = [1, 2] -> links = [1, 3]", link(3)),
+        ("links = [1, 2] -> links = [1, -1]", link(3)),
+        ("links = [1, 2] -> links = [1, 4294967297]", link(3)),
+    ];
+    refuses(&rt, rt.alloc(), THREE, &edits)
+}
+
+#[test]
+fn refuses_trees(rt: HostRuntime) -> Result<(), Fail> {
+    let edits = [
         (
-            "[['a', 'b', 'c']]\nlinks = [] -> [['a', 'b', 'c'], ['a']]\nlinks = [1]",
-            Later,
+            "cliques = [['a', 'b', 'c'], ['a', 'b'], ['a']] -> cliques = [['b'], ['c'], ['b']]",
+            cover(1),
+        ),
+        (
+            "cliques = [['a', 'b', 'c'], ['a', 'b'], ['a']] -> cliques = [['a', 'c'], ['a'], ['b']]",
+            cover(2),
+        ),
+        (
+            "cliques = [['a', 'b', 'c'], ['a', 'b'], ['a']] -> cliques = [['a', 'b'], ['c'], ['a', 'c']]",
+            cover(3),
+        ),
+        (
+            "cliques = [['a', 'b', 'c'], ['a', 'b'], ['a']] -> cliques = [['a', 'b'], ['c'], ['a']]",
+            cover(3),
+        ),
+        (
+            "cliques = [['a', 'b', 'c'], ['a', 'b'], ['a']] -> cliques = [['a', 'b', 'c'], ['b'], ['a']]",
+            not_running(1),
+        ),
+        (
+            "cliques = [['a', 'b', 'c'], ['a', 'b'], ['a']] -> cliques = [['a', 'b', 'c'], ['a'], ['b']]",
+            not_running(2),
+        ),
+        (
+            "cliques = [['a', 'b', 'c'], ['a', 'b'], ['a']] -> cliques = [['a', 'b', 'c'], ['a'], ['c']]",
+            not_running(3),
         ),
     ];
     refuses(&rt, rt.alloc(), THREE, &edits)
 }
 
 #[test]
-fn answers_later_to_wide_variables(rt: HostRuntime) -> Result<(), Fail> {
+fn refuses_the_first_of_two_of_trees(rt: HostRuntime) -> Result<(), Fail> {
+    let edits = [
+        (
+            "['a']]\n -> ['a', 'a']]\n; links = [1, 2] -> links = [2, 1]",
+            clique(3),
+        ),
+        (
+            "links = [1, 2] -> links = [1, 3]; cliques = [['a', 'b', 'c'], ['a', 'b'], ['a']] -> cliques = [['b'], ['c'], ['b']]",
+            link(3),
+        ),
+    ];
+    refuses(&rt, rt.alloc(), THREE, &edits)
+}
+
+#[test]
+fn answers_later(rt: HostRuntime) -> Result<(), Fail> {
     let edits = [(
         "['heads', 'tails']\nparents = []\nrows = [[500000, 500000]] -> ['a', 'b', 'c', 'd', 'e']\nparents = []\nrows = [[1, 2, 3, 4, 999990]]",
         Later,
     )];
     refuses(&rt, rt.alloc(), COIN, &edits)
-}
-
-#[test]
-fn accepts_names_in_any_order(rt: HostRuntime) -> Result<(), Fail> {
-    let edits = [
-        "'a', 'b', 'c' -> 'a', 'b', 'c'",
-        "'a', 'b', 'c' -> 'c', 'a', 'b'",
-    ];
-    accepts(&rt, rt.alloc(), THREE, &edits)
 }
 
 #[test]
@@ -401,7 +636,7 @@ fn refuses_the_first_of_two_keys(rt: HostRuntime) -> Result<(), Fail> {
 fn refuses_the_first_of_two_numbers(rt: HostRuntime) -> Result<(), Fail> {
     let edits = [
         (
-            "'a1', 'a2' -> 'a1'; links = [] -> links = [1]",
+            "'a1', 'a2' -> 'a1'; links = [1, 2] -> links = [1]",
             count(Links, 0, 1),
         ),
         (
@@ -443,7 +678,7 @@ fn refuses_the_first_of_two_of_variables(rt: HostRuntime) -> Result<(), Fail> {
             entry(3, 6, 2),
         ),
         (
-            "6, 999994 -> 6, 6; 'a', 'b', 'c' -> 'a', 'b'",
+            "6, 999994 -> 6, 6; [['a', 'b', 'c'] -> [['a', 'b', 'd']",
             sum(3, 6, 12),
         ),
     ];

@@ -25,9 +25,9 @@ pub struct MarketDraft {
     pub links: Vec<i64>,
 }
 
-/// The number of a table, counted from 1.
-fn number_of(index: usize) -> Result<u32, FileFault>
-    ensures { MatchResult result (λ number. number ≡ index + 1) (λ fault. fault ≡ FileFault.Memory) }
+/// The place of a table, counted from 1.
+fn place_of(index: usize) -> Result<u32, FileFault>
+    ensures { MatchResult result (λ place. place ≡ index + 1) (λ fault. fault ≡ FileFault.Memory) }
 {
     match u32::try_from(index) {
         Ok(index) if index < u32::MAX => Ok(index + 1),
@@ -40,7 +40,7 @@ fn number_of(index: usize) -> Result<u32, FileFault>
 fn read_variable(alloc: Global, table: &Table, index: usize) -> Result<VariableDraft, FileFault>
     ensures { Gives draft_of_variable result (variable_in (index + 1) (table_view table.now)) }
 {
-    let place = number_of(index)?;
+    let place = place_of(index)?;
     let name = required_text(alloc, table, Key::Name, place)?;
     let values = required_texts(alloc, table, Key::Values, place)?;
     let parents = required_texts(alloc, table, Key::Parents, place)?;

@@ -1,6 +1,19 @@
+use Rattle.std.proofs.Common.{sym, ◌∙◌}
+use Rattle.std.proofs.lemmas.Result.{err_from_is_err_and}
+use Rattle.mk_net.specs.Drafts.{drafts_of}
 use Rattle.mk_file.specs.Views.{draft_of}
 use Rattle.mk_file.proofs.Drafted.{few_of}
+use Rattle.mk_file.proofs.Grown.{tree_refused}
 use Rattle.mk_file.proofs.accept.accept.Goals as goal
 
+pub returns-in_err-tree-clause-market : goal.returns-in_err-tree-clause-market
+returns-in_err-tree-clause-market c =
+    let returned = err_from_is_err_and c.from_residual-in_err-tree.result c.from_residual-in_err-tree.ensures.1 in
+    rw (returned.1, returned.2) (λ known.
+    tree_refused (draft_of c.args.draft.now) _ c.in_ok-check_counts.ensures.passes c.in_ok-net.ensures.faultless (c.in_err-tree.ensures.fault known))
+
+pub invariant_of-result-clause-tree_of_net : goal.invariant_of-result-clause-tree_of_net
+invariant_of-result-clause-tree_of_net c = ∣ c.in_ok-tree.ensures.tree ∣₁
+
 pub returns-clause-few : goal.returns-clause-few
-returns-clause-few c = rw c.in_ok-net.ensures.network (few_of (draft_of c.args.draft.now) c.in_default.ensures)
+returns-clause-few c = rw c.in_ok-net.ensures.network (few_of (drafts_of c.args.draft.now.draft) (sym c.is_wide.ensures ∙ c.if-is_wide.false))

@@ -1,0 +1,197 @@
+-- The tree of a draft, over the network that was checked.
+use Rattle.std.proofs.Common.{◌≡◌, ℕ, suc, ◌+◌, ◌-◌, ◌<◌, ◌≤◌, ℤ, pos, negsuc, List, [], ◌∷◌, map, length, get_or, Bool, true, false, not, ◌&&◌, ◌||◌, ◌==◌, nat_le, zero, Option, Some, None, option_map, Ok, Err, All, refl, sym, ap, subst, ◌∙◌, arith}
+use Rattle.std.specs.Prelude.{nat_abs}
+use Rattle.std.specs.List.{list_all, position_or_len}
+use Rattle.std.proofs.lemmas.Bool.{eqb-true, leb-true, not-false, and_parts}
+use Rattle.std.proofs.lemmas.List.{length-map}
+use Rattle.std.proofs.lemmas.List.Elements.{All-nil, All-cons}
+use Rattle.mk_net.specs.declared.sets.VarSet.{VarSet}
+use Rattle.mk_net.specs.Name.{IsName, is_name, max_name_bytes, begins_with_letter, is_name_byte}
+use Rattle.mk_net.specs.Texts.{same_text}
+use Rattle.mk_net.specs.Network.{Variable}
+use Rattle.mk_net.specs.Drafts.{DraftOfVariable}
+use Rattle.mk_net.specs.Sets.{set_of}
+use Rattle.mk_net.specs.Firsts.{fault_if, or_else, first_in}
+use Rattle.mk_net.specs.Checked.{is_within, number_of, has_double, checked_variable, checked_network, count_at, count_fault, later_fault as draft_later, first_fault, name_at}
+use Rattle.mk_net.specs.declared.key.Key.{Key}
+use Rattle.mk_net.specs.declared.key.Key.TheVariants.{PointsPerBit, MaxTrades, Variable as VariableKey, Cliques, Links}
+use Rattle.mk_tree.specs.Given.{GivenTree, AreLinked}
+use Rattle.mk_tree.specs.Tests.{tree_fault}
+use Rattle.mk_tree.specs.declared.fault.TreeFault.{TreeFault}
+use Rattle.mk_file.specs.declared.fault.FileFault.{FileFault}
+use Rattle.mk_file.specs.declared.fault.FileFault.TheVariants.{Clique, Link, Count}
+use Rattle.mk_file.specs.Walk.{DraftOfMarket}
+use Rattle.mk_file.specs.Counts.{is_whole_within, whole_fault, items_fault, names_at, links_fault, counts_fault, variables_fault, of_net}
+use Rattle.mk_file.specs.Cliques.{is_known, clique_at, link_at, given_tree, of_tree}
+use Rattle.mk_file.specs.Known.{number_in, is_known_in, clique_in, set_in, trees_fault}
+use Rattle.mk_file.specs.File.{later_fault, market_in, unless, of_draft}
+
+none_of : {F : Type 0} (a b : Option F) → or_else a b ≡ None → (a ≡ None) × (b ≡ None)
+none_of None b h = (refl, h)
+none_of (Some e) b h = cc
+
+passed : {F : Type 0} (test : Bool) (fault : F) → fault_if test fault ≡ None → test ≡ false
+passed false fault h = refl
+passed true fault h = cc
+
+-- the names of a checked network are names
+name_of : (bytes : List ℕ) → is_name bytes ≡ true → IsName bytes
+name_of bytes h =
+    let parts = and_parts (nat_le (length bytes) max_name_bytes) (begins_with_letter bytes && list_all is_name_byte bytes) h in
+    let more = and_parts (begins_with_letter bytes) (list_all is_name_byte bytes) parts.1 in
+    record { short = leb-true (length bytes) max_name_bytes parts.0; first = more.0; each = more.1 }
+
+names_from : (all vs : List DraftOfVariable) (k : ℕ) → first_in name_at k vs ≡ None → All (λ (v : Variable). IsName v.name) (map (checked_variable all) vs)
+names_from all [] k h = All-nil (λ (v : Variable). IsName v.name)
+names_from all (v ∷ vs) k h =
+    let parts = none_of (name_at k v) (first_in name_at (k + 1) vs) h in
+    let fine = not-false (is_name v.name && list_all is_name v.values) (passed (not (is_name v.name && list_all is_name v.values)) _ parts.0) in
+    All-cons (λ (v : Variable). IsName v.name) (checked_variable all v) (map (checked_variable all) vs)
+    (name_of v.name (and_parts (is_name v.name) (list_all is_name v.values) fine).0) (names_from all vs (k + 1) parts.1)
+
+pub names_are : (drafts : List DraftOfVariable) → first_fault drafts ≡ None → All (λ (v : Variable). IsName v.name) (checked_network drafts)
+names_are drafts h = names_from drafts drafts 1 (none_of (first_in name_at 1 drafts) _ (none_of (count_fault drafts) (draft_later drafts) h).1).0
+
+-- the network has the numbers of the draft
+placed : (all vs : List DraftOfVariable) (name : List ℕ)
+    → position_or_len (λ (v : Variable). same_text name v.name) (map (checked_variable all) vs) ≡ position_or_len (λ (v : DraftOfVariable). same_text name v.name) vs
+placed all [] name = refl
+placed all (v ∷ vs) name = rw (placed all vs name) refl
+
+number_same : (drafts : List DraftOfVariable) (name : List ℕ) → number_in (checked_network drafts) name ≡ number_of drafts name
+number_same drafts name = placed drafts drafts name
+
+known_same : (drafts : List DraftOfVariable) (names : List (List ℕ)) → list_all (is_known_in (checked_network drafts)) names ≡ list_all (is_known drafts) names
+known_same drafts [] = refl
+known_same drafts (name ∷ names) = rw (number_same drafts name, length-map drafts, known_same drafts names) refl
+
+numbers_same : (drafts : List DraftOfVariable) (names : List (List ℕ)) → map (number_in (checked_network drafts)) names ≡ map (number_of drafts) names
+numbers_same drafts [] = refl
+numbers_same drafts (name ∷ names) = rw (number_same drafts name, numbers_same drafts names) refl
+
+clique_same : (draft : DraftOfMarket) (k : ℕ) (names : List (List ℕ)) → clique_in (checked_network draft.variables) k names ≡ clique_at draft k names
+clique_same draft k names = ap (λ (known : Bool). fault_if (not known || has_double names) (Clique k)) (known_same draft.variables names)
+
+cliques_same : (draft : DraftOfMarket) (k : ℕ) (cliques : List (List (List ℕ)))
+    → first_in (clique_in (checked_network draft.variables)) k cliques ≡ first_in (clique_at draft) k cliques
+cliques_same draft k [] = refl
+cliques_same draft k (names ∷ cliques) =
+    ap (λ rest. or_else (clique_in (checked_network draft.variables) k names) rest) (cliques_same draft (k + 1) cliques)
+    ∙ ap (λ first. or_else first (first_in (clique_at draft) (k + 1) cliques)) (clique_same draft k names)
+
+sets_same : (drafts : List DraftOfVariable) (cliques : List (List (List ℕ)))
+    → map (set_in (checked_network drafts)) cliques ≡ map (λ (names : List (List ℕ)). set_of (map (number_of drafts) names)) cliques
+sets_same drafts [] = refl
+sets_same drafts (names ∷ cliques) =
+    ap (λ rest. set_in (checked_network drafts) names ∷ rest) (sets_same drafts cliques)
+    ∙ ap (λ numbers. set_of numbers ∷ map (λ (names : List (List ℕ)). set_of (map (number_of drafts) names)) cliques) (numbers_same drafts names)
+
+-- the links lead to earlier cliques
+earlier : (from : ℕ) (z : ℤ) → link_at from z ≡ None → (1 ≤ nat_abs z) × (nat_abs z < from)
+earlier from (pos n) h =
+    let parts = and_parts (nat_le 1 n) (nat_le n (from - 1)) (not-false (is_whole_within 1 (from - 1) (pos n)) (passed (not (is_whole_within 1 (from - 1) (pos n))) (Link from) h)) in
+    (omega (arith, leb-true 1 n parts.0), omega (arith, leb-true 1 n parts.0, leb-true n (from - 1) parts.1))
+earlier from (negsuc n) h = cc
+
+linked_from : (links : List ℤ) (from i : ℕ) → first_in link_at from links ≡ None → i < length links
+    → (1 ≤ get_or (map nat_abs links) i 0) × (get_or (map nat_abs links) i 0 < from + i)
+linked_from [] from i h within = absurd (omega (arith, within))
+linked_from (z ∷ links) from zero h within =
+    let first = earlier from z (none_of (link_at from z) (first_in link_at (from + 1) links) h).0 in
+    (first.0, omega (arith, first.1))
+linked_from (z ∷ links) from (suc i) h within =
+    let rest = linked_from links (from + 1) i (none_of (link_at from z) (first_in link_at (from + 1) links) h).1 (omega (arith, within)) in
+    (rest.0, omega (arith, rest.1))
+
+items_within : (key : Key) (n : ℕ) → items_fault key 1 256 0 n ≡ None → (1 ≤ n) × (n ≤ 256)
+items_within key n h =
+    let parts = and_parts (nat_le 1 n) (nat_le n 256) (not-false (is_within 1 256 n) (passed (not (is_within 1 256 n)) (Count key 0 (pos n)) h)) in
+    (leb-true 1 n parts.0, leb-true n 256 parts.1)
+
+one_link_fewer : (cliques : List (List (List ℕ))) (links : List ℤ) → links_fault cliques links ≡ None → length links + 1 ≡ length cliques
+one_link_fewer cliques links h =
+    eqb-true (length links + 1) (length cliques)
+    (not-false (length links + 1 == length cliques) (passed (not (length links + 1 == length cliques)) (Count Links 0 (pos (length links))) h))
+
+middle : {F : Type 0} (a b c d e f : Option F) → or_else a (or_else b (or_else c (or_else d (or_else e f)))) ≡ None → (d ≡ None) × (e ≡ None)
+middle None None None d e f h = let first = none_of d (or_else e f) h in (first.0, (none_of e f first.1).0)
+middle (Some x) b c d e f h = cc
+middle None (Some x) c d e f h = cc
+middle None None (Some x) d e f h = cc
+
+lists_counted : (draft : DraftOfMarket) → counts_fault draft ≡ None
+    → (items_fault Cliques 1 256 0 (length draft.cliques) ≡ None) × (links_fault draft.cliques draft.links ≡ None)
+lists_counted draft counted = middle
+    (whole_fault PointsPerBit 1 1000000 draft.points_per_bit) (whole_fault MaxTrades 1 65536 draft.max_trades) (items_fault VariableKey 1 256 0 (length draft.variables))
+    (items_fault Cliques 1 256 0 (length draft.cliques)) (links_fault draft.cliques draft.links)
+    (or_else (option_map of_net (first_in count_at 1 draft.variables)) (or_else (first_in names_at 1 draft.cliques) None)) counted
+
+pub linked_tree : (draft : DraftOfMarket) (cliques : List VarSet) (links : List ℕ) → counts_fault draft ≡ None
+    → length cliques ≡ length draft.cliques → links ≡ map nat_abs draft.links → first_in link_at 2 draft.links ≡ None
+    → AreLinked (record { cliques = cliques; links = links })
+linked_tree draft cliques links counted same read fine =
+    let lists = lists_counted draft counted in
+    let cliques_counted = items_within Cliques (length draft.cliques) lists.0 in
+    let fewer = one_link_fewer draft.cliques draft.links lists.1 in
+    let P : List ℕ → Type 0 = λ read. AreLinked (record { cliques = cliques; links = read }) in
+    subst P (sym read) (record {
+      some = omega (arith, cliques_counted.0, same);
+      few = omega (arith, cliques_counted.1, same);
+      one_link_each = rw (length-map draft.links) (fewer ∙ sym same);
+      earlier = λ k above within.
+          let there = linked_from draft.links 2 (k - 2) fine (omega (arith, fewer, same, above, within)) in
+          (there.0, omega (arith, there.1, above));
+    })
+
+-- the first fault of the cliques, the links and the tree
+abbrev tree_part : DraftOfMarket → Option FileFault
+tree_part draft = or_else (option_map of_tree (tree_fault (checked_network draft.variables) (given_tree draft))) None
+
+cliques_are : (draft : DraftOfMarket) (network : List Variable) (fault : Option FileFault) → network ≡ checked_network draft.variables
+    → first_in (clique_in network) 1 draft.cliques ≡ fault → trees_fault draft ≡ or_else fault (or_else (first_in link_at 2 draft.links) (tree_part draft))
+cliques_are draft network fault net is =
+    ap (λ o. or_else o (or_else (first_in link_at 2 draft.links) (tree_part draft)))
+    (sym (cliques_same draft 1 draft.cliques) ∙ ap (λ (n : List Variable). first_in (clique_in n) 1 draft.cliques) (sym net) ∙ is)
+
+pub cliques_stop : (draft : DraftOfMarket) (network : List Variable) (fault : FileFault) → network ≡ checked_network draft.variables
+    → first_in (clique_in network) 1 draft.cliques ≡ Some fault → trees_fault draft ≡ Some fault
+cliques_stop draft network fault net bad = cliques_are draft network (Some fault) net bad
+
+pub links_stop : (draft : DraftOfMarket) (network : List Variable) (fault : FileFault) → network ≡ checked_network draft.variables
+    → first_in (clique_in network) 1 draft.cliques ≡ None → first_in link_at 2 draft.links ≡ Some fault → trees_fault draft ≡ Some fault
+links_stop draft network fault net fine bad = cliques_are draft network None net fine ∙ ap (λ o. or_else o (tree_part draft)) bad
+
+pub tree_is : (draft : DraftOfMarket) (network : List Variable) (cliques : List VarSet) (links : List ℕ) → network ≡ checked_network draft.variables
+    → cliques ≡ map (set_in network) draft.cliques → links ≡ map nat_abs draft.links
+    → ◌≡◌ {A = GivenTree} (record { cliques = cliques; links = links }) (given_tree draft)
+tree_is draft network cliques links net sets read =
+    let made : List VarSet → List ℕ → GivenTree = λ cliques links. record { cliques = cliques; links = links } in
+    ap (λ (ls : List ℕ). made cliques ls) read
+    ∙ ap (λ (cs : List VarSet). made cs (map nat_abs draft.links))
+    (sets ∙ ap (λ (n : List Variable). map (set_in n) draft.cliques) net ∙ sets_same draft.variables draft.cliques)
+
+pub trees_are : (draft : DraftOfMarket) (network : List Variable) (tree : GivenTree) (fault : Option TreeFault) → network ≡ checked_network draft.variables
+    → first_in (clique_in network) 1 draft.cliques ≡ None → first_in link_at 2 draft.links ≡ None → tree ≡ given_tree draft
+    → tree_fault network tree ≡ fault → trees_fault draft ≡ or_else (option_map of_tree fault) None
+trees_are draft network tree fault net fine linked same is =
+    let there : tree_fault (checked_network draft.variables) (given_tree draft) ≡ fault =
+    ap (λ (n : List Variable). tree_fault n (given_tree draft)) (sym net) ∙ ap (λ (t : GivenTree). tree_fault network t) (sym same) ∙ is in
+    cliques_are draft network None net fine ∙ ap (λ o. or_else o (tree_part draft)) linked ∙ ap (λ f. or_else (option_map of_tree f) None) there
+
+kept : {F : Type 0} (x y z w : Option F) (e : F) → or_else x (or_else y (or_else z None)) ≡ Some e → or_else x (or_else y (or_else z w)) ≡ Some e
+kept (Some a) y z w e h = h
+kept None (Some a) z w e h = h
+kept None None (Some a) w e h = h
+kept None None None w e h = cc
+
+-- the fault of a tree is the fault of the draft
+pub tree_refused : (draft : DraftOfMarket) (fault : FileFault) → counts_fault draft ≡ None → first_fault draft.variables ≡ None
+    → trees_fault draft ≡ Some fault → of_draft (Ok draft) ≡ Err fault
+tree_refused draft fault counted checked bad =
+    let fine : variables_fault draft ≡ None = ap (λ o. option_map of_net o) (none_of (count_fault draft.variables) (draft_later draft.variables) checked).1 in
+    let later = or_else (later_fault draft) None in
+    let rest = or_else (first_in (clique_at draft) 1 draft.cliques) (or_else (first_in link_at 2 draft.links)
+    (or_else (option_map of_tree (tree_fault (checked_network draft.variables) (given_tree draft))) later)) in
+    ap (λ o. unless o (market_in draft)) (ap (λ o. or_else o (or_else (variables_fault draft) rest)) counted ∙ ap (λ o. or_else o rest) fine
+    ∙ kept (first_in (clique_at draft) 1 draft.cliques) (first_in link_at 2 draft.links)
+    (option_map of_tree (tree_fault (checked_network draft.variables) (given_tree draft))) later fault bad)
