@@ -1,0 +1,47 @@
+-- Commands, and how they are written.
+use Rattle.std.specs.Prelude.{ℕ, List, codes, decimal, Option, IfSome, ⊤}
+use Rattle.mk_net.specs.Name.{IsName}
+use Rattle.mk_text.specs.Joined.{◌&◌, perhaps_text}
+use Rattle.mk_text.specs.Numbers.{IsShort}
+use Rattle.mk_text.specs.Texts.{IsPairText, pair_text, IsQuestionText, question_text}
+use Rattle.mk_command.specs.declared.command.Command.{Command}
+use Rattle.mk_command.specs.declared.command.Command.TheVariants.{User, Deposit, Withdraw, Price, Limits, Edit, Worst, Resolve, Settle}
+
+-- the revision that an edit names
+abbrev pub at_text : Option ℕ → List ℕ
+at_text at = perhaps_text (codes " at ") decimal at
+
+abbrev pub command_text : Command → List ℕ
+command_text (User user) = codes "user " & user
+command_text (Deposit user bits) = codes "deposit " & user & codes " " & decimal bits
+command_text (Withdraw user bits) = codes "withdraw " & user & codes " " & decimal bits
+command_text (Price question) = codes "price " & question_text question
+command_text (Limits user question) = codes "limits " & user & codes " " & question_text question
+command_text (Edit user question to at) = codes "edit " & user & codes " " & question_text question & codes " to " & decimal to & at_text at
+command_text (Worst user) = codes "worst " & user
+command_text (Resolve pair) = codes "resolve " & pair_text pair
+command_text Settle = codes "settle"
+
+-- the commands that have a text: their words are names, and their numbers have at most nine digits
+abbrev pub IsCommand : Command → Type 0
+IsCommand (User user) = IsName user
+IsCommand (Deposit user bits) = IsName user × IsShort bits
+IsCommand (Withdraw user bits) = IsName user × IsShort bits
+IsCommand (Price question) = IsQuestionText question
+IsCommand (Limits user question) = IsName user × IsQuestionText question
+IsCommand (Edit user question to at) = IsName user × IsQuestionText question × IsShort to × IfSome at IsShort
+IsCommand (Worst user) = IsName user
+IsCommand (Resolve pair) = IsPairText pair
+IsCommand Settle = ⊤
+
+-- its numbers have at most nine digits
+abbrev pub HasShortNumbers : Command → Type 0
+HasShortNumbers (User user) = ⊤
+HasShortNumbers (Deposit user bits) = IsShort bits
+HasShortNumbers (Withdraw user bits) = IsShort bits
+HasShortNumbers (Price question) = ⊤
+HasShortNumbers (Limits user question) = ⊤
+HasShortNumbers (Edit user question to at) = IsShort to × IfSome at IsShort
+HasShortNumbers (Worst user) = ⊤
+HasShortNumbers (Resolve pair) = ⊤
+HasShortNumbers Settle = ⊤

@@ -1,0 +1,52 @@
+-- Reading a command: the word by which its form is known, and then the parts of that form.
+use Rattle.std.specs.Prelude.{ℕ, ◌^◌, List, [], ◌∷◌, codes, Option}
+use Rattle.mk_text.specs.Reading.{Read, both, behind, made, given, nothing, perhaps, choose, read_name, read_number, read_pair, read_question}
+use Rattle.mk_command.specs.declared.command.Command.{Command}
+use Rattle.mk_command.specs.declared.command.Command.TheVariants.{User, Deposit, Withdraw, Price, Limits, Edit, Worst, Resolve, Settle}
+
+unfoldable pub read_short : Read ℕ
+read_short = read_number (10 ^ 9)
+
+unfoldable pub read_user : Read Command
+read_user = made (λ user. User user) read_name
+
+unfoldable pub read_deposit : Read Command
+read_deposit = made (λ parts. Deposit (parts.0) (parts.1)) (both read_name (behind (codes " ") read_short))
+
+unfoldable pub read_withdraw : Read Command
+read_withdraw = made (λ parts. Withdraw (parts.0) (parts.1)) (both read_name (behind (codes " ") read_short))
+
+unfoldable pub read_price : Read Command
+read_price = made (λ question. Price question) read_question
+
+unfoldable pub read_limits : Read Command
+read_limits = made (λ parts. Limits (parts.0) (parts.1)) (both read_name (behind (codes " ") read_question))
+
+unfoldable pub read_at : Read (Option ℕ)
+read_at = perhaps (codes " at ") read_short
+
+unfoldable pub read_edit : Read Command
+read_edit = made (λ parts. Edit (parts.0) (parts.1.0) (parts.1.1.0) (parts.1.1.1))
+    (both read_name (behind (codes " ") (both read_question (behind (codes " to ") (both read_short read_at)))))
+
+unfoldable pub read_worst : Read Command
+read_worst = made (λ user. Worst user) read_name
+
+unfoldable pub read_resolve : Read Command
+read_resolve = made (λ pair. Resolve pair) read_pair
+
+abbrev pub forms : List (List ℕ × Read Command)
+forms =
+    (codes "user ", read_user)
+    ∷ (codes "deposit ", read_deposit)
+    ∷ (codes "withdraw ", read_withdraw)
+    ∷ (codes "price ", read_price)
+    ∷ (codes "limits ", read_limits)
+    ∷ (codes "edit ", read_edit)
+    ∷ (codes "worst ", read_worst)
+    ∷ (codes "resolve ", read_resolve)
+    ∷ (codes "settle", given Settle)
+    ∷ []
+
+unfoldable pub read_form : Read Command
+read_form = choose forms nothing

@@ -1,0 +1,31 @@
+//! Laws of the texts of commands.
+
+ghost use Rattle.std.specs.Prelude.{◌≡◌, ◌<◌, length, Ok};
+ghost use Rattle.mk_command.specs.Commands.{IsCommand, command_text};
+ghost use Rattle.mk_command.specs.declared.command.Command.{Command};
+
+use crate::command::Command;
+use crate::print::print_command;
+use crate::read::read_command;
+use arrayvec::ArrayString;
+use mk_net::Syntax;
+
+/// No two commands share a text.
+pub fn one_command_each()
+    ensures { (c d : Command) → IsCommand c → IsCommand d → command_text c ≡ command_text d → c ≡ d }
+{}
+
+/// The text of each command is shorter than 1,024 bytes.
+pub fn short_commands()
+    ensures { (c : Command) → IsCommand c → length (command_text c) < 1024 }
+{}
+
+/// What is read of the text of a command: the same command.
+pub fn read_printed(command: &Command) -> Result<Command, Syntax>
+    requires { IsCommand command.now }
+    ensures { result ≡ Ok command.now }
+{
+    let mut text = ArrayString::new();
+    print_command(command, &mut text);
+    read_command(text.as_bytes())
+}

@@ -1,0 +1,96 @@
+//! Writing a command.
+
+ghost use Rattle.std.specs.Prelude.{◌≡◌, ◌≤◌, ◌<◌, ◌+◌, ◌^◌, ◌++◌, length, codes, decimal, IfSome};
+ghost use Rattle.arrayvec.specs.ArrayString.{array_string_len};
+ghost use Rattle.mk_text.specs.Numbers.{IsShort};
+ghost use Rattle.mk_text.specs.Texts.{question_text};
+ghost use Rattle.mk_command.specs.Commands.{HasShortNumbers, command_text, at_text};
+
+use crate::command::Command;
+use arrayvec::ArrayString;
+use mk_net::{Name, QuestionText};
+use mk_text::{put_name, put_pair, put_question, put_short};
+
+/// Puts the text of a command into `out`, in place of what it held. Its numbers must be below 10^9.
+pub fn print_command(command: &Command, out: &mut ArrayString<1024>)
+    requires { HasShortNumbers command.now }
+    ensures { out.new.bytes ≡ command_text command.now }
+{
+    out.clear();
+    match command {
+        Command::User { user } => put_user(out, "user ", user),
+        Command::Deposit { user, bits } => {
+            put_user(out, "deposit ", user);
+            put_bits(out, *bits);
+        }
+        Command::Withdraw { user, bits } => {
+            put_user(out, "withdraw ", user);
+            put_bits(out, *bits);
+        }
+        Command::Price { question } => {
+            out.push_str("price ");
+            put_question(out, question);
+        }
+        Command::Limits { user, question } => {
+            put_user(out, "limits ", user);
+            put_asked(out, question);
+        }
+        Command::Edit {
+            user,
+            question,
+            to,
+            at,
+        } => {
+            put_user(out, "edit ", user);
+            put_asked(out, question);
+            put_move(out, *to, *at);
+        }
+        Command::Worst { user } => put_user(out, "worst ", user),
+        Command::Resolve { pair } => {
+            out.push_str("resolve ");
+            put_pair(out, pair);
+        }
+        Command::Settle => out.push_str("settle"),
+    }
+}
+
+fn put_user(out: &mut ArrayString<1024>, word: &str, user: &Name)
+    requires { array_string_len out.old + length word.now + 32 ≤ 1024 }
+    ensures text { out.new.bytes ≡ out.old.bytes ++ (word.now ++ user.now) }
+    ensures growth { array_string_len out.new ≤ array_string_len out.old + length word.now + 32 }
+{
+    out.push_str(word);
+    put_name(out, user);
+}
+
+fn put_bits(out: &mut ArrayString<1024>, bits: u32)
+    requires short { IsShort bits }
+    requires room { array_string_len out.old + 10 ≤ 1024 }
+    ensures text { out.new.bytes ≡ out.old.bytes ++ (codes " " ++ decimal bits) }
+    ensures growth { array_string_len out.new ≤ array_string_len out.old + 10 }
+{
+    out.push_str(" ");
+    put_short(out, bits);
+}
+
+fn put_asked(out: &mut ArrayString<1024>, question: &QuestionText)
+    requires { array_string_len out.old + 603 ≤ 1024 }
+    ensures text { out.new.bytes ≡ out.old.bytes ++ (codes " " ++ question_text question.now) }
+    ensures growth { array_string_len out.new ≤ array_string_len out.old + 603 }
+{
+    out.push_str(" ");
+    put_question(out, question);
+}
+
+fn put_move(out: &mut ArrayString<1024>, to: u32, at: Option<u32>)
+    requires short { IsShort to × IfSome at IsShort }
+    requires room { array_string_len out.old + 26 ≤ 1024 }
+    ensures { out.new.bytes ≡ out.old.bytes ++ (codes " to " ++ (decimal to ++ at_text at)) }
+{
+    out.push_str(" to ");
+    put_short(out, to);
+    if let Some(at) = at {
+        out.push_str(" at ");
+        put_short(out, at);
+    }
+}

@@ -1,0 +1,161 @@
+//! Reading a line of the command stream.
+
+ghost use Rattle.std.specs.Prelude.{◌≡◌, ◌≢◌, ◌<◌, ◌^◌, IfOk, IfSome, OnErr};
+ghost use Rattle.mk_text.specs.Reading.{Finds};
+ghost use Rattle.mk_command.specs.Commands.{IsCommand, command_text};
+ghost use Rattle.mk_command.specs.Reading.{read_short, read_user, read_deposit, read_withdraw, read_price, read_limits, read_edit, read_at, read_worst, read_resolve, read_form};
+ghost use Rattle.mk_command.specs.declared.command.Command.{Command};
+
+use crate::command::Command;
+use mk_net::Syntax;
+use mk_text::Reader;
+
+/// The command of which these bytes are the text. Syntax where they are the text of no command.
+pub fn read_command(line: &[u8]) -> Result<Command, Syntax>
+    ensures found { IfOk result (λ c. IsCommand c × (line.now ≡ command_text c)) }
+    ensures none { OnErr result ((c : Command) → IsCommand c → line.now ≢ command_text c) }
+{
+    let mut reader = Reader::new(line);
+    let Some(command) = command(&mut reader) else {
+        return Err(Syntax);
+    };
+    if reader.is_at_end() {
+        Ok(command)
+    } else {
+        Err(Syntax)
+    }
+}
+
+#[tactic(auto, unfolding(crate::specs::Reading::read_form))]
+fn command(reader: &mut Reader) -> Option<Command>
+    ensures { Finds result reader.new (read_form reader.old) }
+{
+    if reader.skip(b"user ") {
+        return user(reader);
+    }
+    if reader.skip(b"deposit ") {
+        return deposit(reader);
+    }
+    if reader.skip(b"withdraw ") {
+        return withdraw(reader);
+    }
+    if reader.skip(b"price ") {
+        return price(reader);
+    }
+    if reader.skip(b"limits ") {
+        return limits(reader);
+    }
+    if reader.skip(b"edit ") {
+        return edit(reader);
+    }
+    if reader.skip(b"worst ") {
+        return worst(reader);
+    }
+    if reader.skip(b"resolve ") {
+        return resolve(reader);
+    }
+    if reader.skip(b"settle") {
+        return Some(Command::Settle);
+    }
+    None
+}
+
+#[tactic(auto, unfolding(crate::specs::Reading::read_user))]
+fn user(reader: &mut Reader) -> Option<Command>
+    ensures { Finds result reader.new (read_user reader.old) }
+{
+    let user = reader.name()?;
+    Some(Command::User { user })
+}
+
+#[tactic(auto, unfolding(crate::specs::Reading::read_deposit))]
+fn deposit(reader: &mut Reader) -> Option<Command>
+    ensures { Finds result reader.new (read_deposit reader.old) }
+{
+    let user = reader.name()?;
+    reader.expect(b" ")?;
+    let bits = short(reader)?;
+    Some(Command::Deposit { user, bits })
+}
+
+#[tactic(auto, unfolding(crate::specs::Reading::read_withdraw))]
+fn withdraw(reader: &mut Reader) -> Option<Command>
+    ensures { Finds result reader.new (read_withdraw reader.old) }
+{
+    let user = reader.name()?;
+    reader.expect(b" ")?;
+    let bits = short(reader)?;
+    Some(Command::Withdraw { user, bits })
+}
+
+#[tactic(auto, unfolding(crate::specs::Reading::read_price))]
+fn price(reader: &mut Reader) -> Option<Command>
+    ensures { Finds result reader.new (read_price reader.old) }
+{
+    let question = reader.question()?;
+    Some(Command::Price { question })
+}
+
+#[tactic(auto, unfolding(crate::specs::Reading::read_limits))]
+fn limits(reader: &mut Reader) -> Option<Command>
+    ensures { Finds result reader.new (read_limits reader.old) }
+{
+    let user = reader.name()?;
+    reader.expect(b" ")?;
+    let question = reader.question()?;
+    Some(Command::Limits { user, question })
+}
+
+#[tactic(auto, unfolding(crate::specs::Reading::read_edit))]
+fn edit(reader: &mut Reader) -> Option<Command>
+    ensures { Finds result reader.new (read_edit reader.old) }
+{
+    let user = reader.name()?;
+    reader.expect(b" ")?;
+    let question = reader.question()?;
+    reader.expect(b" to ")?;
+    let to = short(reader)?;
+    let at = revision(reader)?;
+    Some(Command::Edit {
+        user,
+        question,
+        to,
+        at,
+    })
+}
+
+#[tactic(auto, unfolding(crate::specs::Reading::read_at))]
+fn revision(reader: &mut Reader) -> Option<Option<u32>>
+    ensures { Finds result reader.new (read_at reader.old) }
+{
+    if !reader.skip(b" at ") {
+        return Some(None);
+    }
+    let at = short(reader)?;
+    Some(Some(at))
+}
+
+#[tactic(auto, unfolding(crate::specs::Reading::read_worst))]
+fn worst(reader: &mut Reader) -> Option<Command>
+    ensures { Finds result reader.new (read_worst reader.old) }
+{
+    let user = reader.name()?;
+    Some(Command::Worst { user })
+}
+
+#[tactic(auto, unfolding(crate::specs::Reading::read_resolve))]
+fn resolve(reader: &mut Reader) -> Option<Command>
+    ensures { Finds result reader.new (read_resolve reader.old) }
+{
+    let pair = reader.pair()?;
+    Some(Command::Resolve { pair })
+}
+
+/// A number of at most nine digits.
+#[tactic(auto, unfolding(crate::specs::Reading::read_short))]
+fn short(reader: &mut Reader) -> Option<u32>
+    ensures { Finds result reader.new (read_short reader.old) }
+{
+    let number = reader.number(1_000_000_000)?;
+    Some(number as u32)
+}

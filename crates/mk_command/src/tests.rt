@@ -1,0 +1,182 @@
+use crate::command::Command;
+use crate::print::print_command;
+use crate::read::read_command;
+use arrayvec::{ArrayString, ArrayVec};
+use mk_net::{Name, PairText, QuestionText, Syntax};
+use std::process::Abort;
+
+const LONGEST_NAME: &[u8] = b"abcdefghijklmnopqrstuvwxyz_01234";
+
+fn name(rt: &impl Abort, text: &[u8]) -> Name {
+    Name::read(text).expect(rt, "a name")
+}
+
+fn pair(rt: &impl Abort, variable: &[u8], value: &[u8]) -> PairText {
+    PairText {
+        variable: name(rt, variable),
+        value: name(rt, value),
+    }
+}
+
+fn question(target: &PairText, pairs: &[PairText]) -> QuestionText {
+    let mut condition = ArrayVec::new();
+    for pair in pairs {
+        let _ = condition.try_push(*pair);
+    }
+    QuestionText {
+        target: *target,
+        condition,
+    }
+}
+
+fn both_ways(rt: &impl Abort, text: &str, command: Command) {
+    match read_command(text.as_bytes()) {
+        Ok(read) => {
+            assert_eq!(rt; read, command, "{text}");
+            let mut printed = ArrayString::new();
+            print_command(&read, &mut printed);
+            assert_eq!(rt; printed.as_str(), text);
+        }
+        Err(_) => assert!(rt; false, "{text} is no command"),
+    }
+}
+
+#[test]
+fn reads_and_prints_each_form(rt: HostRuntime) {
+    let user = name(&rt, b"alice");
+    let odd_user = name(&rt, b"user");
+    let coin = pair(&rt, b"coin", b"heads");
+    both_ways(&rt, "user alice", Command::User { user });
+    both_ways(&rt, "user user", Command::User { user: odd_user });
+    both_ways(&rt, "deposit alice 0", Command::Deposit { user, bits: 0 });
+    let bits = 999_999_999;
+    both_ways(
+        &rt,
+        "deposit alice 999999999",
+        Command::Deposit { user, bits },
+    );
+    both_ways(
+        &rt,
+        "withdraw alice 1000",
+        Command::Withdraw { user, bits: 1000 },
+    );
+    both_ways(&rt, "worst alice", Command::Worst { user });
+    both_ways(&rt, "resolve coin=heads", Command::Resolve { pair: coin });
+    both_ways(&rt, "settle", Command::Settle);
+}
+
+#[test]
+fn reads_and_prints_questions(rt: HostRuntime) {
+    let user = name(&rt, b"alice");
+    let coin = pair(&rt, b"coin", b"heads");
+    let rain = pair(&rt, b"rain", b"yes");
+    let odd = pair(&rt, b"to", b"at");
+    let plain = question(&coin, &[]);
+    let command = Command::Price { question: plain };
+    both_ways(&rt, "price coin=heads", command);
+    let pairs = [rain, odd];
+    let conditioned = question(&coin, &pairs);
+    let command = Command::Price {
+        question: conditioned,
+    };
+    both_ways(&rt, "price coin=heads | rain=yes, to=at", command);
+    let pairs = [coin];
+    let limited = question(&rain, &pairs);
+    let command = Command::Limits {
+        user,
+        question: limited,
+    };
+    both_ways(&rt, "limits alice rain=yes | coin=heads", command);
+    let (to, at) = (500_000, None);
+    let edited = question(&coin, &[]);
+    let command = Command::Edit {
+        user,
+        question: edited,
+        to,
+        at,
+    };
+    both_ways(&rt, "edit alice coin=heads to 500000", command);
+    let (to, at) = (0, Some(0));
+    let edited = question(&rain, &pairs);
+    let command = Command::Edit {
+        user,
+        question: edited,
+        to,
+        at,
+    };
+    both_ways(&rt, "edit alice rain=yes | coin=heads to 0 at 0", command);
+}
+
+#[test]
+fn reads_and_prints_the_longest(rt: HostRuntime) {
+    let user = name(&rt, LONGEST_NAME);
+    let target = PairText {
+        variable: user,
+        value: user,
+    };
+    let pairs = [target; 8];
+    let asked = question(&target, &pairs);
+    let command = Command::Edit {
+        user,
+        question: asked,
+        to: 999_999_999,
+        at: Some(999_999_999),
+    };
+    let mut text = ArrayString::new();
+    print_command(&command, &mut text);
+    assert_eq!(rt; text.len(), 666);
+    both_ways(&rt, text.as_str(), command);
+}
+
+#[test]
+fn reads_nothing_else(rt: HostRuntime) {
+    for text in [
+        "",
+        " ",
+        "settle ",
+        " settle",
+        "settled",
+        "Settle",
+        "user",
+        "user ",
+        "user  alice",
+        "user Alice",
+        "user 1a",
+        "user alice\r",
+        "user alice bob",
+        "user abcdefghijklmnopqrstuvwxyz_012345",
+        "deposit alice",
+        "deposit alice 01",
+        "deposit alice 1000000000",
+        "deposit alice 18446744073709551617",
+        "deposit alice -1",
+        "deposit alice +1",
+        "deposit alice  1",
+        "deposit alice 1 ",
+        "price coin",
+        "price coin=",
+        "price =heads",
+        "price coin=a=b",
+        "price coin=up|rain=yes",
+        "price coin=up |rain=yes",
+        "price coin=up | ",
+        "price coin=up | rain",
+        "price coin=up | rain=yes,sun=no",
+        "price coin=up | rain=yes, ",
+        "price a=b | c=d, c=d, c=d, c=d, c=d, c=d, c=d, c=d, c=d",
+        "limits coin=heads",
+        "limits alice",
+        "edit alice coin=heads",
+        "edit alice coin=heads to",
+        "edit alice coin=heads to 1a",
+        "edit alice coin=heads at 1 to 2",
+        "edit alice coin=heads to 1 at",
+        "edit alice coin=heads to 1 at 01",
+        "edit alice coin=heads to 1 at 2 at 3",
+        "worst",
+        "resolve coin",
+        "resolve coin=heads | rain=yes",
+    ] {
+        assert_eq!(rt; read_command(text.as_bytes()), Err(Syntax), "{text}");
+    }
+}

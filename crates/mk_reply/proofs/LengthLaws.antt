@@ -1,0 +1,69 @@
+-- No reply is long.
+use Rattle.std.specs.Prelude.{ℕ, ◌+◌, ◌≤◌, ◌<◌, List, ◌++◌, length, codes, decimal}
+use Rattle.std.proofs.Common.{arith, length-append}
+use Rattle.mk_text.specs.Joined.{items_text}
+use Rattle.mk_text.specs.Numbers.{IsLong, IsNarrow, price_text, limits_text}
+use Rattle.mk_text.proofs.LengthLaws.{long_length, pair_length, price_length, limits_length, items_length}
+use Rattle.mk_reply.specs.Refusals.{refusal_text, IsRefusal}
+use Rattle.mk_reply.specs.Replies.{reply_text, at_text, payment_text, IsPayment, IsReply}
+use Rattle.mk_reply.specs.declared.reply.Payment.{Payment}
+use Rattle.mk_reply.specs.declared.reply.Reply.{Reply}
+use Rattle.mk_reply.specs.declared.reply.Reply.TheVariants.{Joined, Deposited, Withdrawn, Price, Limits, Traded, Worst, Resolved, Settled, Refused}
+use Rattle.mk_reply.specs.declared.refusal.Refusal.{Refusal}
+use Rattle.mk_reply.specs.declared.refusal.Refusal.TheVariants.{Syntax, Long, Settled as Over, User, Exists, Users, Unknown, Twice, Stale, Resolved as Known, Impossible, Wide, Range, Full, Beyond, Short, Unresolved, Memory}
+
+at_length : (at : ℕ) → IsLong at → length (at_text at) ≤ 23
+at_length at long = simp length-append (omega (arith, long_length at long))
+
+narrow_length : (n : ℕ) → IsNarrow n → length (decimal n) ≤ 19
+narrow_length n narrow = long_length n (omega (arith, narrow))
+
+payment_length : (p : Payment) → IsPayment p → length (codes ", ") + length (payment_text p) ≤ 100
+payment_length p fits =
+    let paid : IsLong p.paid = rw fits.paid fits.low in
+    simp length-append (omega (arith, fits.user.short, long_length p.low fits.low, long_length p.high fits.high, long_length p.paid paid))
+
+refusal_length : (why : Refusal) → IsRefusal why → length (refusal_text why) ≤ 100
+refusal_length Syntax fits = omega arith
+refusal_length Long fits = omega arith
+refusal_length Over fits = omega arith
+refusal_length (User user) fits = simp length-append (omega (arith, fits.short))
+refusal_length (Exists user) fits = simp length-append (omega (arith, fits.short))
+refusal_length (Users held) fits = simp length-append (omega (arith, narrow_length held (omega (arith, fits))))
+refusal_length (Unknown pair) fits = simp length-append (omega (arith, pair_length pair fits))
+refusal_length (Twice variable) fits = simp length-append (omega (arith, fits.short))
+refusal_length (Stale named now) fits = simp length-append (omega (arith, narrow_length named fits.0, long_length now fits.1))
+refusal_length (Known variable) fits = simp length-append (omega (arith, fits.short))
+refusal_length (Impossible pair) fits = simp length-append (omega (arith, pair_length pair fits))
+refusal_length Wide fits = omega arith
+refusal_length (Range number) fits = simp length-append (omega (arith, narrow_length number fits))
+refusal_length (Full held) fits = simp length-append (omega (arith, narrow_length held fits))
+refusal_length (Beyond limits) fits = omega (arith, length-append (codes "beyond ") (limits_text limits), limits_length limits fits)
+refusal_length (Short bits) fits = simp length-append (omega (arith, long_length bits fits))
+refusal_length (Unresolved variable) fits = simp length-append (omega (arith, fits.short))
+refusal_length Memory fits = omega arith
+
+two_lengths : (a b : List ℕ) (m n : ℕ) → length a ≤ m → length b ≤ n → length (a ++ b) ≤ m + n
+two_lengths a b m n first second = omega (arith, length-append a b, first, second)
+
+pub reply_length : (r : Reply) → IsReply r → length (reply_text r) < 32768
+reply_length (Joined user at) fits = simp length-append (omega (arith, fits.0.short, long_length at fits.1))
+reply_length (Deposited user bits at) fits = simp length-append (omega (arith, fits.0.short, narrow_length bits fits.1, long_length at fits.2))
+reply_length (Withdrawn user bits at) fits = simp length-append (omega (arith, fits.0.short, narrow_length bits fits.1, long_length at fits.2))
+reply_length (Price low high) fits =
+    let ends = two_lengths (codes "..") (price_text high) 2 30 (omega arith) (price_length high fits.1) in
+    let both = two_lengths (price_text low) (codes ".." ++ price_text high) 30 32 (price_length low fits.0) ends in
+    omega (arith, length-append (codes "price ") (price_text low ++ (codes ".." ++ price_text high)), both)
+reply_length (Limits limits at) fits =
+    let both = two_lengths (limits_text limits) (at_text at) 40 23 (limits_length limits fits.0) (at_length at fits.1) in
+    omega (arith, length-append (codes "limits ") (limits_text limits ++ at_text at), both)
+reply_length (Traded hit miss at) fits =
+    simp length-append (omega (arith, long_length hit fits.0.below, long_length miss fits.1.below, long_length at fits.2))
+reply_length (Worst low high) fits = simp length-append (omega (arith, long_length low fits.0, long_length high fits.1))
+reply_length (Resolved pair at) fits =
+    simp length-append (omega (arith, pair_length pair fits.0, long_length at fits.1))
+reply_length (Settled at payments) fits =
+    let list = items_length (codes ", ") payment_text IsPayment 100 payment_length payments.items fits.1.each in
+    let both = two_lengths (at_text at) (items_text (codes ", ") payment_text payments.items) 23 25600 (at_length at fits.0) (omega (arith, list, fits.1.few)) in
+    omega (arith, length-append (codes "settle") (at_text at ++ items_text (codes ", ") payment_text payments.items), both)
+reply_length (Refused why) fits = omega (arith, length-append (codes "refused ") (refusal_text why), refusal_length why fits)

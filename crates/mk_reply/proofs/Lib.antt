@@ -1,0 +1,3 @@
+pub mod RefusalLaws
+pub mod ReplyLaws
+pub mod LengthLaws

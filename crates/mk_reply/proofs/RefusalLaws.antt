@@ -1,0 +1,141 @@
+-- Each refusal is read from its text, and from no other.
+use Rattle.std.specs.Prelude.{◌≡◌, ℕ, ◌^◌, List, [], codes, decimal, Some, ◌==◌}
+use Rattle.std.proofs.Common.{refl, lit≤, arith, append-nil}
+use Rattle.std.proofs.lemmas.Bool.{eqb-true, eq-eqb}
+use Rattle.mk_text.specs.Numbers.{IsLong, IsNarrow}
+use Rattle.mk_text.specs.Words.{after, EndsWord}
+use Rattle.mk_text.specs.Reading.{Read, both, behind, given, nothing}
+use Rattle.mk_text.proofs.ReadingLaws.{Took, Reads, Spelled, BothFit, both_text, behind_text, both_reads, behind_reads, passed_reads, reads_same, spelled_by, spelled_alone, choose_takes, nothing_takes, made_last}
+use Rattle.mk_text.proofs.PartLaws.{name_reads, number_reads, pair_reads, limits_reads}
+use Rattle.mk_reply.specs.Refusals.{refusal_text, IsRefusal, max_users}
+use Rattle.mk_reply.specs.Reading.{read_long, read_narrow, read_held, read_stale, plain_forms, named_forms, paired_forms, numbered_forms, read_numbered, read_paired, read_named, read_refusal}
+use Rattle.mk_reply.specs.declared.refusal.Refusal.{Refusal}
+use Rattle.mk_reply.specs.declared.refusal.Refusal.TheVariants.{Syntax, Long, Settled, User, Exists, Users, Unknown, Twice, Stale, Resolved, Impossible, Wide, Range, Full, Beyond, Short, Unresolved, Memory}
+
+pub long_reads : Reads read_long decimal IsLong EndsWord
+unfolding read_long
+long_reads = number_reads (2 ^ 63) (lit≤ tt)
+
+pub narrow_reads : Reads read_narrow decimal IsNarrow EndsWord
+unfolding read_narrow
+narrow_reads = number_reads (2 ^ 32) (lit≤ tt)
+
+held_is_narrow : (n : ℕ) → n ≡ max_users → IsNarrow n
+held_is_narrow n same = omega (arith, same)
+
+abbrev IsHeld : ℕ → Type 0
+IsHeld held = held ≡ max_users
+
+held_reads : Reads read_held decimal IsHeld EndsWord
+unfolding read_held
+held_reads = reads_same (passed_reads (λ n. n == max_users) narrow_reads) (λ n fits. eqb-true n max_users (fits.1))
+    (λ n same. (held_is_narrow n same, eq-eqb n max_users same))
+
+abbrev stale_text : ℕ × ℕ → List ℕ
+stale_text = both_text decimal (behind_text (codes " ") decimal)
+
+stale_parts : Reads (both read_narrow (behind (codes " ") read_long)) stale_text (BothFit IsNarrow IsLong) EndsWord
+stale_parts = both_reads narrow_reads (behind_reads (codes " ") long_reads) (λ now rest fits ends. refl)
+
+abbrev OfRefusal : List ℕ × Read Refusal → Type 0
+OfRefusal = Spelled refusal_text IsRefusal
+
+alone : (word : List ℕ) (why : Refusal) → word ≡ refusal_text why → IsRefusal why → OfRefusal (word, given why)
+alone = spelled_alone refusal_text IsRefusal
+
+stale_form : OfRefusal (codes "stale ", read_stale)
+unfolding read_stale
+stale_form = spelled_by (codes "stale ") (λ parts. Stale (parts.0) (parts.1)) stale_parts (λ parts fits. (refl, fits))
+
+abbrev Takes : Read Refusal → Type 0
+Takes read = (bytes : List ℕ) (why : Refusal) (rest : List ℕ) → read bytes ≡ Some (why, rest) → Took refusal_text IsRefusal bytes why rest
+
+numbered_takes : Takes read_numbered
+unfolding read_numbered
+numbered_takes = choose_takes refusal_text IsRefusal numbered_forms nothing (
+  spelled_by (codes "users ") (λ held. Users held) held_reads (λ held fits. (refl, fits)),
+  (
+    stale_form,
+    (
+      spelled_by (codes "range ") (λ number. Range number) narrow_reads (λ number fits. (refl, fits)),
+      (
+        spelled_by (codes "full ") (λ held. Full held) narrow_reads (λ held fits. (refl, fits)),
+        (
+          spelled_by (codes "beyond ") (λ limits. Beyond limits) limits_reads (λ limits fits. (refl, fits)),
+          (spelled_by (codes "short ") (λ bits. Short bits) long_reads (λ bits fits. (refl, fits)), tt),
+        ),
+      ),
+    ),
+  ),
+)
+    (nothing_takes refusal_text IsRefusal)
+
+paired_takes : Takes read_paired
+unfolding read_paired
+paired_takes = choose_takes refusal_text IsRefusal paired_forms read_numbered (
+  spelled_by (codes "name ") (λ pair. Unknown pair) pair_reads (λ pair fits. (refl, fits)),
+  (spelled_by (codes "impossible ") (λ pair. Impossible pair) pair_reads (λ pair fits. (refl, fits)), tt),
+) numbered_takes
+
+named_takes : Takes read_named
+unfolding read_named
+named_takes = choose_takes refusal_text IsRefusal named_forms read_paired (
+  spelled_by (codes "user ") (λ user. User user) name_reads (λ user fits. (refl, fits)),
+  (
+    spelled_by (codes "exists ") (λ user. Exists user) name_reads (λ user fits. (refl, fits)),
+    (
+      spelled_by (codes "twice ") (λ variable. Twice variable) name_reads (λ variable fits. (refl, fits)),
+      (
+        spelled_by (codes "resolved ") (λ variable. Resolved variable) name_reads (λ variable fits. (refl, fits)),
+        (spelled_by (codes "open ") (λ variable. Unresolved variable) name_reads (λ variable fits. (refl, fits)), tt),
+      ),
+    ),
+  ),
+) paired_takes
+
+refusal_takes : Takes read_refusal
+unfolding read_refusal
+refusal_takes = choose_takes refusal_text IsRefusal plain_forms read_named (
+  alone (codes "syntax") Syntax refl tt,
+  (
+    alone (codes "long") Long refl tt,
+    (
+      alone (codes "settled") Settled refl tt,
+      (
+        alone (codes "wide") Wide refl tt,
+        (alone (codes "memory") Memory refl tt, tt),
+      ),
+    ),
+  ),
+) named_takes
+
+refusal_last : (why : Refusal) → IsRefusal why → read_refusal (refusal_text why) ≡ Some (why, [])
+unfolding read_refusal read_named read_paired read_numbered read_stale after
+refusal_last Syntax fits = refl
+refusal_last Long fits = refl
+refusal_last Settled fits = refl
+refusal_last (User user) fits = made_last (λ user. User user) name_reads user fits refl
+refusal_last (Exists user) fits = made_last (λ user. Exists user) name_reads user fits refl
+refusal_last (Users held) fits = made_last (λ held. Users held) held_reads held fits refl
+refusal_last (Unknown pair) fits = made_last (λ pair. Unknown pair) pair_reads pair fits refl
+refusal_last (Twice variable) fits = made_last (λ variable. Twice variable) name_reads variable fits refl
+refusal_last (Stale named now) fits = made_last (λ parts. Stale (parts.0) (parts.1)) stale_parts (named, now) fits refl
+refusal_last (Resolved variable) fits = made_last (λ variable. Resolved variable) name_reads variable fits refl
+refusal_last (Impossible pair) fits = made_last (λ pair. Impossible pair) pair_reads pair fits refl
+refusal_last Wide fits = refl
+refusal_last (Range number) fits = made_last (λ number. Range number) narrow_reads number fits refl
+refusal_last (Full held) fits = made_last (λ held. Full held) narrow_reads held fits refl
+refusal_last (Beyond limits) fits = made_last (λ limits. Beyond limits) limits_reads limits fits refl
+refusal_last (Short bits) fits = made_last (λ bits. Short bits) long_reads bits fits refl
+refusal_last (Unresolved variable) fits = made_last (λ variable. Unresolved variable) name_reads variable fits refl
+refusal_last Memory fits = refl
+
+-- a refusal is the last thing of a text
+abbrev pub IsEnd : List ℕ → Type 0
+IsEnd rest = rest ≡ []
+
+pub refusal_reads : Reads read_refusal refusal_text IsRefusal IsEnd
+refusal_reads = record {
+  takes = refusal_takes;
+  again = λ why rest fits ends. rw (ends, append-nil (refusal_text why)) (refusal_last why fits);
+}

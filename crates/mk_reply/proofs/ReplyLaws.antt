@@ -1,0 +1,197 @@
+-- Each reply is read from its text, and from no other.
+use Rattle.std.specs.Prelude.{◌≡◌, ◌≢◌, ℕ, ◌^◌, List, [], ◌∷◌, ◌++◌, codes, decimal, Some, nat_le, true, ◌==◌, IfOk, OnErr, Result, Ok, Err}
+use Rattle.std.proofs.Common.{refl, sym, ap, ◌∙◌, lit≤}
+use Rattle.std.proofs.lemmas.Bool.{leb-true, le-leb, eqb-true, eq-eqb}
+use Rattle.mk_net.specs.Name.{IsName}
+use Rattle.mk_net.specs.declared.words.Syntax.{Syntax}
+use Rattle.mk_text.specs.Joined.{items_text}
+use Rattle.mk_text.specs.Numbers.{IsLong, IsNarrow, IsPrice, price_text}
+use Rattle.mk_text.specs.Words.{after, EndsWord}
+use Rattle.mk_text.specs.Reading.{Read, both, behind, made, nothing, read_name, read_price, read_range}
+use Rattle.mk_text.proofs.ReadingLaws.{Took, Reads, Tells, Spelled, IsMade, BothFit, both_text, behind_text, both_reads, behind_reads, passed_reads, made_reads, reads_same, AreItems, EndsList, list_reads, spelled_by, choose_takes, nothing_takes, made_last, whole_one}
+use Rattle.mk_text.proofs.PartLaws.{name_reads, pair_reads, limits_reads, price_reads, range_reads, both_ends, AreBelow}
+use Rattle.mk_reply.specs.Replies.{reply_text, at_text, payment_text, IsRatio, IsPayment, IsReply}
+use Rattle.mk_reply.specs.Reading.{read_long, read_ratio, dated, read_joined, read_moved, read_prices, read_limited, read_traded, read_worst, read_resolved, read_payment, read_payments, read_settled, read_refusal, forms, read_form}
+use Rattle.mk_reply.proofs.RefusalLaws.{long_reads, narrow_reads, refusal_reads}
+use Rattle.mk_reply.specs.declared.reply.Payment.{Payment}
+use Rattle.mk_reply.specs.declared.reply.Reply.{Reply}
+use Rattle.mk_reply.specs.declared.reply.Reply.TheVariants.{Joined, Deposited, Withdrawn, Price, Limits, Traded, Worst, Resolved, Settled, Refused}
+
+abbrev OfReply : List ℕ × Read Reply → Type 0
+OfReply = Spelled reply_text IsReply
+
+-- the revision behind a thing
+at_reads : Reads (behind (codes " at ") read_long) at_text IsLong EndsWord
+at_reads = behind_reads (codes " at ") long_reads
+
+abbrev dated_text : {X : Type 0} → (X → List ℕ) → X × ℕ → List ℕ
+dated_text t = both_text t at_text
+
+dated_reads : {X : Type 0} {read : Read X} {t : X → List ℕ} {F : X → Type 0} → Reads read t F EndsWord →
+    Reads (dated read) (dated_text t) (BothFit F IsLong) EndsWord
+dated_reads a = both_reads a at_reads (λ at rest fits ends. refl)
+
+ratio_reads : Reads read_ratio decimal IsRatio EndsWord
+unfolding read_ratio
+ratio_reads = reads_same (passed_reads (λ n. nat_le 1 n) long_reads) (λ n fits. record { positive = leb-true 1 n (fits.1); below = fits.0 })
+    (λ n fits. (fits.below, le-leb 1 n (fits.positive)))
+
+abbrev word_text : List ℕ → List ℕ
+word_text name = name
+
+abbrev moved_text : List ℕ × (ℕ × ℕ) → List ℕ
+moved_text = both_text word_text (behind_text (codes " ") (dated_text decimal))
+
+moved_reads : Reads read_moved moved_text (BothFit IsName (BothFit IsNarrow IsLong)) EndsWord
+unfolding read_moved
+moved_reads = both_reads name_reads (behind_reads (codes " ") (dated_reads narrow_reads)) (λ parts rest fits ends. refl)
+
+abbrev prices_text : ℕ × ℕ → List ℕ
+prices_text = both_text price_text (behind_text (codes "..") price_text)
+
+prices_parts : Reads (both read_price (behind (codes "..") read_price)) prices_text (BothFit IsPrice IsPrice) EndsWord
+prices_parts = both_reads price_reads (behind_reads (codes "..") price_reads) (λ high rest fits ends. refl)
+
+abbrev traded_text : ℕ × (ℕ × ℕ) → List ℕ
+traded_text = both_text decimal (behind_text (codes " ") (dated_text decimal))
+
+traded_parts : Reads (both read_ratio (behind (codes " ") (dated read_ratio))) traded_text (BothFit IsRatio (BothFit IsRatio IsLong)) EndsWord
+traded_parts = both_reads ratio_reads (behind_reads (codes " ") (dated_reads ratio_reads)) (λ parts rest fits ends. refl)
+
+worst_parts : Reads (read_range (2 ^ 63)) both_ends (AreBelow (2 ^ 63)) EndsWord
+worst_parts = range_reads (2 ^ 63) (lit≤ tt)
+
+-- payments
+abbrev paid_text : List ℕ × ((ℕ × ℕ) × ℕ) → List ℕ
+paid_text = both_text word_text (behind_text (codes " ") (both_text both_ends (behind_text (codes " paid ") decimal)))
+
+paid_parts : Reads (both read_name (behind (codes " ") (both (read_range (2 ^ 63)) (behind (codes " paid ") read_long)))) paid_text
+    (BothFit IsName (BothFit (AreBelow (2 ^ 63)) IsLong)) EndsWord
+paid_parts = both_reads name_reads (behind_reads (codes " ") (both_reads worst_parts (behind_reads (codes " paid ") long_reads) (λ paid rest fits ends. refl)))
+    (λ parts rest fits ends. refl)
+
+-- a payment, whatever is paid
+record HasNumbers (p : Payment) : Type 0 where
+  user : IsName p.user
+  low : IsLong p.low
+  high : IsLong p.high
+  paid : IsLong p.paid
+
+abbrev Parts : Type 0
+Parts = List ℕ × ((ℕ × ℕ) × ℕ)
+
+abbrev payment_of : Parts → Payment
+payment_of parts = record { user = parts.0; low = parts.1.0.0; high = parts.1.0.1; paid = parts.1.1 }
+
+abbrev parts_of : Payment → Parts
+parts_of p = (p.user, ((p.low, p.high), p.paid))
+
+payment_made : IsMade paid_text (BothFit IsName (BothFit (AreBelow (2 ^ 63)) IsLong)) payment_of parts_of payment_text HasNumbers
+payment_made = record {
+  spelled = λ parts fits. refl;
+  fits = λ parts fits. record { user = fits.0; low = fits.1.0.0; high = fits.1.0.1; paid = fits.1.1 };
+  parts_fit = λ p fits. (fits.user, ((fits.low, fits.high), fits.paid));
+  whole = λ p fits. refl;
+}
+
+is_payment : (p : Payment) → HasNumbers p → (p.paid == p.low) ≡ true → IsPayment p
+is_payment p fits same = record { user = fits.user; low = fits.low; high = fits.high; paid = eqb-true p.paid p.low same }
+
+has_numbers : (p : Payment) → IsPayment p → HasNumbers p × ((p.paid == p.low) ≡ true)
+has_numbers p fits =
+    (record { user = fits.user; low = fits.low; high = fits.high; paid = rw fits.paid fits.low }, eq-eqb p.paid p.low fits.paid)
+
+payment_reads : Reads read_payment payment_text IsPayment EndsWord
+unfolding read_payment
+payment_reads = reads_same (passed_reads (λ p. p.paid == p.low) (made_reads paid_parts payment_made))
+    (λ p fits. is_payment p (fits.0) (fits.1)) has_numbers
+
+payments_reads : Reads read_payments (items_text (codes ", ") payment_text) (AreItems IsPayment 256) (EndsList EndsWord (codes ", "))
+unfolding read_payments
+payments_reads = list_reads payment_reads (codes ", ") 256 (λ rest. refl)
+
+before_payments : (payments : List Payment) (rest : List ℕ) → EndsWord rest → EndsWord (items_text (codes ", ") payment_text payments ++ rest)
+before_payments [] rest ends = ends
+before_payments (p ∷ payments) rest ends = refl
+
+abbrev settled_text : ℕ × List Payment → List ℕ
+settled_text = both_text at_text (items_text (codes ", ") payment_text)
+
+settled_parts : Reads (both (behind (codes " at ") read_long) read_payments) settled_text (BothFit IsLong (AreItems IsPayment 256)) (EndsList EndsWord (codes ", "))
+settled_parts = both_reads at_reads payments_reads (λ payments rest fits ends. before_payments payments rest (ends.follows))
+
+joined_form : OfReply (codes "user ", read_joined)
+unfolding read_joined
+joined_form = spelled_by (codes "user ") (λ parts. Joined (parts.0) (parts.1)) (dated_reads name_reads) (λ parts fits. (refl, fits))
+
+prices_form : OfReply (codes "price ", read_prices)
+unfolding read_prices
+prices_form = spelled_by (codes "price ") (λ prices. Price (prices.0) (prices.1)) prices_parts (λ prices fits. (refl, fits))
+
+limited_form : OfReply (codes "limits ", read_limited)
+unfolding read_limited
+limited_form = spelled_by (codes "limits ") (λ parts. Limits (parts.0) (parts.1)) (dated_reads limits_reads) (λ parts fits. (refl, fits))
+
+traded_form : OfReply (codes "trade ", read_traded)
+unfolding read_traded
+traded_form = spelled_by (codes "trade ") (λ parts. Traded (parts.0) (parts.1.0) (parts.1.1)) traded_parts (λ parts fits. (refl, (fits.0, fits.1.0, fits.1.1)))
+
+worst_form : OfReply (codes "worst ", read_worst)
+unfolding read_worst
+worst_form = spelled_by (codes "worst ") (λ range. Worst (range.0) (range.1)) worst_parts (λ range fits. (refl, fits))
+
+resolved_form : OfReply (codes "resolve ", read_resolved)
+unfolding read_resolved
+resolved_form = spelled_by (codes "resolve ") (λ parts. Resolved (parts.0) (parts.1)) (dated_reads pair_reads) (λ parts fits. (refl, fits))
+
+settled_form : OfReply (codes "settle", read_settled)
+unfolding read_settled
+settled_form = spelled_by (codes "settle") (λ parts. Settled (parts.0) (record { items = parts.1 })) settled_parts
+    (λ parts fits. (refl, (fits.0, record { few = fits.1.few; each = fits.1.each })))
+
+refused_form : OfReply (codes "refused ", made (λ why. Refused why) read_refusal)
+refused_form = spelled_by (codes "refused ") (λ why. Refused why) refusal_reads (λ why fits. (refl, fits))
+
+form_takes : (bytes : List ℕ) (r : Reply) (rest : List ℕ) → read_form bytes ≡ Some (r, rest) → Took reply_text IsReply bytes r rest
+unfolding read_form
+form_takes = choose_takes reply_text IsReply forms nothing (
+  joined_form,
+  (
+    spelled_by (codes "deposit ") (λ parts. Deposited (parts.0) (parts.1.0) (parts.1.1)) moved_reads (λ parts fits. (refl, (fits.0, fits.1.0, fits.1.1))),
+    (
+      spelled_by (codes "withdraw ") (λ parts. Withdrawn (parts.0) (parts.1.0) (parts.1.1)) moved_reads (λ parts fits. (refl, (fits.0, fits.1.0, fits.1.1))),
+      (prices_form, (limited_form, (traded_form, (worst_form, (resolved_form, (settled_form, (refused_form, tt))))))),
+    ),
+  ),
+)
+    (nothing_takes reply_text IsReply)
+
+ends_payments : EndsList EndsWord (codes ", ") []
+unfolding after
+ends_payments = record { follows = refl; missing = refl }
+
+form_last : (r : Reply) → IsReply r → read_form (reply_text r) ≡ Some (r, [])
+unfolding read_form read_joined read_prices read_limited read_traded read_worst read_resolved read_settled after
+form_last (Joined user at) fits = made_last (λ parts. Joined (parts.0) (parts.1)) (dated_reads name_reads) (user, at) fits refl
+form_last (Deposited user bits at) fits =
+    made_last (λ parts. Deposited (parts.0) (parts.1.0) (parts.1.1)) moved_reads (user, (bits, at)) (fits.0, (fits.1, fits.2)) refl
+form_last (Withdrawn user bits at) fits =
+    made_last (λ parts. Withdrawn (parts.0) (parts.1.0) (parts.1.1)) moved_reads (user, (bits, at)) (fits.0, (fits.1, fits.2)) refl
+form_last (Price low high) fits = made_last (λ prices. Price (prices.0) (prices.1)) prices_parts (low, high) fits refl
+form_last (Limits limits at) fits = made_last (λ parts. Limits (parts.0) (parts.1)) (dated_reads limits_reads) (limits, at) fits refl
+form_last (Traded hit miss at) fits =
+    made_last (λ parts. Traded (parts.0) (parts.1.0) (parts.1.1)) traded_parts (hit, (miss, at)) (fits.0, (fits.1, fits.2)) refl
+form_last (Worst low high) fits = made_last (λ range. Worst (range.0) (range.1)) worst_parts (low, high) fits refl
+form_last (Resolved pair at) fits = made_last (λ parts. Resolved (parts.0) (parts.1)) (dated_reads pair_reads) (pair, at) fits refl
+form_last (Settled at payments) fits = made_last (λ parts. Settled (parts.0) (record { items = parts.1 })) settled_parts (at, payments.items)
+    (fits.0, record { few = fits.1.few; each = fits.1.each }) ends_payments
+form_last (Refused why) fits = made_last (λ why. Refused why) refusal_reads why fits refl
+
+pub form_tells : Tells read_form reply_text IsReply
+form_tells = record { takes = form_takes; last = form_last }
+
+-- what is read of a reply's text
+pub read_again : (line : List ℕ) (r : Reply) (read : Result Reply Syntax) → IsReply r → line ≡ reply_text r →
+    IfOk read (λ q. IsReply q × (line ≡ reply_text q)) → OnErr read ((q : Reply) → IsReply q → line ≢ reply_text q) → read ≡ Ok r
+read_again line r (Ok q) fits same found none = ap (λ (q : Reply). Ok q) (whole_one form_tells q r (found.0) fits (sym (found.1) ∙ same))
+read_again line r (Err e) fits same found none = absurd (none r fits same)

@@ -1,0 +1,10 @@
+use Rattle.std.proofs.Common.{◌≡◌, ◌≤◌, ◌-◌, length, codes}
+use Rattle.mk_text.specs.Reading.{never, items}
+use Rattle.mk_reply.specs.Reading.{read_payment}
+use Rattle.mk_reply.proofs.read.read_payments.Given as goal
+
+abbrev pub invariant-payments : goal.invariant-payments
+invariant-payments l = record {
+  few : length l.payments.items ≤ l.counter;
+  left : items never (codes ", ") read_payment (256 - l.counter) l.payments.items l.reader ≡ items never (codes ", ") read_payment 256 l.initial.payments.items l.initial.reader;
+}

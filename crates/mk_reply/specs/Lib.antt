@@ -1,0 +1,4 @@
+pub mod Replies
+pub mod Refusals
+pub mod Reading
+pub mod Faults

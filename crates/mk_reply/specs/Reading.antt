@@ -1,0 +1,127 @@
+-- Reading a reply: the word by which its form is known, and then the parts of that form.
+use Rattle.std.specs.Prelude.{ℕ, ◌^◌, List, [], ◌∷◌, codes, nat_le, ◌==◌}
+use Rattle.mk_text.specs.Reading.{Read, both, behind, made, passed, given, never, items, choose, nothing, read_name, read_number, read_pair, read_price, read_range, read_limits}
+use Rattle.mk_reply.specs.Refusals.{max_users}
+use Rattle.mk_reply.specs.declared.refusal.Refusal.{Refusal}
+use Rattle.mk_reply.specs.declared.refusal.Refusal.TheVariants.{Syntax, Long, Settled, User, Exists, Users, Unknown, Twice, Stale, Resolved, Impossible, Wide, Range, Full, Beyond, Short, Unresolved, Memory}
+use Rattle.mk_reply.specs.declared.reply.Payment.{Payment}
+use Rattle.mk_reply.specs.declared.reply.Reply.{Reply}
+use Rattle.mk_reply.specs.declared.reply.Reply.TheVariants.{Joined, Deposited, Withdrawn, Price, Limits as Limited, Traded, Worst, Resolved as ResolvedPair, Settled as AllSettled, Refused}
+
+unfoldable pub read_long : Read ℕ
+read_long = read_number (2 ^ 63)
+
+-- a number that a field of 32 bits holds
+unfoldable pub read_narrow : Read ℕ
+read_narrow = read_number (2 ^ 32)
+
+unfoldable pub read_ratio : Read ℕ
+read_ratio = passed (λ n. nat_le 1 n) read_long
+
+unfoldable pub read_held : Read ℕ
+read_held = passed (λ n. n == max_users) read_narrow
+
+unfoldable pub read_stale : Read Refusal
+read_stale = made (λ parts. Stale (parts.0) (parts.1)) (both read_narrow (behind (codes " ") read_long))
+
+-- refusals without parts, with a name, with a pair, and with numbers
+abbrev pub plain_forms : List (List ℕ × Read Refusal)
+plain_forms =
+    (codes "syntax", given Syntax)
+    ∷ (codes "long", given Long)
+    ∷ (codes "settled", given Settled)
+    ∷ (codes "wide", given Wide)
+    ∷ (codes "memory", given Memory)
+    ∷ []
+
+abbrev pub named_forms : List (List ℕ × Read Refusal)
+named_forms =
+    (codes "user ", made (λ user. User user) read_name)
+    ∷ (codes "exists ", made (λ user. Exists user) read_name)
+    ∷ (codes "twice ", made (λ variable. Twice variable) read_name)
+    ∷ (codes "resolved ", made (λ variable. Resolved variable) read_name)
+    ∷ (codes "open ", made (λ variable. Unresolved variable) read_name)
+    ∷ []
+
+abbrev pub paired_forms : List (List ℕ × Read Refusal)
+paired_forms =
+    (codes "name ", made (λ pair. Unknown pair) read_pair)
+    ∷ (codes "impossible ", made (λ pair. Impossible pair) read_pair)
+    ∷ []
+
+abbrev pub numbered_forms : List (List ℕ × Read Refusal)
+numbered_forms =
+    (codes "users ", made (λ held. Users held) read_held)
+    ∷ (codes "stale ", read_stale)
+    ∷ (codes "range ", made (λ number. Range number) read_narrow)
+    ∷ (codes "full ", made (λ held. Full held) read_narrow)
+    ∷ (codes "beyond ", made (λ limits. Beyond limits) read_limits)
+    ∷ (codes "short ", made (λ bits. Short bits) read_long)
+    ∷ []
+
+unfoldable pub read_numbered : Read Refusal
+read_numbered = choose numbered_forms nothing
+
+unfoldable pub read_paired : Read Refusal
+read_paired = choose paired_forms read_numbered
+
+unfoldable pub read_named : Read Refusal
+read_named = choose named_forms read_paired
+
+unfoldable pub read_refusal : Read Refusal
+read_refusal = choose plain_forms read_named
+
+-- a thing and the revision behind it
+abbrev pub dated : {X : Type 0} → Read X → Read (X × ℕ)
+dated read = both read (behind (codes " at ") read_long)
+
+unfoldable pub read_joined : Read Reply
+read_joined = made (λ parts. Joined (parts.0) (parts.1)) (dated read_name)
+
+-- a user, a number of bits and the revision
+unfoldable pub read_moved : Read (List ℕ × (ℕ × ℕ))
+read_moved = both read_name (behind (codes " ") (dated read_narrow))
+
+unfoldable pub read_prices : Read Reply
+read_prices = made (λ prices. Price (prices.0) (prices.1)) (both read_price (behind (codes "..") read_price))
+
+unfoldable pub read_limited : Read Reply
+read_limited = made (λ parts. Limited (parts.0) (parts.1)) (dated read_limits)
+
+unfoldable pub read_traded : Read Reply
+read_traded = made (λ parts. Traded (parts.0) (parts.1.0) (parts.1.1)) (both read_ratio (behind (codes " ") (dated read_ratio)))
+
+unfoldable pub read_worst : Read Reply
+read_worst = made (λ range. Worst (range.0) (range.1)) (read_range (2 ^ 63))
+
+unfoldable pub read_resolved : Read Reply
+read_resolved = made (λ parts. ResolvedPair (parts.0) (parts.1)) (dated read_pair)
+
+-- a payment, whose user is paid the low end
+unfoldable pub read_payment : Read Payment
+read_payment = passed (λ p. p.paid == p.low)
+    (made (λ parts. record { user = parts.0; low = parts.1.0.0; high = parts.1.0.1; paid = parts.1.1 })
+    (both read_name (behind (codes " ") (both (read_range (2 ^ 63)) (behind (codes " paid ") read_long)))))
+
+unfoldable pub read_payments : Read (List Payment)
+read_payments = items never (codes ", ") read_payment 256 []
+
+unfoldable pub read_settled : Read Reply
+read_settled = made (λ parts. AllSettled (parts.0) (record { items = parts.1 })) (both (behind (codes " at ") read_long) read_payments)
+
+abbrev pub forms : List (List ℕ × Read Reply)
+forms =
+    (codes "user ", read_joined)
+    ∷ (codes "deposit ", made (λ parts. Deposited (parts.0) (parts.1.0) (parts.1.1)) read_moved)
+    ∷ (codes "withdraw ", made (λ parts. Withdrawn (parts.0) (parts.1.0) (parts.1.1)) read_moved)
+    ∷ (codes "price ", read_prices)
+    ∷ (codes "limits ", read_limited)
+    ∷ (codes "trade ", read_traded)
+    ∷ (codes "worst ", read_worst)
+    ∷ (codes "resolve ", read_resolved)
+    ∷ (codes "settle", read_settled)
+    ∷ (codes "refused ", made (λ why. Refused why) read_refusal)
+    ∷ []
+
+unfoldable pub read_form : Read Reply
+read_form = choose forms nothing

@@ -1,0 +1,53 @@
+-- Refusals, and how they are written.
+use Rattle.std.specs.Prelude.{◌≡◌, ℕ, List, codes, decimal, ⊤}
+use Rattle.mk_net.specs.Name.{IsName}
+use Rattle.mk_text.specs.Joined.{◌&◌}
+use Rattle.mk_text.specs.Numbers.{IsLong, IsNarrow, AreLimits, limits_text}
+use Rattle.mk_text.specs.Texts.{IsPairText, pair_text}
+use Rattle.mk_reply.specs.declared.refusal.Refusal.{Refusal}
+use Rattle.mk_reply.specs.declared.refusal.Refusal.TheVariants.{Syntax, Long, Settled, User, Exists, Users, Unknown, Twice, Stale, Resolved, Impossible, Wide, Range, Full, Beyond, Short, Unresolved, Memory}
+
+-- how many users a market holds where it takes no more
+abbrev pub max_users : ℕ
+max_users = 256
+
+abbrev pub refusal_text : Refusal → List ℕ
+refusal_text Syntax = codes "syntax"
+refusal_text Long = codes "long"
+refusal_text Settled = codes "settled"
+refusal_text (User user) = codes "user " & user
+refusal_text (Exists user) = codes "exists " & user
+refusal_text (Users held) = codes "users " & decimal held
+refusal_text (Unknown pair) = codes "name " & pair_text pair
+refusal_text (Twice variable) = codes "twice " & variable
+refusal_text (Stale named now) = codes "stale " & decimal named & codes " " & decimal now
+refusal_text (Resolved variable) = codes "resolved " & variable
+refusal_text (Impossible pair) = codes "impossible " & pair_text pair
+refusal_text Wide = codes "wide"
+refusal_text (Range number) = codes "range " & decimal number
+refusal_text (Full held) = codes "full " & decimal held
+refusal_text (Beyond limits) = codes "beyond " & limits_text limits
+refusal_text (Short bits) = codes "short " & decimal bits
+refusal_text (Unresolved variable) = codes "open " & variable
+refusal_text Memory = codes "memory"
+
+-- the refusals that are read
+abbrev pub IsRefusal : Refusal → Type 0
+IsRefusal Syntax = ⊤
+IsRefusal Long = ⊤
+IsRefusal Settled = ⊤
+IsRefusal (User user) = IsName user
+IsRefusal (Exists user) = IsName user
+IsRefusal (Users held) = held ≡ max_users
+IsRefusal (Unknown pair) = IsPairText pair
+IsRefusal (Twice variable) = IsName variable
+IsRefusal (Stale named now) = IsNarrow named × IsLong now
+IsRefusal (Resolved variable) = IsName variable
+IsRefusal (Impossible pair) = IsPairText pair
+IsRefusal Wide = ⊤
+IsRefusal (Range number) = IsNarrow number
+IsRefusal (Full held) = IsNarrow held
+IsRefusal (Beyond limits) = AreLimits limits
+IsRefusal (Short bits) = IsLong bits
+IsRefusal (Unresolved variable) = IsName variable
+IsRefusal Memory = ⊤

@@ -1,0 +1,62 @@
+-- Replies, and how they are written.
+use Rattle.std.specs.Prelude.{◌≡◌, ℕ, ◌≤◌, List, length, codes, decimal, All}
+use Rattle.mk_net.specs.Name.{IsName}
+use Rattle.mk_text.specs.Joined.{◌&◌, items_text}
+use Rattle.mk_text.specs.Numbers.{IsLong, IsNarrow, IsPrice, price_text, range_text, AreLimits, limits_text}
+use Rattle.mk_text.specs.Texts.{IsPairText, pair_text}
+use Rattle.mk_reply.specs.Refusals.{refusal_text, IsRefusal}
+use Rattle.mk_reply.specs.declared.reply.Payment.{Payment}
+use Rattle.mk_reply.specs.declared.reply.Reply.{Reply}
+use Rattle.mk_reply.specs.declared.reply.Reply.TheVariants.{Joined, Deposited, Withdrawn, Price, Limits, Traded, Worst, Resolved, Settled, Refused}
+
+-- the revision after the reply
+abbrev pub at_text : ℕ → List ℕ
+at_text at = codes " at " & decimal at
+
+abbrev pub payment_text : Payment → List ℕ
+payment_text p = p.user & codes " " & range_text p.low p.high & codes " paid " & decimal p.paid
+
+abbrev pub reply_text : Reply → List ℕ
+reply_text (Joined user at) = codes "user " & user & at_text at
+reply_text (Deposited user bits at) = codes "deposit " & user & codes " " & decimal bits & at_text at
+reply_text (Withdrawn user bits at) = codes "withdraw " & user & codes " " & decimal bits & at_text at
+reply_text (Price low high) = codes "price " & price_text low & codes ".." & price_text high
+reply_text (Limits limits at) = codes "limits " & limits_text limits & at_text at
+reply_text (Traded hit miss at) = codes "trade " & decimal hit & codes " " & decimal miss & at_text at
+reply_text (Worst low high) = codes "worst " & range_text low high
+reply_text (Resolved pair at) = codes "resolve " & pair_text pair & at_text at
+reply_text (Settled at payments) = codes "settle" & at_text at & items_text (codes ", ") payment_text payments.items
+reply_text (Refused why) = codes "refused " & refusal_text why
+
+-- a ratio of a trade
+pub record IsRatio (n : ℕ) : Type 0 where
+  pub positive : 1 ≤ n
+  pub below : IsLong n
+
+-- a user is paid the low end
+pub record IsPayment (p : Payment) : Type 0 where
+  pub user : IsName p.user
+  pub low : IsLong p.low
+  pub high : IsLong p.high
+  pub paid : p.paid ≡ p.low
+
+-- the most payments of a settlement
+abbrev pub max_payments : ℕ
+max_payments = 256
+
+pub record ArePayments (payments : List Payment) : Type 0 where
+  pub few : length payments ≤ max_payments
+  pub each : All IsPayment payments
+
+-- the replies that are read
+abbrev pub IsReply : Reply → Type 0
+IsReply (Joined user at) = IsName user × IsLong at
+IsReply (Deposited user bits at) = IsName user × IsNarrow bits × IsLong at
+IsReply (Withdrawn user bits at) = IsName user × IsNarrow bits × IsLong at
+IsReply (Price low high) = IsPrice low × IsPrice high
+IsReply (Limits limits at) = AreLimits limits × IsLong at
+IsReply (Traded hit miss at) = IsRatio hit × IsRatio miss × IsLong at
+IsReply (Worst low high) = IsLong low × IsLong high
+IsReply (Resolved pair at) = IsPairText pair × IsLong at
+IsReply (Settled at payments) = IsLong at × ArePayments payments.items
+IsReply (Refused why) = IsRefusal why

@@ -1,0 +1,178 @@
+//! Writing a reply.
+
+ghost use Rattle.std.specs.Prelude.{◌≡◌, ◌+◌, ◌*◌, ◌≤◌, ◌++◌, length, codes, decimal};
+ghost use Rattle.arrayvec.specs.ArrayString.{array_string_len};
+ghost use Rattle.mk_text.specs.Joined.{items_text};
+ghost use Rattle.mk_text.specs.Numbers.{price_text, limits_text};
+ghost use Rattle.mk_text.specs.Texts.{pair_text};
+ghost use Rattle.mk_reply.specs.Refusals.{refusal_text};
+ghost use Rattle.mk_reply.specs.Replies.{reply_text, at_text, payment_text};
+
+use crate::refusal::Refusal;
+use crate::reply::{Payment, Reply};
+use arrayvec::ArrayString;
+use mk_net::{Name, PairText};
+use mk_text::{put_limits, put_name, put_number, put_pair, put_price, put_range};
+
+/// The text of a reply. Each has room, also a settlement with 256 payments.
+type Text = ArrayString<32768>;
+
+/// Puts the text of a reply into `out`, in place of what it held.
+pub fn print_reply(reply: &Reply, out: &mut ArrayString<32768>)
+    ensures { out.new.bytes ≡ reply_text reply.now }
+{
+    out.clear();
+    match reply {
+        Reply::Joined { user, at } => {
+            put_named(out, "user ", user);
+            put_at(out, *at);
+        }
+        Reply::Deposited { user, bits, at } => {
+            put_named(out, "deposit ", user);
+            put_counted(out, " ", *bits as u64);
+            put_at(out, *at);
+        }
+        Reply::Withdrawn { user, bits, at } => {
+            put_named(out, "withdraw ", user);
+            put_counted(out, " ", *bits as u64);
+            put_at(out, *at);
+        }
+        Reply::Price { low, high } => put_prices(out, *low, *high),
+        Reply::Limits { limits, at } => {
+            put_limited(out, "limits ", *limits);
+            put_at(out, *at);
+        }
+        Reply::Traded { hit, miss, at } => put_trade(out, *hit, *miss, *at),
+        Reply::Worst { low, high } => {
+            out.push_str("worst ");
+            put_range(out, *low, *high);
+        }
+        Reply::Resolved { pair, at } => {
+            put_paired(out, "resolve ", pair);
+            put_at(out, *at);
+        }
+        Reply::Settled { at, payments } => {
+            out.push_str("settle");
+            put_at(out, *at);
+            put_payments(out, payments.as_slice());
+        }
+        Reply::Refused { why } => {
+            out.push_str("refused ");
+            put_refusal(out, why);
+        }
+    }
+}
+
+fn put_named(out: &mut Text, word: &str, name: &Name)
+    requires { array_string_len out.old + length word.now + 32 ≤ 32768 }
+    ensures text { out.new.bytes ≡ out.old.bytes ++ (word.now ++ name.now) }
+    ensures growth { array_string_len out.new ≤ array_string_len out.old + length word.now + 32 }
+{
+    out.push_str(word);
+    put_name(out, name);
+}
+
+fn put_paired(out: &mut Text, word: &str, pair: &PairText)
+    requires { array_string_len out.old + length word.now + 65 ≤ 32768 }
+    ensures text { out.new.bytes ≡ out.old.bytes ++ (word.now ++ pair_text pair.now) }
+    ensures growth { array_string_len out.new ≤ array_string_len out.old + length word.now + 65 }
+{
+    out.push_str(word);
+    put_pair(out, pair);
+}
+
+fn put_counted(out: &mut Text, word: &str, number: u64)
+    requires { array_string_len out.old + length word.now + 20 ≤ 32768 }
+    ensures text { out.new.bytes ≡ out.old.bytes ++ (word.now ++ decimal number) }
+    ensures growth { array_string_len out.new ≤ array_string_len out.old + length word.now + 20 }
+{
+    out.push_str(word);
+    put_number(out, number);
+}
+
+fn put_limited(out: &mut Text, word: &str, limits: Option<(u32, u32)>)
+    requires { array_string_len out.old + length word.now + 42 ≤ 32768 }
+    ensures text { out.new.bytes ≡ out.old.bytes ++ (word.now ++ limits_text limits) }
+    ensures growth { array_string_len out.new ≤ array_string_len out.old + length word.now + 42 }
+{
+    out.push_str(word);
+    put_limits(out, limits);
+}
+
+fn put_prices(out: &mut Text, low: u64, high: u64)
+    requires { array_string_len out.old + 70 ≤ 32768 }
+    ensures { out.new.bytes ≡ out.old.bytes ++ (codes "price " ++ (price_text low ++ (codes ".." ++ price_text high))) }
+{
+    out.push_str("price ");
+    put_price(out, low);
+    out.push_str("..");
+    put_price(out, high);
+}
+
+fn put_trade(out: &mut Text, hit: u64, miss: u64, at: u64)
+    requires { array_string_len out.old + 71 ≤ 32768 }
+    ensures { out.new.bytes ≡ out.old.bytes ++ (codes "trade " ++ (decimal hit ++ (codes " " ++ (decimal miss ++ at_text at)))) }
+{
+    put_counted(out, "trade ", hit);
+    put_counted(out, " ", miss);
+    put_at(out, at);
+}
+
+fn put_at(out: &mut Text, at: u64)
+    requires { array_string_len out.old + 24 ≤ 32768 }
+    ensures text { out.new.bytes ≡ out.old.bytes ++ at_text at }
+    ensures growth { array_string_len out.new ≤ array_string_len out.old + 24 }
+{
+    put_counted(out, " at ", at);
+}
+
+fn put_payments(out: &mut Text, payments: &[Payment])
+    requires few { length payments.now ≤ 256 }
+    requires room { array_string_len out.old + 26368 ≤ 32768 }
+    ensures { out.new.bytes ≡ out.old.bytes ++ items_text (codes ", ") payment_text payments.now }
+{
+    for payment in payments {
+        out.push_str(", ");
+        put_payment(out, payment);
+    }
+}
+
+fn put_payment(out: &mut Text, payment: &Payment)
+    requires { array_string_len out.old + 101 ≤ 32768 }
+    ensures text { out.new.bytes ≡ out.old.bytes ++ payment_text payment.now }
+    ensures growth { array_string_len out.new ≤ array_string_len out.old + 101 }
+{
+    put_name(out, &payment.user);
+    out.push_str(" ");
+    put_range(out, payment.low, payment.high);
+    put_counted(out, " paid ", payment.paid);
+}
+
+fn put_refusal(out: &mut Text, why: &Refusal)
+    requires { array_string_len out.old + 100 ≤ 32768 }
+    ensures { out.new.bytes ≡ out.old.bytes ++ refusal_text why.now }
+{
+    match why {
+        Refusal::Syntax => out.push_str("syntax"),
+        Refusal::Long => out.push_str("long"),
+        Refusal::Settled => out.push_str("settled"),
+        Refusal::User { user } => put_named(out, "user ", user),
+        Refusal::Exists { user } => put_named(out, "exists ", user),
+        Refusal::Users { held } => put_counted(out, "users ", *held as u64),
+        Refusal::Unknown { pair } => put_paired(out, "name ", pair),
+        Refusal::Twice { variable } => put_named(out, "twice ", variable),
+        Refusal::Stale { named, now } => {
+            put_counted(out, "stale ", *named as u64);
+            put_counted(out, " ", *now);
+        }
+        Refusal::Resolved { variable } => put_named(out, "resolved ", variable),
+        Refusal::Impossible { pair } => put_paired(out, "impossible ", pair),
+        Refusal::Wide => out.push_str("wide"),
+        Refusal::Range { number } => put_counted(out, "range ", *number as u64),
+        Refusal::Full { held } => put_counted(out, "full ", *held as u64),
+        Refusal::Beyond { limits } => put_limited(out, "beyond ", *limits),
+        Refusal::Short { bits } => put_counted(out, "short ", *bits),
+        Refusal::Unresolved { variable } => put_named(out, "open ", variable),
+        Refusal::Memory => out.push_str("memory"),
+    }
+}

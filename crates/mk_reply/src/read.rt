@@ -1,0 +1,195 @@
+//! Reading a reply.
+
+ghost use Rattle.std.specs.Prelude.{◌≡◌, ◌≢◌, ◌<◌, ◌≤◌, ◌^◌, IfOk, IfSome, OnErr, option_map, length, [], codes};
+ghost use Rattle.mk_text.specs.Reading.{Finds, behind};
+ghost use Rattle.mk_reply.specs.Replies.{IsReply, reply_text};
+ghost use Rattle.mk_reply.specs.Reading.{read_long, read_ratio, read_joined, read_moved, read_prices, read_limited, read_traded, read_worst, read_resolved, read_payment, read_payments, read_settled, read_form};
+ghost use Rattle.mk_reply.specs.declared.reply.Reply.{Reply};
+
+use crate::read_refusal::{long, narrow, refusal};
+use crate::reply::{Payment, Reply};
+use arrayvec::ArrayVec;
+use mk_net::{Name, Syntax};
+use mk_text::Reader;
+
+/// The reply of which these bytes are the text. Syntax where they are the text of no reply.
+pub fn read_reply(line: &[u8]) -> Result<Reply, Syntax>
+    ensures found { IfOk result (λ r. IsReply r × (line.now ≡ reply_text r)) }
+    ensures none { OnErr result ((r : Reply) → IsReply r → line.now ≢ reply_text r) }
+{
+    let mut reader = Reader::new(line);
+    let Some(reply) = reply(&mut reader) else {
+        return Err(Syntax);
+    };
+    if reader.is_at_end() {
+        Ok(reply)
+    } else {
+        Err(Syntax)
+    }
+}
+
+#[tactic(auto, unfolding(crate::specs::Reading::read_form))]
+fn reply(reader: &mut Reader) -> Option<Reply>
+    ensures { Finds result reader.new (read_form reader.old) }
+{
+    if reader.skip(b"user ") {
+        return joined(reader);
+    }
+    if reader.skip(b"deposit ") {
+        let (user, bits, at) = moved(reader)?;
+        return Some(Reply::Deposited { user, bits, at });
+    }
+    if reader.skip(b"withdraw ") {
+        let (user, bits, at) = moved(reader)?;
+        return Some(Reply::Withdrawn { user, bits, at });
+    }
+    if reader.skip(b"price ") {
+        return prices(reader);
+    }
+    if reader.skip(b"limits ") {
+        return limited(reader);
+    }
+    if reader.skip(b"trade ") {
+        return traded(reader);
+    }
+    if reader.skip(b"worst ") {
+        return worst(reader);
+    }
+    if reader.skip(b"resolve ") {
+        return resolved(reader);
+    }
+    if reader.skip(b"settle") {
+        return settled(reader);
+    }
+    if reader.skip(b"refused ") {
+        let why = refusal(reader)?;
+        return Some(Reply::Refused { why });
+    }
+    None
+}
+
+/// The revision after a reply.
+fn revision(reader: &mut Reader) -> Option<u64>
+    ensures { Finds result reader.new (behind (codes " at ") read_long reader.old) }
+{
+    reader.expect(b" at ")?;
+    long(reader)
+}
+
+#[tactic(auto, unfolding(crate::specs::Reading::read_joined))]
+fn joined(reader: &mut Reader) -> Option<Reply>
+    ensures { Finds result reader.new (read_joined reader.old) }
+{
+    let user = reader.name()?;
+    let at = revision(reader)?;
+    Some(Reply::Joined { user, at })
+}
+
+#[tactic(auto, unfolding(crate::specs::Reading::read_moved))]
+fn moved(reader: &mut Reader) -> Option<(Name, u32, u64)>
+    ensures { Finds (option_map (λ moved. (moved.0, (moved.1, moved.2))) result) reader.new (read_moved reader.old) }
+{
+    let user = reader.name()?;
+    reader.expect(b" ")?;
+    let bits = narrow(reader)?;
+    let at = revision(reader)?;
+    Some((user, bits, at))
+}
+
+#[tactic(auto, unfolding(crate::specs::Reading::read_prices))]
+fn prices(reader: &mut Reader) -> Option<Reply>
+    ensures { Finds result reader.new (read_prices reader.old) }
+{
+    let low = reader.price()?;
+    reader.expect(b"..")?;
+    let high = reader.price()?;
+    Some(Reply::Price { low, high })
+}
+
+#[tactic(auto, unfolding(crate::specs::Reading::read_limited))]
+fn limited(reader: &mut Reader) -> Option<Reply>
+    ensures { Finds result reader.new (read_limited reader.old) }
+{
+    let limits = reader.limits()?;
+    let at = revision(reader)?;
+    Some(Reply::Limits { limits, at })
+}
+
+#[tactic(auto, unfolding(crate::specs::Reading::read_traded))]
+fn traded(reader: &mut Reader) -> Option<Reply>
+    ensures { Finds result reader.new (read_traded reader.old) }
+{
+    let hit = ratio(reader)?;
+    reader.expect(b" ")?;
+    let miss = ratio(reader)?;
+    let at = revision(reader)?;
+    Some(Reply::Traded { hit, miss, at })
+}
+
+#[tactic(auto, unfolding(crate::specs::Reading::read_ratio))]
+fn ratio(reader: &mut Reader) -> Option<u64>
+    ensures { Finds result reader.new (read_ratio reader.old) }
+{
+    let ratio = long(reader)?;
+    if ratio >= 1 { Some(ratio) } else { None }
+}
+
+#[tactic(auto, unfolding(crate::specs::Reading::read_worst))]
+fn worst(reader: &mut Reader) -> Option<Reply>
+    ensures { Finds result reader.new (read_worst reader.old) }
+{
+    let (low, high) = reader.range(1 << 63)?;
+    Some(Reply::Worst { low, high })
+}
+
+#[tactic(auto, unfolding(crate::specs::Reading::read_resolved))]
+fn resolved(reader: &mut Reader) -> Option<Reply>
+    ensures { Finds result reader.new (read_resolved reader.old) }
+{
+    let pair = reader.pair()?;
+    let at = revision(reader)?;
+    Some(Reply::Resolved { pair, at })
+}
+
+#[tactic(auto, unfolding(crate::specs::Reading::read_settled))]
+fn settled(reader: &mut Reader) -> Option<Reply>
+    ensures { Finds result reader.new (read_settled reader.old) }
+{
+    let at = revision(reader)?;
+    let mut payments = ArrayVec::new();
+    read_payments(reader, &mut payments)?;
+    Some(Reply::Settled { at, payments })
+}
+
+fn read_payments(reader: &mut Reader, payments: &mut ArrayVec<Payment, 256>) -> Option<()>
+    requires { payments.old.items ≡ [] }
+    ensures { Finds (option_map (λ _. payments.new.items) result) reader.new (read_payments reader.old) }
+{
+    'payments: for _ in 0..256usize {
+        if !reader.skip(b", ") {
+            return Some(());
+        }
+        payments.push(payment(reader)?);
+    }
+    Some(())
+}
+
+#[tactic(auto, unfolding(crate::specs::Reading::read_payment))]
+fn payment(reader: &mut Reader) -> Option<Payment>
+    ensures { Finds result reader.new (read_payment reader.old) }
+{
+    let user = reader.name()?;
+    reader.expect(b" ")?;
+    let (low, high) = reader.range(1 << 63)?;
+    reader.expect(b" paid ")?;
+    let paid = long(reader)?;
+    if paid != low {
+        return None;
+    }
+    Some(Payment {
+        user,
+        low,
+        high,
+        paid,
+    })
+}

@@ -1,0 +1,141 @@
+//! Reading a refusal.
+
+ghost use Rattle.std.specs.Prelude.{◌≡◌, ◌^◌, ◌<◌, IfSome};
+ghost use Rattle.mk_text.specs.Reading.{Finds};
+ghost use Rattle.mk_reply.specs.Reading.{read_long, read_narrow, read_held, read_stale, read_refusal, read_named, read_paired, read_numbered};
+
+use crate::refusal::Refusal;
+use mk_text::Reader;
+
+/// What follows the word `refused`.
+#[tactic(auto, unfolding(crate::specs::Reading::read_refusal))]
+pub fn refusal(reader: &mut Reader) -> Option<Refusal>
+    ensures { Finds result reader.new (read_refusal reader.old) }
+{
+    if reader.skip(b"syntax") {
+        return Some(Refusal::Syntax);
+    }
+    if reader.skip(b"long") {
+        return Some(Refusal::Long);
+    }
+    if reader.skip(b"settled") {
+        return Some(Refusal::Settled);
+    }
+    if reader.skip(b"wide") {
+        return Some(Refusal::Wide);
+    }
+    if reader.skip(b"memory") {
+        return Some(Refusal::Memory);
+    }
+    named(reader)
+}
+
+// The refusals that name a user or a variable.
+#[tactic(auto, unfolding(crate::specs::Reading::read_named))]
+fn named(reader: &mut Reader) -> Option<Refusal>
+    ensures { Finds result reader.new (read_named reader.old) }
+{
+    if reader.skip(b"user ") {
+        let user = reader.name()?;
+        return Some(Refusal::User { user });
+    }
+    if reader.skip(b"exists ") {
+        let user = reader.name()?;
+        return Some(Refusal::Exists { user });
+    }
+    if reader.skip(b"twice ") {
+        let variable = reader.name()?;
+        return Some(Refusal::Twice { variable });
+    }
+    if reader.skip(b"resolved ") {
+        let variable = reader.name()?;
+        return Some(Refusal::Resolved { variable });
+    }
+    if reader.skip(b"open ") {
+        let variable = reader.name()?;
+        return Some(Refusal::Unresolved { variable });
+    }
+    paired(reader)
+}
+
+// The refusals that name a pair.
+#[tactic(auto, unfolding(crate::specs::Reading::read_paired))]
+fn paired(reader: &mut Reader) -> Option<Refusal>
+    ensures { Finds result reader.new (read_paired reader.old) }
+{
+    if reader.skip(b"name ") {
+        let pair = reader.pair()?;
+        return Some(Refusal::Unknown { pair });
+    }
+    if reader.skip(b"impossible ") {
+        let pair = reader.pair()?;
+        return Some(Refusal::Impossible { pair });
+    }
+    numbered(reader)
+}
+
+// The refusals that give a number.
+#[tactic(auto, unfolding(crate::specs::Reading::read_numbered))]
+fn numbered(reader: &mut Reader) -> Option<Refusal>
+    ensures { Finds result reader.new (read_numbered reader.old) }
+{
+    if reader.skip(b"users ") {
+        let held = held(reader)?;
+        return Some(Refusal::Users { held });
+    }
+    if reader.skip(b"stale ") {
+        return stale(reader);
+    }
+    if reader.skip(b"range ") {
+        let number = narrow(reader)?;
+        return Some(Refusal::Range { number });
+    }
+    if reader.skip(b"full ") {
+        let held = narrow(reader)?;
+        return Some(Refusal::Full { held });
+    }
+    if reader.skip(b"beyond ") {
+        let limits = reader.limits()?;
+        return Some(Refusal::Beyond { limits });
+    }
+    if reader.skip(b"short ") {
+        let bits = long(reader)?;
+        return Some(Refusal::Short { bits });
+    }
+    None
+}
+
+#[tactic(auto, unfolding(crate::specs::Reading::read_stale))]
+fn stale(reader: &mut Reader) -> Option<Refusal>
+    ensures { Finds result reader.new (read_stale reader.old) }
+{
+    let named = narrow(reader)?;
+    reader.expect(b" ")?;
+    let now = long(reader)?;
+    Some(Refusal::Stale { named, now })
+}
+
+#[tactic(auto, unfolding(crate::specs::Reading::read_held))]
+fn held(reader: &mut Reader) -> Option<u32>
+    ensures { Finds result reader.new (read_held reader.old) }
+{
+    let held = narrow(reader)?;
+    if held == 256 { Some(held) } else { None }
+}
+
+/// A number below 2^63.
+#[tactic(auto, unfolding(crate::specs::Reading::read_long))]
+pub fn long(reader: &mut Reader) -> Option<u64>
+    ensures { Finds result reader.new (read_long reader.old) }
+{
+    reader.number(1 << 63)
+}
+
+/// A number below 2^32.
+#[tactic(auto, unfolding(crate::specs::Reading::read_narrow))]
+pub fn narrow(reader: &mut Reader) -> Option<u32>
+    ensures { Finds result reader.new (read_narrow reader.old) }
+{
+    let number = reader.number(1 << 32)?;
+    Some(number as u32)
+}

@@ -1,0 +1,44 @@
+//! Why a line is refused.
+
+use mk_net::{Name, PairText};
+
+/// Why a line is refused.
+#[derive(Clone, Copy, Debug, PartialEq, Eq)]
+pub enum Refusal {
+    /// The line is the text of no command.
+    Syntax,
+    /// The line has more than 1,024 bytes.
+    Long,
+    /// The market is settled.
+    Settled,
+    /// The user has not joined.
+    User { user: Name },
+    /// The user has joined already.
+    Exists { user: Name },
+    /// As many users as a market holds have joined.
+    Users { held: u32 },
+    /// The pair's variable, or its value, is unknown.
+    Unknown { pair: PairText },
+    /// The variable occurs twice.
+    Twice { variable: Name },
+    /// The revision that was named is not the present one.
+    Stale { named: u32, now: u64 },
+    /// The variable is resolved.
+    Resolved { variable: Name },
+    /// The pair contradicts a resolution.
+    Impossible { pair: PairText },
+    /// No clique holds the question.
+    Wide,
+    /// The number is outside its limits.
+    Range { number: u32 },
+    /// As many trades, or as many deposits and withdrawals, as the market takes are held.
+    Full { held: u32 },
+    /// The number is outside the limits that judge this edit.
+    Beyond { limits: Option<(u32, u32)> },
+    /// The user can withdraw no more than these bits.
+    Short { bits: u64 },
+    /// The variable is not resolved yet.
+    Unresolved { variable: Name },
+    /// Memory was wanting.
+    Memory,
+}

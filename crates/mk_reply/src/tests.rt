@@ -1,0 +1,239 @@
+use crate::print::print_reply;
+use crate::read::read_reply;
+use crate::refusal::Refusal;
+use crate::reply::{Payment, Reply};
+use arrayvec::{ArrayString, ArrayVec};
+use mk_net::{Name, PairText, Syntax};
+use std::process::Abort;
+
+const MOST: u64 = 9_223_372_036_854_775_807;
+
+fn name(rt: &impl Abort, text: &[u8]) -> Name {
+    Name::read(text).expect(rt, "a name")
+}
+
+fn both_ways(rt: &impl Abort, text: &str, reply: Reply) {
+    match read_reply(text.as_bytes()) {
+        Ok(read) => {
+            assert_eq!(rt; read, reply, "{text}");
+            let mut printed = ArrayString::new();
+            print_reply(&read, &mut printed);
+            assert_eq!(rt; printed.as_str(), text);
+        }
+        Err(_) => assert!(rt; false, "{text} is no reply"),
+    }
+}
+
+#[test]
+fn reads_and_prints_changes(rt: HostRuntime) {
+    let user = name(&rt, b"alice");
+    let pair = PairText {
+        variable: name(&rt, b"coin"),
+        value: name(&rt, b"heads"),
+    };
+    let at = 1;
+    both_ways(&rt, "user alice at 1", Reply::Joined { user, at });
+    let bits = 1000;
+    both_ways(
+        &rt,
+        "deposit alice 1000 at 1",
+        Reply::Deposited { user, bits, at },
+    );
+    let bits = u32::MAX;
+    let text = "deposit alice 4294967295 at 1";
+    both_ways(&rt, text, Reply::Deposited { user, bits, at });
+    let bits = 0;
+    let at = 0;
+    both_ways(
+        &rt,
+        "withdraw alice 0 at 0",
+        Reply::Withdrawn { user, bits, at },
+    );
+    both_ways(&rt, "resolve coin=heads at 0", Reply::Resolved { pair, at });
+    let hit = 1_319_413_953_331;
+    let miss = 879_609_302_220;
+    let at = 3;
+    let text = "trade 1319413953331 879609302220 at 3";
+    both_ways(&rt, text, Reply::Traded { hit, miss, at });
+    let text = "trade 1 9223372036854775807 at 9223372036854775807";
+    let traded = Reply::Traded {
+        hit: 1,
+        miss: MOST,
+        at: MOST,
+    };
+    both_ways(&rt, text, traded);
+}
+
+#[test]
+fn reads_and_prints_answers(rt: HostRuntime) {
+    for (low, high, text) in [
+        (0, 10_000_000_000, "price 0.0000000000..1.0000000000"),
+        (
+            6_000_000_000,
+            6_000_000_001,
+            "price 0.6000000000..0.6000000001",
+        ),
+        (1, 3_333_333_334, "price 0.0000000001..0.3333333334"),
+    ] {
+        both_ways(&rt, text, Reply::Price { low, high });
+    }
+    for (limits, at, text) in [
+        (None, 4, "limits none at 4"),
+        (Some((1, 999_999)), 2, "limits 1..999999 at 2"),
+        (Some((500_000, 500_000)), 1, "limits 500000..500000 at 1"),
+    ] {
+        both_ways(&rt, text, Reply::Limits { limits, at });
+    }
+    for (low, high, text) in [
+        (67, 67, "worst 67..67"),
+        (0, MOST, "worst 0..9223372036854775807"),
+    ] {
+        both_ways(&rt, text, Reply::Worst { low, high });
+    }
+}
+
+#[test]
+fn reads_and_prints_settlements(rt: HostRuntime) {
+    let alice = Payment {
+        user: name(&rt, b"alice"),
+        low: 126,
+        high: 127,
+        paid: 126,
+    };
+    let mut payments = ArrayVec::new();
+    let nobody = Reply::Settled {
+        at: 6,
+        payments: ArrayVec::new(),
+    };
+    both_ways(&rt, "settle at 6", nobody);
+    let _ = payments.try_push(alice);
+    let _ = payments.try_push(Payment {
+        user: name(&rt, b"paid"),
+        low: 0,
+        high: MOST,
+        paid: 0,
+    });
+    let text = "settle at 6, alice 126..127 paid 126, paid 0..9223372036854775807 paid 0";
+    both_ways(&rt, text, Reply::Settled { at: 6, payments });
+}
+
+#[test]
+fn reads_and_prints_the_longest_settlement(rt: HostRuntime) {
+    let user = name(&rt, b"abcdefghijklmnopqrstuvwxyz_01234");
+    let mut payments = ArrayVec::new();
+    for _ in 0..256usize {
+        let _ = payments.try_push(Payment {
+            user,
+            low: MOST,
+            high: MOST,
+            paid: MOST,
+        });
+    }
+    let settled = Reply::Settled { at: MOST, payments };
+    let mut text = ArrayString::new();
+    print_reply(&settled, &mut text);
+    assert_eq!(rt; text.len(), 25_629);
+    both_ways(&rt, text.as_str(), settled);
+}
+
+#[test]
+fn reads_and_prints_refusals(rt: HostRuntime) {
+    let user = name(&rt, b"zed");
+    let variable = name(&rt, b"coin");
+    let value = name(&rt, b"edge");
+    let unknown = PairText { variable, value };
+    let impossible = PairText { variable, value };
+    let limits = Some((250_001, 749_999));
+    for (why, text) in [
+        (Refusal::Syntax, "refused syntax"),
+        (Refusal::Long, "refused long"),
+        (Refusal::Settled, "refused settled"),
+        (Refusal::User { user }, "refused user zed"),
+        (Refusal::Exists { user }, "refused exists zed"),
+        (Refusal::Users { held: 256 }, "refused users 256"),
+        (Refusal::Unknown { pair: unknown }, "refused name coin=edge"),
+        (Refusal::Twice { variable }, "refused twice coin"),
+        (Refusal::Stale { named: 3, now: 4 }, "refused stale 3 4"),
+        (Refusal::Resolved { variable }, "refused resolved coin"),
+        (
+            Refusal::Impossible { pair: impossible },
+            "refused impossible coin=edge",
+        ),
+        (Refusal::Wide, "refused wide"),
+        (
+            Refusal::Range { number: 1_000_000 },
+            "refused range 1000000",
+        ),
+        (Refusal::Full { held: 65_536 }, "refused full 65536"),
+        (Refusal::Beyond { limits }, "refused beyond 250001..749999"),
+        (Refusal::Beyond { limits: None }, "refused beyond none"),
+        (
+            Refusal::Short { bits: MOST },
+            "refused short 9223372036854775807",
+        ),
+        (Refusal::Unresolved { variable }, "refused open coin"),
+        (Refusal::Memory, "refused memory"),
+    ] {
+        both_ways(&rt, text, Reply::Refused { why });
+    }
+}
+
+#[test]
+fn reads_nothing_else(rt: HostRuntime) {
+    for text in [
+        "",
+        "user alice",
+        "user alice at 01",
+        "user alice at 9223372036854775808",
+        "user alice at 18446744073709551617",
+        "user alice  at 1",
+        "user alice at 1 ",
+        "deposit alice 4294967296 at 1",
+        "deposit alice 01 at 1",
+        "withdraw alice 1",
+        "price 0.5..0.5",
+        "price 0.50000000000..0.5000000000",
+        "price 0.5000000000",
+        "price 00.5000000000..0.5000000000",
+        "price 1.0000000001..1.0000000001",
+        "price 2.0000000000..2.0000000000",
+        "price .5000000000..0.5000000000",
+        "price 0.500000000a..0.5000000000",
+        "price 0.+500000000..0.5000000000",
+        "limits 0..1 at 1",
+        "limits 2..1 at 1",
+        "limits 1..1000000 at 1",
+        "limits none",
+        "limits nonetheless at 1",
+        "trade 0 1 at 1",
+        "trade 1 0 at 1",
+        "trade 1 9223372036854775808 at 1",
+        "worst 1",
+        "worst 1...2",
+        "worst 1..2 at 1",
+        "resolve coin at 1",
+        "settle",
+        "settle at",
+        "settle at 1,alice 1..1 paid 1",
+        "settle at 1, alice 1..2 paid 2",
+        "settle at 1, alice 1..2 paid 01",
+        "settle at 1, alice 1..2",
+        "settle at 1, ",
+        "refused",
+        "refused ",
+        "refused Syntax",
+        "refused syntax error",
+        "refused users 255",
+        "refused users 0256",
+        "refused stale 4294967296 1",
+        "refused stale 1",
+        "refused range 4294967296",
+        "refused full -1",
+        "refused beyond 5..4",
+        "refused open",
+        "refused unresolved coin",
+        "refused name coin",
+    ] {
+        assert_eq!(rt; read_reply(text.as_bytes()), Err(Syntax), "{text}");
+    }
+}

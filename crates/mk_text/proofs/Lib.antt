@@ -1,0 +1,5 @@
+pub mod WordLemmas
+pub mod NumberLemmas
+pub mod ReadingLaws
+pub mod PartLaws
+pub mod LengthLaws

@@ -1,0 +1,17 @@
+-- Texts, one after another.
+use Rattle.std.specs.Prelude.{ℕ, List, [], ◌∷◌, ◌++◌, Option, Some, None}
+
+-- a text and then another, which groups to the right
+infixr 65 ◌&◌
+abbrev pub ◌&◌ : List ℕ → List ℕ → List ℕ
+a & b = a ++ b
+
+-- a text for each item, with a separator before each
+abbrev pub items_text : {X : Type 0} → List ℕ → (X → List ℕ) → List X → List ℕ
+items_text separator text [] = []
+items_text separator text (x ∷ xs) = (separator & text x) & items_text separator text xs
+
+-- a thing's text behind another text, or nothing
+abbrev pub perhaps_text : {X : Type 0} → List ℕ → (X → List ℕ) → Option X → List ℕ
+perhaps_text before text None = []
+perhaps_text before text (Some x) = before & text x

@@ -1,0 +1,5 @@
+pub mod Joined
+pub mod Texts
+pub mod Numbers
+pub mod Reading
+pub mod Words

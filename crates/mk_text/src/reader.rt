@@ -1,0 +1,182 @@
+//! Reading names, numbers, pairs and questions from the front of some bytes.
+
+ghost use Rattle.std.specs.Prelude.{◌≡◌, ◌<◌, ◌≤◌, ◌^◌, false, IfSome, Some, None, option_map, if◌then◌else◌, ◌==◌, length, take, drop};
+ghost use Rattle.mk_text.specs.Words.{word, word_len, behind_word, after};
+ghost use Rattle.mk_text.specs.Reading.{Finds, read_name, read_number, read_pair, read_condition, more_pairs, read_question, read_price, read_range, read_limits};
+ghost use Rattle.arrayvec.specs.ArrayVec.{array_vec_len};
+
+use crate::numbers::{number_of, ten_places_of};
+use crate::words::word_len;
+use crate::writers::UNITS;
+use arrayvec::ArrayVec;
+use mk_net::{Name, PairText, QuestionText};
+use std::marker::Model;
+
+/// The bytes of a text that are not read yet.
+#[derive(Drop)]
+pub struct Reader<'a> {
+    left: &'a [u8],
+}
+
+impl<'a> Model for Reader<'a> {
+    ghost use Rattle.std.specs.Prelude.{ℕ, List};
+
+    ghost Value = { List ℕ };
+
+    ghost view = { λ r. r.left.now };
+}
+
+impl<'a> Reader<'a> {
+    /// Nothing of these bytes is read yet.
+    pub fn new(bytes: &'a [u8]) -> Reader<'a>
+        ensures { result ≡ bytes.now }
+    {
+        Reader { left: bytes }
+    }
+
+    /// Whether nothing is left.
+    pub fn is_at_end(&self) -> bool
+        ensures { result ≡ (length self.now == 0) }
+    {
+        self.left.is_empty()
+    }
+
+    /// Passes over a text, if it is the next. Otherwise nothing is read.
+    pub fn skip(&mut self, text: &[u8]) -> bool
+        ensures passed { after text.now self.old ≡ (if result then Some self.new else None) }
+        ensures kept { result ≡ false → self.new ≡ self.old }
+    {
+        match self.left.strip_prefix(text) {
+            Some(left) => {
+                self.left = left;
+                true
+            }
+            None => false,
+        }
+    }
+
+    /// Passes over a text that has to be the next.
+    pub fn expect(&mut self, text: &[u8]) -> Option<()>
+        ensures { after text.now self.old ≡ option_map (λ _. self.new) result }
+    {
+        if self.skip(text) { Some(()) } else { None }
+    }
+
+    /// The name that is the next word.
+    #[tactic(auto, unfolding(crate::specs::Reading::read_name))]
+    pub fn name(&mut self) -> Option<Name>
+        ensures { Finds result self.new (read_name self.old) }
+    {
+        Name::read(self.word())
+    }
+
+    /// The number below a limit that is the next word, without leading zeros.
+    #[tactic(auto, unfolding(crate::specs::Reading::read_number))]
+    pub fn number(&mut self, limit: u64) -> Option<u64>
+        ensures found { Finds result self.new (read_number limit self.old) }
+        ensures below { IfSome result (λ n. n < limit) }
+    {
+        number_of(self.word(), limit)
+    }
+
+    /// A pair of a variable and a value.
+    #[tactic(auto, unfolding(crate::specs::Reading::read_pair))]
+    pub fn pair(&mut self) -> Option<PairText>
+        ensures { Finds result self.new (read_pair self.old) }
+    {
+        let variable = self.name()?;
+        self.expect(b"=")?;
+        let value = self.name()?;
+        Some(PairText { variable, value })
+    }
+
+    /// A question with its condition.
+    #[tactic(auto, unfolding(crate::specs::Reading::read_question))]
+    pub fn question(&mut self) -> Option<QuestionText>
+        ensures { Finds result self.new (read_question self.old) }
+    {
+        let target = self.pair()?;
+        let condition = self.condition()?;
+        Some(QuestionText { target, condition })
+    }
+
+    /// A condition of at most eight pairs. It may be empty.
+    #[tactic(auto, unfolding(crate::specs::Reading::read_condition))]
+    pub fn condition(&mut self) -> Option<ArrayVec<PairText, 8>>
+        ensures { Finds (option_map (λ pairs. pairs.items) result) self.new (read_condition self.old) }
+    {
+        let mut pairs = ArrayVec::new();
+        if !self.skip(b" | ") {
+            return Some(pairs);
+        }
+        pairs.push(self.pair()?);
+        self.more_pairs(&mut pairs)?;
+        Some(pairs)
+    }
+
+    fn more_pairs(&mut self, pairs: &mut ArrayVec<PairText, 8>) -> Option<()>
+        requires { array_vec_len pairs.old ≤ 1 }
+        ensures { Finds (option_map (λ _. pairs.new.items) result) self.new (more_pairs pairs.old.items self.old) }
+    {
+        'pairs: for _ in 0..7usize {
+            if !self.skip(b", ") {
+                return Some(());
+            }
+            pairs.push(self.pair()?);
+        }
+        Some(())
+    }
+
+    /// A price in its units, of which ten thousand million make one point.
+    #[tactic(auto, unfolding(crate::specs::Reading::read_price))]
+    pub fn price(&mut self) -> Option<u64>
+        ensures found { Finds result self.new (read_price self.old) }
+        ensures at_most_one { IfSome result (λ price. price ≤ 10 ^ 10) }
+    {
+        let whole = self.number(2)?;
+        self.expect(b".")?;
+        let part = ten_places_of(self.word())?;
+        let price = whole * UNITS + part;
+        if price <= UNITS { Some(price) } else { None }
+    }
+
+    /// Two numbers below a limit with two points between them.
+    #[tactic(auto, unfolding(crate::specs::Reading::read_range))]
+    pub fn range(&mut self, limit: u64) -> Option<(u64, u64)>
+        ensures found { Finds result self.new (read_range limit self.old) }
+        ensures below { IfSome result (λ range. (range.0 < limit) × (range.1 < limit)) }
+    {
+        let low = self.number(limit)?;
+        self.expect(b"..")?;
+        let high = self.number(limit)?;
+        Some((low, high))
+    }
+
+    /// Limits within a million, or none.
+    #[tactic(auto, unfolding(crate::specs::Reading::read_limits))]
+    pub fn limits(&mut self) -> Option<Option<(u32, u32)>>
+        ensures { Finds result self.new (read_limits self.old) }
+    {
+        if self.skip(b"none") {
+            return Some(None);
+        }
+        let (low, high) = self.range(1_000_000)?;
+        if 1 <= low && low <= high {
+            Some(Some((low as u32, high as u32)))
+        } else {
+            None
+        }
+    }
+
+    /// Passes over the next word, which is the longest run of letters, digits and underscores. It may be empty.
+    #[tactic(auto, unfolding(crate::specs::Words::word, crate::specs::Words::behind_word))]
+    fn word(&mut self) -> &'a [u8]
+        ensures word { result.now ≡ word self.old }
+        ensures left { self.new ≡ behind_word self.old }
+    {
+        let bytes = self.left;
+        let size = word_len(bytes);
+        self.left = &bytes[size..];
+        &bytes[..size]
+    }
+}

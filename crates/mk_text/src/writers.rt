@@ -1,0 +1,140 @@
+//! Writing names, numbers, pairs and questions at the end of a text. Each function asks for the room of the longest text that
+//! it writes, and its clause `growth` says how much of that it takes at most.
+
+ghost use Rattle.std.specs.Prelude.{◌≡◌, ◌+◌, ◌^◌, ◌<◌, ◌≤◌, ◌++◌, length, codes, decimal, IsUtf8};
+ghost use Rattle.arrayvec.specs.ArrayString.{array_string_len};
+ghost use Rattle.mk_text.specs.Joined.{items_text};
+ghost use Rattle.mk_text.specs.Numbers.{places, price_text, range_text, limits_text};
+ghost use Rattle.mk_text.specs.Texts.{pair_text, condition_text, question_text};
+
+use arrayvec::ArrayString;
+use itoa::Buffer;
+use mk_net::{Name, PairText, QuestionText};
+use std::str;
+
+/// How many units a price has to one point.
+pub const UNITS: u64 = 10_000_000_000;
+
+/// Writes a name, of at most 32 bytes.
+pub fn put_name<const N: usize>(out: &mut ArrayString<N>, name: &Name)
+    requires { array_string_len out.old + 32 ≤ N }
+    ensures text { out.new.bytes ≡ out.old.bytes ++ name.now }
+    ensures growth { array_string_len out.new ≤ array_string_len out.old + 32 }
+{
+    match str::from_utf8(name.bytes()) {
+        Ok(text) => out.push_str(text),
+        Err(_) => unreachable!(),
+    }
+}
+
+/// Writes a number, in at most 20 digits.
+pub fn put_number<const N: usize>(out: &mut ArrayString<N>, number: u64)
+    requires { array_string_len out.old + 20 ≤ N }
+    ensures text { out.new.bytes ≡ out.old.bytes ++ decimal number }
+    ensures growth { array_string_len out.new ≤ array_string_len out.old + 20 }
+{
+    out.push_str(Buffer::new().format(number));
+}
+
+/// Writes a number of at most nine digits.
+pub fn put_short<const N: usize>(out: &mut ArrayString<N>, number: u32)
+    requires short { number < 10 ^ 9 }
+    requires room { array_string_len out.old + 9 ≤ N }
+    ensures text { out.new.bytes ≡ out.old.bytes ++ decimal number }
+    ensures growth { array_string_len out.new ≤ array_string_len out.old + 9 }
+{
+    out.push_str(Buffer::new().format(number));
+}
+
+/// Writes so many last digits of a number.
+pub fn put_places<const N: usize>(out: &mut ArrayString<N>, count: usize, number: u64)
+    requires { array_string_len out.old + count ≤ N }
+    ensures text { out.new.bytes ≡ out.old.bytes ++ places count number }
+    ensures growth { array_string_len out.new ≡ array_string_len out.old + count }
+{
+    if count > 0 {
+        put_places(out, count - 1, number / 10);
+        out.push((b'0' + (number % 10) as u8) as char);
+    }
+}
+
+/// Writes a pair, in at most 65 bytes.
+pub fn put_pair<const N: usize>(out: &mut ArrayString<N>, pair: &PairText)
+    requires { array_string_len out.old + 65 ≤ N }
+    ensures text { out.new.bytes ≡ out.old.bytes ++ pair_text pair.now }
+    ensures growth { array_string_len out.new ≤ array_string_len out.old + 65 }
+{
+    put_name(out, &pair.variable);
+    out.push_str("=");
+    put_name(out, &pair.value);
+}
+
+/// Writes a condition with the bar before it, in at most 537 bytes, or nothing.
+pub fn put_condition<const N: usize>(out: &mut ArrayString<N>, pairs: &[PairText])
+    requires few { length pairs.now ≤ 8 }
+    requires room { array_string_len out.old + 537 ≤ N }
+    ensures text { out.new.bytes ≡ out.old.bytes ++ condition_text pairs.now }
+    ensures growth { array_string_len out.new ≤ array_string_len out.old + 537 }
+{
+    if let [first, rest @ ..] = pairs {
+        out.push_str(" | ");
+        put_pair(out, first);
+        put_more_pairs(out, rest);
+    }
+}
+
+fn put_more_pairs<const N: usize>(out: &mut ArrayString<N>, pairs: &[PairText])
+    requires few { length pairs.now ≤ 7 }
+    requires room { array_string_len out.old + 469 ≤ N }
+    ensures text { out.new.bytes ≡ out.old.bytes ++ items_text (codes ", ") pair_text pairs.now }
+    ensures growth { array_string_len out.new ≤ array_string_len out.old + 469 }
+{
+    for pair in pairs {
+        out.push_str(", ");
+        put_pair(out, pair);
+    }
+}
+
+/// Writes a question, in at most 602 bytes.
+pub fn put_question<const N: usize>(out: &mut ArrayString<N>, question: &QuestionText)
+    requires { array_string_len out.old + 602 ≤ N }
+    ensures text { out.new.bytes ≡ out.old.bytes ++ question_text question.now }
+    ensures growth { array_string_len out.new ≤ array_string_len out.old + 602 }
+{
+    put_pair(out, &question.target);
+    put_condition(out, question.condition.as_slice());
+}
+
+/// Writes a price in points, in at most 31 bytes.
+pub fn put_price<const N: usize>(out: &mut ArrayString<N>, price: u64)
+    requires { array_string_len out.old + 31 ≤ N }
+    ensures text { out.new.bytes ≡ out.old.bytes ++ price_text price }
+    ensures growth { array_string_len out.new ≤ array_string_len out.old + 31 }
+{
+    put_number(out, price / UNITS);
+    out.push_str(".");
+    put_places(out, 10, price % UNITS);
+}
+
+/// Writes two numbers with two points between them, in at most 42 bytes.
+pub fn put_range<const N: usize>(out: &mut ArrayString<N>, low: u64, high: u64)
+    requires { array_string_len out.old + 42 ≤ N }
+    ensures text { out.new.bytes ≡ out.old.bytes ++ range_text low high }
+    ensures growth { array_string_len out.new ≤ array_string_len out.old + 42 }
+{
+    put_number(out, low);
+    out.push_str("..");
+    put_number(out, high);
+}
+
+/// Writes limits, in at most 42 bytes.
+pub fn put_limits<const N: usize>(out: &mut ArrayString<N>, limits: Option<(u32, u32)>)
+    requires { array_string_len out.old + 42 ≤ N }
+    ensures text { out.new.bytes ≡ out.old.bytes ++ limits_text limits }
+    ensures growth { array_string_len out.new ≤ array_string_len out.old + 42 }
+{
+    match limits {
+        Some((low, high)) => put_range(out, low as u64, high as u64),
+        None => out.push_str("none"),
+    }
+}
