@@ -1,0 +1,161 @@
+-- What an allowed reply keeps.
+use Rattle.std.proofs.Common.{◌≡◌, ℕ, ◌+◌, ◌<◌, ◌≤◌, ◌⊎◌, inl, inr, List, [], ◌∷◌, ◌++◌, Option, Some, None, IfSome, IsSomeAnd, MatchOption, length, refl, sym, subst, arith, append-nil}
+use Rattle.std.specs.Prelude.{option_to_list}
+use Rattle.mk_net.specs.declared.words.PairText.{PairText}
+use Rattle.mk_net.specs.declared.words.QuestionText.{QuestionText}
+use Rattle.mk_net.specs.Asked.{Asked}
+use Rattle.mk_exact.specs.Events.{always}
+use Rattle.mk_exact.specs.History.{Entry, users, revision}
+use Rattle.mk_exact.specs.Weight.{IsSmall}
+use Rattle.mk_exact.specs.Factors.{factor_with, least_gain}
+use Rattle.mk_exact.specs.Proper.{IsQuestionOf}
+use Rattle.mk_exact.specs.Accepted.{Covers, IsAcceptable, IsInRange}
+use Rattle.mk_exact.specs.Market.{Market, network_of}
+use Rattle.mk_exact.proofs.Next.{sound_next}
+use Rattle.mk_exact.proofs.Single.{empty_sound}
+use Rattle.mk_exact.proofs.Range.{empty_proper, proper_next, fair_pair_is_safe}
+use Rattle.mk_command.specs.declared.command.Command.{Command}
+use Rattle.mk_command.specs.declared.command.Command.TheVariants.{User, Deposit, Withdraw, Price, Limits, Edit, Worst, Resolve, Settle}
+use Rattle.mk_reply.specs.declared.refusal.Refusal.{Refusal}
+use Rattle.mk_reply.specs.declared.refusal.Refusal.TheVariants.{Memory}
+use Rattle.mk_reply.specs.declared.reply.Reply.{Reply}
+use Rattle.mk_reply.specs.declared.reply.Reply.TheVariants.{Joined, Resolved, Refused}
+use Rattle.mk_rules.specs.Refusals.{question_named, user_number, refusals, first_refusal}
+use Rattle.mk_rules.specs.Quotes.{Interval, Quotes, last_quote, current_limits}
+use Rattle.mk_rules.specs.Answers.{IsTrade, IsJudged, IsJudgedAfresh, IsWithdrawal, IsAnswer, IsAllowed, entry_of}
+use Rattle.mk_rules.specs.Transcript.{Standing, Line, OfCommand, NoCommand, LongLine, IsAllowedFor, after, Run}
+use Rattle.mk_rules.specs.Laws.{Stands}
+use Rattle.mk_rules.proofs.Unrefused.{none_applies, user_in_range, number_in_range, pair_known, question_known}
+
+-- an entry that may be appended
+record Fits (market : Market) (H : List Entry) (e : Entry) : Type 0 where
+  acceptable : IsAcceptable (network_of market H) H e
+  in_range : IsInRange (network_of market H) H e
+
+entry_keeps : (market : Market) (H : List Entry) (o : Option Entry) → Stands market H → IfSome o (Fits market H) → Stands market (H ++ option_to_list o)
+entry_keeps market H None stands h = rw (append-nil H) stands
+entry_keeps market H (Some e) stands h = record {
+  sound = sound_next (network_of market H) H e stands.sound h.acceptable;
+  proper = proper_next (network_of market H) H e stands.proper h.in_range;
+}
+
+-- what a reply appends may be appended
+AppendsFit : Market → List Entry → Command → Reply → Type 0
+AppendsFit market H command reply = IfSome (entry_of market H command reply) (Fits market H)
+
+refused_fits : (market : Market) (H : List Entry) (command : Command) (why : Refusal) → AppendsFit market H command (Refused why)
+unfolding AppendsFit
+refused_fits market H (User u) why = tt
+refused_fits market H (Deposit u bits) why = tt
+refused_fits market H (Withdraw u bits) why = tt
+refused_fits market H (Price q) why = tt
+refused_fits market H (Limits u q) why = tt
+refused_fits market H (Edit u q X seen) why = tt
+refused_fits market H (Worst u) why = tt
+refused_fits market H (Resolve p) why = tt
+refused_fits market H Settle why = tt
+
+-- a reply that is known
+reply_fits : (market : Market) (H : List Entry) (command : Command) (reply known : Reply) → reply ≡ known → AppendsFit market H command known → AppendsFit market H command reply
+reply_fits market H command reply known e h = subst (AppendsFit market H command) (sym e) h
+
+-- the value of which something holds
+value_of : {X : Type 0} (P : X → Type 0) (o : Option X) → IsSomeAnd o P → (x : X) × (o ≡ Some x) × P x
+value_of P None h = absurd h
+value_of P (Some x) h = (x, refl, h)
+
+user_fits : (market : Market) (H : List Entry) (u : List ℕ) (reply : Reply) → (reply ≡ Joined u (revision H + 1)) ⊎ (reply ≡ Refused Memory) → AppendsFit market H (User u) reply
+unfolding AppendsFit
+user_fits market H u reply (inl e) = reply_fits market H (User u) reply _ e (record { acceptable = tt; in_range = tt })
+user_fits market H u reply (inr e) = reply_fits market H (User u) reply _ e tt
+
+withdrawal_fits : (market : Market) (H : List Entry) (u : List ℕ) (bits g : ℕ) (reply : Reply) → least_gain (network_of market H) H (user_number H u) always ≡ Some g
+    → IsWithdrawal (IsSmall (network_of market H) H) (factor_with H (user_number H u) g) u bits (revision H + 1) reply → AppendsFit market H (Withdraw u bits) reply
+unfolding AppendsFit
+withdrawal_fits market H u bits g reply e (inl taken) = reply_fits market H (Withdraw u bits) reply _ taken.1
+    (record { acceptable = subst (λ (o : Option ℕ). IfSome o (λ g. Covers (factor_with H (user_number H u) g) bits)) (sym e) taken.0; in_range = tt })
+withdrawal_fits market H u bits g reply e (inr short) = reply_fits market H (Withdraw u bits) reply _ short.printed tt
+
+trade_fits : (market : Market) (H : List Entry) (u : List ℕ) (q : QuestionText) (X : ℕ) (seen : Option ℕ) (asked : Asked) (reply : Reply)
+    → question_named (network_of market H) q ≡ Some asked → user_number H u < length (users H) → IsQuestionOf (network_of market H) asked → X ≤ 999999
+    → IsTrade (network_of market H) H (user_number H u) asked X reply → AppendsFit market H (Edit u q X seen) reply
+unfolding AppendsFit
+trade_fits market H u q X seen asked reply named user fits most trade = reply_fits market H (Edit u q X seen) reply _ trade.printed (rw named (record {
+  acceptable = fair_pair_is_safe (network_of market H) H (user_number H u) asked X trade.hit trade.miss (omega arith) trade.fair;
+  in_range = record { user = user; question = fits; hit = trade.fair.hit_units.fair.positive; miss = trade.fair.miss_units.fair.positive };
+}))
+
+judged_fits : (market : Market) (H : List Entry) (u : List ℕ) (q : QuestionText) (X : ℕ) (seen : Option ℕ) (asked : Asked) (reply : Reply) (o : Option Interval)
+    → (IsTrade (network_of market H) H (user_number H u) asked X reply → AppendsFit market H (Edit u q X seen) reply)
+    → MatchOption o (IsJudgedAfresh (network_of market H) H (user_number H u) asked X reply) (λ limits. IsJudged (network_of market H) H (user_number H u) asked X limits reply)
+    → AppendsFit market H (Edit u q X seen) reply
+unfolding AppendsFit
+judged_fits market H u q X seen asked reply None fits (inl trade) = fits trade
+judged_fits market H u q X seen asked reply None fits (inr beyond) = reply_fits market H (Edit u q X seen) reply _ beyond.beyond.printed tt
+judged_fits market H u q X seen asked reply (Some limits) fits (inl trade) = fits trade.1
+judged_fits market H u q X seen asked reply (Some limits) fits (inr beyond) = reply_fits market H (Edit u q X seen) reply _ beyond.printed tt
+
+-- a command that meets no refusal of the table
+IsUnrefused : Market → List Entry → Command → Type 0
+IsUnrefused market H command = first_refusal market H command ≡ None
+
+edit_fits : (market : Market) (H : List Entry) (quotes : Quotes) (u : List ℕ) (q : QuestionText) (X : ℕ) (seen : Option ℕ) (reply : Reply)
+    → IsUnrefused market H (Edit u q X seen) → IsAnswer market H quotes (Edit u q X seen) reply → AppendsFit market H (Edit u q X seen) reply
+unfolding IsUnrefused
+edit_fits market H quotes u q X seen reply none h =
+    let network = network_of market H in
+    let refused = none_applies (refusals market H (Edit u q X seen)) none in
+    let judged = value_of _ (question_named network q) h in
+    judged_fits market H u q X seen judged.0 reply (current_limits (last_quote quotes (user_number H u)) judged.0 (revision H))
+    (trade_fits market H u q X seen judged.0 reply judged.1 (user_in_range H u refused.1.0) (question_known network q judged.0 refused.1.1.0 judged.1)
+    (number_in_range 999999 X refused.1.1.1.1.1.1.1.1.0).1) judged.2
+
+resolve_fits : (market : Market) (H : List Entry) (p : PairText) (reply : Reply)
+    → IsUnrefused market H (Resolve p) → reply ≡ Resolved p (revision H + 1) → AppendsFit market H (Resolve p) reply
+unfolding IsUnrefused AppendsFit
+resolve_fits market H p reply none e =
+    let named = pair_known (network_of market H) p (none_applies (refusals market H (Resolve p)) none).1.0 in
+    reply_fits market H (Resolve p) reply _ e (rw (named.1) (record { acceptable = tt; in_range = named.2 }))
+
+answer_fits : (market : Market) (H : List Entry) (quotes : Quotes) (command : Command) (reply : Reply)
+    → IsUnrefused market H command → IsAnswer market H quotes command reply → AppendsFit market H command reply
+unfolding AppendsFit
+answer_fits market H quotes (User u) reply none h = user_fits market H u reply h
+answer_fits market H quotes (Deposit u bits) reply none h = reply_fits market H (Deposit u bits) reply _ h (record { acceptable = tt; in_range = tt })
+answer_fits market H quotes (Withdraw u bits) reply none h = let least = value_of _ (least_gain (network_of market H) H (user_number H u) always) h in
+    withdrawal_fits market H u bits least.0 reply least.1 least.2
+answer_fits market H quotes (Price q) reply none h = let price = value_of _ (question_named (network_of market H) q) h in
+    reply_fits market H (Price q) reply _ price.2.printed tt
+answer_fits market H quotes (Limits u q) reply none h = let limits = value_of _ (question_named (network_of market H) q) h in
+    reply_fits market H (Limits u q) reply _ limits.2.printed tt
+answer_fits market H quotes (Edit u q X seen) reply none h = edit_fits market H quotes u q X seen reply none h
+answer_fits market H quotes (Worst u) reply none h = let worst = value_of _ (least_gain (network_of market H) H (user_number H u) always) h in
+    reply_fits market H (Worst u) reply _ worst.2.printed tt
+answer_fits market H quotes (Resolve p) reply none h = resolve_fits market H p reply none h
+answer_fits market H quotes Settle reply none h = reply_fits market H Settle reply _ h.printed (record { acceptable = tt; in_range = tt })
+
+-- an allowed reply appends what may be appended
+allowed_fits : (market : Market) (H : List Entry) (quotes : Quotes) (command : Command) (reply : Reply) → IsAllowed market H quotes command reply → AppendsFit market H command reply
+unfolding IsUnrefused
+allowed_fits market H quotes command reply h = at (first_refusal market H command) refl h
+  where
+    at : (o : Option Refusal) → first_refusal market H command ≡ o → MatchOption o (IsAnswer market H quotes command reply) (λ why. reply ≡ Refused why) → AppendsFit market H command reply
+    at None none h = answer_fits market H quotes command reply none h
+    at (Some why) _ e = reply_fits market H command reply _ e (refused_fits market H command why)
+
+pub allowed_keeps : (market : Market) (now : Standing) (line : Line) (reply : Reply) → Stands market now.history → IsAllowedFor market now line reply → Stands market (after market now line reply).history
+unfolding AppendsFit
+allowed_keeps market now (OfCommand command) reply stands h =
+    entry_keeps market now.history (entry_of market now.history command reply) stands (allowed_fits market now.history now.quotes command reply h)
+allowed_keeps market now NoCommand reply stands h = stands
+allowed_keeps market now LongLine reply stands h = stands
+
+pub run_keeps : (market : Market) (old new : Standing) (lines : List Line) (replies : List Reply) → Stands market old.history → Run market old lines replies new → Stands market new.history
+run_keeps market old new [] [] stands h = subst (λ (now : Standing). Stands market now.history) (sym h) stands
+run_keeps market old new [] (reply ∷ replies) stands h = absurd h
+run_keeps market old new (line ∷ lines) [] stands h = absurd h
+run_keeps market old new (line ∷ lines) (reply ∷ replies) stands h =
+    run_keeps market (after market old line reply) new lines replies (allowed_keeps market old line reply stands h.0) h.1
+
+pub opening_stands : (market : Market) → Stands market []
+opening_stands market = record { sound = empty_sound (network_of market []); proper = empty_proper (network_of market []) }

@@ -1,0 +1,4 @@
+pub mod Unrefused
+pub mod Keeps
+pub mod Paid
+pub mod OneKind

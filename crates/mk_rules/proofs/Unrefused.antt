@@ -1,0 +1,95 @@
+-- What is known of a command that meets none of its refusals.
+use Rattle.std.proofs.Common.{◌≡◌, ℕ, ◌+◌, ◌<◌, ◌≤◌, ◌&&◌, ◌||◌, not, Bool, true, false, cond, leb, List, [], ◌∷◌, Option, Some, None, is_none, length, refl, sym, ap, ◌∙◌, arith}
+use Rattle.std.specs.Prelude.{option_map, find}
+use Rattle.std.specs.List.{AllByRecursion, list_any, position_or_len, filter_map}
+use Rattle.std.proofs.lemmas.Bool.{leb-true, and_parts}
+use Rattle.mk_net.specs.declared.words.Pair.{Pair}
+use Rattle.mk_net.specs.declared.words.PairText.{PairText}
+use Rattle.mk_net.specs.declared.words.QuestionText.{QuestionText}
+use Rattle.mk_net.specs.Texts.{same_text}
+use Rattle.mk_net.specs.Network.{Variable}
+use Rattle.mk_net.specs.Named.{pair_named}
+use Rattle.mk_net.specs.Asked.{Asked}
+use Rattle.mk_net.specs.Firsts.{fault_if, first_of}
+use Rattle.mk_net.proofs.Named.{pair_variable_in_range, pair_value_in_range}
+use Rattle.mk_exact.specs.History.{Entry, users}
+use Rattle.mk_exact.specs.Proper.{IsPairOf, IsQuestionOf}
+use Rattle.mk_rules.specs.Refusals.{question_named, pairs_of, user_number, has_joined, no_user, unknown, range}
+
+-- where the first of several refusals is none, none of them applies
+pub none_applies : {F : Type 0} (refusals : List (Option F)) → first_of refusals ≡ None → AllByRecursion (λ o. o ≡ None) refusals
+none_applies [] h = tt
+none_applies (None ∷ later) h = (refl, none_applies later h)
+none_applies (Some fault ∷ later) h = cc
+
+not_faulted : {F : Type 0} (test : Bool) (fault : F) → fault_if test fault ≡ None → test ≡ false
+not_faulted false fault h = refl
+not_faulted true fault h = cc
+
+not_mapped : {X Y : Type 0} (f : X → Y) (o : Option X) → option_map f o ≡ None → o ≡ None
+not_mapped f None h = refl
+not_mapped f (Some x) h = cc
+
+-- a name that stands in a list has a place in it
+place_of_any : {X : Type 0} (test : X → Bool) (xs : List X) → list_any test xs ≡ true → position_or_len test xs < length xs
+place_of_any test [] h = absurd (cc)
+place_of_any test (x ∷ xs) h = at (test x) (place_of_any test xs) h
+  where
+    at : (b : Bool) → (list_any test xs ≡ true → position_or_len test xs < length xs) → (b || list_any test xs) ≡ true
+        → cond (not b) (1 + position_or_len test xs) 0 < length (x ∷ xs)
+    at true later h = omega arith
+    at false later h = let inside : position_or_len test xs < length xs = later h in omega arith
+
+pub user_in_range : (H : List Entry) (u : List ℕ) → no_user H u ≡ None → user_number H u < length (users H)
+user_in_range H u h = place_of_any (same_text u) (users H) (joined (has_joined H u) (not_faulted _ _ h))
+  where
+    joined : (b : Bool) → not b ≡ false → b ≡ true
+    joined true h = refl
+    joined false h = cc
+
+pub number_in_range : (most n : ℕ) → range most n ≡ None → (1 ≤ n) × (n ≤ most)
+number_in_range most n h = let parts = and_parts (leb 1 n) (leb n most) (within (leb 1 n && leb n most) (not_faulted _ _ h)) in (leb-true 1 n parts.0, leb-true n most parts.1)
+  where
+    within : (b : Bool) → not b ≡ false → b ≡ true
+    within true h = refl
+    within false h = cc
+
+-- words that name a pair
+IsKnown : List Variable → PairText → Type 0
+IsKnown network p = (pair : Pair) × (pair_named network p ≡ Some pair) × IsPairOf network pair
+
+known : (network : List Variable) (p : PairText) (o : Option Pair) → pair_named network p ≡ o → is_none o ≡ false → IsKnown network p
+unfolding IsKnown
+known network p None e h = absurd (cc)
+known network p (Some pair) e h = (pair, e, record { variable = pair_variable_in_range network p pair (sym e); value = pair_value_in_range network p pair (sym e) })
+
+each_known : (network : List Variable) (ps : List PairText) → find (λ p. is_none (pair_named network p)) ps ≡ None → AllByRecursion (IsKnown network) ps
+each_known network [] h = tt
+each_known network (p ∷ ps) h = at (is_none (pair_named network p)) refl (each_known network ps) h
+  where
+    at : (b : Bool) → is_none (pair_named network p) ≡ b → (find (λ p. is_none (pair_named network p)) ps ≡ None → AllByRecursion (IsKnown network) ps)
+        → cond b (Some p) (find (λ p. is_none (pair_named network p)) ps) ≡ None → AllByRecursion (IsKnown network) (p ∷ ps)
+    at true e later h = cc
+    at false e later h = (known network p (pair_named network p) refl e, later h)
+
+condition_fits : (network : List Variable) (ps : List PairText) → AllByRecursion (IsKnown network) ps → AllByRecursion (IsPairOf network) (filter_map (pair_named network) ps)
+unfolding IsKnown
+condition_fits network [] h = tt
+condition_fits network (p ∷ ps) h = rw (h.0.1) (h.0.2, condition_fits network ps h.1)
+
+-- a resolved pair that is known
+pub pair_known : (network : List Variable) (p : PairText) → unknown network (p ∷ []) ≡ None → (pair : Pair) × (pair_named network p ≡ Some pair) × IsPairOf network pair
+unfolding IsKnown
+pair_known network p h = (each_known network (p ∷ []) (not_mapped _ _ h)).0
+
+-- a question whose pairs are known
+pub question_known : (network : List Variable) (q : QuestionText) (asked : Asked) → unknown network (pairs_of q) ≡ None → question_named network q ≡ Some asked → IsQuestionOf network asked
+unfolding IsKnown
+question_known network q asked h e =
+    let each : AllByRecursion (IsKnown network) (pairs_of q) = each_known network (pairs_of q) (not_mapped _ _ h) in
+    let condition : List Pair = filter_map (pair_named network) q.condition.items in
+    let is : asked ≡ record { target = each.0.0; condition = condition } = the_value (sym e ∙ ap (option_map (λ (t : Pair). record { target = t; condition = condition })) each.0.1) in
+    rw is (record { target = each.0.2; condition = condition_fits network q.condition.items each.1 })
+  where
+    the_value : {a b : Asked} → Some a ≡ Some b → a ≡ b
+    the_value h = cc

@@ -1,0 +1,64 @@
+use Rattle.std.proofs.Common.{◌≡◌, ℕ, ◌+◌, ◌*◌, ◌^◌, ◌<◌, ◌≤◌, ◌⊎◌, inl, inr, List, [], ◌∷◌, get_or, refl, sym, ap, subst, arith, mul-le-mul_right}
+use Rattle.std.specs.List.{AllZip, enumerate_from}
+use Rattle.std.proofs.Math.Nat.{pow-le-pow_right}
+use Rattle.std.proofs.lemmas.Bool.{cases_lt}
+use Rattle.mk_exact.specs.History.{users}
+use Rattle.mk_exact.specs.Factors.{Fraction, factor}
+use Rattle.mk_exact.specs.Cash.{IsCash, CoversCash}
+use Rattle.mk_exact.specs.Examples.{coin, alice, heads_taken}
+use Rattle.mk_reply.specs.declared.reply.Payment.{Payment}
+use Rattle.mk_reply.specs.declared.reply.Reply.{Reply}
+use Rattle.mk_reply.specs.declared.reply.Reply.TheVariants.{Settled}
+use Rattle.mk_rules.specs.Answers.{IsPayment, IsSettlement}
+use Rattle.mk_rules.specs.Examples.{bob, heads_up, paying, settled_with}
+use Rattle.mk_rules.proofs.examples.example_settlement.Goals as goal
+
+-- a factor has no more cash than its cash
+no_more : (q : Fraction) (b k n : ℕ) → IsCash q b k → IsCash q b n → n ≤ k
+no_more q b k n h cash = at (cases_lt k n)
+  where
+    at : (k < n) ⊎ (n ≤ k) → n ≤ k
+    at (inl more) =
+        let powers : 2 ^ (k + 1) ≤ 2 ^ n = (let p : k + 1 ≤ n = omega arith in pow-le-pow_right {n = 2} (omega arith) p) in
+        let most : 2 ^ (k + 1) * q.den ^ b ≤ 2 ^ n * q.den ^ b = mul-le-mul_right (q.den ^ b) powers in
+        omega (arith, h.greatest, cash.covered)
+    at (inr most) = most
+
+alice_covers : (high : ℕ) → 126 ≤ high → high ≤ 127 → IsCash (factor heads_taken 0 (0 ∷ [])) 100 126 → CoversCash (factor heads_up 0 (0 ∷ [])) 100 126 high
+alice_covers high p q h = record { cash = 126; is_cash = h; above = omega arith; below = omega arith; narrow = omega arith }
+
+bob_covers : (high : ℕ) → high ≤ 1 → CoversCash (factor heads_up 1 (0 ∷ [])) 100 0 high
+bob_covers high p = record { cash = 0; is_cash = record { covered = omega arith; greatest = omega arith }; above = omega arith; below = omega arith; narrow = omega arith }
+
+settlement : (a b : ℕ) → 126 ≤ a → a ≤ 127 → b ≤ 1 → IsCash (factor heads_taken 0 (0 ∷ [])) 100 126
+    → IsSettlement coin heads_up 100 (settled_with (paying alice 126 a 126 ∷ paying bob 0 b 0 ∷ []))
+settlement a b p q r h = record {
+  state = 0 ∷ [];
+  one_state = refl;
+  payments = paying alice 126 a 126 ∷ paying bob 0 b 0 ∷ [];
+  printed = refl;
+  paid = (record { name = refl; covers = alice_covers a p q h; low_end = refl }, (record { name = refl; covers = bob_covers b r; low_end = refl }, tt));
+}
+
+payments_in : Reply → List Payment
+payments_in (Settled at payments) = payments.items
+payments_in _ = []
+
+-- what the payments of an allowed settlement are
+are_paid : (payments : List Payment) → IsSettlement coin heads_up 100 (settled_with payments) → AllZip (IsPayment heads_up 100 (0 ∷ [])) (enumerate_from 0 (users heads_up)) payments
+unfolding payments_in
+are_paid payments h =
+    let state : h.state ≡ 0 ∷ [] = ap (λ (states : List (List ℕ)). get_or states 0 []) (sym h.one_state) in
+    subst (λ (s : List ℕ). AllZip (IsPayment heads_up 100 s) (enumerate_from 0 (users heads_up)) payments) state
+    (subst (λ (ps : List Payment). AllZip (IsPayment heads_up 100 h.state) (enumerate_from 0 (users heads_up)) ps) (sym (ap payments_in h.printed)) h.paid)
+
+pub returns : goal.returns
+returns c = record {
+  allowed = settlement 126 0 (omega arith) (omega arith) (omega arith) c.example_cash.ensures.heads_cash;
+  wider = settlement 127 1 (omega arith) (omega arith) (omega arith) c.example_cash.ensures.heads_cash;
+  not_high = λ h. omega (arith, (are_paid _ h).0.low_end);
+  not_above = λ h. let covers = (are_paid _ h).0.covers in
+      omega (arith, no_more (factor heads_up 0 (0 ∷ [])) 100 126 covers.cash c.example_cash.ensures.heads_cash covers.is_cash, covers.above);
+  not_one = λ h. (are_paid _ h).1;
+  in_order = λ h. omega (arith, ap (λ (name : List ℕ). get_or name 0 0) (are_paid _ h).0.name);
+}

@@ -1,0 +1,6 @@
+use Rattle.mk_rules.specs.Transcript.{opening}
+use Rattle.mk_rules.proofs.Keeps.{run_keeps, opening_stands}
+use Rattle.mk_rules.proofs.laws.run_stands.Goals as goal
+
+pub returns : goal.returns
+returns c = λ market new lines replies run. run_keeps market opening new lines replies (opening_stands market) run

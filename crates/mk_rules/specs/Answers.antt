@@ -1,0 +1,153 @@
+-- The replies that a market allows to a command, the entry that a reply appends, and the quotes that it sets.
+use Rattle.std.specs.Prelude.{◌≡◌, ℕ, ◌+◌, ◌<◌, List, [], ◌∷◌, ◌++◌, Option, Some, None, option_map, option_to_list, IsSomeAnd, MatchOption, slice_set, ◌⊎◌}
+use Rattle.std.specs.List.{AllZip, enumerate_from}
+use Rattle.mk_net.specs.declared.words.QuestionText.{QuestionText}
+use Rattle.mk_net.specs.Network.{Variable}
+use Rattle.mk_net.specs.Named.{pair_named}
+use Rattle.mk_net.specs.Asked.{Asked}
+use Rattle.mk_exact.specs.Events.{always}
+use Rattle.mk_exact.specs.History.{Entry, Join, Deposit as Deposits, Withdraw as Withdraws, Trade, Resolve as Resolves, Settle as Settles, users, revision}
+use Rattle.mk_exact.specs.Weight.{IsSmall, possible_states}
+use Rattle.mk_exact.specs.Factors.{Fraction, factor, factor_with, least_gain}
+use Rattle.mk_exact.specs.Prices.{CoversPrice, exact_price}
+use Rattle.mk_exact.specs.Cash.{CoversCash}
+use Rattle.mk_exact.specs.Limits.{Inside}
+use Rattle.mk_exact.specs.Sides.{AreRightLimits, IsFairPair}
+use Rattle.mk_exact.specs.Accepted.{Covers, IsMost}
+use Rattle.mk_exact.specs.Market.{Market, network_of}
+use Rattle.mk_command.specs.declared.command.Command.{Command}
+use Rattle.mk_command.specs.declared.command.Command.TheVariants.{User, Deposit, Withdraw, Price, Limits, Edit, Worst, Resolve, Settle}
+use Rattle.mk_reply.specs.declared.refusal.Refusal.TheVariants.{Beyond, Short, Memory}
+use Rattle.mk_reply.specs.declared.reply.Payment.{Payment}
+use Rattle.mk_reply.specs.declared.reply.Reply.{Reply}
+use Rattle.mk_reply.specs.declared.reply.Reply.TheVariants.{Joined, Deposited, Withdrawn, Price as Priced, Limits as Limited, Traded, Worst as Worsted, Resolved, Settled, Refused}
+use Rattle.mk_rules.specs.Refusals.{question_named, user_number, first_refusal}
+use Rattle.mk_rules.specs.Quotes.{Interval, Quotes, last_quote, current_limits}
+
+-- a trade with a fair and solvent pair
+pub record IsTrade (network : List Variable) (H : List Entry) (u : ℕ) (asked : Asked) (X : ℕ) (reply : Reply) : Type 0 where
+  pub hit : ℕ
+  pub miss : ℕ
+  pub printed : reply ≡ Traded hit miss (revision H + 1)
+  pub fair : IsFairPair network H u asked X hit miss
+
+-- limits that X is outside of
+pub record IsBeyond (limits : Interval) (X : ℕ) (reply : Reply) : Type 0 where
+  pub outside : ¬ Inside limits X
+  pub printed : reply ≡ Refused (Beyond limits)
+
+-- an edit that is judged by limits that were quoted: inside it is a trade, outside a refusal with these limits
+abbrev pub IsJudged : List Variable → List Entry → ℕ → Asked → ℕ → Interval → Reply → Type 0
+IsJudged network H u asked X limits reply = (Inside limits X × IsTrade network H u asked X reply) ⊎ IsBeyond limits X reply
+
+-- right limits that X is outside of
+pub record IsBeyondRight (network : List Variable) (H : List Entry) (u : ℕ) (asked : Asked) (X : ℕ) (reply : Reply) : Type 0 where
+  pub limits : Interval
+  pub right : AreRightLimits network H u asked limits
+  pub beyond : IsBeyond limits X reply
+
+-- an edit that is judged by limits made for this reply
+abbrev pub IsJudgedAfresh : List Variable → List Entry → ℕ → Asked → ℕ → Reply → Type 0
+IsJudgedAfresh network H u asked X reply = IsTrade network H u asked X reply ⊎ IsBeyondRight network H u asked X reply
+
+-- a withdrawal that is too much, with the bits that may be taken out
+pub record IsShort (small : Type 0) (q : Fraction) (bits : ℕ) (reply : Reply) : Type 0 where
+  pub most : ℕ
+  pub less : most < bits
+  pub is_most : IsMost small q most
+  pub printed : reply ≡ Refused (Short most)
+
+-- a withdrawal that the factor covers, or one that is too much
+abbrev pub IsWithdrawal : Type 0 → Fraction → List ℕ → ℕ → ℕ → Reply → Type 0
+IsWithdrawal small q u bits at reply = (Covers q bits × (reply ≡ Withdrawn u bits at)) ⊎ IsShort small q bits reply
+
+-- an interval that covers the exact price
+pub record IsPrice (network : List Variable) (H : List Entry) (asked : Asked) (reply : Reply) : Type 0 where
+  pub low : ℕ
+  pub high : ℕ
+  pub printed : reply ≡ Priced low high
+  pub covers : CoversPrice (IsSmall network H) (exact_price network H asked) low high
+
+-- right limits
+pub record IsLimits (network : List Variable) (H : List Entry) (u : ℕ) (asked : Asked) (reply : Reply) : Type 0 where
+  pub limits : Interval
+  pub printed : reply ≡ Limited limits (revision H)
+  pub right : AreRightLimits network H u asked limits
+
+-- an interval that covers the cash of a factor
+pub record IsWorst (q : Fraction) (points_per_bit : ℕ) (reply : Reply) : Type 0 where
+  pub low : ℕ
+  pub high : ℕ
+  pub printed : reply ≡ Worsted low high
+  pub covers : CoversCash q points_per_bit low high
+
+-- a user's payment in the one possible state: the low end of an interval that covers the cash
+pub record IsPayment (H : List Entry) (points_per_bit : ℕ) (s : List ℕ) (user : ℕ × List ℕ) (payment : Payment) : Type 0 where
+  pub name : payment.user ≡ user.1
+  pub covers : CoversCash (factor H (user.0) s) points_per_bit payment.low payment.high
+  pub low_end : payment.paid ≡ payment.low
+
+-- one payment for each user, in the order of joining
+pub record IsSettlement (network : List Variable) (H : List Entry) (points_per_bit : ℕ) (reply : Reply) : Type 0 where
+  pub state : List ℕ
+  pub one_state : possible_states network H always ≡ state ∷ []
+  pub payments : List Payment
+  pub printed : reply ≡ Settled (revision H + 1) (record { items = payments })
+  pub paid : AllZip (IsPayment H points_per_bit state) (enumerate_from 0 (users H)) payments
+
+-- the replies to a command that meets no refusal of the table, but perhaps `beyond`, `short` or want of memory
+abbrev pub IsAnswer : Market → List Entry → Quotes → Command → Reply → Type 0
+IsAnswer market H quotes (User u) reply = (reply ≡ Joined u (revision H + 1)) ⊎ (reply ≡ Refused Memory)
+IsAnswer market H quotes (Deposit u bits) reply = reply ≡ Deposited u bits (revision H + 1)
+IsAnswer market H quotes (Withdraw u bits) reply =
+    let network = network_of market H in
+    let n = user_number H u in
+    IsSomeAnd (least_gain network H n always) (λ g. IsWithdrawal (IsSmall network H) (factor_with H n g) u bits (revision H + 1) reply)
+IsAnswer market H quotes (Price q) reply =
+    let network = network_of market H in
+    IsSomeAnd (question_named network q) (λ asked. IsPrice network H asked reply)
+IsAnswer market H quotes (Limits u q) reply =
+    let network = network_of market H in
+    IsSomeAnd (question_named network q) (λ asked. IsLimits network H (user_number H u) asked reply)
+IsAnswer market H quotes (Edit u q X seen) reply =
+    let network = network_of market H in
+    let n = user_number H u in
+    IsSomeAnd (question_named network q) (λ asked. MatchOption (current_limits (last_quote quotes n) asked (revision H))
+    (IsJudgedAfresh network H n asked X reply) (λ limits. IsJudged network H n asked X limits reply))
+IsAnswer market H quotes (Worst u) reply =
+    let n = user_number H u in
+    IsSomeAnd (least_gain (network_of market H) H n always) (λ g. IsWorst (factor_with H n g) market.points_per_bit reply)
+IsAnswer market H quotes (Resolve p) reply = reply ≡ Resolved p (revision H + 1)
+IsAnswer market H quotes Settle reply = IsSettlement (network_of market H) H market.points_per_bit reply
+
+-- the refusal of the table that comes first is the one reply; else the command's answers
+abbrev pub IsAllowed : Market → List Entry → Quotes → Command → Reply → Type 0
+IsAllowed market H quotes command reply =
+    MatchOption (first_refusal market H command) (IsAnswer market H quotes command reply) (λ why. reply ≡ Refused why)
+
+-- the entry that a reply appends
+abbrev pub entry_of : Market → List Entry → Command → Reply → Option Entry
+entry_of market H (User u) (Joined _ _) = Some (Join u)
+entry_of market H (Deposit u bits) (Deposited _ _ _) = Some (Deposits (user_number H u) bits)
+entry_of market H (Withdraw u bits) (Withdrawn _ _ _) = Some (Withdraws (user_number H u) bits)
+entry_of market H (Edit u q X seen) (Traded hit miss _) =
+    option_map (λ asked. Trade (user_number H u) (record { question = asked; hit = hit; miss = miss })) (question_named (network_of market H) q)
+entry_of market H (Resolve p) (Resolved _ _) = option_map Resolves (pair_named (network_of market H) p)
+entry_of market H Settle (Settled _ _) = Some Settles
+entry_of market H _ _ = None
+
+abbrev pub next_history : Market → List Entry → Command → Reply → List Entry
+next_history market H command reply = H ++ option_to_list (entry_of market H command reply)
+
+-- a user's quote of this question, at this revision, with these limits
+abbrev pub quoted : Market → List Entry → Quotes → List ℕ → QuestionText → Interval → Quotes
+quoted market H quotes u q limits =
+    slice_set quotes (user_number H u)
+    (option_map (λ asked. record { question = asked; at = revision H; limits = limits }) (question_named (network_of market H) q))
+
+-- a new user has no quote, `limits` and `beyond` set the user's, and nothing else changes one
+abbrev pub next_quotes : Market → List Entry → Quotes → Command → Reply → Quotes
+next_quotes market H quotes (User u) (Joined _ _) = quotes ++ None ∷ []
+next_quotes market H quotes (Limits u q) (Limited limits _) = quoted market H quotes u q limits
+next_quotes market H quotes (Edit u q X seen) (Refused (Beyond limits)) = quoted market H quotes u q limits
+next_quotes market H quotes _ _ = quotes

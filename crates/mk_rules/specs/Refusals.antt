@@ -1,0 +1,133 @@
+-- The refusals that come in every history, and their order. Each answers a refusal or none.
+use Rattle.std.specs.Prelude.{ℕ, List, [], ◌∷◌, length, map, Bool, false, ◌&&◌, not, ◌==◌, nat_le, if◌then◌else◌, is_none, Option, Some, None, option_map, find}
+use Rattle.std.specs.List.{list_all, list_any, position_or_len, enumerate_from, filter_map, count_by}
+use Rattle.mk_net.specs.declared.words.Pair.{Pair}
+use Rattle.mk_net.specs.declared.words.PairText.{PairText}
+use Rattle.mk_net.specs.declared.words.QuestionText.{QuestionText}
+use Rattle.mk_net.specs.Texts.{same_text}
+use Rattle.mk_net.specs.Network.{Variable}
+use Rattle.mk_net.specs.Named.{pair_named}
+use Rattle.mk_net.specs.Asked.{Asked}
+use Rattle.mk_net.specs.Firsts.{fault_if, first_of}
+use Rattle.mk_exact.specs.History.{Entry, users, trades, resolutions, is_settled, is_transfer, revision}
+use Rattle.mk_exact.specs.Market.{Market, network_of, cliques_of}
+use Rattle.mk_command.specs.declared.command.Command.{Command}
+use Rattle.mk_command.specs.declared.command.Command.TheVariants.{User, Deposit, Withdraw, Price, Limits, Edit, Worst, Resolve, Settle}
+use Rattle.mk_reply.specs.declared.refusal.Refusal.{Refusal}
+use Rattle.mk_reply.specs.declared.refusal.Refusal.TheVariants.{Settled, User as NoUser, Exists, Users, Unknown, Twice, Stale, Resolved, Impossible, Wide, Range, Full, Unresolved}
+
+-- the pairs of a question as they are written, the target first
+abbrev pub pairs_of : QuestionText → List PairText
+pairs_of q = q.target ∷ q.condition.items
+
+-- a question in the network's numbers; where its target is unknown there is none
+abbrev pub question_named : List Variable → QuestionText → Option Asked
+question_named network q =
+    option_map (λ t. record { target = t; condition = filter_map (pair_named network) q.condition.items }) (pair_named network q.target)
+
+-- a user's number, from 0 in the order of joining
+abbrev pub user_number : List Entry → List ℕ → ℕ
+user_number H u = position_or_len (same_text u) (users H)
+
+abbrev pub has_joined : List Entry → List ℕ → Bool
+has_joined H u = list_any (same_text u) (users H)
+
+abbrev pub is_resolved : List Entry → ℕ → Bool
+is_resolved H v = list_any (λ (r : Pair). r.variable == v) (resolutions H)
+
+-- a resolution gave the pair's variable another value
+abbrev pub contradicts : List Entry → Pair → Bool
+contradicts H p = list_any (λ (r : Pair). (r.variable == p.variable) && not (r.value == p.value)) (resolutions H)
+
+abbrev pub passes : {X : Type 0} → (X → Bool) → Option X → Bool
+passes test None = false
+passes test (Some x) = test x
+
+-- the first name that stands a second time, from left to right
+abbrev pub first_repeat : List (List ℕ) → List (List ℕ) → Option (List ℕ)
+first_repeat before [] = None
+first_repeat before (name ∷ names) =
+    if list_any (same_text name) before then Some name else first_repeat (name ∷ before) names
+
+-- no clique holds all variables of a question
+abbrev pub is_wide : List (List ℕ) → Asked → Bool
+is_wide cliques asked =
+    not (list_any (λ clique. list_all (λ (p : Pair). list_any (λ v. v == p.variable) clique) (asked.target ∷ asked.condition)) cliques)
+
+abbrev pub settled : List Entry → Option Refusal
+settled H = fault_if (is_settled H) Settled
+
+abbrev pub no_user : List Entry → List ℕ → Option Refusal
+no_user H u = fault_if (not (has_joined H u)) (NoUser u)
+
+abbrev pub exists : List Entry → List ℕ → Option Refusal
+exists H u = fault_if (has_joined H u) (Exists u)
+
+abbrev pub users_full : List Entry → Option Refusal
+users_full H = fault_if (nat_le 256 (length (users H))) (Users 256)
+
+abbrev pub unknown : List Variable → List PairText → Option Refusal
+unknown network pairs = option_map Unknown (find (λ p. is_none (pair_named network p)) pairs)
+
+abbrev pub twice : QuestionText → Option Refusal
+twice q = option_map Twice (first_repeat [] (map (λ (p : PairText). p.variable) (pairs_of q)))
+
+abbrev pub stale : List Entry → Option ℕ → Option Refusal
+stale H None = None
+stale H (Some named) = fault_if (not (named == revision H)) (Stale named (revision H))
+
+abbrev pub resolved : List Variable → List Entry → PairText → Option Refusal
+resolved network H p = fault_if (passes (λ (t : Pair). is_resolved H t.variable) (pair_named network p)) (Resolved p.variable)
+
+abbrev pub impossible : List Variable → List Entry → List PairText → Option Refusal
+impossible network H pairs = option_map Impossible (find (λ p. passes (contradicts H) (pair_named network p)) pairs)
+
+abbrev pub wide : List Variable → List (List ℕ) → QuestionText → Option Refusal
+wide network cliques q = fault_if (passes (is_wide cliques) (question_named network q)) Wide
+
+-- a number is 1 to a most
+abbrev pub range : ℕ → ℕ → Option Refusal
+range most n = fault_if (not (nat_le 1 n && nat_le n most)) (Range n)
+
+-- as many are held as may be
+abbrev pub full : ℕ → ℕ → Option Refusal
+full most held = fault_if (nat_le most held) (Full most)
+
+abbrev pub transfers_full : List Entry → Option Refusal
+transfers_full H = full 65536 (count_by is_transfer H)
+
+abbrev pub trades_full : Market → List Entry → Option Refusal
+trades_full market H = full market.max_trades (length (trades H))
+
+-- the first variable that is not resolved
+abbrev pub unresolved : List Variable → List Entry → Option Refusal
+unresolved network H =
+    option_map (λ (numbered : ℕ × Variable). Unresolved (numbered.1).name)
+    (find (λ (numbered : ℕ × Variable). not (is_resolved H (numbered.0))) (enumerate_from 0 network))
+
+-- what each command is refused for, in this order
+abbrev pub refusals : Market → List Entry → Command → List (Option Refusal)
+refusals market H (User u) = settled H ∷ exists H u ∷ users_full H ∷ []
+refusals market H (Deposit u bits) = settled H ∷ no_user H u ∷ range 1000 bits ∷ transfers_full H ∷ []
+refusals market H (Withdraw u bits) = settled H ∷ no_user H u ∷ range 1000 bits ∷ transfers_full H ∷ []
+refusals market H (Price q) =
+    let network = network_of market H in
+    settled H ∷ unknown network (pairs_of q) ∷ twice q ∷ resolved network H q.target ∷ impossible network H q.condition.items
+    ∷ wide network (cliques_of market H) q ∷ []
+refusals market H (Limits u q) =
+    let network = network_of market H in
+    settled H ∷ no_user H u ∷ unknown network (pairs_of q) ∷ twice q ∷ resolved network H q.target
+    ∷ impossible network H q.condition.items ∷ wide network (cliques_of market H) q ∷ []
+refusals market H (Edit u q to seen) =
+    let network = network_of market H in
+    settled H ∷ no_user H u ∷ unknown network (pairs_of q) ∷ twice q ∷ stale H seen ∷ resolved network H q.target
+    ∷ impossible network H q.condition.items ∷ wide network (cliques_of market H) q ∷ range 999999 to ∷ trades_full market H ∷ []
+refusals market H (Worst u) = settled H ∷ no_user H u ∷ []
+refusals market H (Resolve p) =
+    let network = network_of market H in
+    settled H ∷ unknown network (p ∷ []) ∷ resolved network H p ∷ []
+refusals market H Settle = settled H ∷ unresolved (network_of market H) H ∷ []
+
+-- the first that applies
+abbrev pub first_refusal : Market → List Entry → Command → Option Refusal
+first_refusal market H command = first_of (refusals market H command)

@@ -1,0 +1,47 @@
+-- Transcripts over a list of lines: each line is answered by an allowed reply, in the standing that the earlier ones leave.
+use Rattle.std.specs.Prelude.{◌≡◌, List, [], ◌∷◌}
+use Rattle.mk_exact.specs.History.{Entry}
+use Rattle.mk_exact.specs.Market.{Market}
+use Rattle.mk_command.specs.declared.command.Command.{Command}
+use Rattle.mk_reply.specs.declared.reply.Reply.{Reply}
+use Rattle.mk_reply.specs.declared.reply.Reply.TheVariants.{Refused}
+use Rattle.mk_reply.specs.declared.refusal.Refusal.TheVariants.{Syntax, Long}
+use Rattle.mk_rules.specs.Quotes.{Quotes}
+use Rattle.mk_rules.specs.Answers.{IsAllowed, next_history, next_quotes}
+
+-- what the earlier lines and replies leave
+pub record Standing : Type 0 where
+  pub history : List Entry
+  pub quotes : Quotes
+
+abbrev pub opening : Standing
+opening = record { history = []; quotes = [] }
+
+-- a line that is not blank: a command, the text of none, or a long line
+pub data Line : Type 0 where
+  OfCommand : (command : Command) → Line
+  NoCommand : Line
+  LongLine : Line
+
+-- the replies to a line
+abbrev pub IsAllowedFor : Market → Standing → Line → Reply → Type 0
+IsAllowedFor market now (OfCommand command) reply = IsAllowed market now.history now.quotes command reply
+IsAllowedFor market now NoCommand reply = reply ≡ Refused Syntax
+IsAllowedFor market now LongLine reply = reply ≡ Refused Long
+
+-- what stands after a reply
+abbrev pub after : Market → Standing → Line → Reply → Standing
+after market now (OfCommand command) reply = record {
+  history = next_history market now.history command reply;
+  quotes = next_quotes market now.history now.quotes command reply;
+}
+after market now NoCommand reply = now
+after market now LongLine reply = now
+
+-- each line is answered in turn by an allowed reply
+abbrev pub Run : Market → Standing → List Line → List Reply → Standing → Type 0
+Run market old [] [] new = new ≡ old
+Run market old [] (reply ∷ replies) new = ⊥
+Run market old (line ∷ lines) [] new = ⊥
+Run market old (line ∷ lines) (reply ∷ replies) new =
+    IsAllowedFor market old line reply × Run market (after market old line reply) lines replies new

@@ -1,0 +1,38 @@
+//! What allowed replies keep.
+ghost use Rattle.mk_rules.specs.Laws.{AllowedKeeps, RunKeeps, RunStands, RunIsBounded, SettlementKeeps, OneRefusal, OneKind};
+
+/// An allowed reply leads from a sound history to a sound one, whatever the line, and users, pairs and units stay in range.
+pub fn allowed_keeps()
+    ensures { AllowedKeeps }
+{}
+
+/// So does a run of any length.
+pub fn run_keeps()
+    ensures { RunKeeps }
+{}
+
+/// After each run from the opening nobody can be bankrupt, and the total weight per unit has not risen.
+pub fn run_stands()
+    ensures { RunStands }
+{}
+
+/// After each run from the opening, all users together have gained at most one over a possible state's initial
+/// probability.
+pub fn run_is_bounded()
+    ensures { RunIsBounded }
+{}
+
+/// A settlement that is allowed costs the operator at most the bound.
+pub fn settlement_keeps()
+    ensures { SettlementKeeps }
+{}
+
+/// Where a refusal of the table applies, one reply is allowed.
+pub fn one_refusal()
+    ensures { OneRefusal }
+{}
+
+/// In the small case an edit that is judged afresh has one allowed kind of reply.
+pub fn one_kind()
+    ensures { OneKind }
+{}

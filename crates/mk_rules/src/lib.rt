@@ -1,0 +1,15 @@
+//! The rules of the market: what each command is refused for, the replies that are allowed, and what stands after them.
+//! Nothing here runs; the definitions in `specs/` are what a market's replies are measured against, and the functions
+//! below state laws of them, and values in small markets.
+#![tactic(auto)]
+
+mod examples;
+mod laws;
+
+pub use examples::{
+    example_answers, example_quotes, example_refusals, example_run, example_settlement,
+    example_withdrawal,
+};
+pub use laws::{
+    allowed_keeps, one_kind, one_refusal, run_is_bounded, run_keeps, run_stands, settlement_keeps,
+};
