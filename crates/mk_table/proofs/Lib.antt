@@ -1,0 +1,10 @@
+pub mod Places
+pub mod Members
+pub mod Kept
+pub mod Writing
+pub mod Opened
+pub mod Changed
+pub mod Rows
+pub mod Rooms
+pub mod Examples
+pub mod Runs

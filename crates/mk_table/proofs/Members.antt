@@ -1,0 +1,138 @@
+-- The variables of a set in rising order, and their sizes by their place in the list.
+use Rattle.std.proofs.Common.{◌≡◌, ℕ, suc, zero, ◌+◌, ◌<◌, ◌≤◌, Bool, true, false, cond, not, ◌||◌, ◌⊎◌, inl, inr, List, [], ◌∷◌, ◌++◌, map, length, get_or, slice_index, slice_index_or, All, refl, sym, ap, subst, ◌∙◌, arith, eq-eqb, ne_eqb, ◌==◌}
+use Rattle.std.specs.List.{range_with_len, position_or_len}
+use Rattle.std.proofs.lemmas.Bool.{cases_eq, cases_lt, both_ways}
+use Rattle.std.proofs.lemmas.List.{get_or_default, get_or_past}
+use Rattle.std.proofs.lemmas.List.Elements.{All-nil, All-cons, All-head, All-tail, All-weaker}
+use Rattle.mk_exact.specs.States.{numbers_below}
+use Rattle.mk_sums.specs.Sums.{listed}
+use Rattle.mk_sums.specs.Cells.{keep, Apart}
+use Rattle.mk_table.specs.Scopes.{ScopeOf, IsScope, Rising, size_in}
+
+pub range_more : (a n : ℕ) → range_with_len a (suc n) ≡ range_with_len a n ++ (a + n) ∷ []
+range_more a zero = let e : a ≡ a + 0 = omega arith in ap (λ x. x ∷ []) e
+range_more a (suc n) =
+    let e : a + 1 + n ≡ a + suc n = omega arith in
+    ap (λ xs. a ∷ xs) (range_more (a + 1) n ∙ ap (λ x. range_with_len (a + 1) n ++ x ∷ []) e)
+
+keep-append : (set : ℕ → Bool) (xs ys : List ℕ) → keep set (xs ++ ys) ≡ keep set xs ++ keep set ys
+keep-append set [] ys = refl
+keep-append set (x ∷ xs) ys = at (set x) (keep-append set xs ys)
+  where
+    at : (b : Bool) → keep set (xs ++ ys) ≡ keep set xs ++ keep set ys
+        → cond b (x ∷ keep set (xs ++ ys)) (keep set (xs ++ ys)) ≡ cond b (x ∷ keep set xs) (keep set xs) ++ keep set ys
+    at true ih = ap (λ zs. x ∷ zs) ih
+    at false ih = ih
+
+-- one number more
+pub keep_more : (set : ℕ → Bool) (n : ℕ) → keep set (numbers_below (n + 1)) ≡ keep set (numbers_below n) ++ cond (set n) (n ∷ []) []
+keep_more set n =
+    let e : n + 1 ≡ suc n = omega arith in
+    let z : 0 + n ≡ n = omega arith in
+    ap (λ k. keep set (range_with_len 0 k)) e
+    ∙ ap (keep set) (range_more 0 n ∙ ap (λ x. range_with_len 0 n ++ x ∷ []) z)
+    ∙ keep-append set (range_with_len 0 n) (n ∷ [])
+
+pub keep_in : (set : ℕ → Bool) (n : ℕ) → set n ≡ true → keep set (numbers_below (n + 1)) ≡ keep set (numbers_below n) ++ n ∷ []
+keep_in set n h = keep_more set n ∙ ap (λ b. keep set (numbers_below n) ++ cond b (n ∷ []) []) h
+
+append_none : (xs : List ℕ) → xs ++ [] ≡ xs
+append_none [] = refl
+append_none (x ∷ xs) = ap (λ ys. x ∷ ys) (append_none xs)
+
+pub keep_out : (set : ℕ → Bool) (n : ℕ) → set n ≡ false → keep set (numbers_below (n + 1)) ≡ keep set (numbers_below n)
+keep_out set n h = keep_more set n ∙ ap (λ b. keep set (numbers_below n) ++ cond b (n ∷ []) []) h ∙ append_none (keep set (numbers_below n))
+
+-- all of them from a on, and below the end
+keep_above : (set : ℕ → Bool) (a n : ℕ) → All (λ y. a ≤ y) (keep set (range_with_len a n))
+keep_above set a zero = All-nil (λ y. a ≤ y)
+keep_above set a (suc n) = at (set a) (All-weaker (λ y. a + 1 ≤ y) (λ y. a ≤ y) (λ y p. omega arith) (keep set (range_with_len (a + 1) n)) (keep_above set (a + 1) n))
+  where
+    at : (b : Bool) → All (λ y. a ≤ y) (keep set (range_with_len (a + 1) n)) → All (λ y. a ≤ y) (cond b (a ∷ keep set (range_with_len (a + 1) n)) (keep set (range_with_len (a + 1) n)))
+    at true h = All-cons (λ y. a ≤ y) a (keep set (range_with_len (a + 1) n)) (omega arith) h
+    at false h = h
+
+pub keep_below : (set : ℕ → Bool) (a n : ℕ) → All (λ y. y < a + n) (keep set (range_with_len a n))
+keep_below set a zero = All-nil (λ y. y < a + 0)
+keep_below set a (suc n) = at (set a) (All-weaker (λ y. y < a + 1 + n) (λ y. y < a + suc n) (λ y p. omega arith) (keep set (range_with_len (a + 1) n)) (keep_below set (a + 1) n))
+  where
+    at : (b : Bool) → All (λ y. y < a + suc n) (keep set (range_with_len (a + 1) n)) → All (λ y. y < a + suc n) (cond b (a ∷ keep set (range_with_len (a + 1) n)) (keep set (range_with_len (a + 1) n)))
+    at true h = All-cons (λ y. y < a + suc n) a (keep set (range_with_len (a + 1) n)) (omega arith) h
+    at false h = h
+
+pub keep_rising : (set : ℕ → Bool) (a n : ℕ) → Rising (keep set (range_with_len a n))
+keep_rising set a zero = tt
+keep_rising set a (suc n) = at (set a) (keep_rising set (a + 1) n)
+  where
+    at : (b : Bool) → Rising (keep set (range_with_len (a + 1) n)) → Rising (cond b (a ∷ keep set (range_with_len (a + 1) n)) (keep set (range_with_len (a + 1) n)))
+    at true h = (All-weaker (λ y. a + 1 ≤ y) (λ y. a < y) (λ y p. omega arith) (keep set (range_with_len (a + 1) n)) (keep_above set (a + 1) n), h)
+    at false h = h
+
+pub keep_few : (set : ℕ → Bool) (a n : ℕ) → length (keep set (range_with_len a n)) ≤ n
+keep_few set a zero = omega arith
+keep_few set a (suc n) = at (set a) (keep_few set (a + 1) n)
+  where
+    at : (b : Bool) → length (keep set (range_with_len (a + 1) n)) ≤ n → length (cond b (a ∷ keep set (range_with_len (a + 1) n)) (keep set (range_with_len (a + 1) n))) ≤ suc n
+    at true h = omega arith
+    at false h = omega arith
+
+-- a variable below all others is not listed
+not_listed : (x : ℕ) (xs : List ℕ) → All (λ y. x < y) xs → listed xs x ≡ false
+not_listed x [] h = refl
+not_listed x (y ∷ xs) h =
+    let l : x < y = All-head (λ y. x < y) y xs h in
+    ap (λ b. b || listed xs x) (ne_eqb x y (λ e. omega arith)) ∙ not_listed x xs (All-tail (λ y. x < y) y xs h)
+
+pub rising_apart : (xs : List ℕ) → Rising xs → Apart xs
+rising_apart [] h = tt
+rising_apart (x ∷ xs) h = (not_listed x xs h.0, rising_apart xs h.1)
+
+pub rising_at : (xs : List ℕ) → Rising xs → (k i : ℕ) → k < i → i < length xs → get_or xs k 0 < get_or xs i 0
+rising_at [] h k i p q = absurd (omega arith)
+rising_at (x ∷ xs) h k zero p q = absurd (omega arith)
+rising_at (x ∷ xs) h zero (suc i) p q = h.0 i 0 (omega arith)
+rising_at (x ∷ xs) h (suc k) (suc i) p q = rising_at xs h.1 k i (omega arith) (omega arith)
+
+-- the size at a variable's place
+place_first : (x y : ℕ) (xs : List ℕ) → y ≡ x → position_or_len (λ z. z == x) (y ∷ xs) ≡ 0
+place_first x y xs e = ap (λ b. cond (not b) (1 + position_or_len (λ z. z == x) xs) 0) (eq-eqb y x e)
+
+place_later : (x y : ℕ) (xs : List ℕ) → (y ≡ x → ⊥) → position_or_len (λ z. z == x) (y ∷ xs) ≡ suc (position_or_len (λ z. z == x) xs)
+place_later x y xs d =
+    let e : 1 + position_or_len (λ z. z == x) xs ≡ suc (position_or_len (λ z. z == x) xs) = omega arith in
+    ap (λ b. cond (not b) (1 + position_or_len (λ z. z == x) xs) 0) (ne_eqb y x d) ∙ e
+
+pub position_at : (xs : List ℕ) → Rising xs → (i : ℕ) → i < length xs → position_or_len (λ y. y == get_or xs i 0) xs ≡ i
+position_at [] h i p = absurd (omega arith)
+position_at (x ∷ xs) h zero p = place_first x x xs refl
+position_at (x ∷ xs) h (suc i) p =
+    let l : x < get_or xs i 0 = h.0 i 0 (omega arith) in
+    place_later (get_or xs i 0) x xs (λ e. omega arith) ∙ ap suc (position_at xs h.1 i (omega arith))
+
+pub size_of_map : (f : ℕ → ℕ) (xs : List ℕ) (x : ℕ) → listed xs x ≡ true → slice_index_or (map f xs) (position_or_len (λ y. y == x) xs) 1 ≡ f x
+size_of_map f [] x h = absurd (both_ways false refl h)
+size_of_map f (y ∷ xs) x h = at (cases_eq y x) (size_of_map f xs x)
+  where
+    later : (y ≡ x → ⊥) → listed xs x ≡ true
+    later d = subst (λ b. (b || listed xs x) ≡ true) (ne_eqb x y (λ e. d (sym e))) h
+
+    at : ((y ≡ x) ⊎ (y ≡ x → ⊥)) → (listed xs x ≡ true → slice_index_or (map f xs) (position_or_len (λ z. z == x) xs) 1 ≡ f x)
+        → slice_index_or (f y ∷ map f xs) (position_or_len (λ z. z == x) (y ∷ xs)) 1 ≡ f x
+    at (inl e) ih = ap (λ n. slice_index_or (f y ∷ map f xs) n 1) (place_first x y xs e) ∙ ap f e
+    at (inr d) ih = ap (λ n. slice_index_or (f y ∷ map f xs) n 1) (place_later x y xs d) ∙ ih (later d)
+
+-- of a scope
+pub size_at : (scope : ScopeOf) → IsScope scope → (i : ℕ) → i < length scope.variables → size_in scope (get_or scope.variables i 0) ≡ slice_index scope.sizes i
+size_at scope h i p =
+    ap (λ n. slice_index_or scope.sizes n 1) (position_at scope.variables h.rising i p)
+    ∙ get_or_default scope.sizes i 1 0 (omega (arith, h.one_size_each))
+
+pub size_pos : (scope : ScopeOf) → IsScope scope → (x : ℕ) → 1 ≤ size_in scope x
+size_pos scope h x = at (position_or_len (λ y. y == x) scope.variables)
+  where
+    at : (n : ℕ) → 1 ≤ slice_index_or scope.sizes n 1
+    at n = from (cases_lt n (length scope.sizes))
+      where
+        from : ((n < length scope.sizes) ⊎ (length scope.sizes ≤ n)) → 1 ≤ slice_index_or scope.sizes n 1
+        from (inl l) = h.positive n 1 l
+        from (inr l) = let e = get_or_past scope.sizes n 1 l in omega (arith, e)

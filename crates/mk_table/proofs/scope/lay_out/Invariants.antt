@@ -1,0 +1,13 @@
+use Rattle.std.proofs.Common.{◌≡◌, ◌*◌, length, take, drop, slice_index}
+use Rattle.mk_net.specs.Network.{sizes}
+use Rattle.mk_sums.specs.Cells.{cells}
+use Rattle.mk_table.specs.Columns.{HaveColumns}
+use Rattle.mk_table.proofs.scope.lay_out.Given as goal
+
+abbrev pub invariant-loop-variable : goal.invariant-loop-variable
+invariant-loop-variable l = record {
+  span : l.span ≡ cells (slice_index (sizes l.net)) (drop l.variable-index l.variables);
+  starts : length l.starts.items ≡ length l.net;
+  columns : length l.columns.items ≡ l.variable-index * l.count;
+  have : HaveColumns (slice_index (sizes l.net)) l.variables (take l.variable-index l.variables) l.starts.items l.columns.items;
+}

@@ -1,0 +1,5 @@
+pub mod Scopes
+pub mod Cells
+pub mod Tables
+pub mod Columns
+pub mod Walks

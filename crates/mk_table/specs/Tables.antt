@@ -1,0 +1,66 @@
+-- What each call does to the cells of a table, over any values that enclose whole numbers; 0 stands for Absent.
+use Rattle.std.specs.Prelude.{◌≡◌, ℕ, ◌+◌, ◌*◌, ◌^◌, ◌<◌, List, length, sum_by, slice_index_or}
+use Rattle.mk_exact.specs.States.{plus_over}
+use Rattle.mk_table.specs.Scopes.{ScopeOf}
+
+-- a table: its scope, and the value of each cell
+pub record TableOf (V : Type 0) : Type 0 where
+  pub scope : ScopeOf
+  pub values : List V
+
+module _ {V : Type 0} (encloses : V → ℕ → Type 0) (has_grade : V → ℕ → Type 0) (is_exact : V → Type 0) where
+  -- the values enclose the numbers of f
+  abbrev pub AllEnclose : List V → (ℕ → ℕ) → Type 0
+  AllEnclose values f = (c : ℕ) (d : V) → c < length values → encloses (slice_index_or values c d) (f c)
+
+  abbrev pub AllHaveGrade : List V → ℕ → Type 0
+  AllHaveGrade values g = (c : ℕ) (d : V) → c < length values → has_grade (slice_index_or values c d) g
+
+  abbrev pub AreExact : List V → Type 0
+  AreExact values = (c : ℕ) (d : V) → c < length values → is_exact (slice_index_or values c d)
+
+  -- the values have a grade with so much room to 2^40: then every result is in range
+  pub record HaveRoom (values : List V) (room : ℕ) : Type 0 where
+    pub grade : ℕ
+    pub graded : AllHaveGrade values grade
+    pub fits : grade + room < 2 ^ 40
+
+  -- the values of two tables have grades that are below 2^40 together
+  pub record HaveRoomTogether (values others : List V) : Type 0 where
+    pub grade : ℕ
+    pub other : ℕ
+    pub graded : AllHaveGrade values grade
+    pub other_graded : AllHaveGrade others other
+    pub fits : grade + other < 2 ^ 40
+
+  pub record IsOne (r : V) : Type 0 where
+    pub value : encloses r 1
+    pub grade : has_grade r 0
+    pub exact : is_exact r
+
+  pub record IsAbsent (r : V) : Type 0 where
+    pub value : encloses r 0
+    pub grade : has_grade r 0
+    pub exact : is_exact r
+
+  -- a value times a whole number
+  pub record IsTimesWhole (x : V) (n : ℕ) (r : V) : Type 0 where
+    pub value : (v : ℕ) → encloses x v → encloses r (v * n)
+    pub grade : (g : ℕ) → has_grade x g → has_grade r (g + 1)
+    pub exact : (v : ℕ) → encloses x v → is_exact x → v * n < 2 ^ 63 → is_exact r
+
+  -- a value times another
+  pub record IsTimes (x y r : V) : Type 0 where
+    pub value : (v w : ℕ) → encloses x v → encloses y w → encloses r (v * w)
+    pub grade : (g h : ℕ) → has_grade x g → has_grade y h → has_grade r (g + h + 1)
+    pub exact : (v w : ℕ) → encloses x v → encloses y w → is_exact x → is_exact y → v * w < 2 ^ 63 → is_exact r
+
+  -- the plus of the values of some cells
+  pub record IsPlusOver (plus : ℕ → ℕ → ℕ) (values : List V) (chosen : List ℕ) (r : V) : Type 0 where
+    pub value : (f : ℕ → ℕ) → AllEnclose values f → encloses r (plus_over plus 0 f chosen)
+    pub grade : (g : ℕ) → AllHaveGrade values g → has_grade r (g + length values)
+    pub exact : (f : ℕ → ℕ) → AllEnclose values f → AreExact values → sum_by f chosen < 2 ^ 63 → is_exact r
+
+-- each cell's old value and new value are in a relation
+abbrev pub EachCell : {V : Type 0} → (ℕ → V → V → Type 0) → List V → List V → Type 0
+EachCell {V} R old new = (length new ≡ length old) × ((c : ℕ) (d : V) → c < length old → R c (slice_index_or old c d) (slice_index_or new c d))

@@ -1,0 +1,230 @@
+//! The scope of a table.
+
+ghost use Rattle.std.specs.Prelude.{◌≡◌, ℕ, ◌<◌, ◌≤◌, ◌*◌, ◌/◌, ◌%◌, List, [], ◌++◌, All, map, length, slice_index, true, IfOk, OnOk};
+ghost use Rattle.mk_net.specs.Sets.{is_member};
+ghost use Rattle.mk_net.specs.Network.{sizes, IsNetwork};
+ghost use Rattle.mk_sums.specs.Cells.{keep, cells};
+ghost use Rattle.mk_sums.specs.Joint.{variables};
+ghost use Rattle.mk_exact.specs.States.{numbers_below};
+ghost use Rattle.mk_table.specs.Scopes.{IsScope, LiesIn, Rising, scope_of, size_in, cells_in, has_variable};
+ghost use Rattle.mk_table.specs.Cells.{values_at, cell_in};
+ghost use Rattle.mk_table.specs.Columns.{HaveColumns, IsRun};
+
+use mk_net::{Network, NoMemory, VarSet};
+use std::alloc::Global;
+use std::marker::Model;
+
+/// Some variables in rising order, with their numbers of values. A cell of a table over the scope is a value of each;
+/// cells are counted with the last variable's value changing fastest.
+#[derive(Drop)]
+pub struct Scope {
+    variables: Vec<u32>,
+    sizes: Vec<u32>,
+    cells: usize,
+    run: usize,
+    starts: Vec<u32>,
+    columns: Vec<u8>,
+}
+
+impl Model for Scope {
+    ghost use Rattle.mk_table.specs.Scopes.{ScopeOf};
+    ghost use Rattle.mk_table.specs.Columns.{IsKept};
+
+    ghost Value = { ScopeOf };
+
+    ghost view = { λ s. record { variables = s.variables.items; sizes = s.sizes.items } };
+
+    ghost invariant = { λ s. IsKept (record { variables = s.variables.items; sizes = s.sizes.items }) s.cells s.run s.starts.items s.columns.items };
+}
+
+impl Scope {
+    /// The scope of a set of a network's variables.
+    pub fn of(alloc: Global, net: &Network, set: &VarSet) -> Result<Scope, NoMemory>
+        requires of_network { (x : ℕ) → is_member set.now x ≡ true → x < length net.now }
+        requires few_cells { cells_in (scope_of net.now set.now) ≤ 4096 }
+        ensures { IfOk result (λ scope. scope ≡ scope_of net.now set.now) }
+    {
+        let count = net.variables();
+        let variables = members(alloc, net, set)?;
+        let sizes = sizes_of(alloc, net, &variables)?;
+        let cells = cells_of(net, &variables);
+        let run = run_of(net, &variables, cells);
+        let mut starts = vec![in alloc; 0; count as usize]?;
+        let mut columns = Vec::new(alloc);
+        lay_out(net, &variables, cells, &mut starts, &mut columns)?;
+        Ok(Scope {
+            variables,
+            sizes,
+            cells,
+            run,
+            starts,
+            columns,
+        })
+    }
+
+    /// How many cells a table over the scope has.
+    pub fn cells(&self) -> usize
+        ensures cells { result ≡ cells_in self.now }
+        ensures scope { IsScope self.now }
+    {
+        self.cells
+    }
+
+    /// An equal scope.
+    pub fn copy(&self, alloc: Global) -> Result<Scope, NoMemory>
+        ensures { IfOk result (λ scope. scope ≡ self.now) }
+    {
+        let mut variables = Vec::new(alloc);
+        let mut sizes = Vec::new(alloc);
+        let mut starts = Vec::new(alloc);
+        let mut columns = Vec::new(alloc);
+        variables.extend_from_slice(&self.variables)?;
+        sizes.extend_from_slice(&self.sizes)?;
+        starts.extend_from_slice(&self.starts)?;
+        columns.extend_from_slice(&self.columns)?;
+        Ok(Scope {
+            variables,
+            sizes,
+            cells: self.cells,
+            run: self.run,
+            starts,
+            columns,
+        })
+    }
+
+    /// The cells of the last variables: as many as make at most 64.
+    pub(crate) fn run(&self) -> usize
+        ensures run { IsRun (size_in self.now) self.now.variables result }
+        ensures scope { IsScope self.now }
+    {
+        self.run
+    }
+
+    /// The value that a cell gives a variable.
+    #[inline]
+    pub(crate) fn value(&self, cell: usize, variable: u32) -> u32
+        requires cell { cell < cells_in self.now }
+        requires variable { has_variable self.now variable ≡ true }
+        ensures { result ≡ values_at self.now cell variable }
+    {
+        let start = self.starts[variable as usize] as usize;
+        self.columns[start + cell] as u32
+    }
+
+    /// The cell of this scope that has the values of a cell of another.
+    #[inline]
+    pub(crate) fn cell_in(&self, whole: &Scope, cell: usize) -> usize
+        requires lies_in { LiesIn self.now whole.now }
+        requires cell { cell < cells_in whole.now }
+        ensures cell { result ≡ cell_in self.now whole.now cell }
+        ensures within { result < cells_in self.now }
+    {
+        let mut place = 0;
+        for i in 0..self.variables.len() {
+            place = place * self.sizes[i] as usize + whole.value(cell, self.variables[i]) as usize;
+        }
+        place
+    }
+}
+
+/// The variables of a set, in rising order.
+fn members(alloc: Global, net: &Network, set: &VarSet) -> Result<Vec<u32>, NoMemory>
+    ensures { IfOk result (λ vs. vs.items ≡ keep (is_member set.now) (variables (sizes net.now))) }
+{
+    let mut members = Vec::new(alloc);
+    for variable in 0..net.variables() {
+        if set.has(variable) {
+            members.push(variable)?;
+        }
+    }
+    Ok(members)
+}
+
+/// Their numbers of values.
+fn sizes_of(alloc: Global, net: &Network, variables: &[u32]) -> Result<Vec<u32>, NoMemory>
+    requires { All (λ x. x < length net.now) variables.now }
+    ensures { IfOk result (λ ns. ns.items ≡ map (slice_index (sizes net.now)) variables.now) }
+{
+    let mut sizes = Vec::new(alloc);
+    for variable in variables {
+        sizes.push(net.values(*variable))?;
+    }
+    Ok(sizes)
+}
+
+/// How many cells these variables have.
+fn cells_of(net: &Network, variables: &[u32]) -> usize
+    requires of_network { All (λ x. x < length net.now) variables.now }
+    requires few_cells { cells (slice_index (sizes net.now)) variables.now ≤ 4096 }
+    ensures { result ≡ cells (slice_index (sizes net.now)) variables.now }
+{
+    let _ = net.variables();
+    let mut cells = 1;
+    for variable in variables {
+        cells *= net.values(*variable) as usize;
+    }
+    cells
+}
+
+/// The cells of the last variables: as many as make at most 64.
+fn run_of(net: &Network, variables: &[u32], count: usize) -> usize
+    requires of_network { All (λ x. x < length net.now) variables.now }
+    requires cells { count ≡ cells (slice_index (sizes net.now)) variables.now }
+    ensures { IsRun (slice_index (sizes net.now)) variables.now result }
+{
+    let _ = net.variables();
+    let mut run = count;
+    for variable in variables {
+        if run <= 64 {
+            return run;
+        }
+        run /= net.values(*variable) as usize;
+    }
+    run
+}
+
+/// Writes the column of each variable, and where it starts.
+fn lay_out(
+    net: &Network,
+    variables: &[u32],
+    count: usize,
+    starts: &mut Vec<u32>,
+    columns: &mut Vec<u8>,
+) -> Result<(), NoMemory>
+    requires of_network { All (λ x. x < length net.now) variables.now }
+    requires rising { Rising variables.now }
+    requires few_variables { length variables.now ≤ 256 }
+    requires cells { count ≡ cells (slice_index (sizes net.now)) variables.now }
+    requires few_cells { count ≤ 4096 }
+    requires starts { length starts.old.items ≡ length net.now }
+    requires empty { columns.old.items ≡ [] }
+    ensures { OnOk result (HaveColumns (slice_index (sizes net.now)) variables.now variables.now starts.new.items columns.new.items) }
+{
+    let _ = net.variables();
+    let mut span = count;
+    for variable in variables {
+        let stride = span / net.values(*variable) as usize;
+        starts[*variable as usize] = columns.len() as u32;
+        write_column(columns, count, span, stride)?;
+        span = stride;
+    }
+    Ok(())
+}
+
+/// Writes the value of each cell, for a variable whose values come round every `span` cells and change every `stride`.
+fn write_column(
+    columns: &mut Vec<u8>,
+    count: usize,
+    span: usize,
+    stride: usize,
+) -> Result<(), NoMemory>
+    requires stride { 1 ≤ stride }
+    requires few { span ≤ stride * 16 }
+    requires some { 1 ≤ span }
+    ensures { OnOk result (columns.new.items ≡ columns.old.items ++ map (λ c. c % span / stride) (numbers_below count)) }
+{
+    for cell in 0..count {
+        columns.push((cell % span / stride) as u8)?;
+    }
+    Ok(())
+}
