@@ -1,0 +1,53 @@
+-- What an engine stands for: a network, a tree, the factors that were multiplied together, and the pairs that are known.
+use Rattle.std.specs.Prelude.{ℕ, ◌<◌, List, [], ◌∷◌, ◌++◌, map, length, sum_by, All, slice_index}
+use Rattle.mk_net.specs.declared.words.Pair.{Pair}
+use Rattle.mk_net.specs.Asked.{TradeRatio}
+use Rattle.mk_net.specs.Network.{Variable, sizes}
+use Rattle.mk_exact.specs.States.{product_by}
+use Rattle.mk_exact.specs.InitialWeight.{all_states, value_at}
+use Rattle.mk_exact.specs.Proper.{IsPairOf, IsQuestionOf}
+use Rattle.mk_sums.specs.There.{share_there, ratio_there}
+use Rattle.mk_sums.specs.Joint.{joint}
+use Rattle.mk_tree.specs.Given.{GivenTree}
+
+-- the rows of a variable, or the ratio of a trade
+pub data Factor : Type 0 where
+  RowsOf : (variable : ℕ) → Factor
+  RatioOf : (ratio : TradeRatio) → Factor
+
+pub record Meaning : Type 0 where
+  pub network : List Variable
+  pub tree : GivenTree
+  pub factors : List Factor
+  pub known : List Pair
+
+-- nothing is multiplied, and nothing is known
+abbrev pub opening : List Variable → GivenTree → Meaning
+opening network tree = record { network = network; tree = tree; factors = []; known = [] }
+
+abbrev pub with_factor : Factor → Meaning → Meaning
+with_factor factor m = record { network = m.network; tree = m.tree; factors = m.factors ++ factor ∷ []; known = m.known }
+
+abbrev pub with_known : Pair → Meaning → Meaning
+with_known pair m = record { network = m.network; tree = m.tree; factors = m.factors; known = m.known ++ pair ∷ [] }
+
+-- the number that a factor gives an assignment
+abbrev pub factor_there : List Variable → Factor → (ℕ → ℕ) → ℕ
+factor_there network (RowsOf k) = share_there network k
+factor_there network (RatioOf ratio) = ratio_there ratio
+
+-- the exact plus, over all states where the known pairs and the event hold, of the product of all factors
+abbrev pub exact_belief : (ℕ → ℕ → ℕ) → Meaning → List Pair → ℕ
+exact_belief plus m event = joint plus (sizes m.network) (map (factor_there m.network) m.factors) m.known event
+
+-- the sum, over all states, known or not, of the product of all factors
+abbrev pub whole_sum : Meaning → ℕ
+whole_sum m = sum_by (λ s. product_by (λ (f : Factor). factor_there m.network f (value_at s)) m.factors) (all_states m.network)
+
+-- how many factors an engine may hold: the rows of 256 variables, and 65,536 trades
+abbrev pub max_factors : ℕ
+max_factors = 65792
+
+-- the network's own pairs
+abbrev pub ArePairsOf : List Variable → List Pair → Type 0
+ArePairsOf network pairs = All (IsPairOf network) pairs

@@ -1,0 +1,6 @@
+//! What each engine of beliefs owes, whatever it keeps.
+#![tactic(auto)]
+
+mod engine;
+
+pub use engine::Engine;

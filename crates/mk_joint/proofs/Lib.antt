@@ -1,0 +1,4 @@
+pub mod Cells
+pub mod Factors
+pub mod Tables
+pub mod Beliefs

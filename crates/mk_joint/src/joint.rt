@@ -1,0 +1,90 @@
+//! The engine.
+
+ghost use Rattle.std.specs.Prelude.{◌≡◌, ℕ, ◌+◌, ◌<◌, ◌≤◌, length, true, IfOk, refl};
+ghost use Rattle.mk_net.specs.Sets.{is_member};
+ghost use Rattle.mk_net.specs.Network.{IsNetwork};
+ghost use Rattle.mk_engine.specs.Meaning.{Meaning};
+ghost use Rattle.mk_engine.specs.Beliefs.{CanBelieve, IsBelief};
+ghost use Rattle.mk_joint.specs.Joints.{HasJoint, IsPlanFor, joint_states};
+
+use mk_engine::Engine;
+use mk_net::{Event, Network, NoMemory, Pair, Ratio, VarSet};
+use mk_semiring::Semiring;
+use mk_table::{Scope, Table};
+use mk_tree::Tree;
+use std::alloc::Global;
+
+/// An engine with one value for each joint state of a network. It suits networks of at most 4,096 joint states, and can
+/// answer each event.
+#[derive(Drop)]
+pub struct JointEngine<R: Semiring> {
+    table: Table<R>,
+}
+
+impl<R: Semiring> Engine<R> for JointEngine<R> {
+    type Plan = Scope;
+
+    ghost suits = { λ network tree. joint_states network ≤ 4096 };
+
+    ghost plan_for = { λ plan network tree. IsPlanFor plan network };
+
+    ghost stands_for = { λ engine m. HasJoint R.encloses R.has_grade R.is_exact engine.table m };
+
+    ghost fitting = { λ engine event. true };
+
+    fn plan(alloc: Global, net: &Network, _tree: &Tree) -> Result<Scope, NoMemory>
+        requires { joint_states net.now ≤ 4096 }
+        ensures { IfOk result (λ plan. IsPlanFor plan net.now) }
+    {
+        let all = all_variables(net);
+        Scope::of(alloc, net, &all)
+    }
+
+    fn start(alloc: Global, plan: &Scope) -> Result<JointEngine<R>, NoMemory> {
+        let table = Table::ones(alloc, plan)?;
+        Ok(JointEngine { table })
+    }
+
+    fn weigh(&mut self, net: &Network, variable: u32) {
+        self.table.times_rows(net, variable);
+    }
+
+    fn multiply(&mut self, ratio: &Ratio) {
+        self.table.times_ratio(ratio);
+    }
+
+    fn know(&mut self, pair: Pair) {
+        self.table.restrict(pair);
+    }
+
+    fn fits(&self, _event: &Event) -> bool
+        ensures { result ≡ true }
+    {
+        true
+    }
+
+    fn belief(&mut self, event: &Event) -> R::Value
+        requires { CanBelieve ⟦<JointEngine<R> as Engine<R>>⟧.stands_for self.old event.now }
+        ensures kept { self.new ≡ self.old }
+        ensures belief { (m : Meaning) → ⟦<JointEngine<R> as Engine<R>>⟧.stands_for self.old m
+            → IsBelief R.encloses R.has_grade R.is_exact R.plus_of m event.now result }
+        ensures grade { (m : Meaning) → ⟦<JointEngine<R> as Engine<R>>⟧.stands_for self.old m → R.has_grade result (length m.factors + 4096) }
+    {
+        self.table.total(event)
+    }
+
+    ghost home_fits = { λ engine m event stands home. refl };
+}
+
+/// The set of all variables of a network.
+fn all_variables(net: &Network) -> VarSet
+    ensures all { (x : ℕ) → x < length net.now → is_member result x ≡ true }
+    ensures no_other { (x : ℕ) → is_member result x ≡ true → x < length net.now }
+    ensures network { IsNetwork net.now }
+{
+    let mut all = VarSet::empty();
+    for variable in 0..net.variables() {
+        all = all.with(variable);
+    }
+    all
+}

@@ -1,0 +1,9 @@
+//! The joint engine: one table over all variables.
+#![tactic(auto)]
+
+mod joint;
+
+pub use joint::JointEngine;
+
+#[cfg(test)]
+mod tests;

@@ -1,0 +1,188 @@
+//! Beliefs on a season and its rain: sums and minima of exact products, by numbers worked out by hand.
+
+ghost use Rattle.std.specs.Prelude.{◌≡◌, [], ◌∷◌, length, slice_index, IfOk};
+ghost use Rattle.mk_net.specs.Network.{sizes};
+ghost use Rattle.mk_engine.specs.Meaning.{RowsOf, opening, with_factor};
+
+use crate::JointEngine;
+use mk_engine::Engine;
+use mk_net::{Draft, Event, Network, NoMemory, Pair, Question, Ratio, VarSet, VariableDraft};
+use mk_semiring::{Held, MinProd, Semiring, SumProd};
+use mk_tree::Tree;
+use std::alloc::Global;
+use std::process::Abort;
+use std::test::Fail;
+
+const WET: Pair = Pair {
+    variable: 0,
+    value: 0,
+};
+
+const RAIN: Pair = Pair {
+    variable: 1,
+    value: 0,
+};
+
+/// A network of two variables of two values each, and a tree of it.
+#[derive(Drop)]
+struct Weather {
+    net: Network,
+    tree: Tree,
+    ghost two: { length net ≡ 2 },
+    ghost seasons: { slice_index (sizes net) 0 ≡ 2 },
+    ghost rains: { slice_index (sizes net) 1 ≡ 2 },
+}
+
+fn texts(alloc: Global, given: &[&str]) -> Result<Vec<String>, Fail> {
+    let mut texts = Vec::new(alloc);
+    for text in given {
+        texts.push(String::from_str(alloc, *text)?)?;
+    }
+    Ok(texts)
+}
+
+fn network(alloc: Global) -> Result<Network, Fail> {
+    let season = VariableDraft {
+        name: String::from_str(alloc, "season")?,
+        values: texts(alloc, &["wet", "dry"])?,
+        parents: Vec::new(alloc),
+        rows: vec![in alloc; vec![in alloc; 400_000, 600_000]?]?,
+    };
+    let rain = VariableDraft {
+        name: String::from_str(alloc, "rain")?,
+        values: texts(alloc, &["yes", "no"])?,
+        parents: texts(alloc, &["season"])?,
+        rows: vec![in alloc;
+            vec![in alloc; 700_000, 300_000]?,
+            vec![in alloc; 100_000, 900_000]?,
+        ]?,
+    };
+    let draft = Draft {
+        variables: vec![in alloc; season, rain]?,
+    };
+    Ok(Network::check(alloc, &draft)?)
+}
+
+fn make_weather(rt: &impl Abort, alloc: Global) -> Result<Weather, Fail> {
+    let net = network(alloc)?;
+    assert!(rt; net.variables() == 2);
+    assert!(rt; net.values(0) == 2);
+    assert!(rt; net.values(1) == 2);
+    let both = VarSet::empty().with(0).with(1);
+    let tree = Tree::from_cliques(alloc, &net, &[both], &[])?;
+    Ok(Weather { net, tree })
+}
+
+/// An engine whose factors are the rows of both variables.
+fn weighed<R: Semiring>(alloc: Global, weather: &Weather) -> Result<JointEngine<R>, NoMemory>
+    ensures { IfOk result (λ engine. ⟦<JointEngine<R> as Engine<R>>⟧.stands_for engine
+        (with_factor (RowsOf 1) (with_factor (RowsOf 0) (opening weather.now.net weather.now.tree)))) }
+{
+    let plan = JointEngine::<R>::plan(alloc, &weather.net, &weather.tree)?;
+    let mut engine = JointEngine::<R>::start(alloc, &plan)?;
+    engine.weigh(&weather.net, 0);
+    engine.weigh(&weather.net, 1);
+    Ok(engine)
+}
+
+fn only(rt: &impl Abort, pair: Pair) -> Event
+    ensures { result ≡ pair ∷ [] }
+{
+    Event::empty().with(pair).expect(rt, "a pair")
+}
+
+/// A trade on rain in a wet season.
+fn trade(rt: &impl Abort) -> Ratio
+    ensures { result.question ≡ record { target = RAIN; condition = WET ∷ [] } }
+{
+    let question = Question::make(RAIN, only(rt, WET)).expect(rt, "a question");
+    Ratio {
+        question,
+        hit: 2,
+        miss: 3,
+    }
+}
+
+/// The beliefs in rain, and in all states.
+fn at_first<R: Semiring>(
+    rt: &impl Abort,
+    alloc: Global,
+    weather: &Weather,
+) -> Result<(R::Value, R::Value), Fail> {
+    let mut engine = weighed::<R>(alloc, weather)?;
+    let rain = engine.belief(&only(rt, RAIN));
+    let all = engine.belief(&Event::empty());
+    Ok((rain, all))
+}
+
+/// The same once the season is known to be wet.
+fn when_wet<R: Semiring>(
+    rt: &impl Abort,
+    alloc: Global,
+    weather: &Weather,
+) -> Result<(R::Value, R::Value), Fail> {
+    let mut engine = weighed::<R>(alloc, weather)?;
+    engine.know(WET);
+    let rain = engine.belief(&only(rt, RAIN));
+    let all = engine.belief(&Event::empty());
+    Ok((rain, all))
+}
+
+/// The belief in all states once the season is known to be wet, after the trade.
+fn when_traded<R: Semiring>(
+    rt: &impl Abort,
+    alloc: Global,
+    weather: &Weather,
+) -> Result<R::Value, Fail> {
+    let mut engine = weighed::<R>(alloc, weather)?;
+    engine.know(WET);
+    engine.multiply(&trade(rt));
+    Ok(engine.belief(&Event::empty()))
+}
+
+/// Stops unless the value is this number, exactly.
+fn check(rt: &impl Abort, held: &Held, n: u64) {
+    match held {
+        Held::Absent => assert_eq!(rt; n, 0),
+        Held::Present(enclosure) => {
+            assert_eq!(rt;
+                (enclosure.lo().mantissa(), enclosure.lo().exponent()),
+                (n, 0)
+            );
+            assert_eq!(rt;
+                (enclosure.hi().mantissa(), enclosure.hi().exponent()),
+                (n, 0)
+            );
+        }
+    }
+}
+
+#[test]
+fn sums(rt: HostRuntime) -> Result<(), Fail> {
+    let alloc = rt.alloc();
+    let weather = make_weather(&rt, alloc)?;
+    let (rain, all) = at_first::<SumProd>(&rt, alloc, &weather)?;
+    check(&rt, &rain, 340_000_000_000);
+    check(&rt, &all, 1_000_000_000_000);
+    let (rain, all) = when_wet::<SumProd>(&rt, alloc, &weather)?;
+    check(&rt, &rain, 280_000_000_000);
+    check(&rt, &all, 400_000_000_000);
+    let traded = when_traded::<SumProd>(&rt, alloc, &weather)?;
+    check(&rt, &traded, 920_000_000_000);
+    Ok(())
+}
+
+#[test]
+fn minima(rt: HostRuntime) -> Result<(), Fail> {
+    let alloc = rt.alloc();
+    let weather = make_weather(&rt, alloc)?;
+    let (rain, all) = at_first::<MinProd>(&rt, alloc, &weather)?;
+    check(&rt, &rain, 60_000_000_000);
+    check(&rt, &all, 60_000_000_000);
+    let (rain, all) = when_wet::<MinProd>(&rt, alloc, &weather)?;
+    check(&rt, &rain, 280_000_000_000);
+    check(&rt, &all, 120_000_000_000);
+    let traded = when_traded::<MinProd>(&rt, alloc, &weather)?;
+    check(&rt, &traded, 360_000_000_000);
+    Ok(())
+}
