@@ -47,6 +47,28 @@ const TWO_COINS: &[&str] = &[
     FAIR,
 ];
 
+const C: &str = "\n[[variable]]\nname = \"c\"\n";
+
+const D: &str = "\n[[variable]]\nname = \"d\"\n";
+
+const E: &str = "\n[[variable]]\nname = \"e\"\n";
+
+const F: &str = "\n[[variable]]\nname = \"f\"\n";
+
+const G: &str = "\n[[variable]]\nname = \"g\"\n";
+
+const H: &str = "\n[[variable]]\nname = \"h\"\n";
+
+const I: &str = "\n[[variable]]\nname = \"i\"\n";
+
+const J: &str = "\n[[variable]]\nname = \"j\"\n";
+
+const K: &str = "\n[[variable]]\nname = \"k\"\n";
+
+const L: &str = "\n[[variable]]\nname = \"l\"\n";
+
+const M: &str = "\n[[variable]]\nname = \"m\"\n";
+
 const FIVE_COINS: &[&str] = &[
     HEAD,
     "cliques = [[\"a\", \"b\", \"c\", \"d\", \"e\"]]\nlinks = []\n",
@@ -54,12 +76,85 @@ const FIVE_COINS: &[&str] = &[
     FAIR,
     B,
     FAIR,
-    "\n[[variable]]\nname = \"c\"\n",
+    C,
     FAIR,
-    "\n[[variable]]\nname = \"d\"\n",
+    D,
     FAIR,
-    "\n[[variable]]\nname = \"e\"\n",
+    E,
     FAIR,
+];
+
+/// 4,096 states.
+const TWELVE_COINS: &[&str] = &[
+    HEAD,
+    "cliques = [[\"a\"], [\"b\"], [\"c\"], [\"d\"], [\"e\"], [\"f\"], [\"g\"], [\"h\"], [\"i\"], [\"j\"], [\"k\"], [\"l\"]]\nlinks = [1, 2, 3, 4, 5, 6, 7, 8, 9, 10, 11]\n",
+    A,
+    FAIR,
+    B,
+    FAIR,
+    C,
+    FAIR,
+    D,
+    FAIR,
+    E,
+    FAIR,
+    F,
+    FAIR,
+    G,
+    FAIR,
+    H,
+    FAIR,
+    I,
+    FAIR,
+    J,
+    FAIR,
+    K,
+    FAIR,
+    L,
+    FAIR,
+];
+
+/// 8,192 states.
+const THIRTEEN_COINS: &[&str] = &[
+    HEAD,
+    "cliques = [[\"a\"], [\"b\"], [\"c\"], [\"d\"], [\"e\"], [\"f\"], [\"g\"], [\"h\"], [\"i\"], [\"j\"], [\"k\"], [\"l\"], [\"m\"]]\nlinks = [1, 2, 3, 4, 5, 6, 7, 8, 9, 10, 11, 12]\n",
+    A,
+    FAIR,
+    B,
+    FAIR,
+    C,
+    FAIR,
+    D,
+    FAIR,
+    E,
+    FAIR,
+    F,
+    FAIR,
+    G,
+    FAIR,
+    H,
+    FAIR,
+    I,
+    FAIR,
+    J,
+    FAIR,
+    K,
+    FAIR,
+    L,
+    FAIR,
+    M,
+    FAIR,
+];
+
+const CHAIN: &[&str] = &[
+    HEAD,
+    "cliques = [[\"a\", \"b\"], [\"b\", \"c\"], [\"c\"]]\nlinks = [1, 2]\n",
+    A,
+    "values = [\"up\", \"down\"]\nparents = []\nrows = [[500000, 500000]]\n",
+    B,
+    "values = [\"up\", \"down\"]\nparents = [\"a\"]\nrows = [[600000, 400000], [300000, 700000]]\n",
+    C,
+    "values = [\"up\", \"down\"]\nparents = [\"b\"]\nrows = [[800000, 200000], [100000, 900000]]\n",
 ];
 
 const LATE_PARENT: &[&str] = &[
@@ -72,7 +167,7 @@ const LATE_PARENT: &[&str] = &[
 ];
 
 /// Markets that are served.
-pub const SERVED: [Row; 6] = [
+pub const SERVED: [Row; 9] = [
     Row {
         market: COIN,
         commands: "",
@@ -109,14 +204,32 @@ pub const SERVED: [Row; 6] = [
         output: "ready 2 100\nprice 0.4000000000..0.4000000000\nprice 0.3400000000..0.3400000000\nprice 0.6600000000..0.6600000000\n",
         status: Status::Done,
     },
+    Row {
+        market: FIVE_COINS,
+        commands: "",
+        output: "ready 5 100\n",
+        status: Status::Done,
+    },
+    Row {
+        market: TWELVE_COINS,
+        commands: "price a=heads\n",
+        output: "ready 12 100\nprice 0.4999999999..0.5000000001\n",
+        status: Status::Done,
+    },
+    Row {
+        market: CHAIN,
+        commands: "price b=up\nprice c=up\n",
+        output: "ready 3 100\nprice 0.4500000000..0.4500000000\nprice 0.4150000000..0.4150000000\n",
+        status: Status::Done,
+    },
 ];
 
 /// Markets that are refused, and not asked anything.
 pub const REFUSED: [Row; 9] = [
     Row {
-        market: FIVE_COINS,
-        commands: "price coin=heads\n",
-        output: "refused market later\n",
+        market: THIRTEEN_COINS,
+        commands: "price a=heads\n",
+        output: "refused market large\n",
         status: Status::MarketRefused,
     },
     Row {

@@ -24,7 +24,7 @@ use Rattle.mk_file.specs.Walk.{DraftOfMarket}
 use Rattle.mk_file.specs.Counts.{is_whole_within, whole_fault, items_fault, names_at, links_fault, counts_fault, variables_fault, of_net}
 use Rattle.mk_file.specs.Cliques.{is_known, clique_at, link_at, given_tree, of_tree}
 use Rattle.mk_file.specs.Known.{number_in, is_known_in, clique_in, set_in, trees_fault}
-use Rattle.mk_file.specs.File.{later_fault, market_in, unless, of_draft}
+use Rattle.mk_file.specs.File.{large_fault, market_in, unless, of_draft}
 
 none_of : {F : Type 0} (a b : Option F) → or_else a b ≡ None → (a ≡ None) × (b ≡ None)
 none_of None b h = (refl, h)
@@ -189,9 +189,9 @@ pub tree_refused : (draft : DraftOfMarket) (fault : FileFault) → counts_fault 
     → trees_fault draft ≡ Some fault → of_draft (Ok draft) ≡ Err fault
 tree_refused draft fault counted checked bad =
     let fine : variables_fault draft ≡ None = ap (λ o. option_map of_net o) (none_of (count_fault draft.variables) (draft_later draft.variables) checked).1 in
-    let later = or_else (later_fault draft) None in
+    let large = or_else (large_fault draft) None in
     let rest = or_else (first_in (clique_at draft) 1 draft.cliques) (or_else (first_in link_at 2 draft.links)
-    (or_else (option_map of_tree (tree_fault (checked_network draft.variables) (given_tree draft))) later)) in
+    (or_else (option_map of_tree (tree_fault (checked_network draft.variables) (given_tree draft))) large)) in
     ap (λ o. unless o (market_in draft)) (ap (λ o. or_else o (or_else (variables_fault draft) rest)) counted ∙ ap (λ o. or_else o rest) fine
     ∙ kept (first_in (clique_at draft) 1 draft.cliques) (first_in link_at 2 draft.links)
-    (option_map of_tree (tree_fault (checked_network draft.variables) (given_tree draft))) later fault bad)
+    (option_map of_tree (tree_fault (checked_network draft.variables) (given_tree draft))) large fault bad)

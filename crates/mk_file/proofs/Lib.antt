@@ -1,6 +1,6 @@
 pub mod Reading
 pub mod Documents
-pub mod Drafted
+pub mod Counted
 pub mod Firsts
 pub mod Cliqued
 pub mod Grown

@@ -1,8 +1,9 @@
--- Networks that the market can serve today.
-use Rattle.std.specs.Prelude.{◌≤◌, List, length, All}
-use Rattle.mk_net.specs.Network.{Variable}
+-- Networks whose states one table holds.
+use Rattle.std.specs.Prelude.{◌≤◌, List, slice_index}
+use Rattle.mk_net.specs.Network.{Variable, sizes}
+use Rattle.mk_sums.specs.Cells.{cells}
+use Rattle.mk_sums.specs.Joint.{variables}
 
--- at most four variables, each of at most four values
-pub record AreFew (network : List Variable) : Type 0 where
-  pub variables : length network ≤ 4
-  pub values : All (λ (v : Variable). length v.values ≤ 4) network
+-- at most 4,096 states
+abbrev pub HasFewStates : List Variable → Type 0
+HasFewStates network = cells (slice_index (sizes network)) (variables (sizes network)) ≤ 4096

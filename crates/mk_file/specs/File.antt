@@ -1,31 +1,31 @@
 -- The market of a file, or its first fault.
-use Rattle.std.specs.Prelude.{ℕ, List, [], ◌∷◌, length, map, nat_abs, Bool, ◌||◌, nat_lt, if◌then◌else◌, Option, Some, None, option_map, Result, Ok, Err}
-use Rattle.std.specs.List.{list_any}
+use Rattle.std.specs.Prelude.{ℕ, List, [], ◌∷◌, length, map, nat_abs, Bool, nat_lt, if◌then◌else◌, Option, Some, None, option_map, Result, Ok, Err}
 use Rattle.std.specs.Str.{is_utf8}
 use Rattle.toml.specs.Data.{Members}
 use Rattle.toml.specs.Parse.{parse_document}
 use Rattle.mk_net.specs.Drafts.{DraftOfVariable}
 use Rattle.mk_net.specs.Firsts.{fault_if, first_of, first_in}
 use Rattle.mk_net.specs.Checked.{checked_network}
+use Rattle.mk_exact.specs.States.{product_by}
 use Rattle.mk_exact.specs.Market.{Market}
 use Rattle.mk_tree.specs.Tests.{members, tree_fault}
 use Rattle.mk_file.specs.Walk.{DraftOfMarket, draft_in}
 use Rattle.mk_file.specs.Counts.{counts_fault, variables_fault}
 use Rattle.mk_file.specs.Cliques.{clique_at, link_at, given_tree, of_tree}
 use Rattle.mk_file.specs.declared.fault.FileFault.{FileFault}
-use Rattle.mk_file.specs.declared.fault.FileFault.TheVariants.{TooLong, BadToml, Later}
+use Rattle.mk_file.specs.declared.fault.FileFault.TheVariants.{TooLong, BadToml, Large}
 
 -- the most bytes of a market file
 abbrev pub max_file_bytes : ℕ
 max_file_bytes = 1048576
 
--- more than four variables, or one with more than four values
-abbrev pub is_wide : List DraftOfVariable → Bool
-is_wide variables = nat_lt 4 (length variables) || list_any (λ (v : DraftOfVariable). nat_lt 4 (length v.values)) variables
+-- how many states the variables have together
+abbrev pub states_together : List DraftOfVariable → ℕ
+states_together variables = product_by (λ (v : DraftOfVariable). length v.values) variables
 
--- a market that is served later
-abbrev pub later_fault : DraftOfMarket → Option FileFault
-later_fault draft = fault_if (is_wide draft.variables) Later
+-- more states together than one table holds
+abbrev pub large_fault : DraftOfMarket → Option FileFault
+large_fault draft = fault_if (nat_lt 4096 (states_together draft.variables)) Large
 
 -- the first fault of a draft
 abbrev pub draft_fault : DraftOfMarket → Option FileFault
@@ -35,7 +35,7 @@ draft_fault draft = first_of (
     ∷ first_in (clique_at draft) 1 draft.cliques
     ∷ first_in link_at 2 draft.links
     ∷ option_map of_tree (tree_fault (checked_network draft.variables) (given_tree draft))
-    ∷ later_fault draft
+    ∷ large_fault draft
     ∷ [])
 
 -- the market of a draft without a fault; both numbers are positive there

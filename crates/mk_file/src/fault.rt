@@ -106,9 +106,9 @@ pub enum FileFault {
     Cells {
         clique: u32,
     },
-    /// The market has a form that is served later.
-    #[error("such a market is not served yet")]
-    Later,
+    /// The variables have more than 4,096 states together.
+    #[error("the variables have more than 4096 states together")]
+    Large,
     /// Memory was wanting.
     #[error("out of memory")]
     Memory,

@@ -6,7 +6,7 @@ mod cliques;
 mod counts;
 mod fault;
 mod kinds;
-mod later;
+mod large;
 mod market_file;
 mod opened;
 mod required;

@@ -1,5 +1,5 @@
 use super::*;
-use crate::fault::FileFault::{BadToml, Later};
+use crate::fault::FileFault::{BadToml, Large};
 use mk_net::Key::{Cliques, Links, MaxTrades, Name, Parents, PointsPerBit, Rows, Values, Variable};
 use mk_net::{Key, VarSet};
 use std::alloc::Global;
@@ -275,8 +275,8 @@ fn counts_cliques_and_cells(rt: HostRuntime) -> Result<(), Fail> {
         (1, 256, None),
         (1, 257, Some(count(Cliques, 0, 257))),
         (4, 256, None),
-        (5, 1, Some(Later)),
-        (12, 8, Some(Later)),
+        (5, 1, None),
+        (12, 8, None),
         (12, 9, Some(cells(9))),
         (13, 1, Some(cells(1))),
     ] {
@@ -292,6 +292,13 @@ fn counts_cliques_and_cells(rt: HostRuntime) -> Result<(), Fail> {
     )?;
     let answer = read_market(alloc, text.as_bytes()).err();
     assert_eq!(rt; answer, Some(not_running(1)));
+    let thirteen = edited(
+        alloc,
+        large.as_str(),
+        "'m', ], ]\nlinks = [] -> ], ['m']]\nlinks = [1]",
+    )?;
+    let answer = read_market(alloc, thirteen.as_bytes()).err();
+    assert_eq!(rt; answer, Some(Large));
     Ok(())
 }
 
@@ -591,15 +598,6 @@ fn refuses_the_first_of_two_of_trees(rt: HostRuntime) -> Result<(), Fail> {
         ),
     ];
     refuses(&rt, rt.alloc(), THREE, &edits)
-}
-
-#[test]
-fn answers_later(rt: HostRuntime) -> Result<(), Fail> {
-    let edits = [(
-        "['heads', 'tails']\nparents = []\nrows = [[500000, 500000]] -> ['a', 'b', 'c', 'd', 'e']\nparents = []\nrows = [[1, 2, 3, 4, 999990]]",
-        Later,
-    )];
-    refuses(&rt, rt.alloc(), COIN, &edits)
 }
 
 #[test]

@@ -51,7 +51,7 @@ fn put_cause(out: &mut Line, fault: &FileFault)
         FileFault::Cover { variable } => put_at(out, "cover", *variable),
         FileFault::NotRunning { variable } => put_at(out, "running", *variable),
         FileFault::Cells { clique } => put_at(out, "cells", *clique),
-        FileFault::Later => out.push_str("later"),
+        FileFault::Large => out.push_str("large"),
         FileFault::Memory => unreachable!(),
     }
 }

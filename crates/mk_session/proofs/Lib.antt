@@ -1,4 +1,7 @@
-pub mod Tables
+pub mod RowsWeighed
+pub mod SomeWeight
+pub mod PriceParts
+pub mod Prices
 pub mod Answering
 pub mod Underway
 pub mod Endings

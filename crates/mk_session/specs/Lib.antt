@@ -3,6 +3,8 @@ pub mod Rules
 pub mod Transcript
 pub mod Outcome
 pub mod Trading
+pub mod Weighed
+pub mod Enclosed
 pub mod Progress
 pub mod Served
 pub mod Complete

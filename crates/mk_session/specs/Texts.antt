@@ -5,7 +5,7 @@ use Rattle.mk_net.specs.declared.words.PairText.{PairText}
 use Rattle.mk_net.specs.Name.{IsName}
 use Rattle.mk_net.specs.Key.{key_text}
 use Rattle.mk_file.specs.declared.fault.FileFault.{FileFault}
-use Rattle.mk_file.specs.declared.fault.FileFault.TheVariants.{TooLong, BadToml, Missing, WrongType, Count, BadName, Repeat, Parent, Rows, Width, Entry, Sum, Clique, Link, Cover, NotRunning, Cells, Later, Memory}
+use Rattle.mk_file.specs.declared.fault.FileFault.TheVariants.{TooLong, BadToml, Missing, WrongType, Count, BadName, Repeat, Parent, Rows, Width, Entry, Sum, Clique, Link, Cover, NotRunning, Cells, Large, Memory}
 use Rattle.mk_exact.specs.Market.{Market}
 use Rattle.mk_session.specs.declared.words.Command.{Command}
 use Rattle.mk_session.specs.declared.words.Command.TheVariants.{Price}
@@ -89,7 +89,7 @@ fault_text (Link clique) = codes "link " ++ decimal clique
 fault_text (Cover variable) = codes "cover " ++ decimal variable
 fault_text (NotRunning variable) = codes "running " ++ decimal variable
 fault_text (Cells clique) = codes "cells " ++ decimal clique
-fault_text Later = codes "later"
+fault_text Large = codes "large"
 fault_text Memory = []
 
 -- the one line of a refused file

@@ -54,7 +54,7 @@ fn push_fault(line: &mut LineBuffer, fault: &FileFault)
         FileFault::Cover { variable } => push_place(line, b"cover ", *variable),
         FileFault::NotRunning { variable } => push_place(line, b"running ", *variable),
         FileFault::Cells { clique } => push_place(line, b"cells ", *clique),
-        FileFault::Later => push_bytes(line, b"later"),
+        FileFault::Large => push_bytes(line, b"large"),
         FileFault::Memory => {}
     }
 }
@@ -210,7 +210,7 @@ mod tests {
                 "refused market running 1\n",
             ),
             (FileFault::Cells { clique: 9 }, "refused market cells 9\n"),
-            (FileFault::Later, "refused market later\n"),
+            (FileFault::Large, "refused market large\n"),
         ];
         let mut line = LineBuffer::new();
         for (fault, text) in faults {

@@ -7,7 +7,6 @@ mod price;
 mod print;
 mod read;
 mod run;
-mod table;
 mod words;
 
 pub use run::serve;

@@ -3,7 +3,8 @@
 ghost use Rattle.std.specs.Prelude.{◌≡◌, ◌≢◌, ◌+◌, ◌<◌, ◌≤◌, ℕ, List, Some, Ok, Err, Result, length, ◌⊎◌, IsOk, IfOk, IfErr};
 ghost use Rattle.mk_io.specs.Outside.{Rose, IsAtEnd};
 ghost use Rattle.mk_file.specs.File.{file_of};
-ghost use Rattle.mk_file.specs.Few.{AreFew};
+ghost use Rattle.mk_tree.specs.Checked.{IsTreeOf};
+ghost use Rattle.mk_file.specs.Few.{HasFewStates};
 ghost use Rattle.mk_file.specs.MarketOf.{market_of};
 ghost use Rattle.mk_exact.specs.Market.{Market};
 ghost use Rattle.mk_file.specs.declared.fault.FileFault.{FileFault};
@@ -101,7 +102,8 @@ fn answer_file<I: Inputs, S: Sink>(
     inputs: &mut I,
     out: &mut S,
 ) -> Status
-    requires { AreFew file.net }
+    requires few { HasFewStates file.net }
+    requires tree { IsTreeOf file.net file.tree }
     ensures outcome { (all : List ℕ) → I.commands inputs.old ≡ Some all →
         IsServedBy result (Ok (market_of file)) all (I.commands inputs.new) (S.written out.old) (S.written out.new) }
     ensures inputs_later { I.faults inputs.old ≤ I.faults inputs.new }

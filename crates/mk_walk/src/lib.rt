@@ -1,6 +1,5 @@
 //! A plain program over the joint of a small market: it lists all states, and adds and compares what they weigh.
-//! Until the joint engine comes a run of the market makes its table of weights with it; the answers of the engines are
-//! compared with it in tests.
+//! Nothing here runs in the market; the answers of the engines are compared with it in tests.
 #![tactic(auto)]
 
 mod least;

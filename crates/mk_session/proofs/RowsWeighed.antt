@@ -1,0 +1,62 @@
+-- The meaning that has each variable's rows once is the exact market before any change.
+use Rattle.std.proofs.Common.{◌≡◌, ℕ, ◌+◌, ◌*◌, ◌^◌, ◌<◌, ◌≤◌, Bool, true, false, ◌&&◌, List, [], ◌∷◌, ◌++◌, map, length, filter, sum_by, refl, sym, ap, subst, ◌∙◌, arith}
+use Rattle.std.proofs.Math.Path.{fun_ext}
+use Rattle.std.proofs.lemmas.List.FromFn.{map-range_with_len_more, length-map-range_with_len}
+use Rattle.mk_net.specs.declared.words.Pair.{Pair}
+use Rattle.mk_net.specs.Network.{Variable}
+use Rattle.mk_exact.specs.States.{numbers_below, plus_over, product_by}
+use Rattle.mk_exact.specs.InitialWeight.{all_states, value_at, entry, initial_weight}
+use Rattle.mk_exact.specs.Events.{holds, has, with_target}
+use Rattle.mk_exact.specs.Weight.{weight, total, IsSmall}
+use Rattle.mk_exact.proofs.Sums.{plus_over-map, sum_by_is}
+use Rattle.mk_exact.proofs.Single.{empty_weight}
+use Rattle.mk_tree.specs.Given.{GivenTree}
+use Rattle.mk_engine.specs.Meaning.{Meaning, Factor, RowsOf, with_factor, factor_there, exact_belief, whole_sum}
+use Rattle.mk_session.specs.Rules.{plain_question}
+use Rattle.mk_session.specs.Weighed.{first_rows, all_rows}
+
+-- the rows of one variable more
+pub one_more : (network : List Variable) (tree : GivenTree) (k : ℕ) → with_factor (RowsOf k) (first_rows network tree k) ≡ first_rows network tree (k + 1)
+one_more network tree k =
+    let meaning : List Factor → Meaning = λ fs. record { network = network; tree = tree; factors = fs; known = [] } in
+    ap meaning (sym (map-range_with_len_more RowsOf 0 k k (omega arith)))
+
+pub count_of_rows : (network : List Variable) (tree : GivenTree) (k : ℕ) → length (first_rows network tree k).factors ≡ k
+count_of_rows network tree k = length-map-range_with_len RowsOf 0 k
+
+-- the product of the rows' shares of a state is its weight
+pub product_of_rows : (network : List Variable) (s : List ℕ)
+    → product_by (λ (f : Factor). factor_there network f (value_at s)) (map RowsOf (numbers_below (length network))) ≡ weight network [] s
+product_of_rows network s =
+    plus_over-map ◌*◌ 1 (λ (f : Factor). factor_there network f (value_at s)) RowsOf (numbers_below (length network))
+    ∙ sym (empty_weight network s)
+
+product_of_factors : (network : List Variable) (s : List ℕ)
+    → product_by (λ (f : (ℕ → ℕ) → ℕ). f (value_at s)) (map (factor_there network) (map RowsOf (numbers_below (length network)))) ≡ weight network [] s
+product_of_factors network s =
+    plus_over-map ◌*◌ 1 (λ (f : (ℕ → ℕ) → ℕ). f (value_at s)) (factor_there network) (map RowsOf (numbers_below (length network)))
+    ∙ product_of_rows network s
+
+module _ (network : List Variable) (tree : GivenTree) where
+  -- the belief of an event is the total of the states where it holds
+  pub belief_is_total : (event : List Pair) → exact_belief ◌+◌ (all_rows network tree) event ≡ total network [] (holds event)
+  belief_is_total event =
+      ap (λ (w : List ℕ → ℕ). plus_over ◌+◌ 0 w (filter (holds event) (all_states network))) (fun_ext (product_of_factors network))
+      ∙ sym (sum_by_is (weight network []) (filter (holds event) (all_states network)))
+
+  and_true : (b : Bool) → (b && true) ≡ b
+  and_true true = refl
+  and_true false = refl
+
+  -- that of one pair is the numerator of the pair's price
+  pub belief_of_pair : (pair : Pair) → exact_belief ◌+◌ (all_rows network tree) (pair ∷ []) ≡ total network [] (with_target (plain_question pair))
+  belief_of_pair pair =
+      belief_is_total (pair ∷ [])
+      ∙ ap (λ (test : List ℕ → Bool). sum_by (weight network []) (filter test (all_states network))) (fun_ext (λ s. and_true (has pair s)))
+
+  -- the whole sum is that of all weights
+  pub whole_is : whole_sum (all_rows network tree) ≡ sum_by (weight network []) (all_states network)
+  whole_is = ap (λ (w : List ℕ → ℕ). sum_by w (all_states network)) (fun_ext (product_of_rows network))
+
+  pub small_whole : IsSmall network [] → whole_sum (all_rows network tree) < 2 ^ 63
+  small_whole small = subst (λ (n : ℕ). n < 2 ^ 63) (sym whole_is) small

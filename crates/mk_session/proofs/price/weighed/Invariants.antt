@@ -1,0 +1,7 @@
+use Rattle.mk_semiring.specs.Held.{HeldEncloses, HasHeldGrade, IsHeldExact}
+use Rattle.mk_joint.specs.Joints.{HasJoint}
+use Rattle.mk_session.specs.Weighed.{first_rows}
+use Rattle.mk_session.proofs.price.weighed.Given as goal
+
+abbrev pub invariant-loop-variable : goal.invariant-loop-variable
+invariant-loop-variable l = HasJoint HeldEncloses HasHeldGrade IsHeldExact l.engine.table (first_rows l.net l.tree l.variable)
