@@ -7,3 +7,5 @@ pub use joint::JointEngine;
 
 #[cfg(test)]
 mod tests;
+#[cfg(test)]
+mod walk_tests;

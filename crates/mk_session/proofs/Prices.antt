@@ -1,14 +1,13 @@
 -- Two beliefs make a price.
-use Rattle.std.proofs.Common.{◌≡◌, ℕ, ◌+◌, ◌^◌, ◌<◌, ◌≤◌, List, [], ◌∷◌, length, refl, sym, subst, arith}
+use Rattle.std.proofs.Common.{◌≡◌, ℕ, ◌+◌, List, [], ◌∷◌, length, refl, subst, arith}
 use Rattle.mk_net.specs.declared.words.Pair.{Pair}
 use Rattle.mk_net.specs.Network.{Variable, IsNetwork}
-use Rattle.mk_exact.specs.Events.{holds, with_target}
-use Rattle.mk_exact.specs.Weight.{total, IsSmall}
+use Rattle.mk_exact.specs.Weight.{IsSmall}
 use Rattle.mk_exact.specs.Proper.{IsPairOf}
 use Rattle.mk_exact.specs.Prices.{exact_price, CoversPrice}
 use Rattle.mk_tree.specs.Given.{GivenTree}
 use Rattle.mk_semiring.specs.declared.held.Held.{Held}
-use Rattle.mk_semiring.specs.Held.{HeldEncloses, HasHeldGrade, IsHeldExact, held_grade_more}
+use Rattle.mk_semiring.specs.Held.{HeldEncloses, HasHeldGrade, IsHeldExact}
 use Rattle.mk_engine.specs.Beliefs.{IsBelief}
 use Rattle.mk_session.specs.Rules.{plain_question, IsPriceOf}
 use Rattle.mk_session.specs.Weighed.{all_rows}

@@ -1,11 +1,11 @@
 -- The meaning that has each variable's rows once is the exact market before any change.
-use Rattle.std.proofs.Common.{◌≡◌, ℕ, ◌+◌, ◌*◌, ◌^◌, ◌<◌, ◌≤◌, Bool, true, false, ◌&&◌, List, [], ◌∷◌, ◌++◌, map, length, filter, sum_by, refl, sym, ap, subst, ◌∙◌, arith}
+use Rattle.std.proofs.Common.{◌≡◌, ℕ, ◌+◌, ◌*◌, ◌^◌, ◌<◌, Bool, true, false, ◌&&◌, List, [], ◌∷◌, map, length, filter, sum_by, refl, sym, ap, subst, ◌∙◌, arith}
 use Rattle.std.proofs.Math.Path.{fun_ext}
 use Rattle.std.proofs.lemmas.List.FromFn.{map-range_with_len_more, length-map-range_with_len}
 use Rattle.mk_net.specs.declared.words.Pair.{Pair}
 use Rattle.mk_net.specs.Network.{Variable}
 use Rattle.mk_exact.specs.States.{numbers_below, plus_over, product_by}
-use Rattle.mk_exact.specs.InitialWeight.{all_states, value_at, entry, initial_weight}
+use Rattle.mk_exact.specs.InitialWeight.{all_states, value_at}
 use Rattle.mk_exact.specs.Events.{holds, has, with_target}
 use Rattle.mk_exact.specs.Weight.{weight, total, IsSmall}
 use Rattle.mk_exact.proofs.Sums.{plus_over-map, sum_by_is}

@@ -1,5 +1,5 @@
 -- Some state has a pair of the network, and weighs something.
-use Rattle.std.proofs.Common.{◌≡◌, ℕ, suc, zero, ◌+◌, ◌*◌, ◌<◌, ◌≤◌, Bool, true, false, cond, ◌&&◌, ◌⊎◌, inl, inr, eqb, List, [], ◌∷◌, length, set, replicate, slice_index, filter, sum_by, refl, sym, ap, subst, ◌∙◌, arith, le_trans, le_refl, eq-eqb}
+use Rattle.std.proofs.Common.{◌≡◌, ℕ, suc, zero, ◌+◌, ◌<◌, ◌≤◌, Bool, true, false, cond, ◌⊎◌, inl, inr, List, [], ◌∷◌, length, set, replicate, slice_index, sym, ap, subst, ◌∙◌, arith, le_trans, eq-eqb}
 use Rattle.std.specs.List.{range_with_len}
 use Rattle.std.proofs.lemmas.Bool.{cases_eq}
 use Rattle.std.proofs.lemmas.List.{length-set, length-replicate, get_or-set_same, get_or-set_other, get_or-replicate}
@@ -7,8 +7,8 @@ use Rattle.std.proofs.lemmas.List.Sums.{sum_by-le-sum_by}
 use Rattle.mk_net.specs.declared.words.Pair.{Pair}
 use Rattle.mk_net.specs.Network.{Variable, IsNetwork, sizes}
 use Rattle.mk_net.specs.Named.{nobody}
-use Rattle.mk_exact.specs.States.{states, numbers_below, plus_over, IsState}
-use Rattle.mk_exact.specs.InitialWeight.{all_states, initial_weight}
+use Rattle.mk_exact.specs.States.{states, plus_over, IsState}
+use Rattle.mk_exact.specs.InitialWeight.{all_states}
 use Rattle.mk_exact.specs.Events.{holds, has, with_target}
 use Rattle.mk_exact.specs.Weight.{weight, total}
 use Rattle.mk_exact.specs.Proper.{IsPairOf}

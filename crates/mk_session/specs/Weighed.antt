@@ -3,7 +3,7 @@ use Rattle.std.specs.Prelude.{ℕ, List, [], map, length}
 use Rattle.mk_net.specs.Network.{Variable}
 use Rattle.mk_exact.specs.States.{numbers_below}
 use Rattle.mk_tree.specs.Given.{GivenTree}
-use Rattle.mk_engine.specs.Meaning.{Meaning, Factor, RowsOf}
+use Rattle.mk_engine.specs.Meaning.{Meaning, RowsOf}
 
 -- the rows of the first variables, in order, and nothing known
 abbrev pub first_rows : List Variable → GivenTree → ℕ → Meaning

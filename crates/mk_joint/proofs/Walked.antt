@@ -1,0 +1,47 @@
+-- The rows of the first variables as factors, and a clique of all variables.
+use Rattle.std.proofs.Common.{◌≡◌, ℕ, suc, zero, ◌+◌, ◌*◌, ◌<◌, Bool, true, List, [], ◌∷◌, map, length, filter, slice_index, refl, sym, ap, ◌∙◌, arith}
+use Rattle.std.specs.List.{range_with_len}
+use Rattle.std.proofs.lemmas.Bool.{cond-true}
+use Rattle.std.proofs.lemmas.List.{length-map}
+use Rattle.std.proofs.lemmas.List.FromFn.{map-range_with_len_more, length-map-range_with_len}
+use Rattle.mk_net.specs.declared.sets.VarSet.{VarSet}
+use Rattle.mk_net.specs.Sets.{is_member}
+use Rattle.mk_net.specs.Network.{Variable, sizes, choices}
+use Rattle.mk_exact.specs.States.{numbers_below}
+use Rattle.mk_sums.specs.Cells.{cells}
+use Rattle.mk_tree.specs.Given.{GivenTree}
+use Rattle.mk_tree.specs.Tests.{cells_of}
+use Rattle.mk_engine.specs.Meaning.{Meaning, Factor, RowsOf, with_factor}
+use Rattle.mk_joint.specs.Joints.{joint_states}
+
+-- the rows of the first variables, in order, and nothing known
+abbrev pub first_rows : List Variable → GivenTree → ℕ → Meaning
+first_rows network tree count = record { network = network; tree = tree; factors = map RowsOf (numbers_below count); known = [] }
+
+-- the rows of one variable more
+pub one_more : (network : List Variable) (tree : GivenTree) (k : ℕ) → with_factor (RowsOf k) (first_rows network tree k) ≡ first_rows network tree (k + 1)
+one_more network tree k =
+    let meaning : List Factor → Meaning = λ fs. record { network = network; tree = tree; factors = fs; known = [] } in
+    ap meaning (sym (map-range_with_len_more RowsOf 0 k k (omega arith)))
+
+pub count_of_rows : (network : List Variable) (tree : GivenTree) (k : ℕ) → length (first_rows network tree k).factors ≡ k
+count_of_rows network tree k = length-map-range_with_len RowsOf 0 k
+
+choices_are_cells : (ns xs : List ℕ) → choices ns xs ≡ cells (slice_index ns) xs
+choices_are_cells ns [] = refl
+choices_are_cells ns (x ∷ xs) = ap (λ n. slice_index ns x * n) (choices_are_cells ns xs)
+
+-- a set that has each number of a range leaves none out
+none_left_out : (p : ℕ → Bool) (a n : ℕ) → ((x : ℕ) → x < a + n → p x ≡ true) → filter p (range_with_len a n) ≡ range_with_len a n
+none_left_out p a zero h = refl
+none_left_out p a (suc n) h =
+    cond-true (p a) (a ∷ filter p (range_with_len (a + 1) n)) (filter p (range_with_len (a + 1) n)) (h a (omega arith))
+    ∙ ap (λ (xs : List ℕ). a ∷ xs) (none_left_out p (a + 1) n (λ x q. h x (omega (arith, q))))
+
+-- a clique of all variables has a cell for each joint state
+pub cells_of_all : (network : List Variable) (set : VarSet) → ((x : ℕ) → x < length network → is_member set x ≡ true) → cells_of network set ≡ joint_states network
+cells_of_all network set h =
+    let many : length (sizes network) ≡ length network = length-map network (λ (v : Variable). length v.values) in
+    ap (choices (sizes network)) (none_left_out (is_member set) 0 (length network) (λ x q. h x (omega (arith, q))))
+    ∙ choices_are_cells (sizes network) (numbers_below (length network))
+    ∙ ap (λ (n : ℕ). cells (slice_index (sizes network)) (numbers_below n)) (sym many)
