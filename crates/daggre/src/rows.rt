@@ -167,7 +167,7 @@ const LATE_PARENT: &[&str] = &[
 ];
 
 /// Markets that are served.
-pub const SERVED: [Row; 9] = [
+pub const SERVED: [Row; 12] = [
     Row {
         market: COIN,
         commands: "",
@@ -220,6 +220,24 @@ pub const SERVED: [Row; 9] = [
         market: CHAIN,
         commands: "price b=up\nprice c=up\n",
         output: "ready 3 100\nprice 0.4500000000..0.4500000000\nprice 0.4150000000..0.4150000000\n",
+        status: Status::Done,
+    },
+    Row {
+        market: WEATHER,
+        commands: "price rain=yes | season=wet\nprice rain=yes | season=dry\n",
+        output: "ready 2 100\nprice 0.7000000000..0.7000000000\nprice 0.1000000000..0.1000000000\n",
+        status: Status::Done,
+    },
+    Row {
+        market: CHAIN,
+        commands: "price a=up | b=up\nprice c=up | a=up\nprice c=left\n",
+        output: "ready 3 100\nprice 0.6666666666..0.6666666667\nrefused wide\nrefused name c=left\n",
+        status: Status::Done,
+    },
+    Row {
+        market: CHAIN,
+        commands: "price c=up | b=up, c=down\nprice c=up|b=up\nuser alice\n",
+        output: "ready 3 100\nrefused twice c\nrefused syntax\nrefused syntax\n",
         status: Status::Done,
     },
 ];

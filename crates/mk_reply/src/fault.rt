@@ -1,6 +1,6 @@
 //! Writing the line of a refused market file.
 
-ghost use Rattle.std.specs.Prelude.{◌≡◌, ◌≢◌, ◌+◌, ◌≤◌, ◌++◌, length, codes};
+ghost use Rattle.std.specs.Prelude.{◌≡◌, ◌≢◌, ◌+◌, ◌<◌, ◌≤◌, ◌++◌, length, codes};
 ghost use Rattle.arrayvec.specs.ArrayString.{array_string_len};
 ghost use Rattle.mk_file.specs.declared.fault.FileFault.TheVariants.{Memory};
 ghost use Rattle.mk_reply.specs.Faults.{fault_text, cause_text, place_text, then_number, then_signed};
@@ -17,7 +17,8 @@ type Line = ArrayString<32768>;
 /// Puts the line of a refused market file into `out`, in place of what it held. Want of memory has no line.
 pub fn print_fault(fault: &FileFault, out: &mut ArrayString<32768>)
     requires { fault.now ≢ Memory }
-    ensures { out.new.bytes ≡ fault_text fault.now }
+    ensures text { out.new.bytes ≡ fault_text fault.now }
+    ensures room { array_string_len out.new < 32768 }
 {
     out.clear();
     out.push_str("refused market ");
@@ -27,7 +28,8 @@ pub fn print_fault(fault: &FileFault, out: &mut ArrayString<32768>)
 fn put_cause(out: &mut Line, fault: &FileFault)
     requires known { fault.now ≢ Memory }
     requires room { array_string_len out.old + 100 ≤ 32768 }
-    ensures { out.new.bytes ≡ out.old.bytes ++ cause_text fault.now }
+    ensures text { out.new.bytes ≡ out.old.bytes ++ cause_text fault.now }
+    ensures growth { array_string_len out.new ≤ array_string_len out.old + 100 }
 {
     match fault {
         FileFault::TooLong => out.push_str("long"),
@@ -68,7 +70,8 @@ fn put_place(out: &mut Line, word: &str, key: Key, place: u32)
 
 fn put_count(out: &mut Line, key: Key, place: u32, n: i64)
     requires { array_string_len out.old + 62 ≤ 32768 }
-    ensures { out.new.bytes ≡ out.old.bytes ++ (codes "count " ++ (place_text key place ++ then_signed n)) }
+    ensures text { out.new.bytes ≡ out.old.bytes ++ (codes "count " ++ (place_text key place ++ then_signed n)) }
+    ensures growth { array_string_len out.new ≤ array_string_len out.old + 62 }
 {
     put_place(out, "count ", key, place);
     put_signed(out, n);
@@ -85,7 +88,8 @@ fn put_at(out: &mut Line, word: &str, number: u32)
 
 fn put_rows(out: &mut Line, variable: u32, n: i64)
     requires { array_string_len out.old + 46 ≤ 32768 }
-    ensures { out.new.bytes ≡ out.old.bytes ++ (codes "rows" ++ (then_number variable ++ then_signed n)) }
+    ensures text { out.new.bytes ≡ out.old.bytes ++ (codes "rows" ++ (then_number variable ++ then_signed n)) }
+    ensures growth { array_string_len out.new ≤ array_string_len out.old + 46 }
 {
     put_at(out, "rows", variable);
     put_signed(out, n);
@@ -93,7 +97,8 @@ fn put_rows(out: &mut Line, variable: u32, n: i64)
 
 fn put_row(out: &mut Line, word: &str, variable: u32, row: u32, n: i64)
     requires { array_string_len out.old + length word.now + 63 ≤ 32768 }
-    ensures { out.new.bytes ≡ out.old.bytes ++ (word.now ++ (then_number variable ++ (then_number row ++ then_signed n))) }
+    ensures text { out.new.bytes ≡ out.old.bytes ++ (word.now ++ (then_number variable ++ (then_number row ++ then_signed n))) }
+    ensures growth { array_string_len out.new ≤ array_string_len out.old + length word.now + 63 }
 {
     put_at(out, word, variable);
     put_next(out, row);
@@ -102,7 +107,8 @@ fn put_row(out: &mut Line, word: &str, variable: u32, row: u32, n: i64)
 
 fn put_entry(out: &mut Line, variable: u32, row: u32, column: u32)
     requires { array_string_len out.old + 68 ≤ 32768 }
-    ensures { out.new.bytes ≡ out.old.bytes ++ (codes "entry" ++ (then_number variable ++ (then_number row ++ then_number column))) }
+    ensures text { out.new.bytes ≡ out.old.bytes ++ (codes "entry" ++ (then_number variable ++ (then_number row ++ then_number column))) }
+    ensures growth { array_string_len out.new ≤ array_string_len out.old + 68 }
 {
     put_at(out, "entry", variable);
     put_next(out, row);

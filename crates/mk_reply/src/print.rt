@@ -1,6 +1,6 @@
 //! Writing a reply.
 
-ghost use Rattle.std.specs.Prelude.{◌≡◌, ◌+◌, ◌*◌, ◌≤◌, ◌++◌, length, codes, decimal};
+ghost use Rattle.std.specs.Prelude.{◌≡◌, ◌+◌, ◌*◌, ◌<◌, ◌≤◌, ◌++◌, length, codes, decimal};
 ghost use Rattle.arrayvec.specs.ArrayString.{array_string_len};
 ghost use Rattle.mk_text.specs.Joined.{items_text};
 ghost use Rattle.mk_text.specs.Numbers.{price_text, limits_text};
@@ -19,7 +19,8 @@ type Text = ArrayString<32768>;
 
 /// Puts the text of a reply into `out`, in place of what it held.
 pub fn print_reply(reply: &Reply, out: &mut ArrayString<32768>)
-    ensures { out.new.bytes ≡ reply_text reply.now }
+    ensures text { out.new.bytes ≡ reply_text reply.now }
+    ensures room { array_string_len out.new < 32768 }
 {
     out.clear();
     match reply {
@@ -101,7 +102,8 @@ fn put_limited(out: &mut Text, word: &str, limits: Option<(u32, u32)>)
 
 fn put_prices(out: &mut Text, low: u64, high: u64)
     requires { array_string_len out.old + 70 ≤ 32768 }
-    ensures { out.new.bytes ≡ out.old.bytes ++ (codes "price " ++ (price_text low ++ (codes ".." ++ price_text high))) }
+    ensures text { out.new.bytes ≡ out.old.bytes ++ (codes "price " ++ (price_text low ++ (codes ".." ++ price_text high))) }
+    ensures growth { array_string_len out.new ≤ array_string_len out.old + 70 }
 {
     out.push_str("price ");
     put_price(out, low);
@@ -111,7 +113,8 @@ fn put_prices(out: &mut Text, low: u64, high: u64)
 
 fn put_trade(out: &mut Text, hit: u64, miss: u64, at: u64)
     requires { array_string_len out.old + 71 ≤ 32768 }
-    ensures { out.new.bytes ≡ out.old.bytes ++ (codes "trade " ++ (decimal hit ++ (codes " " ++ (decimal miss ++ at_text at)))) }
+    ensures text { out.new.bytes ≡ out.old.bytes ++ (codes "trade " ++ (decimal hit ++ (codes " " ++ (decimal miss ++ at_text at)))) }
+    ensures growth { array_string_len out.new ≤ array_string_len out.old + 71 }
 {
     put_counted(out, "trade ", hit);
     put_counted(out, " ", miss);
@@ -129,7 +132,8 @@ fn put_at(out: &mut Text, at: u64)
 fn put_payments(out: &mut Text, payments: &[Payment])
     requires few { length payments.now ≤ 256 }
     requires room { array_string_len out.old + 26368 ≤ 32768 }
-    ensures { out.new.bytes ≡ out.old.bytes ++ items_text (codes ", ") payment_text payments.now }
+    ensures text { out.new.bytes ≡ out.old.bytes ++ items_text (codes ", ") payment_text payments.now }
+    ensures growth { array_string_len out.new ≤ array_string_len out.old + 26368 }
 {
     for payment in payments {
         out.push_str(", ");
@@ -150,7 +154,8 @@ fn put_payment(out: &mut Text, payment: &Payment)
 
 fn put_refusal(out: &mut Text, why: &Refusal)
     requires { array_string_len out.old + 100 ≤ 32768 }
-    ensures { out.new.bytes ≡ out.old.bytes ++ refusal_text why.now }
+    ensures text { out.new.bytes ≡ out.old.bytes ++ refusal_text why.now }
+    ensures growth { array_string_len out.new ≤ array_string_len out.old + 100 }
 {
     match why {
         Refusal::Syntax => out.push_str("syntax"),

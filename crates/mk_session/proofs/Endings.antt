@@ -11,9 +11,9 @@ use Rattle.mk_io.specs.Stream.{StreamLine, stream_lines, max_stream_lines, max_s
 use Rattle.mk_io.specs.Cutting.{Cutting, stream_left, GivesLine, Stays, IsAnswer, IsFreshAnswer, StopsInLine, Overruns, IsTooMuch}
 use Rattle.mk_io.proofs.Told.{append_known_twice}
 use Rattle.mk_exact.specs.Market.{Market}
-use Rattle.mk_session.specs.declared.words.Reply.{Reply}
+use Rattle.mk_reply.specs.declared.reply.Reply.{Reply}
 use Rattle.mk_session.specs.Texts.{reply_line, ready_line}
-use Rattle.mk_session.specs.Rules.{Standing, opening}
+use Rattle.mk_rules.specs.Transcript.{Standing, opening}
 use Rattle.mk_session.specs.Transcript.{Run, Transcript, asked, transcript_text}
 use Rattle.mk_session.specs.Progress.{IsCutOff, IsSoFar, IsEnded, IsAnswered}
 use Rattle.mk_session.proofs.Underway.{behind, done_push, run_push, run_sound, asked_push, so_far_next, no_more}

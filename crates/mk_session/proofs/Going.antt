@@ -7,7 +7,7 @@ use Rattle.mk_io.specs.Outside.{prepend_known, IsAtEnd}
 use Rattle.mk_io.specs.Cutting.{Cutting, fresh}
 use Rattle.mk_io.proofs.Told.{append_known_none, prepend_known_none}
 use Rattle.mk_exact.specs.Market.{Market}
-use Rattle.mk_session.specs.Rules.{Standing, opening}
+use Rattle.mk_rules.specs.Transcript.{Standing, opening}
 use Rattle.mk_session.specs.Progress.{IsSoFar}
 use Rattle.mk_session.specs.Served.{IsTaken}
 

@@ -5,8 +5,8 @@ pub mod Prices
 pub mod Answering
 pub mod Underway
 pub mod Endings
-pub mod ReadingPairs
-pub mod PrintingDigits
 pub mod Going
 pub mod Serving
 pub mod Completing
+pub mod Questions
+pub mod Allowed

@@ -1,8 +1,10 @@
 -- The meaning that has each variable's rows once is the exact market before any change.
-use Rattle.std.proofs.Common.{◌≡◌, ℕ, ◌+◌, ◌*◌, ◌^◌, ◌<◌, Bool, true, false, ◌&&◌, List, [], ◌∷◌, map, length, filter, sum_by, refl, sym, ap, subst, ◌∙◌, arith}
+use Rattle.std.proofs.Common.{◌≡◌, ℕ, ◌+◌, ◌*◌, ◌^◌, ◌<◌, Bool, true, false, ◌&&◌, List, [], ◌∷◌, ◌++◌, map, length, filter, sum_by, refl, sym, ap, subst, ◌∙◌, arith}
 use Rattle.std.proofs.Math.Path.{fun_ext}
 use Rattle.std.proofs.lemmas.List.FromFn.{map-range_with_len_more, length-map-range_with_len}
 use Rattle.mk_net.specs.declared.words.Pair.{Pair}
+use Rattle.mk_net.specs.Asked.{Asked}
+use Rattle.mk_net.specs.Events.{pairs_asked}
 use Rattle.mk_net.specs.Network.{Variable}
 use Rattle.mk_exact.specs.States.{numbers_below, plus_over, product_by}
 use Rattle.mk_exact.specs.InitialWeight.{all_states, value_at}
@@ -12,7 +14,6 @@ use Rattle.mk_exact.proofs.Sums.{plus_over-map, sum_by_is}
 use Rattle.mk_exact.proofs.Single.{empty_weight}
 use Rattle.mk_tree.specs.Given.{GivenTree}
 use Rattle.mk_engine.specs.Meaning.{Meaning, Factor, RowsOf, with_factor, factor_there, exact_belief, whole_sum}
-use Rattle.mk_session.specs.Rules.{plain_question}
 use Rattle.mk_session.specs.Weighed.{first_rows, all_rows}
 
 -- the rows of one variable more
@@ -37,6 +38,22 @@ product_of_factors network s =
     plus_over-map ◌*◌ 1 (λ (f : (ℕ → ℕ) → ℕ). f (value_at s)) (factor_there network) (map RowsOf (numbers_below (length network)))
     ∙ product_of_rows network s
 
+-- the pairs of a question hold where its condition does and its target does
+pub holds_more : (pairs : List Pair) (target : Pair) (s : List ℕ) → holds (pairs ++ target ∷ []) s ≡ (holds pairs s && has target s)
+holds_more [] target s = at (has target s)
+  where
+    at : (b : Bool) → (b && true) ≡ b
+    at true = refl
+    at false = refl
+holds_more (p ∷ pairs) target s = at (has p s) (holds_more pairs target s)
+  where
+    at : (b : Bool) → holds (pairs ++ target ∷ []) s ≡ (holds pairs s && has target s) → (b && holds (pairs ++ target ∷ []) s) ≡ ((b && holds pairs s) && has target s)
+    at true h = h
+    at false h = refl
+
+pub holds_asked : (asked : Asked) (s : List ℕ) → holds (pairs_asked asked) s ≡ with_target asked s
+holds_asked asked s = holds_more asked.condition asked.target s
+
 module _ (network : List Variable) (tree : GivenTree) where
   -- the belief of an event is the total of the states where it holds
   pub belief_is_total : (event : List Pair) → exact_belief ◌+◌ (all_rows network tree) event ≡ total network [] (holds event)
@@ -44,15 +61,11 @@ module _ (network : List Variable) (tree : GivenTree) where
       ap (λ (w : List ℕ → ℕ). plus_over ◌+◌ 0 w (filter (holds event) (all_states network))) (fun_ext (product_of_factors network))
       ∙ sym (sum_by_is (weight network []) (filter (holds event) (all_states network)))
 
-  and_true : (b : Bool) → (b && true) ≡ b
-  and_true true = refl
-  and_true false = refl
-
-  -- that of one pair is the numerator of the pair's price
-  pub belief_of_pair : (pair : Pair) → exact_belief ◌+◌ (all_rows network tree) (pair ∷ []) ≡ total network [] (with_target (plain_question pair))
-  belief_of_pair pair =
-      belief_is_total (pair ∷ [])
-      ∙ ap (λ (test : List ℕ → Bool). sum_by (weight network []) (filter test (all_states network))) (fun_ext (λ s. and_true (has pair s)))
+  -- that of a question's pairs is the numerator of its price
+  pub belief_of_question : (asked : Asked) → exact_belief ◌+◌ (all_rows network tree) (pairs_asked asked) ≡ total network [] (with_target asked)
+  belief_of_question asked =
+      belief_is_total (pairs_asked asked)
+      ∙ ap (λ (test : List ℕ → Bool). sum_by (weight network []) (filter test (all_states network))) (fun_ext (holds_asked asked))
 
   -- the whole sum is that of all weights
   pub whole_is : whole_sum (all_rows network tree) ≡ sum_by (weight network []) (all_states network)

@@ -13,7 +13,7 @@ use Rattle.mk_file.specs.declared.fault.FileFault.{FileFault}
 use Rattle.mk_file.specs.declared.fault.FileFault.TheVariants.{TooLong}
 use Rattle.mk_file.specs.File.{file_of, of_document, document_of}
 use Rattle.mk_session.specs.Texts.{ready_line, fault_line, as_line}
-use Rattle.mk_session.specs.Rules.{opening}
+use Rattle.mk_rules.specs.Transcript.{opening}
 use Rattle.mk_session.specs.Transcript.{transcript_text}
 use Rattle.mk_session.specs.Outcome.{Adds, Ends, Serves}
 use Rattle.mk_session.specs.Progress.{IsEnded}

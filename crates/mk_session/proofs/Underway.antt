@@ -10,9 +10,9 @@ use Rattle.mk_io.specs.Cutting.{Cutting, stream_left, GivesLine}
 use Rattle.mk_io.proofs.Told.{append_known_twice}
 use Rattle.mk_exact.specs.Market.{Market, network_of}
 use Rattle.mk_exact.specs.Sound.{IsSound}
-use Rattle.mk_session.specs.declared.words.Reply.{Reply}
+use Rattle.mk_reply.specs.declared.reply.Reply.{Reply}
 use Rattle.mk_session.specs.Texts.{reply_line}
-use Rattle.mk_session.specs.Rules.{Standing, opening}
+use Rattle.mk_rules.specs.Transcript.{Standing, opening}
 use Rattle.mk_session.specs.Transcript.{Step, Run, asked}
 use Rattle.mk_session.specs.Progress.{IsAnswered, IsSoFar}
 

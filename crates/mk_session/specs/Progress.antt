@@ -6,9 +6,9 @@ use Rattle.mk_io.specs.Outside.{append_known, AddsFront}
 use Rattle.mk_io.specs.Stream.{StreamLine, asks, stream_lines}
 use Rattle.mk_io.specs.Cutting.{Cutting, stream_left}
 use Rattle.mk_exact.specs.Market.{Market}
-use Rattle.mk_session.specs.declared.words.Reply.{Reply}
+use Rattle.mk_reply.specs.declared.reply.Reply.{Reply}
 use Rattle.mk_session.specs.Texts.{reply_line, ready_line}
-use Rattle.mk_session.specs.Rules.{Standing, opening}
+use Rattle.mk_rules.specs.Transcript.{Standing, opening}
 use Rattle.mk_session.specs.Transcript.{Step, Run, asked}
 use Rattle.mk_session.specs.Outcome.{Adds, Serves}
 

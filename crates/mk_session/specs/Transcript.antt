@@ -1,29 +1,31 @@
 -- The transcripts that a market allows.
-use Rattle.std.specs.Prelude.{◌≡◌, ℕ, List, [], ◌∷◌, ◌++◌, filter}
+use Rattle.std.specs.Prelude.{◌≡◌, ◌≢◌, ℕ, List, [], ◌∷◌, ◌++◌, filter, true}
 use Rattle.std.specs.List.{flat_map}
 use Rattle.mk_io.specs.Stream.{StreamLine, text, long, asks}
 use Rattle.mk_exact.specs.Market.{Market, network_of}
 use Rattle.mk_exact.specs.Sound.{IsSound}
-use Rattle.mk_session.specs.declared.words.Command.{Command}
-use Rattle.mk_session.specs.declared.words.Reply.{Reply}
-use Rattle.mk_session.specs.Texts.{IsTextOf, ready_line, reply_line}
-use Rattle.mk_session.specs.Rules.{Standing, opening, Asking, of_command, no_command, long_line, IsAllowedFor, standing_after}
+use Rattle.mk_command.specs.declared.command.Command.{Command}
+use Rattle.mk_command.specs.Commands.{IsCommand, command_text}
+use Rattle.mk_reply.specs.declared.reply.Reply.{Reply}
+use Rattle.mk_rules.specs.Transcript.{Standing, opening, Line, OfCommand, NoCommand, LongLine, IsAllowedFor, after}
+use Rattle.mk_session.specs.Texts.{ready_line, reply_line}
+use Rattle.mk_session.specs.Rules.{is_served}
 
--- what a line of the stream asks
-abbrev pub Asks : StreamLine → Asking → Type 0
-Asks (text bytes) (of_command command) = IsTextOf command bytes
-Asks (text bytes) no_command = (command : Command) → ¬ IsTextOf command bytes
-Asks (text bytes) long_line = ⊥
-Asks long long_line = Unit {0}
-Asks long no_command = ⊥
-Asks long (of_command command) = ⊥
+-- what a line of the stream asks: a command that is served, the text of none, or nothing since it is too long
+abbrev pub Asks : StreamLine → Line → Type 0
+Asks (text bytes) (OfCommand command) = IsCommand command × (bytes ≡ command_text command) × (is_served command ≡ true)
+Asks (text bytes) NoCommand = (command : Command) → IsCommand command → is_served command ≡ true → bytes ≢ command_text command
+Asks (text bytes) LongLine = ⊥
+Asks long LongLine = Unit {0}
+Asks long NoCommand = ⊥
+Asks long (OfCommand command) = ⊥
 
 -- a line is answered by an allowed reply, which leads from a sound history to a sound one
 pub record Step (market : Market) (old : Standing) (line : StreamLine) (reply : Reply) (new : Standing) : Type 0 where
-  pub asking : Asking
+  pub asking : Line
   pub asked : Asks line asking
   pub allowed : IsAllowedFor market old asking reply
-  pub next : new ≡ standing_after market old asking reply
+  pub next : new ≡ after market old asking reply
   pub keeps_sound : IsSound (network_of market old.history) old.history → IsSound (network_of market new.history) new.history
 
 -- each line is answered in turn

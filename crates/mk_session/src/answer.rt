@@ -1,19 +1,22 @@
 //! Answering the lines of a stream, one after another.
 
-ghost use Rattle.std.specs.Prelude.{◌≡◌, ◌≢◌, ◌+◌, ◌≤◌, ℕ, List, None, Option, Some, ◌==◌, OnOk, OnErr, IfNone, IfSome, MatchResult};
+ghost use Rattle.std.specs.Prelude.{◌≡◌, ◌≢◌, ◌+◌, ◌≤◌, ℕ, List, None, Option, Some, ◌==◌, OnOk, OnErr, true, IfNone, IfSome, MatchResult};
 ghost use Rattle.std.specs.List.{list_all};
 ghost use Rattle.mk_io.specs.Outside.{HasCause, Rose, AddsFront, append_known};
 ghost use Rattle.mk_io.specs.Stream.{StreamLine, text, long, max_stream_lines};
 ghost use Rattle.mk_session.specs.Texts.{reply_line};
-ghost use Rattle.mk_session.specs.Rules.{opening};
+ghost use Rattle.mk_command.specs.Commands.{IsCommand, command_text};
+ghost use Rattle.mk_command.specs.declared.command.Command.{Command};
+ghost use Rattle.mk_rules.specs.Transcript.{opening};
+ghost use Rattle.mk_session.specs.Rules.{is_served};
 ghost use Rattle.mk_session.specs.Transcript.{Step};
 ghost use Rattle.mk_session.specs.Progress.{IsAnswered, IsCutOff, IsSoFar, IsEnded};
 
 use crate::price::PriceMarket;
-use crate::print::{LineBuffer, print_reply};
-use crate::read::read_command;
-use crate::words::{Refusal, Reply};
+use crate::print::{LineBuffer, print_reply_line};
+use mk_command::{Command, read_command};
 use mk_io::{Inputs, Lines, Next, Sink, SinkFailed, Status, write_all};
+use mk_reply::{Refusal, Reply};
 
 /// Whether a line holds no byte but spaces.
 fn is_blank(line: &[u8]) -> bool
@@ -22,12 +25,36 @@ fn is_blank(line: &[u8]) -> bool
     line.iter().all(|byte| *byte == b' ')
 }
 
+/// Whether a command is served.
+fn is_served(command: &Command) -> bool
+    ensures { result ≡ is_served command.now }
+{
+    matches!(command, Command::Price { .. })
+}
+
+/// The served command of which these bytes are the text. None exactly where they are the text of none.
+fn read_served(line: &[u8]) -> Option<Command>
+    ensures found { IfSome result (λ c. IsCommand c × (line.now ≡ command_text c) × (is_served c ≡ true)) }
+    ensures none { IfNone result ((c : Command) → IsCommand c → is_served c ≡ true → line.now ≢ command_text c) }
+{
+    match read_command(line) {
+        Err(_) => None,
+        Ok(command) => {
+            if is_served(&command) {
+                Some(command)
+            } else {
+                None
+            }
+        }
+    }
+}
+
 /// The reply to a line that is not too long and not blank.
 fn reply_to(market: &mut PriceMarket, line: &[u8]) -> Reply
     ensures step { Step (market.old.market) (market.old.standing) (text line.now) result (market.new.standing) }
     ensures market { market.new.market ≡ market.old.market }
 {
-    match read_command(line) {
+    match read_served(line) {
         None => Reply::Refused {
             why: Refusal::Syntax,
         },
@@ -36,20 +63,20 @@ fn reply_to(market: &mut PriceMarket, line: &[u8]) -> Reply
 }
 
 /// Writes the line of a reply.
-fn say<S: Sink>(reply: &Reply, out: &mut S) -> Result<(), SinkFailed>
+fn say<S: Sink>(reply: &Reply, buffer: &mut LineBuffer, out: &mut S) -> Result<(), SinkFailed>
     ensures cause { HasCause (S.faults out.old) (S.faults out.new) result }
     ensures whole { OnOk result (S.written out.new ≡ append_known (S.written out.old) (reply_line reply.now)) }
     ensures front { OnErr result (AddsFront (S.written out.old) (S.written out.new) (reply_line reply.now)) }
 {
-    let mut line = LineBuffer::new();
-    print_reply(reply, &mut line);
-    write_all(out, line.as_slice())
+    print_reply_line(reply, buffer);
+    write_all(out, buffer.as_bytes())
 }
 
 /// Answers a line that is not too long: nothing is written for a blank one.
 fn answer_text<S: Sink>(
     market: &mut PriceMarket,
     line: &[u8],
+    buffer: &mut LineBuffer,
     out: &mut S,
 ) -> Result<(), SinkFailed>
     ensures market { market.new.market ≡ market.old.market }
@@ -63,11 +90,15 @@ fn answer_text<S: Sink>(
         return Ok(());
     }
     let reply = reply_to(market, line);
-    say(&reply, out)
+    say(&reply, buffer, out)
 }
 
 /// Answers a line that is too long.
-fn answer_long<S: Sink>(market: &mut PriceMarket, out: &mut S) -> Result<(), SinkFailed>
+fn answer_long<S: Sink>(
+    market: &mut PriceMarket,
+    buffer: &mut LineBuffer,
+    out: &mut S,
+) -> Result<(), SinkFailed>
     ensures market { market.new.market ≡ market.old.market }
     ensures cause { HasCause (S.faults out.old) (S.faults out.new) result }
     ensures answered { OnOk result (IsAnswered market.old.market market.old.standing long market.new.standing
@@ -76,7 +107,7 @@ fn answer_long<S: Sink>(market: &mut PriceMarket, out: &mut S) -> Result<(), Sin
         (S.written out.old) (S.written out.new)) }
 {
     let _ = market.variables();
-    say(&Reply::Refused { why: Refusal::Long }, out)
+    say(&Reply::Refused { why: Refusal::Long }, buffer, out)
 }
 
 /// Takes the next line of the stream and answers it. None where the run goes on; else how it ends.
@@ -84,6 +115,7 @@ fn take_turn<I: Inputs, S: Sink>(
     market: &mut PriceMarket,
     lines: &mut Lines,
     inputs: &mut I,
+    buffer: &mut LineBuffer,
     out: &mut S,
 ) -> Option<Status>
     requires { lines.old.last ≡ None }
@@ -104,8 +136,8 @@ fn take_turn<I: Inputs, S: Sink>(
     ensures not_usage { IfSome result (λ status. status ≢ Status.Usage) }
 {
     match lines.next(inputs) {
-        Next::Line => end_after(answer_text(market, lines.line(), out)),
-        Next::Long => end_after(answer_long(market, out)),
+        Next::Line => end_after(answer_text(market, lines.line(), buffer, out)),
+        Next::Long => end_after(answer_long(market, buffer, out)),
         Next::End => Some(Status::Done),
         Next::ReadFault => Some(Status::ReadFault),
         Next::TooMany => Some(Status::TooMany),
@@ -126,6 +158,7 @@ fn end_after(said: Result<(), SinkFailed>) -> Option<Status>
 pub fn answer_lines<I: Inputs, S: Sink>(
     market: &mut PriceMarket,
     inputs: &mut I,
+    buffer: &mut LineBuffer,
     out: &mut S,
 ) -> Status
     requires { market.old.standing ≡ opening }
@@ -139,7 +172,7 @@ pub fn answer_lines<I: Inputs, S: Sink>(
 {
     let mut lines = Lines::new();
     loop {
-        if let Some(status) = take_turn(market, &mut lines, inputs, out) {
+        if let Some(status) = take_turn(market, &mut lines, inputs, buffer, out) {
             return status;
         }
     }

@@ -2,11 +2,9 @@
 #![tactic(auto)]
 
 mod answer;
-mod fault_line;
 mod price;
 mod print;
-mod read;
+mod question;
 mod run;
-mod words;
 
 pub use run::serve;

@@ -1,11 +1,13 @@
 //! The market of a run: the engine of its weights, and the answers to its commands.
 
-use crate::words::{Command, Refusal, Reply};
+use crate::question::{first_twice, first_unknown, in_numbers};
+use mk_command::Command;
 use mk_enclose::Enclosure;
 use mk_engine::Engine;
 use mk_file::MarketFile;
 use mk_joint::JointEngine;
-use mk_net::{Event, Network, NoMemory, Pair};
+use mk_net::{Network, NoMemory, Question, QuestionText};
+use mk_reply::{Refusal, Reply};
 use mk_semiring::{Held, SumProd};
 use mk_tree::Tree;
 use std::alloc::Global;
@@ -20,7 +22,7 @@ pub struct PriceMarket {
 
 impl Model for PriceMarket {
     ghost use Rattle.mk_session.specs.Trading.{Trading};
-    ghost use Rattle.mk_session.specs.Rules.{opening};
+    ghost use Rattle.mk_rules.specs.Transcript.{opening};
     ghost use Rattle.mk_session.specs.Weighed.{all_rows};
     ghost use Rattle.mk_file.specs.MarketOf.{market_of};
 
@@ -32,12 +34,15 @@ impl Model for PriceMarket {
 }
 
 impl PriceMarket {
-    ghost use Rattle.std.specs.Prelude.{◌≡◌, ℕ, [], length, IfOk};
-    ghost use Rattle.mk_exact.specs.Proper.{IsPairOf};
+    ghost use Rattle.std.specs.Prelude.{◌≡◌, ℕ, [], length, true, IfOk};
+    ghost use Rattle.mk_exact.specs.Proper.{IsQuestionOf};
     ghost use Rattle.mk_tree.specs.Checked.{IsTreeOf};
     ghost use Rattle.mk_file.specs.Few.{HasFewStates};
     ghost use Rattle.mk_file.specs.MarketOf.{market_of};
-    ghost use Rattle.mk_session.specs.Rules.{opening, plain_question, IsAllowed, IsPriceOf};
+    ghost use Rattle.mk_command.specs.declared.command.Command.TheVariants.{Price};
+    ghost use Rattle.mk_rules.specs.Answers.{IsAllowed, IsPrice};
+    ghost use Rattle.mk_rules.specs.Transcript.{opening};
+    ghost use Rattle.mk_session.specs.Rules.{is_served};
     ghost use Rattle.mk_session.specs.Trading.{Trading};
 
     /// Opens the market of a file.
@@ -64,34 +69,60 @@ impl PriceMarket {
         self.file.points_per_bit
     }
 
-    /// The price of a pair.
-    fn price(&mut self, pair: Pair) -> Reply
-        requires { IsPairOf (self.old.market).network pair }
-        ensures price { IsPriceOf (self.old.market).network [] (plain_question pair) result }
+    /// The price of a question.
+    fn price(&mut self, asked: &Question) -> Reply
+        requires { IsQuestionOf (self.old.market).network asked.now }
+        ensures price { IsPrice (self.old.market).network [] asked.now result }
         ensures unchanged { self.new ≡ self.old }
     {
-        let part = self.engine.belief(&only(pair));
-        let whole = self.engine.belief(&Event::empty());
+        let part = self.engine.belief(&asked.event());
+        let whole = self.engine.belief(&asked.condition());
         let (low, high) = interval(&part, &whole);
         Reply::Price { low, high }
     }
 
-    /// Answers a command.
-    pub fn apply(&mut self, command: &Command) -> Reply
-        ensures allowed { IsAllowed (self.old.market) (self.old.standing).history command.now result }
+    /// Answers a question in words.
+    fn answer(&mut self, question: &QuestionText) -> Reply
+        ensures opening { self.old.standing ≡ opening }
+        ensures allowed { IsAllowed self.old.market [] [] (Price question.now) result }
         ensures unchanged { self.new ≡ self.old }
     {
-        let Command::Price { target } = command;
-        match self.file.net.find(target) {
-            None => Reply::Refused {
-                why: Refusal::Unknown { pair: *target },
-            },
-            Some(pair) => self.price(pair),
+        if let Some(pair) = first_unknown(&self.file.net, question) {
+            return refused(Refusal::Unknown { pair });
+        }
+        if let Some(variable) = first_twice(question) {
+            return refused(Refusal::Twice { variable });
+        }
+        let Some(asked) = in_numbers(&self.file.net, question) else {
+            unreachable!()
+        };
+        if self.file.tree.home(&asked.event()).is_none() {
+            return refused(Refusal::Wide);
+        }
+        self.price(&asked)
+    }
+
+    /// Answers a price, the one command that is served.
+    pub fn apply(&mut self, command: &Command) -> Reply
+        requires { is_served command.now ≡ true }
+        ensures allowed { IsAllowed self.old.market (self.old.standing).history (self.old.standing).quotes command.now result }
+        ensures unchanged { self.new ≡ self.old }
+    {
+        match command {
+            Command::Price { question } => self.answer(question),
+            _ => unreachable!(),
         }
     }
 }
 
-ghost use Rattle.std.specs.Prelude.{◌≡◌, ◌∷◌, [], IfOk};
+/// The reply of a refusal.
+fn refused(why: Refusal) -> Reply
+    ensures { result ≡ Reply.Refused why }
+{
+    Reply::Refused { why }
+}
+
+ghost use Rattle.std.specs.Prelude.{◌≡◌, IfOk};
 ghost use Rattle.mk_exact.specs.Factors.{Fraction};
 ghost use Rattle.mk_exact.specs.Prices.{CoversPrice};
 ghost use Rattle.mk_tree.specs.Checked.{IsTreeOf};
@@ -114,16 +145,6 @@ fn weighed(alloc: Global, net: &Network, tree: &Tree) -> Result<JointEngine<SumP
         engine.weigh(net, variable);
     }
     Ok(engine)
-}
-
-/// The event of one pair.
-fn only(pair: Pair) -> Event
-    ensures { result ≡ pair ∷ [] }
-{
-    match Event::empty().with(pair) {
-        Some(event) => event,
-        None => unreachable!(),
-    }
 }
 
 /// Bounds on the share that one enclosed number is of another, in units of 10^-10.

@@ -13,9 +13,8 @@ ghost use Rattle.mk_session.specs.Complete.{AreWithin};
 ghost use Rattle.mk_session.specs.Served.{opened_part, IsTaken, IsServedBy, IsServed};
 
 use crate::answer::answer_lines;
-use crate::fault_line::print_fault;
 use crate::price::PriceMarket;
-use crate::print::{LineBuffer, print_ready};
+use crate::print::{LineBuffer, print_fault_line, print_ready};
 use mk_file::{FileFault, MarketFile, read_market};
 use mk_io::{InputFailed, Inputs, Sink, Status, write_all};
 use std::alloc::Global;
@@ -67,14 +66,15 @@ fn serve_bytes<I: Inputs, S: Sink>(
     ensures write_fault { result ≡ Status.WriteFault → Rose (S.faults out.old) (S.faults out.new) }
     ensures not_usage { result ≢ Status.Usage }
 {
+    let mut line = LineBuffer::new();
     match read_market(alloc, bytes) {
-        Err(fault) => refuse(fault, out),
-        Ok(file) => answer_file(alloc, file, inputs, out),
+        Err(fault) => refuse(fault, &mut line, out),
+        Ok(file) => answer_file(alloc, file, inputs, &mut line, out),
     }
 }
 
 /// Writes the one line of a refused file, unless memory was wanting.
-fn refuse<S: Sink>(fault: FileFault, out: &mut S) -> Status
+fn refuse<S: Sink>(fault: FileFault, line: &mut LineBuffer, out: &mut S) -> Status
     ensures output { (given : Result Market FileFault) (all : List ℕ) → (fault ≢ FileFault.Memory → given ≡ Err fault) →
         Adds (S.written out.old) (S.written out.new) (Ends result given all all) }
     ensures sink_later { S.faults out.old ≤ S.faults out.new }
@@ -85,9 +85,8 @@ fn refuse<S: Sink>(fault: FileFault, out: &mut S) -> Status
     match fault {
         FileFault::Memory => Status::Memory,
         _ => {
-            let mut line = LineBuffer::new();
-            print_fault(&fault, &mut line);
-            match write_all(out, line.as_slice()) {
+            print_fault_line(&fault, line);
+            match write_all(out, line.as_bytes()) {
                 Ok(()) => Status::MarketRefused,
                 Err(_) => Status::WriteFault,
             }
@@ -100,6 +99,7 @@ fn answer_file<I: Inputs, S: Sink>(
     alloc: Global,
     file: MarketFile,
     inputs: &mut I,
+    line: &mut LineBuffer,
     out: &mut S,
 ) -> Status
     requires few { HasFewStates file.net }
@@ -116,10 +116,9 @@ fn answer_file<I: Inputs, S: Sink>(
         Ok(market) => market,
         Err(_) => return Status::Memory,
     };
-    let mut line = LineBuffer::new();
-    print_ready(market.variables(), market.points_per_bit(), &mut line);
-    match write_all(out, line.as_slice()) {
-        Ok(()) => answer_lines(&mut market, inputs, out),
+    print_ready(market.variables(), market.points_per_bit(), line);
+    match write_all(out, line.as_bytes()) {
+        Ok(()) => answer_lines(&mut market, inputs, line, out),
         Err(_) => Status::WriteFault,
     }
 }

@@ -1,7 +1,7 @@
 use Rattle.std.proofs.Common.{refl}
 use Rattle.mk_io.specs.Stream.{long}
-use Rattle.mk_session.specs.declared.words.Reply.TheVariants.{Refused}
-use Rattle.mk_session.specs.declared.words.Refusal.TheVariants.{Long}
+use Rattle.mk_reply.specs.declared.reply.Reply.TheVariants.{Refused}
+use Rattle.mk_reply.specs.declared.refusal.Refusal.TheVariants.{Long}
 use Rattle.mk_session.proofs.Answering.{long_step, answered_when_said, cut_off_when_not}
 use Rattle.mk_session.proofs.answer.answer_long.Goals as goal
 
