@@ -25,7 +25,7 @@ pub record IsMost (small : Type 0) (q : Fraction) (k : ℕ) : Type 0 where
 -- over the possible states where its condition holds, a trade does not raise the weight per unit, and it leaves the user's
 -- factor at least one in each
 pub record IsSafeTrade (network : List Variable) (H : List Entry) (u : ℕ) (ratio : TradeRatio) : Type 0 where
-  pub weight : sum_by (λ s. weight network H s * ratio_at ratio s) (possible_states network H (holds ratio.condition))
+  pub bounded : sum_by (λ s. weight network H s * ratio_at ratio s) (possible_states network H (holds ratio.condition))
       ≤ total network H (holds ratio.condition) * unit
   pub solvent : All (λ s. IsSolvent (ratio_at ratio s) (factor H u s)) (possible_states network H (holds ratio.condition))
 

@@ -63,7 +63,7 @@ SolventStays = (network : List Variable) (H : List Entry) (u : ℕ) (asked : Ask
     → AreSolvent network H u asked F_t F_n → All (λ s. IsAtLeastOne (factor H u s)) (possible_states network H always)
     → All (λ s. IsAtLeastOne (factor (traded network H u asked F_t F_n) u s)) (possible_states network (traded network H u asked F_t F_n) always)
 
--- a history of a market with one change more
+-- a history with one change more
 abbrev pub then_change : List Entry → Entry → List Entry
 then_change H e = H ++ e ∷ []
 
@@ -86,19 +86,15 @@ abbrev pub FairPairIsSafe : Type 0
 FairPairIsSafe = (network : List Variable) (H : List Entry) (u : ℕ) (asked : Asked) (X F_t F_n : ℕ) → X ≤ 10 ^ 6 → IsPairOf network asked.target
     → IsFairPair network H u asked X F_t F_n → IsSafeTrade network H u (ratio_in network asked F_t F_n)
 
--- two pairs that do not give one variable two values
+-- two pairs do not give one variable two values
 abbrev pub AgreesWith : Pair → Pair → Type 0
 AgreesWith p r = r.variable ≡ p.variable → r.value ≡ p.value
-
--- the possible states where some pairs hold
-abbrev pub states_given : List Variable → List Entry → List Pair → List (List ℕ)
-states_given network H pairs = possible_states network H (holds pairs)
 
 -- pairs that give no variable two values, and no resolved variable another value than its own, hold in some possible state
 abbrev pub StateRemains : Type 0
 StateRemains = (network : List Variable) (H : List Entry) (pairs : List Pair) → IsNetwork network → IsProper network H
     → AllByRecursion (IsPairOf network) pairs → AreApart pairs → AllByRecursion (λ p. AllByRecursion (AgreesWith p) (resolutions H)) pairs
-    → 1 ≤ length (states_given network H pairs)
+    → 1 ≤ length (possible_states network H (holds pairs))
 
 -- what all users have gained together, in a possible state, is at most one over its initial probability
 pub record GainsAreBounded (network : List Variable) (H : List Entry) (s : List ℕ) : Type 0 where

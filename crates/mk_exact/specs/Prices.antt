@@ -9,7 +9,7 @@ use Rattle.mk_exact.specs.History.{Entry}
 use Rattle.mk_exact.specs.Weight.{total}
 use Rattle.mk_exact.specs.Factors.{Fraction}
 
--- the share that the states which pass a test have among those where the given pairs hold; the test holds in none but these
+-- the share of the states that pass a test among those where the given pairs hold, for a test that only these pass
 abbrev pub price_where : List Variable → List Entry → List Pair → (List ℕ → Bool) → Fraction
 price_where network H given test = record { num = total network H test; den = total network H (holds given) }
 
