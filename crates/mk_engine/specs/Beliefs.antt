@@ -3,8 +3,8 @@ use Rattle.std.specs.Prelude.{◌≡◌, ℕ, ◌+◌, ◌^◌, ◌<◌, List, l
 use Rattle.mk_net.specs.declared.words.Pair.{Pair}
 use Rattle.mk_net.specs.Asked.{TradeRatio}
 use Rattle.mk_net.specs.Network.{Variable}
-use Rattle.mk_exact.specs.Proper.{IsPairOf, IsQuestionOf}
-use Rattle.mk_engine.specs.Meaning.{Meaning, exact_belief, whole_sum, max_factors, ArePairsOf}
+use Rattle.mk_exact.specs.Proper.{IsPairOf, IsRatioOf}
+use Rattle.mk_engine.specs.Meaning.{Meaning, exact_belief, whole_sum, max_factors, max_grade, ArePairsOf}
 
 module _ {E : Type 0} (stands_for : E → Meaning → Type 0) where
   -- the engine stands for a meaning of this network, and the variable's rows may be a factor more
@@ -19,7 +19,7 @@ module _ {E : Type 0} (stands_for : E → Meaning → Type 0) where
   pub record CanMultiply (engine : E) (ratio : TradeRatio) : Type 0 where
     pub meaning : Meaning
     pub stands : stands_for engine meaning
-    pub in_range : IsQuestionOf meaning.network ratio.question
+    pub in_range : IsRatioOf meaning.network ratio
     pub room : length meaning.factors < max_factors
 
   -- the pair is one of the network's
@@ -38,5 +38,5 @@ module _ {E : Type 0} (stands_for : E → Meaning → Type 0) where
 pub record IsBelief {V : Type 0} (encloses : V → ℕ → Type 0) (has_grade : V → ℕ → Type 0) (is_exact : V → Type 0)
     (plus : ℕ → ℕ → ℕ) (m : Meaning) (event : List Pair) (belief : V) : Type 0 where
   pub value : encloses belief (exact_belief plus m event)
-  pub grade : has_grade belief (length m.factors + 37374)
+  pub grade : has_grade belief (length m.factors + max_grade)
   pub exact : whole_sum m < 2 ^ 63 → is_exact belief

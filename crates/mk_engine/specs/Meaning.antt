@@ -5,7 +5,7 @@ use Rattle.mk_net.specs.Asked.{TradeRatio}
 use Rattle.mk_net.specs.Network.{Variable, sizes}
 use Rattle.mk_exact.specs.States.{product_by}
 use Rattle.mk_exact.specs.InitialWeight.{all_states, value_at}
-use Rattle.mk_exact.specs.Proper.{IsPairOf, IsQuestionOf}
+use Rattle.mk_exact.specs.Proper.{IsPairOf}
 use Rattle.mk_sums.specs.There.{share_there, ratio_there}
 use Rattle.mk_sums.specs.Joint.{joint}
 use Rattle.mk_tree.specs.Given.{GivenTree}
@@ -46,7 +46,12 @@ whole_sum m = sum_by (λ s. product_by (λ (f : Factor). factor_there m.network 
 
 -- how many factors an engine may hold: the rows of 256 variables, and 65,536 trades
 abbrev pub max_factors : ℕ
-max_factors = 65792
+max_factors = 256 + 65536
+
+-- the grade of a belief beside that of its factors: the cells of all cliques, two for each separator of a tree of at most 511
+-- cliques (those of a file, and those that questions bring which are added later), and the cells of the asked clique
+abbrev pub max_grade : ℕ
+max_grade = 32768 + 2 * 510 + 4096
 
 -- the network's own pairs
 abbrev pub ArePairsOf : List Variable → List Pair → Type 0

@@ -3,7 +3,7 @@
 ghost use Rattle.std.specs.Prelude.{◌≡◌, List, Bool, true, false, is_some, IfOk};
 ghost use Rattle.mk_net.specs.declared.words.Pair.{Pair};
 ghost use Rattle.mk_net.specs.Network.{Variable};
-ghost use Rattle.mk_net.specs.Events.{pairs_asked};
+ghost use Rattle.mk_net.specs.Asked.{ratio_pairs};
 ghost use Rattle.mk_net.specs.Trades.{trade_ratio};
 ghost use Rattle.mk_tree.specs.Given.{GivenTree, home};
 ghost use Rattle.mk_tree.specs.Checked.{IsTreeOf};
@@ -52,7 +52,7 @@ pub trait Engine<R: Semiring>: Sized + Drop {
 
     /// Adds the ratio of a trade as a factor.
     fn multiply(&mut self, ratio: &Ratio)
-        requires fits { fitting self.old (pairs_asked ratio.now.question) ≡ true }
+        requires fits { fitting self.old (ratio_pairs (trade_ratio ratio.now)) ≡ true }
         requires range { CanMultiply stands_for self.old (trade_ratio ratio.now) }
         ensures { (m : Meaning) → stands_for self.old m → stands_for self.new (with_factor (RatioOf (trade_ratio ratio.now)) m) };
 

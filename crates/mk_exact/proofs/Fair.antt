@@ -1,30 +1,44 @@
 -- What a fair pair does to the total and to the price.
-use Rattle.std.proofs.Common.{◌≡◌, ℕ, ◌+◌, ◌*◌, ◌-◌, ◌^◌, ◌<◌, ◌≤◌, List, ap, arith, add-sub_of_le, mul-le-mul_left, mul-le-mul_right, le_of_lt}
+use Rattle.std.proofs.Common.{◌≡◌, ℕ, ◌+◌, ◌*◌, ◌-◌, ◌^◌, ◌<◌, ◌≤◌, List, [], ◌∷◌, ◌++◌, ap, arith, add-sub_of_le, mul-le-mul_left, mul-le-mul_right, le_of_lt}
 use Rattle.mk_net.specs.Network.{Variable}
-use Rattle.mk_net.specs.Asked.{Asked}
+use Rattle.mk_net.specs.Asked.{Asked, TradeRatio}
 use Rattle.mk_exact.specs.Events.{holds, with_target, without_target, always}
 use Rattle.mk_exact.specs.Ratios.{unit}
-use Rattle.mk_exact.specs.History.{Entry}
+use Rattle.mk_exact.specs.History.{Entry, Trade}
 use Rattle.mk_exact.specs.Weight.{total}
 use Rattle.mk_exact.specs.Prices.{exact_price}
-use Rattle.mk_exact.specs.Sides.{traded, AreFair}
+use Rattle.mk_exact.specs.Proper.{IsPairOf}
+use Rattle.mk_exact.specs.Sides.{ratio_in, traded, AreFair}
 use Rattle.mk_exact.specs.Laws.{IsNear}
-use Rattle.mk_exact.proofs.Totals.{total_condition, total_always, traded_target, traded_condition, traded_always}
+use Rattle.mk_exact.proofs.Totals.{traded_sum, total_condition, total_always, traded_target, traded_condition, traded_always, sum_asked}
 
--- X and Y share out a million; a and c are the new weights of the two sides, h and e those of the condition and of the rest
-sides_at_most : (X Y a c h e : ℕ) → X + Y ≡ 10 ^ 6 → a * 10 ^ 6 ≤ X * unit * h → c * 10 ^ 6 ≤ Y * unit * h → a + c + unit * e ≤ (h + e) * unit
-sides_at_most X Y a c h e m p q =
+-- X and Y share out a million; a and c are the new weights of the two sides, and h that of the condition
+sides_at_most : (X Y a c h : ℕ) → X + Y ≡ 10 ^ 6 → a * 10 ^ 6 ≤ X * unit * h → c * 10 ^ 6 ≤ Y * unit * h → a + c ≤ h * unit
+sides_at_most X Y a c h m p q =
     let whole : (X + Y) * h ≡ 10 ^ 6 * h = ap (λ n. n * h) m in
     omega arith
 
 moved : (F n X h : ℕ) → F * 10 ^ 6 * n ≤ X * unit * h → F * n * 10 ^ 6 ≤ X * unit * h
 moved F n X h p = omega arith
 
-pub never_rises : (network : List Variable) (H : List Entry) (u : ℕ) (asked : Asked) (X F_t F_n : ℕ) → AreFair network H asked X F_t F_n
-    → total network (traded H u asked F_t F_n) always ≤ total network H always * unit
-never_rises network H u asked X F_t F_n fair =
-    rw (traded_always network H asked u F_t F_n, total_always network H asked)
-    (sides_at_most X (10 ^ 6 - X) _ _ _ _ (add-sub_of_le fair.share) (moved F_t _ X _ fair.hit.not_above) (moved F_n _ (10 ^ 6 - X) _ fair.miss.not_above))
+-- a trade that does not raise the weight where its condition holds does not raise the whole
+pub total_bounded : (network : List Variable) (H : List Entry) (u : ℕ) (r : TradeRatio) → traded_sum network H r (holds r.condition) ≤ total network H (holds r.condition) * unit
+    → total network (H ++ Trade u r ∷ []) always ≤ total network H always * unit
+total_bounded network H u r h = rw (traded_always network H u r, total_always network H r.condition) (with_rest _ _ _ h)
+  where
+    with_rest : (new old rest : ℕ) → new ≤ old * unit → new + unit * rest ≤ (old + rest) * unit
+    with_rest new old rest p = omega arith
+
+-- the units of a fair pair do not
+pub fair_bounded : (network : List Variable) (H : List Entry) (asked : Asked) (X F_t F_n : ℕ) → IsPairOf network asked.target → AreFair network H asked X F_t F_n
+    → traded_sum network H (ratio_in network asked F_t F_n) (holds asked.condition) ≤ total network H (holds asked.condition) * unit
+fair_bounded network H asked X F_t F_n fits fair =
+    rw (sum_asked network H 0 asked F_t F_n fits)
+    (sides_at_most X (10 ^ 6 - X) _ _ _ (add-sub_of_le fair.share) (moved F_t _ X _ fair.hit.not_above) (moved F_n _ (10 ^ 6 - X) _ fair.miss.not_above))
+
+pub never_rises : (network : List Variable) (H : List Entry) (u : ℕ) (asked : Asked) (X F_t F_n : ℕ) → IsPairOf network asked.target → AreFair network H asked X F_t F_n
+    → total network (traded network H u asked F_t F_n) always ≤ total network H always * unit
+never_rises network H u asked X F_t F_n fits fair = total_bounded network H u (ratio_in network asked F_t F_n) (fair_bounded network H asked X F_t F_n fits fair)
 
 -- one half of the nearness: a is at most its fair share, and c nearly so
 near_half : (X Y a c t n : ℕ) → X + Y ≡ 10 ^ 6 → a * 10 ^ 6 ≤ X * unit * (t + n)
@@ -67,9 +81,9 @@ near_numbers X Y F_t F_n t n h num den m split is_num is_den fits_t close_t fits
     turned : h ≡ n + t
     turned = omega arith
 
-pub price_moves : (network : List Variable) (H : List Entry) (u : ℕ) (asked : Asked) (X F_t F_n : ℕ) → AreFair network H asked X F_t F_n
-    → IsNear (exact_price network (traded H u asked F_t F_n) asked) X
-price_moves network H u asked X F_t F_n fair =
+pub price_moves : (network : List Variable) (H : List Entry) (u : ℕ) (asked : Asked) (X F_t F_n : ℕ) → IsPairOf network asked.target → AreFair network H asked X F_t F_n
+    → IsNear (exact_price network (traded network H u asked F_t F_n) asked) X
+price_moves network H u asked X F_t F_n fits fair =
     near_numbers X (10 ^ 6 - X) F_t F_n (total network H (with_target asked)) (total network H (without_target asked)) (total network H (holds asked.condition)) _ _
-    (add-sub_of_le fair.share) (total_condition network H asked) (traded_target network H asked u F_t F_n) (traded_condition network H asked u F_t F_n)
+    (add-sub_of_le fair.share) (total_condition network H asked) (traded_target network H u asked F_t F_n fits) (traded_condition network H u asked F_t F_n fits)
     fair.hit.not_above fair.hit.close fair.miss.not_above fair.miss.close

@@ -1,4 +1,6 @@
 pub mod Sums
+pub mod Listed
+pub mod Pairs
 pub mod After
 pub mod Totals
 pub mod Fair

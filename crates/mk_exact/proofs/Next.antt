@@ -19,8 +19,8 @@ use Rattle.mk_exact.specs.Accepted.{Covers, IsSafeTrade, IsAcceptable}
 use Rattle.mk_exact.proofs.Sums.{each_kept, kept_each, each_weaker}
 use Rattle.mk_exact.proofs.After.{trades_kept, trades_more, trades_of_kept, trades_of_other, weight_kept, possible_kept, possible_resolved, factor_kept, factor_moved}
 use Rattle.mk_exact.proofs.Totals.{total_is}
-use Rattle.mk_exact.proofs.Fair.{never_rises}
-use Rattle.mk_exact.proofs.Solvent.{solvent_stays, least_each}
+use Rattle.mk_exact.proofs.Fair.{total_bounded}
+use Rattle.mk_exact.proofs.Solvent.{trade_solvent, least_each}
 
 -- totals after a change that is no trade
 pub total_kept : (network : List Variable) (H : List Entry) (e : Entry) (test : List ℕ → Bool) → trade_in e ≡ None → resolution_in e ≡ None
@@ -130,14 +130,14 @@ module _ (network : List Variable) (H : List Entry) (sound : IsSound network H) 
       at u (inl e) = subst (λ (x : ℕ). All (λ s. IsAtLeastOne (factor (H ++ Withdraw v bits ∷ []) x s)) (possible_states network (H ++ Withdraw v bits ∷ []) always)) e (withdraw_states network H v bits (withdraw_covers network H v bits h))
       at u (inr d) = states_kept network H (H ++ Withdraw v bits ∷ []) u (same_possible H (Withdraw v bits) refl) (same_factor H (Withdraw v bits) u refl refl (rw (ne_eqb v u d) refl)) (sound.solvent u)
 
-  trade_sound : (v : ℕ) (r : TradeRatio) → IsSafeTrade network H v r.question r.hit r.miss → IsSound network (H ++ Trade v r ∷ [])
+  trade_sound : (v : ℕ) (r : TradeRatio) → IsSafeTrade network H v r → IsSound network (H ++ Trade v r ∷ [])
   trade_sound v r safe = record {
     solvent = λ u. at u (cases_eq v u);
-    bounded = bound_traded network H v r (never_rises network H v r.question safe.to r.hit r.miss safe.fair) sound.bounded;
+    bounded = bound_traded network H v r (total_bounded network H v r safe.bounded) sound.bounded;
   }
     where
       at : (u : ℕ) → (v ≡ u) ⊎ (v ≡ u → ⊥) → All (λ s. IsAtLeastOne (factor (H ++ Trade v r ∷ []) u s)) (possible_states network (H ++ Trade v r ∷ []) always)
-      at u (inl e) = subst (λ (x : ℕ). All (λ s. IsAtLeastOne (factor (H ++ Trade v r ∷ []) x s)) (possible_states network (H ++ Trade v r ∷ []) always)) e (solvent_stays network H v r.question r.hit r.miss safe.solvent (sound.solvent v))
+      at u (inl e) = subst (λ (x : ℕ). All (λ s. IsAtLeastOne (factor (H ++ Trade v r ∷ []) x s)) (possible_states network (H ++ Trade v r ∷ []) always)) e (trade_solvent network H v r safe.solvent (sound.solvent v))
       at u (inr d) = states_kept network H (H ++ Trade v r ∷ []) u (same_possible H (Trade v r) refl) (λ s h. subst IsAtLeastOne (sym (factor_kept H (Trade v r) u s (trades_of_other H v r u d) refl refl)) h) (sound.solvent u)
 
   resolve_sound : (p : Pair) → IsSound network (H ++ Resolve p ∷ [])

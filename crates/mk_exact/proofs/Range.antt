@@ -1,26 +1,31 @@
 -- Each change in range leads from a proper history to a proper one; and whole histories of accepted changes.
-use Rattle.std.proofs.Common.{◌≡◌, ℕ, ◌+◌, ◌-◌, ◌^◌, ◌≤◌, List, [], ◌∷◌, ◌++◌, Option, Some, None, IfSome, IsSomeAnd, Bool, length, refl, sym, ap, ◌∙◌, subst, arith, append_assoc, append-nil, length-append}
+use Rattle.std.proofs.Common.{◌≡◌, ℕ, ◌+◌, ◌-◌, ◌^◌, ◌≤◌, false, List, [], ◌∷◌, ◌++◌, Option, Some, None, IfSome, IsSomeAnd, Bool, length, refl, sym, ap, ◌∙◌, subst, arith, append_assoc, append-nil, length-append}
 use Rattle.std.specs.List.{AllByRecursion}
 use Rattle.mk_net.specs.declared.words.Pair.{Pair}
 use Rattle.mk_net.specs.Network.{Variable}
 use Rattle.mk_net.specs.Asked.{Asked, TradeRatio}
+use Rattle.mk_net.specs.Events.{speaks_of, AreApart}
+use Rattle.mk_net.proofs.Events.{apart_longer}
 use Rattle.mk_exact.specs.Events.{with_target, without_target}
 use Rattle.mk_exact.specs.History.{Entry, UserTrade, Join, Deposit, Withdraw, Trade, Resolve, Settle, trade_in, resolution_in, join_in, users, trades, resolutions}
 use Rattle.mk_exact.specs.Weight.{IsSmall}
 use Rattle.mk_exact.specs.Factors.{factor_with, least_gain}
 use Rattle.mk_exact.specs.Prices.{IsFair, IsSolvent, price_where}
 use Rattle.mk_exact.specs.Limits.{Side, IsFairAndSolvent}
-use Rattle.mk_exact.specs.Sides.{IsSide, IsFairPair}
+use Rattle.mk_exact.specs.Market.{Market, network_of}
+use Rattle.mk_exact.specs.Sides.{IsSide, IsFairPair, ratio_in}
 use Rattle.mk_exact.specs.Sound.{IsSound}
 use Rattle.mk_exact.specs.Proper.{IsPairOf, IsTradeOf, IsProper}
 use Rattle.mk_exact.specs.Accepted.{IsSafeTrade, IsInRange, AreAccepted}
 use Rattle.mk_exact.proofs.Sums.{each_weaker, each-append}
 use Rattle.mk_exact.proofs.After.{trades_kept, trades_more, resolutions_kept, resolutions_more, users_kept, users_more}
+use Rattle.mk_exact.proofs.Fair.{fair_bounded}
+use Rattle.mk_exact.proofs.Solvent.{pair_solvent}
 use Rattle.mk_exact.proofs.Next.{sound_next}
 use Rattle.mk_exact.proofs.Single.{empty_sound}
 
 trade_later : (network : List Variable) (m n : ℕ) → m ≤ n → (t : UserTrade) → IsTradeOf network m t → IsTradeOf network n t
-trade_later network m n p t h = record { user = omega (arith, h.user); question = h.question; hit = h.hit; miss = h.miss }
+trade_later network m n p t h = record { user = omega (arith, h.user); ratio = h.ratio }
 
 -- the parts of a proper history, by what is read off it
 Fits : List Variable → ℕ → List UserTrade → Type 0
@@ -36,6 +41,9 @@ resolutions_fit_kept : (network : List Variable) (H : List Entry) (e : Entry) �
     → AllByRecursion (IsPairOf network) (resolutions H) → AllByRecursion (IsPairOf network) (resolutions (H ++ e ∷ []))
 resolutions_fit_kept network H e q h = subst (AllByRecursion (IsPairOf network)) (sym (resolutions_kept H e q)) h
 
+resolved_once_kept : (H : List Entry) (e : Entry) → resolution_in e ≡ None → AreApart (resolutions H) → AreApart (resolutions (H ++ e ∷ []))
+resolved_once_kept H e q h = subst AreApart (sym (resolutions_kept H e q)) h
+
 no_fewer_users : (H : List Entry) (e : Entry) → join_in e ≡ None → length (users H) ≤ length (users (H ++ e ∷ []))
 no_fewer_users H e q = let same : length (users (H ++ e ∷ [])) ≡ length (users H) = ap length (users_kept H e q) in omega arith
 
@@ -44,12 +52,14 @@ module _ (network : List Variable) (H : List Entry) (proper : IsProper network H
   quiet e j q r = record {
     trades_fit = trades_fit_kept network H e q (no_fewer_users H e j) proper.trades_fit;
     resolutions_fit = resolutions_fit_kept network H e r proper.resolutions_fit;
+    resolved_once = resolved_once_kept H e r proper.resolved_once;
   }
 
   join_proper : (name : List ℕ) → IsProper network (H ++ Join name ∷ [])
   join_proper name = record {
     trades_fit = trades_fit_kept network H (Join name) refl (let more : length (users (H ++ Join name ∷ [])) ≡ length (users H) + 1 = ap length (users_more H name) ∙ length-append (users H) (name ∷ []) in omega arith) proper.trades_fit;
     resolutions_fit = resolutions_fit_kept network H (Join name) refl proper.resolutions_fit;
+    resolved_once = resolved_once_kept H (Join name) refl proper.resolved_once;
   }
 
   trade_proper : (u : ℕ) (r : TradeRatio) → IsTradeOf network (length (users H)) (record { user = u; ratio = r }) → IsProper network (H ++ Trade u r ∷ [])
@@ -58,12 +68,14 @@ module _ (network : List Variable) (H : List Entry) (proper : IsProper network H
     trades_fit = subst (λ (n : ℕ). Fits network n (trades (H ++ Trade u r ∷ []))) (sym (ap length (users_kept H (Trade u r) refl)))
         (subst (Fits network (length (users H))) (sym (trades_more H u r)) (each-append (IsTradeOf network (length (users H))) (trades H) (record { user = u; ratio = r } ∷ []) proper.trades_fit (h, tt)));
     resolutions_fit = resolutions_fit_kept network H (Trade u r) refl proper.resolutions_fit;
+    resolved_once = resolved_once_kept H (Trade u r) refl proper.resolved_once;
   }
 
-  resolve_proper : (p : Pair) → IsPairOf network p → IsProper network (H ++ Resolve p ∷ [])
-  resolve_proper p h = record {
+  resolve_proper : (p : Pair) → IsPairOf network p → speaks_of (resolutions H) p.variable ≡ false → IsProper network (H ++ Resolve p ∷ [])
+  resolve_proper p h new = record {
     trades_fit = trades_fit_kept network H (Resolve p) refl (no_fewer_users H (Resolve p) refl) proper.trades_fit;
     resolutions_fit = subst (AllByRecursion (IsPairOf network)) (sym (resolutions_more H p)) (each-append (IsPairOf network) (resolutions H) (p ∷ []) proper.resolutions_fit (h, tt));
+    resolved_once = subst AreApart (sym (resolutions_more H p)) (apart_longer (resolutions H) p proper.resolved_once new);
   }
 
 pub proper_next : (network : List Variable) (H : List Entry) (e : Entry) → IsProper network H → IsInRange network H e → IsProper network (H ++ e ∷ [])
@@ -71,27 +83,28 @@ proper_next network H (Join name) proper h = join_proper network H proper name
 proper_next network H (Deposit u bits) proper h = quiet network H proper (Deposit u bits) refl refl refl
 proper_next network H (Withdraw u bits) proper h = quiet network H proper (Withdraw u bits) refl refl refl
 proper_next network H (Trade u r) proper h = trade_proper network H proper u r h
-proper_next network H (Resolve p) proper h = resolve_proper network H proper p h
+proper_next network H (Resolve p) proper h = resolve_proper network H proper p h.0 h.1
 proper_next network H Settle proper h = quiet network H proper Settle refl refl refl
 
 pub empty_proper : (network : List Variable) → IsProper network []
-empty_proper network = record { trades_fit = tt; resolutions_fit = tt }
+empty_proper network = record { trades_fit = tt; resolutions_fit = tt; resolved_once = tt }
 
 -- along a list of accepted changes
-pub sound_along : (network : List Variable) (H rest : List Entry) → IsSound network H → IsProper network H → AreAccepted network H rest → IsSound network (H ++ rest) × IsProper network (H ++ rest)
-sound_along network H [] sound proper h = rw (append-nil H) (sound, proper)
-sound_along network H (e ∷ rest) sound proper h = rw (append_assoc H (e ∷ []) rest) at
-    (sound_along network (H ++ e ∷ []) rest (sound_next network H e sound h.0) (proper_next network H e proper h.1) h.2)
+pub sound_along : (market : Market) (H rest : List Entry) → IsSound (network_of market H) H → IsProper (network_of market H) H → AreAccepted market H rest
+    → IsSound (network_of market (H ++ rest)) (H ++ rest) × IsProper (network_of market (H ++ rest)) (H ++ rest)
+sound_along market H [] sound proper h = rw (append-nil H) (sound, proper)
+sound_along market H (e ∷ rest) sound proper h = rw (append_assoc H (e ∷ []) rest) at
+    (sound_along market (H ++ e ∷ []) rest (sound_next (network_of market H) H e sound h.0) (proper_next (network_of market H) H e proper h.1) h.2)
 
-pub sound_always : (network : List Variable) (H : List Entry) → AreAccepted network [] H → IsSound network H × IsProper network H
-sound_always network H h = sound_along network [] H (empty_sound network) (empty_proper network) h
+pub sound_always : (market : Market) (H : List Entry) → AreAccepted market [] H → IsSound (network_of market H) H × IsProper (network_of market H) H
+sound_always market H h = sound_along market [] H (empty_sound (network_of market [])) (empty_proper (network_of market [])) h
 
 -- a pair that is fair and solvent on both sides
 side_fair : (network : List Variable) (H : List Entry) (u : ℕ) (asked : Asked) (test : List ℕ → Bool) (side : Side) (X F : ℕ) → IsSide network H u asked test side
-    → IsFairAndSolvent (IsSmall network H) side X F → IsFair (IsSmall network H) F X (price_where network H asked test)
+    → IsFairAndSolvent (IsSmall network H) side X F → IsFair (IsSmall network H) F X (price_where network H asked.condition test)
 side_fair network H u asked test side X F h k = at (least_gain network H u test) h
   where
-    at : (o : Option ℕ) → IsSomeAnd o (λ g. side ≡ record { price = price_where network H asked test; least = factor_with H u g }) → IsFair (IsSmall network H) F X (price_where network H asked test)
+    at : (o : Option ℕ) → IsSomeAnd o (λ g. side ≡ record { price = price_where network H asked.condition test; least = factor_with H u g }) → IsFair (IsSmall network H) F X (price_where network H asked.condition test)
     at None h = absurd h
     at (Some g) e = subst (λ (s : Side). IsFair (IsSmall network H) F X s.price) e k.fair
 
@@ -99,21 +112,20 @@ side_solvent : (network : List Variable) (H : List Entry) (u : ℕ) (asked : Ask
     → IsFairAndSolvent (IsSmall network H) side X F → IfSome (least_gain network H u test) (λ g. IsSolvent F (factor_with H u g))
 side_solvent network H u asked test side X F h k = at (least_gain network H u test) h
   where
-    at : (o : Option ℕ) → IsSomeAnd o (λ g. side ≡ record { price = price_where network H asked test; least = factor_with H u g }) → IfSome o (λ g. IsSolvent F (factor_with H u g))
+    at : (o : Option ℕ) → IsSomeAnd o (λ g. side ≡ record { price = price_where network H asked.condition test; least = factor_with H u g }) → IfSome o (λ g. IsSolvent F (factor_with H u g))
     at None h = absurd h
     at (Some g) e = subst (λ (s : Side). IsSolvent F s.least) e k.solvent
 
-pub fair_pair_is_safe : (network : List Variable) (H : List Entry) (u : ℕ) (asked : Asked) (X F_t F_n : ℕ) → X ≤ 10 ^ 6 → IsFairPair network H u asked X F_t F_n
-    → IsSafeTrade network H u asked F_t F_n
-fair_pair_is_safe network H u asked X F_t F_n share pair = record {
-  to = X;
-  fair = record {
+pub fair_pair_is_safe : (network : List Variable) (H : List Entry) (u : ℕ) (asked : Asked) (X F_t F_n : ℕ) → X ≤ 10 ^ 6 → IsPairOf network asked.target
+    → IsFairPair network H u asked X F_t F_n → IsSafeTrade network H u (ratio_in network asked F_t F_n)
+fair_pair_is_safe network H u asked X F_t F_n share fits pair = record {
+  bounded = fair_bounded network H asked X F_t F_n fits (record {
     share = share;
     hit = side_fair network H u asked (with_target asked) pair.hit X F_t pair.sides.hit_side pair.hit_units;
     miss = side_fair network H u asked (without_target asked) pair.miss (10 ^ 6 - X) F_n pair.sides.miss_side pair.miss_units;
-  };
-  solvent = record {
+  });
+  solvent = pair_solvent network H u asked F_t F_n fits (record {
     hit = side_solvent network H u asked (with_target asked) pair.hit X F_t pair.sides.hit_side pair.hit_units;
     miss = side_solvent network H u asked (without_target asked) pair.miss (10 ^ 6 - X) F_n pair.sides.miss_side pair.miss_units;
-  };
+  });
 }

@@ -74,6 +74,11 @@ pub sum_by-times : {X : Type 0} (k : ℕ) (f : X → ℕ) (xs : List X) → sum_
 sum_by-times k f [] = sym (mul-zero k)
 sum_by-times k f (x ∷ xs) = sum_by-cons (λ y. k * f y) x xs ∙ ap (λ n. k * f x + n) (sum_by-times k f xs) ∙ sym (mul-add k (f x) (sum_by f xs)) ∙ ap (λ n. k * n) (sym (sum_by-cons f x xs))
 
+-- two sums of what is equal at each element
+pub sum_by_each : {X : Type 0} (f g : X → ℕ) (xs : List X) → AllByRecursion (λ x. f x ≡ g x) xs → sum_by f xs ≡ sum_by g xs
+sum_by_each f g [] h = refl
+sum_by_each f g (x ∷ xs) h = sum_by-cons f x xs ∙ ap (λ n. n + sum_by f xs) h.0 ∙ ap (λ n. g x + n) (sum_by_each f g xs h.1) ∙ sym (sum_by-cons g x xs)
+
 pub sum_by-filter : {X : Type 0} (f : X → ℕ) (p : X → Bool) (xs : List X) → sum_by f (filter p xs) ≡ sum_by (λ x. cond (p x) (f x) 0) xs
 sum_by-filter f p xs = sum_by_is f (filter p xs) ∙ plus_over-filter ◌+◌ 0 sums_are_plus f p xs ∙ sym (sum_by_is (λ x. cond (p x) (f x) 0) xs)
 

@@ -1,15 +1,20 @@
--- The totals of a question's events before and after a trade on it.
-use Rattle.std.proofs.Common.{◌≡◌, ℕ, ◌+◌, ◌*◌, Bool, true, false, cond, not, ◌&&◌, List, sum_by, refl, sym, ap, ap₂, ◌∙◌, arith}
+-- The totals of a condition, and of a question's events, before and after a trade.
+use Rattle.std.proofs.Common.{◌≡◌, ℕ, ◌+◌, ◌*◌, Bool, true, false, cond, not, ◌&&◌, List, [], ◌∷◌, ◌++◌, sum_by, refl, sym, ap, ap₂, ◌∙◌, arith}
 use Rattle.std.proofs.Math.Path.{fun_ext}
-use Rattle.mk_net.specs.Network.{Variable}
-use Rattle.mk_net.specs.Asked.{Asked}
-use Rattle.mk_exact.specs.InitialWeight.{all_states}
+use Rattle.mk_net.specs.declared.words.Pair.{Pair}
+use Rattle.mk_net.specs.Network.{Variable, sizes}
+use Rattle.mk_net.specs.Asked.{Asked, TradeRatio}
+use Rattle.mk_exact.specs.States.{IsState}
+use Rattle.mk_exact.specs.InitialWeight.{all_states, value_at}
 use Rattle.mk_exact.specs.Events.{holds, has, with_target, without_target, always}
-use Rattle.mk_exact.specs.Ratios.{unit, ratio_at}
+use Rattle.mk_exact.specs.Ratios.{unit, ratio_at, units_of}
 use Rattle.mk_exact.specs.History.{Entry, Trade}
-use Rattle.mk_exact.specs.Weight.{weight, total, is_possible}
-use Rattle.mk_exact.specs.Sides.{traded}
-use Rattle.mk_exact.proofs.Sums.{sum_by-filter, sum_by-plus, sum_by-times}
+use Rattle.mk_exact.specs.Weight.{weight, total, is_possible, possible_states}
+use Rattle.mk_exact.specs.Proper.{IsPairOf}
+use Rattle.mk_exact.specs.Sides.{ratio_in, traded}
+use Rattle.mk_exact.proofs.Sums.{sum_by-filter, sum_by-plus, sum_by-times, sum_by_each, each_weaker}
+use Rattle.mk_exact.proofs.Listed.{states_are}
+use Rattle.mk_exact.proofs.Pairs.{pair_at, ratio_in_at}
 use Rattle.mk_exact.proofs.After.{weight_traded, possible_kept}
 
 pub total_is : (network : List Variable) (H : List Entry) (test : List ℕ → Bool)
@@ -17,12 +22,10 @@ pub total_is : (network : List Variable) (H : List Entry) (test : List ℕ → B
 total_is network H test = sum_by-filter (weight network H) (λ s. is_possible H s && test s) (all_states network)
 
 -- by cases on whether a state is possible, has the condition, and has the target
-by_ratio : (p h t : Bool) (w F_t F_n U : ℕ)
-    → cond (p && true) (w * cond h (cond t F_t F_n) U) 0 ≡ F_t * cond (p && (h && t)) w 0 + F_n * cond (p && (h && not t)) w 0 + U * cond (p && not h) w 0
-by_ratio false h t w F_t F_n U = omega arith
-by_ratio true false t w F_t F_n U = omega arith
-by_ratio true true false w F_t F_n U = omega arith
-by_ratio true true true w F_t F_n U = omega arith
+by_trade : (p h : Bool) (w units U : ℕ) → cond (p && true) (w * cond h units U) 0 ≡ cond (p && h) (w * cond h units U) 0 + U * cond (p && not h) w 0
+by_trade false h w units U = omega arith
+by_trade true false w units U = omega arith
+by_trade true true w units U = omega arith
 
 by_condition : (p h t : Bool) (w F_t F_n U : ℕ)
     → cond (p && h) (w * cond h (cond t F_t F_n) U) 0 ≡ F_t * cond (p && (h && t)) w 0 + F_n * cond (p && (h && not t)) w 0
@@ -48,11 +51,15 @@ by_holding false h w = refl
 by_holding true false w = omega arith
 by_holding true true w = omega arith
 
--- the total of the states where the condition does not hold
-abbrev pub elsewhere : Asked → List ℕ → Bool
-elsewhere asked s = not (holds asked.condition s)
+-- the states where the given pairs do not hold
+abbrev pub elsewhere : List Pair → List ℕ → Bool
+elsewhere given s = not (holds given s)
 
-module _ (network : List Variable) (H : List Entry) (asked : Asked) where
+-- the weights that a trade makes, over the possible states before it that pass a test
+abbrev pub traded_sum : List Variable → List Entry → TradeRatio → (List ℕ → Bool) → ℕ
+traded_sum network H r test = sum_by (λ s. weight network H s * ratio_at r s) (possible_states network H test)
+
+module _ (network : List Variable) (H : List Entry) where
   part : (List ℕ → Bool) → List ℕ → ℕ
   part test s = cond (is_possible H s && test s) (weight network H s) 0
 
@@ -60,57 +67,82 @@ module _ (network : List Variable) (H : List Entry) (asked : Asked) where
   unfolding part
   is_part test = total_is network H test
 
-  pub total_condition : total network H (holds asked.condition) ≡ total network H (with_target asked) + total network H (without_target asked)
+  times_part : (k : ℕ) (test : List ℕ → Bool) → sum_by (λ s. k * part test s) (all_states network) ≡ k * total network H test
+  times_part k test = sum_by-times k (part test) (all_states network) ∙ ap (λ n. k * n) (sym (is_part test))
+
+  pub total_always : (given : List Pair) → total network H always ≡ total network H (holds given) + total network H (elsewhere given)
   unfolding part
-  total_condition =
+  total_always given =
+      is_part always
+      ∙ ap (λ (f : List ℕ → ℕ). sum_by f (all_states network)) (fun_ext (λ s. by_holding (is_possible H s) (holds given s) (weight network H s)))
+      ∙ sum_by-plus (part (holds given)) (part (elsewhere given)) (all_states network)
+      ∙ ap₂ ◌+◌ (sym (is_part (holds given))) (sym (is_part (elsewhere given)))
+
+  pub total_condition : (asked : Asked) → total network H (holds asked.condition) ≡ total network H (with_target asked) + total network H (without_target asked)
+  unfolding part
+  total_condition asked =
       is_part (holds asked.condition)
       ∙ ap (λ (f : List ℕ → ℕ). sum_by f (all_states network)) (fun_ext (λ s. by_parts (is_possible H s) (holds asked.condition s) (has asked.target s) (weight network H s)))
       ∙ sum_by-plus (part (with_target asked)) (part (without_target asked)) (all_states network)
       ∙ ap₂ ◌+◌ (sym (is_part (with_target asked))) (sym (is_part (without_target asked)))
 
-  pub total_always : total network H always ≡ total network H (holds asked.condition) + total network H (elsewhere asked)
-  unfolding part
-  total_always =
-      is_part always
-      ∙ ap (λ (f : List ℕ → ℕ). sum_by f (all_states network)) (fun_ext (λ s. by_holding (is_possible H s) (holds asked.condition s) (weight network H s)))
-      ∙ sum_by-plus (part (holds asked.condition)) (part (elsewhere asked)) (all_states network)
-      ∙ ap₂ ◌+◌ (sym (is_part (holds asked.condition))) (sym (is_part (elsewhere asked)))
+  -- after any trade
+  module _ (u : ℕ) (r : TradeRatio) where
+    part_traded : (List ℕ → Bool) → List ℕ → ℕ
+    part_traded test s = cond (is_possible H s && test s) (weight network H s * ratio_at r s) 0
 
-  module _ (u F_t F_n : ℕ) where
-    is_traded : (test : List ℕ → Bool)
-        → total network (traded H u asked F_t F_n) test ≡ sum_by (λ s. cond (is_possible H s && test s) (weight network H s * ratio_at (record { question = asked; hit = F_t; miss = F_n }) s) 0) (all_states network)
+    is_traded : (test : List ℕ → Bool) → total network (H ++ Trade u r ∷ []) test ≡ sum_by (part_traded test) (all_states network)
+    unfolding part_traded
     is_traded test =
-        total_is network (traded H u asked F_t F_n) test
-        ∙ ap (λ (f : List ℕ → ℕ). sum_by f (all_states network)) (fun_ext (λ s. ap₂ (λ (b : Bool) (w : ℕ). cond (b && test s) w 0) (possible_kept H (Trade u (record { question = asked; hit = F_t; miss = F_n })) s refl) (weight_traded network H u (record { question = asked; hit = F_t; miss = F_n }) s)))
+        total_is network (H ++ Trade u r ∷ []) test
+        ∙ ap (λ (f : List ℕ → ℕ). sum_by f (all_states network))
+        (fun_ext (λ s. ap₂ (λ (b : Bool) (w : ℕ). cond (b && test s) w 0) (possible_kept H (Trade u r) s refl) (weight_traded network H u r s)))
 
-    pub traded_target : total network (traded H u asked F_t F_n) (with_target asked) ≡ F_t * total network H (with_target asked)
-    unfolding part
-    traded_target =
-        is_traded (with_target asked)
-        ∙ ap (λ (f : List ℕ → ℕ). sum_by f (all_states network)) (fun_ext (λ s. by_target (is_possible H s) (holds asked.condition s) (has asked.target s) (weight network H s) F_t F_n unit))
-        ∙ sum_by-times F_t (part (with_target asked)) (all_states network)
-        ∙ ap (λ n. F_t * n) (sym (is_part (with_target asked)))
+    is_sum : (test : List ℕ → Bool) → sum_by (part_traded test) (all_states network) ≡ traded_sum network H r test
+    unfolding part_traded
+    is_sum test = sym (sum_by-filter (λ s. weight network H s * ratio_at r s) (λ s. is_possible H s && test s) (all_states network))
 
-    pub traded_condition : total network (traded H u asked F_t F_n) (holds asked.condition) ≡ F_t * total network H (with_target asked) + F_n * total network H (without_target asked)
-    unfolding part
-    traded_condition =
-        is_traded (holds asked.condition)
-        ∙ ap (λ (f : List ℕ → ℕ). sum_by f (all_states network)) (fun_ext (λ s. by_condition (is_possible H s) (holds asked.condition s) (has asked.target s) (weight network H s) F_t F_n unit))
-        ∙ sum_by-plus (λ s. F_t * part (with_target asked) s) (λ s. F_n * part (without_target asked) s) (all_states network)
-        ∙ ap₂ ◌+◌ (times F_t (with_target asked)) (times F_n (without_target asked))
-      where
-        times : (k : ℕ) (test : List ℕ → Bool) → sum_by (λ s. k * part test s) (all_states network) ≡ k * total network H test
-        times k test = sum_by-times k (part test) (all_states network) ∙ ap (λ n. k * n) (sym (is_part test))
+    pub total_traded : (test : List ℕ → Bool) → total network (H ++ Trade u r ∷ []) test ≡ traded_sum network H r test
+    total_traded test = is_traded test ∙ is_sum test
 
-    pub traded_always : total network (traded H u asked F_t F_n) always ≡ F_t * total network H (with_target asked) + F_n * total network H (without_target asked) + unit * total network H (elsewhere asked)
-    unfolding part
+    pub traded_always : total network (H ++ Trade u r ∷ []) always ≡ traded_sum network H r (holds r.condition) + unit * total network H (elsewhere r.condition)
+    unfolding part part_traded
     traded_always =
         is_traded always
-        ∙ ap (λ (f : List ℕ → ℕ). sum_by f (all_states network)) (fun_ext (λ s. by_ratio (is_possible H s) (holds asked.condition s) (has asked.target s) (weight network H s) F_t F_n unit))
-        ∙ sum_by-plus (λ s. F_t * part (with_target asked) s + F_n * part (without_target asked) s) (λ s. unit * part (elsewhere asked) s) (all_states network)
-        ∙ ap₂ ◌+◌
-        (sum_by-plus (λ s. F_t * part (with_target asked) s) (λ s. F_n * part (without_target asked) s) (all_states network) ∙ ap₂ ◌+◌ (times F_t (with_target asked)) (times F_n (without_target asked)))
-        (times unit (elsewhere asked))
+        ∙ ap (λ (f : List ℕ → ℕ). sum_by f (all_states network))
+        (fun_ext (λ s. by_trade (is_possible H s) (holds r.condition s) (weight network H s) (units_of r (value_at s r.variable)) unit))
+        ∙ sum_by-plus (part_traded (holds r.condition)) (λ s. unit * part (elsewhere r.condition) s) (all_states network)
+        ∙ ap₂ ◌+◌ (is_sum (holds r.condition)) (times_part unit (elsewhere r.condition))
+
+  -- after a trade on one question
+  module _ (u : ℕ) (asked : Asked) (F_t F_n : ℕ) (fits : IsPairOf network asked.target) where
+    part_asked : (List ℕ → Bool) → List ℕ → ℕ
+    part_asked test s = cond (is_possible H s && test s) (weight network H s * pair_at asked F_t F_n s) 0
+
+    is_asked : (test : List ℕ → Bool) → total network (traded network H u asked F_t F_n) test ≡ sum_by (part_asked test) (all_states network)
+    unfolding part_traded part_asked
+    is_asked test =
+        is_traded u (ratio_in network asked F_t F_n) test
+        ∙ sum_by_each (part_traded u (ratio_in network asked F_t F_n) test) (part_asked test) (all_states network)
+        (each_weaker (IsState (sizes network)) (λ s. part_traded u (ratio_in network asked F_t F_n) test s ≡ part_asked test s) at (all_states network) (states_are (sizes network)))
       where
-        times : (k : ℕ) (test : List ℕ → Bool) → sum_by (λ s. k * part test s) (all_states network) ≡ k * total network H test
-        times k test = sum_by-times k (part test) (all_states network) ∙ ap (λ n. k * n) (sym (is_part test))
+        at : (s : List ℕ) → IsState (sizes network) s → part_traded u (ratio_in network asked F_t F_n) test s ≡ part_asked test s
+        at s is_state = ap (λ (n : ℕ). cond (is_possible H s && test s) (weight network H s * n) 0) (ratio_in_at network asked F_t F_n fits s is_state)
+
+    pub traded_target : total network (traded network H u asked F_t F_n) (with_target asked) ≡ F_t * total network H (with_target asked)
+    unfolding part part_asked
+    traded_target =
+        is_asked (with_target asked)
+        ∙ ap (λ (f : List ℕ → ℕ). sum_by f (all_states network)) (fun_ext (λ s. by_target (is_possible H s) (holds asked.condition s) (has asked.target s) (weight network H s) F_t F_n unit))
+        ∙ times_part F_t (with_target asked)
+
+    pub traded_condition : total network (traded network H u asked F_t F_n) (holds asked.condition) ≡ F_t * total network H (with_target asked) + F_n * total network H (without_target asked)
+    unfolding part part_asked
+    traded_condition =
+        is_asked (holds asked.condition)
+        ∙ ap (λ (f : List ℕ → ℕ). sum_by f (all_states network)) (fun_ext (λ s. by_condition (is_possible H s) (holds asked.condition s) (has asked.target s) (weight network H s) F_t F_n unit))
+        ∙ sum_by-plus (λ s. F_t * part (with_target asked) s) (λ s. F_n * part (without_target asked) s) (all_states network)
+        ∙ ap₂ ◌+◌ (times_part F_t (with_target asked)) (times_part F_n (without_target asked))
+
+    pub sum_asked : traded_sum network H (ratio_in network asked F_t F_n) (holds asked.condition) ≡ F_t * total network H (with_target asked) + F_n * total network H (without_target asked)
+    sum_asked = sym (total_traded u (ratio_in network asked F_t F_n) (holds asked.condition)) ∙ traded_condition

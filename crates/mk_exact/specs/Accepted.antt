@@ -1,11 +1,15 @@
 -- What each kind of change must meet to be accepted, and histories whose changes all met it.
-use Rattle.std.specs.Prelude.{ℕ, ◌+◌, ◌-◌, ◌*◌, ◌^◌, ◌<◌, ◌≤◌, ⊤, List, [], ◌∷◌, ◌++◌, length, IfSome}
+use Rattle.std.specs.Prelude.{ℕ, ◌+◌, ◌-◌, ◌*◌, ◌^◌, ◌<◌, ◌≤◌, ◌≡◌, false, ⊤, List, [], ◌∷◌, ◌++◌, length, sum_by, All, IfSome}
 use Rattle.mk_net.specs.Network.{Variable}
-use Rattle.mk_net.specs.Asked.{Asked}
-use Rattle.mk_exact.specs.Events.{always}
-use Rattle.mk_exact.specs.History.{Entry, Join, Deposit, Withdraw, Trade, Resolve, Settle, users}
-use Rattle.mk_exact.specs.Factors.{Fraction, factor_with, least_gain}
-use Rattle.mk_exact.specs.Sides.{AreFair, AreSolvent}
+use Rattle.mk_net.specs.Asked.{TradeRatio}
+use Rattle.mk_net.specs.Events.{speaks_of}
+use Rattle.mk_exact.specs.Events.{holds, always}
+use Rattle.mk_exact.specs.Ratios.{unit, ratio_at}
+use Rattle.mk_exact.specs.History.{Entry, Join, Deposit, Withdraw, Trade, Resolve, Settle, users, resolutions}
+use Rattle.mk_exact.specs.Weight.{weight, total, possible_states}
+use Rattle.mk_exact.specs.Factors.{Fraction, factor, factor_with, least_gain}
+use Rattle.mk_exact.specs.Prices.{IsSolvent}
+use Rattle.mk_exact.specs.Market.{Market, network_of}
 use Rattle.mk_exact.specs.Proper.{IsPairOf, IsTradeOf}
 
 -- a factor covers a withdrawal of this many bits
@@ -18,31 +22,34 @@ pub record IsMost (small : Type 0) (q : Fraction) (k : ℕ) : Type 0 where
   pub nearly : q.num * (2 ^ 40 - 1) < 2 ^ (k + 1) * 2 ^ 40 * q.den
   pub exactly : small → q.num < 2 ^ (k + 1) * q.den
 
--- the units of a trade are fair for some X, and leave the user solvent
-pub record IsSafeTrade (network : List Variable) (H : List Entry) (u : ℕ) (asked : Asked) (F_t F_n : ℕ) : Type 0 where
-  pub to : ℕ
-  pub fair : AreFair network H asked to F_t F_n
-  pub solvent : AreSolvent network H u asked F_t F_n
+-- over the possible states where its condition holds, a trade does not raise the weight per unit, and it leaves the user's
+-- factor at least one in each
+pub record IsSafeTrade (network : List Variable) (H : List Entry) (u : ℕ) (ratio : TradeRatio) : Type 0 where
+  pub bounded : sum_by (λ s. weight network H s * ratio_at ratio s) (possible_states network H (holds ratio.condition))
+      ≤ total network H (holds ratio.condition) * unit
+  pub solvent : All (λ s. IsSolvent (ratio_at ratio s) (factor H u s)) (possible_states network H (holds ratio.condition))
 
 -- a withdrawal stays within the user's least factor, and a trade is safe; every other change is free
 abbrev pub IsAcceptable : List Variable → List Entry → Entry → Type 0
 IsAcceptable network H (Join name) = ⊤
 IsAcceptable network H (Deposit u bits) = ⊤
 IsAcceptable network H (Withdraw u bits) = IfSome (least_gain network H u always) (λ g. Covers (factor_with H u g) bits)
-IsAcceptable network H (Trade u r) = IsSafeTrade network H u r.question r.hit r.miss
+IsAcceptable network H (Trade u r) = IsSafeTrade network H u r
 IsAcceptable network H (Resolve p) = ⊤
 IsAcceptable network H Settle = ⊤
 
--- a trade and a resolution speak of the network's own variables, and a trade of a user who joined
+-- a trade and a resolution speak of the network's own variables, a trade of a user who joined, and a resolution of a variable
+-- that is not resolved
 abbrev pub IsInRange : List Variable → List Entry → Entry → Type 0
 IsInRange network H (Join name) = ⊤
 IsInRange network H (Deposit u bits) = ⊤
 IsInRange network H (Withdraw u bits) = ⊤
 IsInRange network H (Trade u r) = IsTradeOf network (length (users H)) (record { user = u; ratio = r })
-IsInRange network H (Resolve p) = IsPairOf network p
+IsInRange network H (Resolve p) = IsPairOf network p × (speaks_of (resolutions H) p.variable ≡ false)
 IsInRange network H Settle = ⊤
 
 -- each change of a list is acceptable and in range after those before it
-abbrev pub AreAccepted : List Variable → List Entry → List Entry → Type 0
-AreAccepted network H [] = ⊤
-AreAccepted network H (e ∷ rest) = IsAcceptable network H e × IsInRange network H e × AreAccepted network (H ++ e ∷ []) rest
+abbrev pub AreAccepted : Market → List Entry → List Entry → Type 0
+AreAccepted market H [] = ⊤
+AreAccepted market H (e ∷ rest) =
+    IsAcceptable (network_of market H) H e × IsInRange (network_of market H) H e × AreAccepted market (H ++ e ∷ []) rest

@@ -11,6 +11,7 @@ use Rattle.mk_exact.specs.Factors.{Fraction, factor, factor_with, least_gain}
 use Rattle.mk_exact.specs.Prices.{exact_price}
 use Rattle.mk_exact.specs.Cash.{IsCash}
 use Rattle.mk_exact.specs.Accepted.{IsMost, AreAccepted}
+use Rattle.mk_exact.specs.Market.{Market}
 use Rattle.mk_exact.specs.Limits.{Side}
 use Rattle.mk_exact.specs.Sides.{traded, AreFair, AreSolvent, AreSides, AreRightLimits}
 
@@ -91,7 +92,7 @@ abbrev pub deposited_one : List Entry
 deposited_one = Join alice ∷ Deposit 0 1 ∷ []
 
 abbrev pub heads_taken : List Entry
-heads_taken = traded deposited_one 0 heads 1319413953331 879609302220
+heads_taken = traded coin deposited_one 0 heads 1319413953331 879609302220
 
 -- the weights, the price and the factors after it
 pub record HasTraded : Type 0 where
@@ -106,13 +107,17 @@ pub record HasTraded : Type 0 where
   pub alice_in_tails : factor heads_taken 0 (1 ∷ []) ≡ fraction 1759218604440 (2 ^ 40)
   pub one_state : possible_states coin (heads_taken ++ Resolve (is 0 0) ∷ []) always ≡ (0 ∷ []) ∷ []
 
+-- a market of the coin
+abbrev pub coin_alone : Market
+coin_alone = record { network = coin; cliques = (0 ∷ []) ∷ []; points_per_bit = 100; max_trades = 1000 }
+
 -- the pair was fair and solvent, and the history is accepted
 pub record WasSafe : Type 0 where
   pub fair : AreFair coin deposited_one heads 600000 1319413953331 879609302220
   pub not_more : AreFair coin deposited_one heads 600000 1319413953332 879609302220 → ⊥
   pub solvent : AreSolvent coin deposited_one 0 heads 1319413953331 879609302220
   pub bankrupt : AreSolvent coin deposited_one 0 heads 1649267441665 549755813887 → ⊥
-  pub accepted : AreAccepted coin [] heads_taken
+  pub accepted : AreAccepted coin_alone [] heads_taken
 
 -- what alice is worth after it: 126 points in heads, 67 in tails, and no whole bit to withdraw
 pub record IsWorth : Type 0 where
@@ -137,7 +142,7 @@ abbrev pub wet_rain : Asked
 wet_rain = ask 1 0 (is 0 0 ∷ [])
 
 abbrev pub rain_taken : List Entry
-rain_taken = traded (Join (codes "ann") ∷ Deposit 0 1 ∷ []) 0 wet_rain 1256584717458 733007751850
+rain_taken = traded weather (Join (codes "ann") ∷ Deposit 0 1 ∷ []) 0 wet_rain 1256584717458 733007751850
 
 -- where the season is dry nothing moves, and the season's own price hardly does
 pub record HasConditioned : Type 0 where
@@ -151,7 +156,7 @@ pub record HasConditioned : Type 0 where
 
 -- two traders on the chain: alice takes b up, where a is down, to 450,000; bob then c up, where b is down, to 250,000
 abbrev pub both_traded : List Entry
-both_traded = traded (traded (Join alice ∷ Join (codes "bob") ∷ Deposit 0 2 ∷ Deposit 1 2 ∷ []) 0 (ask 1 0 (is 0 1 ∷ [])) 1649267441664 863901993252)
+both_traded = traded chain (traded chain (Join alice ∷ Join (codes "bob") ∷ Deposit 0 2 ∷ Deposit 1 2 ∷ []) 0 (ask 1 0 (is 0 1 ∷ [])) 1649267441664 863901993252)
     1 (ask 2 0 (is 1 1 ∷ [])) 2748779069440 916259689813
 
 pub record HasTwoTraders : Type 0 where

@@ -1,19 +1,23 @@
 -- The laws of the exact market. Each is the contract of a function of this crate, and so proved.
 use Rattle.std.specs.Prelude.{◌≡◌, ℕ, ◌+◌, ◌*◌, ◌^◌, ◌<◌, ◌≤◌, List, [], ◌∷◌, ◌++◌, map, length, slice_index, All, sum, sum_by}
+use Rattle.std.specs.List.{AllByRecursion}
+use Rattle.mk_net.specs.declared.words.Pair.{Pair}
 use Rattle.mk_net.specs.Network.{Variable, IsNetwork}
+use Rattle.mk_net.specs.Events.{AreApart}
 use Rattle.mk_net.specs.Asked.{Asked}
 use Rattle.mk_exact.specs.InitialWeight.{all_states, entry, initial_weight, initial_total}
 use Rattle.mk_exact.specs.Events.{holds, with_target, always}
 use Rattle.mk_exact.specs.Ratios.{unit}
-use Rattle.mk_exact.specs.History.{Entry, users, deposited, withdrawn}
+use Rattle.mk_exact.specs.History.{Entry, users, resolutions, deposited, withdrawn}
 use Rattle.mk_exact.specs.States.{numbers_below, product_by}
 use Rattle.mk_exact.specs.Cash.{IsCash}
-use Rattle.mk_exact.specs.Proper.{IsProper}
+use Rattle.mk_exact.specs.Proper.{IsPairOf, IsProper}
 use Rattle.mk_exact.specs.Accepted.{IsAcceptable, IsInRange, AreAccepted, IsSafeTrade}
 use Rattle.mk_exact.specs.Weight.{total, weight, possible_states}
 use Rattle.mk_exact.specs.Factors.{Fraction, factor, gain, trade_count, IsAtLeastOne}
 use Rattle.mk_exact.specs.Prices.{exact_price}
-use Rattle.mk_exact.specs.Sides.{traded, AreFair, AreSolvent, IsFairPair}
+use Rattle.mk_exact.specs.Sides.{ratio_in, traded, AreFair, AreSolvent, IsFairPair}
+use Rattle.mk_exact.specs.Market.{Market, network_of}
 use Rattle.mk_exact.specs.Sound.{IsSound}
 
 -- before any change the weight of a state is its initial weight
@@ -22,7 +26,7 @@ WeightsBegin = (network : List Variable) (s : List ℕ) → weight network [] s 
 
 -- a market that nobody has used is sound
 abbrev pub BeginsSound : Type 0
-BeginsSound = (network : List Variable) → IsSound network []
+BeginsSound = (market : Market) → IsSound (network_of market []) []
 
 -- a question on the first variable, under no condition
 abbrev pub first_is : ℕ → Asked
@@ -40,8 +44,8 @@ SingleOpens = (v : Variable) (row : List ℕ) → IsNetwork (v ∷ []) → v.par
 
 -- a fair trade never raises the total weight per unit
 abbrev pub TotalNeverRises : Type 0
-TotalNeverRises = (network : List Variable) (H : List Entry) (u : ℕ) (asked : Asked) (X F_t F_n : ℕ) → AreFair network H asked X F_t F_n
-    → total network (traded H u asked F_t F_n) always ≤ total network H always * unit
+TotalNeverRises = (network : List Variable) (H : List Entry) (u : ℕ) (asked : Asked) (X F_t F_n : ℕ) → IsPairOf network asked.target
+    → AreFair network H asked X F_t F_n → total network (traded network H u asked F_t F_n) always ≤ total network H always * unit
 
 -- a price within 2^-27 of X parts in a million
 pub record IsNear (price : Fraction) (X : ℕ) : Type 0 where
@@ -50,31 +54,47 @@ pub record IsNear (price : Fraction) (X : ℕ) : Type 0 where
 
 -- a fair trade takes the exact price of its question to X parts in a million, to within 2^-27
 abbrev pub PriceMoves : Type 0
-PriceMoves = (network : List Variable) (H : List Entry) (u : ℕ) (asked : Asked) (X F_t F_n : ℕ) → AreFair network H asked X F_t F_n
-    → IsNear (exact_price network (traded H u asked F_t F_n) asked) X
+PriceMoves = (network : List Variable) (H : List Entry) (u : ℕ) (asked : Asked) (X F_t F_n : ℕ) → IsPairOf network asked.target
+    → AreFair network H asked X F_t F_n → IsNear (exact_price network (traded network H u asked F_t F_n) asked) X
 
 -- a solvent trade leaves its user's factor at least one in each possible state
 abbrev pub SolventStays : Type 0
-SolventStays = (network : List Variable) (H : List Entry) (u : ℕ) (asked : Asked) (F_t F_n : ℕ) → AreSolvent network H u asked F_t F_n
-    → All (λ s. IsAtLeastOne (factor H u s)) (possible_states network H always)
-    → All (λ s. IsAtLeastOne (factor (traded H u asked F_t F_n) u s)) (possible_states network (traded H u asked F_t F_n) always)
+SolventStays = (network : List Variable) (H : List Entry) (u : ℕ) (asked : Asked) (F_t F_n : ℕ) → IsPairOf network asked.target
+    → AreSolvent network H u asked F_t F_n → All (λ s. IsAtLeastOne (factor H u s)) (possible_states network H always)
+    → All (λ s. IsAtLeastOne (factor (traded network H u asked F_t F_n) u s)) (possible_states network (traded network H u asked F_t F_n) always)
+
+-- a history with one change more
+abbrev pub then_change : List Entry → Entry → List Entry
+then_change H e = H ++ e ∷ []
 
 -- an acceptable change leads from a sound market to a sound one
 abbrev pub SoundNext : Type 0
-SoundNext = (network : List Variable) (H : List Entry) (e : Entry) → IsSound network H → IsAcceptable network H e → IsSound network (H ++ e ∷ [])
+SoundNext = (market : Market) (H : List Entry) (e : Entry) → IsSound (network_of market H) H → IsAcceptable (network_of market H) H e
+    → IsSound (network_of market (then_change H e)) (then_change H e)
 
 -- a change in range leads from a proper history to a proper one
 abbrev pub ProperNext : Type 0
-ProperNext = (network : List Variable) (H : List Entry) (e : Entry) → IsProper network H → IsInRange network H e → IsProper network (H ++ e ∷ [])
+ProperNext = (market : Market) (H : List Entry) (e : Entry) → IsProper (network_of market H) H → IsInRange (network_of market H) H e
+    → IsProper (network_of market (then_change H e)) (then_change H e)
 
 -- a market is sound, and its history proper, after any number of accepted changes
 abbrev pub SoundAlways : Type 0
-SoundAlways = (network : List Variable) (H : List Entry) → AreAccepted network [] H → IsSound network H × IsProper network H
+SoundAlways = (market : Market) (H : List Entry) → AreAccepted market [] H → IsSound (network_of market H) H × IsProper (network_of market H) H
 
 -- a fair and solvent pair for X, as a quote's limits promise it, makes a safe trade
 abbrev pub FairPairIsSafe : Type 0
-FairPairIsSafe = (network : List Variable) (H : List Entry) (u : ℕ) (asked : Asked) (X F_t F_n : ℕ) → X ≤ 10 ^ 6 → IsFairPair network H u asked X F_t F_n
-    → IsSafeTrade network H u asked F_t F_n
+FairPairIsSafe = (network : List Variable) (H : List Entry) (u : ℕ) (asked : Asked) (X F_t F_n : ℕ) → X ≤ 10 ^ 6 → IsPairOf network asked.target
+    → IsFairPair network H u asked X F_t F_n → IsSafeTrade network H u (ratio_in network asked F_t F_n)
+
+-- two pairs do not give one variable two values
+abbrev pub AgreesWith : Pair → Pair → Type 0
+AgreesWith p r = r.variable ≡ p.variable → r.value ≡ p.value
+
+-- pairs that give no variable two values, and no resolved variable another value than its own, hold in some possible state
+abbrev pub StateRemains : Type 0
+StateRemains = (network : List Variable) (H : List Entry) (pairs : List Pair) → IsNetwork network → IsProper network H
+    → AllByRecursion (IsPairOf network) pairs → AreApart pairs → AllByRecursion (λ p. AllByRecursion (AgreesWith p) (resolutions H)) pairs
+    → 1 ≤ length (possible_states network H (holds pairs))
 
 -- what all users have gained together, in a possible state, is at most one over its initial probability
 pub record GainsAreBounded (network : List Variable) (H : List Entry) (s : List ℕ) : Type 0 where

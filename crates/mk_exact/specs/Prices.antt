@@ -1,5 +1,6 @@
 -- The exact price of a question, and what a printed price and a ratio owe it.
 use Rattle.std.specs.Prelude.{ℕ, ◌+◌, ◌-◌, ◌*◌, ◌^◌, ◌<◌, ◌≤◌, List, Bool}
+use Rattle.mk_net.specs.declared.words.Pair.{Pair}
 use Rattle.mk_net.specs.Network.{Variable}
 use Rattle.mk_net.specs.Asked.{Asked}
 use Rattle.mk_exact.specs.Events.{holds, with_target}
@@ -8,13 +9,13 @@ use Rattle.mk_exact.specs.History.{Entry}
 use Rattle.mk_exact.specs.Weight.{total}
 use Rattle.mk_exact.specs.Factors.{Fraction}
 
--- the share of the states that pass a test among those where the condition holds
-abbrev pub price_where : List Variable → List Entry → Asked → (List ℕ → Bool) → Fraction
-price_where network H asked test = record { num = total network H test; den = total network H (holds asked.condition) }
+-- the share of the states that pass a test among those where the given pairs hold, for a test that only these pass
+abbrev pub price_where : List Variable → List Entry → List Pair → (List ℕ → Bool) → Fraction
+price_where network H given test = record { num = total network H test; den = total network H (holds given) }
 
 -- the exact price of a question
 abbrev pub exact_price : List Variable → List Entry → Asked → Fraction
-exact_price network H asked = price_where network H asked (with_target asked)
+exact_price network H asked = price_where network H asked.condition (with_target asked)
 
 -- low .. high, in units of 10^-10, covers the price; in the small case they are its floor and its ceiling
 pub record CoversPrice (small : Type 0) (price : Fraction) (low high : ℕ) : Type 0 where

@@ -1,5 +1,5 @@
 -- The ratio of a trade: by how many units it multiplies the weight of a state.
-use Rattle.std.specs.Prelude.{ℕ, ◌^◌, List, ◌==◌, if◌then◌else◌}
+use Rattle.std.specs.Prelude.{ℕ, ◌^◌, List, slice_index, if◌then◌else◌}
 use Rattle.mk_net.specs.declared.words.Pair.{Pair}
 use Rattle.mk_net.specs.Asked.{TradeRatio}
 use Rattle.mk_exact.specs.InitialWeight.{value_at}
@@ -10,14 +10,14 @@ abbrev pub unit : ℕ
 unit = 2 ^ 40
 
 abbrev pub variable_of : TradeRatio → ℕ
-variable_of r = r.question.target.variable
+variable_of r = r.variable
 
 abbrev pub condition_of : TradeRatio → List Pair
-condition_of r = r.question.condition
+condition_of r = r.condition
 
--- the units for each value of the target's variable
+-- the units for each value of its variable
 abbrev pub units_of : TradeRatio → ℕ → ℕ
-units_of r value = if value == r.question.target.value then r.hit else r.miss
+units_of r value = slice_index r.factors value
 
 -- the units for the state's value where the condition holds, and one whole unit where it does not
 abbrev pub ratio_at : TradeRatio → List ℕ → ℕ

@@ -13,3 +13,4 @@ pub mod Counting
 pub mod Taken
 pub mod Checked
 pub mod Build
+pub mod UnitsOf

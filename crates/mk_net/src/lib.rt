@@ -15,6 +15,7 @@ mod rows;
 mod sets;
 #[cfg(test)]
 mod tests;
+mod trade;
 mod words;
 
 pub use draft::{Draft, VariableDraft};

@@ -1,18 +1,21 @@
 //! The ratio of a trade.
 
-ghost use Rattle.std.specs.Prelude.{◌<◌, ◌≤◌, ◌^◌};
+ghost use Rattle.std.specs.Prelude.{◌≡◌, ◌≤◌, false, length, All};
+ghost use Rattle.mk_net.specs.Asked.{IsUnits};
+ghost use Rattle.mk_net.specs.Events.{speaks_of};
 
-use crate::question::Question;
+use crate::event::Event;
+use arrayvec::ArrayVec;
 
-/// A question, and by how many units of 2^-40 a trade multiplies the weight of a state that has its target, and of one
-/// that has not.
-#[derive(Clone, Copy, Debug)]
+/// A variable, a condition, and by how many units of 2^-40 a trade multiplies the weight of a state where the condition
+/// holds: one number for each value of the variable.
+#[derive(Debug, Drop)]
 pub struct Ratio {
-    pub question: Question,
-    pub hit: u64,
-    pub miss: u64,
-    ghost hit_positive: { 1 ≤ hit },
-    ghost hit_fits: { hit < 2 ^ 63 },
-    ghost miss_positive: { 1 ≤ miss },
-    ghost miss_fits: { miss < 2 ^ 63 },
+    pub variable: u32,
+    pub condition: Event,
+    pub factors: ArrayVec<u64, 16>,
+    ghost few_pairs: { length condition ≤ 8 },
+    ghost apart: { speaks_of condition variable ≡ false },
+    ghost two_factors: { 2 ≤ length factors.items },
+    ghost are_units: { All IsUnits factors.items },
 }
