@@ -1,5 +1,14 @@
 //! What allowed replies keep.
-ghost use Rattle.mk_rules.specs.Laws.{AllowedKeeps, RunKeeps, RunStands, RunIsBounded, SettlementKeeps, OneRefusal, OneKind};
+ghost use Rattle.mk_rules.specs.Laws.{
+  AllowedKeeps,
+  RunKeeps,
+  RunStands,
+  RunIsBounded,
+  SettlementKeeps,
+  JudgedExactly,
+  OneRefusal,
+  OneKind,
+};
 
 /// An allowed reply leads from a sound history to a sound one, whatever the line, and users, pairs and units stay in range.
 pub fn allowed_keeps()
@@ -25,6 +34,11 @@ pub fn run_is_bounded()
 /// A settlement that is allowed costs the operator at most the bound.
 pub fn settlement_keeps()
     ensures { SettlementKeeps }
+{}
+
+/// An edit under limits that were quoted is a trade exactly where its share is inside of them.
+pub fn judged_exactly()
+    ensures { JudgedExactly }
 {}
 
 /// Where a refusal of the table applies, one reply is allowed.
