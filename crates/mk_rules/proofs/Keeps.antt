@@ -175,5 +175,13 @@ run_keeps market old new (line ∷ lines) [] stands h = absurd h
 run_keeps market old new (line ∷ lines) (reply ∷ replies) stands h =
     run_keeps market (after market old line reply) new lines replies (allowed_keeps market old line reply stands h.0) h.1
 
+pub runs_join : (market : Market) (old middle new : Standing) (first second : List Line) (replies more : List Reply)
+    → Run market old first replies middle → Run market middle second more new → Run market old (first ++ second) (replies ++ more) new
+runs_join market old middle new [] second [] more h k = subst (λ (now : Standing). Run market now second more new) h k
+runs_join market old middle new [] second (reply ∷ replies) more h k = absurd h
+runs_join market old middle new (line ∷ first) second [] more h k = absurd h
+runs_join market old middle new (line ∷ first) second (reply ∷ replies) more h k =
+    (h.0, runs_join market (after market old line reply) middle new first second replies more h.1 k)
+
 pub opening_stands : (market : Market) → Stands market []
 opening_stands market = record { sound = empty_sound (network_of market []); proper = empty_proper (network_of market []); none_wide = tt }

@@ -5,4 +5,6 @@ pub mod Keeps
 pub mod Cashed
 pub mod Paid
 pub mod Judged
+pub mod Quoted
+pub mod Ready
 pub mod OneKind

@@ -1,5 +1,5 @@
 -- The laws of the market's rules. Each is the contract of a function of this crate, and so proved.
-use Rattle.std.specs.Prelude.{◌≡◌, ℕ, ◌≤◌, List, [], ◌∷◌, map, All, Option, Some, None, ⊤, ◌↔◌}
+use Rattle.std.specs.Prelude.{◌≡◌, ℕ, ◌≤◌, List, [], ◌∷◌, ◌++◌, map, All, Option, Some, None, ⊤, ◌↔◌}
 use Rattle.mk_net.specs.Network.{Variable}
 use Rattle.mk_net.specs.declared.words.QuestionText.{QuestionText}
 use Rattle.mk_net.specs.Asked.{Asked}
@@ -16,10 +16,10 @@ use Rattle.mk_reply.specs.declared.reply.Payment.{Payment}
 use Rattle.mk_reply.specs.declared.reply.Reply.{Reply}
 use Rattle.mk_reply.specs.declared.reply.Reply.TheVariants.{Traded, Settled}
 use Rattle.mk_rules.specs.Refusals.{question_named, user_number, first_refusal}
-use Rattle.mk_rules.specs.Quotes.{Interval, Quotes, last_quote, current_limits}
+use Rattle.mk_rules.specs.Quotes.{Interval, Quotes, no_quotes, last_quote, current_limits}
 use Rattle.mk_rules.specs.Answers.{IsAllowed, IsTrade, IsBeyondRight}
 use Rattle.mk_rules.specs.Transcript.{Standing, opening, Line, OfCommand, IsAllowedFor, after, Run}
-use Rattle.mk_rules.specs.Standings.{Stands}
+use Rattle.mk_rules.specs.Standings.{Stands, IsReady}
 
 -- an allowed reply to any line leads from a history that stands to one that does
 abbrev pub AllowedKeeps : Type 0
@@ -36,7 +36,31 @@ abbrev pub RunStands : Type 0
 RunStands = (market : Market) (new : Standing) (lines : List Line) (replies : List Reply)
     → Run market opening lines replies new → Stands market new.history
 
--- and in each possible state, what all users have gained is at most one over its initial probability
+-- a history that stands is ready where its users were quoted nothing, as after a restart and at the opening
+abbrev pub UnquotedIsReady : Type 0
+UnquotedIsReady = (market : Market) (H : List Entry) → Stands market H → IsReady market (record { history = H; quotes = no_quotes H })
+
+-- an allowed reply to any line leads from a ready standing to a ready one
+abbrev pub ReadyKeeps : Type 0
+ReadyKeeps = (market : Market) (now : Standing) (line : Line) (reply : Reply)
+    → IsReady market now → IsAllowedFor market now line reply → IsReady market (after market now line reply)
+
+-- and so does each run
+abbrev pub RunKeepsReady : Type 0
+RunKeepsReady = (market : Market) (old new : Standing) (lines : List Line) (replies : List Reply)
+    → IsReady market old → Run market old lines replies new → IsReady market new
+
+-- the standing after each run from the opening is ready
+abbrev pub RunIsReady : Type 0
+RunIsReady = (market : Market) (new : Standing) (lines : List Line) (replies : List Reply)
+    → Run market opening lines replies new → IsReady market new
+
+-- a run goes on where another ended
+abbrev pub RunsJoin : Type 0
+RunsJoin = (market : Market) (old middle new : Standing) (first second : List Line) (replies more : List Reply)
+    → Run market old first replies middle → Run market middle second more new → Run market old (first ++ second) (replies ++ more) new
+
+-- and in each possible state after it, what all users have gained is at most one over its initial probability
 abbrev pub RunIsBounded : Type 0
 RunIsBounded = (market : Market) (new : Standing) (lines : List Line) (replies : List Reply)
     → Run market opening lines replies new

@@ -11,6 +11,7 @@ pub use examples::{
     example_resolution, example_run, example_settlement, example_withdrawal, example_worst,
 };
 pub use laws::{
-    allowed_keeps, judged_exactly, one_kind, one_refusal, run_is_bounded, run_keeps, run_stands,
-    settlement_keeps,
+    allowed_keeps, judged_exactly, one_kind, one_refusal, ready_keeps, run_is_bounded,
+    run_is_ready, run_keeps, run_keeps_ready, run_stands, runs_join, settlement_keeps,
+    unquoted_is_ready,
 };
