@@ -10,3 +10,4 @@ pub mod Single
 pub mod Range
 pub mod Positive
 pub mod Gains
+pub mod Remains

@@ -1,5 +1,5 @@
 //! What every accepted change keeps.
-ghost use Rattle.mk_exact.specs.Laws.{SoundNext, ProperNext, SoundAlways, FairPairIsSafe};
+ghost use Rattle.mk_exact.specs.Laws.{SoundNext, ProperNext, SoundAlways, FairPairIsSafe, StateRemains};
 
 /// An acceptable change leads from a sound market to a sound one.
 pub fn sound_next()
@@ -19,4 +19,10 @@ pub fn sound_always()
 /// A fair and solvent pair, as right limits promise it for each share inside, makes a safe trade.
 pub fn fair_pair_is_safe()
     ensures { FairPairIsSafe }
+{}
+
+/// After a proper history, pairs that give no variable two values, and no resolved one another value than its own, hold in
+/// some possible state. So some state is always possible.
+pub fn state_remains()
+    ensures { StateRemains }
 {}

@@ -6,14 +6,14 @@ use Rattle.mk_net.specs.declared.words.Pair.{Pair}
 use Rattle.mk_net.specs.Events.{speaks_of, AreApart, IsEvent, max_pairs}
 use Rattle.mk_net.specs.KeptEvents.{IsKeptEvent, blank}
 
-same_place : (x y : ℕ) → (x == y) ≡ false → (y == x) ≡ false
+pub same_place : (x y : ℕ) → (x == y) ≡ false → (y == x) ≡ false
 same_place x y h = choose (y == x) refl
   where
     choose : (b : Bool) → (y == x) ≡ b → (y == x) ≡ false
     choose true e = absurd (let t : (x == y) ≡ true = eq-eqb x y (sym (eqb-true y x e)) in cc)
     choose false e = e
 
-neither : (p q : Bool) → p || q ≡ false → (p ≡ false) × (q ≡ false)
+pub neither : (p q : Bool) → p || q ≡ false → (p ≡ false) × (q ≡ false)
 neither true q h = cc
 neither false q h = (refl, h)
 
