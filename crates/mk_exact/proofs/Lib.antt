@@ -9,5 +9,10 @@ pub mod Next
 pub mod Single
 pub mod Range
 pub mod Positive
+pub mod ExistNumbers
+pub mod ExistLimits
 pub mod Gains
 pub mod Remains
+pub mod ExistMarkets
+pub mod ExistOutcome
+pub mod ExistBounds

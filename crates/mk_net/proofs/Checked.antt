@@ -1,12 +1,12 @@
 -- The network of a draft without a fault is a network.
-use Rattle.std.specs.Prelude.{◌≡◌, ℕ, zero, suc, ◌+◌, ◌-◌, ◌<◌, ◌≤◌, List, [], ◌∷◌, map, length, sum, Bool, true, false, ◌&&◌, ◌||◌, ◌==◌, not, pos, negsuc, ℤ, None, All, get_or}
+use Rattle.std.specs.Prelude.{◌≡◌, ℕ, zero, suc, ◌+◌, ◌-◌, ◌<◌, ◌≤◌, List, [], ◌∷◌, map, length, sum, Bool, true, false, ◌&&◌, ◌||◌, ◌==◌, not, nat_le, pos, negsuc, ℤ, None, All, get_or}
 use Rattle.std.specs.List.{list_all}
 use Rattle.std.proofs.Common.{refl, ap, ◌∙◌, arith}
 use Rattle.std.proofs.lemmas.List.{get_or-map, length-map}
 use Rattle.std.proofs.lemmas.List.Elements.{All-map}
-use Rattle.std.proofs.lemmas.Bool.{eqb-true, ltb-true, not-false}
-use Rattle.mk_net.specs.Name.{is_name}
-use Rattle.mk_net.specs.Network.{IsRow, IsVariable, IsNetwork, sizes, choices}
+use Rattle.std.proofs.lemmas.Bool.{eqb-true, leb-true, ltb-true, not-false}
+use Rattle.mk_net.specs.Name.{IsName, is_name, max_name_bytes, begins_with_letter, is_name_byte}
+use Rattle.mk_net.specs.Network.{IsRow, IsVariable, IsNetwork, sizes, names, choices}
 use Rattle.mk_net.specs.TextLaws.{both}
 use Rattle.mk_net.specs.Firsts.{fault_if, first_in}
 use Rattle.mk_net.specs.Drafts.{DraftOfVariable}
@@ -15,6 +15,7 @@ use Rattle.mk_net.specs.declared.key.Key.TheVariants.{Variable as VariableKey}
 use Rattle.mk_net.specs.declared.fault.NetFault.TheVariants.{Count, BadName, Repeat, Parent, Rows, Sum}
 use Rattle.mk_net.proofs.Firsts.{neither, untested, passed, none_at}
 use Rattle.mk_net.proofs.Taken.{neither_of}
+use Rattle.mk_net.proofs.Distinct.{no_draft, distinct_texts, distinct_numbers, distinct_names}
 use Rattle.mk_net.proofs.Counting.{within, few_variables, few_values, few_parents, width_here, shares_here}
 
 -- variable number k has no fault
@@ -62,6 +63,13 @@ all_at p [] i d h inside = absurd (omega (arith, inside))
 all_at p (x ∷ xs) zero d h inside = (both (p x) (list_all p xs) h).0
 all_at p (x ∷ xs) (suc i) d h inside = all_at p xs i d ((both (p x) (list_all p xs) h).1) (omega (arith, inside))
 
+-- a text that passes the test is a name
+pub name_of : (bytes : List ℕ) → is_name bytes ≡ true → IsName bytes
+name_of bytes h =
+    let parts = both (nat_le (length bytes) max_name_bytes) (begins_with_letter bytes && list_all is_name_byte bytes) h in
+    let more = both (begins_with_letter bytes) (list_all is_name_byte bytes) (parts.1) in
+    record { short = leb-true (length bytes) max_name_bytes (parts.0); first = more.0; each = more.1 }
+
 share_positive : (entry : ℤ) → is_share entry ≡ true → 1 ≤ share entry
 share_positive (pos n) h = (within 1 1000000 n h).0
 share_positive (negsuc n) h = cc
@@ -86,6 +94,11 @@ module _ (draft : List DraftOfVariable) (i : ℕ) (v : DraftOfVariable) (is : Is
       ((neither_of (not (list_all (is_before draft (1 + i)) v.parents)) (has_double v.parents)
       (untested (not (list_all (is_before draft (1 + i)) v.parents) || has_double v.parents) (Parent (1 + i)) is.parents)).0)
 
+  its_parents_apart : has_double v.parents ≡ false
+  its_parents_apart =
+      (neither_of (not (list_all (is_before draft (1 + i)) v.parents)) (has_double v.parents)
+      (untested (not (list_all (is_before draft (1 + i)) v.parents) || has_double v.parents) (Parent (1 + i)) is.parents)).1
+
   earlier : All (λ (name : List ℕ). number_of draft name < i) v.parents
   earlier j d inside =
       let before : number_of draft (get_or v.parents j d) < 1 + i - 1 =
@@ -104,12 +117,16 @@ module _ (draft : List DraftOfVariable) (i : ℕ) (v : DraftOfVariable) (is : Is
             (passed (sum (map share row) == 1000000) (Sum (1 + i) (1 + j) (pos (sum (map share row)))) (none_at (sum_of (1 + i)) 1 v.rows j d is.sums inside));
       }
 
-  pub checked_is_variable : IsVariable (counts draft) i (checked_variable draft v)
-  checked_is_variable = record {
+  pub checked_is_variable : i ≤ length draft → IsVariable (counts draft) i (checked_variable draft v)
+  checked_is_variable inside = record {
+    name = name_of v.name its_name;
     two_values = (few_values (1 + i) v is.counts).0;
     few_values = (few_values (1 + i) v is.counts).1;
+    values_named = λ k d within. name_of (get_or v.values k d) (all_at is_name v.values k d its_values within);
+    values_distinct = distinct_texts v.values its_values_apart;
     few_parents = omega (arith, few_parents (1 + i) v is.counts, length-map v.parents (number_of draft));
     parents_earlier = All-map (λ (p : ℕ). p < i) (number_of draft) v.parents earlier;
+    parents_distinct = distinct_numbers draft v.parents its_parents_apart (λ k d within. let p = earlier k d within in omega arith);
     one_row_each = length-map v.rows (map share)
         ∙ eqb-true (length v.rows) (choices (counts draft) (parents_in draft v)) (passed (length v.rows == choices (counts draft) (parents_in draft v)) (Rows (1 + i) (pos (length v.rows))) is.rows);
     rows_fit = All-map (IsRow (length v.values)) (map share) v.rows row_fits;
@@ -119,14 +136,17 @@ sizes_checked : (draft vs : List DraftOfVariable) → sizes (map (checked_variab
 sizes_checked draft [] = refl
 sizes_checked draft (v ∷ vs) = ap (λ (rest : List ℕ). length v.values ∷ rest) (sizes_checked draft vs)
 
-no_draft : DraftOfVariable
-no_draft = record { name = []; values = []; parents = []; rows = [] }
+names_checked : (draft vs : List DraftOfVariable) → names (map (checked_variable draft) vs) ≡ map (λ (v : DraftOfVariable). v.name) vs
+names_checked draft [] = refl
+names_checked draft (v ∷ vs) = ap (λ (rest : List (List ℕ)). v.name ∷ rest) (names_checked draft vs)
 
 pub checked_is_network : (draft : List DraftOfVariable) → first_fault draft ≡ None → IsNetwork (checked_network draft)
 checked_is_network draft h = record {
-  few = omega (arith, (few_variables draft ((neither (count_fault draft) (later_fault draft) h).0)).1, length-map draft (checked_variable draft));
+  some = omega (arith, (few_variables draft (no_count draft h)).0, length-map draft (checked_variable draft));
+  few = omega (arith, (few_variables draft (no_count draft h)).1, length-map draft (checked_variable draft));
+  names_distinct = rw (names_checked draft draft) (distinct_names draft (λ k within. its_name_fresh draft k (get_or draft k no_draft) (faultless_at draft h k no_draft within)));
   each = λ k d inside.
       let within : k < length draft = omega (arith, inside, length-map draft (checked_variable draft)) in
       rw (sizes_checked draft draft, get_or-map (checked_variable draft) draft k no_draft d within)
-      (checked_is_variable draft k (get_or draft k no_draft) (faultless_at draft h k no_draft within));
+      (checked_is_variable draft k (get_or draft k no_draft) (faultless_at draft h k no_draft within) (omega arith));
 }

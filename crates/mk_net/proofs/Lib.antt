@@ -11,6 +11,7 @@ pub mod Choices
 pub mod Firsts
 pub mod Counting
 pub mod Taken
+pub mod Distinct
 pub mod Checked
 pub mod Build
 pub mod UnitsOf

@@ -13,7 +13,7 @@ pub neither_of : (p q : Bool) → p || q ≡ false → (p ≡ false) × (q ≡ f
 neither_of true q h = cc
 neither_of false q h = (refl, h)
 
-any_at : {X : Type 0} (p : X → Bool) (xs : List X) (i : ℕ) (d : X) → list_any p xs ≡ false → i < length xs → p (get_or xs i d) ≡ false
+pub any_at : {X : Type 0} (p : X → Bool) (xs : List X) (i : ℕ) (d : X) → list_any p xs ≡ false → i < length xs → p (get_or xs i d) ≡ false
 any_at p [] i d h within = absurd (omega (arith, within))
 any_at p (x ∷ xs) zero d h within = (neither_of (p x) (list_any p xs) h).0
 any_at p (x ∷ xs) (suc i) d h within = any_at p xs i d ((neither_of (p x) (list_any p xs) h).1) (omega (arith, within))

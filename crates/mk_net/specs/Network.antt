@@ -1,5 +1,7 @@
 -- Networks of variables: what each layer knows of the questions of a market.
-use Rattle.std.specs.Prelude.{◌≡◌, ℕ, ◌*◌, ◌<◌, ◌≤◌, List, [], ◌∷◌, length, map, sum, All, slice_index, slice_index_or}
+use Rattle.std.specs.Prelude.{◌≡◌, ◌≢◌, ℕ, ◌*◌, ◌<◌, ◌≤◌, List, [], ◌∷◌, length, map, sum, All, slice_index, slice_index_or}
+use Rattle.std.specs.List.{AllPairs}
+use Rattle.mk_net.specs.Name.{IsName}
 
 -- a variable: its name, the names of its values, its parents' numbers, and one row for each list of the parents' values
 pub record Variable : Type 0 where
@@ -23,16 +25,30 @@ pub record IsRow (values : ℕ) (row : List ℕ) : Type 0 where
   pub positive : All (λ n. 1 ≤ n) row
   pub whole : sum row ≡ 1000000
 
+-- no two items of a list are the same
+abbrev pub AreDistinct : {X : Type 0} → List X → Type 0
+AreDistinct {X} xs = AllPairs (λ (x y : X). x ≢ y) xs
+
 -- variable number k, where `values` has the number of values of each variable
 pub record IsVariable (values : List ℕ) (k : ℕ) (v : Variable) : Type 0 where
+  pub name : IsName v.name
   pub two_values : 2 ≤ length v.values
   pub few_values : length v.values ≤ 16
+  pub values_named : All IsName v.values
+  pub values_distinct : AreDistinct v.values
   pub few_parents : length v.parents ≤ 8
   pub parents_earlier : All (λ p. p < k) v.parents
+  pub parents_distinct : AreDistinct v.parents
   pub one_row_each : length v.rows ≡ choices values v.parents
   pub rows_fit : All (IsRow (length v.values)) v.rows
 
--- a network: at most 256 variables, each with earlier ones as parents
+-- the names of the variables, in order
+abbrev pub names : List Variable → List (List ℕ)
+names network = map (λ (v : Variable). v.name) network
+
+-- a network: 1 to 256 variables of different names, each with earlier ones as parents
 pub record IsNetwork (network : List Variable) : Type 0 where
+  pub some : 1 ≤ length network
   pub few : length network ≤ 256
+  pub names_distinct : AreDistinct (names network)
   pub each : (k : ℕ) (d : Variable) → k < length network → IsVariable (sizes network) k (slice_index_or network k d)

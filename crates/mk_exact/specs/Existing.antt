@@ -1,0 +1,164 @@
+-- What exists: an allowed answer to each line that a market can be asked, in numbers. Where a law says ⊤ for the small case, it
+-- gives what the small case asks for, and so what any case does.
+use Rattle.std.specs.Prelude.{◌≡◌, ℕ, ◌*◌, ◌^◌, ◌<◌, ◌≤◌, true, false, ⊤, ◌⊎◌, List, [], ◌∷◌, length, Bool, Option, Some}
+use Rattle.std.specs.List.{AllByRecursion, count_by}
+use Rattle.mk_net.specs.Network.{Variable, IsNetwork}
+use Rattle.mk_net.specs.Asked.{Asked}
+use Rattle.mk_net.specs.Events.{speaks_of, AreApart}
+use Rattle.mk_exact.specs.Events.{always}
+use Rattle.mk_exact.specs.History.{Entry, UserTrade, bits_in, is_transfer, trades, resolutions}
+use Rattle.mk_exact.specs.Weight.{possible_states, IsSmall}
+use Rattle.mk_exact.specs.Factors.{Fraction, factor, factor_with, least_gain, IsAtLeastOne}
+use Rattle.mk_exact.specs.Prices.{CoversPrice, exact_price}
+use Rattle.mk_exact.specs.Cash.{IsCash, CoversCash}
+use Rattle.mk_exact.specs.Accepted.{Covers, IsMost}
+use Rattle.mk_exact.specs.Limits.{Side, Inside, AreRight}
+use Rattle.mk_exact.specs.Sound.{IsSound}
+use Rattle.mk_exact.specs.Proper.{IsQuestionOf, IsProper}
+use Rattle.mk_exact.specs.Sides.{AreSides, AreRightLimits, IsFairPair}
+use Rattle.mk_exact.specs.Laws.{AgreesWith}
+
+-- ---- numbers
+
+-- a price that is positive and at most one
+pub record IsPositivePrice (price : Fraction) : Type 0 where
+  pub positive : 1 ≤ price.num
+  pub at_most_one : price.num ≤ price.den
+
+-- a factor of at least one, with something below the line
+pub record IsSafeFactor (q : Fraction) : Type 0 where
+  pub divides : 1 ≤ q.den
+  pub at_least_one : IsAtLeastOne q
+
+-- a price of at most one has an interval, its floor and its ceiling
+abbrev pub PriceIsCovered : Type 0
+PriceIsCovered = (price : Fraction) → 1 ≤ price.den → price.num ≤ price.den → (low : ℕ) × (high : ℕ) × CoversPrice ⊤ price low high
+
+-- a factor of at least one has its cash
+abbrev pub CashExists : Type 0
+CashExists = (q : Fraction) (b : ℕ) → IsSafeFactor q → (cash : ℕ) × IsCash q b cash
+
+-- and an interval that covers it
+abbrev pub CashIsCovered : Type 0
+CashIsCovered = (q : Fraction) (b : ℕ) → IsSafeFactor q → (low : ℕ) × (high : ℕ) × CoversCash q b low high
+
+-- the cash of a factor of at most 2^m is at most m times the points per bit
+abbrev pub CashIsBounded : Type 0
+CashIsBounded = (q : Fraction) (b m cash : ℕ) → 1 ≤ q.den → q.num ≤ 2 ^ m * q.den → IsCash q b cash → cash ≤ m * b
+
+-- some bits, none or more, are the most that a factor of at least one covers
+abbrev pub MostExists : Type 0
+MostExists = (q : Fraction) → IsSafeFactor q → (k : ℕ) × IsMost ⊤ q k
+
+-- what a factor covers is less than what it does not cover
+abbrev pub CoveredIsLess : Type 0
+CoveredIsLess = (q : Fraction) (k bits : ℕ) → Covers q k → ¬ Covers q bits → k < bits
+
+-- a withdrawal is covered, or more than the most that is
+abbrev pub WithdrawalIsJudged : Type 0
+WithdrawalIsJudged = (q : Fraction) (bits : ℕ) → IsSafeFactor q → Covers q bits ⊎ ((most : ℕ) × (most < bits) × IsMost ⊤ q most)
+
+-- two sides have right limits, none or some
+abbrev pub LimitsExist : Type 0
+LimitsExist = (hit miss : Side) → IsPositivePrice hit.price → IsPositivePrice miss.price → (limits : Option (ℕ × ℕ)) × AreRight ⊤ hit miss limits
+
+-- a share is inside of limits or not
+abbrev pub InsideIsDecided : Type 0
+InsideIsDecided = (limits : Option (ℕ × ℕ)) (X : ℕ) → Inside limits X ⊎ (¬ Inside limits X)
+
+-- ---- markets
+
+-- a fair and solvent pair for X
+abbrev pub HasFairPair : List Variable → List Entry → ℕ → Asked → ℕ → Type 0
+HasFairPair network H u asked X = (F_t : ℕ) × (F_n : ℕ) × IsFairPair network H u asked X F_t F_n
+
+-- right limits judge each share: inside it can be traded, and else it is outside
+abbrev pub LimitsJudge : Type 0
+LimitsJudge = (network : List Variable) (H : List Entry) (u : ℕ) (asked : Asked) (limits : Option (ℕ × ℕ)) (X : ℕ)
+    → AreRightLimits network H u asked limits → (Inside limits X × HasFairPair network H u asked X) ⊎ (¬ Inside limits X)
+
+-- a question that can be asked: its pairs are the network's, its condition gives no variable two values and its target's none,
+-- and no resolution gives the target's variable a value, or a variable of the condition another
+pub record CanBeAsked (network : List Variable) (H : List Entry) (asked : Asked) : Type 0 where
+  pub in_range : IsQuestionOf network asked
+  pub apart : AreApart asked.condition
+  pub target_apart : speaks_of asked.condition asked.target.variable ≡ false
+  pub unresolved : speaks_of (resolutions H) asked.target.variable ≡ false
+  pub agrees : AllByRecursion (λ p. AllByRecursion (AgreesWith p) (resolutions H)) asked.condition
+
+-- some state stays possible
+abbrev pub StateExists : Type 0
+StateExists = (network : List Variable) (H : List Entry) → IsNetwork network → IsProper network H → 1 ≤ length (possible_states network H always)
+
+-- a positive exact price of at most one, and an interval that covers it
+pub record HasPrice (network : List Variable) (H : List Entry) (asked : Asked) : Type 0 where
+  pub exact : IsPositivePrice (exact_price network H asked)
+  pub low : ℕ
+  pub high : ℕ
+  pub covers : CoversPrice (IsSmall network H) (exact_price network H asked) low high
+
+-- each question that can be asked has a price
+abbrev pub PriceExists : Type 0
+PriceExists = (network : List Variable) (H : List Entry) (asked : Asked) → IsNetwork network → IsProper network H
+    → CanBeAsked network H asked → HasPrice network H asked
+
+-- a user's least gain over the possible states, whose factor is at least one
+pub record HasLeast (network : List Variable) (H : List Entry) (u : ℕ) : Type 0 where
+  pub least : ℕ
+  pub is_least : least_gain network H u always ≡ Some least
+  pub safe : IsSafeFactor (factor_with H u least)
+
+-- in a sound market each user has one
+abbrev pub LeastExists : Type 0
+LeastExists = (network : List Variable) (H : List Entry) (u : ℕ) → IsNetwork network → IsProper network H → IsSound network H
+    → HasLeast network H u
+
+-- a positive price of at most one, and a factor of at least one
+pub record IsOpenSide (side : Side) : Type 0 where
+  pub price : IsPositivePrice side.price
+  pub least : IsSafeFactor side.least
+
+-- the two sides of a question
+pub record HasSides (network : List Variable) (H : List Entry) (u : ℕ) (asked : Asked) : Type 0 where
+  pub hit : Side
+  pub miss : Side
+  pub sides : AreSides network H u asked hit miss
+  pub hit_open : IsOpenSide hit
+  pub miss_open : IsOpenSide miss
+
+-- in a sound market each question that can be asked has both sides, for each user
+abbrev pub SidesExist : Type 0
+SidesExist = (network : List Variable) (H : List Entry) (u : ℕ) (asked : Asked) → IsNetwork network → IsProper network H → IsSound network H
+    → CanBeAsked network H asked → HasSides network H u asked
+
+-- and right limits
+abbrev pub RightLimitsExist : Type 0
+RightLimitsExist = (network : List Variable) (H : List Entry) (u : ℕ) (asked : Asked) → IsNetwork network → IsProper network H → IsSound network H
+    → CanBeAsked network H asked → (limits : Option (ℕ × ℕ)) × AreRightLimits network H u asked limits
+
+-- the one state that is possible; each user's factor in it is at least one
+pub record HasOutcome (network : List Variable) (H : List Entry) : Type 0 where
+  pub state : List ℕ
+  pub one_state : possible_states network H always ≡ state ∷ []
+  pub safe : (u : ℕ) → IsSafeFactor (factor H u state)
+
+-- in a sound market whose variables are all resolved one state is left
+abbrev pub OutcomeExists : Type 0
+OutcomeExists = (network : List Variable) (H : List Entry) → IsNetwork network → IsProper network H → IsSound network H
+    → ((v : ℕ) → v < length network → speaks_of (resolutions H) v ≡ true) → HasOutcome network H
+
+-- a history of at most 65,536 trades, their units below 2^63, and at most 65,536 transfers, with at most 1,000 bits in each deposit
+pub record IsWithinBounds (H : List Entry) : Type 0 where
+  pub few_trades : length (trades H) ≤ 65536
+  pub units_fit : AllByRecursion (λ (t : UserTrade). AllByRecursion (λ n. n < 2 ^ 63) t.ratio.factors) (trades H)
+  pub few_transfers : count_by is_transfer H ≤ 65536
+  pub few_bits : AllByRecursion (λ e. (u : ℕ) → bits_in u e ≤ 1000) H
+
+-- then the cash in any state fits 63 bits, at up to a million points per bit, and so does each interval that covers it
+abbrev pub CashFits : Type 0
+CashFits = (H : List Entry) (u : ℕ) (s : List ℕ) (b low high : ℕ) → IsWithinBounds H → b ≤ 1000000 → CoversCash (factor H u s) b low high → high < 2 ^ 63
+
+-- as does the cash of a least gain
+abbrev pub LeastCashFits : Type 0
+LeastCashFits = (network : List Variable) (H : List Entry) (u : ℕ) (test : List ℕ → Bool) (least b low high : ℕ) → IsWithinBounds H → b ≤ 1000000
+    → least_gain network H u test ≡ Some least → CoversCash (factor_with H u least) b low high → high < 2 ^ 63

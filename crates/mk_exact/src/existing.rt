@@ -1,0 +1,92 @@
+//! What exists: an answer to each line that a market can be asked.
+ghost use Rattle.mk_exact.specs.Existing.{PriceIsCovered, CashExists, CashIsCovered, CashIsBounded, MostExists, CoveredIsLess, WithdrawalIsJudged, LimitsExist, InsideIsDecided, LimitsJudge, StateExists, PriceExists, LeastExists, SidesExist, RightLimitsExist, OutcomeExists, CashFits, LeastCashFits};
+
+/// A price of at most one has an interval: its floor and its ceiling.
+pub fn price_is_covered()
+    ensures { PriceIsCovered }
+{}
+
+/// A factor of at least one has its cash.
+pub fn cash_exists()
+    ensures { CashExists }
+{}
+
+/// Its cash has an interval.
+pub fn cash_is_covered()
+    ensures { CashIsCovered }
+{}
+
+/// The cash of a factor of at most `2^m` is at most `m` times the points per bit.
+pub fn cash_is_bounded()
+    ensures { CashIsBounded }
+{}
+
+/// Some bits are the most that a factor of at least one covers.
+pub fn most_exists()
+    ensures { MostExists }
+{}
+
+/// What a factor covers is less than what it does not cover.
+pub fn covered_is_less()
+    ensures { CoveredIsLess }
+{}
+
+/// A withdrawal is covered, or more than the most that is.
+pub fn withdrawal_is_judged()
+    ensures { WithdrawalIsJudged }
+{}
+
+/// Two sides of positive prices have right limits.
+pub fn limits_exist()
+    ensures { LimitsExist }
+{}
+
+/// A share is inside of limits or not.
+pub fn inside_is_decided()
+    ensures { InsideIsDecided }
+{}
+
+/// Right limits judge each share: inside of them a fair and solvent pair takes the price there.
+pub fn limits_judge()
+    ensures { LimitsJudge }
+{}
+
+/// Some state stays possible.
+pub fn state_exists()
+    ensures { StateExists }
+{}
+
+/// Each question that can be asked has a positive exact price of at most one, and an interval that covers it.
+pub fn price_exists()
+    ensures { PriceExists }
+{}
+
+/// In a sound market each user has a least gain over the possible states, whose factor is at least one.
+pub fn least_exists()
+    ensures { LeastExists }
+{}
+
+/// In a sound market each question that can be asked has both sides, for each user.
+pub fn sides_exist()
+    ensures { SidesExist }
+{}
+
+/// And right limits.
+pub fn right_limits_exist()
+    ensures { RightLimitsExist }
+{}
+
+/// In a sound market whose variables are all resolved one state is left, and each user's factor in it is at least one.
+pub fn outcome_exists()
+    ensures { OutcomeExists }
+{}
+
+/// Within a market's bounds an interval that covers a user's cash in a state ends below `2^63`.
+pub fn cash_fits()
+    ensures { CashFits }
+{}
+
+/// And so does one that covers the cash of a user's least gain.
+pub fn least_cash_fits()
+    ensures { LeastCashFits }
+{}
