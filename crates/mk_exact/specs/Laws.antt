@@ -2,6 +2,7 @@
 use Rattle.std.specs.Prelude.{◌≡◌, ℕ, ◌+◌, ◌*◌, ◌^◌, ◌<◌, ◌≤◌, List, [], ◌∷◌, ◌++◌, map, length, slice_index, All, sum, sum_by}
 use Rattle.std.specs.List.{AllByRecursion}
 use Rattle.mk_net.specs.declared.words.Pair.{Pair}
+use Rattle.mk_net.specs.Bounds.{million}
 use Rattle.mk_net.specs.Network.{Variable, IsNetwork}
 use Rattle.mk_net.specs.Events.{AreApart}
 use Rattle.mk_net.specs.Asked.{Asked}
@@ -35,9 +36,9 @@ first_is value = record { target = record { variable = 0; value = value }; condi
 -- in an unused market of one question, the shares of its row are the weights, and together a million
 pub record OpensWithRow (v : Variable) (row : List ℕ) : Type 0 where
   pub weights : map (initial_weight (v ∷ [])) (all_states (v ∷ [])) ≡ row
-  pub initial : initial_total (v ∷ []) ≡ 1000000
+  pub initial : initial_total (v ∷ []) ≡ million
   pub each : (value : ℕ) → total (v ∷ []) [] (with_target (first_is value)) ≡ slice_index row value
-  pub all : total (v ∷ []) [] (holds []) ≡ 1000000
+  pub all : total (v ∷ []) [] (holds []) ≡ million
 
 abbrev pub SingleOpens : Type 0
 SingleOpens = (v : Variable) (row : List ℕ) → IsNetwork (v ∷ []) → v.parents ≡ [] → v.rows ≡ row ∷ [] → OpensWithRow v row
@@ -49,8 +50,8 @@ TotalNeverRises = (network : List Variable) (H : List Entry) (u : ℕ) (asked : 
 
 -- a price within 2^-27 of X parts in a million
 pub record IsNear (price : Fraction) (X : ℕ) : Type 0 where
-  pub above : 10 ^ 6 * price.num * 2 ^ 27 < (X * 2 ^ 27 + 10 ^ 6) * price.den
-  pub below : X * price.den * 2 ^ 27 < 10 ^ 6 * (price.num * 2 ^ 27 + price.den)
+  pub above : million * price.num * 2 ^ 27 < (X * 2 ^ 27 + million) * price.den
+  pub below : X * price.den * 2 ^ 27 < million * (price.num * 2 ^ 27 + price.den)
 
 -- a fair trade takes the exact price of its question to X parts in a million, to within 2^-27
 abbrev pub PriceMoves : Type 0
@@ -83,7 +84,7 @@ SoundAlways = (market : Market) (H : List Entry) → AreAccepted market [] H →
 
 -- a fair and solvent pair for X, as a quote's limits promise it, makes a safe trade
 abbrev pub FairPairIsSafe : Type 0
-FairPairIsSafe = (network : List Variable) (H : List Entry) (u : ℕ) (asked : Asked) (X F_t F_n : ℕ) → X ≤ 10 ^ 6 → IsPairOf network asked.target
+FairPairIsSafe = (network : List Variable) (H : List Entry) (u : ℕ) (asked : Asked) (X F_t F_n : ℕ) → X ≤ million → IsPairOf network asked.target
     → IsFairPair network H u asked X F_t F_n → IsSafeTrade network H u (ratio_in network asked F_t F_n)
 
 -- two pairs do not give one variable two values
@@ -127,7 +128,7 @@ SettlementBounded = (network : List Variable) (H : List Entry) (b : ℕ) → IsS
 
 -- each share of a state is 1 to a million, and each initial weight at least 1
 pub record HasShares (network : List Variable) (s : List ℕ) : Type 0 where
-  pub shares : (k : ℕ) → k < length network → (1 ≤ entry network k s) × (entry network k s ≤ 1000000)
+  pub shares : (k : ℕ) → k < length network → (1 ≤ entry network k s) × (entry network k s ≤ million)
   pub weight : 1 ≤ initial_weight network s
 
 abbrev pub SharesPositive : Type 0

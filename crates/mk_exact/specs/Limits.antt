@@ -1,5 +1,6 @@
 -- Right limits of an edit, for the exact numbers of its question.
 use Rattle.std.specs.Prelude.{ℕ, ◌+◌, ◌-◌, ◌*◌, ◌/◌, ◌^◌, ◌<◌, ◌≤◌, Option, Some, None, ◌↔◌}
+use Rattle.mk_net.specs.Bounds.{number_limit, million}
 use Rattle.mk_exact.specs.Ratios.{unit}
 use Rattle.mk_exact.specs.Factors.{Fraction}
 use Rattle.mk_exact.specs.Prices.{IsFair, IsSolvent}
@@ -16,13 +17,13 @@ pub record IsFairAndSolvent (small : Type 0) (side : Side) (X F : ℕ) : Type 0 
 
 -- X leaves the factor a little above one, and moves the price by at most 2^22
 pub record IsWanted (side : Side) (X : ℕ) : Type 0 where
-  pub above_one : side.least.den * 10 ^ 6 * side.price.num * (2 ^ 19 + 1) ≤ side.least.num * X * side.price.den * 2 ^ 19
-  pub not_far : X * side.price.den ≤ 2 ^ 22 * 10 ^ 6 * side.price.num
+  pub above_one : side.least.den * million * side.price.num * (2 ^ 19 + 1) ≤ side.least.num * X * side.price.den * 2 ^ 19
+  pub not_far : X * side.price.den ≤ 2 ^ 22 * million * side.price.num
 
 -- the exact floor of the units for X fits and is solvent
 abbrev pub IsFloorSolvent : Side → ℕ → Type 0
 IsFloorSolvent side X =
-    let F = X * unit * side.price.den / (10 ^ 6 * side.price.num) in (F < 2 ^ 63) × IsSolvent F side.least
+    let F = X * unit * side.price.den / (million * side.price.num) in (F < number_limit) × IsSolvent F side.least
 
 abbrev pub Inside : Option (ℕ × ℕ) → ℕ → Type 0
 Inside None X = ⊥
@@ -37,7 +38,7 @@ IsWithinRange (Some (low, high)) = (1 ≤ low) × (low ≤ high) × (high ≤ 99
 pub record AreRight (small : Type 0) (hit miss : Side) (limits : Option (ℕ × ℕ)) : Type 0 where
   pub in_range : IsWithinRange limits
   pub sound : (X : ℕ) → Inside limits X
-      → (F_t : ℕ) × (F_n : ℕ) × IsFairAndSolvent small hit X F_t × IsFairAndSolvent small miss (10 ^ 6 - X) F_n
-  pub near_complete : (X : ℕ) → 1 ≤ X → X ≤ 999999 → IsWanted hit X → IsWanted miss (10 ^ 6 - X) → Inside limits X
+      → (F_t : ℕ) × (F_n : ℕ) × IsFairAndSolvent small hit X F_t × IsFairAndSolvent small miss (million - X) F_n
+  pub near_complete : (X : ℕ) → 1 ≤ X → X ≤ 999999 → IsWanted hit X → IsWanted miss (million - X) → Inside limits X
   pub exact : small → (X : ℕ) → 1 ≤ X → X ≤ 999999
-      → Inside limits X ↔ (IsFloorSolvent hit X × IsFloorSolvent miss (10 ^ 6 - X))
+      → Inside limits X ↔ (IsFloorSolvent hit X × IsFloorSolvent miss (million - X))

@@ -1,6 +1,7 @@
 -- The exact price of a question, and what a printed price and a ratio owe it.
 use Rattle.std.specs.Prelude.{ℕ, ◌+◌, ◌-◌, ◌*◌, ◌^◌, ◌<◌, ◌≤◌, List, Bool}
 use Rattle.mk_net.specs.declared.words.Pair.{Pair}
+use Rattle.mk_net.specs.Bounds.{number_limit, million}
 use Rattle.mk_net.specs.Network.{Variable}
 use Rattle.mk_net.specs.Asked.{Asked}
 use Rattle.mk_exact.specs.Events.{holds, with_target}
@@ -29,10 +30,10 @@ pub record CoversPrice (small : Type 0) (price : Fraction) (low high : ℕ) : Ty
 -- F units take the price to X parts in a million and no further, and nearly so far
 pub record IsFair (small : Type 0) (F X : ℕ) (price : Fraction) : Type 0 where
   pub positive : 1 ≤ F
-  pub fits : F < 2 ^ 63
-  pub not_above : F * 10 ^ 6 * price.num ≤ X * unit * price.den
-  pub close : X * unit * price.den * (2 ^ 30 - 1) < (F + 1) * 10 ^ 6 * price.num * 2 ^ 30
-  pub floor : small → X * unit * price.den < (F + 1) * 10 ^ 6 * price.num
+  pub fits : F < number_limit
+  pub not_above : F * million * price.num ≤ X * unit * price.den
+  pub close : X * unit * price.den * (2 ^ 30 - 1) < (F + 1) * million * price.num * 2 ^ 30
+  pub floor : small → X * unit * price.den < (F + 1) * million * price.num
 
 -- F units leave a factor at least one
 abbrev pub IsSolvent : ℕ → Fraction → Type 0

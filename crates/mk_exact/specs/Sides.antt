@@ -1,5 +1,6 @@
 -- The two sides of a question, and the pairs of units that an edit of it may take.
-use Rattle.std.specs.Prelude.{◌≡◌, ℕ, ◌-◌, ◌^◌, ◌≤◌, List, [], ◌∷◌, ◌++◌, Bool, IsSomeAnd, IfSome, Option, slice_index}
+use Rattle.std.specs.Prelude.{◌≡◌, ℕ, ◌-◌, ◌≤◌, List, [], ◌∷◌, ◌++◌, Bool, IsSomeAnd, IfSome, Option, slice_index}
+use Rattle.mk_net.specs.Bounds.{million}
 use Rattle.mk_net.specs.Network.{Variable, sizes}
 use Rattle.mk_net.specs.Asked.{Asked, TradeRatio, question_ratio}
 use Rattle.mk_exact.specs.Events.{with_target, without_target}
@@ -32,7 +33,7 @@ pub record IsFairPair (network : List Variable) (H : List Entry) (u : ℕ) (aske
   pub miss : Side
   pub sides : AreSides network H u asked hit miss
   pub hit_units : IsFairAndSolvent (IsSmall network H) hit X F_t
-  pub miss_units : IsFairAndSolvent (IsSmall network H) miss (10 ^ 6 - X) F_n
+  pub miss_units : IsFairAndSolvent (IsSmall network H) miss (million - X) F_n
 
 -- the ratio of a trade on one question: so many units for its target, and so many for each other value of its variable
 abbrev pub ratio_in : List Variable → Asked → ℕ → ℕ → TradeRatio
@@ -44,9 +45,9 @@ traded network H u asked F_t F_n = H ++ Trade u (ratio_in network asked F_t F_n)
 
 -- the units are fair for X on the one side, and for the rest of a million on the other
 pub record AreFair (network : List Variable) (H : List Entry) (asked : Asked) (X F_t F_n : ℕ) : Type 0 where
-  pub share : X ≤ 10 ^ 6
+  pub share : X ≤ million
   pub hit : IsFair (IsSmall network H) F_t X (price_where network H asked.condition (with_target asked))
-  pub miss : IsFair (IsSmall network H) F_n (10 ^ 6 - X) (price_where network H asked.condition (without_target asked))
+  pub miss : IsFair (IsSmall network H) F_n (million - X) (price_where network H asked.condition (without_target asked))
 
 -- the units leave the user's least factor on each side at least one
 pub record AreSolvent (network : List Variable) (H : List Entry) (u : ℕ) (asked : Asked) (F_t F_n : ℕ) : Type 0 where

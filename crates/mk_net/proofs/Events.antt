@@ -3,7 +3,8 @@ use Rattle.std.specs.Prelude.{◌≡◌, ℕ, zero, suc, ◌-◌, ◌<◌, List,
 use Rattle.std.proofs.Common.{refl, sym, ap, ◌∙◌, arith, length-append, length-take}
 use Rattle.std.proofs.lemmas.Bool.{eqb-true, eq-eqb}
 use Rattle.mk_net.specs.declared.words.Pair.{Pair}
-use Rattle.mk_net.specs.Events.{speaks_of, AreApart, IsEvent, max_pairs}
+use Rattle.mk_net.specs.Bounds.{max_pairs}
+use Rattle.mk_net.specs.Events.{speaks_of, AreApart, IsEvent}
 use Rattle.mk_net.specs.KeptEvents.{IsKeptEvent, blank}
 
 pub same_place : (x y : ℕ) → (x == y) ≡ false → (y == x) ≡ false

@@ -1,7 +1,8 @@
 -- Questions and the ratios of trades, as numbers.
-use Rattle.std.specs.Prelude.{ℕ, ◌<◌, ◌≤◌, ◌^◌, List, [], ◌∷◌, ◌++◌, map, if◌then◌else◌, ◌==◌}
+use Rattle.std.specs.Prelude.{ℕ, ◌<◌, ◌≤◌, List, [], ◌∷◌, ◌++◌, map, if◌then◌else◌, ◌==◌}
 use Rattle.std.specs.List.{range_with_len}
 use Rattle.mk_net.specs.declared.words.Pair.{Pair}
+use Rattle.mk_net.specs.Bounds.{number_limit}
 
 -- a target pair, and the pairs of a condition
 pub record Asked : Type 0 where
@@ -11,7 +12,7 @@ pub record Asked : Type 0 where
 -- a number of units: 1 to 2^63 - 1
 pub record IsUnits (n : ℕ) : Type 0 where
   pub positive : 1 ≤ n
-  pub fits : n < 2 ^ 63
+  pub fits : n < number_limit
 
 -- a variable, a condition, and by how many units a trade multiplies the weight of a state with each of the variable's values
 pub record TradeRatio : Type 0 where

@@ -6,6 +6,7 @@ use Rattle.mk_net.specs.declared.key.Key.TheVariants.{Variable as VariableKey, V
 use Rattle.mk_net.specs.declared.fault.NetFault.{NetFault}
 use Rattle.mk_net.specs.declared.fault.NetFault.TheVariants.{Count, BadName, Repeat, Parent, Rows, Width, Entry, Sum}
 use Rattle.mk_net.specs.Name.{is_name}
+use Rattle.mk_net.specs.Bounds.{max_variables, max_values, max_parents, million}
 use Rattle.mk_net.specs.Texts.{same_text}
 use Rattle.mk_net.specs.Network.{Variable, choices}
 use Rattle.mk_net.specs.Drafts.{DraftOfVariable}
@@ -41,14 +42,14 @@ share (pos n) = n
 share (negsuc n) = 0
 
 abbrev pub is_share : ℤ → Bool
-is_share (pos n) = is_within 1 1000000 n
+is_share (pos n) = is_within 1 million n
 is_share (negsuc n) = false
 
 -- 2 to 16 values, and at most 8 parents
 abbrev pub count_at : ℕ → DraftOfVariable → Option NetFault
 count_at k v = or_else
-    (fault_if (not (is_within 2 16 (length v.values))) (Count Values k (pos (length v.values))))
-    (fault_if (nat_lt 8 (length v.parents)) (Count Parents k (pos (length v.parents))))
+    (fault_if (not (is_within 2 max_values (length v.values))) (Count Values k (pos (length v.values))))
+    (fault_if (nat_lt max_parents (length v.parents)) (Count Parents k (pos (length v.parents))))
 
 -- the variable and its values have names
 abbrev pub name_at : ℕ → DraftOfVariable → Option NetFault
@@ -83,7 +84,7 @@ entry_at k v = first_in (λ row entries. first_in (entry_of k row) 1 entries) 1 
 
 -- the entries of a row are a million together; each is a share here, since entries are tried before
 abbrev pub sum_of : ℕ → ℕ → List ℤ → Option NetFault
-sum_of k row entries = fault_if (not (sum (map share entries) == 1000000)) (Sum k row (pos (sum (map share entries))))
+sum_of k row entries = fault_if (not (sum (map share entries) == million)) (Sum k row (pos (sum (map share entries))))
 
 abbrev pub sum_at : ℕ → DraftOfVariable → Option NetFault
 sum_at k v = first_in (sum_of k) 1 v.rows
@@ -91,7 +92,7 @@ sum_at k v = first_in (sum_of k) 1 v.rows
 -- the first number of variables, values or parents that is not within its limits
 abbrev pub count_fault : List DraftOfVariable → Option NetFault
 count_fault draft = or_else
-    (fault_if (not (is_within 1 256 (length draft))) (Count VariableKey 0 (pos (length draft))))
+    (fault_if (not (is_within 1 max_variables (length draft))) (Count VariableKey 0 (pos (length draft))))
     (first_in count_at 1 draft)
 
 -- the first fault of another kind

@@ -3,10 +3,7 @@ use Rattle.std.specs.Prelude.{◌≡◌, ℕ, ◌≤◌, ⊤, List, [], ◌∷�
 use Rattle.std.specs.List.{list_any}
 use Rattle.mk_net.specs.declared.words.Pair.{Pair}
 use Rattle.mk_net.specs.Asked.{Asked}
-
--- the most pairs of an event
-abbrev pub max_pairs : ℕ
-max_pairs = 9
+use Rattle.mk_net.specs.Bounds.{max_pairs, max_condition}
 
 -- a pair of the list gives the variable a value
 abbrev pub speaks_of : List Pair → ℕ → Bool
@@ -24,7 +21,7 @@ pub record IsEvent (pairs : List Pair) : Type 0 where
 
 -- a condition of at most eight pairs that does not speak of the target's variable
 pub record IsQuestion (asked : Asked) : Type 0 where
-  pub few : length asked.condition ≤ 8
+  pub few : length asked.condition ≤ max_condition
   pub apart : AreApart asked.condition
   pub target_apart : speaks_of asked.condition asked.target.variable ≡ false
 

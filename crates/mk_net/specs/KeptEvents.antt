@@ -2,7 +2,8 @@
 use Rattle.std.specs.Prelude.{◌≡◌, ℕ, ◌-◌, ◌≤◌, List, ◌++◌, length, take, replicate}
 use Rattle.std.proofs.Common.{ap, ◌∙◌, arith, length-take}
 use Rattle.mk_net.specs.declared.words.Pair.{Pair}
-use Rattle.mk_net.specs.Events.{IsEvent, max_pairs}
+use Rattle.mk_net.specs.Bounds.{max_pairs}
+use Rattle.mk_net.specs.Events.{IsEvent}
 use Rattle.mk_net.specs.declared.event.Event.TheInside.{Inside}
 
 abbrev pub blank : Pair

@@ -1,4 +1,5 @@
 pub mod Name
+pub mod Bounds
 pub mod Network
 pub mod Asked
 pub mod Padded

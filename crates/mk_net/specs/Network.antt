@@ -2,6 +2,7 @@
 use Rattle.std.specs.Prelude.{◌≡◌, ◌≢◌, ℕ, ◌*◌, ◌<◌, ◌≤◌, List, [], ◌∷◌, length, map, sum, All, slice_index, slice_index_or}
 use Rattle.std.specs.List.{AllPairs}
 use Rattle.mk_net.specs.Name.{IsName}
+use Rattle.mk_net.specs.Bounds.{max_variables, max_values, max_parents, million}
 
 -- a variable: its name, the names of its values, its parents' numbers, and one row for each list of the parents' values
 pub record Variable : Type 0 where
@@ -23,7 +24,7 @@ choices values (p ∷ parents) = slice_index values p * choices values parents
 pub record IsRow (values : ℕ) (row : List ℕ) : Type 0 where
   pub one_each : length row ≡ values
   pub positive : All (λ n. 1 ≤ n) row
-  pub whole : sum row ≡ 1000000
+  pub whole : sum row ≡ million
 
 -- no two items of a list are the same
 abbrev pub AreDistinct : {X : Type 0} → List X → Type 0
@@ -33,10 +34,10 @@ AreDistinct {X} xs = AllPairs (λ (x y : X). x ≢ y) xs
 pub record IsVariable (values : List ℕ) (k : ℕ) (v : Variable) : Type 0 where
   pub name : IsName v.name
   pub two_values : 2 ≤ length v.values
-  pub few_values : length v.values ≤ 16
+  pub few_values : length v.values ≤ max_values
   pub values_named : All IsName v.values
   pub values_distinct : AreDistinct v.values
-  pub few_parents : length v.parents ≤ 8
+  pub few_parents : length v.parents ≤ max_parents
   pub parents_earlier : All (λ p. p < k) v.parents
   pub parents_distinct : AreDistinct v.parents
   pub one_row_each : length v.rows ≡ choices values v.parents
@@ -49,6 +50,6 @@ names network = map (λ (v : Variable). v.name) network
 -- a network: 1 to 256 variables of different names, each with earlier ones as parents
 pub record IsNetwork (network : List Variable) : Type 0 where
   pub some : 1 ≤ length network
-  pub few : length network ≤ 256
+  pub few : length network ≤ max_variables
   pub names_distinct : AreDistinct (names network)
   pub each : (k : ℕ) (d : Variable) → k < length network → IsVariable (sizes network) k (slice_index_or network k d)

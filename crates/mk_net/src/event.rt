@@ -1,7 +1,8 @@
 //! Events: lists of pairs that a state can have.
 
 ghost use Rattle.std.specs.Prelude.{◌≡◌, ◌++◌, ◌∷◌, [], ◌⊎◌, true, length, IfSome, IfNone};
-ghost use Rattle.mk_net.specs.Events.{speaks_of, IsEvent, max_pairs};
+ghost use Rattle.mk_net.specs.Bounds.{max_pairs};
+ghost use Rattle.mk_net.specs.Events.{speaks_of, IsEvent};
 
 use crate::words::Pair;
 use std::marker::Model;

@@ -1,6 +1,7 @@
 //! Questions: what is the probability of a value, where a condition holds?
 
 ghost use Rattle.std.specs.Prelude.{◌≡◌, ◌<◌, ◌⊎◌, true, length, IfSome, IfNone};
+ghost use Rattle.mk_net.specs.Bounds.{max_condition};
 ghost use Rattle.mk_net.specs.Events.{speaks_of, IsEvent, IsQuestion, pairs_asked};
 
 use crate::event::{Event, speaks_of};
@@ -38,7 +39,7 @@ impl Question {
     /// of the target's variable.
     pub fn make(target: Pair, condition: Event) -> Option<Question>
         ensures some { IfSome result (λ asked. asked ≡ record { target = target; condition = condition }) }
-        ensures none { IfNone result ((8 < length condition) ⊎ (speaks_of condition target.variable ≡ true)) }
+        ensures none { IfNone result ((max_condition < length condition) ⊎ (speaks_of condition target.variable ≡ true)) }
         ensures question { IfSome result (λ asked. IsQuestion asked) }
     {
         let pairs = condition.pairs();

@@ -1,6 +1,7 @@
 //! Sets of variables.
 
 ghost use Rattle.std.specs.Prelude.{◌≡◌, ℕ, ◌<◌, ◌≤◌, ◌&&◌, ◌||◌, ◌==◌, ◌↔◌, not, true, false, IsTrue, IfSome, IfNone};
+ghost use Rattle.mk_net.specs.Bounds.{max_variables};
 ghost use Rattle.mk_net.specs.Sets.{is_member, IsSubset, no_variables, with_member};
 
 /// A set of variables below 256, one bit for each: those below 128 in `low`.
@@ -21,7 +22,7 @@ impl VarSet {
 
     /// The set with one variable more.
     pub fn with(&self, variable: u32) -> VarSet
-        requires { variable < 256 }
+        requires { variable < max_variables }
         ensures members { (x : ℕ) → is_member result x ≡ (x == variable) || is_member self.now x }
         ensures set { result ≡ with_member variable self.now }
     {
@@ -98,7 +99,7 @@ impl VarSet {
     pub fn first(&self) -> Option<u32>
         ensures member { IfSome result (λ x. is_member self.now x ≡ true) }
         ensures least { IfSome result (λ x. (y : ℕ) → y < x → is_member self.now y ≡ false) }
-        ensures below { IfSome result (λ x. x < 256) }
+        ensures below { IfSome result (λ x. x < max_variables) }
         ensures none { IfNone result ((x : ℕ) → is_member self.now x ≡ false) }
     {
         if self.low != 0 {

@@ -2,6 +2,7 @@
 
 ghost use Rattle.std.specs.Prelude.{◌≡◌, ◌<◌, ◌≤◌, ◌==◌, if◌then◌else◌};
 ghost use Rattle.mk_net.specs.Asked.{IsUnits, ratio_pairs, question_ratio};
+ghost use Rattle.mk_net.specs.Bounds.{max_values};
 ghost use Rattle.mk_net.specs.Events.{IsEvent};
 ghost use Rattle.mk_net.specs.Trades.{trade_ratio};
 
@@ -18,7 +19,7 @@ impl Ratio {
     #[tactic(auto, using(crate::proofs::UnitsOf::factors_more, crate::proofs::UnitsOf::factors_length, crate::proofs::UnitsOf::factors_are_units))]
     pub fn of_question(question: &Question, values: u32, hit: u64, miss: u64) -> Ratio
         requires two_values { 2 ≤ values }
-        requires few_values { values ≤ 16 }
+        requires few_values { values ≤ max_values }
         requires target { question.now.target.value < values }
         requires hit { IsUnits hit }
         requires miss { IsUnits miss }

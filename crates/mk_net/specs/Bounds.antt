@@ -1,0 +1,50 @@
+-- How much there may be of each thing in a market: each limit has its name here.
+use Rattle.std.specs.Prelude.{ℕ, ◌+◌, ◌^◌}
+
+-- variables of a network, values of a variable, and parents of one
+abbrev pub max_variables : ℕ
+max_variables = 256
+
+abbrev pub max_values : ℕ
+max_values = 16
+
+abbrev pub max_parents : ℕ
+max_parents = 8
+
+-- pairs of a condition, and of an event: a condition and a target
+abbrev pub max_condition : ℕ
+max_condition = 8
+
+abbrev pub max_pairs : ℕ
+max_pairs = max_condition + 1
+
+-- cliques of a market, cells of one, and cells of all
+abbrev pub max_cliques : ℕ
+max_cliques = 256
+
+abbrev pub max_clique_cells : ℕ
+max_clique_cells = 4096
+
+abbrev pub max_cells : ℕ
+max_cells = 32768
+
+-- users, trades and transfers of a market, and bits of one transfer
+abbrev pub max_users : ℕ
+max_users = 256
+
+abbrev pub max_market_trades : ℕ
+max_market_trades = 65536
+
+abbrev pub max_transfers : ℕ
+max_transfers = 65536
+
+abbrev pub max_transfer_bits : ℕ
+max_transfer_bits = 1000
+
+-- numbers that are printed are below this
+abbrev pub number_limit : ℕ
+number_limit = 2 ^ 63
+
+-- shares and prices that are asked for are parts of a million
+abbrev pub million : ℕ
+million = 1000000
