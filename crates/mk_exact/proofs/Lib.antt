@@ -9,5 +9,6 @@ pub mod Next
 pub mod Single
 pub mod Range
 pub mod Positive
+pub mod ExistNumbers
 pub mod Gains
 pub mod Remains

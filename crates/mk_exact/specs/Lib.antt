@@ -14,5 +14,6 @@ pub mod Market
 pub mod Sides
 pub mod Accepted
 pub mod Laws
+pub mod Existing
 pub mod Examples
 pub mod Lawful

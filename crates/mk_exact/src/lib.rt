@@ -4,6 +4,7 @@
 
 mod changes;
 mod examples;
+mod existing;
 mod opening;
 mod settling;
 mod trading;
@@ -12,6 +13,9 @@ pub use changes::{fair_pair_is_safe, proper_next, sound_always, sound_next, stat
 pub use examples::{
     example_cash, example_condition, example_limits, example_networks, example_prices,
     example_safety, example_trade, example_traders, example_weights,
+};
+pub use existing::{
+    cash_exists, cash_is_bounded, cash_is_covered, most_exists, most_is_less, price_is_covered,
 };
 pub use opening::{begins_sound, shares_positive, single_opens, weights_begin, weights_positive};
 pub use settling::{gains_bounded, settlement_bounded};

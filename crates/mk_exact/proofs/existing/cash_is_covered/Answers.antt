@@ -1,0 +1,5 @@
+use Rattle.mk_exact.proofs.existing.cash_is_covered.Goals as goal
+use Rattle.mk_exact.proofs.ExistNumbers.{cash_is_covered}
+
+pub returns : goal.returns
+returns c = cash_is_covered
