@@ -10,5 +10,6 @@ pub mod Single
 pub mod Range
 pub mod Positive
 pub mod ExistNumbers
+pub mod ExistLimits
 pub mod Gains
 pub mod Remains

@@ -30,3 +30,18 @@ pub fn most_exists()
 pub fn most_is_less()
     ensures { MostIsLess }
 {}
+
+/// Two sides of positive prices have right limits.
+pub fn limits_exist()
+    ensures { LimitsExist }
+{}
+
+/// A share is inside of limits or not.
+pub fn inside_is_decided()
+    ensures { InsideIsDecided }
+{}
+
+/// Right limits judge each share: inside of them a fair and solvent pair takes the price there.
+pub fn limits_judge()
+    ensures { LimitsJudge }
+{}

@@ -15,7 +15,8 @@ pub use examples::{
     example_safety, example_trade, example_traders, example_weights,
 };
 pub use existing::{
-    cash_exists, cash_is_bounded, cash_is_covered, most_exists, most_is_less, price_is_covered,
+    cash_exists, cash_is_bounded, cash_is_covered, inside_is_decided, limits_exist, limits_judge,
+    most_exists, most_is_less, price_is_covered,
 };
 pub use opening::{begins_sound, shares_positive, single_opens, weights_begin, weights_positive};
 pub use settling::{gains_bounded, settlement_bounded};
