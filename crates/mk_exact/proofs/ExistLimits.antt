@@ -45,19 +45,25 @@ module _ (P : ℕ → Type 0) (decide : (X : ℕ) → P X ⊎ (¬ P X)) (convex 
           same last = omega arith
 
   with_one : (n : ℕ) (limits : Option (ℕ × ℕ)) → P (suc n) → Hold P n limits → (wider : Option (ℕ × ℕ)) × Hold P (suc n) wider
-  with_one n None passing h = (Some (suc n, suc n), record {
-    in_range = (omega arith, le_refl (suc n), le_refl (suc n));
-    passes = λ X i. subst P (same X (i.0) (i.1)) passing;
-    each = λ X p q passes. elim (cases_lt n X) [ inl last ↦ (last, q) | inr less ↦ absurd (h.each X p less passes) ];
-  })
+  with_one n None passing h = (
+    Some (suc n, suc n),
+    record {
+      in_range = (omega arith, le_refl (suc n), le_refl (suc n));
+      passes = λ X i. subst P (same X (i.0) (i.1)) passing;
+      each = λ X p q passes. elim (cases_lt n X) [ inl last ↦ (last, q) | inr less ↦ absurd (h.each X p less passes) ];
+    },
+  )
     where
       same : (X : ℕ) → suc n ≤ X → X ≤ suc n → suc n ≡ X
       same X p q = omega arith
-  with_one n (Some (low, high)) passing h = (Some (low, suc n), record {
-    in_range = (h.in_range.0, omega (arith, h.in_range.1, h.in_range.2), le_refl (suc n));
-    passes = λ X i. convex low X (suc n) (i.0) (i.1) (h.passes low (le_refl low, h.in_range.1)) passing;
-    each = λ X p q passes. (from_low X p q passes, q);
-  })
+  with_one n (Some (low, high)) passing h = (
+    Some (low, suc n),
+    record {
+      in_range = (h.in_range.0, omega (arith, h.in_range.1, h.in_range.2), le_refl (suc n));
+      passes = λ X i. convex low X (suc n) (i.0) (i.1) (h.passes low (le_refl low, h.in_range.1)) passing;
+      each = λ X p q passes. (from_low X p q passes, q);
+    },
+  )
     where
       from_low : (X : ℕ) → 1 ≤ X → X ≤ suc n → P X → low ≤ X
       from_low X p q passes = elim (cases_lt n X) [ inl last ↦ omega (arith, h.in_range.1, h.in_range.2) | inr less ↦ (h.each X p less passes).0 ]

@@ -1,14 +1,15 @@
 -- Intervals of prices, cash and whole bits exist.
-use Rattle.std.proofs.Common.{◌≡◌, ℕ, zero, suc, ◌+◌, ◌-◌, ◌*◌, ◌/◌, ◌^◌, ◌<◌, ◌≤◌, sym, ap, ◌∙◌, inl, inr, arith, add-one, le_refl, le_trans, lt_of_lt_of_le}
+use Rattle.std.proofs.Common.{◌≡◌, ℕ, zero, suc, ◌+◌, ◌-◌, ◌*◌, ◌/◌, ◌^◌, ◌<◌, ◌≤◌, ◌⊎◌, sym, ap, ◌∙◌, inl, inr, arith, add-one, le_refl, le_trans, lt_of_lt_of_le}
 use Rattle.std.specs.Bool.{⊤}
 use Rattle.std.proofs.Math.Nat.{div-mul-le_self, lt-div-mul-add, mul-le-mul_left, mul-le-mul_right, le-mul_of_pos_right, le_of_mul-le-mul_right, lt_of_mul-lt-mul_right, pow-zero, pow-suc, pow-le-pow_left, pow-le-pow_right, one-le-pow}
 use Rattle.std.proofs.lemmas.Nat.{mul-pow, pow-add}
 use Rattle.std.proofs.Math.Pow.{pow-lt}
 use Rattle.std.proofs.lemmas.Bool.{cases_lt}
-use Rattle.mk_exact.specs.Factors.{Fraction, IsAtLeastOne}
+use Rattle.mk_exact.specs.Factors.{Fraction}
 use Rattle.mk_exact.specs.Prices.{CoversPrice}
 use Rattle.mk_exact.specs.Cash.{IsCash, CoversCash}
 use Rattle.mk_exact.specs.Accepted.{Covers, IsMost}
+use Rattle.mk_exact.specs.Existing.{IsSafeFactor}
 
 -- ---- prices
 
@@ -71,14 +72,14 @@ power_less k m d n p q = elim (cases_lt k m) [ inl h ↦ h | inr h ↦ absurd (w
         let l : 2 ^ m * d ≤ 2 ^ k * d = mul-le-mul_right d (pow-le-pow_right {n = 2} (omega arith) h) in
         omega arith
 
-pub cash_exists : (q : Fraction) (b : ℕ) → 1 ≤ q.den → IsAtLeastOne q → (cash : ℕ) × IsCash q b cash
-cash_exists q b p h = is_cash (greatest_power (q.num ^ b) (q.den ^ b) (one-le-pow b q.den p) (pow-le-pow_left h b))
+pub cash_exists : (q : Fraction) (b : ℕ) → IsSafeFactor q → (cash : ℕ) × IsCash q b cash
+cash_exists q b safe = is_cash (greatest_power (q.num ^ b) (q.den ^ b) (one-le-pow b q.den safe.divides) (pow-le-pow_left safe.at_least_one b))
   where
     is_cash : (k : ℕ) × (2 ^ k * q.den ^ b ≤ q.num ^ b) × (q.num ^ b < 2 ^ (k + 1) * q.den ^ b) → (cash : ℕ) × IsCash q b cash
     is_cash k = (k.0, record { covered = k.1; greatest = k.2 })
 
-pub cash_is_covered : (q : Fraction) (b : ℕ) → 1 ≤ q.den → IsAtLeastOne q → (low : ℕ) × (high : ℕ) × CoversCash q b low high
-cash_is_covered q b p h = covers (cash_exists q b p h)
+pub cash_is_covered : (q : Fraction) (b : ℕ) → IsSafeFactor q → (low : ℕ) × (high : ℕ) × CoversCash q b low high
+cash_is_covered q b safe = covers (cash_exists q b safe)
   where
     covers : (cash : ℕ) × IsCash q b cash → (low : ℕ) × (high : ℕ) × CoversCash q b low high
     covers c = (c.0, c.0, record { cash = c.0; is_cash = c.1; above = le_refl (c.0); below = le_refl (c.0); narrow = omega arith })
@@ -102,8 +103,8 @@ cash_is_bounded q b m cash p h c =
     at_most : q.num ^ b ≤ 2 ^ (m * b) * q.den ^ b
     at_most = rw (← power_of_power m b, ← mul-pow (2 ^ m) q.den b) (pow-le-pow_left h b)
 
-pub most_exists : (q : Fraction) → 1 ≤ q.den → IsAtLeastOne q → (k : ℕ) × IsMost ⊤ q k
-most_exists q p h = is_most (greatest_power q.num q.den p h)
+pub most_exists : (q : Fraction) → IsSafeFactor q → (k : ℕ) × IsMost ⊤ q k
+most_exists q safe = is_most (greatest_power q.num q.den safe.divides safe.at_least_one)
   where
     nearly : (n m : ℕ) → n < m → n * (2 ^ 40 - 1) < m * 2 ^ 40
     nearly n m h = omega arith
@@ -111,8 +112,15 @@ most_exists q p h = is_most (greatest_power q.num q.den p h)
     is_most : (k : ℕ) × (2 ^ k * q.den ≤ q.num) × (q.num < 2 ^ (k + 1) * q.den) → (k : ℕ) × IsMost ⊤ q k
     is_most k = (k.0, record { within = k.1; nearly = let l : q.num * (2 ^ 40 - 1) < 2 ^ (k.0 + 1) * q.den * 2 ^ 40 = nearly _ _ (k.2) in omega arith; exactly = λ _. k.2 })
 
-pub most_is_less : (q : Fraction) (k bits : ℕ) → Covers q k → ¬ Covers q bits → k < bits
-most_is_less q k bits p h = elim (cases_lt q.num (2 ^ bits * q.den)) [ inl more ↦ power_less k bits q.den q.num p more | inr less ↦ absurd (h less) ]
+pub covered_is_less : (q : Fraction) (k bits : ℕ) → Covers q k → ¬ Covers q bits → k < bits
+covered_is_less q k bits p h = elim (cases_lt q.num (2 ^ bits * q.den)) [ inl more ↦ power_less k bits q.den q.num p more | inr less ↦ absurd (h less) ]
+
+pub withdrawal_is_judged : (q : Fraction) (bits : ℕ) → IsSafeFactor q → Covers q bits ⊎ ((most : ℕ) × (most < bits) × IsMost ⊤ q most)
+withdrawal_is_judged q bits safe = judge (cases_lt q.num (2 ^ bits * q.den)) (most_exists q safe)
+  where
+    judge : (q.num < 2 ^ bits * q.den) ⊎ Covers q bits → (k : ℕ) × IsMost ⊤ q k → Covers q bits ⊎ ((most : ℕ) × (most < bits) × IsMost ⊤ q most)
+    judge (inr covered) _ = inl covered
+    judge (inl more) k = inr (k.0, power_less (k.0) bits q.den q.num (k.1).within more, k.1)
 
 -- what serves the small case serves any
 pub most_in : (small : Type 0) (q : Fraction) (k : ℕ) → IsMost ⊤ q k → IsMost small q k

@@ -13,3 +13,4 @@ pub mod ExistNumbers
 pub mod ExistLimits
 pub mod Gains
 pub mod Remains
+pub mod ExistMarkets

@@ -1,15 +1,34 @@
--- What exists: an answer to each line that a market can be asked, in numbers. Where a law says ⊤ for the small case, it gives
--- what the small case asks for, and so what any case does.
-use Rattle.std.specs.Prelude.{ℕ, ◌*◌, ◌^◌, ◌<◌, ◌≤◌, ⊤, ◌⊎◌, List, Option}
-use Rattle.mk_net.specs.Network.{Variable}
+-- What exists: an allowed answer to each line that a market can be asked, in numbers. Where a law says ⊤ for the small case, it
+-- gives what the small case asks for, and so what any case does.
+use Rattle.std.specs.Prelude.{◌≡◌, ℕ, ◌*◌, ◌^◌, ◌<◌, ◌≤◌, false, ⊤, ◌⊎◌, List, Option, Some}
+use Rattle.std.specs.List.{AllByRecursion}
+use Rattle.mk_net.specs.Network.{Variable, IsNetwork}
 use Rattle.mk_net.specs.Asked.{Asked}
-use Rattle.mk_exact.specs.History.{Entry}
-use Rattle.mk_exact.specs.Factors.{Fraction, IsAtLeastOne}
-use Rattle.mk_exact.specs.Prices.{CoversPrice}
+use Rattle.mk_net.specs.Events.{speaks_of, AreApart}
+use Rattle.mk_exact.specs.Events.{always}
+use Rattle.mk_exact.specs.History.{Entry, resolutions}
+use Rattle.mk_exact.specs.Weight.{IsSmall}
+use Rattle.mk_exact.specs.Factors.{Fraction, factor_with, least_gain, IsAtLeastOne}
+use Rattle.mk_exact.specs.Prices.{CoversPrice, exact_price}
 use Rattle.mk_exact.specs.Cash.{IsCash, CoversCash}
 use Rattle.mk_exact.specs.Accepted.{Covers, IsMost}
 use Rattle.mk_exact.specs.Limits.{Side, Inside, AreRight}
-use Rattle.mk_exact.specs.Sides.{AreRightLimits, IsFairPair}
+use Rattle.mk_exact.specs.Sound.{IsSound}
+use Rattle.mk_exact.specs.Proper.{IsQuestionOf, IsProper}
+use Rattle.mk_exact.specs.Sides.{AreSides, AreRightLimits, IsFairPair}
+use Rattle.mk_exact.specs.Laws.{AgreesWith}
+
+-- ---- numbers
+
+-- a price that is positive and at most one
+pub record IsPositivePrice (price : Fraction) : Type 0 where
+  pub positive : 1 ≤ price.num
+  pub at_most_one : price.num ≤ price.den
+
+-- a factor of at least one, with something below the line
+pub record IsSafeFactor (q : Fraction) : Type 0 where
+  pub divides : 1 ≤ q.den
+  pub at_least_one : IsAtLeastOne q
 
 -- a price of at most one has an interval, its floor and its ceiling
 abbrev pub PriceIsCovered : Type 0
@@ -17,28 +36,27 @@ PriceIsCovered = (price : Fraction) → 1 ≤ price.den → price.num ≤ price.
 
 -- a factor of at least one has its cash
 abbrev pub CashExists : Type 0
-CashExists = (q : Fraction) (b : ℕ) → 1 ≤ q.den → IsAtLeastOne q → (cash : ℕ) × IsCash q b cash
+CashExists = (q : Fraction) (b : ℕ) → IsSafeFactor q → (cash : ℕ) × IsCash q b cash
 
 -- and an interval that covers it
 abbrev pub CashIsCovered : Type 0
-CashIsCovered = (q : Fraction) (b : ℕ) → 1 ≤ q.den → IsAtLeastOne q → (low : ℕ) × (high : ℕ) × CoversCash q b low high
+CashIsCovered = (q : Fraction) (b : ℕ) → IsSafeFactor q → (low : ℕ) × (high : ℕ) × CoversCash q b low high
 
 -- the cash of a factor of at most 2^m is at most m times the points per bit
 abbrev pub CashIsBounded : Type 0
 CashIsBounded = (q : Fraction) (b m cash : ℕ) → 1 ≤ q.den → q.num ≤ 2 ^ m * q.den → IsCash q b cash → cash ≤ m * b
 
--- of a factor of at least one some bits, none or more, are the most that it covers
+-- some bits, none or more, are the most that a factor of at least one covers
 abbrev pub MostExists : Type 0
-MostExists = (q : Fraction) → 1 ≤ q.den → IsAtLeastOne q → (k : ℕ) × IsMost ⊤ q k
+MostExists = (q : Fraction) → IsSafeFactor q → (k : ℕ) × IsMost ⊤ q k
 
--- they are fewer than any that it does not cover
-abbrev pub MostIsLess : Type 0
-MostIsLess = (q : Fraction) (k bits : ℕ) → Covers q k → ¬ Covers q bits → k < bits
+-- what a factor covers is less than what it does not cover
+abbrev pub CoveredIsLess : Type 0
+CoveredIsLess = (q : Fraction) (k bits : ℕ) → Covers q k → ¬ Covers q bits → k < bits
 
--- a price that is positive and at most one
-pub record IsPositivePrice (price : Fraction) : Type 0 where
-  pub positive : 1 ≤ price.num
-  pub at_most_one : price.num ≤ price.den
+-- a withdrawal is covered, or more than the most that is
+abbrev pub WithdrawalIsJudged : Type 0
+WithdrawalIsJudged = (q : Fraction) (bits : ℕ) → IsSafeFactor q → Covers q bits ⊎ ((most : ℕ) × (most < bits) × IsMost ⊤ q most)
 
 -- two sides have right limits, none or some
 abbrev pub LimitsExist : Type 0
@@ -48,6 +66,8 @@ LimitsExist = (hit miss : Side) → IsPositivePrice hit.price → IsPositivePric
 abbrev pub InsideIsDecided : Type 0
 InsideIsDecided = (limits : Option (ℕ × ℕ)) (X : ℕ) → Inside limits X ⊎ (¬ Inside limits X)
 
+-- ---- markets
+
 -- a fair and solvent pair for X
 abbrev pub HasFairPair : List Variable → List Entry → ℕ → Asked → ℕ → Type 0
 HasFairPair network H u asked X = (F_t : ℕ) × (F_n : ℕ) × IsFairPair network H u asked X F_t F_n
@@ -56,3 +76,58 @@ HasFairPair network H u asked X = (F_t : ℕ) × (F_n : ℕ) × IsFairPair netwo
 abbrev pub LimitsJudge : Type 0
 LimitsJudge = (network : List Variable) (H : List Entry) (u : ℕ) (asked : Asked) (limits : Option (ℕ × ℕ)) (X : ℕ)
     → AreRightLimits network H u asked limits → (Inside limits X × HasFairPair network H u asked X) ⊎ (¬ Inside limits X)
+
+-- a question that can be asked: its pairs are the network's, its condition gives no variable two values and its target's none,
+-- and no resolution gives the target's variable a value, or a variable of the condition another
+pub record CanBeAsked (network : List Variable) (H : List Entry) (asked : Asked) : Type 0 where
+  pub in_range : IsQuestionOf network asked
+  pub apart : AreApart asked.condition
+  pub target_apart : speaks_of asked.condition asked.target.variable ≡ false
+  pub unresolved : speaks_of (resolutions H) asked.target.variable ≡ false
+  pub agrees : AllByRecursion (λ p. AllByRecursion (AgreesWith p) (resolutions H)) asked.condition
+
+-- a positive exact price of at most one, and an interval that covers it
+pub record HasPrice (network : List Variable) (H : List Entry) (asked : Asked) : Type 0 where
+  pub exact : IsPositivePrice (exact_price network H asked)
+  pub low : ℕ
+  pub high : ℕ
+  pub covers : CoversPrice (IsSmall network H) (exact_price network H asked) low high
+
+-- each question that can be asked has a price
+abbrev pub PriceExists : Type 0
+PriceExists = (network : List Variable) (H : List Entry) (asked : Asked) → IsNetwork network → IsProper network H
+    → CanBeAsked network H asked → HasPrice network H asked
+
+-- a user's least gain over the possible states, whose factor is at least one
+pub record HasLeast (network : List Variable) (H : List Entry) (u : ℕ) : Type 0 where
+  pub least : ℕ
+  pub is_least : least_gain network H u always ≡ Some least
+  pub safe : IsSafeFactor (factor_with H u least)
+
+-- in a sound market each user has one
+abbrev pub LeastExists : Type 0
+LeastExists = (network : List Variable) (H : List Entry) (u : ℕ) → IsNetwork network → IsProper network H → IsSound network H
+    → HasLeast network H u
+
+-- a positive price of at most one, and a factor of at least one
+pub record IsOpenSide (side : Side) : Type 0 where
+  pub price : IsPositivePrice side.price
+  pub least : IsSafeFactor side.least
+
+-- the two sides of a question
+pub record HasSides (network : List Variable) (H : List Entry) (u : ℕ) (asked : Asked) : Type 0 where
+  pub hit : Side
+  pub miss : Side
+  pub sides : AreSides network H u asked hit miss
+  pub hit_open : IsOpenSide hit
+  pub miss_open : IsOpenSide miss
+
+-- in a sound market each question that can be asked has both sides, for each user
+abbrev pub SidesExist : Type 0
+SidesExist = (network : List Variable) (H : List Entry) (u : ℕ) (asked : Asked) → IsNetwork network → IsProper network H → IsSound network H
+    → CanBeAsked network H asked → HasSides network H u asked
+
+-- and right limits
+abbrev pub RightLimitsExist : Type 0
+RightLimitsExist = (network : List Variable) (H : List Entry) (u : ℕ) (asked : Asked) → IsNetwork network → IsProper network H → IsSound network H
+    → CanBeAsked network H asked → (limits : Option (ℕ × ℕ)) × AreRightLimits network H u asked limits

@@ -1,5 +1,5 @@
 //! What exists: an answer to each line that a market can be asked.
-ghost use Rattle.mk_exact.specs.Existing.{PriceIsCovered, CashExists, CashIsCovered, CashIsBounded, MostExists, MostIsLess, LimitsExist, InsideIsDecided, LimitsJudge};
+ghost use Rattle.mk_exact.specs.Existing.{PriceIsCovered, CashExists, CashIsCovered, CashIsBounded, MostExists, CoveredIsLess, WithdrawalIsJudged, LimitsExist, InsideIsDecided, LimitsJudge, PriceExists, LeastExists, SidesExist, RightLimitsExist};
 
 /// A price of at most one has an interval: its floor and its ceiling.
 pub fn price_is_covered()
@@ -26,9 +26,14 @@ pub fn most_exists()
     ensures { MostExists }
 {}
 
-/// The most bits that a factor covers are fewer than any that it does not cover.
-pub fn most_is_less()
-    ensures { MostIsLess }
+/// What a factor covers is less than what it does not cover.
+pub fn covered_is_less()
+    ensures { CoveredIsLess }
+{}
+
+/// A withdrawal is covered, or more than the most that is.
+pub fn withdrawal_is_judged()
+    ensures { WithdrawalIsJudged }
 {}
 
 /// Two sides of positive prices have right limits.
@@ -44,4 +49,24 @@ pub fn inside_is_decided()
 /// Right limits judge each share: inside of them a fair and solvent pair takes the price there.
 pub fn limits_judge()
     ensures { LimitsJudge }
+{}
+
+/// Each question that can be asked has a positive exact price of at most one, and an interval that covers it.
+pub fn price_exists()
+    ensures { PriceExists }
+{}
+
+/// In a sound market each user has a least gain over the possible states, whose factor is at least one.
+pub fn least_exists()
+    ensures { LeastExists }
+{}
+
+/// In a sound market each question that can be asked has both sides, for each user.
+pub fn sides_exist()
+    ensures { SidesExist }
+{}
+
+/// And right limits.
+pub fn right_limits_exist()
+    ensures { RightLimitsExist }
 {}

@@ -15,8 +15,9 @@ pub use examples::{
     example_safety, example_trade, example_traders, example_weights,
 };
 pub use existing::{
-    cash_exists, cash_is_bounded, cash_is_covered, inside_is_decided, limits_exist, limits_judge,
-    most_exists, most_is_less, price_is_covered,
+    cash_exists, cash_is_bounded, cash_is_covered, covered_is_less, inside_is_decided,
+    least_exists, limits_exist, limits_judge, most_exists, price_exists, price_is_covered,
+    right_limits_exist, sides_exist, withdrawal_is_judged,
 };
 pub use opening::{begins_sound, shares_positive, single_opens, weights_begin, weights_positive};
 pub use settling::{gains_bounded, settlement_bounded};
