@@ -78,7 +78,7 @@ least_exists {X} f P (x ∷ xs) some h = at (least_by f xs) (of_least f P xs h.1
 
 -- ---- a market's possible states
 
-safe_factor : (H : List Entry) (u g : ℕ) → IsAtLeastOne (factor_with H u g) → IsSafeFactor (factor_with H u g)
+pub safe_factor : (H : List Entry) (u g : ℕ) → IsAtLeastOne (factor_with H u g) → IsSafeFactor (factor_with H u g)
 safe_factor H u g h = record { divides = one-le-mul (one-le-pow (withdrawn H u) 2 (omega arith)) (one-le-pow (trade_count H u) unit (omega arith)); at_least_one = h }
 
 module _ (network : List Variable) (H : List Entry) where
@@ -122,7 +122,7 @@ module _ (network : List Variable) (H : List Entry) where
       is_side = rw (least.1) refl
 
 module _ (network : List Variable) (H : List Entry) (net : IsNetwork network) (proper : IsProper network H) where
-  some_possible : 1 ≤ length (possible_states network H always)
+  pub some_possible : 1 ≤ length (possible_states network H always)
   some_possible = passing_stay network H (holds []) always (λ s e. refl) (state_remains network H [] net proper tt tt tt)
 
   pub least_exists_for : (u : ℕ) → IsSound network H → HasLeast network H u

@@ -14,3 +14,4 @@ pub mod ExistLimits
 pub mod Gains
 pub mod Remains
 pub mod ExistMarkets
+pub mod ExistOutcome

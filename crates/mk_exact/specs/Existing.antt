@@ -1,14 +1,14 @@
 -- What exists: an allowed answer to each line that a market can be asked, in numbers. Where a law says ⊤ for the small case, it
 -- gives what the small case asks for, and so what any case does.
-use Rattle.std.specs.Prelude.{◌≡◌, ℕ, ◌*◌, ◌^◌, ◌<◌, ◌≤◌, false, ⊤, ◌⊎◌, List, Option, Some}
+use Rattle.std.specs.Prelude.{◌≡◌, ℕ, ◌*◌, ◌^◌, ◌<◌, ◌≤◌, true, false, ⊤, ◌⊎◌, List, [], ◌∷◌, length, Option, Some}
 use Rattle.std.specs.List.{AllByRecursion}
 use Rattle.mk_net.specs.Network.{Variable, IsNetwork}
 use Rattle.mk_net.specs.Asked.{Asked}
 use Rattle.mk_net.specs.Events.{speaks_of, AreApart}
 use Rattle.mk_exact.specs.Events.{always}
 use Rattle.mk_exact.specs.History.{Entry, resolutions}
-use Rattle.mk_exact.specs.Weight.{IsSmall}
-use Rattle.mk_exact.specs.Factors.{Fraction, factor_with, least_gain, IsAtLeastOne}
+use Rattle.mk_exact.specs.Weight.{possible_states, IsSmall}
+use Rattle.mk_exact.specs.Factors.{Fraction, factor, factor_with, least_gain, IsAtLeastOne}
 use Rattle.mk_exact.specs.Prices.{CoversPrice, exact_price}
 use Rattle.mk_exact.specs.Cash.{IsCash, CoversCash}
 use Rattle.mk_exact.specs.Accepted.{Covers, IsMost}
@@ -131,3 +131,14 @@ SidesExist = (network : List Variable) (H : List Entry) (u : ℕ) (asked : Asked
 abbrev pub RightLimitsExist : Type 0
 RightLimitsExist = (network : List Variable) (H : List Entry) (u : ℕ) (asked : Asked) → IsNetwork network → IsProper network H → IsSound network H
     → CanBeAsked network H asked → (limits : Option (ℕ × ℕ)) × AreRightLimits network H u asked limits
+
+-- the one state that is possible; each user's factor in it is at least one
+pub record HasOutcome (network : List Variable) (H : List Entry) : Type 0 where
+  pub state : List ℕ
+  pub one_state : possible_states network H always ≡ state ∷ []
+  pub safe : (u : ℕ) → IsSafeFactor (factor H u state)
+
+-- in a sound market whose variables are all resolved one state is left
+abbrev pub OutcomeExists : Type 0
+OutcomeExists = (network : List Variable) (H : List Entry) → IsNetwork network → IsProper network H → IsSound network H
+    → ((v : ℕ) → v < length network → speaks_of (resolutions H) v ≡ true) → HasOutcome network H

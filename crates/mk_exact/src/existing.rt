@@ -1,5 +1,5 @@
 //! What exists: an answer to each line that a market can be asked.
-ghost use Rattle.mk_exact.specs.Existing.{PriceIsCovered, CashExists, CashIsCovered, CashIsBounded, MostExists, CoveredIsLess, WithdrawalIsJudged, LimitsExist, InsideIsDecided, LimitsJudge, PriceExists, LeastExists, SidesExist, RightLimitsExist};
+ghost use Rattle.mk_exact.specs.Existing.{PriceIsCovered, CashExists, CashIsCovered, CashIsBounded, MostExists, CoveredIsLess, WithdrawalIsJudged, LimitsExist, InsideIsDecided, LimitsJudge, PriceExists, LeastExists, SidesExist, RightLimitsExist, OutcomeExists};
 
 /// A price of at most one has an interval: its floor and its ceiling.
 pub fn price_is_covered()
@@ -69,4 +69,9 @@ pub fn sides_exist()
 /// And right limits.
 pub fn right_limits_exist()
     ensures { RightLimitsExist }
+{}
+
+/// In a sound market whose variables are all resolved one state is left, and each user's factor in it is at least one.
+pub fn outcome_exists()
+    ensures { OutcomeExists }
 {}

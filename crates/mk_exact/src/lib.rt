@@ -16,7 +16,7 @@ pub use examples::{
 };
 pub use existing::{
     cash_exists, cash_is_bounded, cash_is_covered, covered_is_less, inside_is_decided,
-    least_exists, limits_exist, limits_judge, most_exists, price_exists, price_is_covered,
+    least_exists, limits_exist, limits_judge, most_exists, outcome_exists, price_exists, price_is_covered,
     right_limits_exist, sides_exist, withdrawal_is_judged,
 };
 pub use opening::{begins_sound, shares_positive, single_opens, weights_begin, weights_positive};
