@@ -59,7 +59,7 @@ of_lesser P a b p q = elim (cases_lt a b) [ inl h ↦ subst P (first h) p | inr 
     second : b ≤ a → b ≡ min a b
     second h = omega arith
 
-of_least : {X : Type 0} (f : X → ℕ) (P : ℕ → Type 0) (xs : List X) → AllByRecursion (λ x. P (f x)) xs → IfSome (least_by f xs) P
+pub of_least : {X : Type 0} (f : X → ℕ) (P : ℕ → Type 0) (xs : List X) → AllByRecursion (λ x. P (f x)) xs → IfSome (least_by f xs) P
 of_least f P [] h = tt
 of_least {X} f P (x ∷ xs) h = at (least_by f xs) (of_least f P xs h.1)
   where

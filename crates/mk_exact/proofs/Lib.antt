@@ -15,3 +15,4 @@ pub mod Gains
 pub mod Remains
 pub mod ExistMarkets
 pub mod ExistOutcome
+pub mod ExistBounds

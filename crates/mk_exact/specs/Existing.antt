@@ -1,12 +1,12 @@
 -- What exists: an allowed answer to each line that a market can be asked, in numbers. Where a law says ⊤ for the small case, it
 -- gives what the small case asks for, and so what any case does.
-use Rattle.std.specs.Prelude.{◌≡◌, ℕ, ◌*◌, ◌^◌, ◌<◌, ◌≤◌, true, false, ⊤, ◌⊎◌, List, [], ◌∷◌, length, Option, Some}
-use Rattle.std.specs.List.{AllByRecursion}
+use Rattle.std.specs.Prelude.{◌≡◌, ℕ, ◌*◌, ◌^◌, ◌<◌, ◌≤◌, true, false, ⊤, ◌⊎◌, List, [], ◌∷◌, length, Bool, Option, Some}
+use Rattle.std.specs.List.{AllByRecursion, count_by}
 use Rattle.mk_net.specs.Network.{Variable, IsNetwork}
 use Rattle.mk_net.specs.Asked.{Asked}
 use Rattle.mk_net.specs.Events.{speaks_of, AreApart}
 use Rattle.mk_exact.specs.Events.{always}
-use Rattle.mk_exact.specs.History.{Entry, resolutions}
+use Rattle.mk_exact.specs.History.{Entry, UserTrade, bits_in, is_transfer, trades, resolutions}
 use Rattle.mk_exact.specs.Weight.{possible_states, IsSmall}
 use Rattle.mk_exact.specs.Factors.{Fraction, factor, factor_with, least_gain, IsAtLeastOne}
 use Rattle.mk_exact.specs.Prices.{CoversPrice, exact_price}
@@ -86,6 +86,10 @@ pub record CanBeAsked (network : List Variable) (H : List Entry) (asked : Asked)
   pub unresolved : speaks_of (resolutions H) asked.target.variable ≡ false
   pub agrees : AllByRecursion (λ p. AllByRecursion (AgreesWith p) (resolutions H)) asked.condition
 
+-- some state stays possible
+abbrev pub StateExists : Type 0
+StateExists = (network : List Variable) (H : List Entry) → IsNetwork network → IsProper network H → 1 ≤ length (possible_states network H always)
+
 -- a positive exact price of at most one, and an interval that covers it
 pub record HasPrice (network : List Variable) (H : List Entry) (asked : Asked) : Type 0 where
   pub exact : IsPositivePrice (exact_price network H asked)
@@ -142,3 +146,19 @@ pub record HasOutcome (network : List Variable) (H : List Entry) : Type 0 where
 abbrev pub OutcomeExists : Type 0
 OutcomeExists = (network : List Variable) (H : List Entry) → IsNetwork network → IsProper network H → IsSound network H
     → ((v : ℕ) → v < length network → speaks_of (resolutions H) v ≡ true) → HasOutcome network H
+
+-- a history of at most 65,536 trades, their units below 2^63, and at most 65,536 transfers, with at most 1,000 bits in each deposit
+pub record IsWithinBounds (H : List Entry) : Type 0 where
+  pub few_trades : length (trades H) ≤ 65536
+  pub units_fit : AllByRecursion (λ (t : UserTrade). AllByRecursion (λ n. n < 2 ^ 63) t.ratio.factors) (trades H)
+  pub few_transfers : count_by is_transfer H ≤ 65536
+  pub few_bits : AllByRecursion (λ e. (u : ℕ) → bits_in u e ≤ 1000) H
+
+-- then the cash in any state fits 63 bits, at up to a million points per bit, and so does each interval that covers it
+abbrev pub CashFits : Type 0
+CashFits = (H : List Entry) (u : ℕ) (s : List ℕ) (b low high : ℕ) → IsWithinBounds H → b ≤ 1000000 → CoversCash (factor H u s) b low high → high < 2 ^ 63
+
+-- as does the cash of a least gain
+abbrev pub LeastCashFits : Type 0
+LeastCashFits = (network : List Variable) (H : List Entry) (u : ℕ) (test : List ℕ → Bool) (least b low high : ℕ) → IsWithinBounds H → b ≤ 1000000
+    → least_gain network H u test ≡ Some least → CoversCash (factor_with H u least) b low high → high < 2 ^ 63

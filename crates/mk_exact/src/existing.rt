@@ -1,5 +1,5 @@
 //! What exists: an answer to each line that a market can be asked.
-ghost use Rattle.mk_exact.specs.Existing.{PriceIsCovered, CashExists, CashIsCovered, CashIsBounded, MostExists, CoveredIsLess, WithdrawalIsJudged, LimitsExist, InsideIsDecided, LimitsJudge, PriceExists, LeastExists, SidesExist, RightLimitsExist, OutcomeExists};
+ghost use Rattle.mk_exact.specs.Existing.{PriceIsCovered, CashExists, CashIsCovered, CashIsBounded, MostExists, CoveredIsLess, WithdrawalIsJudged, LimitsExist, InsideIsDecided, LimitsJudge, StateExists, PriceExists, LeastExists, SidesExist, RightLimitsExist, OutcomeExists, CashFits, LeastCashFits};
 
 /// A price of at most one has an interval: its floor and its ceiling.
 pub fn price_is_covered()
@@ -51,6 +51,11 @@ pub fn limits_judge()
     ensures { LimitsJudge }
 {}
 
+/// Some state stays possible.
+pub fn state_exists()
+    ensures { StateExists }
+{}
+
 /// Each question that can be asked has a positive exact price of at most one, and an interval that covers it.
 pub fn price_exists()
     ensures { PriceExists }
@@ -74,4 +79,14 @@ pub fn right_limits_exist()
 /// In a sound market whose variables are all resolved one state is left, and each user's factor in it is at least one.
 pub fn outcome_exists()
     ensures { OutcomeExists }
+{}
+
+/// Within a market's bounds an interval that covers a user's cash in a state ends below `2^63`.
+pub fn cash_fits()
+    ensures { CashFits }
+{}
+
+/// And so does one that covers the cash of a user's least gain.
+pub fn least_cash_fits()
+    ensures { LeastCashFits }
 {}

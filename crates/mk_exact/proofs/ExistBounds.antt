@@ -1,0 +1,117 @@
+-- The numbers that a market prints of a user's factor are below 2^63.
+use Rattle.std.proofs.Common.{◌≡◌, ℕ, zero, suc, ◌+◌, ◌*◌, ◌^◌, ◌<◌, ◌≤◌, Bool, true, false, cond, eqb, List, [], ◌∷◌, length, filter, slice_index, sum_by, Some, arith, le_refl, le_trans, le_of_lt}
+use Rattle.std.specs.List.{AllByRecursion, count_by}
+use Rattle.std.proofs.Math.Nat.{mul-le-mul, mul-le-mul_left, le-mul_of_pos_right, one-le-mul, one-le-pow, pow-zero}
+use Rattle.std.proofs.lemmas.Nat.{pow-add}
+use Rattle.std.proofs.lemmas.List.Sums.{sum_by-cons}
+use Rattle.mk_net.specs.Network.{Variable}
+use Rattle.mk_net.specs.Asked.{TradeRatio}
+use Rattle.mk_exact.specs.States.{product_by}
+use Rattle.mk_exact.specs.InitialWeight.{value_at}
+use Rattle.mk_exact.specs.Events.{holds}
+use Rattle.mk_exact.specs.Ratios.{unit, ratio_at}
+use Rattle.mk_exact.specs.History.{Entry, UserTrade, Join, Deposit, Withdraw, Trade, Resolve, Settle, bits_in, is_transfer, trades, trades_of, deposited, withdrawn}
+use Rattle.mk_exact.specs.Weight.{possible_states}
+use Rattle.mk_exact.specs.Factors.{gain, trade_count, factor, factor_with, least_gain}
+use Rattle.mk_exact.specs.Cash.{CoversCash}
+use Rattle.mk_exact.specs.Existing.{IsWithinBounds}
+use Rattle.mk_exact.proofs.Sums.{sum_by-times, each_always, each_weaker}
+use Rattle.mk_exact.proofs.ExistNumbers.{cash_is_bounded}
+use Rattle.mk_exact.proofs.ExistMarkets.{of_least}
+
+-- ---- lists
+
+sum_by_at_most : {X : Type 0} (f g : X → ℕ) (xs : List X) → AllByRecursion (λ x. f x ≤ g x) xs → sum_by f xs ≤ sum_by g xs
+sum_by_at_most f g [] h = le_refl 0
+sum_by_at_most f g (x ∷ xs) h = omega (arith, h.0, sum_by_at_most f g xs h.1, sum_by-cons f x xs, sum_by-cons g x xs)
+
+-- a product of numbers below 2^63
+product_at_most : {X : Type 0} (f : X → ℕ) (xs : List X) → AllByRecursion (λ x. f x < 2 ^ 63) xs → product_by f xs ≤ 2 ^ (63 * length xs)
+product_at_most f [] h = omega (arith, pow-zero 2)
+product_at_most {X} f (x ∷ xs) h = one_more (product_at_most f xs h.1)
+  where
+    one_more : product_by f xs ≤ 2 ^ (63 * length xs) → f x * product_by f xs ≤ 2 ^ (63 * suc (length xs))
+    one_more rest =
+        let e : 63 + 63 * length xs ≡ 63 * suc (length xs) = omega arith in
+        rw (← e, pow-add 2 63 (63 * length xs)) (mul-le-mul (le_of_lt h.0) rest)
+
+kept : {X : Type 0} (p : X → Bool) (P : X → Type 0) (xs : List X) → AllByRecursion P xs → AllByRecursion P (filter p xs) × (length (filter p xs) ≤ length xs)
+kept p P [] h = (tt, le_refl 0)
+kept {X} p P (x ∷ xs) h = at (p x) (kept p P xs h.1)
+  where
+    at : (b : Bool) → AllByRecursion P (filter p xs) × (length (filter p xs) ≤ length xs)
+        → AllByRecursion P (cond b (x ∷ filter p xs) (filter p xs)) × (length (cond b (x ∷ filter p xs) (filter p xs)) ≤ length (x ∷ xs))
+    at true rest = ((h.0, rest.0), omega (arith, rest.1))
+    at false rest = (rest.0, omega (arith, rest.1))
+
+-- ---- a user's factor
+
+-- each ratio of a trade whose units fit does
+units_below : (factors : List ℕ) (k : ℕ) → AllByRecursion (λ n. n < 2 ^ 63) factors → slice_index factors k < 2 ^ 63
+units_below [] k h = omega arith
+units_below (n ∷ factors) zero h = h.0
+units_below (n ∷ factors) (suc k) h = units_below factors k h.1
+
+ratio_below : (r : TradeRatio) (s : List ℕ) → AllByRecursion (λ n. n < 2 ^ 63) r.factors → ratio_at r s < 2 ^ 63
+ratio_below r s h = either (holds r.condition s) (units_below r.factors (value_at s r.variable) h)
+  where
+    either : (b : Bool) {n : ℕ} → n < 2 ^ 63 → cond b n unit < 2 ^ 63
+    either true p = p
+    either false p = omega arith
+
+module _ (H : List Entry) (bounds : IsWithinBounds H) (u : ℕ) where
+  own_trades : AllByRecursion (λ (t : UserTrade). AllByRecursion (λ n. n < 2 ^ 63) t.ratio.factors) (trades_of H u) × (length (trades_of H u) ≤ length (trades H))
+  own_trades = kept (λ (t : UserTrade). eqb t.user u) (λ (t : UserTrade). AllByRecursion (λ n. n < 2 ^ 63) t.ratio.factors) (trades H) bounds.units_fit
+
+  gain_at_most : (s : List ℕ) → gain H u s ≤ 2 ^ (63 * trade_count H u)
+  gain_at_most s = product_at_most (λ (t : UserTrade). ratio_at t.ratio s) (trades_of H u)
+      (each_weaker (λ (t : UserTrade). AllByRecursion (λ n. n < 2 ^ 63) t.ratio.factors) (λ (t : UserTrade). ratio_at t.ratio s < 2 ^ 63) (λ t h. ratio_below t.ratio s h) (trades_of H u) (own_trades.0))
+
+  deposited_at_most : deposited H u ≤ 1000 * count_by is_transfer H
+  deposited_at_most = le_trans (sum_by_at_most (bits_in u) (λ e. 1000 * cond (is_transfer e) 1 0) H (each_weaker (λ e. (v : ℕ) → bits_in v e ≤ 1000) (λ e. bits_in u e ≤ 1000 * cond (is_transfer e) 1 0) at H bounds.few_bits)) same
+    where
+      at : (e : Entry) → ((v : ℕ) → bits_in v e ≤ 1000) → bits_in u e ≤ 1000 * cond (is_transfer e) 1 0
+      at (Join name) h = omega arith
+      at (Deposit v bits) h = h u
+      at (Withdraw v bits) h = omega arith
+      at (Trade v r) h = omega arith
+      at (Resolve p) h = omega arith
+      at Settle h = omega arith
+
+      same : sum_by (λ e. 1000 * cond (is_transfer e) 1 0) H ≤ 1000 * count_by is_transfer H
+      same = omega (arith, sum_by-times 1000 (λ e. cond (is_transfer e) 1 0) H)
+
+  -- the factor of a gain that is at most 2 to the 63 times the trades
+  factor_at_most : (g : ℕ) → g ≤ 2 ^ (63 * trade_count H u)
+      → (factor_with H u g).num ≤ 2 ^ (deposited H u + 63 * trade_count H u) * (factor_with H u g).den
+  factor_at_most g h = le_trans num_at_most (le-mul_of_pos_right (2 ^ (deposited H u + 63 * trade_count H u)) (divides H))
+    where
+      num_at_most : 2 ^ deposited H u * g ≤ 2 ^ (deposited H u + 63 * trade_count H u)
+      num_at_most = rw (pow-add 2 (deposited H u) (63 * trade_count H u)) (mul-le-mul_left (2 ^ deposited H u) h)
+
+      divides : (H : List Entry) → 1 ≤ 2 ^ withdrawn H u * unit ^ trade_count H u
+      divides H = one-le-mul (one-le-pow (withdrawn H u) 2 (omega arith)) (one-le-pow (trade_count H u) unit (omega arith))
+
+  cash_below : (g b low high : ℕ) → g ≤ 2 ^ (63 * trade_count H u) → b ≤ 1000000 → CoversCash (factor_with H u g) b low high → high < 2 ^ 63
+  cash_below g b low high h few covers =
+      let cash : covers.cash ≤ (deposited H u + 63 * trade_count H u) * b
+      = cash_is_bounded (factor_with H u g) b (deposited H u + 63 * trade_count H u) covers.cash divides (factor_at_most g h) covers.is_cash in
+      let most : (deposited H u + 63 * trade_count H u) * b ≤ (1000 * 65536 + 63 * 65536) * 1000000 = mul-le-mul sum few in
+      omega (arith, covers.narrow, covers.above)
+    where
+      divides : 1 ≤ 2 ^ withdrawn H u * unit ^ trade_count H u
+      divides = one-le-mul (one-le-pow (withdrawn H u) 2 (omega arith)) (one-le-pow (trade_count H u) unit (omega arith))
+
+      sum : deposited H u + 63 * trade_count H u ≤ 1000 * 65536 + 63 * 65536
+      sum = omega (arith, deposited_at_most, own_trades.1, bounds.few_trades, bounds.few_transfers)
+
+pub cash_fits : (H : List Entry) (u : ℕ) (s : List ℕ) (b low high : ℕ) → IsWithinBounds H → b ≤ 1000000 → CoversCash (factor H u s) b low high → high < 2 ^ 63
+cash_fits H u s b low high bounds few covers = cash_below H bounds u (gain H u s) b low high (gain_at_most H bounds u s) few covers
+
+pub least_cash_fits : (network : List Variable) (H : List Entry) (u : ℕ) (test : List ℕ → Bool) (least b low high : ℕ) → IsWithinBounds H → b ≤ 1000000
+    → least_gain network H u test ≡ Some least → CoversCash (factor_with H u least) b low high → high < 2 ^ 63
+least_cash_fits network H u test least b low high bounds few is_least covers = cash_below H bounds u least b low high at_most few covers
+  where
+    at_most : least ≤ 2 ^ (63 * trade_count H u)
+    at_most = rw is_least at (of_least (gain H u) (λ g. g ≤ 2 ^ (63 * trade_count H u)) (possible_states network H test)
+        (each_always (λ s. gain H u s ≤ 2 ^ (63 * trade_count H u)) (gain_at_most H bounds u) (possible_states network H test)))
