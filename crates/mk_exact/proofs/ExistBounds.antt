@@ -1,21 +1,23 @@
 -- The numbers that a market prints of a user's factor are below 2^63.
-use Rattle.std.proofs.Common.{◌≡◌, ℕ, zero, suc, ◌+◌, ◌*◌, ◌^◌, ◌<◌, ◌≤◌, Bool, true, false, cond, eqb, List, [], ◌∷◌, length, filter, slice_index, sum_by, Some, arith, le_refl, le_trans, le_of_lt}
+use Rattle.std.proofs.Common.{◌≡◌, ℕ, zero, suc, ◌+◌, ◌*◌, ◌^◌, ◌<◌, ◌≤◌, Bool, true, false, cond, eqb, List, [], ◌∷◌, ◌++◌, length, filter, slice_index, sum_by, Some, None, refl, arith, length-append, le_refl, le_trans, le_of_lt}
 use Rattle.std.specs.List.{AllByRecursion, count_by}
 use Rattle.std.proofs.Math.Nat.{mul-le-mul, mul-le-mul_left, le-mul_of_pos_right, one-le-mul, one-le-pow, pow-zero}
 use Rattle.std.proofs.lemmas.Nat.{pow-add}
-use Rattle.std.proofs.lemmas.List.Sums.{sum_by-cons}
-use Rattle.mk_net.specs.Network.{Variable}
-use Rattle.mk_net.specs.Asked.{TradeRatio}
-use Rattle.mk_exact.specs.States.{product_by}
+use Rattle.std.proofs.lemmas.List.Sums.{sum_by-cons, sum_by_push}
+use Rattle.mk_net.specs.Network.{Variable, sizes}
+use Rattle.mk_net.specs.Asked.{Asked, TradeRatio}
+use Rattle.mk_exact.specs.States.{numbers_below, product_by}
 use Rattle.mk_exact.specs.InitialWeight.{value_at}
 use Rattle.mk_exact.specs.Events.{holds}
 use Rattle.mk_exact.specs.Ratios.{unit, ratio_at}
-use Rattle.mk_exact.specs.History.{Entry, UserTrade, Join, Deposit, Withdraw, Trade, Resolve, Settle, bits_in, is_transfer, trades, trades_of, deposited, withdrawn}
+use Rattle.mk_exact.specs.History.{Entry, UserTrade, Join, Deposit, Withdraw, Trade, Resolve, Settle, bits_in, is_transfer, trade_in, trades, trades_of, deposited, withdrawn}
 use Rattle.mk_exact.specs.Weight.{possible_states}
 use Rattle.mk_exact.specs.Factors.{gain, trade_count, factor, factor_with, least_gain}
 use Rattle.mk_exact.specs.Cash.{CoversCash}
-use Rattle.mk_exact.specs.Existing.{IsWithinBounds}
-use Rattle.mk_exact.proofs.Sums.{sum_by-times, each_always, each_weaker}
+use Rattle.mk_exact.specs.Sides.{ratio_in, IsFairPair}
+use Rattle.mk_exact.specs.Existing.{IsWithinBounds, HasRoom}
+use Rattle.mk_exact.proofs.Sums.{sum_by-times, each_always, each_weaker, each-append, each-map}
+use Rattle.mk_exact.proofs.After.{trades_kept, trades_more}
 use Rattle.mk_exact.proofs.ExistNumbers.{cash_is_bounded}
 use Rattle.mk_exact.proofs.ExistMarkets.{of_least}
 
@@ -115,3 +117,40 @@ least_cash_fits network H u test least b low high bounds few is_least covers = c
     at_most : least ≤ 2 ^ (63 * trade_count H u)
     at_most = rw is_least at (of_least (gain H u) (λ g. g ≤ 2 ^ (63 * trade_count H u)) (possible_states network H test)
         (each_always (λ s. gain H u s ≤ 2 ^ (63 * trade_count H u)) (gain_at_most H bounds u) (possible_states network H test)))
+
+-- ---- the bounds of a history with one change more
+
+none_kept : (H : List Entry) (e : Entry) → trade_in e ≡ None → ((v : ℕ) → bits_in v e ≤ 1000) → count_by is_transfer H + cond (is_transfer e) 1 0 ≤ 65536 → IsWithinBounds H
+    → IsWithinBounds (H ++ e ∷ [])
+none_kept H e none bits transfers bounds = record {
+  few_trades = rw (trades_kept H e none) bounds.few_trades;
+  units_fit = rw (trades_kept H e none) bounds.units_fit;
+  few_transfers = omega (arith, sum_by_push (λ x. cond (is_transfer x) 1 0) H e);
+  few_bits = each-append (λ x. (v : ℕ) → bits_in v x ≤ 1000) H (e ∷ []) bounds.few_bits (bits, tt);
+}
+
+pub bounds_kept : (H : List Entry) (e : Entry) → IsWithinBounds H → HasRoom H e → IsWithinBounds (H ++ e ∷ [])
+bounds_kept H (Join name) bounds room = none_kept H (Join name) refl (λ v. omega arith) (omega (arith, bounds.few_transfers)) bounds
+bounds_kept H (Deposit u bits) bounds room = none_kept H (Deposit u bits) refl (λ v. own (eqb u v)) (omega (arith, room.0)) bounds
+  where
+    own : (b : Bool) → cond b bits 0 ≤ 1000
+    own true = room.1
+    own false = omega arith
+bounds_kept H (Withdraw u bits) bounds room = none_kept H (Withdraw u bits) refl (λ v. omega arith) (omega (arith, room)) bounds
+bounds_kept H (Trade u r) bounds room = record {
+  few_trades = rw (trades_more H u r) (omega (arith, length-append (trades H) (record { user = u; ratio = r } ∷ []), room.0));
+  units_fit = rw (trades_more H u r) (each-append (λ (t : UserTrade). AllByRecursion (λ n. n < 2 ^ 63) t.ratio.factors) (trades H) (record { user = u; ratio = r } ∷ []) bounds.units_fit (room.1, tt));
+  few_transfers = omega (arith, sum_by_push (λ x. cond (is_transfer x) 1 0) H (Trade u r), bounds.few_transfers);
+  few_bits = each-append (λ x. (v : ℕ) → bits_in v x ≤ 1000) H (Trade u r ∷ []) bounds.few_bits (λ v. omega arith, tt);
+}
+bounds_kept H (Resolve p) bounds room = none_kept H (Resolve p) refl (λ v. omega arith) (omega (arith, bounds.few_transfers)) bounds
+bounds_kept H Settle bounds room = none_kept H Settle refl (λ v. omega arith) (omega (arith, bounds.few_transfers)) bounds
+
+pub fair_pair_fits : (network : List Variable) (H : List Entry) (u : ℕ) (asked : Asked) (X F_t F_n : ℕ) → IsFairPair network H u asked X F_t F_n
+    → AllByRecursion (λ n. n < 2 ^ 63) (ratio_in network asked F_t F_n).factors
+fair_pair_fits network H u asked X F_t F_n pair = each-map (λ n. n < 2 ^ 63) (λ value. cond (eqb value asked.target.value) F_t F_n) (numbers_below (slice_index (sizes network) asked.target.variable))
+    (each_always (λ value. cond (eqb value asked.target.value) F_t F_n < 2 ^ 63) (λ value. either (eqb value asked.target.value)) (numbers_below (slice_index (sizes network) asked.target.variable)))
+  where
+    either : (b : Bool) → cond b F_t F_n < 2 ^ 63
+    either true = pair.hit_units.fair.fits
+    either false = pair.miss_units.fair.fits
