@@ -2,6 +2,7 @@
 -- gives what the small case asks for, and so what any case does.
 use Rattle.std.specs.Prelude.{◌≡◌, ℕ, ◌*◌, ◌^◌, ◌<◌, ◌≤◌, true, false, ⊤, ◌⊎◌, List, [], ◌∷◌, ◌++◌, length, Bool, Option, Some}
 use Rattle.std.specs.List.{AllByRecursion, count_by}
+use Rattle.mk_net.specs.Bounds.{max_market_trades, max_transfers, max_transfer_bits, number_limit, million}
 use Rattle.mk_net.specs.Network.{Variable, IsNetwork}
 use Rattle.mk_net.specs.Asked.{Asked}
 use Rattle.mk_net.specs.Events.{speaks_of, AreApart}
@@ -149,16 +150,16 @@ OutcomeExists = (network : List Variable) (H : List Entry) → IsNetwork network
 
 -- a history of at most 65,536 trades, their units below 2^63, and at most 65,536 transfers, with at most 1,000 bits in each deposit
 pub record IsWithinBounds (H : List Entry) : Type 0 where
-  pub few_trades : length (trades H) ≤ 65536
-  pub units_fit : AllByRecursion (λ (t : UserTrade). AllByRecursion (λ n. n < 2 ^ 63) t.ratio.factors) (trades H)
-  pub few_transfers : count_by is_transfer H ≤ 65536
-  pub few_bits : AllByRecursion (λ e. (u : ℕ) → bits_in u e ≤ 1000) H
+  pub few_trades : length (trades H) ≤ max_market_trades
+  pub units_fit : AllByRecursion (λ (t : UserTrade). AllByRecursion (λ n. n < number_limit) t.ratio.factors) (trades H)
+  pub few_transfers : count_by is_transfer H ≤ max_transfers
+  pub few_bits : AllByRecursion (λ e. (u : ℕ) → bits_in u e ≤ max_transfer_bits) H
 
 -- a change for which there is room: one more trade whose units fit, or one more transfer, a deposit of at most 1,000 bits
 abbrev pub HasRoom : List Entry → Entry → Type 0
-HasRoom H (Deposit u bits) = (count_by is_transfer H < 65536) × (bits ≤ 1000)
-HasRoom H (Withdraw u bits) = count_by is_transfer H < 65536
-HasRoom H (Trade u r) = (length (trades H) < 65536) × AllByRecursion (λ n. n < 2 ^ 63) r.factors
+HasRoom H (Deposit u bits) = (count_by is_transfer H < max_transfers) × (bits ≤ max_transfer_bits)
+HasRoom H (Withdraw u bits) = count_by is_transfer H < max_transfers
+HasRoom H (Trade u r) = (length (trades H) < max_market_trades) × AllByRecursion (λ n. n < number_limit) r.factors
 HasRoom H _ = ⊤
 
 -- it keeps a history within the bounds
@@ -168,13 +169,13 @@ BoundsKept = (H : List Entry) (e : Entry) → IsWithinBounds H → HasRoom H e �
 -- the units of a fair pair fit
 abbrev pub FairPairFits : Type 0
 FairPairFits = (network : List Variable) (H : List Entry) (u : ℕ) (asked : Asked) (X F_t F_n : ℕ) → IsFairPair network H u asked X F_t F_n
-    → AllByRecursion (λ n. n < 2 ^ 63) (ratio_in network asked F_t F_n).factors
+    → AllByRecursion (λ n. n < number_limit) (ratio_in network asked F_t F_n).factors
 
 -- within the bounds the cash in any state fits 63 bits, at up to a million points per bit, and so does each interval that covers it
 abbrev pub CashFits : Type 0
-CashFits = (H : List Entry) (u : ℕ) (s : List ℕ) (b low high : ℕ) → IsWithinBounds H → b ≤ 1000000 → CoversCash (factor H u s) b low high → high < 2 ^ 63
+CashFits = (H : List Entry) (u : ℕ) (s : List ℕ) (b low high : ℕ) → IsWithinBounds H → b ≤ million → CoversCash (factor H u s) b low high → high < number_limit
 
 -- as does the cash of a least gain
 abbrev pub LeastCashFits : Type 0
-LeastCashFits = (network : List Variable) (H : List Entry) (u : ℕ) (test : List ℕ → Bool) (least b low high : ℕ) → IsWithinBounds H → b ≤ 1000000
-    → least_gain network H u test ≡ Some least → CoversCash (factor_with H u least) b low high → high < 2 ^ 63
+LeastCashFits = (network : List Variable) (H : List Entry) (u : ℕ) (test : List ℕ → Bool) (least b low high : ℕ) → IsWithinBounds H → b ≤ million
+    → least_gain network H u test ≡ Some least → CoversCash (factor_with H u least) b low high → high < number_limit
