@@ -3,6 +3,7 @@ use Rattle.std.proofs.Common.{◌≡◌, ℕ, zero, suc, ◌+◌, ◌-◌, ◌*�
 use Rattle.std.specs.Bool.{⊤}
 use Rattle.std.proofs.Math.Nat.{div-mul-le_self, lt-div-mul-add, mul-le-mul_left, mul-le-mul_right, le_of_mul-le-mul_right, lt_of_mul-lt-mul_right}
 use Rattle.std.proofs.lemmas.Bool.{cases_lt}
+use Rattle.mk_net.specs.Bounds.{number_limit, million}
 use Rattle.mk_net.specs.Network.{Variable}
 use Rattle.mk_net.specs.Asked.{Asked}
 use Rattle.mk_exact.specs.Ratios.{unit}
@@ -105,15 +106,15 @@ solvent_from_margin F A B num den p large less margin =
 module _ (side : Side) (positive : IsPositivePrice side.price) where
   -- the exact floor of the units for X
   abbrev floor_for : ℕ → ℕ
-  floor_for X = X * unit * side.price.den / (10 ^ 6 * side.price.num)
+  floor_for X = X * unit * side.price.den / (million * side.price.num)
 
-  divisor : 1 ≤ 10 ^ 6 * side.price.num
+  divisor : 1 ≤ million * side.price.num
   divisor = omega (arith, positive.positive)
 
-  floor_below : (X : ℕ) → floor_for X * (10 ^ 6 * side.price.num) ≤ X * unit * side.price.den
-  floor_below X = div-mul-le_self (X * unit * side.price.den) (10 ^ 6 * side.price.num)
+  floor_below : (X : ℕ) → floor_for X * (million * side.price.num) ≤ X * unit * side.price.den
+  floor_below X = div-mul-le_self (X * unit * side.price.den) (million * side.price.num)
 
-  floor_above : (X : ℕ) → X * unit * side.price.den < floor_for X * (10 ^ 6 * side.price.num) + 10 ^ 6 * side.price.num
+  floor_above : (X : ℕ) → X * unit * side.price.den < floor_for X * (million * side.price.num) + million * side.price.num
   floor_above X = lt-div-mul-add divisor
 
   floor_rises : (X Y : ℕ) → X ≤ Y → floor_for X ≤ floor_for Y
@@ -125,10 +126,10 @@ module _ (side : Side) (positive : IsPositivePrice side.price) where
       let some : 1 * (unit * side.price.den) ≤ X * (unit * side.price.den) = mul-le-mul_right (unit * side.price.den) h in
       let above = floor_above X in
       let at_most = positive.at_most_one in
-      let l : 2 ^ 20 < floor_for X + 1 = fewer (2 ^ 20) (floor_for X + 1) (10 ^ 6 * side.price.num) (omega arith) in
+      let l : 2 ^ 20 < floor_for X + 1 = fewer (2 ^ 20) (floor_for X + 1) (million * side.price.num) (omega arith) in
       omega arith
 
-  floor_is_fair : (X : ℕ) → 1 ≤ X → floor_for X < 2 ^ 63 → IsFair ⊤ (floor_for X) X side.price
+  floor_is_fair : (X : ℕ) → 1 ≤ X → floor_for X < number_limit → IsFair ⊤ (floor_for X) X side.price
   floor_is_fair X h fits =
       let below = floor_below X in
       let above = floor_above X in
@@ -138,26 +139,26 @@ module _ (side : Side) (positive : IsPositivePrice side.price) where
   floor_serves : (X : ℕ) → 1 ≤ X → IsFloorSolvent side X → IsFairAndSolvent ⊤ side X (floor_for X)
   floor_serves X h floor = record { fair = floor_is_fair X h (floor.0); solvent = floor.1 }
 
-  wanted_fits : (X : ℕ) → IsWanted side X → floor_for X < 2 ^ 63
+  wanted_fits : (X : ℕ) → IsWanted side X → floor_for X < number_limit
   wanted_fits X h =
       let below = floor_below X in
       let far = h.not_far in
-      let l : floor_for X < 2 ^ 63 = fewer (floor_for X) (2 ^ 63) (10 ^ 6 * side.price.num) (omega arith) in
+      let l : floor_for X < number_limit = fewer (floor_for X) number_limit (million * side.price.num) (omega arith) in
       l
 
   wanted_is_solvent : (X : ℕ) → 1 ≤ X → IsWanted side X → IsSolvent (floor_for X) side.least
   wanted_is_solvent X p h =
       let large = floor_is_large X p in
       let margin = mul-le-mul_left unit h.above_one in
-      solvent_from_margin (floor_for X) (10 ^ 6 * side.price.num) (X * unit * side.price.den) side.least.num side.least.den divisor (omega arith) (floor_above X) (omega arith)
+      solvent_from_margin (floor_for X) (million * side.price.num) (X * unit * side.price.den) side.least.num side.least.den divisor (omega arith) (floor_above X) (omega arith)
 
   wanted_serves : (X : ℕ) → 1 ≤ X → IsWanted side X → IsFloorSolvent side X
   wanted_serves X p h = (wanted_fits X h, wanted_is_solvent X p h)
 
   floor_decided : (X : ℕ) → IsFloorSolvent side X ⊎ (¬ IsFloorSolvent side X)
-  floor_decided X = both (cases_lt (floor_for X) (2 ^ 63)) (cases_lt (floor_for X * side.least.num) (unit * side.least.den))
+  floor_decided X = both (cases_lt (floor_for X) number_limit) (cases_lt (floor_for X * side.least.num) (unit * side.least.den))
     where
-      both : ((floor_for X < 2 ^ 63) ⊎ (2 ^ 63 ≤ floor_for X)) → ((floor_for X * side.least.num < unit * side.least.den) ⊎ IsSolvent (floor_for X) side.least)
+      both : ((floor_for X < number_limit) ⊎ (number_limit ≤ floor_for X)) → ((floor_for X * side.least.num < unit * side.least.den) ⊎ IsSolvent (floor_for X) side.least)
           → IsFloorSolvent side X ⊎ (¬ IsFloorSolvent side X)
       both (inl fits) (inr solvent) = inl (fits, solvent)
       both (inl fits) (inl less) = inr (λ floor. not_solvent (floor.1) less)
@@ -166,7 +167,7 @@ module _ (side : Side) (positive : IsPositivePrice side.price) where
           not_solvent solvent less = omega arith
       both (inr wide) _ = inr (λ floor. not_fitting (floor.0) wide)
         where
-          not_fitting : floor_for X < 2 ^ 63 → 2 ^ 63 ≤ floor_for X → ⊥
+          not_fitting : floor_for X < number_limit → number_limit ≤ floor_for X → ⊥
           not_fitting fits wide = omega arith
 
   -- a floor between two that are fit and solvent is so: it fits as the greater does, and is solvent as the lesser is
@@ -179,25 +180,25 @@ module _ (side : Side) (positive : IsPositivePrice side.price) where
 module _ (hit miss : Side) (hit_price : IsPositivePrice hit.price) (miss_price : IsPositivePrice miss.price) where
   -- both floors for X fit and are solvent
   abbrev Serves : ℕ → Type 0
-  Serves X = IsFloorSolvent hit X × IsFloorSolvent miss (10 ^ 6 - X)
+  Serves X = IsFloorSolvent hit X × IsFloorSolvent miss (million - X)
 
   serves_decided : (X : ℕ) → Serves X ⊎ (¬ Serves X)
-  serves_decided X = both (floor_decided hit hit_price X) (floor_decided miss miss_price (10 ^ 6 - X))
+  serves_decided X = both (floor_decided hit hit_price X) (floor_decided miss miss_price (million - X))
     where
-      both : IsFloorSolvent hit X ⊎ (¬ IsFloorSolvent hit X) → IsFloorSolvent miss (10 ^ 6 - X) ⊎ (¬ IsFloorSolvent miss (10 ^ 6 - X)) → Serves X ⊎ (¬ Serves X)
+      both : IsFloorSolvent hit X ⊎ (¬ IsFloorSolvent hit X) → IsFloorSolvent miss (million - X) ⊎ (¬ IsFloorSolvent miss (million - X)) → Serves X ⊎ (¬ Serves X)
       both (inl h) (inl m) = inl (h, m)
       both (inr h) _ = inr (λ serves. h (serves.0))
       both (inl h) (inr m) = inr (λ serves. m (serves.1))
 
   serves_between : IsConvex Serves
   serves_between X Y Z p q least most =
-      (floor_between hit hit_price X Y Z p q (least.0) (most.0), floor_between miss miss_price (10 ^ 6 - Z) (10 ^ 6 - Y) (10 ^ 6 - X) (omega arith) (omega arith) (most.1) (least.1))
+      (floor_between hit hit_price X Y Z p q (least.0) (most.0), floor_between miss miss_price (million - Z) (million - Y) (million - X) (omega arith) (omega arith) (most.1) (least.1))
 
   right_if_held : (limits : Option (ℕ × ℕ)) → Hold Serves 999999 limits → AreRight ⊤ hit miss limits
   right_if_held limits held = record {
     in_range = range limits held.in_range;
     sound = λ X i. pair X (bounds limits held.in_range X i) (held.passes X i);
-    near_complete = λ X p q h m. held.each X p q (wanted_serves hit hit_price X p h, wanted_serves miss miss_price (10 ^ 6 - X) (omega arith) m);
+    near_complete = λ X p q h m. held.each X p q (wanted_serves hit hit_price X p h, wanted_serves miss miss_price (million - X) (omega arith) m);
     exact = λ _ X p q. (held.passes X, held.each X p q);
   }
     where
@@ -205,13 +206,13 @@ module _ (hit miss : Side) (hit_price : IsPositivePrice hit.price) (miss_price :
       range None r = tt
       range (Some (low, high)) r = r
 
-      bounds : (limits : Option (ℕ × ℕ)) → IsUpTo 999999 limits → (X : ℕ) → Inside limits X → (1 ≤ X) × (1 ≤ 10 ^ 6 - X)
+      bounds : (limits : Option (ℕ × ℕ)) → IsUpTo 999999 limits → (X : ℕ) → Inside limits X → (1 ≤ X) × (1 ≤ million - X)
       bounds None r X i = absurd i
       bounds (Some (low, high)) r X i = (omega (arith, r.0, i.0), omega (arith, r.2, i.1))
 
-      pair : (X : ℕ) → (1 ≤ X) × (1 ≤ 10 ^ 6 - X) → Serves X
-          → (F_t : ℕ) × (F_n : ℕ) × IsFairAndSolvent ⊤ hit X F_t × IsFairAndSolvent ⊤ miss (10 ^ 6 - X) F_n
-      pair X b serves = (floor_for hit hit_price X, floor_for miss miss_price (10 ^ 6 - X), floor_serves hit hit_price X (b.0) (serves.0), floor_serves miss miss_price (10 ^ 6 - X) (b.1) (serves.1))
+      pair : (X : ℕ) → (1 ≤ X) × (1 ≤ million - X) → Serves X
+          → (F_t : ℕ) × (F_n : ℕ) × IsFairAndSolvent ⊤ hit X F_t × IsFairAndSolvent ⊤ miss (million - X) F_n
+      pair X b serves = (floor_for hit hit_price X, floor_for miss miss_price (million - X), floor_serves hit hit_price X (b.0) (serves.0), floor_serves miss miss_price (million - X) (b.1) (serves.1))
 
 pub limits_exist : (hit miss : Side) → IsPositivePrice hit.price → IsPositivePrice miss.price → (limits : Option (ℕ × ℕ)) × AreRight ⊤ hit miss limits
 limits_exist hit miss hit_price miss_price = right (limits_of (Serves hit miss hit_price miss_price) (serves_decided hit miss hit_price miss_price) (serves_between hit miss hit_price miss_price) 999999)
@@ -234,9 +235,9 @@ right_in small hit miss limits h = record {
       solvent = f.solvent;
     }
 
-    pair : (X : ℕ) → (F_t : ℕ) × (F_n : ℕ) × IsFairAndSolvent ⊤ hit X F_t × IsFairAndSolvent ⊤ miss (10 ^ 6 - X) F_n
-        → (F_t : ℕ) × (F_n : ℕ) × IsFairAndSolvent small hit X F_t × IsFairAndSolvent small miss (10 ^ 6 - X) F_n
-    pair X f = (f.0, f.1, in_any hit X (f.0) (f.2), in_any miss (10 ^ 6 - X) (f.1) (f.3))
+    pair : (X : ℕ) → (F_t : ℕ) × (F_n : ℕ) × IsFairAndSolvent ⊤ hit X F_t × IsFairAndSolvent ⊤ miss (million - X) F_n
+        → (F_t : ℕ) × (F_n : ℕ) × IsFairAndSolvent small hit X F_t × IsFairAndSolvent small miss (million - X) F_n
+    pair X f = (f.0, f.1, in_any hit X (f.0) (f.2), in_any miss (million - X) (f.1) (f.3))
 
 -- ---- what limits say of a share
 
@@ -259,7 +260,7 @@ pub limits_judge : (network : List Variable) (H : List Entry) (u : ℕ) (asked :
     → AreRightLimits network H u asked limits → (Inside limits X × HasFairPair network H u asked X) ⊎ (¬ Inside limits X)
 limits_judge network H u asked limits X right = judge (inside_is_decided limits X)
   where
-    has_pair : (F_t : ℕ) × (F_n : ℕ) × IsFairAndSolvent (IsSmall network H) right.hit X F_t × IsFairAndSolvent (IsSmall network H) right.miss (10 ^ 6 - X) F_n
+    has_pair : (F_t : ℕ) × (F_n : ℕ) × IsFairAndSolvent (IsSmall network H) right.hit X F_t × IsFairAndSolvent (IsSmall network H) right.miss (million - X) F_n
         → HasFairPair network H u asked X
     has_pair f = (f.0, f.1, record { hit = right.hit; miss = right.miss; sides = right.sides; hit_units = f.2; miss_units = f.3 })
 

@@ -1,12 +1,13 @@
 -- What exists: an allowed answer to each line that a market can be asked, in numbers. Where a law says ⊤ for the small case, it
 -- gives what the small case asks for, and so what any case does.
-use Rattle.std.specs.Prelude.{◌≡◌, ℕ, ◌*◌, ◌^◌, ◌<◌, ◌≤◌, true, false, ⊤, ◌⊎◌, List, [], ◌∷◌, length, Bool, Option, Some}
+use Rattle.std.specs.Prelude.{◌≡◌, ℕ, ◌*◌, ◌^◌, ◌<◌, ◌≤◌, true, false, ⊤, ◌⊎◌, List, [], ◌∷◌, ◌++◌, length, Bool, Option, Some}
 use Rattle.std.specs.List.{AllByRecursion, count_by}
+use Rattle.mk_net.specs.Bounds.{max_market_trades, max_transfers, max_transfer_bits, number_limit, million}
 use Rattle.mk_net.specs.Network.{Variable, IsNetwork}
 use Rattle.mk_net.specs.Asked.{Asked}
 use Rattle.mk_net.specs.Events.{speaks_of, AreApart}
 use Rattle.mk_exact.specs.Events.{always}
-use Rattle.mk_exact.specs.History.{Entry, UserTrade, bits_in, is_transfer, trades, resolutions}
+use Rattle.mk_exact.specs.History.{Entry, Deposit, Withdraw, Trade, UserTrade, bits_in, is_transfer, trades, resolutions}
 use Rattle.mk_exact.specs.Weight.{possible_states, IsSmall}
 use Rattle.mk_exact.specs.Factors.{Fraction, factor, factor_with, least_gain, IsAtLeastOne}
 use Rattle.mk_exact.specs.Prices.{CoversPrice, exact_price}
@@ -15,7 +16,7 @@ use Rattle.mk_exact.specs.Accepted.{Covers, IsMost}
 use Rattle.mk_exact.specs.Limits.{Side, Inside, AreRight}
 use Rattle.mk_exact.specs.Sound.{IsSound}
 use Rattle.mk_exact.specs.Proper.{IsQuestionOf, IsProper}
-use Rattle.mk_exact.specs.Sides.{AreSides, AreRightLimits, IsFairPair}
+use Rattle.mk_exact.specs.Sides.{AreSides, AreRightLimits, IsFairPair, ratio_in}
 use Rattle.mk_exact.specs.Laws.{AgreesWith}
 
 -- ---- numbers
@@ -149,16 +150,32 @@ OutcomeExists = (network : List Variable) (H : List Entry) → IsNetwork network
 
 -- a history of at most 65,536 trades, their units below 2^63, and at most 65,536 transfers, with at most 1,000 bits in each deposit
 pub record IsWithinBounds (H : List Entry) : Type 0 where
-  pub few_trades : length (trades H) ≤ 65536
-  pub units_fit : AllByRecursion (λ (t : UserTrade). AllByRecursion (λ n. n < 2 ^ 63) t.ratio.factors) (trades H)
-  pub few_transfers : count_by is_transfer H ≤ 65536
-  pub few_bits : AllByRecursion (λ e. (u : ℕ) → bits_in u e ≤ 1000) H
+  pub few_trades : length (trades H) ≤ max_market_trades
+  pub units_fit : AllByRecursion (λ (t : UserTrade). AllByRecursion (λ n. n < number_limit) t.ratio.factors) (trades H)
+  pub few_transfers : count_by is_transfer H ≤ max_transfers
+  pub few_bits : AllByRecursion (λ e. (u : ℕ) → bits_in u e ≤ max_transfer_bits) H
 
--- then the cash in any state fits 63 bits, at up to a million points per bit, and so does each interval that covers it
+-- a change for which there is room: one more trade whose units fit, or one more transfer, a deposit of at most 1,000 bits
+abbrev pub HasRoom : List Entry → Entry → Type 0
+HasRoom H (Deposit u bits) = (count_by is_transfer H < max_transfers) × (bits ≤ max_transfer_bits)
+HasRoom H (Withdraw u bits) = count_by is_transfer H < max_transfers
+HasRoom H (Trade u r) = (length (trades H) < max_market_trades) × AllByRecursion (λ n. n < number_limit) r.factors
+HasRoom H _ = ⊤
+
+-- it keeps a history within the bounds
+abbrev pub BoundsKept : Type 0
+BoundsKept = (H : List Entry) (e : Entry) → IsWithinBounds H → HasRoom H e → IsWithinBounds (H ++ e ∷ [])
+
+-- the units of a fair pair fit
+abbrev pub FairPairFits : Type 0
+FairPairFits = (network : List Variable) (H : List Entry) (u : ℕ) (asked : Asked) (X F_t F_n : ℕ) → IsFairPair network H u asked X F_t F_n
+    → AllByRecursion (λ n. n < number_limit) (ratio_in network asked F_t F_n).factors
+
+-- within the bounds the cash in any state fits 63 bits, at up to a million points per bit, and so does each interval that covers it
 abbrev pub CashFits : Type 0
-CashFits = (H : List Entry) (u : ℕ) (s : List ℕ) (b low high : ℕ) → IsWithinBounds H → b ≤ 1000000 → CoversCash (factor H u s) b low high → high < 2 ^ 63
+CashFits = (H : List Entry) (u : ℕ) (s : List ℕ) (b low high : ℕ) → IsWithinBounds H → b ≤ million → CoversCash (factor H u s) b low high → high < number_limit
 
 -- as does the cash of a least gain
 abbrev pub LeastCashFits : Type 0
-LeastCashFits = (network : List Variable) (H : List Entry) (u : ℕ) (test : List ℕ → Bool) (least b low high : ℕ) → IsWithinBounds H → b ≤ 1000000
-    → least_gain network H u test ≡ Some least → CoversCash (factor_with H u least) b low high → high < 2 ^ 63
+LeastCashFits = (network : List Variable) (H : List Entry) (u : ℕ) (test : List ℕ → Bool) (least b low high : ℕ) → IsWithinBounds H → b ≤ million
+    → least_gain network H u test ≡ Some least → CoversCash (factor_with H u least) b low high → high < number_limit

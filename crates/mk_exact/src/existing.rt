@@ -1,5 +1,5 @@
 //! What exists: an answer to each line that a market can be asked.
-ghost use Rattle.mk_exact.specs.Existing.{PriceIsCovered, CashExists, CashIsCovered, CashIsBounded, MostExists, CoveredIsLess, WithdrawalIsJudged, LimitsExist, InsideIsDecided, LimitsJudge, StateExists, PriceExists, LeastExists, SidesExist, RightLimitsExist, OutcomeExists, CashFits, LeastCashFits};
+ghost use Rattle.mk_exact.specs.Existing.{PriceIsCovered, CashExists, CashIsCovered, CashIsBounded, MostExists, CoveredIsLess, WithdrawalIsJudged, LimitsExist, InsideIsDecided, LimitsJudge, StateExists, PriceExists, LeastExists, SidesExist, RightLimitsExist, OutcomeExists, BoundsKept, FairPairFits, CashFits, LeastCashFits};
 
 /// A price of at most one has an interval: its floor and its ceiling.
 pub fn price_is_covered()
@@ -79,6 +79,16 @@ pub fn right_limits_exist()
 /// In a sound market whose variables are all resolved one state is left, and each user's factor in it is at least one.
 pub fn outcome_exists()
     ensures { OutcomeExists }
+{}
+
+/// A change for which there is room keeps a history within a market's bounds.
+pub fn bounds_kept()
+    ensures { BoundsKept }
+{}
+
+/// The units of a fair pair are below `2^63`.
+pub fn fair_pair_fits()
+    ensures { FairPairFits }
 {}
 
 /// Within a market's bounds an interval that covers a user's cash in a state ends below `2^63`.

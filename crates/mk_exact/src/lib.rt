@@ -15,10 +15,10 @@ pub use examples::{
     example_safety, example_trade, example_traders, example_weights,
 };
 pub use existing::{
-    cash_exists, cash_fits, cash_is_bounded, cash_is_covered, covered_is_less, inside_is_decided,
-    least_cash_fits, least_exists, limits_exist, limits_judge, most_exists, outcome_exists,
-    price_exists, price_is_covered, right_limits_exist, sides_exist, state_exists,
-    withdrawal_is_judged,
+    bounds_kept, cash_exists, cash_fits, cash_is_bounded, cash_is_covered, covered_is_less,
+    fair_pair_fits, inside_is_decided, least_cash_fits, least_exists, limits_exist, limits_judge,
+    most_exists, outcome_exists, price_exists, price_is_covered, right_limits_exist, sides_exist,
+    state_exists, withdrawal_is_judged,
 };
 pub use opening::{begins_sound, shares_positive, single_opens, weights_begin, weights_positive};
 pub use settling::{gains_bounded, settlement_bounded};
