@@ -1,18 +1,21 @@
 -- What an allowed reply keeps.
-use Rattle.std.proofs.Common.{◌≡◌, ℕ, ◌+◌, ◌<◌, ◌≤◌, ◌⊎◌, inl, inr, List, [], ◌∷◌, ◌++◌, Option, Some, None, IfSome, IsSomeAnd, MatchOption, length, refl, sym, subst, arith, append-nil}
+use Rattle.std.proofs.Common.{◌≡◌, ℕ, ◌+◌, ◌<◌, ◌≤◌, ◌⊎◌, inl, inr, false, List, [], ◌∷◌, ◌++◌, Option, Some, None, IfSome, MatchOption, length, refl, sym, subst, arith, append-nil}
 use Rattle.std.specs.Prelude.{option_to_list}
+use Rattle.std.specs.List.{AllByRecursion}
 use Rattle.mk_net.specs.declared.words.PairText.{PairText}
 use Rattle.mk_net.specs.declared.words.QuestionText.{QuestionText}
 use Rattle.mk_net.specs.Asked.{Asked}
 use Rattle.mk_exact.specs.Events.{always}
-use Rattle.mk_exact.specs.History.{Entry, users, revision}
+use Rattle.mk_exact.specs.History.{Entry, UserTrade, Join, Deposit as Deposits, Withdraw as Withdraws, Trade, Resolve as Resolves, Settle as Settles, trade_in, users, trades, revision}
 use Rattle.mk_exact.specs.Weight.{IsSmall}
 use Rattle.mk_exact.specs.Factors.{factor_with, least_gain}
 use Rattle.mk_exact.specs.Proper.{IsQuestionOf}
 use Rattle.mk_exact.specs.Accepted.{Covers, IsAcceptable, IsInRange}
-use Rattle.mk_exact.specs.Market.{Market, network_of}
+use Rattle.mk_exact.specs.Market.{Market, network_of, cliques_of}
+use Rattle.mk_exact.proofs.After.{trades_kept, trades_more}
 use Rattle.mk_exact.proofs.Next.{sound_next}
 use Rattle.mk_exact.proofs.Single.{empty_sound}
+use Rattle.mk_exact.proofs.Sums.{each-append}
 use Rattle.mk_exact.proofs.Range.{empty_proper, proper_next, fair_pair_is_safe}
 use Rattle.mk_command.specs.declared.command.Command.{Command}
 use Rattle.mk_command.specs.declared.command.Command.TheVariants.{User, Deposit, Withdraw, Price, Limits, Edit, Worst, Resolve, Settle}
@@ -20,23 +23,36 @@ use Rattle.mk_reply.specs.declared.refusal.Refusal.{Refusal}
 use Rattle.mk_reply.specs.declared.refusal.Refusal.TheVariants.{Memory}
 use Rattle.mk_reply.specs.declared.reply.Reply.{Reply}
 use Rattle.mk_reply.specs.declared.reply.Reply.TheVariants.{Joined, Resolved, Refused}
-use Rattle.mk_rules.specs.Refusals.{question_named, user_number, refusals, first_refusal}
+use Rattle.mk_rules.specs.Refusals.{question_named, variables_in, is_wide, user_number, refusals, first_refusal}
 use Rattle.mk_rules.specs.Quotes.{Interval, Quotes, last_quote, current_limits}
 use Rattle.mk_rules.specs.Answers.{IsTrade, IsJudged, IsJudgedAfresh, IsWithdrawal, IsAnswer, IsAllowed, entry_of}
 use Rattle.mk_rules.specs.Transcript.{Standing, Line, OfCommand, NoCommand, LongLine, IsAllowedFor, after, Run}
-use Rattle.mk_rules.specs.Laws.{Stands}
-use Rattle.mk_rules.proofs.Unrefused.{none_applies, user_in_range, number_in_range, pair_known, question_known}
+use Rattle.mk_rules.specs.Standings.{IsInClique, Stands}
+use Rattle.mk_rules.proofs.Options.{value_of}
+use Rattle.mk_rules.proofs.Unrefused.{none_applies, user_in_range, number_in_range, pair_known, question_known, not_resolved, not_wide}
+use Rattle.mk_rules.proofs.Traded.{ratio_fits}
 
 -- an entry that may be appended
 record Fits (market : Market) (H : List Entry) (e : Entry) : Type 0 where
   acceptable : IsAcceptable (network_of market H) H e
   in_range : IsInRange (network_of market H) H e
+  narrow : IfSome (trade_in e) (IsInClique (cliques_of market H))
+
+-- what holds of each trade before an entry and of its own holds of each trade after it
+each_trade : (P : UserTrade → Type 0) (H : List Entry) (e : Entry) → AllByRecursion P (trades H) → IfSome (trade_in e) P → AllByRecursion P (trades (H ++ e ∷ []))
+each_trade P H (Join name) h k = subst (AllByRecursion P) (sym (trades_kept H (Join name) refl)) h
+each_trade P H (Deposits u bits) h k = subst (AllByRecursion P) (sym (trades_kept H (Deposits u bits) refl)) h
+each_trade P H (Withdraws u bits) h k = subst (AllByRecursion P) (sym (trades_kept H (Withdraws u bits) refl)) h
+each_trade P H (Trade u r) h k = subst (AllByRecursion P) (sym (trades_more H u r)) (each-append P (trades H) (record { user = u; ratio = r } ∷ []) h (k, tt))
+each_trade P H (Resolves p) h k = subst (AllByRecursion P) (sym (trades_kept H (Resolves p) refl)) h
+each_trade P H Settles h k = subst (AllByRecursion P) (sym (trades_kept H Settles refl)) h
 
 entry_keeps : (market : Market) (H : List Entry) (o : Option Entry) → Stands market H → IfSome o (Fits market H) → Stands market (H ++ option_to_list o)
 entry_keeps market H None stands h = rw (append-nil H) stands
 entry_keeps market H (Some e) stands h = record {
   sound = sound_next (network_of market H) H e stands.sound h.acceptable;
   proper = proper_next (network_of market H) H e stands.proper h.in_range;
+  none_wide = each_trade (IsInClique (cliques_of market H)) H e stands.none_wide h.narrow;
 }
 
 -- what a reply appends may be appended
@@ -59,30 +75,27 @@ refused_fits market H Settle why = tt
 reply_fits : (market : Market) (H : List Entry) (command : Command) (reply known : Reply) → reply ≡ known → AppendsFit market H command known → AppendsFit market H command reply
 reply_fits market H command reply known e h = subst (AppendsFit market H command) (sym e) h
 
--- the value of which something holds
-value_of : {X : Type 0} (P : X → Type 0) (o : Option X) → IsSomeAnd o P → (x : X) × (o ≡ Some x) × P x
-value_of P None h = absurd h
-value_of P (Some x) h = (x, refl, h)
-
 user_fits : (market : Market) (H : List Entry) (u : List ℕ) (reply : Reply) → (reply ≡ Joined u (revision H + 1)) ⊎ (reply ≡ Refused Memory) → AppendsFit market H (User u) reply
 unfolding AppendsFit
-user_fits market H u reply (inl e) = reply_fits market H (User u) reply _ e (record { acceptable = tt; in_range = tt })
+user_fits market H u reply (inl e) = reply_fits market H (User u) reply _ e (record { acceptable = tt; in_range = tt; narrow = tt })
 user_fits market H u reply (inr e) = reply_fits market H (User u) reply _ e tt
 
 withdrawal_fits : (market : Market) (H : List Entry) (u : List ℕ) (bits g : ℕ) (reply : Reply) → least_gain (network_of market H) H (user_number H u) always ≡ Some g
     → IsWithdrawal (IsSmall (network_of market H) H) (factor_with H (user_number H u) g) u bits (revision H + 1) reply → AppendsFit market H (Withdraw u bits) reply
 unfolding AppendsFit
 withdrawal_fits market H u bits g reply e (inl taken) = reply_fits market H (Withdraw u bits) reply _ taken.1
-    (record { acceptable = subst (λ (o : Option ℕ). IfSome o (λ g. Covers (factor_with H (user_number H u) g) bits)) (sym e) taken.0; in_range = tt })
+    (record { acceptable = subst (λ (o : Option ℕ). IfSome o (λ g. Covers (factor_with H (user_number H u) g) bits)) (sym e) taken.0; in_range = tt; narrow = tt })
 withdrawal_fits market H u bits g reply e (inr short) = reply_fits market H (Withdraw u bits) reply _ short.printed tt
 
 trade_fits : (market : Market) (H : List Entry) (u : List ℕ) (q : QuestionText) (X : ℕ) (seen : Option ℕ) (asked : Asked) (reply : Reply)
-    → question_named (network_of market H) q ≡ Some asked → user_number H u < length (users H) → IsQuestionOf (network_of market H) asked → X ≤ 999999
+    → question_named (network_of market H) q ≡ Some asked → user_number H u < length (users H) → IsQuestionOf (network_of market H) asked
+    → is_wide (cliques_of market H) (asked.target.variable ∷ variables_in asked.condition) ≡ false → X ≤ 999999
     → IsTrade (network_of market H) H (user_number H u) asked X reply → AppendsFit market H (Edit u q X seen) reply
 unfolding AppendsFit
-trade_fits market H u q X seen asked reply named user fits most trade = reply_fits market H (Edit u q X seen) reply _ trade.printed (rw named (record {
-  acceptable = fair_pair_is_safe (network_of market H) H (user_number H u) asked X trade.hit trade.miss (omega arith) trade.fair;
-  in_range = record { user = user; question = fits; hit = trade.fair.hit_units.fair.positive; miss = trade.fair.miss_units.fair.positive };
+trade_fits market H u q X seen asked reply named user fits narrow most trade = reply_fits market H (Edit u q X seen) reply _ trade.printed (rw named (record {
+  acceptable = fair_pair_is_safe (network_of market H) H (user_number H u) asked X trade.hit trade.miss (omega arith) fits.target trade.fair;
+  in_range = record { user = user; ratio = ratio_fits (network_of market H) asked trade.hit trade.miss fits trade.fair.hit_units.fair.positive trade.fair.miss_units.fair.positive };
+  narrow = narrow;
 }))
 
 judged_fits : (market : Market) (H : List Entry) (u : List ℕ) (q : QuestionText) (X : ℕ) (seen : Option ℕ) (asked : Asked) (reply : Reply) (o : Option Interval)
@@ -108,20 +121,25 @@ edit_fits market H quotes u q X seen reply none h =
     let judged = value_of _ (question_named network q) h in
     judged_fits market H u q X seen judged.0 reply (current_limits (last_quote quotes (user_number H u)) judged.0 (revision H))
     (trade_fits market H u q X seen judged.0 reply judged.1 (user_in_range H u refused.1.0) (question_known network q judged.0 refused.1.1.0 judged.1)
-    (number_in_range 999999 X refused.1.1.1.1.1.1.1.1.0).1) judged.2
+    (not_wide market H q judged.0 judged.1 refused.1.1.1.1.1.1.1.0) (number_in_range 999999 X refused.1.1.1.1.1.1.1.1.0).1) judged.2
 
 resolve_fits : (market : Market) (H : List Entry) (p : PairText) (reply : Reply)
     → IsUnrefused market H (Resolve p) → reply ≡ Resolved p (revision H + 1) → AppendsFit market H (Resolve p) reply
 unfolding IsUnrefused AppendsFit
 resolve_fits market H p reply none e =
-    let named = pair_known (network_of market H) p (none_applies (refusals market H (Resolve p)) none).1.0 in
-    reply_fits market H (Resolve p) reply _ e (rw (named.1) (record { acceptable = tt; in_range = named.2 }))
+    let refused = none_applies (refusals market H (Resolve p)) none in
+    let named = pair_known (network_of market H) p refused.1.0 in
+    reply_fits market H (Resolve p) reply _ e (rw (named.1) (record {
+      acceptable = tt;
+      in_range = (named.2, not_resolved (network_of market H) H p named.0 named.1 refused.1.1.0);
+      narrow = tt;
+    }))
 
 answer_fits : (market : Market) (H : List Entry) (quotes : Quotes) (command : Command) (reply : Reply)
     → IsUnrefused market H command → IsAnswer market H quotes command reply → AppendsFit market H command reply
 unfolding AppendsFit
 answer_fits market H quotes (User u) reply none h = user_fits market H u reply h
-answer_fits market H quotes (Deposit u bits) reply none h = reply_fits market H (Deposit u bits) reply _ h (record { acceptable = tt; in_range = tt })
+answer_fits market H quotes (Deposit u bits) reply none h = reply_fits market H (Deposit u bits) reply _ h (record { acceptable = tt; in_range = tt; narrow = tt })
 answer_fits market H quotes (Withdraw u bits) reply none h = let least = value_of _ (least_gain (network_of market H) H (user_number H u) always) h in
     withdrawal_fits market H u bits least.0 reply least.1 least.2
 answer_fits market H quotes (Price q) reply none h = let price = value_of _ (question_named (network_of market H) q) h in
@@ -132,7 +150,7 @@ answer_fits market H quotes (Edit u q X seen) reply none h = edit_fits market H 
 answer_fits market H quotes (Worst u) reply none h = let worst = value_of _ (least_gain (network_of market H) H (user_number H u) always) h in
     reply_fits market H (Worst u) reply _ worst.2.printed tt
 answer_fits market H quotes (Resolve p) reply none h = resolve_fits market H p reply none h
-answer_fits market H quotes Settle reply none h = reply_fits market H Settle reply _ h.printed (record { acceptable = tt; in_range = tt })
+answer_fits market H quotes Settle reply none h = reply_fits market H Settle reply _ h.printed (record { acceptable = tt; in_range = tt; narrow = tt })
 
 -- an allowed reply appends what may be appended
 allowed_fits : (market : Market) (H : List Entry) (quotes : Quotes) (command : Command) (reply : Reply) → IsAllowed market H quotes command reply → AppendsFit market H command reply
@@ -157,5 +175,13 @@ run_keeps market old new (line ∷ lines) [] stands h = absurd h
 run_keeps market old new (line ∷ lines) (reply ∷ replies) stands h =
     run_keeps market (after market old line reply) new lines replies (allowed_keeps market old line reply stands h.0) h.1
 
+pub runs_join : (market : Market) (old middle new : Standing) (first second : List Line) (replies more : List Reply)
+    → Run market old first replies middle → Run market middle second more new → Run market old (first ++ second) (replies ++ more) new
+runs_join market old middle new [] second [] more h k = subst (λ (now : Standing). Run market now second more new) h k
+runs_join market old middle new [] second (reply ∷ replies) more h k = absurd h
+runs_join market old middle new (line ∷ first) second [] more h k = absurd h
+runs_join market old middle new (line ∷ first) second (reply ∷ replies) more h k =
+    (h.0, runs_join market (after market old line reply) middle new first second replies more h.1 k)
+
 pub opening_stands : (market : Market) → Stands market []
-opening_stands market = record { sound = empty_sound (network_of market []); proper = empty_proper (network_of market []) }
+opening_stands market = record { sound = empty_sound (network_of market []); proper = empty_proper (network_of market []); none_wide = tt }

@@ -20,7 +20,7 @@ one_side : (network : List Variable) (H : List Entry) (u : ℕ) (asked : Asked) 
 one_side network H u asked test a b h k = at (least_gain network H u test) h k
   where
     side_of : ℕ → Side
-    side_of g = record { price = price_where network H asked test; least = factor_with H u g }
+    side_of g = record { price = price_where network H asked.condition test; least = factor_with H u g }
 
     at : (o : Option ℕ) → IsSomeAnd o (λ g. a ≡ side_of g) → IsSomeAnd o (λ g. b ≡ side_of g) → a ≡ b
     at None h k = absurd h

@@ -1,20 +1,33 @@
 -- What a settlement pays stays within the cash of each user's factor.
-use Rattle.std.proofs.Common.{◌≡◌, ℕ, zero, suc, ◌+◌, ◌<◌, ◌≤◌, List, [], ◌∷◌, length, All, sym, ◌∙◌, subst, arith}
+use Rattle.std.proofs.Common.{◌≡◌, ℕ, zero, suc, ◌+◌, ◌<◌, ◌≤◌, ◌⊎◌, inl, inr, List, [], ◌∷◌, Option, Some, None, MatchOption, length, All, refl, sym, ap, ◌∙◌, subst, arith}
 use Rattle.std.specs.Prelude.{slice_index}
 use Rattle.std.specs.List.{AllZip, enumerate_from}
 use Rattle.std.proofs.lemmas.List.{length-map}
 use Rattle.std.proofs.lemmas.List.FromFn.{length-enumerate_from}
 use Rattle.std.proofs.lemmas.List.Elements.{All-head}
 use Rattle.std.proofs.lemmas.Slice.Zip.{AllZip-long}
-use Rattle.mk_exact.specs.History.{Entry, users}
-use Rattle.mk_exact.specs.Factors.{factor}
+use Rattle.mk_net.specs.Network.{Variable}
+use Rattle.mk_net.specs.Asked.{Asked}
+use Rattle.mk_exact.specs.Events.{always}
+use Rattle.mk_exact.specs.History.{Entry, users, revision}
+use Rattle.mk_exact.specs.Weight.{IsSmall}
+use Rattle.mk_exact.specs.Factors.{Fraction, factor, factor_with, least_gain}
 use Rattle.mk_exact.specs.Market.{Market, network_of}
 use Rattle.mk_exact.specs.Laws.{IsWithinCash, ArePayments, LossIsBounded}
 use Rattle.mk_exact.proofs.Gains.{settlement_bounded}
+use Rattle.mk_command.specs.declared.command.Command.{Command}
+use Rattle.mk_command.specs.declared.command.Command.TheVariants.{User, Deposit, Withdraw, Price, Limits, Edit, Worst, Resolve, Settle}
+use Rattle.mk_reply.specs.declared.refusal.Refusal.{Refusal}
 use Rattle.mk_reply.specs.declared.reply.Payment.{Payment}
 use Rattle.mk_reply.specs.declared.reply.Reply.{Reply}
-use Rattle.mk_rules.specs.Answers.{IsPayment, IsSettlement}
-use Rattle.mk_rules.specs.Laws.{Stands, paid_by}
+use Rattle.mk_reply.specs.declared.reply.Reply.TheVariants.{Settled, Refused}
+use Rattle.mk_rules.specs.Refusals.{question_named, user_number, first_refusal}
+use Rattle.mk_rules.specs.Quotes.{Interval, Quotes, last_quote, current_limits}
+use Rattle.mk_rules.specs.Answers.{IsPayment, IsSettlement, IsJudged, IsJudgedAfresh, IsWithdrawal, IsAnswer}
+use Rattle.mk_rules.specs.Transcript.{Standing, Line, OfCommand, NoCommand, LongLine, IsAllowedFor}
+use Rattle.mk_rules.specs.Standings.{Stands}
+use Rattle.mk_rules.specs.Laws.{paid_by, CostsAtMost}
+use Rattle.mk_rules.proofs.Options.{value_of}
 
 one_paid : (H : List Entry) (b : ℕ) (s : List ℕ) (user : ℕ × List ℕ) (payment : Payment) → IsPayment H b s user payment → IsWithinCash (factor H (user.0) s) b payment.paid
 one_paid H b s user payment h = record { cash = h.covers.cash; is_cash = h.covers.is_cash; at_most = subst (λ (n : ℕ). n ≤ h.covers.cash) (sym h.low_end) h.covers.above }
@@ -35,12 +48,74 @@ are_payments H b s payments h = record {
   within = λ u inside. each_paid H b s 0 (users H) payments h u u (omega arith) inside;
 }
 
-pub settlement_keeps : (market : Market) (H : List Entry) (reply : Reply) → Stands market H
-    → (settlement : IsSettlement (network_of market H) H market.points_per_bit reply)
-    → LossIsBounded (network_of market H) H market.points_per_bit settlement.state (paid_by settlement.payments)
-settlement_keeps market H reply stands settlement =
-    All-head Bounded settlement.state [] (subst (All Bounded) settlement.one_state (settlement_bounded (network_of market H) H market.points_per_bit stands.sound stands.proper))
-    (paid_by settlement.payments) (are_payments H market.points_per_bit settlement.state settlement.payments settlement.paid)
+payments_in : Reply → List Payment
+payments_in (Settled at payments) = payments.items
+payments_in _ = []
+
+settlement_costs : (market : Market) (H : List Entry) (at : ℕ) (payments : List Payment) → Stands market H
+    → IsSettlement (network_of market H) H market.points_per_bit (Settled at (record { items = payments })) → CostsAtMost market H payments
+unfolding payments_in
+settlement_costs market H at payments stands settlement = record {
+  state = settlement.state;
+  one_state = settlement.one_state;
+  bounded = subst (λ (ps : List Payment). LossIsBounded (network_of market H) H market.points_per_bit settlement.state (paid_by ps)) (sym (ap payments_in settlement.printed))
+      (All-head Bounded settlement.state [] (subst (All Bounded) settlement.one_state (settlement_bounded (network_of market H) H market.points_per_bit stands.sound stands.proper))
+      (paid_by settlement.payments) (are_payments H market.points_per_bit settlement.state settlement.payments settlement.paid));
+}
   where
     Bounded : List ℕ → Type 0
     Bounded s = (paid : List ℕ) → ArePayments H market.points_per_bit s paid → LossIsBounded (network_of market H) H market.points_per_bit s paid
+
+abbrev settling : ℕ → List Payment → Reply
+settling at payments = Settled at (record { items = payments })
+
+-- no other command is answered by a settlement
+withdrawal_settles_not : (small : Type 0) (q : Fraction) (u : List ℕ) (bits n at : ℕ) (payments : List Payment) → IsWithdrawal small q u bits n (settling at payments) → ⊥
+withdrawal_settles_not small q u bits n at payments (inl taken) = let e = taken.1 in cc
+withdrawal_settles_not small q u bits n at payments (inr short) = let e = short.printed in cc
+
+edit_settles_not : (network : List Variable) (H : List Entry) (u : ℕ) (asked : Asked) (X at : ℕ) (payments : List Payment) (o : Option Interval)
+    → MatchOption o (IsJudgedAfresh network H u asked X (settling at payments)) (λ limits. IsJudged network H u asked X limits (settling at payments)) → ⊥
+edit_settles_not network H u asked X at payments None (inl trade) = let e = trade.printed in cc
+edit_settles_not network H u asked X at payments None (inr beyond) = let e = beyond.beyond.printed in cc
+edit_settles_not network H u asked X at payments (Some limits) (inl trade) = let e = trade.1.printed in cc
+edit_settles_not network H u asked X at payments (Some limits) (inr beyond) = let e = beyond.printed in cc
+
+module _ (market : Market) (H : List Entry) (quotes : Quotes) (at : ℕ) (payments : List Payment) where
+  other_settles_not : (command : Command) → (command ≡ Settle → ⊥) → IsAnswer market H quotes command (settling at payments) → ⊥
+  other_settles_not (User u) other (inl e) = cc
+  other_settles_not (User u) other (inr e) = cc
+  other_settles_not (Deposit u bits) other h = cc
+  other_settles_not (Withdraw u bits) other h =
+      let least = value_of _ (least_gain (network_of market H) H (user_number H u) always) h in
+      withdrawal_settles_not (IsSmall (network_of market H) H) (factor_with H (user_number H u) least.0) u bits (revision H + 1) at payments least.2
+  other_settles_not (Price q) other h = let e = (value_of _ (question_named (network_of market H) q) h).2.printed in cc
+  other_settles_not (Limits u q) other h = let e = (value_of _ (question_named (network_of market H) q) h).2.printed in cc
+  other_settles_not (Edit u q X seen) other h =
+      let judged = value_of _ (question_named (network_of market H) q) h in
+      edit_settles_not (network_of market H) H (user_number H u) judged.0 X at payments (current_limits (last_quote quotes (user_number H u)) judged.0 (revision H)) judged.2
+  other_settles_not (Worst u) other h = let e = (value_of _ (least_gain (network_of market H) H (user_number H u) always) h).2.printed in cc
+  other_settles_not (Resolve p) other h = cc
+  other_settles_not Settle other h = other refl
+
+  answer_costs : (command : Command) → Stands market H → IsAnswer market H quotes command (settling at payments) → CostsAtMost market H payments
+  answer_costs Settle stands h = settlement_costs market H at payments stands h
+  answer_costs (User u) stands h = absurd (other_settles_not (User u) (λ e. cc) h)
+  answer_costs (Deposit u bits) stands h = absurd (other_settles_not (Deposit u bits) (λ e. cc) h)
+  answer_costs (Withdraw u bits) stands h = absurd (other_settles_not (Withdraw u bits) (λ e. cc) h)
+  answer_costs (Price q) stands h = absurd (other_settles_not (Price q) (λ e. cc) h)
+  answer_costs (Limits u q) stands h = absurd (other_settles_not (Limits u q) (λ e. cc) h)
+  answer_costs (Edit u q X seen) stands h = absurd (other_settles_not (Edit u q X seen) (λ e. cc) h)
+  answer_costs (Worst u) stands h = absurd (other_settles_not (Worst u) (λ e. cc) h)
+  answer_costs (Resolve p) stands h = absurd (other_settles_not (Resolve p) (λ e. cc) h)
+
+pub settlement_keeps : (market : Market) (now : Standing) (line : Line) (at : ℕ) (payments : List Payment) → Stands market now.history
+    → IsAllowedFor market now line (Settled at (record { items = payments })) → CostsAtMost market now.history payments
+settlement_keeps market now (OfCommand command) at payments stands h = meet (first_refusal market now.history command) h
+  where
+    meet : (o : Option Refusal) → MatchOption o (IsAnswer market now.history now.quotes command (settling at payments)) (λ why. settling at payments ≡ Refused why)
+        → CostsAtMost market now.history payments
+    meet None h = answer_costs market now.history now.quotes at payments command stands h
+    meet (Some why) e = cc
+settlement_keeps market now NoCommand at payments stands h = cc
+settlement_keeps market now LongLine at payments stands h = cc

@@ -1,20 +1,22 @@
 -- What is known of a command that meets none of its refusals.
 use Rattle.std.proofs.Common.{◌≡◌, ℕ, ◌+◌, ◌<◌, ◌≤◌, ◌&&◌, ◌||◌, not, Bool, true, false, cond, leb, List, [], ◌∷◌, Option, Some, None, is_none, length, refl, sym, ap, ◌∙◌, arith}
-use Rattle.std.specs.Prelude.{option_map, find}
-use Rattle.std.specs.List.{AllByRecursion, list_any, position_or_len, filter_map}
+use Rattle.std.specs.Prelude.{option_map, option_and_then, find}
+use Rattle.std.specs.List.{AllByRecursion, list_any, position_or_len, filter_map, cons_option}
 use Rattle.std.proofs.lemmas.Bool.{leb-true, and_parts}
 use Rattle.mk_net.specs.declared.words.Pair.{Pair}
 use Rattle.mk_net.specs.declared.words.PairText.{PairText}
 use Rattle.mk_net.specs.declared.words.QuestionText.{QuestionText}
 use Rattle.mk_net.specs.Texts.{same_text}
 use Rattle.mk_net.specs.Network.{Variable}
-use Rattle.mk_net.specs.Named.{pair_named}
+use Rattle.mk_net.specs.Named.{pair_named, variable_named, value_named}
 use Rattle.mk_net.specs.Asked.{Asked}
+use Rattle.mk_net.specs.Events.{speaks_of}
 use Rattle.mk_net.specs.Firsts.{fault_if, first_of}
 use Rattle.mk_net.proofs.Named.{pair_variable_in_range, pair_value_in_range}
-use Rattle.mk_exact.specs.History.{Entry, users}
+use Rattle.mk_exact.specs.History.{Entry, users, resolutions}
+use Rattle.mk_exact.specs.Market.{Market, network_of, cliques_of}
 use Rattle.mk_exact.specs.Proper.{IsPairOf, IsQuestionOf}
-use Rattle.mk_rules.specs.Refusals.{question_named, pairs_of, user_number, has_joined, no_user, unknown, range}
+use Rattle.mk_rules.specs.Refusals.{question_named, pairs_of, known_pairs, variables_in, user_number, has_joined, is_resolved, is_wide, no_user, unknown, resolved, wide_question, range}
 
 -- where the first of several refusals is none, none of them applies
 pub none_applies : {F : Type 0} (refusals : List (Option F)) → first_of refusals ≡ None → AllByRecursion (λ o. o ≡ None) refusals
@@ -93,3 +95,41 @@ question_known network q asked h e =
   where
     the_value : {a b : Asked} → Some a ≡ Some b → a ≡ b
     the_value h = cc
+
+-- the variable of a pair that is known
+pub variable_known : (network : List Variable) (p : PairText) (pair : Pair) → pair_named network p ≡ Some pair → (v : Variable) × (variable_named network p.variable ≡ Some (pair.variable, v))
+variable_known network p pair h = at (variable_named network p.variable) refl h
+  where
+    place : (k : ℕ) (o : Option ℕ) → option_map (λ (x : ℕ). record { variable = k; value = x }) o ≡ Some pair → k ≡ pair.variable
+    place k None h = cc
+    place k (Some x) h = ap (λ (o : Option Pair). elim o [ None ↦ k | Some t ↦ t.variable ]) h
+
+    at : (o : Option (ℕ × Variable)) → variable_named network p.variable ≡ o → option_and_then (value_named p.value) o ≡ Some pair
+        → (v : Variable) × (variable_named network p.variable ≡ Some (pair.variable, v))
+    at None e h = cc
+    at (Some (k, v)) e h = (v, e ∙ ap (λ (n : ℕ). Some (n, v)) (place k _ h))
+
+pub not_resolved : (network : List Variable) (H : List Entry) (p : PairText) (pair : Pair) → pair_named network p ≡ Some pair → resolved network H p.variable ≡ None
+    → speaks_of (resolutions H) pair.variable ≡ false
+not_resolved network H p pair named h =
+    let known = variable_known network p pair named in
+    rw known.1 at (not_faulted _ _ h)
+
+-- the target of a question
+pub target_named : (network : List Variable) (q : QuestionText) (asked : Asked) → question_named network q ≡ Some asked
+    → (pair_named network q.target ≡ Some asked.target) × (asked.condition ≡ known_pairs network q.condition.items)
+target_named network q asked h = at (pair_named network q.target) refl h
+  where
+    at : (o : Option Pair) → pair_named network q.target ≡ o → option_map (λ (t : Pair). record { target = t; condition = known_pairs network q.condition.items }) o ≡ Some asked
+        → (pair_named network q.target ≡ Some asked.target) × (asked.condition ≡ known_pairs network q.condition.items)
+    at None e h = cc
+    at (Some t) e h = let same : record { target = t; condition = known_pairs network q.condition.items } ≡ asked = cc in (e ∙ ap (λ (a : Asked). Some a.target) same, ap (λ (a : Asked). a.condition) (sym same))
+
+-- a question that is not wide
+pub not_wide : (market : Market) (H : List Entry) (q : QuestionText) (asked : Asked) → question_named (network_of market H) q ≡ Some asked → wide_question market H q ≡ None
+    → is_wide (cliques_of market H) (asked.target.variable ∷ variables_in asked.condition) ≡ false
+not_wide market H q asked named h =
+    let parts = target_named (network_of market H) q asked named in
+    ap (λ (ps : List Pair). is_wide (cliques_of market H) (asked.target.variable ∷ variables_in ps)) parts.1
+    ∙ ap (λ (o : Option Pair). is_wide (cliques_of market H) (variables_in (cons_option o (known_pairs (network_of market H) q.condition.items)))) (sym parts.0)
+    ∙ not_faulted _ _ h

@@ -12,7 +12,7 @@ use Rattle.mk_exact.specs.Factors.{Fraction, factor, factor_with, least_gain}
 use Rattle.mk_exact.specs.Prices.{CoversPrice, exact_price}
 use Rattle.mk_exact.specs.Cash.{CoversCash}
 use Rattle.mk_exact.specs.Limits.{Inside}
-use Rattle.mk_exact.specs.Sides.{AreRightLimits, IsFairPair}
+use Rattle.mk_exact.specs.Sides.{AreRightLimits, IsFairPair, ratio_in}
 use Rattle.mk_exact.specs.Accepted.{Covers, IsMost}
 use Rattle.mk_exact.specs.Market.{Market, network_of}
 use Rattle.mk_command.specs.declared.command.Command.{Command}
@@ -22,7 +22,7 @@ use Rattle.mk_reply.specs.declared.reply.Payment.{Payment}
 use Rattle.mk_reply.specs.declared.reply.Reply.{Reply}
 use Rattle.mk_reply.specs.declared.reply.Reply.TheVariants.{Joined, Deposited, Withdrawn, Price as Priced, Limits as Limited, Traded, Worst as Worsted, Resolved, Settled, Refused}
 use Rattle.mk_rules.specs.Refusals.{question_named, user_number, first_refusal}
-use Rattle.mk_rules.specs.Quotes.{Interval, Quotes, last_quote, current_limits}
+use Rattle.mk_rules.specs.Quotes.{Interval, EditLimits, Quotes, last_quote, current_limits}
 
 -- a trade with a fair and solvent pair
 pub record IsTrade (network : List Variable) (H : List Entry) (u : ℕ) (asked : Asked) (X : ℕ) (reply : Reply) : Type 0 where
@@ -131,7 +131,8 @@ entry_of market H (User u) (Joined _ _) = Some (Join u)
 entry_of market H (Deposit u bits) (Deposited _ _ _) = Some (Deposits (user_number H u) bits)
 entry_of market H (Withdraw u bits) (Withdrawn _ _ _) = Some (Withdraws (user_number H u) bits)
 entry_of market H (Edit u q X seen) (Traded hit miss _) =
-    option_map (λ asked. Trade (user_number H u) (record { question = asked; hit = hit; miss = miss })) (question_named (network_of market H) q)
+    let network = network_of market H in
+    option_map (λ asked. Trade (user_number H u) (ratio_in network asked hit miss)) (question_named network q)
 entry_of market H (Resolve p) (Resolved _ _) = option_map Resolves (pair_named (network_of market H) p)
 entry_of market H Settle (Settled _ _) = Some Settles
 entry_of market H _ _ = None
@@ -139,15 +140,15 @@ entry_of market H _ _ = None
 abbrev pub next_history : Market → List Entry → Command → Reply → List Entry
 next_history market H command reply = H ++ option_to_list (entry_of market H command reply)
 
--- a user's quote of this question, at this revision, with these limits
-abbrev pub quoted : Market → List Entry → Quotes → List ℕ → QuestionText → Interval → Quotes
-quoted market H quotes u q limits =
+-- the quotes once a user was quoted these limits of a question at this revision
+abbrev pub with_limits : Market → List Entry → Quotes → List ℕ → QuestionText → Interval → Quotes
+with_limits market H quotes u q limits =
     slice_set quotes (user_number H u)
-    (option_map (λ asked. record { question = asked; at = revision H; limits = limits }) (question_named (network_of market H) q))
+    (option_map (λ asked. record { says = EditLimits asked limits; at = revision H }) (question_named (network_of market H) q))
 
 -- a new user has no quote, `limits` and `beyond` set the user's, and nothing else changes one
 abbrev pub next_quotes : Market → List Entry → Quotes → Command → Reply → Quotes
 next_quotes market H quotes (User u) (Joined _ _) = quotes ++ None ∷ []
-next_quotes market H quotes (Limits u q) (Limited limits _) = quoted market H quotes u q limits
-next_quotes market H quotes (Edit u q X seen) (Refused (Beyond limits)) = quoted market H quotes u q limits
+next_quotes market H quotes (Limits u q) (Limited limits _) = with_limits market H quotes u q limits
+next_quotes market H quotes (Edit u q X seen) (Refused (Beyond limits)) = with_limits market H quotes u q limits
 next_quotes market H quotes _ _ = quotes

@@ -1,20 +1,20 @@
 -- Refusals, replies, quotes and a short run in three small markets.
-use Rattle.std.specs.Prelude.{◌≡◌, ℕ, List, [], ◌∷◌, ◌++◌, map, codes, Option, Some, None}
+use Rattle.std.specs.Prelude.{◌≡◌, ℕ, List, [], ◌∷◌, ◌++◌, map, replicate, codes, Option, Some, None}
 use Rattle.std.specs.List.{range_with_len}
 use Rattle.mk_net.specs.declared.words.PairText.{PairText}
 use Rattle.mk_net.specs.declared.words.QuestionText.{QuestionText}
 use Rattle.mk_net.specs.Asked.{Asked}
-use Rattle.mk_exact.specs.History.{Entry, Join, Withdraw as Withdraws, Resolve as Resolves, Settle as Settles}
+use Rattle.mk_exact.specs.History.{Entry, Join, Deposit as Deposits, Withdraw as Withdraws, Resolve as Resolves, Settle as Settles}
 use Rattle.mk_exact.specs.Market.{Market}
 use Rattle.mk_exact.specs.Examples.{coin, weather, chain, is, ask, alice, deposited_one, heads_taken, rain_taken}
-use Rattle.mk_command.specs.declared.command.Command.TheVariants.{User, Deposit, Withdraw, Price, Limits, Edit, Resolve, Settle}
+use Rattle.mk_command.specs.declared.command.Command.TheVariants.{User, Deposit, Withdraw, Price, Limits, Edit, Worst, Resolve, Settle}
 use Rattle.mk_reply.specs.declared.refusal.Refusal.TheVariants.{Settled as IsSettled, User as NoUser, Exists, Users, Unknown, Twice, Stale, Resolved, Impossible, Wide, Range, Full, Beyond, Short, Unresolved, Memory}
 use Rattle.mk_reply.specs.declared.reply.Payment.{Payment}
 use Rattle.mk_reply.specs.declared.reply.Reply.{Reply}
-use Rattle.mk_reply.specs.declared.reply.Reply.TheVariants.{Joined, Deposited, Withdrawn, Price as Priced, Limits as Limited, Traded, Settled, Refused}
+use Rattle.mk_reply.specs.declared.reply.Reply.TheVariants.{Joined, Deposited, Withdrawn, Price as Priced, Limits as Limited, Traded, Worst as Worsted, Resolved as NowResolved, Settled, Refused}
 use Rattle.mk_rules.specs.Refusals.{first_refusal}
-use Rattle.mk_rules.specs.Quotes.{Quote, last_quote, current_limits}
-use Rattle.mk_rules.specs.Answers.{IsAllowed, next_history}
+use Rattle.mk_rules.specs.Quotes.{Quote, EditLimits, last_quote, current_limits}
+use Rattle.mk_rules.specs.Answers.{IsAllowed, next_history, next_quotes}
 use Rattle.mk_rules.specs.Transcript.{Standing, opening, Line, OfCommand, Run}
 
 -- a coin; a coin whose market takes one trade; the weather; and a chain of three
@@ -110,6 +110,67 @@ pub record AreRefused : Type 0 where
   pub in_a_clique : first_refusal chain_market [] (Price (question b_up [])) ≡ None
   pub under_a_condition : first_refusal chain_market [] (Price (question a_up (b_up ∷ []))) ≡ None
 
+-- a user whom nobody knows, and more pairs of words
+abbrev pub zed : List ℕ
+zed = codes "zed"
+
+abbrev pub a_down : PairText
+a_down = words (codes "a") (codes "down")
+
+abbrev pub b_down : PairText
+b_down = words (codes "b") (codes "down")
+
+abbrev pub b_left : PairText
+b_left = words (codes "b") (codes "left")
+
+abbrev pub side : PairText
+side = words (codes "coin") (codes "side")
+
+-- alice has joined, and in the chain a is up and b as well
+abbrev pub two_up : List Entry
+two_up = Join alice ∷ Resolves (is 0 0) ∷ Resolves (is 1 0) ∷ []
+
+-- as many deposits as a market takes
+abbrev pub many_transfers : List Entry
+many_transfers = Join alice ∷ replicate 65536 (Deposits 0 1)
+
+-- where two refusals apply, this one of them comes first: for each two neighbours of a command's list
+pub record ComeInOrder : Type 0 where
+  pub user_settled : first_refusal coin_market all_paid (User alice) ≡ Some IsSettled
+  pub user_exists : first_refusal coin_market (crowd 256) (User (codes "a")) ≡ Some (Exists (codes "a"))
+  pub deposit_settled : first_refusal coin_market all_paid (Deposit zed 1) ≡ Some IsSettled
+  pub deposit_no_user : first_refusal coin_market [] (Deposit zed 1001) ≡ Some (NoUser zed)
+  pub deposit_range : first_refusal coin_market many_transfers (Deposit alice 0) ≡ Some (Range 0)
+  pub deposit_full : first_refusal coin_market many_transfers (Deposit alice 1) ≡ Some (Full 65536)
+  pub withdraw_settled : first_refusal coin_market all_paid (Withdraw zed 1) ≡ Some IsSettled
+  pub withdraw_no_user : first_refusal coin_market [] (Withdraw zed 1001) ≡ Some (NoUser zed)
+  pub withdraw_range : first_refusal coin_market many_transfers (Withdraw alice 1001) ≡ Some (Range 1001)
+  pub withdraw_full : first_refusal coin_market many_transfers (Withdraw alice 1) ≡ Some (Full 65536)
+  pub price_settled : first_refusal coin_market all_paid (Price (question side [])) ≡ Some IsSettled
+  pub price_unknown : first_refusal chain_market [] (Price (question c_left (c_down ∷ []))) ≡ Some (Unknown c_left)
+  pub price_twice : first_refusal chain_market two_up (Price (question a_up (a_up ∷ []))) ≡ Some (Twice (codes "a"))
+  pub price_resolved : first_refusal chain_market two_up (Price (question a_up (b_down ∷ []))) ≡ Some (Resolved (codes "a"))
+  pub price_impossible : first_refusal chain_market two_up (Price (question c_up (a_down ∷ []))) ≡ Some (Impossible a_down)
+  pub limits_settled : first_refusal coin_market all_paid (Limits zed is_heads) ≡ Some IsSettled
+  pub limits_no_user : first_refusal chain_market [] (Limits zed (question c_left [])) ≡ Some (NoUser zed)
+  pub limits_unknown : first_refusal chain_market two_up (Limits alice (question c_up (b_left ∷ b_up ∷ []))) ≡ Some (Unknown b_left)
+  pub limits_twice : first_refusal chain_market two_up (Limits alice (question a_up (a_up ∷ []))) ≡ Some (Twice (codes "a"))
+  pub limits_resolved : first_refusal chain_market two_up (Limits alice (question a_up (b_down ∷ []))) ≡ Some (Resolved (codes "a"))
+  pub limits_impossible : first_refusal chain_market two_up (Limits alice (question c_up (a_down ∷ []))) ≡ Some (Impossible a_down)
+  pub edit_settled : first_refusal coin_market all_paid (Edit zed is_heads 600000 None) ≡ Some IsSettled
+  pub edit_no_user : first_refusal chain_market [] (Edit zed (question c_left []) 600000 None) ≡ Some (NoUser zed)
+  pub edit_unknown : first_refusal chain_market two_up (Edit alice (question c_up (b_left ∷ b_up ∷ [])) 600000 None) ≡ Some (Unknown b_left)
+  pub edit_twice : first_refusal chain_market two_up (Edit alice (question c_up (c_down ∷ [])) 600000 (Some 4)) ≡ Some (Twice (codes "c"))
+  pub edit_stale : first_refusal chain_market two_up (Edit alice (question a_up []) 600000 (Some 4)) ≡ Some (Stale 4 3)
+  pub edit_resolved : first_refusal chain_market two_up (Edit alice (question a_up (b_down ∷ [])) 600000 None) ≡ Some (Resolved (codes "a"))
+  pub edit_impossible : first_refusal chain_market two_up (Edit alice (question c_up (a_down ∷ [])) 600000 None) ≡ Some (Impossible a_down)
+  pub edit_wide : first_refusal chain_market two_up (Edit alice (question c_up (a_up ∷ [])) 0 None) ≡ Some Wide
+  pub edit_range : first_refusal one_trade heads_taken (Edit alice is_heads 1000000 None) ≡ Some (Range 1000000)
+  pub worst_settled : first_refusal coin_market all_paid (Worst zed) ≡ Some IsSettled
+  pub resolve_settled : first_refusal coin_market all_paid (Resolve side) ≡ Some IsSettled
+  pub resolve_unknown : first_refusal coin_market heads_up (Resolve side) ≡ Some (Unknown side)
+  pub settle_settled : first_refusal coin_market (Settles ∷ []) Settle ≡ Some IsSettled
+
 -- replies that are allowed, and replies that are not
 pub record AreAnswered : Type 0 where
   pub price : IsAllowed coin_market [] [] (Price is_heads) (Priced 5000000000 5000000000)
@@ -122,6 +183,32 @@ pub record AreAnswered : Type 0 where
   pub same_revision : IsAllowed coin_market [] [] (User alice) (Joined alice 0) → ⊥
   pub joined_again : IsAllowed coin_market deposited_one [] (User alice) (Joined alice 3) → ⊥
   pub memory_again : IsAllowed coin_market deposited_one [] (User alice) (Refused Memory) → ⊥
+
+-- alice's least worth is that in tails
+pub record IsWorstPaid : Type 0 where
+  pub allowed : IsAllowed coin_market heads_taken (None ∷ []) (Worst alice) (Worsted 67 67)
+  pub wider : IsAllowed coin_market heads_taken (None ∷ []) (Worst alice) (Worsted 66 67)
+  pub not_above : IsAllowed coin_market heads_taken (None ∷ []) (Worst alice) (Worsted 68 68) → ⊥
+  pub not_wide : IsAllowed coin_market heads_taken (None ∷ []) (Worst alice) (Worsted 66 68) → ⊥
+  pub appended : next_history coin_market heads_taken (Worst alice) (Worsted 67 67) ≡ heads_taken
+
+-- heads come up
+pub record IsResolved : Type 0 where
+  pub allowed : IsAllowed coin_market both_joined [] (Resolve is_heads.target) (NowResolved is_heads.target 5)
+  pub not_now : IsAllowed coin_market both_joined [] (Resolve is_heads.target) (NowResolved is_heads.target 4) → ⊥
+  pub appended : next_history coin_market both_joined (Resolve is_heads.target) (NowResolved is_heads.target 5) ≡ heads_up
+
+-- alice's trade, and her quote at the revision before it
+abbrev pub closing : Standing
+closing = record { history = heads_taken; quotes = Some (record { says = EditLimits (ask 0 0 []) (Some (250000, 750000)); at = 2 }) ∷ [] }
+
+-- an edit of a user who was quoted nothing is judged afresh
+pub record IsJudgedByNewLimits : Type 0 where
+  pub beyond : IsAllowed coin_market deposited_one (None ∷ []) (Edit alice is_heads 750001 None) (Refused (Beyond (Some (250000, 750000))))
+  pub quoted : next_quotes coin_market deposited_one (None ∷ []) (Edit alice is_heads 750001 None) (Refused (Beyond (Some (250000, 750000)))) ≡ closing.quotes
+  pub not_inside : IsAllowed coin_market deposited_one (None ∷ []) (Edit alice is_heads 600000 None) (Refused (Beyond (Some (250000, 750000)))) → ⊥
+  pub not_wider : IsAllowed coin_market deposited_one (None ∷ []) (Edit alice is_heads 750002 None) (Refused (Beyond (Some (250000, 750001)))) → ⊥
+  pub not_none : IsAllowed coin_market deposited_one (None ∷ []) (Edit alice is_heads 750001 None) (Refused (Beyond None)) → ⊥
 
 -- alice takes out the bit that she paid in
 pub record IsTakenOut : Type 0 where
@@ -142,6 +229,7 @@ pub record IsPaid : Type 0 where
   pub not_high : IsAllowed coin_market heads_up [] Settle (settled_with (paying alice 126 127 127 ∷ paying bob 0 0 0 ∷ [])) → ⊥
   pub not_above : IsAllowed coin_market heads_up [] Settle (settled_with (paying alice 127 128 127 ∷ paying bob 0 0 0 ∷ [])) → ⊥
   pub not_one : IsAllowed coin_market heads_up [] Settle (settled_with (paying alice 126 126 126 ∷ [])) → ⊥
+  pub appended : next_history coin_market heads_up Settle (settled_with (paying alice 126 126 126 ∷ paying bob 0 0 0 ∷ [])) ≡ all_paid
   pub in_order : IsAllowed coin_market heads_up [] Settle (settled_with (paying bob 0 0 0 ∷ paying alice 126 126 126 ∷ [])) → ⊥
 
 -- a quote for a question under two conditions
@@ -149,7 +237,7 @@ abbrev pub under_both : Asked
 under_both = ask 2 0 (is 0 0 ∷ is 1 0 ∷ [])
 
 abbrev pub quote_of : Asked → ℕ → Option Quote
-quote_of asked at = Some (record { question = asked; at = at; limits = Some (250000, 750000) })
+quote_of asked at = Some (record { says = EditLimits asked (Some (250000, 750000)); at = at })
 
 -- when a quote judges an edit
 pub record AreCurrent : Type 0 where
@@ -171,10 +259,6 @@ lines = OfCommand (User alice) ∷ OfCommand (Deposit alice 1) ∷ OfCommand (Li
 abbrev pub replies : List Reply
 replies = Joined alice 1 ∷ Deposited alice 1 2 ∷ Limited (Some (250000, 750000)) 2 ∷ Refused (Beyond (Some (250000, 750000)))
     ∷ Traded 1319413953331 879609302220 3 ∷ Priced 6000000000 6000000001 ∷ Refused (Short 0) ∷ []
-
--- her quote stands at the revision before her trade
-abbrev pub closing : Standing
-closing = record { history = heads_taken; quotes = Some (record { question = ask 0 0 []; at = 2; limits = Some (250000, 750000) }) ∷ [] }
 
 pub record RunsThrough : Type 0 where
   pub run : Run coin_market opening lines replies closing

@@ -1,44 +1,66 @@
 -- The laws of the market's rules. Each is the contract of a function of this crate, and so proved.
-use Rattle.std.specs.Prelude.{◌≡◌, ℕ, ◌≤◌, List, map, All, Some}
+use Rattle.std.specs.Prelude.{◌≡◌, ℕ, ◌≤◌, List, [], ◌∷◌, ◌++◌, map, All, Option, Some, None, ⊤, ◌↔◌}
 use Rattle.mk_net.specs.Network.{Variable}
+use Rattle.mk_net.specs.declared.words.QuestionText.{QuestionText}
 use Rattle.mk_net.specs.Asked.{Asked}
 use Rattle.mk_exact.specs.Events.{always}
-use Rattle.mk_exact.specs.History.{Entry}
+use Rattle.mk_exact.specs.History.{Entry, revision}
 use Rattle.mk_exact.specs.Weight.{possible_states, IsSmall}
-use Rattle.mk_exact.specs.Proper.{IsProper}
-use Rattle.mk_exact.specs.Sound.{IsSound}
 use Rattle.mk_exact.specs.Market.{Market, network_of}
+use Rattle.mk_exact.specs.Limits.{Inside}
 use Rattle.mk_exact.specs.Laws.{GainsAreBounded, LossIsBounded}
 use Rattle.mk_command.specs.declared.command.Command.{Command}
+use Rattle.mk_command.specs.declared.command.Command.TheVariants.{Edit}
 use Rattle.mk_reply.specs.declared.refusal.Refusal.{Refusal}
 use Rattle.mk_reply.specs.declared.reply.Payment.{Payment}
 use Rattle.mk_reply.specs.declared.reply.Reply.{Reply}
-use Rattle.mk_rules.specs.Refusals.{first_refusal}
-use Rattle.mk_rules.specs.Quotes.{Quotes}
-use Rattle.mk_rules.specs.Answers.{IsAllowed, IsTrade, IsBeyondRight, IsSettlement}
-use Rattle.mk_rules.specs.Transcript.{Standing, opening, Line, IsAllowedFor, after, Run}
+use Rattle.mk_reply.specs.declared.reply.Reply.TheVariants.{Traded, Settled}
+use Rattle.mk_rules.specs.Refusals.{question_named, user_number, first_refusal}
+use Rattle.mk_rules.specs.Quotes.{Interval, Quotes, no_quotes, last_quote, current_limits}
+use Rattle.mk_rules.specs.Answers.{IsAllowed, IsTrade, IsBeyondRight}
+use Rattle.mk_rules.specs.Transcript.{Standing, opening, Line, OfCommand, IsAllowedFor, after, Run}
+use Rattle.mk_rules.specs.Standings.{Stands, IsReady}
 
--- nobody can be bankrupt and the operator's loss is bounded, and users, pairs and units are in range
-pub record Stands (market : Market) (H : List Entry) : Type 0 where
-  pub sound : IsSound (network_of market H) H
-  pub proper : IsProper (network_of market H) H
-
--- an allowed reply to any line keeps that
+-- an allowed reply to any line leads from a history that stands to one that does
 abbrev pub AllowedKeeps : Type 0
 AllowedKeeps = (market : Market) (now : Standing) (line : Line) (reply : Reply)
     → Stands market now.history → IsAllowedFor market now line reply → Stands market (after market now line reply).history
 
--- and so each run keeps it
+-- and so does each run
 abbrev pub RunKeeps : Type 0
 RunKeeps = (market : Market) (old new : Standing) (lines : List Line) (replies : List Reply)
     → Stands market old.history → Run market old lines replies new → Stands market new.history
 
--- after each run from the opening that holds
+-- the history after each run from the opening stands
 abbrev pub RunStands : Type 0
 RunStands = (market : Market) (new : Standing) (lines : List Line) (replies : List Reply)
     → Run market opening lines replies new → Stands market new.history
 
--- and in each possible state, what all users have gained is at most one over its initial probability
+-- a history that stands is ready where its users were quoted nothing, as after a restart and at the opening
+abbrev pub UnquotedIsReady : Type 0
+UnquotedIsReady = (market : Market) (H : List Entry) → Stands market H → IsReady market (record { history = H; quotes = no_quotes H })
+
+-- an allowed reply to any line leads from a ready standing to a ready one
+abbrev pub ReadyKeeps : Type 0
+ReadyKeeps = (market : Market) (now : Standing) (line : Line) (reply : Reply)
+    → IsReady market now → IsAllowedFor market now line reply → IsReady market (after market now line reply)
+
+-- and so does each run
+abbrev pub RunKeepsReady : Type 0
+RunKeepsReady = (market : Market) (old new : Standing) (lines : List Line) (replies : List Reply)
+    → IsReady market old → Run market old lines replies new → IsReady market new
+
+-- the standing after each run from the opening is ready
+abbrev pub RunIsReady : Type 0
+RunIsReady = (market : Market) (new : Standing) (lines : List Line) (replies : List Reply)
+    → Run market opening lines replies new → IsReady market new
+
+-- a run goes on where another ended
+abbrev pub RunsJoin : Type 0
+RunsJoin = (market : Market) (old middle new : Standing) (first second : List Line) (replies more : List Reply)
+    → Run market old first replies middle → Run market middle second more new → Run market old (first ++ second) (replies ++ more) new
+
+-- and in each possible state after it, what all users have gained is at most one over its initial probability
 abbrev pub RunIsBounded : Type 0
 RunIsBounded = (market : Market) (new : Standing) (lines : List Line) (replies : List Reply)
     → Run market opening lines replies new
@@ -48,11 +70,30 @@ RunIsBounded = (market : Market) (new : Standing) (lines : List Line) (replies :
 abbrev pub paid_by : List Payment → List ℕ
 paid_by payments = map (λ (p : Payment). p.paid) payments
 
--- a settlement costs the operator at most the bound
+-- in the one possible state the payments cost the operator at most the bound
+pub record CostsAtMost (market : Market) (H : List Entry) (payments : List Payment) : Type 0 where
+  pub state : List ℕ
+  pub one_state : possible_states (network_of market H) H always ≡ state ∷ []
+  pub bounded : LossIsBounded (network_of market H) H market.points_per_bit state (paid_by payments)
+
+-- a settlement that is allowed does
 abbrev pub SettlementKeeps : Type 0
-SettlementKeeps = (market : Market) (H : List Entry) (reply : Reply) → Stands market H
-    → (settlement : IsSettlement (network_of market H) H market.points_per_bit reply)
-    → LossIsBounded (network_of market H) H market.points_per_bit settlement.state (paid_by settlement.payments)
+SettlementKeeps = (market : Market) (now : Standing) (line : Line) (at : ℕ) (payments : List Payment) → Stands market now.history
+    → IsAllowedFor market now line (Settled at (record { items = payments })) → CostsAtMost market now.history payments
+
+-- the reply to an edit is a trade
+abbrev pub IsTraded : Reply → Type 0
+IsTraded (Traded hit miss at) = ⊤
+IsTraded _ = ⊥
+
+-- an edit that no refusal of the table meets, and whose user was quoted limits for it at this revision, is a trade exactly where its
+-- share is inside them
+abbrev pub JudgedExactly : Type 0
+JudgedExactly = (market : Market) (now : Standing) (u : List ℕ) (q : QuestionText) (X : ℕ) (seen : Option ℕ) (asked : Asked)
+    (limits : Interval) (reply : Reply) → first_refusal market now.history (Edit u q X seen) ≡ None
+    → question_named (network_of market now.history) q ≡ Some asked
+    → current_limits (last_quote now.quotes (user_number now.history u)) asked (revision now.history) ≡ Some limits
+    → IsAllowedFor market now (OfCommand (Edit u q X seen)) reply → IsTraded reply ↔ Inside limits X
 
 -- a refusal of the table is the one allowed reply
 abbrev pub OneRefusal : Type 0

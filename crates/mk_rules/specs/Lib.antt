@@ -2,5 +2,6 @@ pub mod Refusals
 pub mod Quotes
 pub mod Answers
 pub mod Transcript
+pub mod Standings
 pub mod Laws
 pub mod Examples

@@ -6,8 +6,9 @@ use Rattle.mk_net.specs.declared.words.PairText.{PairText}
 use Rattle.mk_net.specs.declared.words.QuestionText.{QuestionText}
 use Rattle.mk_net.specs.Texts.{same_text}
 use Rattle.mk_net.specs.Network.{Variable}
-use Rattle.mk_net.specs.Named.{pair_named}
+use Rattle.mk_net.specs.Named.{pair_named, variable_named}
 use Rattle.mk_net.specs.Asked.{Asked}
+use Rattle.mk_net.specs.Events.{speaks_of}
 use Rattle.mk_net.specs.Firsts.{fault_if, first_of}
 use Rattle.mk_exact.specs.History.{Entry, users, trades, resolutions, is_settled, is_transfer, revision}
 use Rattle.mk_exact.specs.Market.{Market, network_of, cliques_of}
@@ -20,10 +21,22 @@ use Rattle.mk_reply.specs.declared.refusal.Refusal.TheVariants.{Settled, User as
 abbrev pub pairs_of : QuestionText → List PairText
 pairs_of q = q.target ∷ q.condition.items
 
+-- the variables of some pairs in words, in the same order
+abbrev pub names_in : List PairText → List (List ℕ)
+names_in pairs = map (λ (p : PairText). p.variable) pairs
+
+-- the variables of some pairs
+abbrev pub variables_in : List Pair → List ℕ
+variables_in pairs = map (λ (p : Pair). p.variable) pairs
+
+-- the pairs that the network knows among some in words
+abbrev pub known_pairs : List Variable → List PairText → List Pair
+known_pairs network pairs = filter_map (pair_named network) pairs
+
 -- a question in the network's numbers; where its target is unknown there is none
 abbrev pub question_named : List Variable → QuestionText → Option Asked
 question_named network q =
-    option_map (λ t. record { target = t; condition = filter_map (pair_named network) q.condition.items }) (pair_named network q.target)
+    option_map (λ t. record { target = t; condition = known_pairs network q.condition.items }) (pair_named network q.target)
 
 -- a user's number, from 0 in the order of joining
 abbrev pub user_number : List Entry → List ℕ → ℕ
@@ -33,7 +46,7 @@ abbrev pub has_joined : List Entry → List ℕ → Bool
 has_joined H u = list_any (same_text u) (users H)
 
 abbrev pub is_resolved : List Entry → ℕ → Bool
-is_resolved H v = list_any (λ (r : Pair). r.variable == v) (resolutions H)
+is_resolved H v = speaks_of (resolutions H) v
 
 -- a resolution gave the pair's variable another value
 abbrev pub contradicts : List Entry → Pair → Bool
@@ -49,10 +62,9 @@ first_repeat before [] = None
 first_repeat before (name ∷ names) =
     if list_any (same_text name) before then Some name else first_repeat (name ∷ before) names
 
--- no clique holds all variables of a question
-abbrev pub is_wide : List (List ℕ) → Asked → Bool
-is_wide cliques asked =
-    not (list_any (λ clique. list_all (λ (p : Pair). list_any (λ v. v == p.variable) clique) (asked.target ∷ asked.condition)) cliques)
+-- no clique holds each of some variables
+abbrev pub is_wide : List (List ℕ) → List ℕ → Bool
+is_wide cliques variables = not (list_any (λ clique. list_all (λ x. list_any (λ v. v == x) clique) variables) cliques)
 
 abbrev pub settled : List Entry → Option Refusal
 settled H = fault_if (is_settled H) Settled
@@ -69,21 +81,25 @@ users_full H = fault_if (nat_le 256 (length (users H))) (Users 256)
 abbrev pub unknown : List Variable → List PairText → Option Refusal
 unknown network pairs = option_map Unknown (find (λ p. is_none (pair_named network p)) pairs)
 
-abbrev pub twice : QuestionText → Option Refusal
-twice q = option_map Twice (first_repeat [] (map (λ (p : PairText). p.variable) (pairs_of q)))
+abbrev pub twice : List (List ℕ) → Option Refusal
+twice names = option_map Twice (first_repeat [] names)
 
 abbrev pub stale : List Entry → Option ℕ → Option Refusal
 stale H None = None
 stale H (Some named) = fault_if (not (named == revision H)) (Stale named (revision H))
 
-abbrev pub resolved : List Variable → List Entry → PairText → Option Refusal
-resolved network H p = fault_if (passes (λ (t : Pair). is_resolved H t.variable) (pair_named network p)) (Resolved p.variable)
+abbrev pub resolved : List Variable → List Entry → List ℕ → Option Refusal
+resolved network H name = fault_if (passes (λ (numbered : ℕ × Variable). is_resolved H (numbered.0)) (variable_named network name)) (Resolved name)
 
 abbrev pub impossible : List Variable → List Entry → List PairText → Option Refusal
 impossible network H pairs = option_map Impossible (find (λ p. passes (contradicts H) (pair_named network p)) pairs)
 
-abbrev pub wide : List Variable → List (List ℕ) → QuestionText → Option Refusal
-wide network cliques q = fault_if (passes (is_wide cliques) (question_named network q)) Wide
+abbrev pub wide : List (List ℕ) → List ℕ → Option Refusal
+wide cliques variables = fault_if (is_wide cliques variables) Wide
+
+-- a question is wide where the variables of its pairs are
+abbrev pub wide_question : Market → List Entry → QuestionText → Option Refusal
+wide_question market H q = wide (cliques_of market H) (variables_in (known_pairs (network_of market H) (pairs_of q)))
 
 -- a number is 1 to a most
 abbrev pub range : ℕ → ℕ → Option Refusal
@@ -112,20 +128,21 @@ refusals market H (Deposit u bits) = settled H ∷ no_user H u ∷ range 1000 bi
 refusals market H (Withdraw u bits) = settled H ∷ no_user H u ∷ range 1000 bits ∷ transfers_full H ∷ []
 refusals market H (Price q) =
     let network = network_of market H in
-    settled H ∷ unknown network (pairs_of q) ∷ twice q ∷ resolved network H q.target ∷ impossible network H q.condition.items
-    ∷ wide network (cliques_of market H) q ∷ []
+    settled H ∷ unknown network (pairs_of q) ∷ twice (names_in (pairs_of q)) ∷ resolved network H q.target.variable
+    ∷ impossible network H q.condition.items ∷ wide_question market H q ∷ []
 refusals market H (Limits u q) =
     let network = network_of market H in
-    settled H ∷ no_user H u ∷ unknown network (pairs_of q) ∷ twice q ∷ resolved network H q.target
-    ∷ impossible network H q.condition.items ∷ wide network (cliques_of market H) q ∷ []
+    settled H ∷ no_user H u ∷ unknown network (pairs_of q) ∷ twice (names_in (pairs_of q)) ∷ resolved network H q.target.variable
+    ∷ impossible network H q.condition.items ∷ wide_question market H q ∷ []
 refusals market H (Edit u q to seen) =
     let network = network_of market H in
-    settled H ∷ no_user H u ∷ unknown network (pairs_of q) ∷ twice q ∷ stale H seen ∷ resolved network H q.target
-    ∷ impossible network H q.condition.items ∷ wide network (cliques_of market H) q ∷ range 999999 to ∷ trades_full market H ∷ []
+    settled H ∷ no_user H u ∷ unknown network (pairs_of q) ∷ twice (names_in (pairs_of q)) ∷ stale H seen
+    ∷ resolved network H q.target.variable ∷ impossible network H q.condition.items ∷ wide_question market H q
+    ∷ range 999999 to ∷ trades_full market H ∷ []
 refusals market H (Worst u) = settled H ∷ no_user H u ∷ []
 refusals market H (Resolve p) =
     let network = network_of market H in
-    settled H ∷ unknown network (p ∷ []) ∷ resolved network H p ∷ []
+    settled H ∷ unknown network (p ∷ []) ∷ resolved network H p.variable ∷ []
 refusals market H Settle = settled H ∷ unresolved (network_of market H) H ∷ []
 
 -- the first that applies

@@ -1,11 +1,16 @@
 //! The rules at work in three small markets.
-ghost use Rattle.mk_rules.specs.Examples.{AreRefused, AreAnswered, AreCurrent, IsTakenOut, IsPaid, RunsThrough};
+ghost use Rattle.mk_rules.specs.Examples.{AreRefused, ComeInOrder, AreAnswered, AreCurrent, IsTakenOut, IsWorstPaid, IsResolved, IsPaid, IsJudgedByNewLimits, RunsThrough};
 
 use mk_exact::{example_cash, example_limits};
 
 /// Each refusal where it comes first, and commands that meet none.
 pub fn example_refusals()
     ensures { AreRefused }
+{}
+
+/// For each two neighbours among a command's refusals, that the first of them comes where both apply.
+pub fn example_order()
+    ensures { ComeInOrder }
 {}
 
 /// Replies that are allowed, and replies that are not.
@@ -22,6 +27,25 @@ pub fn example_quotes()
 pub fn example_withdrawal()
     ensures { IsTakenOut }
 {}
+
+/// What a user is worth at least.
+pub fn example_worst()
+    ensures { IsWorstPaid }
+{
+    example_cash();
+}
+
+/// A resolution and the entry that it appends.
+pub fn example_resolution()
+    ensures { IsResolved }
+{}
+
+/// An edit that is judged by limits made for its reply.
+pub fn example_judged_afresh()
+    ensures { IsJudgedByNewLimits }
+{
+    example_limits();
+}
 
 /// The payments of a settlement, and payments that are not allowed.
 pub fn example_settlement()

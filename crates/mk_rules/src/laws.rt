@@ -1,5 +1,5 @@
 //! What allowed replies keep.
-ghost use Rattle.mk_rules.specs.Laws.{AllowedKeeps, RunKeeps, RunStands, RunIsBounded, SettlementKeeps, OneRefusal, OneKind};
+ghost use Rattle.mk_rules.specs.Laws.{AllowedKeeps, RunKeeps, RunStands, UnquotedIsReady, ReadyKeeps, RunKeepsReady, RunIsReady, RunsJoin, RunIsBounded, SettlementKeeps, JudgedExactly, OneRefusal, OneKind};
 
 /// An allowed reply leads from a sound history to a sound one, whatever the line, and users, pairs and units stay in range.
 pub fn allowed_keeps()
@@ -16,6 +16,31 @@ pub fn run_stands()
     ensures { RunStands }
 {}
 
+/// A history that stands is ready where its users were quoted nothing.
+pub fn unquoted_is_ready()
+    ensures { UnquotedIsReady }
+{}
+
+/// An allowed reply leads from a ready standing to a ready one, whatever the line.
+pub fn ready_keeps()
+    ensures { ReadyKeeps }
+{}
+
+/// So does a run of any length.
+pub fn run_keeps_ready()
+    ensures { RunKeepsReady }
+{}
+
+/// The standing after each run from the opening is ready.
+pub fn run_is_ready()
+    ensures { RunIsReady }
+{}
+
+/// A run that goes on where another ended makes one run with it.
+pub fn runs_join()
+    ensures { RunsJoin }
+{}
+
 /// After each run from the opening, all users together have gained at most one over a possible state's initial
 /// probability.
 pub fn run_is_bounded()
@@ -25,6 +50,11 @@ pub fn run_is_bounded()
 /// A settlement that is allowed costs the operator at most the bound.
 pub fn settlement_keeps()
     ensures { SettlementKeeps }
+{}
+
+/// An edit under limits that were quoted is a trade exactly where its share is inside of them.
+pub fn judged_exactly()
+    ensures { JudgedExactly }
 {}
 
 /// Where a refusal of the table applies, one reply is allowed.

@@ -7,9 +7,11 @@ mod examples;
 mod laws;
 
 pub use examples::{
-    example_answers, example_quotes, example_refusals, example_run, example_settlement,
-    example_withdrawal,
+    example_answers, example_judged_afresh, example_order, example_quotes, example_refusals,
+    example_resolution, example_run, example_settlement, example_withdrawal, example_worst,
 };
 pub use laws::{
-    allowed_keeps, one_kind, one_refusal, run_is_bounded, run_keeps, run_stands, settlement_keeps,
+    allowed_keeps, judged_exactly, one_kind, one_refusal, ready_keeps, run_is_bounded,
+    run_is_ready, run_keeps, run_keeps_ready, run_stands, runs_join, settlement_keeps,
+    unquoted_is_ready,
 };

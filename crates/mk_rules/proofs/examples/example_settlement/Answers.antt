@@ -1,7 +1,5 @@
-use Rattle.std.proofs.Common.{◌≡◌, ℕ, ◌+◌, ◌*◌, ◌^◌, ◌<◌, ◌≤◌, ◌⊎◌, inl, inr, List, [], ◌∷◌, get_or, refl, sym, ap, subst, arith, mul-le-mul_right}
+use Rattle.std.proofs.Common.{◌≡◌, ℕ, ◌≤◌, List, [], ◌∷◌, get_or, refl, sym, ap, subst, arith}
 use Rattle.std.specs.List.{AllZip, enumerate_from}
-use Rattle.std.proofs.Math.Nat.{pow-le-pow_right}
-use Rattle.std.proofs.lemmas.Bool.{cases_lt}
 use Rattle.mk_exact.specs.History.{users}
 use Rattle.mk_exact.specs.Factors.{Fraction, factor}
 use Rattle.mk_exact.specs.Cash.{IsCash, CoversCash}
@@ -11,18 +9,8 @@ use Rattle.mk_reply.specs.declared.reply.Reply.{Reply}
 use Rattle.mk_reply.specs.declared.reply.Reply.TheVariants.{Settled}
 use Rattle.mk_rules.specs.Answers.{IsPayment, IsSettlement}
 use Rattle.mk_rules.specs.Examples.{bob, heads_up, paying, settled_with}
+use Rattle.mk_rules.proofs.Cashed.{no_more}
 use Rattle.mk_rules.proofs.examples.example_settlement.Goals as goal
-
--- a factor has no more cash than its cash
-no_more : (q : Fraction) (b k n : ℕ) → IsCash q b k → IsCash q b n → n ≤ k
-no_more q b k n h cash = at (cases_lt k n)
-  where
-    at : (k < n) ⊎ (n ≤ k) → n ≤ k
-    at (inl more) =
-        let powers : 2 ^ (k + 1) ≤ 2 ^ n = (let p : k + 1 ≤ n = omega arith in pow-le-pow_right {n = 2} (omega arith) p) in
-        let most : 2 ^ (k + 1) * q.den ^ b ≤ 2 ^ n * q.den ^ b = mul-le-mul_right (q.den ^ b) powers in
-        omega (arith, h.greatest, cash.covered)
-    at (inr most) = most
 
 alice_covers : (high : ℕ) → 126 ≤ high → high ≤ 127 → IsCash (factor heads_taken 0 (0 ∷ [])) 100 126 → CoversCash (factor heads_up 0 (0 ∷ [])) 100 126 high
 alice_covers high p q h = record { cash = 126; is_cash = h; above = omega arith; below = omega arith; narrow = omega arith }
@@ -60,5 +48,6 @@ returns c = record {
   not_above = λ h. let covers = (are_paid _ h).0.covers in
       omega (arith, no_more (factor heads_up 0 (0 ∷ [])) 100 126 covers.cash c.example_cash.ensures.heads_cash covers.is_cash, covers.above);
   not_one = λ h. (are_paid _ h).1;
+  appended = refl;
   in_order = λ h. omega (arith, ap (λ (name : List ℕ). get_or name 0 0) (are_paid _ h).0.name);
 }

@@ -1,7 +1,7 @@
 use Rattle.mk_exact.specs.Market.{network_of}
 use Rattle.mk_exact.proofs.Gains.{gains_bounded}
 use Rattle.mk_rules.specs.Transcript.{opening}
-use Rattle.mk_rules.specs.Laws.{Stands}
+use Rattle.mk_rules.specs.Standings.{Stands}
 use Rattle.mk_rules.proofs.Keeps.{run_keeps, opening_stands}
 use Rattle.mk_rules.proofs.laws.run_is_bounded.Goals as goal
 

@@ -2,4 +2,4 @@ use Rattle.mk_rules.proofs.laws.settlement_keeps.Goals as goal
 use Rattle.mk_rules.proofs.Paid.{settlement_keeps}
 
 pub returns : goal.returns
-returns c = λ market H reply. settlement_keeps market H reply
+returns c = settlement_keeps

@@ -1,0 +1,75 @@
+-- What is known of the last quotes of users, when one of them is set and when a user joins.
+use Rattle.std.proofs.Common.{◌≡◌, ℕ, zero, suc, ◌+◌, ◌<◌, ◌≤◌, Bool, true, false, cond, ◌&&◌, List, [], ◌∷◌, ◌++◌, length, Option, Some, None, IfSome, refl, sym, ap, ap₂, ◌∙◌, subst, arith}
+use Rattle.std.specs.Prelude.{◌==◌, slice_set}
+use Rattle.std.specs.Cmp.Lexicographic.{pointwise}
+use Rattle.std.proofs.lemmas.Bool.{eqb-true, and_parts}
+use Rattle.mk_net.specs.declared.words.Pair.{Pair}
+use Rattle.mk_net.specs.Asked.{Asked}
+use Rattle.mk_exact.specs.History.{Entry, revision}
+use Rattle.mk_exact.specs.Sides.{AreRightLimits}
+use Rattle.mk_exact.specs.Market.{Market, network_of}
+use Rattle.mk_rules.specs.Quotes.{Interval, Quoted, EditLimits, Quote, Quotes, last_quote, same_pair, same_question, limits_in, current_limits}
+use Rattle.mk_rules.specs.Standings.{IsRightQuote}
+
+-- something holds of each user's last quote
+abbrev pub Each : (ℕ → Quote → Type 0) → Quotes → Type 0
+Each P quotes = (u : ℕ) → IfSome (last_quote quotes u) (P u)
+
+pub each_set : (P : ℕ → Quote → Type 0) (quotes : Quotes) (n : ℕ) (o : Option Quote) → Each P quotes → IfSome o (P n) → Each P (slice_set quotes n o)
+each_set P [] n o h k u = tt
+each_set P (q ∷ quotes) zero o h k zero = k
+each_set P (q ∷ quotes) zero o h k (suc u) = h (suc u)
+each_set P (q ∷ quotes) (suc n) o h k zero = h zero
+each_set P (q ∷ quotes) (suc n) o h k (suc u) = each_set (λ v. P (suc v)) quotes n o (λ v. h (suc v)) k u
+
+pub each_pushed : (P : ℕ → Quote → Type 0) (quotes : Quotes) → Each P quotes → Each P (quotes ++ None ∷ [])
+each_pushed P [] h zero = tt
+each_pushed P [] h (suc u) = tt
+each_pushed P (q ∷ quotes) h zero = h zero
+each_pushed P (q ∷ quotes) h (suc u) = each_pushed (λ v. P (suc v)) quotes (λ v. h (suc v)) u
+
+weaker : (P Q : Quote → Type 0) → ((quote : Quote) → P quote → Q quote) → (o : Option Quote) → IfSome o P → IfSome o Q
+weaker P Q f None h = tt
+weaker P Q f (Some quote) h = f quote h
+
+pub each_weaker : (P Q : ℕ → Quote → Type 0) → ((u : ℕ) (quote : Quote) → P u quote → Q u quote) → (quotes : Quotes) → Each P quotes → Each Q quotes
+each_weaker P Q f quotes h u = weaker (P u) (Q u) (f u) (last_quote quotes u) (h u)
+
+-- the same question is an equal one
+same_pair_is : (a b : Pair) → same_pair a b ≡ true → a ≡ b
+same_pair_is a b h =
+    let parts = and_parts (a.variable == b.variable) (a.value == b.value) h in
+    ap₂ (λ (variable value : ℕ). record { variable = variable; value = value }) (eqb-true a.variable b.variable parts.0) (eqb-true a.value b.value parts.1)
+
+same_pairs_are : (xs ys : List Pair) → pointwise same_pair xs ys ≡ true → xs ≡ ys
+same_pairs_are [] [] h = refl
+same_pairs_are [] (b ∷ ys) h = cc
+same_pairs_are (a ∷ xs) [] h = cc
+same_pairs_are (a ∷ xs) (b ∷ ys) h =
+    let parts = and_parts (same_pair a b) (pointwise same_pair xs ys) h in
+    ap₂ (λ (p : Pair) (ps : List Pair). p ∷ ps) (same_pair_is a b parts.0) (same_pairs_are xs ys parts.1)
+
+pub same_question_is : (a b : Asked) → same_question a b ≡ true → a ≡ b
+same_question_is a b h =
+    let parts = and_parts (same_pair a.target b.target) (pointwise same_pair a.condition b.condition) h in
+    ap₂ (λ (p : Pair) (ps : List Pair). record { target = p; condition = ps }) (same_pair_is a.target b.target parts.0) (same_pairs_are a.condition b.condition parts.1)
+
+-- limits that a right quote holds for a question at the present revision are right
+module _ (market : Market) (H : List Entry) (u : ℕ) (asked : Asked) (limits : Interval) where
+  abbrev AreRightHere : Asked → Interval → Type 0
+  AreRightHere question held = AreRightLimits (network_of market H) H u question held
+
+  of_question : (question : Asked) (held : Interval) (b : Bool) → same_question question asked ≡ b → AreRightHere question held → cond b (Some held) None ≡ Some limits → AreRightHere asked limits
+  of_question question held false e right h = cc
+  of_question question held true e right h =
+      let same : held ≡ limits = cc in
+      subst (λ (l : Interval). AreRightHere asked l) same (subst (λ (a : Asked). AreRightHere a held) (same_question_is question asked e) right)
+
+  of_quote : (says : Quoted) (at : ℕ) (b : Bool) → (at == revision H) ≡ b → IsRightQuote market H u (record { says = says; at = at })
+      → cond b (limits_in says asked) None ≡ Some limits → AreRightHere asked limits
+  of_quote (EditLimits question held) at false e right h = cc
+  of_quote (EditLimits question held) at true e right h = of_question question held (same_question question asked) refl (right.right (eqb-true at (revision H) e)) h
+
+  pub current_right : (o : Option Quote) → IfSome o (IsRightQuote market H u) → current_limits o asked (revision H) ≡ Some limits → AreRightLimits (network_of market H) H u asked limits
+  current_right None right h = cc
+  current_right (Some quote) right h = of_quote quote.says quote.at (quote.at == revision H) refl right h

@@ -1,0 +1,266 @@
+-- An allowed reply leads from a ready standing to a ready one.
+use Rattle.std.proofs.Common.{◌≡◌, ℕ, zero, suc, ◌+◌, ◌<◌, ◌≤◌, ◌⊎◌, inl, inr, Bool, true, false, cond, List, [], ◌∷◌, ◌++◌, map, length, Option, Some, None, IfSome, MatchOption, refl, sym, ap, ◌∙◌, subst, arith, append-nil, length-append}
+use Rattle.std.specs.Prelude.{option_map, option_to_list, slice_set, ⊤}
+use Rattle.std.specs.List.{AllByRecursion}
+use Rattle.std.proofs.lemmas.List.{length-set, length-map}
+use Rattle.mk_net.specs.declared.words.PairText.{PairText}
+use Rattle.mk_net.specs.declared.words.QuestionText.{QuestionText}
+use Rattle.mk_net.specs.Network.{Variable}
+use Rattle.mk_net.specs.Named.{pair_named}
+use Rattle.mk_net.specs.Asked.{Asked}
+use Rattle.mk_net.specs.Firsts.{fault_if, first_of}
+use Rattle.mk_exact.specs.Events.{always}
+use Rattle.mk_exact.specs.History.{Entry, Join, Deposit as Deposits, Withdraw as Withdraws, Trade, Resolve as Resolves, Settle as Settles, join_in, users, revision}
+use Rattle.mk_exact.specs.Weight.{IsSmall}
+use Rattle.mk_exact.specs.Factors.{factor_with, least_gain}
+use Rattle.mk_exact.specs.Sides.{AreRightLimits, ratio_in}
+use Rattle.mk_exact.specs.Market.{Market, network_of}
+use Rattle.mk_exact.proofs.After.{users_kept, users_more}
+use Rattle.mk_command.specs.declared.command.Command.{Command}
+use Rattle.mk_command.specs.declared.command.Command.TheVariants.{User, Deposit, Withdraw, Price, Limits, Edit, Worst, Resolve, Settle}
+use Rattle.mk_reply.specs.declared.refusal.Refusal.{Refusal}
+use Rattle.mk_reply.specs.declared.refusal.Refusal.TheVariants.{Syntax, Long, Settled as IsSettled, User as NoUser, Exists, Users, Unknown, Twice, Stale, Resolved as IsResolved, Impossible, Wide, Range, Full, Beyond, Short, Unresolved, Memory}
+use Rattle.mk_reply.specs.declared.reply.Reply.{Reply}
+use Rattle.mk_reply.specs.declared.reply.Reply.TheVariants.{Joined, Traded, Limits as Limited, Resolved, Refused}
+use Rattle.mk_rules.specs.Refusals.{question_named, user_number, stale, refusals, first_refusal}
+use Rattle.mk_rules.specs.Quotes.{Interval, EditLimits, Quote, Quotes, no_quotes, last_quote, current_limits}
+use Rattle.mk_rules.specs.Answers.{IsTrade, IsJudged, IsJudgedAfresh, IsBeyond, IsWithdrawal, IsAnswer, IsAllowed, next_quotes}
+use Rattle.mk_rules.specs.Transcript.{Standing, opening, Line, OfCommand, NoCommand, LongLine, IsAllowedFor, after, Run}
+use Rattle.mk_rules.specs.Standings.{Stands, IsRightQuote, IsReady}
+use Rattle.mk_rules.proofs.Options.{value_of}
+use Rattle.mk_rules.proofs.Keeps.{allowed_keeps, opening_stands}
+use Rattle.mk_rules.proofs.Quoted.{Each, each_set, each_pushed, each_weaker, current_right}
+
+-- what is known of the quotes beside a history
+record AreKept (market : Market) (H : List Entry) (quotes : Quotes) : Type 0 where
+  one_place_each : length quotes ≡ length (users H)
+  right : Each (IsRightQuote market H) quotes
+
+-- a quote that was right is one of an earlier revision after an entry
+quote_later : (market : Market) (H : List Entry) (e : Entry) (u : ℕ) (quote : Quote) → IsRightQuote market H u quote → IsRightQuote market (H ++ e ∷ []) u quote
+quote_later market H e u quote h =
+    let longer : length (H ++ e ∷ []) ≡ length H + 1 = length-append H (e ∷ []) in
+    record { not_later = omega (arith, h.not_later); right = λ same. absurd (omega (arith, h.not_later)) }
+
+module _ (market : Market) (H : List Entry) (quotes : Quotes) (kept : AreKept market H quotes) where
+  after_entry : (e : Entry) → join_in e ≡ None → AreKept market (H ++ e ∷ []) quotes
+  after_entry e other = record {
+    one_place_each = kept.one_place_each ∙ sym (ap length (users_kept H e other));
+    right = each_weaker (IsRightQuote market H) (IsRightQuote market (H ++ e ∷ [])) (quote_later market H e) quotes kept.right;
+  }
+
+  after_join : (name : List ℕ) → AreKept market (H ++ Join name ∷ []) (quotes ++ None ∷ [])
+  after_join name = record {
+    one_place_each = length-append quotes (None ∷ []) ∙ ap (λ (n : ℕ). n + 1) kept.one_place_each ∙ sym (length-append (users H) (name ∷ [])) ∙ sym (ap length (users_more H name));
+    right = each_pushed (IsRightQuote market (H ++ Join name ∷ [])) quotes
+        (each_weaker (IsRightQuote market H) (IsRightQuote market (H ++ Join name ∷ [])) (quote_later market H (Join name)) quotes kept.right);
+  }
+
+  after_quote : (n : ℕ) (o : Option Quote) → IfSome o (IsRightQuote market H n) → AreKept market H (slice_set quotes n o)
+  after_quote n o right = record {
+    one_place_each = length-set quotes n o ∙ kept.one_place_each;
+    right = each_set (IsRightQuote market H) quotes n o kept.right right;
+  }
+
+-- the standing after a reply to a command
+KeptAfter : Market → Standing → Command → Reply → Type 0
+KeptAfter market now command reply = AreKept market (after market now (OfCommand command) reply).history (after market now (OfCommand command) reply).quotes
+
+reply_kept : (market : Market) (now : Standing) (command : Command) (reply known : Reply) → reply ≡ known → KeptAfter market now command known → KeptAfter market now command reply
+reply_kept market now command reply known e h = subst (KeptAfter market now command) (sym e) h
+
+mapped : {X Y : Type 0} (P : Y → Type 0) (f : X → Y) → ((x : X) → P (f x)) → (o : Option X) → IfSome (option_map f o) P
+mapped P f each None = tt
+mapped P f each (Some x) = each x
+
+-- no refusal of the table carries limits
+CarriesNoLimits : Refusal → Type 0
+CarriesNoLimits (Beyond limits) = ⊥
+CarriesNoLimits _ = ⊤
+
+faulted : (test : Bool) (why : Refusal) → CarriesNoLimits why → IfSome (fault_if test why) CarriesNoLimits
+faulted true why h = h
+faulted false why h = tt
+
+first_carries_none : (faults : List (Option Refusal)) → AllByRecursion (λ o. IfSome o CarriesNoLimits) faults → IfSome (first_of faults) CarriesNoLimits
+first_carries_none [] h = tt
+first_carries_none (None ∷ later) h = first_carries_none later h.1
+first_carries_none (Some why ∷ later) h = h.0
+
+stale_carries_none : (H : List Entry) (seen : Option ℕ) → IfSome (stale H seen) CarriesNoLimits
+unfolding CarriesNoLimits
+stale_carries_none H None = tt
+stale_carries_none H (Some named) = faulted _ _ tt
+
+pair_carries_none : (f : PairText → Refusal) → ((p : PairText) → CarriesNoLimits (f p)) → (o : Option PairText) → IfSome (option_map f o) CarriesNoLimits
+pair_carries_none f each o = mapped CarriesNoLimits f each o
+
+name_carries_none : (f : List ℕ → Refusal) → ((name : List ℕ) → CarriesNoLimits (f name)) → (o : Option (List ℕ)) → IfSome (option_map f o) CarriesNoLimits
+name_carries_none f each o = mapped CarriesNoLimits f each o
+
+edit_carries_none : (market : Market) (H : List Entry) (u : List ℕ) (q : QuestionText) (X : ℕ) (seen : Option ℕ)
+    → AllByRecursion (λ o. IfSome o CarriesNoLimits) (refusals market H (Edit u q X seen))
+unfolding CarriesNoLimits
+edit_carries_none market H u q X seen = (
+  faulted _ _ tt,
+  (
+    faulted _ _ tt,
+    (
+      pair_carries_none Unknown (λ p. tt) _,
+      (
+        name_carries_none Twice (λ name. tt) _,
+        (
+          stale_carries_none H seen,
+          (faulted _ _ tt, (pair_carries_none Impossible (λ p. tt) _, (faulted _ _ tt, (faulted _ _ tt, (faulted _ _ tt, tt))))),
+        ),
+      ),
+    ),
+  ),
+)
+
+edit_stays : (market : Market) (H : List Entry) (quotes : Quotes) (u : List ℕ) (q : QuestionText) (X : ℕ) (seen : Option ℕ) (why : Refusal) → CarriesNoLimits why
+    → next_quotes market H quotes (Edit u q X seen) (Refused why) ≡ quotes
+unfolding CarriesNoLimits
+edit_stays market H quotes u q X seen Syntax h = refl
+edit_stays market H quotes u q X seen Long h = refl
+edit_stays market H quotes u q X seen IsSettled h = refl
+edit_stays market H quotes u q X seen (NoUser name) h = refl
+edit_stays market H quotes u q X seen (Exists name) h = refl
+edit_stays market H quotes u q X seen (Users held) h = refl
+edit_stays market H quotes u q X seen (Unknown pair) h = refl
+edit_stays market H quotes u q X seen (Twice name) h = refl
+edit_stays market H quotes u q X seen (Stale named now) h = refl
+edit_stays market H quotes u q X seen (IsResolved name) h = refl
+edit_stays market H quotes u q X seen (Impossible pair) h = refl
+edit_stays market H quotes u q X seen Wide h = refl
+edit_stays market H quotes u q X seen (Range n) h = refl
+edit_stays market H quotes u q X seen (Full held) h = refl
+edit_stays market H quotes u q X seen (Beyond limits) h = absurd h
+edit_stays market H quotes u q X seen (Short bits) h = refl
+edit_stays market H quotes u q X seen (Unresolved name) h = refl
+edit_stays market H quotes u q X seen Memory h = refl
+
+value_has : {X : Type 0} (P : X → Type 0) (o : Option X) (x : X) → o ≡ Some x → IfSome o P → P x
+value_has P o x e h = subst (λ (o : Option _). IfSome o P) e h
+
+module _ (market : Market) (now : Standing) (kept : AreKept market now.history now.quotes) where
+  stays : (quotes : Quotes) → AreKept market now.history quotes → AreKept market (now.history ++ []) quotes
+  stays quotes h = subst (λ (H : List Entry). AreKept market H quotes) (sym (append-nil now.history)) h
+
+  after_some : (o : Option Entry) → IfSome o (λ e. join_in e ≡ None) → AreKept market (now.history ++ option_to_list o) now.quotes
+  after_some None h = stays now.quotes kept
+  after_some (Some e) other = after_entry market now.history now.quotes kept e other
+
+  refused_kept : (command : Command) (why : Refusal) → first_refusal market now.history command ≡ Some why → KeptAfter market now command (Refused why)
+  unfolding KeptAfter
+  refused_kept (User u) why h = stays now.quotes kept
+  refused_kept (Deposit u bits) why h = stays now.quotes kept
+  refused_kept (Withdraw u bits) why h = stays now.quotes kept
+  refused_kept (Price q) why h = stays now.quotes kept
+  refused_kept (Limits u q) why h = stays now.quotes kept
+  refused_kept (Edit u q X seen) why h =
+      let carries : CarriesNoLimits why = value_has CarriesNoLimits _ why h (first_carries_none (refusals market now.history (Edit u q X seen)) (edit_carries_none market now.history u q X seen)) in
+      stays (next_quotes market now.history now.quotes (Edit u q X seen) (Refused why))
+      (subst (AreKept market now.history) (sym (edit_stays market now.history now.quotes u q X seen why carries)) kept)
+  refused_kept (Worst u) why h = stays now.quotes kept
+  refused_kept (Resolve p) why h = stays now.quotes kept
+  refused_kept Settle why h = stays now.quotes kept
+
+  -- limits that are right are quoted
+  quoted_kept : (n : ℕ) (asked : Asked) (limits : Interval) (o : Option Asked) → o ≡ Some asked → AreRightLimits (network_of market now.history) now.history n asked limits
+      → AreKept market (now.history ++ []) (slice_set now.quotes n (option_map (λ (asked : Asked). record { says = EditLimits asked limits; at = revision now.history }) o))
+  quoted_kept n asked limits o named right =
+      rw named (stays _ (after_quote market now.history now.quotes kept n (Some (record { says = EditLimits asked limits; at = revision now.history }))
+      (record { not_later = omega arith; right = λ same. right })))
+
+  withdrawal_kept : (u : List ℕ) (bits g : ℕ) (reply : Reply) → IsWithdrawal (IsSmall (network_of market now.history) now.history) (factor_with now.history (user_number now.history u) g) u bits (revision now.history + 1) reply
+      → KeptAfter market now (Withdraw u bits) reply
+  unfolding KeptAfter
+  withdrawal_kept u bits g reply (inl taken) = reply_kept market now (Withdraw u bits) reply _ taken.1 (after_some (Some (Withdraws (user_number now.history u) bits)) refl)
+  withdrawal_kept u bits g reply (inr short) = reply_kept market now (Withdraw u bits) reply _ short.printed (stays now.quotes kept)
+
+  trade_kept : (u : List ℕ) (q : QuestionText) (X : ℕ) (seen : Option ℕ) (n : ℕ) (asked : Asked) (reply : Reply) → IsTrade (network_of market now.history) now.history n asked X reply
+      → KeptAfter market now (Edit u q X seen) reply
+  unfolding KeptAfter
+  trade_kept u q X seen n asked reply trade = reply_kept market now (Edit u q X seen) reply _ trade.printed
+      (after_some _ (mapped (λ (e : Entry). join_in e ≡ None) _ (λ asked. refl) (question_named (network_of market now.history) q)))
+
+  beyond_kept : (u : List ℕ) (q : QuestionText) (X : ℕ) (seen : Option ℕ) (asked : Asked) (limits : Interval) (reply : Reply) → question_named (network_of market now.history) q ≡ Some asked
+      → AreRightLimits (network_of market now.history) now.history (user_number now.history u) asked limits → IsBeyond limits X reply → KeptAfter market now (Edit u q X seen) reply
+  unfolding KeptAfter
+  beyond_kept u q X seen asked limits reply named right beyond = reply_kept market now (Edit u q X seen) reply _ beyond.printed
+      (quoted_kept (user_number now.history u) asked limits _ named right)
+
+  judged_kept : (u : List ℕ) (q : QuestionText) (X : ℕ) (seen : Option ℕ) (asked : Asked) (reply : Reply) → question_named (network_of market now.history) q ≡ Some asked
+      → (o : Option Interval) → current_limits (last_quote now.quotes (user_number now.history u)) asked (revision now.history) ≡ o
+      → MatchOption o (IsJudgedAfresh (network_of market now.history) now.history (user_number now.history u) asked X reply)
+      (λ limits. IsJudged (network_of market now.history) now.history (user_number now.history u) asked X limits reply) → KeptAfter market now (Edit u q X seen) reply
+  judged_kept u q X seen asked reply named None e (inl trade) = trade_kept u q X seen (user_number now.history u) asked reply trade
+  judged_kept u q X seen asked reply named None e (inr beyond) = beyond_kept u q X seen asked beyond.limits reply named beyond.right beyond.beyond
+  judged_kept u q X seen asked reply named (Some limits) e (inl trade) = trade_kept u q X seen (user_number now.history u) asked reply trade.1
+  judged_kept u q X seen asked reply named (Some limits) e (inr beyond) = beyond_kept u q X seen asked limits reply named
+      (current_right market now.history (user_number now.history u) asked limits (last_quote now.quotes (user_number now.history u)) (kept.right (user_number now.history u)) e) beyond
+
+  answer_kept : (command : Command) (reply : Reply) → IsAnswer market now.history now.quotes command reply → KeptAfter market now command reply
+  unfolding KeptAfter
+  answer_kept (User u) reply (inl e) = reply_kept market now (User u) reply _ e (after_join market now.history now.quotes kept u)
+  answer_kept (User u) reply (inr e) = reply_kept market now (User u) reply _ e (stays now.quotes kept)
+  answer_kept (Deposit u bits) reply h = reply_kept market now (Deposit u bits) reply _ h (after_some (Some (Deposits (user_number now.history u) bits)) refl)
+  answer_kept (Withdraw u bits) reply h = let least = value_of _ (least_gain (network_of market now.history) now.history (user_number now.history u) always) h in
+      withdrawal_kept u bits least.0 reply least.2
+  answer_kept (Price q) reply h = reply_kept market now (Price q) reply _ (value_of _ (question_named (network_of market now.history) q) h).2.printed (stays now.quotes kept)
+  answer_kept (Limits u q) reply h = let limits = value_of _ (question_named (network_of market now.history) q) h in
+      reply_kept market now (Limits u q) reply _ limits.2.printed (quoted_kept (user_number now.history u) limits.0 limits.2.limits _ limits.1 limits.2.right)
+  answer_kept (Edit u q X seen) reply h = let judged = value_of _ (question_named (network_of market now.history) q) h in
+      judged_kept u q X seen judged.0 reply judged.1 (current_limits (last_quote now.quotes (user_number now.history u)) judged.0 (revision now.history)) refl judged.2
+  answer_kept (Worst u) reply h = reply_kept market now (Worst u) reply _ (value_of _ (least_gain (network_of market now.history) now.history (user_number now.history u) always) h).2.printed (stays now.quotes kept)
+  answer_kept (Resolve p) reply h = reply_kept market now (Resolve p) reply _ h (after_some _ (mapped (λ (e : Entry). join_in e ≡ None) _ (λ pair. refl) (pair_named (network_of market now.history) p)))
+  answer_kept Settle reply h = reply_kept market now Settle reply _ h.printed (after_some (Some Settles) refl)
+
+  allowed_kept : (command : Command) (reply : Reply) → IsAllowed market now.history now.quotes command reply → KeptAfter market now command reply
+  allowed_kept command reply h = meet (first_refusal market now.history command) refl h
+    where
+      meet : (o : Option Refusal) → first_refusal market now.history command ≡ o → MatchOption o (IsAnswer market now.history now.quotes command reply) (λ why. reply ≡ Refused why)
+          → KeptAfter market now command reply
+      meet None e h = answer_kept command reply h
+      meet (Some why) e h = reply_kept market now command reply _ h (refused_kept command why e)
+
+are_kept : (market : Market) (now : Standing) → IsReady market now → AreKept market now.history now.quotes
+are_kept market now ready = record { one_place_each = ready.one_place_each; right = ready.quotes_right }
+
+pub ready_keeps : (market : Market) (now : Standing) (line : Line) (reply : Reply) → IsReady market now → IsAllowedFor market now line reply → IsReady market (after market now line reply)
+unfolding KeptAfter
+ready_keeps market now (OfCommand command) reply ready h =
+    let kept = allowed_kept market now (are_kept market now ready) command reply h in
+    record { stands = allowed_keeps market now (OfCommand command) reply ready.stands h; one_place_each = kept.one_place_each; quotes_right = kept.right }
+ready_keeps market now NoCommand reply ready h = ready
+ready_keeps market now LongLine reply ready h = ready
+
+pub run_keeps_ready : (market : Market) (old new : Standing) (lines : List Line) (replies : List Reply) → IsReady market old → Run market old lines replies new → IsReady market new
+run_keeps_ready market old new [] [] ready h = subst (IsReady market) (sym h) ready
+run_keeps_ready market old new [] (reply ∷ replies) ready h = absurd h
+run_keeps_ready market old new (line ∷ lines) [] ready h = absurd h
+run_keeps_ready market old new (line ∷ lines) (reply ∷ replies) ready h =
+    run_keeps_ready market (after market old line reply) new lines replies (ready_keeps market old line reply ready h.0) h.1
+
+-- no user was quoted anything
+abbrev none_held : List ℕ → Option Quote
+none_held name = None
+
+abbrev no_quotes_of : List (List ℕ) → Quotes
+no_quotes_of names = map (λ name. None) names
+
+nothing_quoted : (names : List (List ℕ)) (u : ℕ) (P : Quote → Type 0) → IfSome (last_quote (no_quotes_of names) u) P
+nothing_quoted [] u P = tt
+nothing_quoted (name ∷ names) zero P = tt
+nothing_quoted (name ∷ names) (suc u) P = nothing_quoted names u P
+
+pub unquoted_is_ready : (market : Market) (H : List Entry) → Stands market H → IsReady market (record { history = H; quotes = no_quotes H })
+unquoted_is_ready market H stands = record {
+  stands = stands;
+  one_place_each = length-map (users H) none_held;
+  quotes_right = λ u. nothing_quoted (users H) u (IsRightQuote market H u);
+}
+
+pub opening_is_ready : (market : Market) → IsReady market opening
+opening_is_ready market = unquoted_is_ready market [] (opening_stands market)
