@@ -1,5 +1,6 @@
 pub mod Options
 pub mod Unrefused
+pub mod Apart
 pub mod Traded
 pub mod Keeps
 pub mod Cashed
@@ -7,4 +8,5 @@ pub mod Paid
 pub mod Judged
 pub mod Quoted
 pub mod Ready
+pub mod Answered
 pub mod OneKind

@@ -1,19 +1,18 @@
 -- An allowed reply leads from a ready standing to a ready one.
-use Rattle.std.proofs.Common.{◌≡◌, ℕ, zero, suc, ◌+◌, ◌<◌, ◌≤◌, ◌⊎◌, inl, inr, Bool, true, false, cond, List, [], ◌∷◌, ◌++◌, map, length, Option, Some, None, IfSome, MatchOption, refl, sym, ap, ◌∙◌, subst, arith, append-nil, length-append}
+use Rattle.std.proofs.Common.{◌≡◌, ℕ, zero, suc, ◌+◌, inl, inr, Bool, true, false, List, [], ◌∷◌, ◌++◌, map, length, Option, Some, None, IfSome, MatchOption, refl, sym, ap, ◌∙◌, subst, arith, append-nil, length-append}
 use Rattle.std.specs.Prelude.{option_map, option_to_list, slice_set, ⊤}
 use Rattle.std.specs.List.{AllByRecursion}
 use Rattle.std.proofs.lemmas.List.{length-set, length-map}
 use Rattle.mk_net.specs.declared.words.PairText.{PairText}
 use Rattle.mk_net.specs.declared.words.QuestionText.{QuestionText}
-use Rattle.mk_net.specs.Network.{Variable}
 use Rattle.mk_net.specs.Named.{pair_named}
 use Rattle.mk_net.specs.Asked.{Asked}
 use Rattle.mk_net.specs.Firsts.{fault_if, first_of}
 use Rattle.mk_exact.specs.Events.{always}
-use Rattle.mk_exact.specs.History.{Entry, Join, Deposit as Deposits, Withdraw as Withdraws, Trade, Resolve as Resolves, Settle as Settles, join_in, users, revision}
+use Rattle.mk_exact.specs.History.{Entry, Join, Deposit as Deposits, Withdraw as Withdraws, Settle as Settles, join_in, users, revision}
 use Rattle.mk_exact.specs.Weight.{IsSmall}
 use Rattle.mk_exact.specs.Factors.{factor_with, least_gain}
-use Rattle.mk_exact.specs.Sides.{AreRightLimits, ratio_in}
+use Rattle.mk_exact.specs.Sides.{AreRightLimits}
 use Rattle.mk_exact.specs.Market.{Market, network_of}
 use Rattle.mk_exact.proofs.After.{users_kept, users_more}
 use Rattle.mk_command.specs.declared.command.Command.{Command}
@@ -21,7 +20,7 @@ use Rattle.mk_command.specs.declared.command.Command.TheVariants.{User, Deposit,
 use Rattle.mk_reply.specs.declared.refusal.Refusal.{Refusal}
 use Rattle.mk_reply.specs.declared.refusal.Refusal.TheVariants.{Syntax, Long, Settled as IsSettled, User as NoUser, Exists, Users, Unknown, Twice, Stale, Resolved as IsResolved, Impossible, Wide, Range, Full, Beyond, Short, Unresolved, Memory}
 use Rattle.mk_reply.specs.declared.reply.Reply.{Reply}
-use Rattle.mk_reply.specs.declared.reply.Reply.TheVariants.{Joined, Traded, Limits as Limited, Resolved, Refused}
+use Rattle.mk_reply.specs.declared.reply.Reply.TheVariants.{Refused}
 use Rattle.mk_rules.specs.Refusals.{question_named, user_number, stale, refusals, first_refusal}
 use Rattle.mk_rules.specs.Quotes.{Interval, EditLimits, Quote, Quotes, no_quotes, last_quote, current_limits}
 use Rattle.mk_rules.specs.Answers.{IsTrade, IsJudged, IsJudgedAfresh, IsBeyond, IsWithdrawal, IsAnswer, IsAllowed, next_quotes}

@@ -1,5 +1,5 @@
 -- The ratio of a trade on a question speaks of the network's own pairs.
-use Rattle.std.proofs.Common.{◌≡◌, ℕ, ◌<◌, ◌≤◌, Bool, true, false, cond, eqb, List, slice_index, arith}
+use Rattle.std.proofs.Common.{ℕ, ◌≤◌, Bool, true, false, cond, eqb, List, slice_index}
 use Rattle.std.specs.List.{AllByRecursion, range_with_len}
 use Rattle.mk_net.specs.Network.{Variable, sizes}
 use Rattle.mk_net.specs.Asked.{Asked, factors_of}

@@ -1,8 +1,8 @@
 -- What is known of a command that meets none of its refusals.
-use Rattle.std.proofs.Common.{◌≡◌, ℕ, ◌+◌, ◌<◌, ◌≤◌, ◌&&◌, ◌||◌, not, Bool, true, false, cond, leb, List, [], ◌∷◌, Option, Some, None, is_none, length, refl, sym, ap, ◌∙◌, arith}
-use Rattle.std.specs.Prelude.{option_map, option_and_then, find}
-use Rattle.std.specs.List.{AllByRecursion, list_any, position_or_len, filter_map, cons_option}
-use Rattle.std.proofs.lemmas.Bool.{leb-true, and_parts}
+use Rattle.std.proofs.Common.{◌≡◌, ℕ, zero, suc, ◌+◌, ◌<◌, ◌≤◌, ◌&&◌, ◌||◌, not, Bool, true, false, cond, leb, List, [], ◌∷◌, Option, Some, None, is_none, length, refl, sym, ap, ◌∙◌, subst, arith}
+use Rattle.std.specs.Prelude.{◌==◌, option_map, option_and_then, find}
+use Rattle.std.specs.List.{AllByRecursion, enumerate_from, list_any, position_or_len, filter_map, cons_option}
+use Rattle.std.proofs.lemmas.Bool.{leb-true, and_parts, eqb-true, eq-eqb}
 use Rattle.mk_net.specs.declared.words.Pair.{Pair}
 use Rattle.mk_net.specs.declared.words.PairText.{PairText}
 use Rattle.mk_net.specs.declared.words.QuestionText.{QuestionText}
@@ -16,7 +16,8 @@ use Rattle.mk_net.proofs.Named.{pair_variable_in_range, pair_value_in_range}
 use Rattle.mk_exact.specs.History.{Entry, users, resolutions}
 use Rattle.mk_exact.specs.Market.{Market, network_of, cliques_of}
 use Rattle.mk_exact.specs.Proper.{IsPairOf, IsQuestionOf}
-use Rattle.mk_rules.specs.Refusals.{question_named, pairs_of, known_pairs, variables_in, user_number, has_joined, is_resolved, is_wide, no_user, unknown, resolved, wide_question, range}
+use Rattle.mk_exact.specs.Laws.{AgreesWith}
+use Rattle.mk_rules.specs.Refusals.{question_named, pairs_of, known_pairs, variables_in, user_number, has_joined, is_resolved, contradicts, passes, is_wide, no_user, unknown, resolved, impossible, wide_question, range, unresolved}
 
 -- where the first of several refusals is none, none of them applies
 pub none_applies : {F : Type 0} (refusals : List (Option F)) → first_of refusals ≡ None → AllByRecursion (λ o. o ≡ None) refusals
@@ -24,11 +25,11 @@ none_applies [] h = tt
 none_applies (None ∷ later) h = (refl, none_applies later h)
 none_applies (Some fault ∷ later) h = cc
 
-not_faulted : {F : Type 0} (test : Bool) (fault : F) → fault_if test fault ≡ None → test ≡ false
+pub not_faulted : {F : Type 0} (test : Bool) (fault : F) → fault_if test fault ≡ None → test ≡ false
 not_faulted false fault h = refl
 not_faulted true fault h = cc
 
-not_mapped : {X Y : Type 0} (f : X → Y) (o : Option X) → option_map f o ≡ None → o ≡ None
+pub not_mapped : {X Y : Type 0} (f : X → Y) (o : Option X) → option_map f o ≡ None → o ≡ None
 not_mapped f None h = refl
 not_mapped f (Some x) h = cc
 
@@ -133,3 +134,63 @@ not_wide market H q asked named h =
     ap (λ (ps : List Pair). is_wide (cliques_of market H) (asked.target.variable ∷ variables_in ps)) parts.1
     ∙ ap (λ (o : Option Pair). is_wide (cliques_of market H) (variables_in (cons_option o (known_pairs (network_of market H) q.condition.items)))) (sym parts.0)
     ∙ not_faulted _ _ h
+
+-- a question whose pairs are known is one of the network
+pub question_exists : (network : List Variable) (q : QuestionText) → unknown network (pairs_of q) ≡ None → (asked : Asked) × (question_named network q ≡ Some asked)
+unfolding IsKnown
+question_exists network q h =
+    let each : AllByRecursion (IsKnown network) (pairs_of q) = each_known network (pairs_of q) (not_mapped _ _ h) in
+    (record { target = each.0.0; condition = known_pairs network q.condition.items }, ap (option_map (λ (t : Pair). record { target = t; condition = known_pairs network q.condition.items })) each.0.1)
+
+-- a pair that contradicts no resolution agrees with each
+agrees_with : (p : Pair) (rs : List Pair) → list_any (λ (r : Pair). (r.variable == p.variable) && not (r.value == p.value)) rs ≡ false → AllByRecursion (AgreesWith p) rs
+agrees_with p [] h = tt
+agrees_with p (r ∷ rs) h = at (r.variable == p.variable) refl (r.value == p.value) refl h (agrees_with p rs)
+  where
+    at : (a : Bool) → (r.variable == p.variable) ≡ a → (b : Bool) → (r.value == p.value) ≡ b
+        → ((a && not b) || list_any (λ (r : Pair). (r.variable == p.variable) && not (r.value == p.value)) rs) ≡ false
+        → (list_any (λ (r : Pair). (r.variable == p.variable) && not (r.value == p.value)) rs ≡ false → AllByRecursion (AgreesWith p) rs) → AllByRecursion (AgreesWith p) (r ∷ rs)
+    at true e true f h later = (λ same. eqb-true r.value p.value f, later h)
+    at true e false f h later = cc
+    at false e b f h later = (λ same. absurd (let equal = eq-eqb r.variable p.variable same in cc), later h)
+
+abbrev Agree : List Variable → List Entry → List PairText → Type 0
+Agree network H ps = AllByRecursion (λ p. AllByRecursion (AgreesWith p) (resolutions H)) (known_pairs network ps)
+
+agree : (network : List Variable) (H : List Entry) (ps : List PairText) → find (λ p. passes (contradicts H) (pair_named network p)) ps ≡ None → Agree network H ps
+agree network H [] h = tt
+agree network H (p ∷ ps) h = at (pair_named network p) h (agree network H ps)
+  where
+    of_pair : (pair : Pair) (b : Bool) → contradicts H pair ≡ b → cond b (Some p) (find (λ p. passes (contradicts H) (pair_named network p)) ps) ≡ None
+        → (find (λ p. passes (contradicts H) (pair_named network p)) ps ≡ None → Agree network H ps) → AllByRecursion (AgreesWith pair) (resolutions H) × Agree network H ps
+    of_pair pair true e h later = cc
+    of_pair pair false e h later = (agrees_with pair (resolutions H) e, later h)
+
+    at : (o : Option Pair) → cond (passes (contradicts H) o) (Some p) (find (λ p. passes (contradicts H) (pair_named network p)) ps) ≡ None
+        → (find (λ p. passes (contradicts H) (pair_named network p)) ps ≡ None → Agree network H ps)
+        → AllByRecursion (λ p. AllByRecursion (AgreesWith p) (resolutions H)) (cons_option o (known_pairs network ps))
+    at None h later = later h
+    at (Some pair) h later = of_pair pair (contradicts H pair) refl h later
+
+pub condition_agrees : (network : List Variable) (H : List Entry) (ps : List PairText) → impossible network H ps ≡ None
+    → AllByRecursion (λ p. AllByRecursion (AgreesWith p) (resolutions H)) (known_pairs network ps)
+condition_agrees network H ps h = agree network H ps (not_mapped _ _ h)
+
+-- where no variable is open, each is resolved
+abbrev first_open : List Entry → ℕ → List Variable → Option (ℕ × Variable)
+first_open H n vs = find (λ (numbered : ℕ × Variable). not (is_resolved H (numbered.0))) (enumerate_from n vs)
+
+each_resolved : (H : List Entry) (n : ℕ) (vs : List Variable) → first_open H n vs ≡ None
+    → (v k : ℕ) → n + k ≡ v → k < length vs → is_resolved H v ≡ true
+each_resolved H n [] h v k e inside = absurd (omega arith)
+each_resolved H n (x ∷ vs) h v k e inside = at (is_resolved H n) refl h (λ rest j f within. each_resolved H (n + 1) vs rest v j f within) k e inside
+  where
+    at : (b : Bool) → is_resolved H n ≡ b → cond (not b) (Some (n, x)) (first_open H (n + 1) vs) ≡ None
+        → (first_open H (n + 1) vs ≡ None → (j : ℕ) → n + 1 + j ≡ v → j < length vs → is_resolved H v ≡ true)
+        → (k : ℕ) → n + k ≡ v → k < length (x ∷ vs) → is_resolved H v ≡ true
+    at false is h later k e inside = cc
+    at true is h later zero e inside = let same : n ≡ v = omega arith in subst (λ (w : ℕ). is_resolved H w ≡ true) same is
+    at true is h later (suc k) e inside = later h k (omega arith) (omega arith)
+
+pub all_resolved : (network : List Variable) (H : List Entry) → unresolved network H ≡ None → (v : ℕ) → v < length network → is_resolved H v ≡ true
+all_resolved network H h v inside = each_resolved H 0 network (not_mapped _ _ h) v v (omega arith) inside

@@ -1,5 +1,5 @@
 -- The laws of the market's rules. Each is the contract of a function of this crate, and so proved.
-use Rattle.std.specs.Prelude.{◌≡◌, ℕ, ◌≤◌, List, [], ◌∷◌, ◌++◌, map, All, Option, Some, None, ⊤, ◌↔◌}
+use Rattle.std.specs.Prelude.{◌≡◌, ℕ, ◌≤◌, List, [], ◌∷◌, ◌++◌, length, map, All, Option, Some, None, ⊤, ◌↔◌}
 use Rattle.mk_net.specs.Network.{Variable}
 use Rattle.mk_net.specs.declared.words.QuestionText.{QuestionText}
 use Rattle.mk_net.specs.Asked.{Asked}
@@ -19,7 +19,7 @@ use Rattle.mk_rules.specs.Refusals.{question_named, user_number, first_refusal}
 use Rattle.mk_rules.specs.Quotes.{Interval, Quotes, no_quotes, last_quote, current_limits}
 use Rattle.mk_rules.specs.Answers.{IsAllowed, IsTrade, IsBeyondRight}
 use Rattle.mk_rules.specs.Transcript.{Standing, opening, Line, OfCommand, IsAllowedFor, after, Run}
-use Rattle.mk_rules.specs.Standings.{Stands, IsReady}
+use Rattle.mk_rules.specs.Standings.{IsMarket, Stands, IsReady}
 
 -- an allowed reply to any line leads from a history that stands to one that does
 abbrev pub AllowedKeeps : Type 0
@@ -54,6 +54,28 @@ RunKeepsReady = (market : Market) (old new : Standing) (lines : List Line) (repl
 abbrev pub RunIsReady : Type 0
 RunIsReady = (market : Market) (new : Standing) (lines : List Line) (replies : List Reply)
     → Run market opening lines replies new → IsReady market new
+
+-- a line has an allowed reply
+abbrev pub HasReply : Market → Standing → Line → Type 0
+HasReply market now line = (reply : Reply) × IsAllowedFor market now line reply
+
+-- and so it has in each ready standing
+abbrev pub AlwaysAnswered : Type 0
+AlwaysAnswered = (market : Market) (now : Standing) (line : Line) → IsMarket market → IsReady market now → HasReply market now line
+
+-- some lines can be answered in turn
+pub record HasRun (market : Market) (old : Standing) (lines : List Line) : Type 0 where
+  pub replies : List Reply
+  pub new : Standing
+  pub run : Run market old lines replies new
+
+-- and so can any
+abbrev pub RunsExist : Type 0
+RunsExist = (market : Market) (lines : List Line) (old : Standing) → IsMarket market → IsReady market old → HasRun market old lines
+
+-- some state stays possible
+abbrev pub StateStaysPossible : Type 0
+StateStaysPossible = (market : Market) (H : List Entry) → IsMarket market → Stands market H → 1 ≤ length (possible_states (network_of market H) H always)
 
 -- a run goes on where another ended
 abbrev pub RunsJoin : Type 0

@@ -1,5 +1,5 @@
 //! What allowed replies keep.
-ghost use Rattle.mk_rules.specs.Laws.{AllowedKeeps, RunKeeps, RunStands, UnquotedIsReady, ReadyKeeps, RunKeepsReady, RunIsReady, RunsJoin, RunIsBounded, SettlementKeeps, JudgedExactly, OneRefusal, OneKind};
+ghost use Rattle.mk_rules.specs.Laws.{AllowedKeeps, RunKeeps, RunStands, UnquotedIsReady, ReadyKeeps, RunKeepsReady, RunIsReady, AlwaysAnswered, RunsExist, StateStaysPossible, RunsJoin, RunIsBounded, SettlementKeeps, JudgedExactly, OneRefusal, OneKind};
 
 /// An allowed reply leads from a sound history to a sound one, whatever the line, and users, pairs and units stay in range.
 pub fn allowed_keeps()
@@ -34,6 +34,21 @@ pub fn run_keeps_ready()
 /// The standing after each run from the opening is ready.
 pub fn run_is_ready()
     ensures { RunIsReady }
+{}
+
+/// In a ready standing every line has an allowed reply.
+pub fn always_answered()
+    ensures { AlwaysAnswered }
+{}
+
+/// From a ready standing every list of lines has a run.
+pub fn runs_exist()
+    ensures { RunsExist }
+{}
+
+/// In a history that stands some state is possible.
+pub fn state_stays_possible()
+    ensures { StateStaysPossible }
 {}
 
 /// A run that goes on where another ended makes one run with it.

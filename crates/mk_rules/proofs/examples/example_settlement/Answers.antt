@@ -1,7 +1,7 @@
 use Rattle.std.proofs.Common.{◌≡◌, ℕ, ◌≤◌, List, [], ◌∷◌, get_or, refl, sym, ap, subst, arith}
 use Rattle.std.specs.List.{AllZip, enumerate_from}
 use Rattle.mk_exact.specs.History.{users}
-use Rattle.mk_exact.specs.Factors.{Fraction, factor}
+use Rattle.mk_exact.specs.Factors.{factor}
 use Rattle.mk_exact.specs.Cash.{IsCash, CoversCash}
 use Rattle.mk_exact.specs.Examples.{coin, alice, heads_taken}
 use Rattle.mk_reply.specs.declared.reply.Payment.{Payment}

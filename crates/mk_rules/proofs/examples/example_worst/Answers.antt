@@ -1,6 +1,6 @@
 use Rattle.std.proofs.Common.{◌≡◌, ℕ, ◌+◌, ◌≤◌, refl, ap, arith}
-use Rattle.mk_exact.specs.Factors.{Fraction, factor, factor_with}
-use Rattle.mk_exact.specs.Cash.{IsCash, CoversCash}
+use Rattle.mk_exact.specs.Factors.{Fraction, factor_with}
+use Rattle.mk_exact.specs.Cash.{IsCash}
 use Rattle.mk_exact.specs.Examples.{heads_taken}
 use Rattle.mk_reply.specs.declared.reply.Reply.{Reply}
 use Rattle.mk_reply.specs.declared.reply.Reply.TheVariants.{Worst as Worsted}
