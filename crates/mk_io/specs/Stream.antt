@@ -1,5 +1,5 @@
 -- The lines of a stream of bytes, as the product counts them.
-use Rattle.std.specs.Prelude.{ℕ, List, [], ◌∷◌, length, map, Bool, true, false, ◌==◌, nat_lt, if◌then◌else◌}
+use Rattle.std.specs.Prelude.{◌≡◌, ℕ, List, [], ◌∷◌, ◌++◌, length, map, Bool, true, false, ◌==◌, nat_lt, if◌then◌else◌, ◌⊎◌}
 use Rattle.std.specs.List.{list_all}
 
 -- the greatest number of bytes before a line's LF, of lines of a stream, and of its bytes
@@ -39,6 +39,15 @@ line_of part = if nat_lt max_line_bytes (length part) then long else text (witho
 
 abbrev pub stream_lines : List ℕ → List StreamLine
 stream_lines bytes = map line_of (parts bytes)
+
+-- the last byte is an LF
+pub record EndsInLf (bytes : List ℕ) : Type 0 where
+  pub front : List ℕ
+  pub ended : bytes ≡ front ++ 10 ∷ []
+
+-- bytes that hold whole lines alone, each with its LF
+abbrev pub AreWholeLines : List ℕ → Type 0
+AreWholeLines bytes = (bytes ≡ []) ⊎ EndsInLf bytes
 
 -- whether a line is not blank: a long one, or one with a byte that is no space
 abbrev pub asks : StreamLine → Bool
