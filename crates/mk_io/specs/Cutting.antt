@@ -26,6 +26,10 @@ abbrev pub first_size : List ℕ → ℕ
 first_size [] = 0
 first_size (b ∷ bytes) = if b == 10 then 1 else (1 + first_size bytes)
 
+-- no fault and no limit has stopped the lines: there may be more, or the end is the next answer
+abbrev pub GoesOn : Option Next → Type 0
+GoesOn last = (last ≡ None) ⊎ (last ≡ Some End)
+
 -- the bytes of a line were taken: they end in its LF, and there may be more; or nothing is left, and the end is the next answer
 abbrev pub TakesPiece : List ℕ → Option Next → Option (List ℕ) → Type 0
 TakesPiece piece last after = (EndsInLf piece × (last ≡ None)) ⊎ (IsAtEnd after × (last ≡ Some End))

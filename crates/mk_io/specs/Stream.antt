@@ -49,7 +49,7 @@ pub record EndsInLf (bytes : List ℕ) : Type 0 where
 abbrev pub AreWholeLines : List ℕ → Type 0
 AreWholeLines bytes = (bytes ≡ []) ⊎ EndsInLf bytes
 
--- whether a line is not blank: a long one, or one with a byte that is no space
-abbrev pub asks : StreamLine → Bool
-asks long = true
-asks (text bytes) = if list_all (λ b. b == 32) bytes then false else true
+-- a line is not blank where it is a long one, or has a byte that is no space
+abbrev pub is_not_blank : StreamLine → Bool
+is_not_blank long = true
+is_not_blank (text bytes) = if list_all (λ b. b == 32) bytes then false else true
