@@ -6,8 +6,7 @@ ghost use Rattle.mk_io.specs.Outside.{Rose};
 ghost use Rattle.mk_net.specs.Texts.{same_text};
 ghost use Rattle.mk_file.specs.File.{file_of};
 ghost use Rattle.mk_session.specs.Complete.{AreWithin};
-ghost use Rattle.mk_session.specs.Outcome.{Adds};
-ghost use Rattle.mk_session.specs.Served.{IsServed};
+ghost use Rattle.mk_session.specs.Outcome.{Adds, Outcome, HasCauses};
 ghost use Rattle.daggre.specs.Words.{market_to_run, EndsUsage};
 
 use mk_io::{Inputs, Sink, Status, write_all};
@@ -18,7 +17,8 @@ use std::alloc::Global;
 ///
 /// Where the bytes of the file and of the commands are told, the status says what was written: with `Done` the
 /// transcript of the whole stream, one that the exact joint table allows. It is `Done` for each accepted market and each
-/// stream within the limits, unless reading, writing or memory fails.
+/// stream within the limits, unless reading, writing or memory fails. For other words the usage line is written, and
+/// nothing is opened or read.
 pub fn program<I: Inputs, S: Sink>(
     alloc: Global,
     words: &[&str],
@@ -28,18 +28,16 @@ pub fn program<I: Inputs, S: Sink>(
     requires { (name : List ℕ) → market_to_run (map (λ w. w.now) words.now) ≡ Some name → I.admits name }
     ensures run { (name file all : List ℕ) → market_to_run (map (λ w. w.now) words.now) ≡ Some name →
         I.file inputs.old name ≡ Some file → I.commands inputs.old ≡ Some all →
-        IsServed result file all (I.commands inputs.new) (S.written out.old) (S.written out.new) }
+        Outcome result file all (I.commands inputs.new) (S.written out.old) (S.written out.new) }
     ensures complete { (name file all : List ℕ) → market_to_run (map (λ w. w.now) words.now) ≡ Some name →
         I.file inputs.old name ≡ Some file → I.commands inputs.old ≡ Some all → IsOk (file_of file) → AreWithin all →
         (Rose (I.faults inputs.old) (I.faults inputs.new) → ⊥) → (Rose (S.faults out.old) (S.faults out.new) → ⊥) →
         (result ≡ Status.Done) ⊎ (result ≡ Status.Memory) }
     ensures other_words { market_to_run (map (λ w. w.now) words.now) ≡ None →
         Adds (S.written out.old) (S.written out.new) (EndsUsage result) }
+    ensures unread { market_to_run (map (λ w. w.now) words.now) ≡ None → inputs.new ≡ inputs.old }
     ensures usage { result ≡ Status.Usage → market_to_run (map (λ w. w.now) words.now) ≡ None }
-    ensures inputs_later { I.faults inputs.old ≤ I.faults inputs.new }
-    ensures sink_later { S.faults out.old ≤ S.faults out.new }
-    ensures read_fault { result ≡ Status.ReadFault → Rose (I.faults inputs.old) (I.faults inputs.new) }
-    ensures write_fault { result ≡ Status.WriteFault → Rose (S.faults out.old) (S.faults out.new) }
+    ensures causes { HasCauses result (I.faults inputs.old) (I.faults inputs.new) (S.faults out.old) (S.faults out.new) }
 {
     match market_name(words) {
         Some(name) => serve(alloc, name, inputs, out),
@@ -66,9 +64,7 @@ fn is_run(word: &str) -> bool
 /// Writes how the program is called.
 fn explain<S: Sink>(out: &mut S) -> Status
     ensures output { Adds (S.written out.old) (S.written out.new) (EndsUsage result) }
-    ensures sink_later { S.faults out.old ≤ S.faults out.new }
-    ensures not_read_fault { result ≢ Status.ReadFault }
-    ensures write_fault { result ≡ Status.WriteFault → Rose (S.faults out.old) (S.faults out.new) }
+    ensures causes { (inputs : ℕ) → HasCauses result inputs inputs (S.faults out.old) (S.faults out.new) }
 {
     match write_all(out, b"usage: daggre run NAME | daggre sample N\n") {
         Ok(()) => Status::Usage,

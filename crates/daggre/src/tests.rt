@@ -18,6 +18,13 @@ fn text_of(alloc: Global, pieces: &[&str]) -> Result<Vec<u8>, AllocError> {
     Ok(text)
 }
 
+/// What a run leaves: what it wrote, its status, and how many calls of the inputs it made.
+struct Ended {
+    out: MemorySink,
+    status: Status,
+    reads: u64,
+}
+
 /// Runs a market over commands, with the numbers of the calls that are to fail.
 fn run(
     alloc: Global,
@@ -26,7 +33,7 @@ fn run(
     commands: &[u8],
     piece: usize,
     failing: (&[u64], &[u64]),
-) -> Result<(MemorySink, Status), AllocError>
+) -> Result<Ended, AllocError>
     requires { 1 ≤ piece }
 {
     let mut files = Vec::new(alloc);
@@ -38,7 +45,11 @@ fn run(
     let mut inputs = MemoryInputs::new(files, commands.to_vec(alloc)?, piece, reads.to_vec(alloc)?);
     let mut out = MemorySink::new(vec![in alloc; 0u8; 256]?, piece, writes.to_vec(alloc)?);
     let status = program(alloc, words, &mut inputs, &mut out);
-    Ok((out, status))
+    Ok(Ended {
+        out,
+        status,
+        reads: inputs.calls(),
+    })
 }
 
 /// Expects an output and a status, whatever the size of the pieces.
@@ -53,9 +64,9 @@ fn expect_run(
 ) -> Result<(), AllocError> {
     for piece in [1, 3, 4096] {
         assert!(rt; piece >= 1);
-        let (out, ended) = run(alloc, words, market, commands, piece, (&[], &[]))?;
-        assert!(rt; out.written() == output);
-        assert!(rt; ended == status);
+        let ended = run(alloc, words, market, commands, piece, (&[], &[]))?;
+        assert!(rt; ended.out.written() == output);
+        assert!(rt; ended.status == status);
     }
     Ok(())
 }
@@ -123,9 +134,9 @@ fn long_lines_and_files(rt: HostRuntime) -> Result<(), Fail> {
         Status::Done,
     )?;
     market.resize(1_048_577, b' ')?;
-    let (out, status) = run(alloc, &words, &market, b"", 4096, (&[], &[]))?;
-    assert!(rt; out.written() == b"refused market long\n".as_slice());
-    assert!(rt; status == Status::MarketRefused);
+    let ended = run(alloc, &words, &market, b"", 4096, (&[], &[]))?;
+    assert!(rt; ended.out.written() == b"refused market long\n".as_slice());
+    assert!(rt; ended.status == Status::MarketRefused);
     Ok(())
 }
 
@@ -144,38 +155,59 @@ fn missing_file(rt: HostRuntime) -> Result<(), Fail> {
     Ok(())
 }
 
-/// Each read, and each write, fails in turn: what was written before is a front of the whole output.
+const PRICES: &[u8] =
+    b"price coin=heads\nprice coin=tails\nprice coin=heads\nprice coin=tails\nprice";
+
+const PRICED: &[u8] = b"ready 1 100\nprice 0.5000000000..0.5000000000\nprice 0.5000000000..0.5000000000\nprice 0.5000000000..0.5000000000\nprice 0.5000000000..0.5000000000\nrefused syntax\n";
+
+/// Expects that this many bytes of the whole output were written.
+fn expect_front(rt: &impl Abort, ended: &Ended, count: usize) {
+    let written = ended.out.written();
+    assert!(rt; PRICED.starts_with(written));
+    assert_eq!(rt; written.len(), count);
+}
+
+/// Each read fails in turn: what is written answers the whole lines that were read, and nothing is read behind it.
 #[test]
-fn each_call_fails_in_turn(rt: HostRuntime) -> Result<(), Fail> {
+fn each_read_fails_in_turn(rt: HostRuntime) -> Result<(), Fail> {
     let alloc = rt.alloc();
     let words = ["run", "m.toml"];
     let market = text_of(alloc, COIN)?;
-    let whole = b"ready 1 100\nprice 0.5000000000..0.5000000000\nrefused syntax\n";
-    let commands = b"price coin=heads\nprice\n";
-    let (mut failed_reads, mut failed_writes) = (0u32, 0u32);
-    for call in 1..20u64 {
-        let (out, status) = run(alloc, &words, &market, commands, 64, (&[call], &[]))?;
-        assert!(rt; whole.starts_with(out.written()));
-        assert!(rt;
-            status == Status::ReadFault
-                || (status == Status::Done && out.written() == whole.as_slice())
-        );
-        if status == Status::ReadFault && failed_reads < 100 {
-            failed_reads += 1;
-        }
-        let (out, status) = run(alloc, &words, &market, commands, 16, (&[], &[call]))?;
-        assert!(rt; whole.starts_with(out.written()));
-        assert!(rt;
-            status == Status::WriteFault
-                || (status == Status::Done && out.written() == whole.as_slice())
-        );
-        if status == Status::WriteFault && failed_writes < 100 {
-            failed_writes += 1;
-        }
+    // the opening, three pieces of the file and its end; two pieces of the commands, the first of which ends within
+    // the fourth line and the second within the last, and their end
+    let written = [0, 0, 0, 0, 0, 12, 111, 144];
+    let mut call = 1u64;
+    for count in written {
+        let ended = run(alloc, &words, &market, PRICES, 64, (&[call], &[]))?;
+        expect_front(&rt, &ended, count);
+        assert!(rt; ended.status == Status::ReadFault);
+        assert_eq!(rt; ended.reads, call);
+        call = call.saturating_add(1);
     }
-    // the opening, three pieces of the file and its end, the commands and their end
-    assert!(rt; failed_reads == 7);
-    // the lines take five writes of at most 16 bytes
-    assert!(rt; failed_writes == 5);
+    let ended = run(alloc, &words, &market, PRICES, 64, (&[call], &[]))?;
+    assert!(rt; ended.out.written() == PRICED);
+    assert!(rt; ended.status == Status::Done);
+    Ok(())
+}
+
+/// Each write fails in turn: what was written before it stands, and nothing is written behind it.
+#[test]
+fn each_write_fails_in_turn(rt: HostRuntime) -> Result<(), Fail> {
+    let alloc = rt.alloc();
+    let words = ["run", "m.toml"];
+    let market = text_of(alloc, COIN)?;
+    // the ready line takes one write of at most 16 bytes, each price three, and the refusal one
+    let written = [0, 12, 28, 44, 45, 61, 77, 78, 94, 110, 111, 127, 143, 144];
+    let mut call = 1u64;
+    for count in written {
+        let ended = run(alloc, &words, &market, PRICES, 16, (&[], &[call]))?;
+        expect_front(&rt, &ended, count);
+        assert!(rt; ended.status == Status::WriteFault);
+        assert_eq!(rt; ended.out.calls(), call);
+        call = call.saturating_add(1);
+    }
+    let ended = run(alloc, &words, &market, PRICES, 16, (&[], &[call]))?;
+    assert!(rt; ended.out.written() == PRICED);
+    assert!(rt; ended.status == Status::Done);
     Ok(())
 }

@@ -1,16 +1,16 @@
 -- The lines of a stream, of which one was cut.
-use Rattle.std.proofs.Common.{◌≡◌, ℕ, ◌+◌, ◌-◌, ◌<◌, ◌≤◌, List, [], ◌∷◌, ◌++◌, length, map, Option, Some, None, option_map, IfSome, Bool, true, false, cond, eqb, ltb, refl, sym, ap, subst, inl, inr, ◌∙◌, length-append, length-take, arith}
+use Rattle.std.proofs.Common.{◌≡◌, ℕ, ◌+◌, ◌-◌, ◌<◌, ◌≤◌, List, [], ◌∷◌, ◌++◌, length, map, Option, Some, None, IfSome, Bool, true, false, cond, eqb, ltb, refl, sym, ap, subst, inl, inr, ◌∙◌, length-append, length-take, arith}
 use Rattle.std.specs.Prelude.{◌≢◌, All}
 use Rattle.std.proofs.lemmas.Bool.{ne_eqb, le-ltb, lt-ltb}
 use Rattle.std.proofs.lemmas.List.{append-nil, take_all}
 use Rattle.std.proofs.lemmas.List.Elements.{All-head, All-tail}
 use Rattle.mk_io.specs.declared.lines.Next.{Next}
-use Rattle.mk_io.specs.declared.lines.Next.TheVariants.{Line, Long, TooMany}
+use Rattle.mk_io.specs.declared.lines.Next.TheVariants.{Line, Long, End, TooMany}
 use Rattle.mk_io.specs.declared.cut.Cut.TheVariants.{Whole, Last, Full}
 use Rattle.mk_io.specs.Outside.{prepend_known, IsAtEnd}
 use Rattle.mk_io.specs.Stream.{StreamLine, text, long, parts, onto_first, line_of, stream_lines, without_last_cr, max_stream_lines, max_stream_bytes}
 use Rattle.mk_io.proofs.Told.{prepend_known_twice}
-use Rattle.mk_io.specs.Cutting.{Cutting, GivesLine, IsTooMuch, IsFreshAnswer, first_size, stream_left}
+use Rattle.mk_io.specs.Cutting.{Cutting, GivesLine, TakesPiece, IsTooMuch, IsFreshAnswer, first_size, stream_left}
 use Rattle.mk_io.specs.Cut.{front, Settles, CutsLine}
 use Rattle.mk_io.specs.Giving.{GivesText}
 
@@ -33,26 +33,22 @@ parts_last b [] no_lf = rw (not_lf b [] no_lf) refl
 parts_last b (c ∷ part) no_lf =
     rw (not_lf b (c ∷ part) no_lf) (ap (onto_first b) (parts_last c part (no_lf_after b (c ∷ part) no_lf)))
 
-pub lines_whole : (part : List ℕ) (before after : Option (List ℕ)) → NoLf part → before ≡ prepend_known (part ++ 10 ∷ []) after → option_map stream_lines before ≡ option_map (λ rest. line_of part ∷ stream_lines rest) after
-lines_whole part before None no_lf taken = ap (option_map stream_lines) taken
-lines_whole part before (Some rest) no_lf taken =
-    ap (option_map stream_lines) taken ∙ ap (λ xs. Some (map line_of xs)) (parts_whole part rest no_lf)
+line_whole : (part : List ℕ) → NoLf part → stream_lines (part ++ 10 ∷ []) ≡ line_of part ∷ []
+line_whole part no_lf =
+    ap stream_lines (sym (append-nil (part ++ 10 ∷ []))) ∙ ap (map line_of) (parts_whole part [] no_lf)
 
 -- where a byte was there, the last part is not empty
-pub lines_last : (old part : List ℕ) (source before after : Option (List ℕ)) → NoLf part → 0 < length old → before ≡ prepend_known old source → before ≡ prepend_known part after → IsAtEnd after → option_map stream_lines before ≡ option_map (λ rest. line_of part ∷ stream_lines rest) after
-lines_last old part source before None no_lf some was taken end = ap (option_map stream_lines) taken
-lines_last old [] None before (Some rest) no_lf some was taken end = cc
-lines_last old [] (Some more) before (Some rest) no_lf some was taken end =
+line_last : (old part : List ℕ) (source before after : Option (List ℕ)) → NoLf part → 0 < length old → before ≡ prepend_known old source → before ≡ prepend_known part after → IsAtEnd after → IfSome after (λ _. stream_lines part ≡ line_of part ∷ [])
+line_last old part source before None no_lf some was taken end = tt
+line_last old [] None before (Some rest) no_lf some was taken end = absurd (cc)
+line_last old [] (Some more) before (Some rest) no_lf some was taken end =
     let same : old ++ more ≡ rest = cc in
     absurd (omega (arith, length-append old more, ap length same, ap length end))
-lines_last old (b ∷ part) source before (Some rest) no_lf some was taken end =
-    let same : (b ∷ part) ++ rest ≡ b ∷ part = ap (λ xs. (b ∷ part) ++ xs) end ∙ append-nil (b ∷ part) in
-    ap (option_map stream_lines) taken ∙ ap (λ xs. Some (stream_lines xs)) same ∙ ap (λ xs. Some (map line_of xs)) (parts_last b part no_lf) ∙ ap (λ xs. Some (line_of (b ∷ part) ∷ stream_lines xs)) (sym end)
+line_last old (b ∷ part) source before (Some rest) no_lf some was taken end = ap (map line_of) (parts_last b part no_lf)
 
-pub counted : (taken : List ℕ) (old new : ℕ) (before after : Option (List ℕ)) → before ≡ prepend_known taken after → new ≡ old + length taken → option_map (λ bytes. old + length bytes) before ≡ option_map (λ rest. new + length rest) after
-counted taken old new before None is sum = ap (option_map (λ bytes. old + length bytes)) is
-counted taken old new before (Some rest) is sum =
-    ap (option_map (λ bytes. old + length bytes)) is ∙ ap Some (omega (arith, length-append taken rest))
+where_told : (P : Type 0) (told : Option (List ℕ)) → P → IfSome told (λ _. P)
+where_told P None holds = tt
+where_told P (Some bytes) holds = holds
 
 -- the line of a part whose first bytes, one more than a line may have, were settled
 abbrev line_within : ℕ → List ℕ → StreamLine
@@ -99,31 +95,30 @@ gives_cases true line old new result source rest answer is empty gives =
 gives_cases false line old new result source rest answer is empty gives =
     subst (λ r. IsFreshAnswer r old new source rest) (sym answer) (subst (λ l. GivesLine l old new (stream_left old source) (stream_left new rest)) is gives, empty refl)
 
-gives_line : (part taken : List ℕ) (old mid new : Cutting) (size : ℕ) (result : Next) (source rest : Option (List ℕ)) → mid.line ≡ front 1025 part → GivesText mid new size result → mid.given ≡ old.given → mid.spent ≡ old.spent → mid.last ≡ None → old.given < max_stream_lines → size ≡ length taken → old.spent + size ≤ max_stream_bytes → option_map stream_lines (stream_left old source) ≡ option_map (λ more. line_of part ∷ stream_lines more) (stream_left mid rest) → stream_left old source ≡ prepend_known taken (stream_left mid rest) → IsFreshAnswer result old new source rest
-gives_line part taken old mid new size result source rest kept gives given spent last room sized within lines is =
+gives_line : (part piece : List ℕ) (old mid new : Cutting) (size : ℕ) (last : Option Next) (result : Next) (source rest : Option (List ℕ)) → mid.line ≡ front 1025 part → GivesText mid new size last result → mid.given ≡ old.given → mid.spent ≡ old.spent → size ≡ length piece → stream_left old source ≡ prepend_known piece (stream_left mid rest) → IfSome (stream_left mid rest) (λ _. stream_lines piece ≡ line_of part ∷ []) → TakesPiece piece last (stream_left mid rest) → IsFreshAnswer result old new source rest
+gives_line part piece old mid new size last result source rest kept gives given spent sized taken one ends =
     let left : stream_left mid rest ≡ stream_left new rest = ap (λ bytes. prepend_known bytes rest) (sym gives.left) in
-    let total : new.spent ≡ old.spent + length taken = omega (arith, gives.spent) in
     gives_cases gives.is_short (line_of part) old new result source rest gives.answer (settled_line 1024 part mid.line new.line gives.is_short kept gives.settles) (λ e. (gives.settles.long e).1) (record {
-      lines = lines ∙ ap (option_map (λ more. line_of part ∷ stream_lines more)) left;
-      counted = counted taken old.spent new.spent (stream_left old source) (stream_left mid rest) is total ∙ ap (option_map (λ more. new.spent + length more)) left;
+      piece = piece;
+      taken = taken ∙ ap (prepend_known piece) left;
+      is_line = subst (λ told. IfSome told (λ _. stream_lines piece ≡ line_of part ∷ [])) left one;
+      ends = subst (λ stays. TakesPiece piece stays (stream_left new rest)) (sym gives.last) (subst (λ told. TakesPiece piece last told) left ends);
       given = gives.given ∙ ap (λ n. n + 1) given;
-      within_lines = omega (arith, gives.given);
-      within_bytes = omega arith;
-      goes_on = gives.last ∙ last;
+      spent = omega (arith, gives.spent);
     })
 
 -- where the line ended at its LF
-pub gives_whole : (old mid new : Cutting) (size room : ℕ) (result : Next) (source rest : Option (List ℕ)) → CutsLine (Whole size) 1025 mid.line room (stream_left old source) mid.left rest → GivesText mid new size result → mid.given ≡ old.given → mid.spent ≡ old.spent → mid.last ≡ None → old.given < max_stream_lines → old.spent + room ≤ max_stream_bytes → IsFreshAnswer result old new source rest
-gives_whole old mid new size room result source rest cut gives given spent last more within =
+pub gives_whole : (old mid new : Cutting) (size room : ℕ) (result : Next) (source rest : Option (List ℕ)) → CutsLine (Whole size) 1025 mid.line room (stream_left old source) mid.left rest → GivesText mid new size None result → mid.given ≡ old.given → mid.spent ≡ old.spent → IsFreshAnswer result old new source rest
+gives_whole old mid new size room result source rest cut gives given spent =
     let sized : size ≡ length (cut.part ++ 10 ∷ []) = omega (arith, cut.ends.size, length-append cut.part (10 ∷ [])) in
-    let fits : old.spent + size ≤ max_stream_bytes = omega (arith, cut.ends.fits) in
-    gives_line cut.part (cut.part ++ 10 ∷ []) old mid new size result source rest cut.kept gives given spent last more sized fits (lines_whole cut.part (stream_left old source) (stream_left mid rest) cut.no_lf cut.ends.taken) cut.ends.taken
+    let one = where_told (stream_lines (cut.part ++ 10 ∷ []) ≡ line_of cut.part ∷ []) (stream_left mid rest) (line_whole cut.part cut.no_lf) in
+    gives_line cut.part (cut.part ++ 10 ∷ []) old mid new size None result source rest cut.kept gives given spent sized cut.ends.taken one (inl (record { front = cut.part; ended = refl }, refl))
 
 -- where the line ended with the stream
-pub gives_last : (old mid new : Cutting) (size room : ℕ) (result : Next) (source rest : Option (List ℕ)) → CutsLine (Last size) 1025 mid.line room (stream_left old source) mid.left rest → GivesText mid new size result → mid.given ≡ old.given → mid.spent ≡ old.spent → mid.last ≡ None → old.given < max_stream_lines → old.spent + room ≤ max_stream_bytes → 0 < length old.left → IsFreshAnswer result old new source rest
-gives_last old mid new size room result source rest cut gives given spent last more within there =
-    let fits : old.spent + size ≤ max_stream_bytes = omega (arith, cut.ends.fits) in
-    gives_line cut.part cut.part old mid new size result source rest cut.kept gives given spent last more cut.ends.size fits (lines_last old.left cut.part source (stream_left old source) (stream_left mid rest) cut.no_lf there refl cut.ends.taken cut.ends.at_end) cut.ends.taken
+pub gives_last : (old mid new : Cutting) (size room : ℕ) (result : Next) (source rest : Option (List ℕ)) → CutsLine (Last size) 1025 mid.line room (stream_left old source) mid.left rest → GivesText mid new size (Some End) result → mid.given ≡ old.given → mid.spent ≡ old.spent → 0 < length old.left → IsFreshAnswer result old new source rest
+gives_last old mid new size room result source rest cut gives given spent there =
+    let one = line_last old.left cut.part source (stream_left old source) (stream_left mid rest) cut.no_lf there refl cut.ends.taken cut.ends.at_end in
+    gives_line cut.part cut.part old mid new size (Some End) result source rest cut.kept gives given spent cut.ends.size cut.ends.taken one (inr (cut.ends.at_end, refl))
 
 -- where there was a byte too many
 pub stops_full : (old new : Cutting) (limit : ℕ) (kept left : List ℕ) (room : ℕ) (source rest : Option (List ℕ)) → CutsLine Full limit kept room (stream_left old source) left rest → old.spent + room ≡ max_stream_bytes → new.last ≡ Some TooMany → new.line ≡ [] → IsFreshAnswer TooMany old new source rest

@@ -4,7 +4,7 @@ use Rattle.std.specs.Prelude.{◌≢◌, All}
 use Rattle.std.proofs.lemmas.List.{length_push}
 use Rattle.std.proofs.lemmas.List.Elements.{All-nil, All-push}
 use Rattle.mk_io.specs.declared.cut.Cut.TheVariants.{Whole, Last, Fault, Full}
-use Rattle.mk_io.specs.Outside.{prepend_known, IsAtEnd}
+use Rattle.mk_io.specs.Outside.{prepend_known, IsAtEnd, LeavesRest}
 use Rattle.mk_io.specs.Cut.{front, CutsLine}
 use Rattle.mk_io.proofs.Told.{prepend_known_twice, prepend_known_none}
 use Rattle.mk_io.proofs.Front.{front_push, front_none}
@@ -18,11 +18,10 @@ pub record CutSoFar (limit : ℕ) (text : List ℕ) (size room : ℕ) (before af
   pub fits : size ≤ room
   pub taken : before ≡ prepend_known part after
 
--- the market and the files are as they were, and no count has fallen
+-- the market, the files and the count of faults are as they were
 pub record Elsewhere (old_market new_market : Option (List ℕ)) (old_file new_file : List ℕ → Option (List ℕ)) (before after : ℕ) : Type 0 where
-  pub market : new_market ≡ old_market
-  pub files : (other : List ℕ) → new_file other ≡ old_file other
-  pub later : before ≤ after
+  pub rest : LeavesRest old_market new_market old_file new_file
+  pub kept : after ≡ before
 
 pub so_far_none : (limit room : ℕ) (text : List ℕ) (before : Option (List ℕ)) → text ≡ [] → CutSoFar limit text 0 room before before
 so_far_none limit room text before empty =

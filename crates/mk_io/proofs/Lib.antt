@@ -3,3 +3,4 @@ pub mod Front
 pub mod Cuts
 pub mod Answered
 pub mod InMemory
+pub mod WholeLines

@@ -20,23 +20,23 @@ pub prepend_known_none : (told : Option (List ℕ)) → prepend_known [] told �
 prepend_known_none None = refl
 prepend_known_none (Some rest) = refl
 
--- what a loop of writes has done: the first bytes are written, and no count has fallen
+-- what a loop of writes has done: the first bytes are written, and no fault was counted
 pub record Wrote (old now : Option (List ℕ)) (before after : ℕ) (bytes : List ℕ) (done : ℕ) : Type 0 where
   pub within : done ≤ length bytes
-  pub later : before ≤ after
+  pub kept : after ≡ before
   pub added : now ≡ append_known old (take done bytes)
 
 pub wrote_none : (old : Option (List ℕ)) (before : ℕ) (bytes : List ℕ) → Wrote old old before before bytes 0
-wrote_none old before bytes = record { within = omega arith; later = omega arith; added = append_known_none old }
+wrote_none old before bytes = record { within = omega arith; kept = refl; added = append_known_none old }
 
 pub take_next : (done n : ℕ) (bytes : List ℕ) → take done bytes ++ take n (take (length bytes - done) (drop done bytes)) ≡ take (done + n) bytes
 take_next done n bytes = rw (take_rest bytes done) (sym (take-add done n bytes))
 
-pub wrote_more : {E : Type 0} (old now next : Option (List ℕ)) (before after later : ℕ) (bytes : List ℕ) (done n : ℕ) → Wrote old now before after bytes done → Writes {E = E} now next (Ok n) (take (length bytes - done) (drop done bytes)) → after ≤ later → Wrote old next before later bytes (done + n)
-wrote_more old now next before after later bytes done n wrote writes rises =
+pub wrote_more : {E : Type 0} (old now next : Option (List ℕ)) (before after later : ℕ) (bytes : List ℕ) (done n : ℕ) → Wrote old now before after bytes done → Writes {E = E} now next (Ok n) (take (length bytes - done) (drop done bytes)) → later ≡ after → Wrote old next before later bytes (done + n)
+wrote_more old now next before after later bytes done n wrote writes kept =
     record {
       within = omega (arith, writes.bound, simp (length-take, length-drop) at writes.bound);
-      later = omega arith;
+      kept = kept ∙ wrote.kept;
       added = writes.added ∙ ap (λ told. append_known told (take n (take (length bytes - done) (drop done bytes)))) wrote.added ∙ append_known_twice old (take done bytes) _ ∙ ap (append_known old) (take_next done n bytes);
     }
 

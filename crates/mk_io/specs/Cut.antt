@@ -2,7 +2,7 @@
 use Rattle.std.specs.Prelude.{◌≡◌, ◌≢◌, ℕ, ◌+◌, ◌<◌, ◌≤◌, List, [], ◌∷◌, ◌++◌, length, take, Option, Result, IfOk, OnErr, Bool, true, false, All}
 use Rattle.mk_io.specs.declared.cut.Cut.{Cut}
 use Rattle.mk_io.specs.declared.cut.Cut.TheVariants.{Whole, Last, Fault, Full}
-use Rattle.mk_io.specs.Outside.{prepend_known, IsAtEnd}
+use Rattle.mk_io.specs.Outside.{prepend_known, IsAtEnd, CountsFault}
 use Rattle.mk_io.specs.Stream.{without_last_cr}
 
 -- the first bytes, up to a limit
@@ -55,3 +55,10 @@ pub record CutsLine (cut : Cut) (limit : ℕ) (text : List ℕ) (room : ℕ) (be
   pub no_lf : All (λ b. b ≢ 10) part
   pub kept : text ≡ front limit part
   pub ends : EndsPart cut part room before (prepend_known left rest) rest
+
+-- a read that failed was counted, and no other end of a line changes the count
+abbrev pub CountsCutFault : Cut → ℕ → ℕ → Type 0
+CountsCutFault Fault before now = CountsFault before now
+CountsCutFault (Whole size) before now = now ≡ before
+CountsCutFault (Last size) before now = now ≡ before
+CountsCutFault Full before now = now ≡ before

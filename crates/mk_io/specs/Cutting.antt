@@ -1,9 +1,9 @@
 -- What a value that cuts a stream into lines answers, and what it leaves.
-use Rattle.std.specs.Prelude.{◌≡◌, ◌≢◌, ℕ, ◌+◌, ◌<◌, ◌≤◌, List, [], ◌∷◌, length, Option, Some, None, option_map, IfSome, All, ◌==◌, if◌then◌else◌, MatchOption, ◌⊎◌}
+use Rattle.std.specs.Prelude.{◌≡◌, ◌≢◌, ℕ, ◌+◌, ◌<◌, ◌≤◌, List, [], ◌∷◌, length, Option, Some, None, IfSome, All, ◌==◌, if◌then◌else◌, MatchOption, ◌⊎◌}
 use Rattle.mk_io.specs.declared.lines.Next.{Next}
 use Rattle.mk_io.specs.declared.lines.Next.TheVariants.{Line, Long, End, ReadFault, TooMany}
-use Rattle.mk_io.specs.Outside.{prepend_known, IsAtEnd}
-use Rattle.mk_io.specs.Stream.{StreamLine, text, long, stream_lines, max_stream_lines, max_stream_bytes}
+use Rattle.mk_io.specs.Outside.{prepend_known, IsAtEnd, CountsFault}
+use Rattle.mk_io.specs.Stream.{StreamLine, text, long, stream_lines, EndsInLf, max_line_bytes, max_stream_lines, max_stream_bytes}
 
 -- what a `Lines` is seen as: the bytes that it took and has not given, the text of its last line, how many lines
 -- and bytes of lines it gave, and the answer that stays, once there is one
@@ -26,14 +26,22 @@ abbrev pub first_size : List ℕ → ℕ
 first_size [] = 0
 first_size (b ∷ bytes) = if b == 10 then 1 else (1 + first_size bytes)
 
--- a line was given: it stood in front of the lines that are left, and its bytes were counted
+-- no fault and no limit has stopped the lines: there may be more, or the end is the next answer
+abbrev pub GoesOn : Option Next → Type 0
+GoesOn last = (last ≡ None) ⊎ (last ≡ Some End)
+
+-- the bytes of a line were taken: they end in its LF, and there may be more; or nothing is left, and the end is the next answer
+abbrev pub TakesPiece : List ℕ → Option Next → Option (List ℕ) → Type 0
+TakesPiece piece last after = (EndsInLf piece × (last ≡ None)) ⊎ (IsAtEnd after × (last ≡ Some End))
+
+-- a line was given: its bytes, which are this one line, were taken from the front of the stream and counted
 pub record GivesLine (line : StreamLine) (old new : Cutting) (before after : Option (List ℕ)) : Type 0 where
-  pub lines : option_map stream_lines before ≡ option_map (λ rest. line ∷ stream_lines rest) after
-  pub counted : option_map (λ bytes. old.spent + length bytes) before ≡ option_map (λ rest. new.spent + length rest) after
+  pub piece : List ℕ
+  pub taken : before ≡ prepend_known piece after
+  pub is_line : IfSome after (λ _. stream_lines piece ≡ line ∷ [])
+  pub ends : TakesPiece piece new.last after
   pub given : new.given ≡ old.given + 1
-  pub within_lines : new.given ≤ max_stream_lines
-  pub within_bytes : new.spent ≤ max_stream_bytes
-  pub goes_on : new.last ≡ None
+  pub spent : new.spent ≡ old.spent + length piece
 
 -- nothing was taken, and the answer stays
 pub record Stays (old new : Cutting) (before after : Option (List ℕ)) (last : Next) : Type 0 where
@@ -69,8 +77,26 @@ IsFreshAnswer End old new source rest = Stays old new source rest End × IsAtEnd
 IsFreshAnswer ReadFault old new source rest = StopsInLine new (stream_left old source) rest
 IsFreshAnswer TooMany old new source rest = Overruns old new (stream_left old source) rest
 
+-- a fresh read fault was counted, and no other answer changes the count
+abbrev pub CountsReadFault : Next → ℕ → ℕ → Type 0
+CountsReadFault ReadFault before now = CountsFault before now
+CountsReadFault Line before now = now ≡ before
+CountsReadFault Long before now = now ≡ before
+CountsReadFault End before now = now ≡ before
+CountsReadFault TooMany before now = now ≡ before
+
+-- a line, and the lines and bytes that were given, are within the limits
+pub record IsWithinLimits (cutting : Cutting) : Type 0 where
+  pub line : length cutting.line ≤ max_line_bytes
+  pub given : cutting.given ≤ max_stream_lines
+  pub spent : cutting.spent ≤ max_stream_bytes
+
 -- what a call answers: the last answer again, or a fresh one
 abbrev pub IsAnswer : Next → Cutting → Cutting → Option (List ℕ) → Option (List ℕ) → Type 0
 IsAnswer result old new source rest =
     MatchOption old.last (IsFreshAnswer result old new source rest)
     (λ last. (result ≡ last) × Stays old new source rest last)
+
+-- the cause of an answer: an earlier one that stays leaves the count of faults as it was
+abbrev pub HasReadCause : Next → Cutting → ℕ → ℕ → Type 0
+HasReadCause result old before now = MatchOption old.last (CountsReadFault result before now) (λ _. now ≡ before)

@@ -1,14 +1,25 @@
 -- What reads and writes do to bytes that are told, and the cause of a failure.
-use Rattle.std.specs.Prelude.{◌≡◌, ℕ, ◌+◌, ◌-◌, ◌^◌, ◌<◌, ◌≤◌, min, List, [], ◌++◌, length, take, Option, option_map, Result, IfOk, OnErr, IfSome}
+use Rattle.std.specs.Prelude.{◌≡◌, ℕ, ◌+◌, ◌-◌, ◌^◌, ◌<◌, ◌≤◌, min, List, [], ◌++◌, length, take, Option, option_map, Result, IfOk, OnOk, OnErr, IfSome}
 
 -- a count of faults rose: it is greater than before, or stands at the last value of its type
 abbrev pub Rose : ℕ → ℕ → Type 0
 Rose before now = min (before + 1) (2 ^ 64 - 1) ≤ now
 
--- a count never falls, and a call fails only where it rose
+-- a count of faults never falls; a call fails only where it rose, and leaves it as it was where it does not fail
 pub record HasCause {T E : Type 0} (before now : ℕ) (result : Result T E) : Type 0 where
   pub later : before ≤ now
   pub failed : OnErr result (Rose before now)
+  pub kept : OnOk result (now ≡ before)
+
+-- a fault was counted
+pub record CountsFault (before now : ℕ) : Type 0 where
+  pub later : before ≤ now
+  pub rose : Rose before now
+
+-- the other stream and all files are as they were
+pub record LeavesRest (old new : Option (List ℕ)) (old_file new_file : List ℕ → Option (List ℕ)) : Type 0 where
+  pub stream : new ≡ old
+  pub files : (name : List ℕ) → new_file name ≡ old_file name
 
 -- bytes in front of those that are left, where these are told
 abbrev pub prepend_known : List ℕ → Option (List ℕ) → Option (List ℕ)

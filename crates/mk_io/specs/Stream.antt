@@ -1,5 +1,5 @@
 -- The lines of a stream of bytes, as the product counts them.
-use Rattle.std.specs.Prelude.{ℕ, List, [], ◌∷◌, length, map, Bool, true, false, ◌==◌, nat_lt, if◌then◌else◌}
+use Rattle.std.specs.Prelude.{◌≡◌, ℕ, List, [], ◌∷◌, ◌++◌, length, map, Bool, true, false, ◌==◌, nat_lt, if◌then◌else◌, ◌⊎◌}
 use Rattle.std.specs.List.{list_all}
 
 -- the greatest number of bytes before a line's LF, of lines of a stream, and of its bytes
@@ -40,7 +40,16 @@ line_of part = if nat_lt max_line_bytes (length part) then long else text (witho
 abbrev pub stream_lines : List ℕ → List StreamLine
 stream_lines bytes = map line_of (parts bytes)
 
--- whether a line is not blank: a long one, or one with a byte that is no space
-abbrev pub asks : StreamLine → Bool
-asks long = true
-asks (text bytes) = if list_all (λ b. b == 32) bytes then false else true
+-- the last byte is an LF
+pub record EndsInLf (bytes : List ℕ) : Type 0 where
+  pub front : List ℕ
+  pub ended : bytes ≡ front ++ 10 ∷ []
+
+-- bytes that hold whole lines alone, each with its LF
+abbrev pub AreWholeLines : List ℕ → Type 0
+AreWholeLines bytes = (bytes ≡ []) ⊎ EndsInLf bytes
+
+-- a line is not blank where it is a long one, or has a byte that is no space
+abbrev pub is_not_blank : StreamLine → Bool
+is_not_blank long = true
+is_not_blank (text bytes) = if list_all (λ b. b == 32) bytes then false else true

@@ -34,6 +34,13 @@ impl Calls {
         }
     }
 
+    /// How many calls there were.
+    pub fn count(&self) -> u64
+        ensures { result ≡ (self.now).count }
+    {
+        self.count
+    }
+
     /// Counts a call, and says whether it is to fail.
     pub fn begin(&mut self) -> bool
         ensures counts { self.new ≡ counted self.old }

@@ -1,8 +1,8 @@
 //! The cutting of one line.
 
 ghost use Rattle.std.specs.Prelude.{◌≡◌, ℕ, ◌≤◌, List, Option};
-ghost use Rattle.mk_io.specs.Outside.{Rose, prepend_known};
-ghost use Rattle.mk_io.specs.Cut.{CutsLine};
+ghost use Rattle.mk_io.specs.Outside.{LeavesRest, prepend_known};
+ghost use Rattle.mk_io.specs.Cut.{CutsLine, CountsCutFault};
 
 use crate::outside::Inputs;
 use crate::pending::Pending;
@@ -24,10 +24,8 @@ pub enum Cut {
 pub fn cut_line<I: Inputs>(pending: &mut Pending, text: &mut Text, inputs: &mut I, room: u64) -> Cut
     ensures cut { CutsLine result 1025 text.new room
         (prepend_known pending.old (I.commands inputs.old)) pending.new (I.commands inputs.new) }
-    ensures market { I.market inputs.new ≡ I.market inputs.old }
-    ensures files { (other : List ℕ) → I.file inputs.new other ≡ I.file inputs.old other }
-    ensures later { I.faults inputs.old ≤ I.faults inputs.new }
-    ensures cause { result ≡ Cut.Fault → Rose (I.faults inputs.old) (I.faults inputs.new) }
+    ensures rest { LeavesRest (I.market inputs.old) (I.market inputs.new) (I.file inputs.old) (I.file inputs.new) }
+    ensures cause { CountsCutFault result (I.faults inputs.old) (I.faults inputs.new) }
 {
     text.clear();
     let mut size = 0;

@@ -1,9 +1,9 @@
 //! The lines of a stream of commands, cut with buffers of fixed size.
 
 ghost use Rattle.std.specs.Prelude.{◌≡◌, ◌≢◌, ℕ, ◌+◌, ◌<◌, ◌≤◌, List, [], Option, None, length};
-ghost use Rattle.mk_io.specs.Outside.{Rose};
-ghost use Rattle.mk_io.specs.Stream.{max_stream_lines, max_stream_bytes, max_line_bytes};
-ghost use Rattle.mk_io.specs.Cutting.{fresh, IsAnswer, IsFreshAnswer};
+ghost use Rattle.mk_io.specs.Outside.{LeavesRest};
+ghost use Rattle.mk_io.specs.Stream.{max_stream_lines, max_stream_bytes};
+ghost use Rattle.mk_io.specs.Cutting.{fresh, IsAnswer, IsFreshAnswer, IsWithinLimits, HasReadCause, CountsReadFault};
 ghost use Rattle.mk_io.specs.Giving.{GivesText};
 
 use crate::cut::{Cut, cut_line};
@@ -83,16 +83,13 @@ impl Lines {
     /// Takes the next line of the stream.
     ///
     /// The stream is the bytes that were taken and not given, and then those that `inputs` has left. After `End`,
-    /// `ReadFault` or `TooMany` each call gives that answer again, and reads nothing.
+    /// `ReadFault` or `TooMany` each call gives that answer again, and reads nothing; after a last line without LF each
+    /// gives `End`.
     pub fn next<I: Inputs>(&mut self, inputs: &mut I) -> Next
         ensures answer { IsAnswer result self.old self.new (I.commands inputs.old) (I.commands inputs.new) }
-        ensures line_short { length self.new.line ≤ max_line_bytes }
-        ensures given_within { self.new.given ≤ max_stream_lines }
-        ensures spent_within { self.new.spent ≤ max_stream_bytes }
-        ensures market { I.market inputs.new ≡ I.market inputs.old }
-        ensures files { (other : List ℕ) → I.file inputs.new other ≡ I.file inputs.old other }
-        ensures later { I.faults inputs.old ≤ I.faults inputs.new }
-        ensures cause { result ≡ Next.ReadFault → self.old.last ≡ None → Rose (I.faults inputs.old) (I.faults inputs.new) }
+        ensures within { IsWithinLimits self.new }
+        ensures rest { LeavesRest (I.market inputs.old) (I.market inputs.new) (I.file inputs.old) (I.file inputs.new) }
+        ensures cause { HasReadCause result self.old (I.faults inputs.old) (I.faults inputs.new) }
     {
         match self.last {
             Some(last) => self.stop(last),
@@ -104,13 +101,9 @@ impl Lines {
     fn fresh_answer<I: Inputs>(&mut self, inputs: &mut I) -> Next
         requires { self.old.last ≡ None }
         ensures answer { IsFreshAnswer result self.old self.new (I.commands inputs.old) (I.commands inputs.new) }
-        ensures line_short { length self.new.line ≤ max_line_bytes }
-        ensures given_within { self.new.given ≤ max_stream_lines }
-        ensures spent_within { self.new.spent ≤ max_stream_bytes }
-        ensures market { I.market inputs.new ≡ I.market inputs.old }
-        ensures files { (other : List ℕ) → I.file inputs.new other ≡ I.file inputs.old other }
-        ensures later { I.faults inputs.old ≤ I.faults inputs.new }
-        ensures cause { result ≡ Next.ReadFault → Rose (I.faults inputs.old) (I.faults inputs.new) }
+        ensures within { IsWithinLimits self.new }
+        ensures rest { LeavesRest (I.market inputs.old) (I.market inputs.new) (I.file inputs.old) (I.file inputs.new) }
+        ensures cause { CountsReadFault result (I.faults inputs.old) (I.faults inputs.new) }
     {
         match self.pending.refill(inputs) {
             Err(_) => self.stop(Next::ReadFault),
@@ -125,13 +118,9 @@ impl Lines {
         requires goes_on { self.old.last ≡ None }
         ensures answer { IsFreshAnswer result self.old self.new (I.commands inputs.old) (I.commands inputs.new) }
         ensures not_end { result ≢ Next.End }
-        ensures line_short { length self.new.line ≤ max_line_bytes }
-        ensures given_within { self.new.given ≤ max_stream_lines }
-        ensures spent_within { self.new.spent ≤ max_stream_bytes }
-        ensures market { I.market inputs.new ≡ I.market inputs.old }
-        ensures files { (other : List ℕ) → I.file inputs.new other ≡ I.file inputs.old other }
-        ensures later { I.faults inputs.old ≤ I.faults inputs.new }
-        ensures cause { result ≡ Next.ReadFault → Rose (I.faults inputs.old) (I.faults inputs.new) }
+        ensures within { IsWithinLimits self.new }
+        ensures rest { LeavesRest (I.market inputs.old) (I.market inputs.new) (I.file inputs.old) (I.file inputs.new) }
+        ensures cause { CountsReadFault result (I.faults inputs.old) (I.faults inputs.new) }
     {
         if self.given == MAX_STREAM_LINES {
             return self.stop(Next::TooMany);
@@ -140,17 +129,18 @@ impl Lines {
         match cut_line(&mut self.pending, &mut self.text, inputs, room) {
             Cut::Fault => self.stop(Next::ReadFault),
             Cut::Full => self.stop(Next::TooMany),
-            Cut::Whole(size) => self.give(size),
-            Cut::Last(size) => self.give(size),
+            Cut::Whole(size) => self.give(size, None),
+            Cut::Last(size) => self.give(size, Some(Next::End)),
         }
     }
 
-    // Gives the line whose first bytes are in the text.
-    fn give(&mut self, size: u64) -> Next
+    // Gives the line whose first bytes are in the text, and sets the answer that stays behind it.
+    fn give(&mut self, size: u64, last: Option<Next>) -> Next
         requires line_fits { self.old.given < max_stream_lines }
         requires bytes_fit { self.old.spent + size ≤ max_stream_bytes }
-        ensures settled { GivesText self.old self.new size result }
+        ensures settled { GivesText self.old self.new size last result }
     {
+        self.last = last;
         self.given += 1;
         self.spent += size;
         if self.text.settle() {
@@ -164,8 +154,7 @@ impl Lines {
     fn stop(&mut self, last: Next) -> Next
         ensures answer { result ≡ last }
         ensures stays { self.new ≡ record self.old { line = []; last = Some last } }
-        ensures given_within { self.new.given ≤ max_stream_lines }
-        ensures spent_within { self.new.spent ≤ max_stream_bytes }
+        ensures within { IsWithinLimits self.new }
     {
         self.text.clear();
         self.last = Some(last);

@@ -1,7 +1,7 @@
 //! Inputs and a sink in memory, whose calls can be made to fail.
 
 ghost use Rattle.std.specs.Prelude.{◌≡◌, ℕ, ◌+◌, ◌-◌, ◌<◌, ◌≤◌, ◌↔◌, ◌⊎◌, List, [], ◌++◌, length, take, drop, map, Option, Some, None, IsErr, IfOk, OnOk, OnErr, MatchOption, vec_len, min};
-ghost use Rattle.mk_io.specs.Outside.{HasCause, Reads, Writes};
+ghost use Rattle.mk_io.specs.Outside.{HasCause, LeavesRest, Reads, Writes};
 ghost use Rattle.mk_io.specs.Memory.{named, file_bytes, bytes_at, piece_of, counted, failed, uncalled, IsFailing, IsFull};
 
 use crate::calls::Calls;
@@ -76,6 +76,13 @@ impl MemoryInputs {
             calls: Calls::new(failing),
         }
     }
+
+    /// How many calls there were, with those that failed.
+    pub fn calls(&self) -> u64
+        ensures { result ≡ ((self.now).calls).count }
+    {
+        self.calls.count()
+    }
 }
 
 impl Inputs for MemoryInputs {
@@ -93,8 +100,7 @@ impl Inputs for MemoryInputs {
         ensures cause { HasCause self.old.calls.faults self.new.calls.faults result }
         ensures opened { OnOk result (Some self.new.market ≡ file_bytes self.old.files name.now) }
         ensures not_opened { OnErr result (Some self.new.market ≡ Some self.old.market) }
-        ensures commands { Some self.new.commands ≡ Some self.old.commands }
-        ensures files { (other : List ℕ) → file_bytes self.new.files other ≡ file_bytes self.old.files other }
+        ensures rest { LeavesRest (Some self.old.commands) (Some self.new.commands) (file_bytes self.old.files) (file_bytes self.new.files) }
 
         ensures fails { IsErr result ↔ (IsFailing self.old.calls ⊎ (file_bytes self.old.files name.now ≡ None)) }
         ensures ok { OnOk result (self.new ≡ record self.old { market = self.new.market; calls = counted self.old.calls }) }
@@ -121,8 +127,7 @@ impl Inputs for MemoryInputs {
         requires { 0 < length buf.old }
         ensures cause { HasCause self.old.calls.faults self.new.calls.faults result }
         ensures reads { Reads (Some self.old.market) (Some self.new.market) result buf.new }
-        ensures commands { Some self.new.commands ≡ Some self.old.commands }
-        ensures files { (other : List ℕ) → file_bytes self.new.files other ≡ file_bytes self.old.files other }
+        ensures rest { LeavesRest (Some self.old.commands) (Some self.new.commands) (file_bytes self.old.files) (file_bytes self.new.files) }
 
         ensures fails { IsErr result ↔ IsFailing self.old.calls }
         ensures amount { IfOk result (λ n. n ≡ piece_of self.old.piece (length self.old.market) (length buf.old)) }
@@ -151,8 +156,7 @@ impl Inputs for MemoryInputs {
         requires { 0 < length buf.old }
         ensures cause { HasCause self.old.calls.faults self.new.calls.faults result }
         ensures reads { Reads (Some self.old.commands) (Some self.new.commands) result buf.new }
-        ensures market { Some self.new.market ≡ Some self.old.market }
-        ensures files { (other : List ℕ) → file_bytes self.new.files other ≡ file_bytes self.old.files other }
+        ensures rest { LeavesRest (Some self.old.market) (Some self.new.market) (file_bytes self.old.files) (file_bytes self.new.files) }
 
         ensures fails { IsErr result ↔ IsFailing self.old.calls }
         ensures amount { IfOk result (λ n. n ≡ piece_of self.old.piece (length self.old.commands) (length buf.old)) }
@@ -240,6 +244,13 @@ impl MemorySink {
             piece,
             calls: Calls::new(failing),
         }
+    }
+
+    /// How many calls there were, with those that failed.
+    pub fn calls(&self) -> u64
+        ensures { result ≡ ((self.now).calls).count }
+    {
+        self.calls.count()
     }
 
     /// The bytes written.

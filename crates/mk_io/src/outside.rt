@@ -1,7 +1,7 @@
 //! The traits of the outside, with the causes of their failures.
 
 ghost use Rattle.std.specs.Prelude.{◌≡◌, ℕ, ◌<◌, List, [], Option, length, OnOk, OnErr};
-ghost use Rattle.mk_io.specs.Outside.{HasCause, Reads, Writes, AddsFront, append_known};
+ghost use Rattle.mk_io.specs.Outside.{HasCause, LeavesRest, Reads, Writes, AddsFront, append_known};
 
 /// A read or an opening failed.
 #[derive(Clone, Copy, Debug, PartialEq, Eq)]
@@ -14,7 +14,7 @@ pub struct SinkFailed;
 /// Where market files and commands come from.
 ///
 /// What an implementation tells of its bytes is in its ghost members: the bytes of the file of each name, those left
-/// of the opened market, and those left of the commands. A call fails only where the count `faults` rose in it.
+/// of the opened market, and those left of the commands. A call fails exactly where the count `faults` rose in it.
 pub trait Inputs {
     // the names that may be opened
     ghost admits: { List ℕ → Type 0 };
@@ -33,24 +33,21 @@ pub trait Inputs {
         ensures cause { HasCause (faults self.old) (faults self.new) result }
         ensures opened { OnOk result (market self.new ≡ file self.old name.now) }
         ensures not_opened { OnErr result (market self.new ≡ market self.old) }
-        ensures commands { commands self.new ≡ commands self.old }
-        ensures files { (other : List ℕ) → file self.new other ≡ file self.old other };
+        ensures rest { LeavesRest (commands self.old) (commands self.new) (file self.old) (file self.new) };
 
     /// Reads the next bytes of the opened market, `Ok(0)` at its end or where none was opened.
     fn read_market(&mut self, buf: &mut [u8]) -> Result<usize, InputFailed>
         requires { 0 < length buf.old }
         ensures cause { HasCause (faults self.old) (faults self.new) result }
         ensures reads { Reads (market self.old) (market self.new) result buf.new }
-        ensures commands { commands self.new ≡ commands self.old }
-        ensures files { (other : List ℕ) → file self.new other ≡ file self.old other };
+        ensures rest { LeavesRest (commands self.old) (commands self.new) (file self.old) (file self.new) };
 
     /// Reads the next bytes of the commands, `Ok(0)` at their end.
     fn read_commands(&mut self, buf: &mut [u8]) -> Result<usize, InputFailed>
         requires { 0 < length buf.old }
         ensures cause { HasCause (faults self.old) (faults self.new) result }
         ensures reads { Reads (commands self.old) (commands self.new) result buf.new }
-        ensures market { market self.new ≡ market self.old }
-        ensures files { (other : List ℕ) → file self.new other ≡ file self.old other };
+        ensures rest { LeavesRest (market self.old) (market self.new) (file self.old) (file self.new) };
 }
 
 /// Where the output goes.

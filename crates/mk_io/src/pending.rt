@@ -1,7 +1,7 @@
 //! Bytes that were read and are still to be taken.
 
 ghost use Rattle.std.specs.Prelude.{◌≡◌, ℕ, ◌<◌, List, [], ◌∷◌, Option, length};
-ghost use Rattle.mk_io.specs.Outside.{HasCause};
+ghost use Rattle.mk_io.specs.Outside.{HasCause, LeavesRest};
 ghost use Rattle.mk_io.specs.Cut.{Refills};
 
 use crate::outside::{InputFailed, Inputs};
@@ -43,8 +43,7 @@ impl Pending {
     pub fn refill<I: Inputs>(&mut self, inputs: &mut I) -> Result<bool, InputFailed>
         ensures cause { HasCause (I.faults inputs.old) (I.faults inputs.new) result }
         ensures bytes { Refills self.old self.new (I.commands inputs.old) (I.commands inputs.new) result }
-        ensures market { I.market inputs.new ≡ I.market inputs.old }
-        ensures files { (other : List ℕ) → I.file inputs.new other ≡ I.file inputs.old other }
+        ensures rest { LeavesRest (I.market inputs.old) (I.market inputs.new) (I.file inputs.old) (I.file inputs.new) }
     {
         if self.from < self.to {
             return Ok(true);

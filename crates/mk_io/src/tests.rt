@@ -111,6 +111,16 @@ fn a_read_fails_within_a_line(rt: HostRuntime) -> Result<(), Fail> {
 }
 
 #[test]
+fn nothing_is_read_behind_a_last_line(rt: HostRuntime) -> Result<(), Fail> {
+    // a third read would fail
+    let mut inputs = inputs_of(rt.alloc(), b"ab", 5, &[3])?;
+    let expected: [(Next, &[u8]); 3] = [(Next::Line, b"ab"), (Next::End, b""), (Next::End, b"")];
+    expect_lines(&rt, &mut inputs, &expected);
+    assert_eq!(rt; inputs.calls(), 2);
+    Ok(())
+}
+
+#[test]
 fn writes_go_on_and_fail(rt: HostRuntime) -> Result<(), Fail> {
     let alloc = rt.alloc();
     let mut whole = MemorySink::new(vec![in alloc; 0; 8]?, 1, Vec::new(alloc));

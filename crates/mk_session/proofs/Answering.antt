@@ -1,52 +1,110 @@
--- A reply that was written, or of which a front was.
-use Rattle.std.proofs.Common.{◌≡◌, ℕ, List, true, false, Option, Result, Ok, Err, OnOk, OnErr, inr, refl, sym, ap, append-nil, ◌∙◌}
+-- Lines that are answered: none, one, and some behind others.
+use Rattle.std.proofs.Common.{◌≡◌, ℕ, List, [], ◌∷◌, ◌++◌, filter, true, false, Option, Result, Ok, Err, OnOk, OnErr, refl, sym, ap, ap₂, subst, ◌∙◌}
+use Rattle.std.specs.List.{AllZip}
+use Rattle.std.proofs.lemmas.List.Elements.{filter-append}
+use Rattle.std.proofs.lemmas.Grind.{flat_map-append}
+use Rattle.std.proofs.lemmas.List.Concat.{flat_map-cons}
 use Rattle.mk_io.specs.Outside.{append_known, AddsFront}
-use Rattle.mk_io.specs.Stream.{StreamLine, long, asks}
-use Rattle.mk_exact.specs.Market.{Market}
-use Rattle.mk_reply.specs.declared.reply.Reply.{Reply}
-use Rattle.mk_reply.specs.declared.reply.Reply.TheVariants.{Refused}
-use Rattle.mk_reply.specs.declared.refusal.Refusal.TheVariants.{Long}
-use Rattle.mk_session.specs.Texts.{reply_line}
-use Rattle.mk_rules.specs.Transcript.{Standing, LongLine}
+use Rattle.mk_io.specs.Stream.{StreamLine, is_not_blank}
+use Rattle.mk_exact.specs.Market.{Market, network_of}
+use Rattle.mk_exact.proofs.Gains.{gains_bounded}
 use Rattle.mk_command.specs.declared.command.Command.{Command}
-use Rattle.mk_command.specs.declared.command.Command.TheVariants.{User, Deposit, Withdraw, Price, Limits, Edit, Worst, Resolve, Settle}
 use Rattle.mk_command.specs.Commands.{IsCommand, command_text}
 use Rattle.mk_command.proofs.CommandLaws.{form_tells}
 use Rattle.mk_text.proofs.ReadingLaws.{whole_one}
-use Rattle.mk_exact.specs.History.{Entry}
-use Rattle.mk_rules.specs.Transcript.{OfCommand, after}
+use Rattle.mk_reply.specs.declared.reply.Reply.{Reply}
+use Rattle.mk_rules.specs.Transcript.{Standing, opening, Line, IsAllowedFor, after, Run}
+use Rattle.mk_rules.specs.Laws.{Stands}
+use Rattle.mk_rules.proofs.Keeps.{run_keeps, opening_stands}
 use Rattle.mk_session.specs.Rules.{is_served}
-use Rattle.mk_session.specs.Transcript.{Step}
-use Rattle.mk_session.specs.Progress.{IsAnswered, IsCutOff}
+use Rattle.mk_session.specs.Texts.{ready_line, reply_line}
+use Rattle.mk_session.specs.Transcript.{Asks, AreAnswered, Transcript}
+use Rattle.mk_session.specs.Outcome.{Adds}
+use Rattle.mk_session.specs.Progress.{AreCutOff}
 
-pub long_step : (market : Market) (now : Standing) → Step market now long (Refused Long) now
-long_step market now = record { asking = LongLine; asked = tt; allowed = refl; next = refl; keeps_sound = λ sound. sound }
+pub no_more : {X : Type 0} (xs : List X) → xs ++ [] ≡ xs
+no_more [] = refl
+no_more (x ∷ xs) = ap (λ ys. x ∷ ys) (no_more xs)
 
-pub answered_when_said : {T E : Type 0} (market : Market) (old : Standing) (line : StreamLine) (reply : Reply) (new : Standing)
-    (before after : Option (List ℕ)) (result : Result T E) → Step market old line reply new → asks line ≡ true
-    → OnOk result (after ≡ append_known before (reply_line reply)) → OnOk result (IsAnswered market old line new before after)
-answered_when_said market old line reply new before after (Ok v) step busy whole =
-    inr (record { not_blank = busy; reply = reply; step = step; added = whole })
-answered_when_said market old line reply new before after (Err e) step busy whole = tt
+pub none_answered : (market : Market) (old new : Standing) → new ≡ old → AreAnswered market old [] new []
+none_answered market old new same = record { asked = []; asks = tt; replies = []; run = same; printed = refl }
 
-pub cut_off_when_not : {T E : Type 0} (market : Market) (old : Standing) (line : StreamLine) (reply : Reply) (new : Standing)
-    (before after : Option (List ℕ)) (result : Result T E) → Step market old line reply new → asks line ≡ true
-    → OnErr result (AddsFront before after (reply_line reply)) → OnErr result (IsCutOff market old line new before after)
-cut_off_when_not market old line reply new before after (Ok v) step busy front = tt
-cut_off_when_not market old line reply new before after (Err e) step busy front =
-    record { not_blank = busy; reply = reply; step = step; front = front }
+-- a blank line is passed over
+pub blank_answered : (market : Market) (now : Standing) (line : StreamLine) → is_not_blank line ≡ false → AreAnswered market now (line ∷ []) now []
+blank_answered market now line blank =
+    let none : filter is_not_blank (line ∷ []) ≡ [] = rw blank refl in
+    record {
+      asked = [];
+      asks = subst (λ (ls : List StreamLine). AllZip Asks ls []) (sym none) tt;
+      replies = [];
+      run = refl;
+      printed = refl;
+    }
 
--- a price changes nothing
-pub served_stays : (market : Market) (now : Standing) (command : Command) (reply : Reply) → is_served command ≡ true → after market now (OfCommand command) reply ≡ now
-served_stays market now (Price q) reply h = ap (λ (H : List Entry). record { history = H; quotes = now.quotes }) (append-nil now.history)
-served_stays market now (User u) reply h = cc
-served_stays market now (Deposit u n) reply h = cc
-served_stays market now (Withdraw u n) reply h = cc
-served_stays market now (Limits u q) reply h = cc
-served_stays market now (Edit u q X at) reply h = cc
-served_stays market now (Worst u) reply h = cc
-served_stays market now (Resolve p) reply h = cc
-served_stays market now Settle reply h = cc
+-- another line is answered by one reply
+pub one_answered : (market : Market) (now : Standing) (line : StreamLine) (question : Line) (reply : Reply) → is_not_blank line ≡ true
+    → Asks line question → IsAllowedFor market now question reply → AreAnswered market now (line ∷ []) (after market now question reply) (reply_line reply)
+one_answered market now line question reply busy asks allowed =
+    let one : filter is_not_blank (line ∷ []) ≡ line ∷ [] = rw busy refl in
+    record {
+      asked = question ∷ [];
+      asks = subst (λ (ls : List StreamLine). AllZip Asks ls (question ∷ [])) (sym one) (asks, tt);
+      replies = reply ∷ [];
+      run = (allowed, refl);
+      printed = sym (flat_map-cons reply_line reply [] ∙ no_more (reply_line reply));
+    }
+
+asks_behind : (ls ms : List StreamLine) (xs ys : List Line) → AllZip Asks ls xs → AllZip Asks ms ys → AllZip Asks (ls ++ ms) (xs ++ ys)
+asks_behind [] ms [] ys first second = second
+asks_behind [] ms (x ∷ xs) ys first second = absurd first
+asks_behind (l ∷ ls) ms [] ys first second = absurd first
+asks_behind (l ∷ ls) ms (x ∷ xs) ys first second = (first.0, asks_behind ls ms xs ys first.1 second)
+
+run_behind : (market : Market) (xs ys : List Line) (rs ss : List Reply) (old mid new : Standing) → Run market old xs rs mid → Run market mid ys ss new
+    → Run market old (xs ++ ys) (rs ++ ss) new
+run_behind market [] ys [] ss old mid new first second = subst (λ (s : Standing). Run market s ys ss new) first second
+run_behind market [] ys (r ∷ rs) ss old mid new first second = absurd first
+run_behind market (x ∷ xs) ys [] ss old mid new first second = absurd first
+run_behind market (x ∷ xs) ys (r ∷ rs) ss old mid new first second =
+    (first.0, run_behind market xs ys rs ss (after market old x r) mid new first.1 second)
+
+-- lines behind others that are answered
+pub then_answered : (market : Market) (old mid new : Standing) (ls ms : List StreamLine) (a b : List ℕ) → AreAnswered market old ls mid a
+    → AreAnswered market mid ms new b → AreAnswered market old (ls ++ ms) new (a ++ b)
+then_answered market old mid new ls ms a b first second = record {
+  asked = first.asked ++ second.asked;
+  asks = subst (λ (qs : List StreamLine). AllZip Asks qs (first.asked ++ second.asked)) (sym (filter-append is_not_blank ls ms))
+      (asks_behind (filter is_not_blank ls) (filter is_not_blank ms) first.asked second.asked first.asks second.asks);
+  replies = first.replies ++ second.replies;
+  run = run_behind market first.asked second.asked first.replies second.replies old mid new first.run second.run;
+  printed = ap₂ (λ x y. x ++ y) first.printed second.printed ∙ sym (flat_map-append reply_line first.replies second.replies);
+}
+
+-- behind the ready line they are a transcript
+pub transcript_of : (market : Market) (lines : List StreamLine) (end : Standing) (answers : List ℕ) → AreAnswered market opening lines end answers
+    → Transcript market lines (ready_line market ++ answers)
+transcript_of market lines end answers answered =
+    let stands : Stands market end.history = run_keeps market opening end answered.asked answered.replies (opening_stands market) answered.run in
+    record {
+      after = end;
+      answers = answers;
+      answered = answered;
+      printed = refl;
+      stands = stands;
+      bounded = gains_bounded (network_of market end.history) end.history stands.sound stands.proper;
+    }
+
+pub adds_when_said : {T E : Type 0} (market : Market) (old : Standing) (lines : List StreamLine) (new : Standing) (output : List ℕ)
+    (before after : Option (List ℕ)) (said : Result T E) → AreAnswered market old lines new output
+    → OnOk said (after ≡ append_known before output) → OnOk said (Adds before after (AreAnswered market old lines new))
+adds_when_said market old lines new output before after (Ok v) answered whole = record { bytes = output; added = whole; holds = answered }
+adds_when_said market old lines new output before after (Err e) answered whole = tt
+
+pub cut_off_when_not : {T E : Type 0} (market : Market) (old : Standing) (lines : List StreamLine) (new : Standing) (output : List ℕ)
+    (before after : Option (List ℕ)) (said : Result T E) → AreAnswered market old lines new output
+    → OnErr said (AddsFront before after output) → OnErr said (AreCutOff market old lines new before after)
+cut_off_when_not market old lines new output before after (Ok v) answered front = tt
+cut_off_when_not market old lines new output before after (Err e) answered front = record { output = output; answered = answered; front = front }
 
 -- the text of a command that is not served is that of no served one
 pub none_served : (line : List ℕ) (other : Command) → IsCommand other → line ≡ command_text other → is_served other ≡ false

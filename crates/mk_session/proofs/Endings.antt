@@ -1,163 +1,147 @@
 -- How a run ends, from what it has come to.
-use Rattle.std.proofs.Common.{◌≡◌, ℕ, ◌≤◌, List, [], ◌∷◌, ◌++◌, length, Option, Some, None, Result, Ok, Err, MatchResult, MatchOption, OnOk, OnErr, IfSome, IfNone, ◌⊎◌, inl, inr, refl, sym, ap, subst, ◌∙◌, arith, append_assoc}
-use Rattle.std.specs.List.{flat_map}
-use Rattle.std.proofs.lemmas.Grind.{flat_map-append}
-use Rattle.std.proofs.lemmas.List.Concat.{flat_map-cons}
+use Rattle.std.proofs.Common.{◌≡◌, ℕ, ◌≤◌, ◌<◌, ◌+◌, List, [], ◌∷◌, ◌++◌, length, Option, Some, None, Result, Ok, Err, MatchResult, MatchOption, OnOk, OnErr, IfSome, IfNone, ◌⊎◌, inl, inr, refl, sym, ap, subst, ◌∙◌, arith, append_assoc}
 use Rattle.mk_io.specs.declared.status.Status.{Status}
 use Rattle.mk_io.specs.declared.status.Status.TheVariants.{Done, ReadFault, WriteFault, TooMany}
 use Rattle.mk_io.specs.declared.lines.Next.{Next}
-use Rattle.mk_io.specs.Outside.{append_known, prepend_known, IsAtEnd}
-use Rattle.mk_io.specs.Stream.{StreamLine, stream_lines, max_stream_lines, max_stream_bytes}
-use Rattle.mk_io.specs.Cutting.{Cutting, stream_left, GivesLine, Stays, IsAnswer, IsFreshAnswer, StopsInLine, Overruns, IsTooMuch}
+use Rattle.mk_io.specs.declared.lines.Next.TheVariants.{Line, Long, End, ReadFault as Unread, TooMany as Overrun}
+use Rattle.mk_io.specs.Outside.{append_known, IsAtEnd, HasCause, CountsFault}
+use Rattle.mk_io.specs.Stream.{StreamLine, stream_lines, AreWholeLines, max_stream_lines, max_stream_bytes}
+use Rattle.mk_io.specs.Cutting.{Cutting, stream_left, first_size, GoesOn, GivesLine, Stays, IsAnswer, IsFreshAnswer, StopsInLine, Overruns, IsTooMuch, CountsReadFault, HasReadCause}
 use Rattle.mk_io.proofs.Told.{append_known_twice}
 use Rattle.mk_exact.specs.Market.{Market}
-use Rattle.mk_reply.specs.declared.reply.Reply.{Reply}
-use Rattle.mk_session.specs.Texts.{reply_line, ready_line}
 use Rattle.mk_rules.specs.Transcript.{Standing, opening}
-use Rattle.mk_session.specs.Transcript.{Run, Transcript, asked, transcript_text}
-use Rattle.mk_session.specs.Progress.{IsCutOff, IsSoFar, IsEnded, IsAnswered}
-use Rattle.mk_session.proofs.Underway.{behind, done_push, run_push, run_sound, asked_push, so_far_next, no_more}
-use Rattle.mk_exact.proofs.Single.{empty_sound}
+use Rattle.mk_session.specs.Texts.{ready_line}
+use Rattle.mk_session.specs.Transcript.{AreAnswered, Transcript}
+use Rattle.mk_session.specs.Outcome.{Adds, HasCauses, CountsNone}
+use Rattle.mk_session.specs.Progress.{AreCutOff, IsBetween, IsSoFar, IsEnded}
+use Rattle.mk_session.proofs.Answering.{no_more, then_answered, transcript_of}
+use Rattle.mk_session.proofs.Underway.{rest_of, behind, are_whole, so_far_next}
 
 -- the transcript of the lines that are done
 transcript_so_far : (market : Market) (all : List ℕ) (cutting : Cutting) (source : Option (List ℕ)) (now : Standing) (before written : Option (List ℕ))
-    → (far : IsSoFar market all cutting source now before written) → Transcript market far.done (transcript_text market far.replies)
+    → (far : IsSoFar market all cutting source now before written) → Transcript market (stream_lines far.done) (ready_line market ++ far.answers.bytes)
 transcript_so_far market all cutting source now before written far =
-    record {
-      replies = far.replies;
-      after = now;
-      run = far.run;
-      printed = refl;
-      sound = run_sound market (asked far.done) far.replies opening now far.run (empty_sound market.network);
-    }
-
--- what is left of a source behind some bytes of it that are known
-pub record IsRest (part whole : List ℕ) (source : Option (List ℕ)) : Type 0 where
-  pub rest : List ℕ
-  pub told : source ≡ Some rest
-  pub parts : whole ≡ part ++ rest
-
-rest_of : (part whole : List ℕ) (source : Option (List ℕ)) → Some whole ≡ prepend_known part source → IsRest part whole source
-rest_of part whole None e = absurd (cc)
-rest_of part whole (Some rest) e = record { rest = rest; told = refl; parts = cc }
+    transcript_of market (stream_lines far.done) now far.answers.bytes far.answers.holds
 
 second_empty : (xs ys : List ℕ) → xs ++ ys ≡ [] → ys ≡ []
 second_empty [] ys e = e
 second_empty (x ∷ xs) ys e = absurd (cc)
 
-past_of : {B : Type 0} (given done most : ℕ) → given ≡ done → (given ≡ most) ⊎ B → (done ≡ most) ⊎ B
-past_of given done most e (inl f) = inl (sym e ∙ f)
-past_of given done most e (inr b) = inr b
-
-front_parts : (ready : List ℕ) (replies : List Reply) (reply : Reply) (front rest : List ℕ) → reply_line reply ≡ front ++ rest
-    → ready ++ flat_map reply_line (replies ++ reply ∷ []) ≡ (ready ++ (flat_map reply_line replies ++ front)) ++ rest
-front_parts ready replies reply front rest e =
-    let last : flat_map reply_line (replies ++ reply ∷ []) ≡ flat_map reply_line replies ++ (front ++ rest) =
-    flat_map-append reply_line replies (reply ∷ [])
-    ∙ ap (λ (bytes : List ℕ). flat_map reply_line replies ++ bytes) (flat_map-cons reply_line reply [] ∙ no_more (reply_line reply) ∙ e) in
-    ap (λ (bytes : List ℕ). ready ++ bytes) (last ∙ sym (append_assoc (flat_map reply_line replies) front rest))
-    ∙ sym (append_assoc ready (flat_map reply_line replies ++ front) rest)
-
-pub ended_done : (market : Market) (all : List ℕ) (cutting : Cutting) (source rest : Option (List ℕ)) (now : Standing) (before written after : Option (List ℕ))
-    → IsSoFar market all cutting source now before written → IsAtEnd (stream_left cutting source) → rest ≡ source → after ≡ written
-    → cutting.given ≤ max_stream_lines → cutting.spent ≤ max_stream_bytes → IsEnded Done market all rest before after
-ended_done market all cutting source rest now before written after far at_end same still few_lines few_bytes =
-    let empty : far.left ≡ [] = subst (λ (o : Option (List ℕ)). IsAtEnd o) far.known at_end in
-    let r = rest_of cutting.left far.left source (sym far.known) in
-    let whole : stream_lines all ≡ far.done = far.lines ∙ ap (λ (left : List ℕ). far.done ++ stream_lines left) empty ∙ no_more far.done in
-    let counted : length far.left ≡ 0 = ap length empty in
+pub ended_done : (market : Market) (all : List ℕ) (old new : Cutting) (source rest : Option (List ℕ)) (now : Standing) (before written after : Option (List ℕ))
+    → (far : IsSoFar market all old source now before written) → far.left ≡ [] → Stays old new source rest End → after ≡ written
+    → new.given ≤ max_stream_lines → new.spent ≤ max_stream_bytes → IsEnded Done market all rest before after
+ended_done market all old new source rest now before written after far empty stays still few_lines few_bytes =
+    let r = rest_of old.left far.left source (sym far.known) in
+    let whole : all ≡ far.done = far.bytes ∙ ap (λ (left : List ℕ). far.done ++ left) empty ∙ no_more far.done in
+    let given : new.given ≡ old.given = ap (λ (x : Cutting). x.given) stays.same in
+    let spent : new.spent ≡ old.spent = ap (λ (x : Cutting). x.spent) stays.same in
     record {
       rest = r.rest;
-      told = same ∙ r.told;
+      told = stays.untouched ∙ r.told;
       output = record {
-        bytes = flat_map reply_line far.replies;
-        added = still ∙ far.added;
+        bytes = far.answers.bytes;
+        added = still ∙ far.answers.added;
         holds = record {
-          transcript = subst (λ (ls : List StreamLine). Transcript market ls (transcript_text market far.replies)) (sym whole)
-              (transcript_so_far market all cutting source now before written far);
-          to_the_end = second_empty cutting.left r.rest (sym r.parts ∙ empty);
-          within_lines = subst (λ (ls : List StreamLine). length ls ≤ max_stream_lines) (sym whole) (omega (arith, far.given));
-          within_bytes = omega (arith, far.counted);
+          transcript = subst (λ (bytes : List ℕ). Transcript market (stream_lines bytes) (ready_line market ++ far.answers.bytes)) (sym whole)
+              (transcript_so_far market all old source now before written far);
+          to_the_end = second_empty old.left r.rest (sym r.parts ∙ empty);
+          within_lines = subst (λ (bytes : List ℕ). length (stream_lines bytes) ≤ max_stream_lines) (sym whole) (omega (arith, far.given));
+          within_bytes = omega (arith, far.spent, ap length whole);
         };
       };
     }
 
 pub ended_read_fault : (market : Market) (all : List ℕ) (old new : Cutting) (source rest : Option (List ℕ)) (now : Standing) (before written after : Option (List ℕ))
-    → IsSoFar market all old source now before written → StopsInLine new (stream_left old source) rest → after ≡ written
+    → IsSoFar market all old source now before written → old.last ≡ None → StopsInLine new (stream_left old source) rest → after ≡ written
     → IsEnded ReadFault market all rest before after
-ended_read_fault market all old new source rest now before written after far stops still =
+ended_read_fault market all old new source rest now before written after far none stops still =
     let r = rest_of stops.part far.left rest (sym far.known ∙ stops.taken) in
     record {
       rest = r.rest;
       told = r.told;
       output = record {
-        bytes = flat_map reply_line far.replies;
-        added = still ∙ far.added;
-        holds = inr (record {
-          done = far.done;
-          part = stops.part;
-          lines = far.lines ∙ ap (λ (bytes : List ℕ). far.done ++ stream_lines bytes) r.parts;
-          no_lf = stops.no_lf;
-          transcript = transcript_so_far market all old source now before written far;
-        });
-      };
-    }
-
-pub ended_too_many : (market : Market) (all : List ℕ) (old new : Cutting) (source rest : Option (List ℕ)) (now : Standing) (before written after : Option (List ℕ))
-    → IsSoFar market all old source now before written → Overruns old new (stream_left old source) rest → after ≡ written
-    → IsEnded TooMany market all rest before after
-ended_too_many market all old new source rest now before written after far over still =
-    let r = rest_of over.part far.left rest (sym far.known ∙ over.taken) in
-    let much : IsTooMuch old far.left = subst (λ (o : Option (List ℕ)). IfSome o (IsTooMuch old)) far.known over.much in
-    record {
-      rest = r.rest;
-      told = r.told;
-      output = record {
-        bytes = flat_map reply_line far.replies;
-        added = still ∙ far.added;
+        bytes = far.answers.bytes;
+        added = still ∙ far.answers.added;
         holds = record {
-          done = far.done;
-          left = far.left;
-          spent = old.spent;
-          lines = far.lines;
-          counted = far.counted;
-          more = much.more;
-          past = past_of old.given (length far.done) max_stream_lines far.given much.past;
+          whole = far.done;
+          part = stops.part;
+          bytes = far.bytes ∙ ap (λ (left : List ℕ). far.done ++ left) r.parts;
+          lines = are_whole old.last far.done far.left none far.between;
+          no_lf = stops.no_lf;
           transcript = transcript_so_far market all old source now before written far;
         };
       };
     }
 
--- a line was given, but of its reply only a front was written
-pub ended_broken : (market : Market) (all : List ℕ) (line : StreamLine) (old new : Cutting) (source rest : Option (List ℕ)) (now then : Standing)
-    (before written after : Option (List ℕ)) → GivesLine line old new (stream_left old source) (stream_left new rest)
-    → IsCutOff market now line then written after → IsSoFar market all old source now before written
-    → IsEnded WriteFault market all rest before after
-ended_broken market all line old new source rest now then before written after gives cut far =
-    let b = behind line old new far.left (stream_left old source) (stream_left new rest) far.known gives in
-    let r = rest_of new.left b.rest rest (sym b.known) in
+past_of : (given lines spent bytes most_lines most_bytes size : ℕ) → given ≡ lines → spent ≡ bytes
+    → (given ≡ most_lines) ⊎ (most_bytes < spent + size) → (lines ≡ most_lines) ⊎ (most_bytes < bytes + size)
+past_of given lines spent bytes most_lines most_bytes size e f (inl full) = inl (sym e ∙ full)
+past_of given lines spent bytes most_lines most_bytes size e f (inr past) = inr (subst (λ (n : ℕ). most_bytes < n + size) f past)
+
+pub ended_too_many : (market : Market) (all : List ℕ) (old new : Cutting) (source rest : Option (List ℕ)) (now : Standing) (before written after : Option (List ℕ))
+    → IsSoFar market all old source now before written → old.last ≡ None → Overruns old new (stream_left old source) rest → after ≡ written
+    → IsEnded TooMany market all rest before after
+ended_too_many market all old new source rest now before written after far none over still =
+    let r = rest_of over.part far.left rest (sym far.known ∙ over.taken) in
+    let much : IsTooMuch old (over.part ++ r.rest) =
+    subst (λ (left : List ℕ). IsTooMuch old left) r.parts (subst (λ (o : Option (List ℕ)). IfSome o (IsTooMuch old)) far.known over.much) in
     record {
       rest = r.rest;
       told = r.told;
       output = record {
-        bytes = flat_map reply_line far.replies ++ cut.front.front;
-        added = cut.front.added ∙ ap (λ (w : Option (List ℕ)). append_known w cut.front.front) far.added
-            ∙ append_known_twice before (flat_map reply_line far.replies) cut.front.front;
+        bytes = far.answers.bytes;
+        added = still ∙ far.answers.added;
         holds = record {
-          done = far.done ++ line ∷ [];
-          later = stream_lines b.rest;
-          whole = transcript_text market (far.replies ++ cut.reply ∷ []);
-          lines = done_push all far.left b.rest far.done line far.lines b.lines;
-          transcript = record {
-            replies = far.replies ++ cut.reply ∷ [];
-            after = then;
-            run = subst (λ (ls : List StreamLine). Run market opening ls (far.replies ++ cut.reply ∷ []) then)
-                (sym (asked_push far.done line cut.not_blank))
-                (run_push market (asked far.done) far.replies opening now then line cut.reply far.run cut.step);
-            printed = refl;
-            sound = cut.step.keeps_sound (run_sound market (asked far.done) far.replies opening now far.run (empty_sound market.network));
-          };
-          front = record { rest = cut.front.rest; parts = front_parts (ready_line market) far.replies cut.reply cut.front.front cut.front.rest cut.front.parts };
+          whole = far.done;
+          part = over.part;
+          bytes = far.bytes ∙ ap (λ (left : List ℕ). far.done ++ left) r.parts;
+          lines = are_whole old.last far.done far.left none far.between;
+          more = much.more;
+          past = past_of old.given (length (stream_lines far.done)) old.spent (length far.done) max_stream_lines max_stream_bytes
+              (first_size (over.part ++ r.rest)) far.given far.spent much.past;
+          transcript = transcript_so_far market all old source now before written far;
+        };
+      };
+    }
+
+lines_broken : (done left left_parts : List ℕ) → left ≡ left_parts → AreWholeLines done ⊎ (left ≡ []) → AreWholeLines done ⊎ (left_parts ≡ [])
+lines_broken done left left_parts e (inl whole) = inl whole
+lines_broken done left left_parts e (inr none) = inr (sym e ∙ none)
+
+front_parts : (ready answers output front rest : List ℕ) → output ≡ front ++ rest
+    → ready ++ (answers ++ output) ≡ (ready ++ (answers ++ front)) ++ rest
+front_parts ready answers output front rest e =
+    ap (λ (bytes : List ℕ). ready ++ (answers ++ bytes)) e ∙ ap (λ (bytes : List ℕ). ready ++ bytes) (sym (append_assoc answers front rest))
+    ∙ sym (append_assoc ready (answers ++ front) rest)
+
+-- a line was given, but of its reply only a front was written
+ended_broken : (market : Market) (all : List ℕ) (line : StreamLine) (old new : Cutting) (source rest : Option (List ℕ)) (now then : Standing)
+    (before written after : Option (List ℕ)) → old.last ≡ None → GivesLine line old new (stream_left old source) (stream_left new rest)
+    → AreCutOff market now (line ∷ []) then written after → IsSoFar market all old source now before written
+    → IsEnded WriteFault market all rest before after
+ended_broken market all line old new source rest now then before written after none gives cut far =
+    let whole = are_whole old.last far.done far.left none far.between in
+    let b = behind all far.done far.left line old new source rest far.bytes far.known whole gives in
+    let r = rest_of new.left b.left rest (sym b.known) in
+    let answers = far.answers.bytes in
+    let answered : AreAnswered market opening (stream_lines (far.done ++ gives.piece)) then (answers ++ cut.output) =
+    subst (λ (ls : List StreamLine). AreAnswered market opening ls then (answers ++ cut.output)) (sym b.lines)
+    (then_answered market opening now then (stream_lines far.done) (line ∷ []) answers cut.output far.answers.holds cut.answered) in
+    record {
+      rest = r.rest;
+      told = r.told;
+      output = record {
+        bytes = answers ++ cut.front.front;
+        added = cut.front.added ∙ ap (λ (w : Option (List ℕ)). append_known w cut.front.front) far.answers.added
+            ∙ append_known_twice before answers cut.front.front;
+        holds = record {
+          done = far.done ++ gives.piece;
+          part = new.left;
+          bytes = b.bytes ∙ ap (λ (left : List ℕ). (far.done ++ gives.piece) ++ left) r.parts;
+          lines = lines_broken (far.done ++ gives.piece) b.left (new.left ++ r.rest) r.parts b.ends;
+          text = ready_line market ++ (answers ++ cut.output);
+          transcript = transcript_of market (stream_lines (far.done ++ gives.piece)) then (answers ++ cut.output) answered;
+          front = record { rest = cut.front.rest; parts = front_parts (ready_line market) answers cut.output cut.front.front cut.front.rest cut.front.parts };
         };
       };
     }
@@ -166,13 +150,13 @@ ended_broken market all line old new source rest now then before written after g
 pub goes_on_after : {T E : Type 0} (said : Result T E) (ended : Option Status) (market : Market) (line : StreamLine) (old new : Cutting)
     (source rest : Option (List ℕ)) (now then : Standing) (written after : Option (List ℕ))
     → MatchResult said (λ _. ended ≡ None) (λ _. ended ≡ Some WriteFault)
-    → GivesLine line old new (stream_left old source) (stream_left new rest)
-    → OnOk said (IsAnswered market now line then written after)
+    → old.last ≡ None → GivesLine line old new (stream_left old source) (stream_left new rest)
+    → OnOk said (Adds written after (AreAnswered market now (line ∷ []) then))
     → IfNone ended ((all : List ℕ) (before : Option (List ℕ)) → IsSoFar market all old source now before written → IsSoFar market all new rest then before after)
-goes_on_after (Ok v) ended market line old new source rest now then written after e gives answered =
+goes_on_after (Ok v) ended market line old new source rest now then written after e none gives answered =
     subst (λ (o : Option Status). IfNone o ((all : List ℕ) (before : Option (List ℕ)) → IsSoFar market all old source now before written → IsSoFar market all new rest then before after))
-    (sym e) (λ all before far. so_far_next market all line old new source rest now then before written after gives answered far)
-goes_on_after (Err x) ended market line old new source rest now then written after e gives answered =
+    (sym e) (λ all before far. so_far_next market all line old new source rest now then before written after none gives answered far)
+goes_on_after (Err x) ended market line old new source rest now then written after e none gives answered =
     subst (λ (o : Option Status). IfNone o ((all : List ℕ) (before : Option (List ℕ)) → IsSoFar market all old source now before written → IsSoFar market all new rest then before after))
     (sym e) tt
 
@@ -180,18 +164,68 @@ goes_on_after (Err x) ended market line old new source rest now then written aft
 pub breaks_after : {T E : Type 0} (said : Result T E) (ended : Option Status) (market : Market) (line : StreamLine) (old new : Cutting)
     (source rest : Option (List ℕ)) (now then : Standing) (written after : Option (List ℕ))
     → MatchResult said (λ _. ended ≡ None) (λ _. ended ≡ Some WriteFault)
-    → GivesLine line old new (stream_left old source) (stream_left new rest)
-    → OnErr said (IsCutOff market now line then written after)
+    → old.last ≡ None → GivesLine line old new (stream_left old source) (stream_left new rest)
+    → OnErr said (AreCutOff market now (line ∷ []) then written after)
     → IfSome ended (λ status. (all : List ℕ) (before : Option (List ℕ)) → IsSoFar market all old source now before written → IsEnded status market all rest before after)
-breaks_after (Ok v) ended market line old new source rest now then written after e gives cut =
+breaks_after (Ok v) ended market line old new source rest now then written after e none gives cut =
     subst (λ (o : Option Status). IfSome o (λ status. (all : List ℕ) (before : Option (List ℕ)) → IsSoFar market all old source now before written → IsEnded status market all rest before after))
     (sym e) tt
-breaks_after (Err x) ended market line old new source rest now then written after e gives cut =
+breaks_after (Err x) ended market line old new source rest now then written after e none gives cut =
     subst (λ (o : Option Status). IfSome o (λ status. (all : List ℕ) (before : Option (List ℕ)) → IsSoFar market all old source now before written → IsEnded status market all rest before after))
-    (sym e) (λ all before far. ended_broken market all line old new source rest now then before written after gives cut far)
+    (sym e) (λ all before far. ended_broken market all line old new source rest now then before written after none gives cut far)
+
+-- the causes of a turn that read a line and said what it answers
+pub causes_after : {T E : Type 0} (said : Result T E) (ended : Option Status) (inputs inputs_now sink sink_now : ℕ)
+    → MatchResult said (λ _. ended ≡ None) (λ _. ended ≡ Some WriteFault) → inputs_now ≡ inputs → HasCause sink sink_now said
+    → MatchOption ended (CountsNone inputs inputs_now sink sink_now) (λ status. HasCauses status inputs inputs_now sink sink_now)
+causes_after (Ok v) ended inputs inputs_now sink sink_now e same cause =
+    subst (λ (o : Option Status). MatchOption o (CountsNone inputs inputs_now sink sink_now) (λ status. HasCauses status inputs inputs_now sink sink_now))
+    (sym e) (same, cause.kept)
+causes_after (Err x) ended inputs inputs_now sink sink_now e same cause =
+    subst (λ (o : Option Status). MatchOption o (CountsNone inputs inputs_now sink sink_now) (λ status. HasCauses status inputs inputs_now sink sink_now))
+    (sym e) (same, record { later = cause.later; rose = cause.failed })
 
 -- an answer is a fresh one where none stays
 pub fresh_answer : (result : Next) (old new : Cutting) (source rest : Option (List ℕ)) → old.last ≡ None
     → IsAnswer result old new source rest → IsFreshAnswer result old new source rest
 fresh_answer result old new source rest none answer =
     subst (λ (o : Option Next). MatchOption o (IsFreshAnswer result old new source rest) (λ last. (result ≡ last) × Stays old new source rest last)) none answer
+
+-- the end that stays
+end_stays : (result : Next) (old new : Cutting) (source rest : Option (List ℕ)) → old.last ≡ Some End → IsAnswer result old new source rest
+    → (result ≡ End) × Stays old new source rest End
+end_stays result old new source rest ended answer =
+    subst (λ (o : Option Next). MatchOption o (IsFreshAnswer result old new source rest) (λ last. (result ≡ last) × Stays old new source rest last)) ended answer
+
+-- while the lines go on, each answer but the end is a fresh one
+pub none_stays : (result : Next) (old new : Cutting) (source rest : Option (List ℕ)) → (result ≡ End → ⊥) → GoesOn old.last
+    → IsAnswer result old new source rest → old.last ≡ None
+none_stays result old new source rest other (inl none) answer = none
+none_stays result old new source rest other (inr ended) answer = absurd (other (end_stays result old new source rest ended answer).0)
+
+pub stays_at_end : (old new : Cutting) (source rest : Option (List ℕ)) → GoesOn old.last → IsAnswer End old new source rest → Stays old new source rest End
+stays_at_end old new source rest (inl none) answer = (fresh_answer End old new source rest none answer).0
+stays_at_end old new source rest (inr ended) answer = (end_stays End old new source rest ended answer).1
+
+pub none_left : (old new : Cutting) (source rest : Option (List ℕ)) (done left : List ℕ) → GoesOn old.last → IsAnswer End old new source rest
+    → stream_left old source ≡ Some left → IsBetween old.last done left → left ≡ []
+none_left old new source rest done left (inl none) answer known between =
+    subst (λ (o : Option (List ℕ)). IsAtEnd o) known (fresh_answer End old new source rest none answer).1
+none_left old new source rest done left (inr ended) answer known between =
+    subst (λ (o : Option Next). IsBetween o done left) ended between
+
+-- an answer other than a read fault leaves the count
+pub steady : (result : Next) (old : Cutting) (before now : ℕ) → (result ≡ Unread → ⊥) → HasReadCause result old before now → now ≡ before
+steady result old before now other cause = at result old.last other cause
+  where
+    at : (result : Next) (last : Option Next) → (result ≡ Unread → ⊥) → MatchOption last (CountsReadFault result before now) (λ _. now ≡ before) → now ≡ before
+    at result (Some last) other cause = cause
+    at Line None other cause = cause
+    at Long None other cause = cause
+    at End None other cause = cause
+    at Overrun None other cause = cause
+    at Unread None other cause = absurd (other refl)
+
+pub risen : (old : Cutting) (before now : ℕ) → old.last ≡ None → HasReadCause Unread old before now → CountsFault before now
+risen old before now none cause =
+    subst (λ (o : Option Next). MatchOption o (CountsReadFault Unread before now) (λ _. now ≡ before)) none cause

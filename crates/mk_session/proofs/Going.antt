@@ -1,45 +1,52 @@
 -- What the two loops of a run keep.
-use Rattle.std.proofs.Common.{◌≡◌, ℕ, ◌≤◌, List, [], ◌++◌, length, take, Option, Some, None, refl, sym, ap, subst, ◌∙◌, arith, append_assoc}
+use Rattle.std.proofs.Common.{◌≡◌, ℕ, ◌≤◌, List, [], ◌++◌, length, take, Option, Some, None, inl, refl, sym, ap, subst, ◌∙◌, arith, append_assoc}
 use Rattle.std.proofs.lemmas.List.{take_all}
 use Rattle.std.proofs.Math.Seq.{take-append_seam}
-use Rattle.mk_session.proofs.Underway.{no_more}
 use Rattle.mk_io.specs.Outside.{prepend_known, IsAtEnd}
-use Rattle.mk_io.specs.Cutting.{Cutting, fresh}
+use Rattle.mk_io.specs.declared.status.Status.{Status}
+use Rattle.mk_io.specs.Cutting.{Cutting, fresh, GoesOn}
 use Rattle.mk_io.proofs.Told.{append_known_none, prepend_known_none}
 use Rattle.mk_exact.specs.Market.{Market}
 use Rattle.mk_rules.specs.Transcript.{Standing, opening}
 use Rattle.mk_session.specs.Progress.{IsSoFar}
-use Rattle.mk_session.specs.Served.{IsTaken}
+use Rattle.mk_session.specs.Outcome.{CountsNone, HasCauses}
+use Rattle.mk_session.specs.Loading.{IsTaken}
+use Rattle.mk_session.proofs.Answering.{no_more, none_answered}
 
--- between two lines: the market is the same, no last answer came, no count fell, and the run is so far
+-- between two lines: the market is the same, the lines go on, no fault was counted, and the run is so far
 pub record IsGoing (start market : Market) (commands : Option (List ℕ)) (lines : Cutting) (source : Option (List ℕ)) (now : Standing)
     (before written : Option (List ℕ)) (inputs_before inputs sink_before sink : ℕ) : Type 0 where
   pub same : market ≡ start
-  pub goes_on : lines.last ≡ None
-  pub inputs_later : inputs_before ≤ inputs
-  pub sink_later : sink_before ≤ sink
+  pub goes_on : GoesOn lines.last
+  pub counts : CountsNone inputs_before inputs sink_before sink
   pub far : (all : List ℕ) → commands ≡ Some all → IsSoFar start all lines source now before written
 
 pub far_at_start : (market : Market) (all : List ℕ) (source : Option (List ℕ)) (now : Standing) (before : Option (List ℕ)) → source ≡ Some all
     → now ≡ opening → IsSoFar market all fresh source now before before
 far_at_start market all source now before told begins = record {
-  left = all;
-  known = prepend_known_none source ∙ told;
   done = [];
-  replies = [];
-  lines = refl;
-  run = begins;
-  added = append_known_none before;
+  left = all;
+  bytes = refl;
+  known = prepend_known_none source ∙ told;
+  between = inl refl;
+  answers = record { bytes = []; added = append_known_none before; holds = none_answered market opening now begins };
   given = refl;
-  counted = omega arith;
+  spent = refl;
 }
+
+-- what a turn counts is what the run has counted, since no fault was counted before
+pub causes_of_turn : (status : Status) (inputs_before inputs inputs_now sink_before sink sink_now : ℕ) → CountsNone inputs_before inputs sink_before sink
+    → HasCauses status inputs inputs_now sink sink_now → HasCauses status inputs_before inputs_now sink_before sink_now
+causes_of_turn status inputs_before inputs inputs_now sink_before sink sink_now none causes =
+    subst (λ (n : ℕ). HasCauses status n inputs_now sink_before sink_now) none.0
+    (subst (λ (n : ℕ). HasCauses status inputs inputs_now n sink_now) none.1 causes)
 
 -- between two pieces of a file: what was read so far, at most `most` bytes
 pub record IsLoading (most : ℕ) (opened : Option (List ℕ)) (bytes : List ℕ) (source commands_before commands : Option (List ℕ)) (before now : ℕ) : Type 0 where
   pub short : length bytes ≤ most
   pub taken : (file : List ℕ) → opened ≡ Some file → IsTaken file bytes source
   pub commands_stay : commands ≡ commands_before
-  pub later : before ≤ now
+  pub kept : now ≡ before
 
 pub taken_at_start : (file : List ℕ) (source : Option (List ℕ)) → source ≡ Some file → IsTaken file [] source
 taken_at_start file source told = record { rest = file; told = told; parts = refl }

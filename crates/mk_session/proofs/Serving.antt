@@ -6,7 +6,6 @@ use Rattle.std.proofs.lemmas.Bool.{cases_lt, lt-ltb}
 use Rattle.mk_io.specs.declared.status.Status.{Status}
 use Rattle.mk_io.specs.declared.status.Status.TheVariants.{MarketRefused, ReadFault, WriteFault, Memory}
 use Rattle.mk_io.specs.Outside.{append_known, AddsFront}
-use Rattle.mk_io.specs.Stream.{stream_lines}
 use Rattle.mk_io.proofs.Told.{append_known_none, append_known_twice}
 use Rattle.mk_exact.specs.Market.{Market}
 use Rattle.mk_file.specs.declared.fault.FileFault.{FileFault}
@@ -14,20 +13,14 @@ use Rattle.mk_file.specs.declared.fault.FileFault.TheVariants.{TooLong}
 use Rattle.mk_file.specs.File.{file_of, of_document, document_of}
 use Rattle.mk_session.specs.Texts.{ready_line, fault_line, as_line}
 use Rattle.mk_rules.specs.Transcript.{opening}
-use Rattle.mk_session.specs.Transcript.{transcript_text}
-use Rattle.mk_session.specs.Outcome.{Adds, Ends, Serves}
+use Rattle.mk_session.specs.Outcome.{Adds, Ends, Serves, NotOpened, Opened}
 use Rattle.mk_session.specs.Progress.{IsEnded}
-use Rattle.mk_session.specs.Served.{opened_part, IsServedBy}
-use Rattle.mk_session.proofs.Underway.{no_more}
-use Rattle.mk_exact.proofs.Single.{empty_sound}
+use Rattle.mk_session.specs.Loading.{opened_part}
+use Rattle.mk_session.proofs.Answering.{no_more, none_answered, transcript_of}
 
 memory_ends : (given : Result Market FileFault) (all : List ℕ) → Ends Memory given all all []
 memory_ends (Ok market) all = record { nothing = refl; unread = refl }
 memory_ends (Err fault) all = record { nothing = refl; unread = refl }
-
-read_fault_ends : (given : Result Market FileFault) (all : List ℕ) → Ends ReadFault given all all []
-read_fault_ends (Ok market) all = inl (record { nothing = refl; unread = refl })
-read_fault_ends (Err fault) all = record { nothing = refl; unread = refl }
 
 -- nothing was written
 pub adds_nothing : (before : Option (List ℕ)) (P : List ℕ → Type 0) → P [] → Adds before before P
@@ -37,12 +30,11 @@ pub out_of_memory : (given : Result Market FileFault) (all : List ℕ) (before :
 out_of_memory given all before = adds_nothing before (Ends Memory given all all) (memory_ends given all)
 
 pub not_read : (given : Result Market FileFault) (all : List ℕ) (source before : Option (List ℕ)) → source ≡ Some all
-    → IsServedBy ReadFault given all source before before
-not_read given all source before told =
-    record { rest = all; told = told; output = adds_nothing before (Ends ReadFault given all all) (read_fault_ends given all) }
+    → NotOpened ReadFault all source before before ⊎ Opened ReadFault given all source before before
+not_read given all source before told = inl (record { failed = refl; unread = told; nothing = refl })
 
 pub no_memory : (given : Result Market FileFault) (all : List ℕ) (source before : Option (List ℕ)) → source ≡ Some all
-    → IsServedBy Memory given all source before before
+    → Opened Memory given all source before before
 no_memory given all source before told = record { rest = all; told = told; output = out_of_memory given all before }
 
 -- the line of a refused file was written, or a front of it
@@ -73,7 +65,7 @@ ready_is market variables points line shown v p e s =
 -- a run that ended behind its ready line
 pub served_when_ended : (status : Status) (market file : Market) (all line : List ℕ) (source before ready after : Option (List ℕ)) → market ≡ file
     → line ≡ ready_line market → ready ≡ append_known before line → IsEnded status market all source ready after
-    → IsServedBy status (Ok file) all source before after
+    → Opened status (Ok file) all source before after
 served_when_ended status market file all line source before ready after same is added ended =
     let bytes = ended.output.bytes in
     record {
@@ -89,7 +81,7 @@ served_when_ended status market file all line source before ready after same is 
 
 -- a run whose ready line was cut off
 pub broken_at_ready : (market file : Market) (all line : List ℕ) (source before after : Option (List ℕ)) → market ≡ file
-    → line ≡ ready_line market → source ≡ Some all → AddsFront before after line → IsServedBy WriteFault (Ok file) all source before after
+    → line ≡ ready_line market → source ≡ Some all → AddsFront before after line → Opened WriteFault (Ok file) all source before after
 broken_at_ready market file all line source before after same is told front =
     record {
       rest = all;
@@ -99,10 +91,11 @@ broken_at_ready market file all line source before after same is told front =
         added = front.added;
         holds = subst (λ (m : Market). Serves WriteFault m all all front.front) same (record {
           done = [];
-          later = stream_lines all;
-          whole = transcript_text market [];
-          lines = refl;
-          transcript = record { replies = []; after = opening; run = refl; printed = refl; sound = empty_sound market.network };
+          part = [];
+          bytes = refl;
+          lines = inl (inl refl);
+          text = ready_line market ++ [];
+          transcript = transcript_of market [] opening [] (none_answered market opening opening refl);
           front = record { rest = front.rest; parts = no_more (ready_line market) ∙ sym is ∙ front.parts };
         });
       };

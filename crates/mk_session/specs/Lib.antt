@@ -6,5 +6,5 @@ pub mod Trading
 pub mod Weighed
 pub mod Enclosed
 pub mod Progress
-pub mod Served
+pub mod Loading
 pub mod Complete

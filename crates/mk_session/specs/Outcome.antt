@@ -1,9 +1,9 @@
 -- What each status says of a run.
-use Rattle.std.specs.Prelude.{◌≡◌, ◌≢◌, ℕ, ◌+◌, ◌<◌, ◌≤◌, List, [], ◌++◌, length, Option, All, ◌⊎◌, Result, Ok, Err}
+use Rattle.std.specs.Prelude.{◌≡◌, ◌≢◌, ℕ, ◌+◌, ◌<◌, ◌≤◌, List, [], ◌++◌, length, Option, Some, All, ◌⊎◌, Result, Ok, Err}
 use Rattle.mk_io.specs.declared.status.Status.{Status}
 use Rattle.mk_io.specs.declared.status.Status.TheVariants.{Done, Usage, MarketRefused, ReadFault, WriteFault, Memory, TooMany}
-use Rattle.mk_io.specs.Outside.{append_known}
-use Rattle.mk_io.specs.Stream.{StreamLine, stream_lines, max_stream_lines, max_stream_bytes}
+use Rattle.mk_io.specs.Outside.{append_known, CountsFault}
+use Rattle.mk_io.specs.Stream.{stream_lines, AreWholeLines, max_stream_lines, max_stream_bytes}
 use Rattle.mk_io.specs.Cutting.{first_size}
 use Rattle.mk_exact.specs.Market.{Market}
 use Rattle.mk_file.specs.declared.fault.FileFault.{FileFault}
@@ -29,33 +29,34 @@ pub record IsWhole (market : Market) (all rest output : List ℕ) : Type 0 where
   pub within_lines : length (stream_lines all) ≤ max_stream_lines
   pub within_bytes : length all ≤ max_stream_bytes
 
--- reading failed: the lines before a part that holds no LF are answered
+-- reading failed: the whole lines that were read are answered, and the part of a line behind them is not
 pub record IsStopped (market : Market) (all rest output : List ℕ) : Type 0 where
-  pub done : List StreamLine
+  pub whole : List ℕ
   pub part : List ℕ
-  pub lines : stream_lines all ≡ done ++ stream_lines (part ++ rest)
+  pub bytes : all ≡ whole ++ (part ++ rest)
+  pub lines : AreWholeLines whole
   pub no_lf : All (λ b. b ≢ 10) part
-  pub transcript : Transcript market done output
+  pub transcript : Transcript market (stream_lines whole) output
 
--- there are too many lines or bytes: the lines before the one that is too much are answered
-pub record IsOverrun (market : Market) (all output : List ℕ) : Type 0 where
-  pub done : List StreamLine
-  pub left : List ℕ
-  pub spent : ℕ
-  pub lines : stream_lines all ≡ done ++ stream_lines left
-  pub counted : length all ≡ spent + length left
-  pub more : 0 < length left
-  pub past : (length done ≡ max_stream_lines) ⊎ (max_stream_bytes < spent + first_size left)
-  pub transcript : Transcript market done output
+-- there are too many lines or bytes: the whole lines before the one that is too much are answered
+pub record IsOverrun (market : Market) (all rest output : List ℕ) : Type 0 where
+  pub whole : List ℕ
+  pub part : List ℕ
+  pub bytes : all ≡ whole ++ (part ++ rest)
+  pub lines : AreWholeLines whole
+  pub more : 0 < length (part ++ rest)
+  pub past : (length (stream_lines whole) ≡ max_stream_lines) ⊎ (max_stream_bytes < length whole + first_size (part ++ rest))
+  pub transcript : Transcript market (stream_lines whole) output
 
 -- writing failed: a front of the transcript of some first lines was written
-pub record IsBroken (market : Market) (all output : List ℕ) : Type 0 where
-  pub done : List StreamLine
-  pub later : List StreamLine
-  pub whole : List ℕ
-  pub lines : stream_lines all ≡ done ++ later
-  pub transcript : Transcript market done whole
-  pub front : IsFrontOf whole output
+pub record IsBroken (market : Market) (all rest output : List ℕ) : Type 0 where
+  pub done : List ℕ
+  pub part : List ℕ
+  pub bytes : all ≡ done ++ (part ++ rest)
+  pub lines : AreWholeLines done ⊎ (part ++ rest ≡ [])
+  pub text : List ℕ
+  pub transcript : Transcript market (stream_lines done) text
+  pub front : IsFrontOf text output
 
 -- nothing was written, and no command was read
 pub record IsUnanswered (all rest output : List ℕ) : Type 0 where
@@ -65,9 +66,9 @@ pub record IsUnanswered (all rest output : List ℕ) : Type 0 where
 -- the run of an accepted file: its commands, what is left of them, and the output
 abbrev pub Serves : Status → Market → List ℕ → List ℕ → List ℕ → Type 0
 Serves Done market all rest output = IsWhole market all rest output
-Serves ReadFault market all rest output = IsUnanswered all rest output ⊎ IsStopped market all rest output
-Serves WriteFault market all rest output = IsBroken market all output
-Serves TooMany market all rest output = IsOverrun market all output
+Serves ReadFault market all rest output = IsStopped market all rest output
+Serves WriteFault market all rest output = IsBroken market all rest output
+Serves TooMany market all rest output = IsOverrun market all rest output
 Serves Memory market all rest output = IsUnanswered all rest output
 Serves MarketRefused market all rest output = ⊥
 Serves Usage market all rest output = ⊥
@@ -76,8 +77,8 @@ Serves Usage market all rest output = ⊥
 abbrev pub Refuses : Status → FileFault → List ℕ → List ℕ → List ℕ → Type 0
 Refuses MarketRefused fault all rest output = (output ≡ fault_line fault) × (rest ≡ all)
 Refuses WriteFault fault all rest output = IsFrontOf (fault_line fault) output × (rest ≡ all)
-Refuses ReadFault fault all rest output = IsUnanswered all rest output
 Refuses Memory fault all rest output = IsUnanswered all rest output
+Refuses ReadFault fault all rest output = ⊥
 Refuses Done fault all rest output = ⊥
 Refuses TooMany fault all rest output = ⊥
 Refuses Usage fault all rest output = ⊥
@@ -86,6 +87,34 @@ abbrev pub Ends : Status → Result Market FileFault → List ℕ → List ℕ �
 Ends status (Ok market) all rest output = Serves status market all rest output
 Ends status (Err fault) all rest output = Refuses status fault all rest output
 
--- what a status says of the file's bytes, of the commands and what is left of them, and of the output
-abbrev pub Outcome : Status → List ℕ → List ℕ → List ℕ → List ℕ → Type 0
-Outcome status file all rest output = Ends status (file_of file) all rest output
+-- the market file could not be read: nothing was written, and no command was read
+pub record NotOpened (status : Status) (all : List ℕ) (source before written : Option (List ℕ)) : Type 0 where
+  pub failed : status ≡ ReadFault
+  pub unread : source ≡ Some all
+  pub nothing : written ≡ before
+
+-- the market file was read: the run ends by the market or the fault that it gives
+pub record Opened (status : Status) (given : Result Market FileFault) (all : List ℕ) (source before written : Option (List ℕ)) : Type 0 where
+  pub rest : List ℕ
+  pub told : source ≡ Some rest
+  pub output : Adds before written (Ends status given all rest)
+
+-- a whole run over the bytes of a file and all bytes of the commands: what its status says of the commands that are left
+-- and of the output
+abbrev pub Outcome : Status → List ℕ → List ℕ → Option (List ℕ) → Option (List ℕ) → Option (List ℕ) → Type 0
+Outcome status file all source before written =
+    NotOpened status all source before written ⊎ Opened status (file_of file) all source before written
+
+-- no fault was counted
+abbrev pub CountsNone : ℕ → ℕ → ℕ → ℕ → Type 0
+CountsNone inputs inputs_now sink sink_now = (inputs_now ≡ inputs) × (sink_now ≡ sink)
+
+-- a fault of the inputs is a read fault and one of the sink a write fault, and there is none under any other status
+abbrev pub HasCauses : Status → ℕ → ℕ → ℕ → ℕ → Type 0
+HasCauses ReadFault inputs inputs_now sink sink_now = CountsFault inputs inputs_now × (sink_now ≡ sink)
+HasCauses WriteFault inputs inputs_now sink sink_now = (inputs_now ≡ inputs) × CountsFault sink sink_now
+HasCauses Done inputs inputs_now sink sink_now = CountsNone inputs inputs_now sink sink_now
+HasCauses Usage inputs inputs_now sink sink_now = CountsNone inputs inputs_now sink sink_now
+HasCauses MarketRefused inputs inputs_now sink sink_now = CountsNone inputs inputs_now sink sink_now
+HasCauses Memory inputs inputs_now sink sink_now = CountsNone inputs inputs_now sink sink_now
+HasCauses TooMany inputs inputs_now sink sink_now = CountsNone inputs inputs_now sink sink_now

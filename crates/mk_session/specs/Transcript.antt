@@ -1,13 +1,16 @@
 -- The transcripts that a market allows.
-use Rattle.std.specs.Prelude.{◌≡◌, ◌≢◌, ℕ, List, [], ◌∷◌, ◌++◌, filter, true}
-use Rattle.std.specs.List.{flat_map}
-use Rattle.mk_io.specs.Stream.{StreamLine, text, long, asks}
+use Rattle.std.specs.Prelude.{◌≡◌, ◌≢◌, ℕ, List, ◌++◌, filter, true, All}
+use Rattle.std.specs.List.{flat_map, AllZip}
+use Rattle.mk_io.specs.Stream.{StreamLine, text, long, is_not_blank}
 use Rattle.mk_exact.specs.Market.{Market, network_of}
-use Rattle.mk_exact.specs.Sound.{IsSound}
+use Rattle.mk_exact.specs.Events.{always}
+use Rattle.mk_exact.specs.Weight.{possible_states}
+use Rattle.mk_exact.specs.Laws.{GainsAreBounded}
 use Rattle.mk_command.specs.declared.command.Command.{Command}
 use Rattle.mk_command.specs.Commands.{IsCommand, command_text}
 use Rattle.mk_reply.specs.declared.reply.Reply.{Reply}
-use Rattle.mk_rules.specs.Transcript.{Standing, opening, Line, OfCommand, NoCommand, LongLine, IsAllowedFor, after}
+use Rattle.mk_rules.specs.Transcript.{Standing, opening, Line, OfCommand, NoCommand, LongLine, Run}
+use Rattle.mk_rules.specs.Laws.{Stands}
 use Rattle.mk_session.specs.Texts.{ready_line, reply_line}
 use Rattle.mk_session.specs.Rules.{is_served}
 
@@ -20,35 +23,22 @@ Asks long LongLine = Unit {0}
 Asks long NoCommand = ⊥
 Asks long (OfCommand command) = ⊥
 
--- a line is answered by an allowed reply, which leads from a sound history to a sound one
-pub record Step (market : Market) (old : Standing) (line : StreamLine) (reply : Reply) (new : Standing) : Type 0 where
-  pub asking : Line
-  pub asked : Asks line asking
-  pub allowed : IsAllowedFor market old asking reply
-  pub next : new ≡ after market old asking reply
-  pub keeps_sound : IsSound (network_of market old.history) old.history → IsSound (network_of market new.history) new.history
-
--- each line is answered in turn
-abbrev pub Run : Market → Standing → List StreamLine → List Reply → Standing → Type 0
-Run market old [] [] new = new ≡ old
-Run market old [] (reply ∷ replies) new = ⊥
-Run market old (line ∷ lines) [] new = ⊥
-Run market old (line ∷ lines) (reply ∷ replies) new =
-    (mid : Standing) × Step market old line reply mid × Run market mid lines replies new
-
--- the lines that are not blank
-abbrev pub asked : List StreamLine → List StreamLine
-asked lines = filter asks lines
-
--- the ready line, and one line for each reply
-abbrev pub transcript_text : Market → List Reply → List ℕ
-transcript_text market replies = ready_line market ++ flat_map reply_line replies
-
--- an output is the transcript of some lines: each that is not blank is answered, from the opening on, and nobody can
--- have gone bankrupt, nor can the operator have lost more than the bound
-pub record Transcript (market : Market) (lines : List StreamLine) (output : List ℕ) : Type 0 where
+-- some lines of a stream are answered: the rules of the market allow these replies to what the lines that are not blank ask,
+-- and each reply is one line of the output
+pub record AreAnswered (market : Market) (old : Standing) (lines : List StreamLine) (new : Standing) (output : List ℕ) : Type 0 where
+  pub asked : List Line
+  pub asks : AllZip Asks (filter is_not_blank lines) asked
   pub replies : List Reply
+  pub run : Run market old asked replies new
+  pub printed : output ≡ flat_map reply_line replies
+
+-- the ready line, and the answers to these lines from the opening on; nobody can be bankrupt then, and what all users
+-- together have gained is bounded
+pub record Transcript (market : Market) (lines : List StreamLine) (output : List ℕ) : Type 0 where
   pub after : Standing
-  pub run : Run market opening (asked lines) replies after
-  pub printed : output ≡ transcript_text market replies
-  pub sound : IsSound (network_of market after.history) after.history
+  pub answers : List ℕ
+  pub answered : AreAnswered market opening lines after answers
+  pub printed : output ≡ ready_line market ++ answers
+  pub stands : Stands market after.history
+  pub bounded : All (GainsAreBounded (network_of market after.history) after.history)
+      (possible_states (network_of market after.history) after.history always)

@@ -1,16 +1,18 @@
 //! Answering the lines of a stream, one after another.
 
-ghost use Rattle.std.specs.Prelude.{◌≡◌, ◌≢◌, ◌+◌, ◌≤◌, ℕ, List, None, Option, Some, ◌==◌, OnOk, OnErr, true, IfNone, IfSome, MatchResult};
+ghost use Rattle.std.specs.Prelude.{◌≡◌, ◌≢◌, ◌+◌, ◌≤◌, ℕ, List, [], ◌∷◌, None, Option, Some, ◌==◌, OnOk, OnErr, true, false, IfNone, IfSome, MatchOption, MatchResult};
 ghost use Rattle.std.specs.List.{list_all};
-ghost use Rattle.mk_io.specs.Outside.{HasCause, Rose, AddsFront, append_known};
-ghost use Rattle.mk_io.specs.Stream.{StreamLine, text, long, max_stream_lines};
+ghost use Rattle.mk_io.specs.Outside.{HasCause, AddsFront, append_known};
+ghost use Rattle.mk_io.specs.Stream.{text, long, max_stream_lines};
+ghost use Rattle.mk_io.specs.Cutting.{GoesOn};
 ghost use Rattle.mk_session.specs.Texts.{reply_line};
 ghost use Rattle.mk_command.specs.Commands.{IsCommand, command_text};
 ghost use Rattle.mk_command.specs.declared.command.Command.{Command};
 ghost use Rattle.mk_rules.specs.Transcript.{opening};
 ghost use Rattle.mk_session.specs.Rules.{is_served};
-ghost use Rattle.mk_session.specs.Transcript.{Step};
-ghost use Rattle.mk_session.specs.Progress.{IsAnswered, IsCutOff, IsSoFar, IsEnded};
+ghost use Rattle.mk_session.specs.Transcript.{AreAnswered};
+ghost use Rattle.mk_session.specs.Outcome.{Adds, HasCauses, CountsNone};
+ghost use Rattle.mk_session.specs.Progress.{AreCutOff, IsSoFar, IsEnded};
 
 use crate::price::PriceMarket;
 use crate::print::{LineBuffer, print_reply_line};
@@ -51,8 +53,9 @@ fn read_served(line: &[u8]) -> Option<Command>
 
 /// The reply to a line that is not too long and not blank.
 fn reply_to(market: &mut PriceMarket, line: &[u8]) -> Reply
-    ensures step { Step (market.old.market) (market.old.standing) (text line.now) result (market.new.standing) }
+    requires { list_all (λ b. b == 32) line.now ≡ false }
     ensures market { market.new.market ≡ market.old.market }
+    ensures answered { AreAnswered market.old.market market.old.standing (text line.now ∷ []) market.new.standing (reply_line result) }
 {
     match read_served(line) {
         None => Reply::Refused {
@@ -81,9 +84,9 @@ fn answer_text<S: Sink>(
 ) -> Result<(), SinkFailed>
     ensures market { market.new.market ≡ market.old.market }
     ensures cause { HasCause (S.faults out.old) (S.faults out.new) result }
-    ensures answered { OnOk result (IsAnswered market.old.market market.old.standing (text line.now) market.new.standing
-        (S.written out.old) (S.written out.new)) }
-    ensures cut_off { OnErr result (IsCutOff market.old.market market.old.standing (text line.now) market.new.standing
+    ensures answered { OnOk result (Adds (S.written out.old) (S.written out.new)
+        (AreAnswered market.old.market market.old.standing (text line.now ∷ []) market.new.standing)) }
+    ensures cut_off { OnErr result (AreCutOff market.old.market market.old.standing (text line.now ∷ []) market.new.standing
         (S.written out.old) (S.written out.new)) }
 {
     if is_blank(line) {
@@ -101,9 +104,9 @@ fn answer_long<S: Sink>(
 ) -> Result<(), SinkFailed>
     ensures market { market.new.market ≡ market.old.market }
     ensures cause { HasCause (S.faults out.old) (S.faults out.new) result }
-    ensures answered { OnOk result (IsAnswered market.old.market market.old.standing long market.new.standing
-        (S.written out.old) (S.written out.new)) }
-    ensures cut_off { OnErr result (IsCutOff market.old.market market.old.standing long market.new.standing
+    ensures answered { OnOk result (Adds (S.written out.old) (S.written out.new)
+        (AreAnswered market.old.market market.old.standing (long ∷ []) market.new.standing)) }
+    ensures cut_off { OnErr result (AreCutOff market.old.market market.old.standing (long ∷ []) market.new.standing
         (S.written out.old) (S.written out.new)) }
 {
     let _ = market.variables();
@@ -118,9 +121,9 @@ fn take_turn<I: Inputs, S: Sink>(
     buffer: &mut LineBuffer,
     out: &mut S,
 ) -> Option<Status>
-    requires { lines.old.last ≡ None }
+    requires { GoesOn lines.old.last }
     ensures market { market.new.market ≡ market.old.market }
-    ensures goes_on { IfNone result (lines.new.last ≡ None) }
+    ensures goes_on { IfNone result (GoesOn lines.new.last) }
     ensures counts { IfNone result (lines.new.given ≡ lines.old.given + 1) }
     ensures within { lines.new.given ≤ max_stream_lines }
     ensures so_far { IfNone result ((all : List ℕ) (before : Option (List ℕ)) →
@@ -129,10 +132,9 @@ fn take_turn<I: Inputs, S: Sink>(
     ensures ended { IfSome result (λ status. (all : List ℕ) (before : Option (List ℕ)) →
         IsSoFar market.old.market all lines.old (I.commands inputs.old) market.old.standing before (S.written out.old) →
         IsEnded status market.old.market all (I.commands inputs.new) before (S.written out.new)) }
-    ensures inputs_later { I.faults inputs.old ≤ I.faults inputs.new }
-    ensures sink_later { S.faults out.old ≤ S.faults out.new }
-    ensures read_fault { result ≡ Some Status.ReadFault → Rose (I.faults inputs.old) (I.faults inputs.new) }
-    ensures write_fault { result ≡ Some Status.WriteFault → Rose (S.faults out.old) (S.faults out.new) }
+    ensures causes { MatchOption result
+        (CountsNone (I.faults inputs.old) (I.faults inputs.new) (S.faults out.old) (S.faults out.new))
+        (λ status. HasCauses status (I.faults inputs.old) (I.faults inputs.new) (S.faults out.old) (S.faults out.new)) }
     ensures not_usage { IfSome result (λ status. status ≢ Status.Usage) }
 {
     match lines.next(inputs) {
@@ -164,10 +166,7 @@ pub fn answer_lines<I: Inputs, S: Sink>(
     requires { market.old.standing ≡ opening }
     ensures ended { (all : List ℕ) → I.commands inputs.old ≡ Some all →
         IsEnded result market.old.market all (I.commands inputs.new) (S.written out.old) (S.written out.new) }
-    ensures inputs_later { I.faults inputs.old ≤ I.faults inputs.new }
-    ensures sink_later { S.faults out.old ≤ S.faults out.new }
-    ensures read_fault { result ≡ Status.ReadFault → Rose (I.faults inputs.old) (I.faults inputs.new) }
-    ensures write_fault { result ≡ Status.WriteFault → Rose (S.faults out.old) (S.faults out.new) }
+    ensures causes { HasCauses result (I.faults inputs.old) (I.faults inputs.new) (S.faults out.old) (S.faults out.new) }
     ensures not_usage { result ≢ Status.Usage }
 {
     let mut lines = Lines::new();

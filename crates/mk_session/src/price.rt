@@ -41,7 +41,7 @@ impl PriceMarket {
     ghost use Rattle.mk_file.specs.MarketOf.{market_of};
     ghost use Rattle.mk_command.specs.declared.command.Command.TheVariants.{Price};
     ghost use Rattle.mk_rules.specs.Answers.{IsAllowed, IsPrice};
-    ghost use Rattle.mk_rules.specs.Transcript.{opening};
+    ghost use Rattle.mk_rules.specs.Transcript.{opening, OfCommand, IsAllowedFor, after};
     ghost use Rattle.mk_session.specs.Rules.{is_served};
     ghost use Rattle.mk_session.specs.Trading.{Trading};
 
@@ -105,8 +105,9 @@ impl PriceMarket {
     /// Answers a price, the one command that is served.
     pub fn apply(&mut self, command: &Command) -> Reply
         requires { is_served command.now ≡ true }
-        ensures allowed { IsAllowed self.old.market (self.old.standing).history (self.old.standing).quotes command.now result }
-        ensures unchanged { self.new ≡ self.old }
+        ensures allowed { IsAllowedFor self.old.market self.old.standing (OfCommand command.now) result }
+        ensures next { self.new.standing ≡ after self.old.market self.old.standing (OfCommand command.now) result }
+        ensures market { self.new.market ≡ self.old.market }
     {
         match command {
             Command::Price { question } => self.answer(question),

@@ -1,16 +1,16 @@
 //! A whole run.
 
 ghost use Rattle.std.specs.Prelude.{◌≡◌, ◌≢◌, ◌+◌, ◌<◌, ◌≤◌, ℕ, List, Some, Ok, Err, Result, length, ◌⊎◌, IsOk, IfOk, IfErr};
-ghost use Rattle.mk_io.specs.Outside.{Rose, IsAtEnd};
+ghost use Rattle.mk_io.specs.Outside.{Rose, IsAtEnd, CountsFault};
 ghost use Rattle.mk_file.specs.File.{file_of};
 ghost use Rattle.mk_tree.specs.Checked.{IsTreeOf};
 ghost use Rattle.mk_file.specs.Few.{HasFewStates};
 ghost use Rattle.mk_file.specs.MarketOf.{market_of};
 ghost use Rattle.mk_exact.specs.Market.{Market};
 ghost use Rattle.mk_file.specs.declared.fault.FileFault.{FileFault};
-ghost use Rattle.mk_session.specs.Outcome.{Adds, Ends};
+ghost use Rattle.mk_session.specs.Outcome.{Adds, Ends, Opened, Outcome, HasCauses};
 ghost use Rattle.mk_session.specs.Complete.{AreWithin};
-ghost use Rattle.mk_session.specs.Served.{opened_part, IsTaken, IsServedBy, IsServed};
+ghost use Rattle.mk_session.specs.Loading.{opened_part, IsTaken, HasLoadCause};
 
 use crate::answer::answer_lines;
 use crate::price::PriceMarket;
@@ -34,14 +34,11 @@ pub enum LoadFault {
 pub fn serve<I: Inputs, S: Sink>(alloc: Global, name: &str, inputs: &mut I, out: &mut S) -> Status
     requires { I.admits name.now }
     ensures outcome { (file all : List ℕ) → I.file inputs.old name.now ≡ Some file → I.commands inputs.old ≡ Some all →
-        IsServed result file all (I.commands inputs.new) (S.written out.old) (S.written out.new) }
+        Outcome result file all (I.commands inputs.new) (S.written out.old) (S.written out.new) }
     ensures complete { (file all : List ℕ) → I.file inputs.old name.now ≡ Some file → I.commands inputs.old ≡ Some all →
         IsOk (file_of file) → AreWithin all → (Rose (I.faults inputs.old) (I.faults inputs.new) → ⊥) →
         (Rose (S.faults out.old) (S.faults out.new) → ⊥) → (result ≡ Status.Done) ⊎ (result ≡ Status.Memory) }
-    ensures inputs_later { I.faults inputs.old ≤ I.faults inputs.new }
-    ensures sink_later { S.faults out.old ≤ S.faults out.new }
-    ensures read_fault { result ≡ Status.ReadFault → Rose (I.faults inputs.old) (I.faults inputs.new) }
-    ensures write_fault { result ≡ Status.WriteFault → Rose (S.faults out.old) (S.faults out.new) }
+    ensures causes { HasCauses result (I.faults inputs.old) (I.faults inputs.new) (S.faults out.old) (S.faults out.new) }
     ensures not_usage { result ≢ Status.Usage }
 {
     match load(alloc, name, inputs) {
@@ -59,11 +56,8 @@ fn serve_bytes<I: Inputs, S: Sink>(
     out: &mut S,
 ) -> Status
     ensures outcome { (all : List ℕ) → I.commands inputs.old ≡ Some all →
-        IsServedBy result (file_of bytes.now) all (I.commands inputs.new) (S.written out.old) (S.written out.new) }
-    ensures inputs_later { I.faults inputs.old ≤ I.faults inputs.new }
-    ensures sink_later { S.faults out.old ≤ S.faults out.new }
-    ensures read_fault { result ≡ Status.ReadFault → Rose (I.faults inputs.old) (I.faults inputs.new) }
-    ensures write_fault { result ≡ Status.WriteFault → Rose (S.faults out.old) (S.faults out.new) }
+        Opened result (file_of bytes.now) all (I.commands inputs.new) (S.written out.old) (S.written out.new) }
+    ensures causes { HasCauses result (I.faults inputs.old) (I.faults inputs.new) (S.faults out.old) (S.faults out.new) }
     ensures not_usage { result ≢ Status.Usage }
 {
     let mut line = LineBuffer::new();
@@ -77,9 +71,7 @@ fn serve_bytes<I: Inputs, S: Sink>(
 fn refuse<S: Sink>(fault: FileFault, line: &mut LineBuffer, out: &mut S) -> Status
     ensures output { (given : Result Market FileFault) (all : List ℕ) → (fault ≢ FileFault.Memory → given ≡ Err fault) →
         Adds (S.written out.old) (S.written out.new) (Ends result given all all) }
-    ensures sink_later { S.faults out.old ≤ S.faults out.new }
-    ensures not_read_fault { result ≢ Status.ReadFault }
-    ensures write_fault { result ≡ Status.WriteFault → Rose (S.faults out.old) (S.faults out.new) }
+    ensures causes { (inputs : ℕ) → HasCauses result inputs inputs (S.faults out.old) (S.faults out.new) }
     ensures not_usage { result ≢ Status.Usage }
 {
     match fault {
@@ -105,11 +97,8 @@ fn answer_file<I: Inputs, S: Sink>(
     requires few { HasFewStates file.net }
     requires tree { IsTreeOf file.net file.tree }
     ensures outcome { (all : List ℕ) → I.commands inputs.old ≡ Some all →
-        IsServedBy result (Ok (market_of file)) all (I.commands inputs.new) (S.written out.old) (S.written out.new) }
-    ensures inputs_later { I.faults inputs.old ≤ I.faults inputs.new }
-    ensures sink_later { S.faults out.old ≤ S.faults out.new }
-    ensures read_fault { result ≡ Status.ReadFault → Rose (I.faults inputs.old) (I.faults inputs.new) }
-    ensures write_fault { result ≡ Status.WriteFault → Rose (S.faults out.old) (S.faults out.new) }
+        Opened result (Ok (market_of file)) all (I.commands inputs.new) (S.written out.old) (S.written out.new) }
+    ensures causes { HasCauses result (I.faults inputs.old) (I.faults inputs.new) (S.faults out.old) (S.faults out.new) }
     ensures not_usage { result ≢ Status.Usage }
 {
     let mut market = match PriceMarket::start(alloc, file) {
@@ -128,8 +117,7 @@ fn load<I: Inputs>(alloc: Global, name: &str, inputs: &mut I) -> Result<Vec<u8>,
     requires { I.admits name.now }
     ensures bytes { IfOk result (λ bytes. (file : List ℕ) → I.file inputs.old name.now ≡ Some file → bytes.items ≡ opened_part file) }
     ensures commands { I.commands inputs.new ≡ I.commands inputs.old }
-    ensures later { I.faults inputs.old ≤ I.faults inputs.new }
-    ensures cause { IfErr result (λ fault. fault ≡ LoadFault.Input → Rose (I.faults inputs.old) (I.faults inputs.new)) }
+    ensures cause { HasLoadCause result (I.faults inputs.old) (I.faults inputs.new) }
 {
     match inputs.open_market(name) {
         Ok(()) => read_opened(alloc, inputs),
@@ -141,8 +129,7 @@ fn load<I: Inputs>(alloc: Global, name: &str, inputs: &mut I) -> Result<Vec<u8>,
 fn read_opened<I: Inputs>(alloc: Global, inputs: &mut I) -> Result<Vec<u8>, LoadFault>
     ensures bytes { IfOk result (λ bytes. (file : List ℕ) → I.market inputs.old ≡ Some file → bytes.items ≡ opened_part file) }
     ensures commands { I.commands inputs.new ≡ I.commands inputs.old }
-    ensures later { I.faults inputs.old ≤ I.faults inputs.new }
-    ensures cause { IfErr result (λ fault. fault ≡ LoadFault.Input → Rose (I.faults inputs.old) (I.faults inputs.new)) }
+    ensures cause { HasLoadCause result (I.faults inputs.old) (I.faults inputs.new) }
 {
     let mut bytes = Vec::new(alloc);
     let mut buffer = [0u8; 4096];
@@ -170,8 +157,7 @@ fn read_piece<I: Inputs>(
         IsTaken file bytes.new.items (I.market inputs.new)) }
     ensures at_end { IfOk result (λ count. count ≡ 0 → IsAtEnd (I.market inputs.new)) }
     ensures commands { I.commands inputs.new ≡ I.commands inputs.old }
-    ensures later { I.faults inputs.old ≤ I.faults inputs.new }
-    ensures cause { IfErr result (λ fault. fault ≡ LoadFault.Input → Rose (I.faults inputs.old) (I.faults inputs.new)) }
+    ensures cause { HasLoadCause result (I.faults inputs.old) (I.faults inputs.new) }
 {
     match inputs.read_market(piece) {
         Err(InputFailed) => Err(LoadFault::Input),

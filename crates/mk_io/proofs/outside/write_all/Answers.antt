@@ -6,7 +6,7 @@ pub loop-done-init : goal.loop-done-init
 loop-done-init g c = wrote_none _ _ _
 
 pub loop-done-preserved : goal.loop-done-preserved
-loop-done-preserved g c = let w = c.in_ok-done.ensures.writes in wrote_more _ _ _ _ _ _ _ _ _ c.loop-done.invariant w c.in_ok-done.ensures.cause.later
+loop-done-preserved g c = let w = c.in_ok-done.ensures.writes in wrote_more _ _ _ _ _ _ _ _ _ c.loop-done.invariant w c.in_ok-done.ensures.cause.kept
 
 pub returns-in_err-done-clause-front : goal.returns-in_err-done-clause-front
 returns-in_err-done-clause-front g c =

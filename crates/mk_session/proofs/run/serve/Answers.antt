@@ -1,8 +1,8 @@
-use Rattle.std.proofs.Common.{ap, sym, subst, ◌∙◌, Result, IsOk, arith}
+use Rattle.std.proofs.Common.{ap, sym, subst, ◌∙◌, inr, ℕ, Result, IsOk}
 use Rattle.mk_exact.specs.Market.{Market}
 use Rattle.mk_file.specs.declared.fault.FileFault.{FileFault}
 use Rattle.mk_file.specs.File.{file_of}
-use Rattle.mk_session.specs.Served.{IsServedBy}
+use Rattle.mk_session.specs.Outcome.{Opened, HasCauses}
 use Rattle.mk_session.proofs.Serving.{opened_same}
 use Rattle.mk_session.proofs.Completing.{completes}
 use Rattle.mk_session.proofs.run.serve.Goals as goal
@@ -10,9 +10,9 @@ use Rattle.mk_session.proofs.run.serve.Goals as goal
 pub returns-in-Ok-clause-outcome : goal.returns-in-Ok-clause-outcome
 returns-in-Ok-clause-outcome g c = λ file all told_file told_all.
     let same = ap file_of (c.as_slice.ensures.value ∙ c.in-Ok.ensures.bytes file told_file) ∙ opened_same file in
-    subst (λ (given : Result Market FileFault). IsServedBy c.serve_bytes.result given all (g.I.Inputs.commands c.serve_bytes.new.inputs)
+    inr (subst (λ (given : Result Market FileFault). Opened c.serve_bytes.result given all (g.I.Inputs.commands c.serve_bytes.new.inputs)
     (g.S.Sink.written c.args.out.now) (g.S.Sink.written c.serve_bytes.new.out)) same
-    (c.serve_bytes.ensures.outcome all (c.load.ensures.commands ∙ told_all))
+    (c.serve_bytes.ensures.outcome all (c.load.ensures.commands ∙ told_all)))
 
 pub returns-in-Ok-clause-complete : goal.returns-in-Ok-clause-complete
 returns-in-Ok-clause-complete g c = λ file all told_file told_all ok within steady_inputs steady_sink.
@@ -22,4 +22,5 @@ returns-in-Ok-clause-complete g c = λ file all told_file told_all ok within ste
     (g.I.Inputs.faults c.args.inputs.now) (g.I.Inputs.faults c.serve_bytes.new.inputs) (g.S.Sink.faults c.args.out.now) (g.S.Sink.faults c.serve_bytes.new.out)
     (c.serve_bytes.ensures.outcome all (c.load.ensures.commands ∙ told_all))
     (subst (λ (given : Result Market FileFault). IsOk given) (sym same) ok) within
-    (λ e. omega (arith, c.serve_bytes.ensures.read_fault e, c.load.ensures.later)) c.serve_bytes.ensures.write_fault steady_inputs steady_sink
+    (subst (λ (n : ℕ). HasCauses c.serve_bytes.result n (g.I.Inputs.faults c.serve_bytes.new.inputs) (g.S.Sink.faults c.args.out.now) (g.S.Sink.faults c.serve_bytes.new.out))
+    c.in-Ok.ensures.cause c.serve_bytes.ensures.causes) steady_inputs steady_sink

@@ -1,4 +1,4 @@
-use Rattle.std.proofs.Common.{refl, ap, ◌∙◌, arith}
+use Rattle.std.proofs.Common.{refl, ap, arith}
 use Rattle.mk_io.specs.Cutting.{Cutting}
 use Rattle.mk_io.proofs.Answered.{gives_whole, gives_last, stops_full}
 use Rattle.mk_io.proofs.lines.Lines.next_line.Goals as goal
@@ -16,11 +16,9 @@ returns-in-Full-clause-answer g c =
 
 pub returns-in-Whole-clause-answer : goal.returns-in-Whole-clause-answer
 returns-in-Whole-clause-answer g c =
-    let goes_on = ap (λ (x : Cutting). x.last) c.self.view_is ∙ c.requires.goes_on in
-    rw (← c.self.view_is) (gives_whole _ _ _ _ _ _ _ _ c.in-Whole.ensures.cut c.give.ensures.settled refl refl goes_on (omega (arith, c.self.invariant.0)) (omega (arith, c.self.invariant.1)))
+    rw (← c.self.view_is) (gives_whole _ _ _ _ _ _ _ _ c.in-Whole.ensures.cut c.give.ensures.settled refl refl)
 
 pub returns-in-Last-clause-answer : goal.returns-in-Last-clause-answer
 returns-in-Last-clause-answer g c =
-    let goes_on = ap (λ (x : Cutting). x.last) c.self.view_is ∙ c.requires.goes_on in
     let there = rw (← c.self.view_is) at c.requires.there in
-    rw (← c.self.view_is) (gives_last _ _ _ _ _ _ _ _ c.in-Last.ensures.cut c.give-in-Last.ensures.settled refl refl goes_on (omega (arith, c.self.invariant.0)) (omega (arith, c.self.invariant.1)) there)
+    rw (← c.self.view_is) (gives_last _ _ _ _ _ _ _ _ c.in-Last.ensures.cut c.give-in-Last.ensures.settled refl refl there)
