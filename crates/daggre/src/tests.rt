@@ -19,6 +19,7 @@ fn text_of(alloc: Global, pieces: &[&str]) -> Result<Vec<u8>, AllocError> {
 }
 
 /// What a run leaves: what it wrote, its status, and how many calls of the inputs it made.
+#[derive(Drop)]
 struct Ended {
     out: MemorySink,
     status: Status,
@@ -114,6 +115,8 @@ fn other_words(rt: HostRuntime) -> Result<(), Fail> {
     let market = text_of(rt.alloc(), COIN)?;
     for words in calls {
         expect_run(&rt, rt.alloc(), words, &market, b"", usage, Status::Usage)?;
+        let ended = run(rt.alloc(), words, &market, b"", 64, (&[], &[]))?;
+        assert_eq!(rt; ended.reads, 0);
     }
     Ok(())
 }
@@ -158,7 +161,8 @@ fn missing_file(rt: HostRuntime) -> Result<(), Fail> {
 const PRICES: &[u8] =
     b"price coin=heads\nprice coin=tails\nprice coin=heads\nprice coin=tails\nprice";
 
-const PRICED: &[u8] = b"ready 1 100\nprice 0.5000000000..0.5000000000\nprice 0.5000000000..0.5000000000\nprice 0.5000000000..0.5000000000\nprice 0.5000000000..0.5000000000\nrefused syntax\n";
+const PRICED: &[u8] =
+    b"ready 1 100\nprice 0.5000000000..0.5000000000\nprice 0.5000000000..0.5000000000\nprice 0.5000000000..0.5000000000\nprice 0.5000000000..0.5000000000\nrefused syntax\n";
 
 /// Expects that this many bytes of the whole output were written.
 fn expect_front(rt: &impl Abort, ended: &Ended, count: usize) {
