@@ -11,11 +11,11 @@ use Rattle.mk_sums.specs.Cells.{InRange}
 le_then : (a b c : ℕ) → a ≤ b → b ≤ c → a ≤ c
 le_then a b c h k = omega arith
 
-sum_grows : (n : ℕ) (f g : ℕ → ℕ) → ((v : ℕ) → v < n → f v ≤ g v) → plus_below ◌+◌ n f ≤ plus_below ◌+◌ n g
+pub sum_grows : (n : ℕ) (f g : ℕ → ℕ) → ((v : ℕ) → v < n → f v ≤ g v) → plus_below ◌+◌ n f ≤ plus_below ◌+◌ n g
 sum_grows zero f g h = omega arith
 sum_grows (suc n) f g h = let p = sum_grows n f g (λ v q. h v (omega arith)) in let r = h n (omega arith) in omega (arith, p, r)
 
-sum_has : (n v : ℕ) (f : ℕ → ℕ) → v < n → f v ≤ plus_below ◌+◌ n f
+pub sum_has : (n v : ℕ) (f : ℕ → ℕ) → v < n → f v ≤ plus_below ◌+◌ n f
 sum_has zero v f h = absurd (omega arith)
 sum_has (suc n) v f h = at (cases_eq v n) (sum_has n v f)
   where

@@ -27,7 +27,7 @@ plus_below_range plus law f (suc n) i = more n i ∙ ap (plus (f i)) (plus_below
         let e : i + suc n ≡ (i + 1) + n = omega arith in
         ap (λ k. plus k (f (i + suc n))) (more n i) ∙ law.associates (f i) _ _ ∙ ap (λ k. plus (f i) (plus (plus_below plus n (λ v. f ((i + 1) + v))) (f k))) e
 
-plus_below_numbers : (plus : ℕ → ℕ → ℕ) (law : Lawful plus) (f : ℕ → ℕ) (n : ℕ) → plus_below plus n f ≡ plus_over plus 0 f (numbers_below n)
+pub plus_below_numbers : (plus : ℕ → ℕ → ℕ) (law : Lawful plus) (f : ℕ → ℕ) (n : ℕ) → plus_below plus n f ≡ plus_over plus 0 f (numbers_below n)
 plus_below_numbers plus law f n = ap (plus_below plus n) (fun_ext (λ v. let e : v ≡ 0 + v = omega arith in ap f e)) ∙ plus_below_range plus law f n 0
 
 states_from : (plus : ℕ → ℕ → ℕ) (law : Lawful plus) (size : ℕ → ℕ) (f : (ℕ → ℕ) → ℕ) (sizes : List ℕ) (i : ℕ) (a : ℕ → ℕ)
