@@ -3,10 +3,11 @@ use Rattle.std.proofs.Common.{◌≡◌, ℕ, ◌+◌, ◌*◌, ◌<◌, ◌≤�
 use Rattle.std.proofs.lemmas.List.{get_or_read, drop_all, get_or_append_left, get_or_push, length_push}
 use Rattle.std.proofs.lemmas.List.Elements.{All-weaker}
 use Rattle.mk_net.specs.declared.words.Pair.{Pair}
+use Rattle.mk_net.specs.Asked.{TradeRatio, ratio_pairs}
 use Rattle.mk_net.specs.Network.{Variable, sizes}
 use Rattle.mk_sums.specs.Cells.{cells, cell_of}
 use Rattle.mk_sums.proofs.Tables.{cell_below}
-use Rattle.mk_table.specs.Scopes.{ScopeOf, IsScope, LiesIn, HasEvent, HasSized, has_variable, size_in, cells_in}
+use Rattle.mk_table.specs.Scopes.{ScopeOf, IsScope, LiesIn, HasEvent, HasOneEach, HasSized, has_variable, size_in, cells_in}
 use Rattle.mk_table.specs.Cells.{values_at, cell_in}
 use Rattle.mk_table.specs.Columns.{IsColumn, IsKept}
 use Rattle.mk_table.proofs.Places.{place_below, cell_step, cell_so_far, listed_at}
@@ -96,7 +97,7 @@ pub sized_values : (network : List Variable) (scope : ScopeOf) (c : ℕ) → c <
 sized_values network scope c h xs s =
     All-weaker (HasSized network scope) (λ x. values_at scope c x < slice_index (sizes network) x) (sized_value network scope c h) xs s
 
--- the two parts of a question
+-- the two parts of a list of pairs with one at its end
 pub event_first : (scope : ScopeOf) (xs ys : List Pair) → HasEvent scope (xs ++ ys) → HasEvent scope xs
 event_first scope xs ys h k d p =
     let l : k < length (xs ++ ys) = omega (arith, length-append xs ys) in
@@ -106,3 +107,11 @@ pub event_last : (scope : ScopeOf) (xs : List Pair) (q : Pair) → HasEvent scop
 event_last scope xs q h =
     let l : length xs < length (xs ++ q ∷ []) = omega (arith, length_push xs q) in
     subst (λ (r : Pair). has_variable scope r.variable ≡ true) (get_or_push xs q q (length xs) refl) (h (length xs) q l)
+
+-- a ratio has a number for the value that a cell gives its variable
+pub place_of_units : (scope : ScopeOf) (ratio : TradeRatio) → HasEvent scope (ratio_pairs ratio) → HasOneEach scope ratio → (c : ℕ) → c < cells_in scope
+    → values_at scope c ratio.variable < length ratio.factors
+place_of_units scope ratio event one_each c h =
+    let there = event_last scope ratio.condition (record { variable = ratio.variable; value = 0 }) event in
+    let below = place_below (size_in scope) scope.variables c (λ y. 0) h ratio.variable there in
+    omega (arith, below, one_each)

@@ -3,6 +3,7 @@ use Rattle.std.specs.Prelude.{◌≡◌, ℕ, ◌<◌, ◌≤◌, ⊤, List, [],
 use Rattle.std.specs.List.{position_or_len}
 use Rattle.mk_net.specs.declared.words.Pair.{Pair}
 use Rattle.mk_net.specs.declared.sets.VarSet.{VarSet}
+use Rattle.mk_net.specs.Asked.{TradeRatio}
 use Rattle.mk_net.specs.Sets.{is_member}
 use Rattle.mk_net.specs.Network.{Variable, sizes}
 use Rattle.mk_sums.specs.Sums.{listed}
@@ -50,6 +51,10 @@ LiesIn part whole = (x : ℕ) → has_variable part x ≡ true → (has_variable
 -- the scope has each variable of an event
 abbrev pub HasEvent : ScopeOf → List Pair → Type 0
 HasEvent scope event = All (λ (p : Pair). has_variable scope p.variable ≡ true) event
+
+-- a ratio has one number for each value that its variable has in the scope
+abbrev pub HasOneEach : ScopeOf → TradeRatio → Type 0
+HasOneEach scope ratio = length ratio.factors ≡ size_in scope ratio.variable
 
 -- the scope has a network's variable, with as many values as there
 pub record HasSized (network : List Variable) (scope : ScopeOf) (x : ℕ) : Type 0 where

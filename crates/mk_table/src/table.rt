@@ -1,12 +1,12 @@
 //! Tables.
 
-ghost use Rattle.std.specs.Prelude.{◌≡◌, ℕ, ◌+◌, ◌^◌, ◌<◌, ◌≤◌, ◌==◌, List, length, true, All, IfOk, if◌then◌else◌, slice_index_or};
+ghost use Rattle.std.specs.Prelude.{◌≡◌, ℕ, ◌+◌, ◌^◌, ◌<◌, ◌≤◌, ◌==◌, List, length, true, All, IfOk, if◌then◌else◌, slice_index, slice_index_or};
 ghost use Rattle.mk_net.specs.Network.{sizes};
 ghost use Rattle.mk_net.specs.Named.{variable_at};
-ghost use Rattle.mk_net.specs.Events.{pairs_asked};
+ghost use Rattle.mk_net.specs.Asked.{ratio_pairs};
 ghost use Rattle.mk_net.specs.Trades.{trade_ratio};
 ghost use Rattle.mk_sums.specs.There.{row_there, share_there, holds_there, ratio_there};
-ghost use Rattle.mk_table.specs.Scopes.{LiesIn, HasEvent, HasSized, IsScope, cells_in, has_variable};
+ghost use Rattle.mk_table.specs.Scopes.{LiesIn, HasEvent, HasOneEach, HasSized, IsScope, cells_in, has_variable};
 ghost use Rattle.mk_table.specs.Cells.{values_at, cell_in, cells_onto, cells_where};
 ghost use Rattle.mk_table.specs.Tables.{HaveRoom, HaveRoomTogether, IsOne, IsAbsent, IsTimesWhole, IsTimes, IsPlusOver, EachCell};
 
@@ -16,6 +16,9 @@ use mk_net::{Event, Network, NoMemory, Pair, Ratio};
 use mk_semiring::Semiring;
 use std::alloc::Global;
 use std::marker::Model;
+
+/// The units of a ratio that changes nothing.
+const UNIT: u64 = 1 << 40;
 
 /// A scope, and a value for each of its cells.
 #[derive(Drop)]
@@ -85,17 +88,18 @@ impl<R: Semiring> Table<R> {
         }
     }
 
-    /// Multiplies each cell by the units of a trade: hit or miss where its condition holds, and 2^40 elsewhere.
+    /// Multiplies each cell by the units of a trade there: the number for the value of the ratio's variable where its
+    /// condition holds, and 2^40 elsewhere.
     pub fn times_ratio(&mut self, ratio: &Ratio)
-        requires event { HasEvent self.old.scope (pairs_asked ratio.now.question) }
+        requires event { HasEvent self.old.scope (ratio_pairs (trade_ratio ratio.now)) }
+        requires one_each { HasOneEach self.old.scope (trade_ratio ratio.now) }
         requires range { HaveRoom R.encloses R.has_grade R.is_exact self.old.values 1 }
         ensures scope { self.new.scope ≡ self.old.scope }
         ensures cells { EachCell (λ c x r. IsTimesWhole R.encloses R.has_grade R.is_exact x
             (ratio_there (trade_ratio ratio.now) (values_at self.old.scope c)) r) self.old.values self.new.values }
     {
-        let condition = ratio.question.condition();
         for cell in 0..self.values.len() {
-            let units = units_of(ratio, condition.pairs(), &self.scope, cell);
+            let units = units_of(ratio, &self.scope, cell);
             self.values[cell] = times_whole::<R>(&self.values[cell], units);
         }
     }
@@ -211,21 +215,28 @@ fn holds(pairs: &[Pair], scope: &Scope, cell: usize) -> bool
 
 /// The units by which a trade multiplies a cell.
 #[inline]
-fn units_of(ratio: &Ratio, condition: &[Pair], scope: &Scope, cell: usize) -> u64
-    requires event { HasEvent scope.now (pairs_asked ratio.now.question) }
-    requires condition { condition.now ≡ ratio.now.question.condition }
+fn units_of(ratio: &Ratio, scope: &Scope, cell: usize) -> u64
+    requires event { HasEvent scope.now (ratio_pairs (trade_ratio ratio.now)) }
+    requires one_each { HasOneEach scope.now (trade_ratio ratio.now) }
     requires cell { cell < cells_in scope.now }
     ensures units { result ≡ ratio_there (trade_ratio ratio.now) (values_at scope.now cell) }
     ensures positive { 1 ≤ result }
 {
-    let target = ratio.question.target();
-    if !holds(condition, scope, cell) {
-        1 << 40
-    } else if scope.value(cell, target.variable) == target.value {
-        ratio.hit
+    if holds(ratio.condition.pairs(), scope, cell) {
+        units_for(ratio, scope.value(cell, ratio.variable))
     } else {
-        ratio.miss
+        UNIT
     }
+}
+
+/// The units for a value of the ratio's variable.
+#[inline]
+fn units_for(ratio: &Ratio, value: u32) -> u64
+    requires { value < length ratio.now.factors.items }
+    ensures units { result ≡ slice_index ratio.now.factors.items value }
+    ensures positive { 1 ≤ result }
+{
+    ratio.factors[value as usize]
 }
 
 /// The number of the row that a cell picks for a variable.

@@ -1,12 +1,14 @@
 //! Two variables, the second with the first as its parent: each call once in each semiring, by numbers worked out by hand.
 
 ghost use Rattle.std.specs.Prelude.{◌≡◌, ℕ, ◌+◌, ◌<◌, ◌≤◌, List, [], ◌∷◌, length, slice_index, IfOk};
-ghost use Rattle.mk_net.specs.Events.{pairs_asked};
+ghost use Rattle.mk_net.specs.Asked.{ratio_pairs};
 ghost use Rattle.mk_net.specs.Network.{sizes};
-ghost use Rattle.mk_table.specs.Scopes.{ScopeOf, HasEvent};
+ghost use Rattle.mk_net.specs.Trades.{trade_ratio};
+ghost use Rattle.mk_table.specs.Scopes.{ScopeOf, HasEvent, HasOneEach};
 ghost use Rattle.mk_table.specs.Tables.{AllHaveGrade};
 
 use crate::{Scope, Table};
+use arrayvec::ArrayVec;
 use mk_net::{Draft, Event, Network, NoMemory, Pair, Question, Ratio, VarSet, VariableDraft};
 use mk_semiring::{Held, MinProd, Semiring, SumProd};
 use std::alloc::{AllocError, Global};
@@ -141,7 +143,8 @@ fn traded<R: Semiring>(alloc: Global, net: &Network, ratio: &Ratio) -> Result<Ta
     requires two { length net.now ≡ 2 }
     requires first { slice_index (sizes net.now) 0 ≡ 2 }
     requires second { slice_index (sizes net.now) 1 ≡ 3 }
-    requires event { HasEvent (record { variables = 0 ∷ 1 ∷ []; sizes = 2 ∷ 3 ∷ [] }) (pairs_asked ratio.now.question) }
+    requires event { HasEvent (record { variables = 0 ∷ 1 ∷ []; sizes = 2 ∷ 3 ∷ [] }) (ratio_pairs (trade_ratio ratio.now)) }
+    requires one_each { HasOneEach (record { variables = 0 ∷ 1 ∷ []; sizes = 2 ∷ 3 ∷ [] }) (trade_ratio ratio.now) }
     ensures { IfOk result (λ t. length t.values ≡ 6) }
 {
     let both = both(alloc, net)?;
@@ -206,40 +209,64 @@ fn minima(rt: HostRuntime) -> Result<(), Fail> {
     Ok(())
 }
 
-/// A trade on high wind where it rains: 3 units where both hold, 5 where only the rain does.
-fn wind_if_rain(rt: &impl Abort) -> Ratio
-    ensures { HasEvent (record { variables = 0 ∷ 1 ∷ []; sizes = 2 ∷ 3 ∷ [] }) (pairs_asked result.question) }
+const RAIN: Pair = Pair {
+    variable: 0,
+    value: 1,
+};
+
+fn only(rt: &impl Abort, pair: Pair) -> Event
+    ensures { result ≡ pair ∷ [] }
 {
-    let rain = Event::empty()
-        .with(Pair {
-            variable: 0,
-            value: 1,
-        })
-        .expect(rt, "a condition");
-    let question = Question::make(
-        Pair {
-            variable: 1,
-            value: 2,
-        },
-        rain,
-    )
-    .expect(rt, "a question");
+    Event::empty().with(pair).expect(rt, "a condition")
+}
+
+/// A trade on high wind where it rains: 3 units where both hold, 5 where only the rain does.
+fn high_wind(rt: &impl Abort) -> Ratio
+    ensures { trade_ratio result ≡ record { variable = 1; condition = RAIN ∷ []; factors = 5 ∷ 5 ∷ 3 ∷ [] } }
+{
+    let high = Pair {
+        variable: 1,
+        value: 2,
+    };
+    let question = Question::make(high, only(rt, RAIN)).expect(rt, "a question");
+    Ratio::of_question(&question, 3, 3, 5)
+}
+
+/// A trade of a whole distribution of the wind where it rains.
+fn each_wind(rt: &impl Abort) -> Ratio
+    ensures { trade_ratio result ≡ record { variable = 1; condition = RAIN ∷ []; factors = 3 ∷ 5 ∷ 7 ∷ [] } }
+{
+    let mut factors = ArrayVec::new();
+    factors.push(3);
+    factors.push(5);
+    factors.push(7);
     Ratio {
-        question,
-        hit: 3,
-        miss: 5,
+        variable: 1,
+        condition: only(rt, RAIN),
+        factors,
     }
+}
+
+/// Ones times a trade on the wind where it rains: nothing changes where it does not.
+fn check_traded(rt: &impl Abort, alloc: Global, ratio: &Ratio, wind: &[u64; 3]) -> Result<(), Fail>
+    requires event { HasEvent (record { variables = 0 ∷ 1 ∷ []; sizes = 2 ∷ 3 ∷ [] }) (ratio_pairs (trade_ratio ratio.now)) }
+    requires one_each { HasOneEach (record { variables = 0 ∷ 1 ∷ []; sizes = 2 ∷ 3 ∷ [] }) (trade_ratio ratio.now) }
+{
+    let net = network(rt, alloc)?;
+    let sums = traded::<SumProd>(alloc, &net, ratio)?;
+    let minima = traded::<MinProd>(alloc, &net, ratio)?;
+    for value in 0..3 {
+        check(rt, &sums.get(value), 1 << 40);
+        check(rt, &minima.get(value), 1 << 40);
+        check(rt, &sums.get(3 + value), wind[value]);
+        check(rt, &minima.get(3 + value), wind[value]);
+    }
+    Ok(())
 }
 
 #[test]
 fn ratios(rt: HostRuntime) -> Result<(), Fail> {
-    let net = network(&rt, rt.alloc())?;
-    let ratio = wind_if_rain(&rt);
-    let sums = traded::<SumProd>(rt.alloc(), &net, &ratio)?;
-    let minima = traded::<MinProd>(rt.alloc(), &net, &ratio)?;
-    for (cell, units) in [(0, 1 << 40), (3, 5), (5, 3)] {
-        check(&rt, &sums.get(cell), units);
-        check(&rt, &minima.get(cell), units);
-    }
+    check_traded(&rt, rt.alloc(), &high_wind(&rt), &[5, 5, 3])?;
+    check_traded(&rt, rt.alloc(), &each_wind(&rt), &[3, 5, 7])?;
     Ok(())
 }

@@ -1,8 +1,9 @@
-use Rattle.std.proofs.Common.{◌∷◌, []}
-use Rattle.mk_table.proofs.Kept.{event_first}
+use Rattle.std.proofs.Common.{arith}
+use Rattle.mk_net.specs.Trades.{trade_ratio}
+use Rattle.mk_table.proofs.Kept.{place_of_units}
 use Rattle.mk_table.proofs.table.units_of.Goals as goal
 
-pub holds-requires-clause-event : goal.holds-requires-clause-event
-holds-requires-clause-event c =
-    let q = c.args.ratio.now.question in
-    rw c.requires.condition (event_first c.args.scope.now q.condition (q.target ∷ []) c.requires.event)
+pub units_for-requires : goal.units_for-requires
+units_for-requires c =
+    let below = place_of_units c.args.scope.now (trade_ratio c.args.ratio.now) c.requires.event c.requires.one_each c.args.cell c.requires.cell in
+    omega (arith, below, c.value.ensures)
