@@ -1,13 +1,13 @@
 -- Cells changed one after the other, and the plus of the cells so far.
-use Rattle.std.proofs.Common.{◌≡◌, ℕ, ◌+◌, ◌^◌, ◌<◌, ◌≤◌, Bool, true, false, cond, ◌⊎◌, inl, inr, List, [], ◌∷◌, ◌++◌, length, get_or, set, filter, sum_by, All, refl, sym, ap, subst, ◌∙◌, arith, add-one, zero-add, eqb, eq-eqb, ne_eqb}
+use Rattle.std.proofs.Common.{◌≡◌, ℕ, ◌+◌, ◌^◌, ◌<◌, ◌≤◌, Bool, true, false, cond, ◌⊎◌, inl, inr, List, [], ◌∷◌, ◌++◌, Some, length, get_or, set, filter, sum_by, All, refl, sym, ap, subst, ◌∙◌, arith, add-one, zero-add, eqb, eq-eqb, ne_eqb}
 use Rattle.std.proofs.lemmas.Bool.{cases_eq}
 use Rattle.std.proofs.lemmas.List.{length-set, get_or-set_same, get_or-set_other, get_or_read, append-nil}
-use Rattle.std.proofs.lemmas.List.Elements.{filter-append}
+use Rattle.std.proofs.lemmas.List.Elements.{filter-append, All-pop}
 use Rattle.std.proofs.lemmas.List.Sums.{sum_by-append}
 use Rattle.mk_exact.specs.Lawful.{Lawful}
 use Rattle.mk_exact.specs.States.{plus_over, numbers_below}
 use Rattle.mk_exact.proofs.Sums.{IsPlus, plus_over-append, sum_by_is}
-use Rattle.mk_table.specs.Tables.{TableOf, AllEnclose, AllHaveGrade, AreExact, IsAbsent, HaveRoom, IsPlusOver, EachCell}
+use Rattle.mk_table.specs.Tables.{TableOf, AllEnclose, AllHaveGrade, AreExactAt, IsAbsent, HaveRoom, IsPlusOver, EachCell}
 use Rattle.mk_table.specs.Scopes.{ScopeOf}
 use Rattle.mk_table.proofs.Members.{range_more}
 
@@ -94,7 +94,7 @@ module _ {V : Type 0} (encloses : V → ℕ → Type 0) (has_grade : V → ℕ �
   pub record IsPlusSoFar (plus : ℕ → ℕ → ℕ) (values : List V) (chosen : List ℕ) (n : ℕ) (r : V) : Type 0 where
     pub value : (f : ℕ → ℕ) → AllEnclose encloses has_grade is_exact values f → encloses r (plus_over plus 0 f chosen)
     pub grade : (g : ℕ) → AllHaveGrade encloses has_grade is_exact values g → has_grade r (g + n)
-    pub exact : (f : ℕ → ℕ) → AllEnclose encloses has_grade is_exact values f → AreExact encloses has_grade is_exact values → sum_by f chosen < 2 ^ 63 → is_exact r
+    pub exact : (f : ℕ → ℕ) → AllEnclose encloses has_grade is_exact values f → AreExactAt encloses has_grade is_exact values chosen → sum_by f chosen < 2 ^ 63 → is_exact r
 
   -- what a plus of two values is
   pub record IsPlusOfTwo (plus : ℕ → ℕ → ℕ) (a b r : V) : Type 0 where
@@ -127,7 +127,8 @@ module _ {V : Type 0} (encloses : V → ℕ → Type 0) (has_grade : V → ℕ �
           let t = sum_push f chosen n in
           let m = plus_at_most plus law f chosen in
           let o = law.bounded (plus_over plus 0 f chosen) (f n) in
-          two.exact (plus_over plus 0 f chosen) (f n) (h.value f k) (one f k) (h.exact f k e (omega (arith, t, b))) (subst is_exact (sym read) (e n x l)) (omega (arith, t, b, m, o));
+          let both = All-pop (λ c. (d : V) → c < length values → is_exact (get_or values c d)) (chosen ++ n ∷ []) chosen (Some n) refl e in
+          two.exact (plus_over plus 0 f chosen) (f n) (h.value f k) (one f k) (h.exact f k both.0 (omega (arith, t, b))) (subst is_exact (sym read) (both.1 x l)) (omega (arith, t, b, m, o));
     }
       where
         one : (f : ℕ → ℕ) → AllEnclose encloses has_grade is_exact values f → encloses x (f n)

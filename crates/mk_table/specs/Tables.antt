@@ -1,5 +1,5 @@
 -- What each call does to the cells of a table, over any values that enclose whole numbers; 0 stands for Absent.
-use Rattle.std.specs.Prelude.{◌≡◌, ℕ, ◌+◌, ◌*◌, ◌^◌, ◌<◌, List, length, sum_by, slice_index_or}
+use Rattle.std.specs.Prelude.{◌≡◌, ℕ, ◌+◌, ◌*◌, ◌^◌, ◌<◌, List, length, sum_by, All, slice_index_or}
 use Rattle.mk_exact.specs.States.{plus_over}
 use Rattle.mk_table.specs.Scopes.{ScopeOf}
 
@@ -18,6 +18,10 @@ module _ {V : Type 0} (encloses : V → ℕ → Type 0) (has_grade : V → ℕ �
 
   abbrev pub AreExact : List V → Type 0
   AreExact values = (c : ℕ) (d : V) → c < length values → is_exact (slice_index_or values c d)
+
+  -- of some cells alone
+  abbrev pub AreExactAt : List V → List ℕ → Type 0
+  AreExactAt values chosen = All (λ c. (d : V) → c < length values → is_exact (slice_index_or values c d)) chosen
 
   -- the values have a grade with so much room to 2^40: then every result is in range
   pub record HaveRoom (values : List V) (room : ℕ) : Type 0 where
@@ -55,11 +59,11 @@ module _ {V : Type 0} (encloses : V → ℕ → Type 0) (has_grade : V → ℕ �
     pub grade : (g h : ℕ) → has_grade x g → has_grade y h → has_grade r (g + h + 1)
     pub exact : (v w : ℕ) → encloses x v → encloses y w → is_exact x → is_exact y → v * w < 2 ^ 63 → is_exact r
 
-  -- the plus of the values of some cells
+  -- the plus of the values of some cells; what was rounded in another cell spoils nothing
   pub record IsPlusOver (plus : ℕ → ℕ → ℕ) (values : List V) (chosen : List ℕ) (r : V) : Type 0 where
     pub value : (f : ℕ → ℕ) → AllEnclose values f → encloses r (plus_over plus 0 f chosen)
     pub grade : (g : ℕ) → AllHaveGrade values g → has_grade r (g + length values)
-    pub exact : (f : ℕ → ℕ) → AllEnclose values f → AreExact values → sum_by f chosen < 2 ^ 63 → is_exact r
+    pub exact : (f : ℕ → ℕ) → AllEnclose values f → AreExactAt values chosen → sum_by f chosen < 2 ^ 63 → is_exact r
 
 -- each cell's old value and new value are in a relation
 abbrev pub EachCell : {V : Type 0} → (ℕ → V → V → Type 0) → List V → List V → Type 0
