@@ -1,5 +1,5 @@
 -- What an engine stands for: a network, a tree, the factors that were multiplied together, and the pairs that are known.
-use Rattle.std.specs.Prelude.{ℕ, ◌<◌, List, [], ◌∷◌, ◌++◌, map, length, sum_by, All, slice_index}
+use Rattle.std.specs.Prelude.{ℕ, ◌+◌, ◌*◌, List, [], ◌∷◌, ◌++◌, map, sum_by, All}
 use Rattle.mk_net.specs.declared.words.Pair.{Pair}
 use Rattle.mk_net.specs.Asked.{TradeRatio}
 use Rattle.mk_net.specs.Network.{Variable, sizes}
