@@ -55,3 +55,6 @@ module _ (network : List Variable) (net : IsNetwork network) (k : ℕ) (within :
 
     pub row_fits : (i row : ℕ) → i ≤ length parents → row < 16 ^ i → row < 2 ^ 32
     row_fits i row h p = lt_of_lt_of_le p (let q : i ≤ 8 = omega (arith, ap (λ (ps : List ℕ). length ps) are, (net.each k nobody within).few_parents) in pow-le-pow_right {n = 16} (omega arith) q)
+
+    pub next_fits : (i row : ℕ) → i < length parents → row < 16 ^ i → row * slice_index (sizes network) (get_or parents i 0) + a (get_or parents i 0) < 2 ^ 32
+    next_fits i row h p = row_fits (i + 1) _ (omega arith) (step_small i row h p)

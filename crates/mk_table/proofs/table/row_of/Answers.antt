@@ -2,7 +2,7 @@ use Rattle.std.proofs.Common.{arith}
 use Rattle.mk_net.specs.Named.{variable_at}
 use Rattle.mk_table.specs.Cells.{values_at}
 use Rattle.mk_table.proofs.Kept.{sized_values}
-use Rattle.mk_table.proofs.Rows.{step_small, step_number, all_number, all_below, row_fits}
+use Rattle.mk_table.proofs.Rows.{step_small, step_number, all_number, all_below, row_fits, next_fits}
 use Rattle.std.proofs.lemmas.List.Elements.{All-same}
 use Rattle.mk_table.specs.Scopes.{HasSized}
 use Rattle.mk_table.proofs.table.row_of.Goals as goal
@@ -21,6 +21,20 @@ loop-parent-preserved c =
       number = step_number net c.variables.ensures.network k c.requires.variable (values_at scope c.args.cell) fit parents c.parents-parent-items.ensures i c.loop-parent.row c.loop-parent-test.true c.loop-parent.invariant.number;
       small = step_small net c.variables.ensures.network k c.requires.variable (values_at scope c.args.cell) fit parents c.parents-parent-items.ensures i c.loop-parent.row c.loop-parent-test.true c.loop-parent.invariant.small;
     })
+
+pub overflow_mul-row : goal.overflow_mul-row
+overflow_mul-row c =
+    let net = c.args.net.now in let scope = c.args.scope.now in let k = c.args.variable in
+    let fit = sized_values net scope c.args.cell c.requires.cell (variable_at net k).parents c.requires.parents in
+    let fits = next_fits net c.variables.ensures.network k c.requires.variable (values_at scope c.args.cell) fit c.parents-parent-items.result.now c.parents-parent-items.ensures c.loop-parent.parent-index c.loop-parent.row c.loop-parent-test.true c.loop-parent.invariant.small in
+    rw c.values.ensures (omega (arith, fits))
+
+pub overflow_add-row : goal.overflow_add-row
+overflow_add-row c =
+    let net = c.args.net.now in let scope = c.args.scope.now in let k = c.args.variable in
+    let fit = sized_values net scope c.args.cell c.requires.cell (variable_at net k).parents c.requires.parents in
+    let fits = next_fits net c.variables.ensures.network k c.requires.variable (values_at scope c.args.cell) fit c.parents-parent-items.result.now c.parents-parent-items.ensures c.loop-parent.parent-index c.loop-parent.row c.loop-parent-test.true c.loop-parent.invariant.small in
+    rw (c.values.ensures, c.value.ensures) (omega (arith, fits))
 
 pub overflow_cast-result : goal.overflow_cast-result
 overflow_cast-result c =
