@@ -9,16 +9,17 @@ use Rattle.mk_exact.specs.Lawful.{Lawful}
 use Rattle.mk_exact.proofs.Sums.{plus_over-filter, plus_over-map, sum_by_is, sum_by-filter}
 use Rattle.mk_sums.specs.Sums.{plus_below}
 use Rattle.mk_sums.specs.There.{holds_there}
-use Rattle.mk_sums.proofs.States.{is_plus}
+use Rattle.mk_sums.proofs.Bounds.{sum_grows}
+use Rattle.mk_sums.proofs.States.{is_plus, plus_below_numbers}
 use Rattle.mk_sums.proofs.Grades.{sums_lawful}
 use Rattle.mk_table.specs.Scopes.{ScopeOf, cells_in}
 use Rattle.mk_table.specs.Cells.{values_at, cells_where}
 use Rattle.mk_table.specs.Tables.{TableOf, IsPlusOver}
-use Rattle.mk_engine.specs.Meaning.{Meaning, factor_there, exact_belief, whole_sum}
+use Rattle.mk_engine.specs.Meaning.{Meaning, factor_there, exact_belief, whole_sum, max_grade}
 use Rattle.mk_engine.specs.Beliefs.{IsBelief}
 use Rattle.mk_joint.specs.Joints.{whole_scope, joint_there, HasJoint}
-use Rattle.mk_joint.proofs.Cells.{states_are_cells, below_is_over}
-use Rattle.mk_joint.proofs.Factors.{product_there, sum_grows, joint_at_most, whole_is}
+use Rattle.mk_joint.proofs.Cells.{states_are_cells}
+use Rattle.mk_joint.proofs.Factors.{product_there, joint_at_most, whole_is}
 
 both_tests : (known event : Bool) (v : ℕ) → cond (known && event) v 0 ≡ cond event (cond known v 0) 0
 both_tests true true v = refl
@@ -46,7 +47,7 @@ module _ (plus : ℕ → ℕ → ℕ) (law : Lawful plus) (m : Meaning) (event :
   in_cells =
       in_states
       ∙ states_are_cells m.network plus law added
-      ∙ below_is_over plus law (cells_in (whole_scope m.network)) (λ c. added (values_at (whole_scope m.network) c))
+      ∙ plus_below_numbers plus law (λ c. added (values_at (whole_scope m.network) c)) (cells_in (whole_scope m.network))
       ∙ sym (plus_over-filter plus 0 (is_plus plus law) (λ c. joint_there m (values_at (whole_scope m.network) c)) (λ c. holds_there event (values_at (whole_scope m.network) c)) (numbers_below (cells_in (whole_scope m.network))))
 
   pub belief_is : (scope : ScopeOf) → scope ≡ whole_scope m.network → plus_over plus 0 (λ c. joint_there m (values_at scope c)) (cells_where scope event) ≡ exact_belief plus m event
@@ -65,7 +66,7 @@ module _ (m : Meaning) (event : List Pair) where
       let f : ℕ → ℕ = λ c. joint_there m (values_at (whole_scope m.network) c) in
       let g : ℕ → ℕ = λ c. cond (chosen c) (f c) 0 in
       let e : sum_by f (filter chosen (numbers_below n)) ≡ plus_below ◌+◌ n g =
-      sum_by-filter f chosen (numbers_below n) ∙ sum_by_is g (numbers_below n) ∙ sym (below_is_over ◌+◌ sums_lawful n g) in
+      sum_by-filter f chosen (numbers_below n) ∙ sum_by_is g (numbers_below n) ∙ sym (plus_below_numbers ◌+◌ sums_lawful g n) in
       let p = sum_grows n g (λ c. product_there m (values_at (whole_scope m.network) c)) (λ c l. added_at_most (chosen c) (values_at (whole_scope m.network) c)) in
       omega (arith, e, p, whole_is m)
 
@@ -85,8 +86,8 @@ module _ {V : Type 0} (encloses : V → ℕ → Type 0) (has_grade : V → ℕ �
       → IsBelief encloses has_grade is_exact plus m event r
   belief_of law table m event r total h = record {
     value = subst (encloses r) (belief_is plus law m event table.scope h.scope) (total.value (λ c. joint_there m (values_at table.scope c)) h.value);
-    grade = grade_more r (length m.factors + 4096) (length m.factors + 37374) (belief_grade table m event r total h) (omega arith);
+    grade = grade_more r (length m.factors + 4096) (length m.factors + max_grade) (belief_grade table m event r total h) (omega arith);
     exact = λ small.
-        total.exact (λ c. joint_there m (values_at table.scope c)) h.value (h.exact small)
+        total.exact (λ c. joint_there m (values_at table.scope c)) h.value (λ k d l e p. h.exact small _ e p)
         (let t = total_at_most m event table.scope h.scope in omega (arith, t, small));
   }

@@ -55,15 +55,6 @@ no_other_more new old n made h x p = at (or_cases (eqb x n) (is_member old x) (s
     at (inl e) = let k : x ≡ n = eqb-true x n e in omega (arith, k)
     at (inr q) = let l : x < n = h x q in omega (arith, l)
 
-pub below_is_over : (plus : ℕ → ℕ → ℕ) → Lawful plus → (n : ℕ) (f : ℕ → ℕ) → plus_below plus n f ≡ plus_over plus 0 f (numbers_below n)
-below_is_over plus law zero f = refl
-below_is_over plus law (suc n) f =
-    let z : 0 + n ≡ n = omega arith in
-    ap (λ k. plus k (f n)) (below_is_over plus law n f)
-    ∙ ap (plus (plus_over plus 0 f (numbers_below n))) (sym (law.commutes (f n) 0 ∙ law.neutral (f n)))
-    ∙ sym (plus_over-append plus 0 (is_plus plus law) f (numbers_below n) (n ∷ []))
-    ∙ ap (plus_over plus 0 f) (ap (λ k. numbers_below n ++ k ∷ []) (sym z) ∙ sym (range_more 0 n))
-
 module _ (network : List Variable) where
   sizes_read : map (slice_index (sizes network)) (variables (sizes network)) ≡ sizes network
   sizes_read =

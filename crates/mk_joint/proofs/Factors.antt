@@ -1,5 +1,5 @@
 -- A factor more, and a known pair more, in one cell and in the sum over all cells.
-use Rattle.std.proofs.Common.{◌≡◌, ℕ, suc, zero, ◌+◌, ◌*◌, ◌<◌, ◌≤◌, Bool, true, false, cond, ◌&&◌, ◌⊎◌, inl, inr, eqb, List, [], ◌∷◌, ◌++◌, length, All, refl, sym, ap, subst, ◌∙◌, arith, le_refl, mul-one, zero-mul, lit≤, eq-eqb, ne_eqb}
+use Rattle.std.proofs.Common.{◌≡◌, ℕ, suc, zero, ◌+◌, ◌*◌, ◌<◌, ◌≤◌, Bool, true, false, cond, ◌&&◌, ◌⊎◌, inl, inr, eqb, List, [], ◌∷◌, ◌++◌, length, slice_index, All, refl, sym, ap, subst, ◌∙◌, arith, le_refl, mul-one, zero-mul, lit≤, eq-eqb, ne_eqb}
 use Rattle.std.proofs.Math.Nat.{mul-le-mul}
 use Rattle.std.proofs.lemmas.Bool.{cases_eq}
 use Rattle.std.proofs.lemmas.List.Elements.{All-from_recursion, All-weaker}
@@ -8,11 +8,12 @@ use Rattle.mk_net.specs.Network.{Variable, IsNetwork}
 use Rattle.mk_net.specs.Named.{variable_at}
 use Rattle.mk_exact.specs.States.{product_by}
 use Rattle.mk_exact.specs.InitialWeight.{all_states, value_at}
-use Rattle.mk_exact.specs.Ratios.{condition_of, variable_of, unit}
+use Rattle.mk_exact.specs.Ratios.{unit}
 use Rattle.mk_exact.proofs.Sums.{product_by_push, list_all-append, sum_by_is}
 use Rattle.mk_exact.proofs.Positive.{parents_within}
 use Rattle.mk_sums.specs.Sums.{plus_below}
 use Rattle.mk_sums.specs.There.{holds_there}
+use Rattle.mk_sums.proofs.Bounds.{sum_grows, sum_has}
 use Rattle.mk_sums.proofs.Grades.{sums_lawful}
 use Rattle.mk_table.specs.Scopes.{ScopeOf, cells_in, HasSized}
 use Rattle.mk_table.specs.Cells.{values_at}
@@ -26,9 +27,9 @@ use Rattle.mk_joint.proofs.Cells.{states_are_cells, has_sized}
 abbrev pub product_there : Meaning → (ℕ → ℕ) → ℕ
 product_there m a = product_by (λ (f : Factor). factor_there m.network f a) m.factors
 
-one_of_two : (b : Bool) (x y : ℕ) → 1 ≤ x → 1 ≤ y → 1 ≤ cond b x y
-one_of_two true x y p q = p
-one_of_two false x y p q = q
+some_units : (b : Bool) (x : ℕ) → 1 ≤ x → 1 ≤ cond b x unit
+some_units true x p = p
+some_units false x p = lit≤ tt
 
 pub sized_parents : (network : List Variable) → IsNetwork network → (k : ℕ) → k < length network → All (HasSized network (whole_scope network)) (variable_at network k).parents
 sized_parents network net k h =
@@ -42,8 +43,11 @@ module _ (network : List Variable) (net : IsNetwork network) (c : ℕ) (within :
       share_pos network net k h (values_at (whole_scope network) c) (sized_values network (whole_scope network) c within (variable_at network k).parents (sized_parents network net k h))
       (sized_value network (whole_scope network) c within k (has_sized network k h))
   factor_pos (RatioOf r) h =
-      one_of_two (holds_there (condition_of r) (values_at (whole_scope network) c)) _ unit
-      (one_of_two (eqb (values_at (whole_scope network) c (variable_of r)) r.question.target.value) r.hit r.miss h.1 h.2) (lit≤ tt)
+      let value = values_at (whole_scope network) c r.variable in
+      let below = sized_value network (whole_scope network) c within r.variable (has_sized network r.variable h.variable) in
+      let inside : value < length r.factors = omega (arith, below, h.one_each) in
+      some_units (holds_there r.condition (values_at (whole_scope network) c)) (slice_index r.factors value)
+      (All-from_recursion (λ units. 1 ≤ units) r.factors h.positive value 0 inside)
 
 -- one factor more
 pub product_more : (m : Meaning) (f : Factor) (a : ℕ → ℕ) → product_there (with_factor f m) a ≡ product_there m a * factor_there m.network f a
@@ -79,18 +83,6 @@ joint_gone m p a d =
     (sym (known_more m.known p a ∙ ap (λ b. holds_there m.known a && (b && true)) (ne_eqb (a p.variable) p.value d) ∙ and_not (holds_there m.known a)))
 
 -- sums over cells
-pub sum_grows : (n : ℕ) (f g : ℕ → ℕ) → ((v : ℕ) → v < n → f v ≤ g v) → plus_below ◌+◌ n f ≤ plus_below ◌+◌ n g
-sum_grows zero f g h = omega arith
-sum_grows (suc n) f g h = let p = sum_grows n f g (λ v q. h v (omega arith)) in let r = h n (omega arith) in omega (arith, p, r)
-
-sum_has : (n v : ℕ) (f : ℕ → ℕ) → v < n → f v ≤ plus_below ◌+◌ n f
-sum_has zero v f h = absurd (omega arith)
-sum_has (suc n) v f h = at (cases_eq v n) (sum_has n v f)
-  where
-    at : ((v ≡ n) ⊎ (v ≡ n → ⊥)) → (v < n → f v ≤ plus_below ◌+◌ n f) → f v ≤ plus_below ◌+◌ n f + f n
-    at (inl e) ih = let p : f v ≡ f n = ap f e in omega (arith, p)
-    at (inr d) ih = let p : f v ≤ plus_below ◌+◌ n f = ih (omega (arith, d)) in omega (arith, p)
-
 pub whole_is : (m : Meaning) → whole_sum m ≡ plus_below ◌+◌ (cells_in (whole_scope m.network)) (λ c. product_there m (values_at (whole_scope m.network) c))
 whole_is m =
     sum_by_is (λ s. product_there m (value_at s)) (all_states m.network) ∙ states_are_cells m.network ◌+◌ sums_lawful (product_there m)

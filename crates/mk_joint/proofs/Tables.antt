@@ -1,18 +1,18 @@
 -- What the calls of a table do to the joint that it has.
-use Rattle.std.proofs.Common.{◌≡◌, ℕ, ◌^◌, ◌<◌, ◌≤◌, ◌⊎◌, inl, inr, true, List, length, slice_index_or, All, sym, ap, subst, ◌∙◌, arith}
+use Rattle.std.proofs.Common.{◌≡◌, ℕ, ◌^◌, ◌<◌, ◌≤◌, ◌⊎◌, inl, inr, true, List, length, slice_index, slice_index_or, All, sym, ap, subst, ◌∙◌, arith}
 use Rattle.std.proofs.lemmas.Bool.{cases_eq}
 use Rattle.std.proofs.lemmas.List.{length_push}
 use Rattle.std.proofs.lemmas.List.Elements.{All-push, All-weaker, All-from_recursion, All-nil}
 use Rattle.mk_net.specs.declared.words.Pair.{Pair}
 use Rattle.mk_net.specs.Network.{Variable, sizes, IsNetwork}
-use Rattle.mk_net.specs.Named.{variable_at}
-use Rattle.mk_net.specs.Asked.{Asked}
-use Rattle.mk_net.specs.Events.{pairs_asked}
-use Rattle.mk_exact.specs.Proper.{IsPairOf, IsQuestionOf}
+use Rattle.mk_net.specs.Named.{variable_at, nobody}
+use Rattle.mk_net.specs.Asked.{TradeRatio, ratio_pairs}
+use Rattle.mk_exact.specs.Proper.{IsPairOf, IsRatioOf}
 use Rattle.mk_exact.proofs.Sums.{each_weaker}
-use Rattle.mk_exact.proofs.Positive.{as_many}
+use Rattle.mk_exact.proofs.Listed.{as_many}
+use Rattle.mk_exact.proofs.Positive.{size_at}
 use Rattle.mk_tree.specs.Given.{GivenTree}
-use Rattle.mk_table.specs.Scopes.{ScopeOf, cells_in, has_variable, HasEvent, HasSized}
+use Rattle.mk_table.specs.Scopes.{ScopeOf, cells_in, has_variable, HasEvent, HasOneEach, HasSized}
 use Rattle.mk_table.specs.Cells.{values_at}
 use Rattle.mk_table.specs.Tables.{TableOf, AllHaveGrade, HaveRoom, IsOne, IsAbsent, IsTimesWhole, EachCell}
 use Rattle.mk_engine.specs.Meaning.{Meaning, Factor, opening, with_factor, with_known, factor_there, whole_sum, ArePairsOf}
@@ -20,21 +20,23 @@ use Rattle.mk_joint.specs.Joints.{whole_scope, joint_there, IsFactorOf, IsPlanFo
 use Rattle.mk_joint.proofs.Cells.{has_all, has_sized, states_counted}
 use Rattle.mk_joint.proofs.Factors.{sized_parents, joint_more, joint_kept, joint_gone, cell_at_most, whole_grows}
 
--- two networks of one scope have the same sizes, and so the same pairs and questions
+-- two networks of one scope have the same sizes, and so the same pairs and ratios
 pub same_sizes : (a b : List Variable) (scope : ScopeOf) → scope ≡ whole_scope a → scope ≡ whole_scope b → sizes a ≡ sizes b
 same_sizes a b scope e f = ap (λ (s : ScopeOf). s.sizes) (sym e ∙ f)
 
-module _ (a b : List Variable) (legal : IsNetwork a) (other : IsNetwork b) (same : sizes a ≡ sizes b) where
+module _ (a b : List Variable) (same : sizes a ≡ sizes b) where
   pub pair_same : (p : Pair) → IsPairOf a p → IsPairOf b p
   pair_same p h = record {
-    variable = let l = ap (λ (ns : List ℕ). length ns) same in omega (arith, h.variable, l, as_many a legal, as_many b other);
+    variable = let l = ap (λ (ns : List ℕ). length ns) same in omega (arith, h.variable, l, as_many a, as_many b);
     value = subst (λ (ns : List ℕ). p.value < slice_index_or ns p.variable 0) same h.value;
   }
 
-  pub question_same : (asked : Asked) → IsQuestionOf a asked → IsQuestionOf b asked
-  question_same asked h = record {
-    target = pair_same asked.target h.target;
-    condition = each_weaker (IsPairOf a) (IsPairOf b) pair_same asked.condition h.condition;
+  pub ratio_same : (ratio : TradeRatio) → IsRatioOf a ratio → IsRatioOf b ratio
+  ratio_same ratio h = record {
+    variable = let l = ap (λ (ns : List ℕ). length ns) same in omega (arith, h.variable, l, as_many a, as_many b);
+    condition = each_weaker (IsPairOf a) (IsPairOf b) pair_same ratio.condition h.condition;
+    one_each = h.one_each ∙ ap (λ (ns : List ℕ). slice_index ns ratio.variable) same;
+    positive = h.positive;
   }
 
 -- it has each variable with its parents
@@ -51,8 +53,14 @@ has_event network scope e event h =
     All-weaker (IsPairOf network) (λ (p : Pair). has_variable scope p.variable ≡ true)
     (λ p k. subst (λ (s : ScopeOf). has_variable s p.variable ≡ true) (sym e) (has_all network p.variable k.variable)) event h
 
-pub pairs_of_question : (network : List Variable) (asked : Asked) → IsQuestionOf network asked → ArePairsOf network (pairs_asked asked)
-pairs_of_question network asked h = All-push (IsPairOf network) asked.condition asked.target (All-from_recursion (IsPairOf network) asked.condition h.condition) h.target
+pub pairs_of_ratio : (network : List Variable) → IsNetwork network → (ratio : TradeRatio) → IsRatioOf network ratio → ArePairsOf network (ratio_pairs ratio)
+pairs_of_ratio network legal ratio h =
+    All-push (IsPairOf network) ratio.condition (record { variable = ratio.variable; value = 0 }) (All-from_recursion (IsPairOf network) ratio.condition h.condition)
+    (record { variable = h.variable; value = omega (arith, size_at network legal ratio.variable h.variable, (legal.each ratio.variable nobody h.variable).two_values) })
+
+-- it has as many values of a ratio's variable as the ratio has numbers
+pub has_one_each : (network : List Variable) (scope : ScopeOf) → scope ≡ whole_scope network → (ratio : TradeRatio) → IsRatioOf network ratio → HasOneEach scope ratio
+has_one_each network scope e ratio h = h.one_each ∙ sym (sized_in network scope e ratio.variable h.variable).sized
 
 module _ {V : Type 0} (encloses : V → ℕ → Type 0) (has_grade : V → ℕ → Type 0) (is_exact : V → Type 0)
     (grade_more : (x : V) (g h : ℕ) → has_grade x g → g ≤ h → has_grade x h) where

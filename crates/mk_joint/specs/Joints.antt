@@ -2,7 +2,7 @@
 use Rattle.std.specs.Prelude.{◌≡◌, ℕ, ◌^◌, ◌<◌, ◌≤◌, List, length, All, if◌then◌else◌, slice_index}
 use Rattle.mk_net.specs.Network.{Variable, IsNetwork, sizes}
 use Rattle.mk_exact.specs.States.{product_by}
-use Rattle.mk_exact.specs.Proper.{IsQuestionOf}
+use Rattle.mk_exact.specs.Proper.{IsRatioOf}
 use Rattle.mk_sums.specs.Cells.{cells}
 use Rattle.mk_sums.specs.Joint.{variables}
 use Rattle.mk_sums.specs.There.{holds_there}
@@ -29,10 +29,10 @@ pub record IsPlanFor (plan : ScopeOf) (network : List Variable) : Type 0 where
   pub legal : IsNetwork network
   pub few_states : joint_states network ≤ 4096
 
--- the rows of one of the network's variables, or a ratio of its pairs with units of at least 1
+-- the rows of one of the network's variables, or a ratio of its pairs
 abbrev pub IsFactorOf : List Variable → Factor → Type 0
 IsFactorOf network (RowsOf k) = k < length network
-IsFactorOf network (RatioOf ratio) = IsQuestionOf network ratio.question × (1 ≤ ratio.hit) × (1 ≤ ratio.miss)
+IsFactorOf network (RatioOf ratio) = IsRatioOf network ratio
 
 -- The table has the joint of a meaning, cell by cell: enclosed, with a grade of one for each factor, and exact in the small
 -- case. A table has the joint of many meanings, some of them with factors that change nothing; so the room for one factor

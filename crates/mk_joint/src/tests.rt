@@ -2,6 +2,7 @@
 
 ghost use Rattle.std.specs.Prelude.{◌≡◌, [], ◌∷◌, length, slice_index, IfOk};
 ghost use Rattle.mk_net.specs.Network.{sizes};
+ghost use Rattle.mk_net.specs.Trades.{trade_ratio};
 ghost use Rattle.mk_engine.specs.Meaning.{RowsOf, opening, with_factor};
 
 use crate::JointEngine;
@@ -93,14 +94,10 @@ fn only(rt: &impl Abort, pair: Pair) -> Event
 
 /// A trade on rain in a wet season.
 fn trade(rt: &impl Abort) -> Ratio
-    ensures { result.question ≡ record { target = RAIN; condition = WET ∷ [] } }
+    ensures { trade_ratio result ≡ record { variable = 1; condition = WET ∷ []; factors = 2 ∷ 3 ∷ [] } }
 {
     let question = Question::make(RAIN, only(rt, WET)).expect(rt, "a question");
-    Ratio {
-        question,
-        hit: 2,
-        miss: 3,
-    }
+    Ratio::of_question(&question, 2, 2, 3)
 }
 
 /// The beliefs in rain, and in all states.

@@ -1,4 +1,4 @@
-use Rattle.std.proofs.Common.{arith, lit<}
+use Rattle.std.proofs.Common.{arith, sym, lit<, lit≤}
 use Rattle.std.proofs.lemmas.List.Elements.{All-nil}
 use Rattle.mk_net.specs.Trades.{trade_ratio}
 use Rattle.mk_exact.specs.Proper.{IsPairOf}
@@ -14,8 +14,10 @@ multiply-requires-clause-range g c =
       meaning = with_known (record { variable = 0; value = 0 }) m;
       stands = c.know.ensures m c.in_ok-engine.ensures;
       in_range = rw c.trade.ensures (record {
-        target = record { variable = omega (arith, two); value = omega (arith, rains) };
+        variable = omega (arith, two);
         condition = (record { variable = omega (arith, two); value = omega (arith, seasons) }, tt);
+        one_each = sym rains;
+        positive = (lit≤ tt, (lit≤ tt, tt));
       });
       room = lit< tt;
     }

@@ -14,4 +14,4 @@ returns g c = λ m h.
     let R = g.R.Semiring in let a = c.requires in
     let same = same_sizes a.meaning.network m.network c.args.self.now.table.scope a.stands.scope h.scope in
     known_more R.encloses R.has_grade R.is_exact g.met.R.Semiring.grade_more c.args.self.now.table c.restrict.new.self m c.args.pair h
-    (pair_same a.meaning.network m.network a.stands.legal h.legal same c.args.pair a.in_range) c.restrict.ensures.scope c.restrict.ensures.cells
+    (pair_same a.meaning.network m.network same c.args.pair a.in_range) c.restrict.ensures.scope c.restrict.ensures.cells
