@@ -1,7 +1,8 @@
 -- What each call of an engine asks of a meaning that the engine stands for, and what a belief says of it.
-use Rattle.std.specs.Prelude.{◌≡◌, ℕ, ◌+◌, ◌^◌, ◌<◌, List, length}
+use Rattle.std.specs.Prelude.{◌≡◌, ℕ, ◌+◌, ◌<◌, List, length}
 use Rattle.mk_net.specs.declared.words.Pair.{Pair}
 use Rattle.mk_net.specs.Asked.{TradeRatio}
+use Rattle.mk_net.specs.Bounds.{number_limit}
 use Rattle.mk_net.specs.Network.{Variable}
 use Rattle.mk_exact.specs.Proper.{IsPairOf, IsRatioOf}
 use Rattle.mk_engine.specs.Meaning.{Meaning, exact_belief, whole_sum, max_factors, max_grade, ArePairsOf}
@@ -39,4 +40,4 @@ pub record IsBelief {V : Type 0} (encloses : V → ℕ → Type 0) (has_grade : 
     (plus : ℕ → ℕ → ℕ) (m : Meaning) (event : List Pair) (belief : V) : Type 0 where
   pub value : encloses belief (exact_belief plus m event)
   pub grade : has_grade belief (length m.factors + max_grade)
-  pub exact : whole_sum m < 2 ^ 63 → is_exact belief
+  pub exact : whole_sum m < number_limit → is_exact belief

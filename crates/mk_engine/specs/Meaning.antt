@@ -1,7 +1,8 @@
 -- What an engine stands for: a network, a tree, the factors that were multiplied together, and the pairs that are known.
-use Rattle.std.specs.Prelude.{ℕ, ◌+◌, ◌*◌, List, [], ◌∷◌, ◌++◌, map, sum_by, All}
+use Rattle.std.specs.Prelude.{ℕ, ◌+◌, ◌-◌, ◌*◌, List, [], ◌∷◌, ◌++◌, map, sum_by, All}
 use Rattle.mk_net.specs.declared.words.Pair.{Pair}
 use Rattle.mk_net.specs.Asked.{TradeRatio}
+use Rattle.mk_net.specs.Bounds.{max_variables, max_cliques, max_clique_cells, max_cells, max_market_trades}
 use Rattle.mk_net.specs.Network.{Variable, sizes}
 use Rattle.mk_exact.specs.States.{product_by}
 use Rattle.mk_exact.specs.InitialWeight.{all_states, value_at}
@@ -44,14 +45,19 @@ exact_belief plus m event = joint plus (sizes m.network) (map (factor_there m.ne
 abbrev pub whole_sum : Meaning → ℕ
 whole_sum m = sum_by (λ s. product_by (λ (f : Factor). factor_there m.network f (value_at s)) m.factors) (all_states m.network)
 
--- how many factors an engine may hold: the rows of 256 variables, and 65,536 trades
+-- how many factors an engine may hold: the rows of each variable, and each trade
 abbrev pub max_factors : ℕ
-max_factors = 256 + 65536
+max_factors = max_variables + max_market_trades
 
--- the grade of a belief beside that of its factors: the cells of all cliques, two for each separator of a tree of at most 511
--- cliques (those of a file, and those that questions bring which are added later), and the cells of the asked clique
+-- how many separators a tree may have: one fewer than cliques, which are those of a file and one more for each question that
+-- is added later to at least one variable
+abbrev pub max_separators : ℕ
+max_separators = max_cliques + (max_variables - 1) - 1
+
+-- the grade of a belief beside that of its factors: the cells of all cliques, two for each separator, and the cells of the
+-- asked clique
 abbrev pub max_grade : ℕ
-max_grade = 32768 + 2 * 510 + 4096
+max_grade = max_cells + 2 * max_separators + max_clique_cells
 
 -- the network's own pairs
 abbrev pub ArePairsOf : List Variable → List Pair → Type 0

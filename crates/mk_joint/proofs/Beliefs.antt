@@ -2,6 +2,7 @@
 use Rattle.std.proofs.Common.{◌≡◌, ℕ, ◌+◌, ◌*◌, ◌≤◌, Bool, true, false, cond, ◌&&◌, List, map, length, filter, sum_by, refl, sym, ap, subst, ◌∙◌, arith}
 use Rattle.std.proofs.Math.Path.{fun_ext}
 use Rattle.mk_net.specs.declared.words.Pair.{Pair}
+use Rattle.mk_net.specs.Bounds.{max_clique_cells}
 use Rattle.mk_exact.specs.States.{plus_over, product_by, numbers_below}
 use Rattle.mk_exact.specs.InitialWeight.{all_states, value_at}
 use Rattle.mk_exact.specs.Events.{holds}
@@ -77,16 +78,16 @@ module _ {V : Type 0} (encloses : V → ℕ → Type 0) (has_grade : V → ℕ �
     (grade_more : (x : V) (g h : ℕ) → has_grade x g → g ≤ h → has_grade x h) where
   pub belief_grade : (table : TableOf V) (m : Meaning) (event : List Pair) (r : V)
       → IsPlusOver encloses has_grade is_exact plus table.values (cells_where table.scope event) r → HasJoint encloses has_grade is_exact table m
-      → has_grade r (length m.factors + 4096)
+      → has_grade r (length m.factors + max_clique_cells)
   belief_grade table m event r total h =
-      grade_more r (length m.factors + length table.values) (length m.factors + 4096) (total.grade (length m.factors) h.grade) (omega (arith, h.few_cells))
+      grade_more r (length m.factors + length table.values) (length m.factors + max_clique_cells) (total.grade (length m.factors) h.grade) (omega (arith, h.few_cells))
 
   pub belief_of : Lawful plus → (table : TableOf V) (m : Meaning) (event : List Pair) (r : V)
       → IsPlusOver encloses has_grade is_exact plus table.values (cells_where table.scope event) r → HasJoint encloses has_grade is_exact table m
       → IsBelief encloses has_grade is_exact plus m event r
   belief_of law table m event r total h = record {
     value = subst (encloses r) (belief_is plus law m event table.scope h.scope) (total.value (λ c. joint_there m (values_at table.scope c)) h.value);
-    grade = grade_more r (length m.factors + 4096) (length m.factors + max_grade) (belief_grade table m event r total h) (omega arith);
+    grade = grade_more r (length m.factors + max_clique_cells) (length m.factors + max_grade) (belief_grade table m event r total h) (omega arith);
     exact = λ small.
         total.exact (λ c. joint_there m (values_at table.scope c)) h.value (λ k d l e p. h.exact small _ e p)
         (let t = total_at_most m event table.scope h.scope in omega (arith, t, small));

@@ -1,9 +1,10 @@
 -- What the calls of a table do to the joint that it has.
-use Rattle.std.proofs.Common.{◌≡◌, ℕ, ◌^◌, ◌<◌, ◌≤◌, ◌⊎◌, inl, inr, true, List, length, slice_index, slice_index_or, All, sym, ap, subst, ◌∙◌, arith}
+use Rattle.std.proofs.Common.{◌≡◌, ℕ, ◌+◌, ◌<◌, ◌≤◌, ◌⊎◌, inl, inr, true, List, length, slice_index, slice_index_or, All, sym, ap, subst, ◌∙◌, arith}
 use Rattle.std.proofs.lemmas.Bool.{cases_eq}
 use Rattle.std.proofs.lemmas.List.{length_push}
 use Rattle.std.proofs.lemmas.List.Elements.{All-push, All-weaker, All-from_recursion, All-nil}
 use Rattle.mk_net.specs.declared.words.Pair.{Pair}
+use Rattle.mk_net.specs.Bounds.{max_clique_cells, number_limit}
 use Rattle.mk_net.specs.Network.{Variable, sizes, IsNetwork}
 use Rattle.mk_net.specs.Named.{variable_at, nobody}
 use Rattle.mk_net.specs.Asked.{TradeRatio, ratio_pairs}
@@ -15,7 +16,7 @@ use Rattle.mk_tree.specs.Given.{GivenTree}
 use Rattle.mk_table.specs.Scopes.{ScopeOf, cells_in, has_variable, HasEvent, HasOneEach, HasSized}
 use Rattle.mk_table.specs.Cells.{values_at}
 use Rattle.mk_table.specs.Tables.{TableOf, AllHaveGrade, HaveRoom, IsOne, IsAbsent, IsTimesWhole, EachCell}
-use Rattle.mk_engine.specs.Meaning.{Meaning, Factor, opening, with_factor, with_known, factor_there, whole_sum, ArePairsOf}
+use Rattle.mk_engine.specs.Meaning.{Meaning, Factor, opening, with_factor, with_known, factor_there, whole_sum, max_factors, ArePairsOf}
 use Rattle.mk_joint.specs.Joints.{whole_scope, joint_there, IsFactorOf, IsPlanFor, HasJoint}
 use Rattle.mk_joint.proofs.Cells.{has_all, has_sized, states_counted}
 use Rattle.mk_joint.proofs.Factors.{sized_parents, joint_more, joint_kept, joint_gone, cell_at_most, whole_grows}
@@ -65,12 +66,8 @@ has_one_each network scope e ratio h = h.one_each ∙ sym (sized_in network scop
 module _ {V : Type 0} (encloses : V → ℕ → Type 0) (has_grade : V → ℕ → Type 0) (is_exact : V → Type 0)
     (grade_more : (x : V) (g h : ℕ) → has_grade x g → g ≤ h → has_grade x h) where
   -- a table that has a joint is in range
-  pub has_room : (table : TableOf V) (m : Meaning) → HasJoint encloses has_grade is_exact table m → (room : ℕ) → room ≤ 4096 → HaveRoom encloses has_grade is_exact table.values room
-  has_room table m h room l = record { grade = 65792; graded = h.room; fits = omega arith }
-
-  -- fewer factors than the most leave room for one
-  pub room_below : (table : TableOf V) (m : Meaning) → HasJoint encloses has_grade is_exact table m → length m.factors < 65792 → AllHaveGrade encloses has_grade is_exact table.values 65791
-  room_below table m h l c d p = grade_more (slice_index_or table.values c d) (length m.factors) 65791 (h.grade c d p) (omega arith)
+  pub has_room : (table : TableOf V) (m : Meaning) → HasJoint encloses has_grade is_exact table m → (room : ℕ) → room ≤ max_clique_cells → HaveRoom encloses has_grade is_exact table.values room
+  has_room table m h room l = record { grade = max_factors; graded = h.room; fits = omega arith }
 
   -- a table of ones has the joint of no factors
   pub begins : (table : TableOf V) (plan : ScopeOf) (network : List Variable) (tree : GivenTree) → IsPlanFor plan network → table.scope ≡ plan → length table.values ≡ cells_in plan
@@ -82,25 +79,25 @@ module _ {V : Type 0} (encloses : V → ℕ → Type 0) (has_grade : V → ℕ �
     few_cells = let e = ap cells_in p.scope in omega (arith, long, e, states_counted network, p.few_states);
     factors = All-nil (IsFactorOf network);
     known = All-nil (IsPairOf network);
-    room = λ c d l. grade_more (slice_index_or table.values c d) 0 65792 (ones c d l).grade (omega arith);
+    room = λ c d l. grade_more (slice_index_or table.values c d) 0 max_factors (ones c d l).grade (omega arith);
     value = λ c d l. (ones c d l).value;
     grade = λ c d l. (ones c d l).grade;
     exact = λ s c d l. (ones c d l).exact;
   }
 
-  -- a factor more, at each meaning of the table
+  -- a factor more, at each meaning of the table, where one of them has fewer factors than the most
   pub factor_more : (old new : TableOf V) (m : Meaning) (f : Factor) → HasJoint encloses has_grade is_exact old m → IsFactorOf m.network f
-      → AllHaveGrade encloses has_grade is_exact old.values 65791 → new.scope ≡ old.scope
+      → (few : Meaning) → HasJoint encloses has_grade is_exact old few → length few.factors < max_factors → new.scope ≡ old.scope
       → EachCell (λ c x r. IsTimesWhole encloses has_grade is_exact x (factor_there m.network f (values_at old.scope c)) r) old.values new.values
       → HasJoint encloses has_grade is_exact new (with_factor f m)
-  factor_more old new m f h fits room scope each = record {
+  factor_more old new m f h fits few other room scope each = record {
     legal = h.legal;
     scope = scope ∙ h.scope;
     one_each = each.0 ∙ h.one_each ∙ ap cells_in (sym scope);
     few_cells = omega (arith, each.0, h.few_cells);
     factors = All-push (IsFactorOf m.network) m.factors f h.factors fits;
     known = h.known;
-    room = λ c d l. (each.1 c d (below c l)).grade 65791 (room c d (below c l));
+    room = λ c d l. grade_more (slice_index_or new.values c d) (length few.factors + 1) max_factors ((each.1 c d (below c l)).grade (length few.factors) (other.grade c d (below c l))) (omega arith);
     value = λ c d l. subst (λ (s : ScopeOf). encloses (slice_index_or new.values c d) (joint_there (with_factor f m) (values_at s c))) (sym scope)
         (subst (encloses (slice_index_or new.values c d)) (sym (joint_more m f (values_at old.scope c))) ((each.1 c d (below c l)).value (joint_there m (values_at old.scope c)) (h.value c d (below c l))));
     grade = λ c d l. subst (has_grade (slice_index_or new.values c d)) (sym (length_push m.factors f)) ((each.1 c d (below c l)).grade (length m.factors) (h.grade c d (below c l)));
@@ -124,7 +121,7 @@ module _ {V : Type 0} (encloses : V → ℕ → Type 0) (has_grade : V → ℕ �
     few_cells = omega (arith, each.0, h.few_cells);
     factors = h.factors;
     known = All-push (IsPairOf m.network) m.known p h.known fits;
-    room = λ c d l. graded c d l 65792 (h.room c d (below c l)) (cases_eq (values_at old.scope c p.variable) p.value);
+    room = λ c d l. graded c d l max_factors (h.room c d (below c l)) (cases_eq (values_at old.scope c p.variable) p.value);
     value = λ c d l. subst (λ (s : ScopeOf). encloses (slice_index_or new.values c d) (joint_there (with_known p m) (values_at s c))) (sym scope)
         (valued c d l (cases_eq (values_at old.scope c p.variable) p.value));
     grade = λ c d l. graded c d l (length m.factors) (h.grade c d (below c l)) (cases_eq (values_at old.scope c p.variable) p.value);
@@ -146,7 +143,7 @@ module _ {V : Type 0} (encloses : V → ℕ → Type 0) (has_grade : V → ℕ �
           (subst (λ y. encloses y (joint_there m (values_at old.scope c))) (sym ((each.1 c d (below c l)).0 e)) (h.value c d (below c l)))
       valued c d l (inr n) = subst (encloses (slice_index_or new.values c d)) (joint_gone m p (values_at old.scope c) n) ((each.1 c d (below c l)).1 n).value
 
-      exactly : (c : ℕ) (d : V) (l : c < length new.values) → whole_sum m < 2 ^ 63
+      exactly : (c : ℕ) (d : V) (l : c < length new.values) → whole_sum m < number_limit
           → ((values_at old.scope c p.variable ≡ p.value) ⊎ (values_at old.scope c p.variable ≡ p.value → ⊥)) → is_exact (slice_index_or new.values c d)
       exactly c d l small (inl e) = subst is_exact (sym ((each.1 c d (below c l)).0 e)) (h.exact small c d (below c l))
       exactly c d l small (inr n) = ((each.1 c d (below c l)).1 n).exact

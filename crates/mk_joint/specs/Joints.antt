@@ -1,5 +1,6 @@
 -- One table over all variables of a network, and the meanings that it stands for.
 use Rattle.std.specs.Prelude.{◌≡◌, ℕ, ◌^◌, ◌<◌, ◌≤◌, List, length, All, if◌then◌else◌, slice_index}
+use Rattle.mk_net.specs.Bounds.{max_clique_cells, number_limit}
 use Rattle.mk_net.specs.Network.{Variable, IsNetwork, sizes}
 use Rattle.mk_exact.specs.States.{product_by}
 use Rattle.mk_exact.specs.Proper.{IsRatioOf}
@@ -9,7 +10,7 @@ use Rattle.mk_sums.specs.There.{holds_there}
 use Rattle.mk_table.specs.Scopes.{ScopeOf, cells_in}
 use Rattle.mk_table.specs.Cells.{values_at}
 use Rattle.mk_table.specs.Tables.{TableOf, AllEnclose, AllHaveGrade, AreExact}
-use Rattle.mk_engine.specs.Meaning.{Meaning, Factor, RowsOf, RatioOf, factor_there, whole_sum, ArePairsOf}
+use Rattle.mk_engine.specs.Meaning.{Meaning, Factor, RowsOf, RatioOf, factor_there, whole_sum, max_factors, ArePairsOf}
 
 -- the scope of all variables
 abbrev pub whole_scope : List Variable → ScopeOf
@@ -23,11 +24,11 @@ joint_states network = cells (slice_index (sizes network)) (variables (sizes net
 abbrev pub joint_there : Meaning → (ℕ → ℕ) → ℕ
 joint_there m a = if holds_there m.known a then product_by (λ (f : Factor). factor_there m.network f a) m.factors else 0
 
--- a plan is the scope of all variables of a network of few states
+-- a plan is the scope of all variables of a network that has no more states than a clique may have cells
 pub record IsPlanFor (plan : ScopeOf) (network : List Variable) : Type 0 where
   pub scope : plan ≡ whole_scope network
   pub legal : IsNetwork network
-  pub few_states : joint_states network ≤ 4096
+  pub few_states : joint_states network ≤ max_clique_cells
 
 -- the rows of one of the network's variables, or a ratio of its pairs
 abbrev pub IsFactorOf : List Variable → Factor → Type 0
@@ -42,10 +43,10 @@ pub record HasJoint {V : Type 0} (encloses : V → ℕ → Type 0) (has_grade : 
   pub legal : IsNetwork m.network
   pub scope : table.scope ≡ whole_scope m.network
   pub one_each : length table.values ≡ cells_in table.scope
-  pub few_cells : length table.values ≤ 4096
+  pub few_cells : length table.values ≤ max_clique_cells
   pub factors : All (IsFactorOf m.network) m.factors
   pub known : ArePairsOf m.network m.known
-  pub room : AllHaveGrade encloses has_grade is_exact table.values 65792
+  pub room : AllHaveGrade encloses has_grade is_exact table.values max_factors
   pub value : AllEnclose encloses has_grade is_exact table.values (λ c. joint_there m (values_at table.scope c))
   pub grade : AllHaveGrade encloses has_grade is_exact table.values (length m.factors)
-  pub exact : whole_sum m < 2 ^ 63 → AreExact encloses has_grade is_exact table.values
+  pub exact : whole_sum m < number_limit → AreExact encloses has_grade is_exact table.values

@@ -1,6 +1,7 @@
 //! The engine.
 
 ghost use Rattle.std.specs.Prelude.{◌≡◌, ℕ, ◌+◌, ◌<◌, ◌≤◌, length, true, IfOk, refl};
+ghost use Rattle.mk_net.specs.Bounds.{max_clique_cells};
 ghost use Rattle.mk_net.specs.Sets.{is_member};
 ghost use Rattle.mk_net.specs.Network.{IsNetwork};
 ghost use Rattle.mk_engine.specs.Meaning.{Meaning};
@@ -14,8 +15,8 @@ use mk_table::{Scope, Table};
 use mk_tree::Tree;
 use std::alloc::Global;
 
-/// An engine with one value for each joint state of a network. It suits networks of at most 4,096 joint states, and can
-/// answer each event.
+/// An engine with one value for each joint state of a network. It suits networks of no more joint states than a
+/// clique may have cells, 4,096, and can answer each event.
 #[derive(Drop)]
 pub struct JointEngine<R: Semiring> {
     table: Table<R>,
@@ -24,7 +25,7 @@ pub struct JointEngine<R: Semiring> {
 impl<R: Semiring> Engine<R> for JointEngine<R> {
     type Plan = Scope;
 
-    ghost suits = { λ network tree. joint_states network ≤ 4096 };
+    ghost suits = { λ network tree. joint_states network ≤ max_clique_cells };
 
     ghost plan_for = { λ plan network tree. IsPlanFor plan network };
 
@@ -33,7 +34,7 @@ impl<R: Semiring> Engine<R> for JointEngine<R> {
     ghost fitting = { λ engine event. true };
 
     fn plan(alloc: Global, net: &Network, _tree: &Tree) -> Result<Scope, NoMemory>
-        requires { joint_states net.now ≤ 4096 }
+        requires { joint_states net.now ≤ max_clique_cells }
         ensures { IfOk result (λ plan. IsPlanFor plan net.now) }
     {
         let all = all_variables(net);
@@ -68,7 +69,7 @@ impl<R: Semiring> Engine<R> for JointEngine<R> {
         ensures kept { self.new ≡ self.old }
         ensures belief { (m : Meaning) → ⟦<JointEngine<R> as Engine<R>>⟧.stands_for self.old m
             → IsBelief R.encloses R.has_grade R.is_exact R.plus_of m event.now result }
-        ensures grade { (m : Meaning) → ⟦<JointEngine<R> as Engine<R>>⟧.stands_for self.old m → R.has_grade result (length m.factors + 4096) }
+        ensures grade { (m : Meaning) → ⟦<JointEngine<R> as Engine<R>>⟧.stands_for self.old m → R.has_grade result (length m.factors + max_clique_cells) }
     {
         self.table.total(event)
     }

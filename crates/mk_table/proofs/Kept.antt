@@ -4,6 +4,7 @@ use Rattle.std.proofs.lemmas.List.{get_or_read, drop_all, get_or_append_left, ge
 use Rattle.std.proofs.lemmas.List.Elements.{All-weaker}
 use Rattle.mk_net.specs.declared.words.Pair.{Pair}
 use Rattle.mk_net.specs.Asked.{TradeRatio, ratio_pairs}
+use Rattle.mk_net.specs.Bounds.{max_clique_cells}
 use Rattle.mk_net.specs.Network.{Variable, sizes}
 use Rattle.mk_sums.specs.Cells.{cells, cell_of}
 use Rattle.mk_sums.proofs.Tables.{cell_below}
@@ -37,7 +38,7 @@ IsSoFar part whole c i n =
 -- what one variable more does to it
 pub record IsStep (kept part whole : ScopeOf) (c i n : ℕ) : Type 0 where
   pub there : has_variable whole (get_or kept.variables i 0) ≡ true
-  pub small : n * get_or kept.sizes i 0 + values_at whole c (get_or kept.variables i 0) < 4096
+  pub small : n * get_or kept.sizes i 0 + values_at whole c (get_or kept.variables i 0) < max_clique_cells
   pub next : IsSoFar part whole c (i + 1) (n * get_or kept.sizes i 0 + values_at whole c (get_or kept.variables i 0))
 
 module _ (part whole : ScopeOf) (is : IsScope part) (lies : LiesIn part whole) (c : ℕ) (h : c < cells_in whole) where
@@ -47,7 +48,7 @@ module _ (part whole : ScopeOf) (is : IsScope part) (lies : LiesIn part whole) (
       subst (λ k. IsSoFar part whole c (i + 1) (n * k + values_at whole c (get_or part.variables i 0))) (size_at part is i p)
       (cell_step (size_in part) (values_at whole c) part.variables i 0 n (cell_in part whole c) p e)
 
-  so_far_small : (i n : ℕ) → IsSoFar part whole c i n → n < 4096
+  so_far_small : (i n : ℕ) → IsSoFar part whole c i n → n < max_clique_cells
   so_far_small i n e =
       let l = cell_so_far (size_in part) (values_at whole c) (drop i part.variables) n (cell_in part whole c) (λ x p. size_pos part is x) e in
       let b = cell_within part whole lies c h in
@@ -67,7 +68,7 @@ step_of kept part whole is e lies c h i n p =
 -- with what the code read
 pub step_read : (kept part whole : ScopeOf) (c i n size x value : ℕ) → length kept.sizes ≡ length kept.variables → i < length kept.variables → IsStep kept part whole c i n
     → size ≡ get_or kept.sizes i size → x ≡ get_or kept.variables i x → value ≡ values_at whole c x
-    → (n * size + value < 4096) × IsSoFar part whole c (i + 1) (n * size + value)
+    → (n * size + value < max_clique_cells) × IsSoFar part whole c (i + 1) (n * size + value)
 step_read kept part whole c i n size x value same l s p q r =
     let m : size ≡ get_or kept.sizes i 0 = get_or_read kept.sizes i size (omega arith) p 0 in
     let y : x ≡ get_or kept.variables i 0 = get_or_read kept.variables i x l q 0 in

@@ -4,6 +4,7 @@ use Rattle.std.proofs.lemmas.List.{length-map}
 use Rattle.std.proofs.lemmas.List.Elements.{All-weaker, All-map}
 use Rattle.mk_net.specs.declared.sets.VarSet.{VarSet}
 use Rattle.mk_net.specs.Sets.{is_member}
+use Rattle.mk_net.specs.Bounds.{max_clique_cells}
 use Rattle.mk_net.specs.Network.{Variable, sizes, IsNetwork}
 use Rattle.mk_sums.specs.Sums.{listed}
 use Rattle.mk_sums.specs.Cells.{keep, cells}
@@ -36,7 +37,7 @@ module _ (network : List Variable) (net : IsNetwork network) (set : VarSet) wher
   pub cells_are : cells_in (scope_of network set) ≡ cells (slice_index (sizes network)) held
   cells_are = cells_same (size_in (scope_of network set)) (slice_index (sizes network)) held same_size
 
-  scope_is : cells_in (scope_of network set) ≤ 4096 → IsScope (scope_of network set)
+  scope_is : cells_in (scope_of network set) ≤ max_clique_cells → IsScope (scope_of network set)
   scope_is few = record {
     rising = held_rising;
     one_size_each = length-map held (slice_index (sizes network));
@@ -44,7 +45,7 @@ module _ (network : List Variable) (net : IsNetwork network) (set : VarSet) wher
     few_cells = few;
   }
 
-  pub kept_of : cells_in (scope_of network set) ≤ 4096 → (count run : ℕ) (starts columns : List ℕ) → count ≡ cells (slice_index (sizes network)) held
+  pub kept_of : cells_in (scope_of network set) ≤ max_clique_cells → (count run : ℕ) (starts columns : List ℕ) → count ≡ cells (slice_index (sizes network)) held
       → IsRun (slice_index (sizes network)) held run → HaveColumns (slice_index (sizes network)) held held starts columns → IsKept (scope_of network set) count run starts columns
   kept_of few count run starts columns e is_run have = record {
     scope_is = scope_is few;

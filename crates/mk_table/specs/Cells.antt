@@ -1,5 +1,5 @@
 -- The cells of a table. A cell's number counts the values of the scope's variables, the last variable's changing fastest.
-use Rattle.std.specs.Prelude.{ℕ, List, Bool, ◌==◌, filter}
+use Rattle.std.specs.Prelude.{ℕ, List, ◌==◌, filter}
 use Rattle.mk_net.specs.declared.words.Pair.{Pair}
 use Rattle.mk_exact.specs.States.{numbers_below}
 use Rattle.mk_sums.specs.Cells.{cell_of, place}

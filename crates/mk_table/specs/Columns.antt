@@ -15,12 +15,16 @@ abbrev pub HaveColumns : (ℕ → ℕ) → List ℕ → List ℕ → List ℕ �
 HaveColumns size variables some starts columns =
     (x c : ℕ) → listed some x ≡ true → c < cells size variables → IsColumn size variables starts columns x c
 
+-- the most cells of a run
+abbrev pub max_run : ℕ
+max_run = 64
+
 -- the cells of the last variables, from some place on
 pub record IsRun (size : ℕ → ℕ) (variables : List ℕ) (run : ℕ) : Type 0 where
   pub from : ℕ
   pub counted : run ≡ cells size (drop from variables)
   pub some : 1 ≤ run
-  pub few : run ≤ 64
+  pub few : run ≤ max_run
 
 -- a scope as it is kept
 pub record IsKept (scope : ScopeOf) (count run : ℕ) (starts columns : List ℕ) : Type 0 where

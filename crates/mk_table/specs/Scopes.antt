@@ -4,6 +4,7 @@ use Rattle.std.specs.List.{position_or_len}
 use Rattle.mk_net.specs.declared.words.Pair.{Pair}
 use Rattle.mk_net.specs.declared.sets.VarSet.{VarSet}
 use Rattle.mk_net.specs.Asked.{TradeRatio}
+use Rattle.mk_net.specs.Bounds.{max_clique_cells}
 use Rattle.mk_net.specs.Sets.{is_member}
 use Rattle.mk_net.specs.Network.{Variable, sizes}
 use Rattle.mk_sums.specs.Sums.{listed}
@@ -27,12 +28,12 @@ size_in scope x = slice_index_or scope.sizes (position_or_len (λ y. y == x) sco
 abbrev pub cells_in : ScopeOf → ℕ
 cells_in scope = cells (size_in scope) scope.variables
 
--- variables in rising order, each with at least one value, and at most 4,096 cells
+-- variables in rising order, each with at least one value, and at most as many cells as a clique may have
 pub record IsScope (scope : ScopeOf) : Type 0 where
   pub rising : Rising scope.variables
   pub one_size_each : length scope.sizes ≡ length scope.variables
   pub positive : All (λ n. 1 ≤ n) scope.sizes
-  pub few_cells : cells_in scope ≤ 4096
+  pub few_cells : cells_in scope ≤ max_clique_cells
 
 -- the scope of a set of a network's variables
 abbrev pub scope_of : List Variable → VarSet → ScopeOf

@@ -1,6 +1,7 @@
 //! The scope of a table.
 
 ghost use Rattle.std.specs.Prelude.{◌≡◌, ℕ, ◌<◌, ◌≤◌, ◌*◌, ◌/◌, ◌%◌, List, [], ◌++◌, All, map, length, slice_index, true, IfOk, OnOk};
+ghost use Rattle.mk_net.specs.Bounds.{max_clique_cells, max_values, max_variables};
 ghost use Rattle.mk_net.specs.Sets.{is_member};
 ghost use Rattle.mk_net.specs.Network.{sizes, IsNetwork};
 ghost use Rattle.mk_sums.specs.Cells.{keep, cells};
@@ -13,6 +14,9 @@ ghost use Rattle.mk_table.specs.Columns.{HaveColumns, IsRun};
 use mk_net::{Network, NoMemory, VarSet};
 use std::alloc::Global;
 use std::marker::Model;
+
+/// The most cells of a run.
+pub(crate) const MAX_RUN: usize = 64;
 
 /// Some variables in rising order, with their numbers of values. A cell of a table over the scope is a value of each;
 /// cells are counted with the last variable's value changing fastest.
@@ -41,7 +45,7 @@ impl Scope {
     /// The scope of a set of a network's variables.
     pub fn of(alloc: Global, net: &Network, set: &VarSet) -> Result<Scope, NoMemory>
         requires of_network { (x : ℕ) → is_member set.now x ≡ true → x < length net.now }
-        requires few_cells { cells_in (scope_of net.now set.now) ≤ 4096 }
+        requires few_cells { cells_in (scope_of net.now set.now) ≤ max_clique_cells }
         ensures { IfOk result (λ scope. scope ≡ scope_of net.now set.now) }
     {
         let count = net.variables();
@@ -92,7 +96,7 @@ impl Scope {
         })
     }
 
-    /// The cells of the last variables: as many as make at most 64.
+    /// The cells of the last variables: as many as make at most `MAX_RUN`.
     pub(crate) fn run(&self) -> usize
         ensures run { IsRun (size_in self.now) self.now.variables result }
         ensures scope { IsScope self.now }
@@ -155,7 +159,7 @@ fn sizes_of(alloc: Global, net: &Network, variables: &[u32]) -> Result<Vec<u32>,
 /// How many cells these variables have.
 fn cells_of(net: &Network, variables: &[u32]) -> usize
     requires of_network { All (λ x. x < length net.now) variables.now }
-    requires few_cells { cells (slice_index (sizes net.now)) variables.now ≤ 4096 }
+    requires few_cells { cells (slice_index (sizes net.now)) variables.now ≤ max_clique_cells }
     ensures { result ≡ cells (slice_index (sizes net.now)) variables.now }
 {
     let _ = net.variables();
@@ -166,7 +170,7 @@ fn cells_of(net: &Network, variables: &[u32]) -> usize
     cells
 }
 
-/// The cells of the last variables: as many as make at most 64.
+/// The cells of the last variables: as many as make at most `MAX_RUN`.
 fn run_of(net: &Network, variables: &[u32], count: usize) -> usize
     requires of_network { All (λ x. x < length net.now) variables.now }
     requires cells { count ≡ cells (slice_index (sizes net.now)) variables.now }
@@ -175,7 +179,7 @@ fn run_of(net: &Network, variables: &[u32], count: usize) -> usize
     let _ = net.variables();
     let mut run = count;
     for variable in variables {
-        if run <= 64 {
+        if run <= MAX_RUN {
             return run;
         }
         run /= net.values(*variable) as usize;
@@ -193,9 +197,9 @@ fn lay_out(
 ) -> Result<(), NoMemory>
     requires of_network { All (λ x. x < length net.now) variables.now }
     requires rising { Rising variables.now }
-    requires few_variables { length variables.now ≤ 256 }
+    requires few_variables { length variables.now ≤ max_variables }
     requires cells { count ≡ cells (slice_index (sizes net.now)) variables.now }
-    requires few_cells { count ≤ 4096 }
+    requires few_cells { count ≤ max_clique_cells }
     requires starts { length starts.old.items ≡ length net.now }
     requires empty { columns.old.items ≡ [] }
     ensures { OnOk result (HaveColumns (slice_index (sizes net.now)) variables.now variables.now starts.new.items columns.new.items) }
@@ -219,7 +223,7 @@ fn write_column(
     stride: usize,
 ) -> Result<(), NoMemory>
     requires stride { 1 ≤ stride }
-    requires few { span ≤ stride * 16 }
+    requires few { span ≤ stride * max_values }
     requires some { 1 ≤ span }
     ensures { OnOk result (columns.new.items ≡ columns.old.items ++ map (λ c. c % span / stride) (numbers_below count)) }
 {

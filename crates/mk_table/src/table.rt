@@ -1,14 +1,15 @@
 //! Tables.
 
-ghost use Rattle.std.specs.Prelude.{◌≡◌, ℕ, ◌+◌, ◌^◌, ◌<◌, ◌≤◌, ◌==◌, List, length, true, All, IfOk, if◌then◌else◌, slice_index, slice_index_or};
+ghost use Rattle.std.specs.Prelude.{◌≡◌, ℕ, ◌+◌, ◌<◌, ◌≤◌, ◌==◌, List, length, true, All, IfOk, if◌then◌else◌, slice_index, slice_index_or};
 ghost use Rattle.mk_net.specs.Network.{sizes};
 ghost use Rattle.mk_net.specs.Named.{variable_at};
 ghost use Rattle.mk_net.specs.Asked.{ratio_pairs};
+ghost use Rattle.mk_net.specs.Bounds.{max_clique_cells};
 ghost use Rattle.mk_net.specs.Trades.{trade_ratio};
 ghost use Rattle.mk_sums.specs.There.{row_there, share_there, holds_there, ratio_there};
 ghost use Rattle.mk_table.specs.Scopes.{LiesIn, HasEvent, HasOneEach, HasSized, IsScope, cells_in, has_variable};
 ghost use Rattle.mk_table.specs.Cells.{values_at, cell_in, cells_onto, cells_where};
-ghost use Rattle.mk_table.specs.Tables.{HaveRoom, HaveRoomTogether, IsOne, IsAbsent, IsTimesWhole, IsTimes, IsPlusOver, EachCell};
+ghost use Rattle.mk_table.specs.Tables.{grade_limit, HaveRoom, HaveRoomTogether, IsOne, IsAbsent, IsTimesWhole, IsTimes, IsPlusOver, EachCell};
 
 use crate::scope::Scope;
 use crate::walk::Walk;
@@ -59,7 +60,7 @@ impl<R: Semiring> Table<R> {
     pub fn cells(&self) -> usize
         ensures cells { result ≡ length self.now.values }
         ensures scope { result ≡ cells_in self.now.scope }
-        ensures few { result ≤ 4096 }
+        ensures few { result ≤ max_clique_cells }
     {
         self.scope.cells()
     }
@@ -182,7 +183,7 @@ impl<R: Semiring> Table<R> {
 #[inline]
 fn times_whole<R: Semiring>(value: &R::Value, n: u64) -> R::Value
     requires positive { 1 ≤ n }
-    requires range { (g : ℕ) × R.has_grade value.now g × (g + 1 < 2 ^ 40) }
+    requires range { (g : ℕ) × R.has_grade value.now g × (g + 1 < grade_limit) }
     ensures { IsTimesWhole R.encloses R.has_grade R.is_exact value.now n result }
 {
     R::times(value, &R::of_whole(n))

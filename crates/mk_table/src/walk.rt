@@ -4,14 +4,14 @@ ghost use Rattle.std.specs.Prelude.{◌≡◌, ℕ, ◌+◌, ◌*◌, ◌<◌};
 ghost use Rattle.mk_table.specs.Scopes.{LiesIn, cells_in};
 ghost use Rattle.mk_table.specs.Cells.{cell_in};
 
-use crate::scope::Scope;
+use crate::scope::{MAX_RUN, Scope};
 
 /// Finds, for each cell of a whole in order, the cell of a part with its values. Cells come in runs over the last
 /// variables: what these add is found once, and then only what each run adds.
 #[derive(Drop)]
 pub struct Walk {
     run: usize,
-    lows: [u32; 64],
+    lows: [u32; MAX_RUN],
     base: usize,
     low: usize,
 }
@@ -26,7 +26,7 @@ impl Walk {
     {
         let _ = (part.cells(), whole.cells());
         let run = whole.run();
-        let mut lows = [0u32; 64];
+        let mut lows = [0u32; MAX_RUN];
         for low in 0..run {
             lows[low] = part.cell_in(whole, low) as u32;
         }

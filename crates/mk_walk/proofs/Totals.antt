@@ -15,7 +15,7 @@ use Rattle.mk_exact.specs.History.{Entry, UserTrade}
 use Rattle.mk_exact.specs.Weight.{weight, total}
 use Rattle.mk_exact.proofs.Sums.{plus_over-map}
 use Rattle.mk_exact.proofs.Totals.{total_is}
-use Rattle.mk_exact.proofs.Positive.{states_are}
+use Rattle.mk_exact.proofs.Listed.{states_are}
 use Rattle.mk_walk.specs.declared.weight.WalkTrade.{WalkTrade}
 use Rattle.mk_walk.specs.Lists.{lists}
 use Rattle.mk_walk.specs.Walked.{user_trade, IsHistoryOf, capped, walked_weight, counted_weight}

@@ -1,59 +1,46 @@
 -- Weights and gains, factor by factor, in numbers that stop at the greatest u128.
-use Rattle.std.proofs.Common.{◌≡◌, ℕ, ◌+◌, ◌-◌, ◌*◌, ◌^◌, ◌<◌, ◌≤◌, min, Bool, true, false, cond, eqb, List, [], ◌∷◌, ◌++◌, All, length, get_or, take, filter, refl, sym, ap, ◌∙◌, subst, arith, mul-le-mul_left, mul_assoc, append-nil, map-id, eq-eqb, ne_eqb, ◌⊎◌, inl, inr}
+use Rattle.std.proofs.Common.{◌≡◌, ℕ, zero, suc, ◌+◌, ◌-◌, ◌*◌, ◌^◌, ◌<◌, ◌≤◌, min, cond, eqb, List, [], ◌∷◌, ◌++◌, length, get_or, take, filter, refl, sym, ap, ◌∙◌, arith, mul-le-mul_left, mul_assoc, append-nil, map-id, eq-eqb, ne_eqb, ◌⊎◌, inl, inr}
 use Rattle.std.proofs.lemmas.Bool.{cases_lt}
 use Rattle.std.proofs.lemmas.List.{take_more}
 use Rattle.std.proofs.lemmas.List.Elements.{filter_more}
 use Rattle.std.proofs.lemmas.List.FromFn.{map-range_with_len_more}
-use Rattle.mk_net.specs.Network.{Variable, sizes, IsNetwork}
-use Rattle.mk_exact.specs.States.{IsState, product_by, numbers_below}
-use Rattle.mk_exact.specs.InitialWeight.{entry, initial_weight, value_at}
-use Rattle.mk_exact.specs.Events.{holds}
-use Rattle.mk_exact.specs.Ratios.{unit, ratio_at}
+use Rattle.mk_net.specs.Network.{Variable}
+use Rattle.mk_exact.specs.States.{product_by, numbers_below}
+use Rattle.mk_exact.specs.InitialWeight.{entry, initial_weight}
+use Rattle.mk_exact.specs.Ratios.{ratio_at}
 use Rattle.mk_exact.proofs.Sums.{product_by_push}
-use Rattle.mk_exact.proofs.Positive.{share_bounds}
 use Rattle.mk_walk.specs.declared.weight.WalkTrade.{WalkTrade}
-use Rattle.mk_walk.specs.Walked.{ratio_of, HasUnits, capped, walked_weight, walked_gain}
+use Rattle.mk_walk.specs.Walked.{ratio_of, capped, walked_weight, walked_gain}
 
-pub capped_times : (a b : ℕ) → 1 ≤ b → min (capped a * b) (2 ^ 128 - 1) ≡ capped (a * b)
-capped_times a b p = at (cases_lt (2 ^ 128 - 1) a)
+pub capped_times : (a b : ℕ) → min (capped a * b) (2 ^ 128 - 1) ≡ capped (a * b)
+capped_times a zero = let none : capped a * 0 ≡ a * 0 = omega arith in ap (λ (n : ℕ). min n (2 ^ 128 - 1)) none
+capped_times a (suc b) = at (cases_lt (2 ^ 128 - 1) a)
   where
-    at : ((2 ^ 128 - 1 < a) ⊎ (a ≤ 2 ^ 128 - 1)) → min (min a (2 ^ 128 - 1) * b) (2 ^ 128 - 1) ≡ min (a * b) (2 ^ 128 - 1)
-    at (inl h) = let more : a * 1 ≤ a * b = mul-le-mul_left a p in let most : min a (2 ^ 128 - 1) ≡ 2 ^ 128 - 1 = omega arith in rw most (omega arith)
+    at : ((2 ^ 128 - 1 < a) ⊎ (a ≤ 2 ^ 128 - 1)) → min (min a (2 ^ 128 - 1) * suc b) (2 ^ 128 - 1) ≡ min (a * suc b) (2 ^ 128 - 1)
+    at (inl h) = let some : 1 ≤ suc b = omega arith in let more : a * 1 ≤ a * suc b = mul-le-mul_left a some in let most : min a (2 ^ 128 - 1) ≡ 2 ^ 128 - 1 = omega arith in rw most (omega arith)
     at (inr h) = let same : min a (2 ^ 128 - 1) ≡ a = omega arith in rw same refl
 
 pub numbers_more : (k : ℕ) → numbers_below (k + 1) ≡ numbers_below k ++ k ∷ []
 numbers_more k = sym (map-id (numbers_below (k + 1))) ∙ map-range_with_len_more (λ (x : ℕ). x) 0 k k (omega arith) ∙ ap (λ (ns : List ℕ). ns ++ k ∷ []) (map-id (numbers_below k))
 
 -- one share more
-pub more_initial : (network : List Variable) (s : List ℕ) → IsNetwork network → IsState (sizes network) s → (k w e w' : ℕ) → k < length network
+pub more_initial : (network : List Variable) (s : List ℕ) → (k w e w' : ℕ)
     → w ≡ capped (product_by (λ j. entry network j s) (numbers_below k)) → e ≡ entry network k s → w' ≡ min (w * e) (2 ^ 128 - 1)
     → w' ≡ capped (product_by (λ j. entry network j s) (numbers_below (k + 1)))
-more_initial network s net is_state k w e w' h p q r =
+more_initial network s k w e w' p q r =
     r ∙ ap (λ (n : ℕ). min (n * e) (2 ^ 128 - 1)) p
     ∙ ap (λ (n : ℕ). min (capped (product_by (λ j. entry network j s) (numbers_below k)) * n) (2 ^ 128 - 1)) q
-    ∙ capped_times (product_by (λ j. entry network j s) (numbers_below k)) (entry network k s) (share_bounds network net s is_state k h).0
+    ∙ capped_times (product_by (λ j. entry network j s) (numbers_below k)) (entry network k s)
     ∙ ap capped (sym (ap (product_by (λ j. entry network j s)) (numbers_more k) ∙ product_by_push (λ j. entry network j s) (numbers_below k) k))
 
--- units on both sides make a ratio of at least one part
-ratio_some : (t : WalkTrade) (s : List ℕ) → HasUnits t → 1 ≤ ratio_at (ratio_of t) s
-ratio_some t s h = either (holds t.condition.items s) (eqb (value_at s t.target.variable) t.target.value) t.hit t.miss h.hit h.miss
-  where
-    either : (b c : Bool) (m n : ℕ) → 1 ≤ m → 1 ≤ n → 1 ≤ cond b (cond c m n) unit
-    either true true m n p q = p
-    either true false m n p q = q
-    either false c m n p q = omega arith
-
-units_at : (ts : List WalkTrade) (i : ℕ) (t : WalkTrade) → All HasUnits ts → i < length ts → t ≡ get_or ts i t → HasUnits t
-units_at ts i t h p e = subst HasUnits (sym e) (h i t p)
-
 -- one trade more
-pub more_weight : (network : List Variable) (s : List ℕ) (ts : List WalkTrade) (i : ℕ) (t : WalkTrade) (w e w' : ℕ) → All HasUnits ts → i < length ts → t ≡ get_or ts i t
+pub more_weight : (network : List Variable) (s : List ℕ) (ts : List WalkTrade) (i : ℕ) (t : WalkTrade) (w e w' : ℕ) → i < length ts → t ≡ get_or ts i t
     → w ≡ capped (walked_weight network (take i ts) s) → e ≡ ratio_at (ratio_of t) s → w' ≡ min (w * e) (2 ^ 128 - 1)
     → w' ≡ capped (walked_weight network (take (i + 1) ts) s)
-more_weight network s ts i t w e w' units h is p q r =
+more_weight network s ts i t w e w' h is p q r =
     r ∙ ap (λ (n : ℕ). min (n * e) (2 ^ 128 - 1)) p
     ∙ ap (λ (n : ℕ). min (capped (walked_weight network (take i ts) s) * n) (2 ^ 128 - 1)) q
-    ∙ capped_times (walked_weight network (take i ts) s) (ratio_at (ratio_of t) s) (ratio_some t s (units_at ts i t units h is))
+    ∙ capped_times (walked_weight network (take i ts) s) (ratio_at (ratio_of t) s)
     ∙ ap capped (mul_assoc (initial_weight network s) (product_by ratio (take i ts)) (ratio t) ∙ ap (λ (n : ℕ). initial_weight network s * n) (sym (ap (product_by ratio) (taken) ∙ product_by_push ratio (take i ts) t)))
   where
     ratio : WalkTrade → ℕ
@@ -67,13 +54,13 @@ gained : (s : List ℕ) (u : ℕ) (ts : List WalkTrade) (i : ℕ) (t : WalkTrade
 gained s u ts i t h is = filter_more (λ (x : WalkTrade). eqb x.user u) ts i t h
     ∙ ap (λ (x : WalkTrade). filter (λ (y : WalkTrade). eqb y.user u) (take i ts) ++ cond (eqb x.user u) (x ∷ []) []) (sym is)
 
-pub more_gain : (s : List ℕ) (u : ℕ) (ts : List WalkTrade) (i : ℕ) (t : WalkTrade) (w e w' : ℕ) → All HasUnits ts → i < length ts → t ≡ get_or ts i t → t.user ≡ u
+pub more_gain : (s : List ℕ) (u : ℕ) (ts : List WalkTrade) (i : ℕ) (t : WalkTrade) (w e w' : ℕ) → i < length ts → t ≡ get_or ts i t → t.user ≡ u
     → w ≡ capped (walked_gain (take i ts) u s) → e ≡ ratio_at (ratio_of t) s → w' ≡ min (w * e) (2 ^ 128 - 1)
     → w' ≡ capped (walked_gain (take (i + 1) ts) u s)
-more_gain s u ts i t w e w' units h is own p q r =
+more_gain s u ts i t w e w' h is own p q r =
     r ∙ ap (λ (n : ℕ). min (n * e) (2 ^ 128 - 1)) p
     ∙ ap (λ (n : ℕ). min (capped (walked_gain (take i ts) u s) * n) (2 ^ 128 - 1)) q
-    ∙ capped_times (walked_gain (take i ts) u s) (ratio_at (ratio_of t) s) (ratio_some t s (units_at ts i t units h is))
+    ∙ capped_times (walked_gain (take i ts) u s) (ratio_at (ratio_of t) s)
     ∙ ap capped (sym (ap (product_by ratio) (gained s u ts i t h is ∙ rw (eq-eqb t.user u own) refl) ∙ product_by_push ratio (filter (λ (x : WalkTrade). eqb x.user u) (take i ts)) t))
   where
     ratio : WalkTrade → ℕ

@@ -1,7 +1,8 @@
 -- What the walk is given, as the exact market sees it, and numbers that stop at the greatest u128.
-use Rattle.std.specs.Prelude.{◌≡◌, ℕ, ◌-◌, ◌^◌, ◌≤◌, ◌*◌, ◌==◌, min, List, map, filter, ◌&&◌, if◌then◌else◌, Option, Some, None}
+use Rattle.std.specs.Prelude.{◌≡◌, ℕ, ◌-◌, ◌^◌, ◌*◌, ◌==◌, min, List, map, filter, ◌&&◌, if◌then◌else◌, Option, Some, None}
 use Rattle.mk_net.specs.declared.words.Pair.{Pair}
 use Rattle.mk_net.specs.Asked.{TradeRatio}
+use Rattle.mk_net.specs.Trades.{trade_ratio}
 use Rattle.mk_net.specs.Network.{Variable}
 use Rattle.mk_exact.specs.States.{product_by}
 use Rattle.mk_exact.specs.InitialWeight.{initial_weight}
@@ -11,15 +12,10 @@ use Rattle.mk_exact.specs.History.{Entry, UserTrade, trades, resolutions}
 use Rattle.mk_walk.specs.declared.weight.WalkTrade.{WalkTrade}
 
 abbrev pub ratio_of : WalkTrade → TradeRatio
-ratio_of t = record { question = record { target = t.target; condition = t.condition.items }; hit = t.hit; miss = t.miss }
+ratio_of t = trade_ratio t.ratio
 
 abbrev pub user_trade : WalkTrade → UserTrade
 user_trade t = record { user = t.user; ratio = ratio_of t }
-
--- a trade has units for both sides
-pub record HasUnits (t : WalkTrade) : Type 0 where
-  pub hit : 1 ≤ t.hit
-  pub miss : 1 ≤ t.miss
 
 -- a history has these trades and these resolutions
 pub record IsHistoryOf (H : List Entry) (ts : List WalkTrade) (known : List Pair) : Type 0 where

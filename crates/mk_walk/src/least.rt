@@ -1,10 +1,10 @@
 //! The least gain of a user.
 
-ghost use Rattle.std.specs.Prelude.{◌≡◌, List, All, IfOk, Option, Some, option_map};
+ghost use Rattle.std.specs.Prelude.{◌≡◌, List, IfOk, Option, Some, option_map};
 ghost use Rattle.mk_exact.specs.Events.{holds};
 ghost use Rattle.mk_exact.specs.History.{Entry};
 ghost use Rattle.mk_exact.specs.Factors.{least_gain, lesser};
-ghost use Rattle.mk_walk.specs.Walked.{HasUnits, IsHistoryOf, capped, counted_gain};
+ghost use Rattle.mk_walk.specs.Walked.{IsHistoryOf, capped, counted_gain};
 
 use crate::states::all_states;
 use crate::weight::{WalkTrade, holds, state_gain};
@@ -21,7 +21,6 @@ pub fn least_gain(
     known: &[Pair],
     event: &[Pair],
 ) -> Result<Option<u128>, NoMemory>
-    requires { All HasUnits trades.now }
     ensures { IfOk result (λ found. (H : List Entry) → IsHistoryOf H trades.now known.now → found ≡ option_map capped (least_gain network.now H user (holds event.now))) }
 {
     let states = all_states(alloc, network)?;
@@ -40,7 +39,6 @@ fn counted_gain(
     event: &[Pair],
     state: &[u32],
 ) -> Option<u128>
-    requires { All HasUnits trades.now }
     ensures { result ≡ option_map capped (counted_gain trades.now user known.now event.now state.now) }
 {
     if holds(known, state) && holds(event, state) {

@@ -1,12 +1,12 @@
 //! The total weight of an event.
 
-ghost use Rattle.std.specs.Prelude.{◌≡◌, List, All, IfOk};
+ghost use Rattle.std.specs.Prelude.{◌≡◌, List, IfOk};
 ghost use Rattle.mk_net.specs.Network.{sizes};
 ghost use Rattle.mk_exact.specs.States.{IsState};
 ghost use Rattle.mk_exact.specs.Events.{holds};
 ghost use Rattle.mk_exact.specs.History.{Entry};
 ghost use Rattle.mk_exact.specs.Weight.{total};
-ghost use Rattle.mk_walk.specs.Walked.{HasUnits, IsHistoryOf, capped, counted_weight};
+ghost use Rattle.mk_walk.specs.Walked.{IsHistoryOf, capped, counted_weight};
 
 use crate::states::all_states;
 use crate::weight::{WalkTrade, holds, state_weight};
@@ -21,7 +21,6 @@ pub fn total(
     known: &[Pair],
     event: &[Pair],
 ) -> Result<u128, NoMemory>
-    requires { All HasUnits trades.now }
     ensures { IfOk result (λ found. (H : List Entry) → IsHistoryOf H trades.now known.now → found ≡ capped (total network.now H (holds event.now))) }
 {
     let states = all_states(alloc, network)?;
@@ -40,8 +39,7 @@ fn counted(
     event: &[Pair],
     state: &[u32],
 ) -> u128
-    requires state { IsState (sizes network.now) state.now }
-    requires units { All HasUnits trades.now }
+    requires { IsState (sizes network.now) state.now }
     ensures { result ≡ capped (counted_weight network.now trades.now known.now event.now state.now) }
 {
     if holds(known, state) && holds(event, state) {

@@ -1,7 +1,7 @@
 //! One coin after a trade that takes heads to 600,000 parts in a million: each call once, by numbers worked out by hand.
 
 use crate::{WalkTrade, all_states, least_gain, state_gain, total};
-use mk_net::{Draft, Network, Pair, VariableDraft};
+use mk_net::{Draft, Event, Network, Pair, Question, Ratio, VariableDraft};
 use std::alloc::Global;
 use std::test::Fail;
 
@@ -40,13 +40,11 @@ fn coin(alloc: Global) -> Result<Network, Fail> {
 fn one_trade(rt: HostRuntime) -> Result<(), Fail> {
     let alloc = rt.alloc();
     let network = coin(alloc)?;
+    let heads = Question::make(HEADS, Event::empty()).expect(&rt, "a question");
     let trades = vec![in alloc;
         WalkTrade {
             user: 0,
-            target: HEADS,
-            condition: Vec::new(alloc),
-            hit: 1_319_413_953_331,
-            miss: 879_609_302_220,
+            ratio: Ratio::of_question(&heads, 2, 1_319_413_953_331, 879_609_302_220),
         },
     ]?;
     assert!(rt; all_states(alloc, &network).ok().expect(&rt, "memory").len() == 2);
@@ -56,10 +54,10 @@ fn one_trade(rt: HostRuntime) -> Result<(), Fail> {
         .ok()
         .expect(&rt, "memory");
     assert!(rt; sum == 1_099_511_627_775_500_000);
-    let heads = total(alloc, &network, &trades, &[], &[HEADS])
+    let on_heads = total(alloc, &network, &trades, &[], &[HEADS])
         .ok()
         .expect(&rt, "memory");
-    assert!(rt; heads == 659_706_976_665_500_000);
+    assert!(rt; on_heads == 659_706_976_665_500_000);
     let least = least_gain(alloc, &network, &trades, 0, &[], &[])
         .ok()
         .expect(&rt, "memory");

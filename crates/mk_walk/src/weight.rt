@@ -1,27 +1,25 @@
 //! The weight of one state.
 
-ghost use Rattle.std.specs.Prelude.{◌≡◌, ℕ, ◌<◌, ◌≤◌, List, All, length, slice_index};
+ghost use Rattle.std.specs.Prelude.{◌≡◌, ℕ, ◌<◌, ◌≤◌, List, length, slice_index};
 ghost use Rattle.mk_net.specs.Network.{sizes};
 ghost use Rattle.mk_net.specs.Named.{variable_at};
+ghost use Rattle.mk_net.specs.Trades.{trade_ratio};
 ghost use Rattle.mk_exact.specs.States.{IsState, product_by, numbers_below};
 ghost use Rattle.mk_exact.specs.InitialWeight.{value_at, row_number, entry, initial_weight};
 ghost use Rattle.mk_exact.specs.Events.{holds};
-ghost use Rattle.mk_exact.specs.Ratios.{ratio_at};
+ghost use Rattle.mk_exact.specs.Ratios.{units_of, ratio_at};
 ghost use Rattle.mk_exact.specs.History.{Entry};
 ghost use Rattle.mk_exact.specs.Weight.{weight};
 ghost use Rattle.mk_exact.specs.Factors.{gain};
-ghost use Rattle.mk_walk.specs.Walked.{ratio_of, HasUnits, capped, walked_weight, walked_gain};
+ghost use Rattle.mk_walk.specs.Walked.{ratio_of, capped, walked_weight, walked_gain};
 
-use mk_net::{Network, Pair};
+use mk_net::{Network, Pair, Ratio};
 
 /// A trade, as the walk reads it.
 #[derive(Drop)]
 pub struct WalkTrade {
     pub user: u32,
-    pub target: Pair,
-    pub condition: Vec<Pair>,
-    pub hit: u64,
-    pub miss: u64,
+    pub ratio: Ratio,
 }
 
 fn value_of(state: &[u32], variable: u32) -> u32
@@ -45,13 +43,17 @@ pub fn holds(pairs: &[Pair], state: &[u32]) -> bool
 fn ratio(trade: &WalkTrade, state: &[u32]) -> u64
     ensures { result ≡ ratio_at (ratio_of trade.now) state.now }
 {
-    if !holds(&trade.condition, state) {
-        1 << 40
-    } else if value_of(state, trade.target.variable) == trade.target.value {
-        trade.hit
+    if holds(trade.ratio.condition.pairs(), state) {
+        units(&trade.ratio, value_of(state, trade.ratio.variable))
     } else {
-        trade.miss
+        1 << 40
     }
+}
+
+fn units(ratio: &Ratio, value: u32) -> u64
+    ensures { result ≡ units_of (trade_ratio ratio.now) value }
+{
+    ratio.factors.get(value as usize).copied().unwrap_or(0)
 }
 
 fn row_of(network: &Network, variable: u32, state: &[u32]) -> u32
@@ -91,8 +93,7 @@ fn initial(network: &Network, state: &[u32]) -> u128
 
 /// The weight of a state after these trades, or the greatest u128 where it is more.
 pub fn state_weight(network: &Network, trades: &[WalkTrade], state: &[u32]) -> u128
-    requires state { IsState (sizes network.now) state.now }
-    requires units { All HasUnits trades.now }
+    requires { IsState (sizes network.now) state.now }
     ensures { result ≡ capped (walked_weight network.now trades.now state.now) }
 {
     let mut weight = initial(network, state);
@@ -104,7 +105,6 @@ pub fn state_weight(network: &Network, trades: &[WalkTrade], state: &[u32]) -> u
 
 /// The gain of a user in a state, or the greatest u128 where it is more.
 pub fn state_gain(trades: &[WalkTrade], user: u32, state: &[u32]) -> u128
-    requires { All HasUnits trades.now }
     ensures { result ≡ capped (walked_gain trades.now user state.now) }
 {
     let mut gain: u128 = 1;

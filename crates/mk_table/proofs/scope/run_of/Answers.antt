@@ -23,7 +23,7 @@ returns c =
     let one = c.loop-variable.invariant ∙ ap (cells size) (drop_all c.loop-variable.variable-index xs c.loop-variable-test.false) in
     record { from = c.loop-variable.variable-index; counted = c.loop-variable.invariant; some = omega arith; few = omega arith }
 
-pub returns-then-run-le64 : goal.returns-then-run-le64
-returns-then-run-le64 c =
+pub returns-then-run-le-MAX_RUN : goal.returns-then-run-le-MAX_RUN
+returns-then-run-le-MAX_RUN c =
     let net = c.args.net.now in let xs = c.args.variables.now in
-    run_at (slice_index (sizes net)) xs (bounds_of net c.variables.ensures.network xs c.requires.of_network) c.loop-variable.variable-index c.loop-variable.run c.loop-variable.invariant c.if-run-le64.true
+    run_at (slice_index (sizes net)) xs (bounds_of net c.variables.ensures.network xs c.requires.of_network) c.loop-variable.variable-index c.loop-variable.run c.loop-variable.invariant c.if-run-le-MAX_RUN.true

@@ -1,6 +1,6 @@
 use Rattle.mk_net.specs.Trades.{trade_ratio}
 use Rattle.mk_engine.specs.Meaning.{RatioOf}
-use Rattle.mk_joint.proofs.Tables.{same_sizes, ratio_same, has_event, has_one_each, pairs_of_ratio, room_below, factor_more}
+use Rattle.mk_joint.proofs.Tables.{same_sizes, ratio_same, has_event, has_one_each, pairs_of_ratio, factor_more}
 use Rattle.mk_joint.proofs.joint.JointEngineEngine.multiply.Goals as goal
 
 pub times_ratio-requires-clause-event : goal.times_ratio-requires-clause-event
@@ -18,4 +18,4 @@ returns g c = λ m h.
     let R = g.R.Semiring in let a = c.requires.range in let old = c.args.self.now.table in let ratio = trade_ratio c.args.ratio.now in
     let same = same_sizes a.meaning.network m.network old.scope a.stands.scope h.scope in
     factor_more R.encloses R.has_grade R.is_exact g.met.R.Semiring.grade_more old c.times_ratio.new.self m (RatioOf ratio) h (ratio_same a.meaning.network m.network same ratio a.in_range)
-    (room_below R.encloses R.has_grade R.is_exact g.met.R.Semiring.grade_more old a.meaning a.stands a.room) c.times_ratio.ensures.scope c.times_ratio.ensures.cells
+    a.meaning a.stands a.room c.times_ratio.ensures.scope c.times_ratio.ensures.cells

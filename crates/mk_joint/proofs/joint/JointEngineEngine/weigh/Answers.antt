@@ -5,7 +5,7 @@ use Rattle.mk_table.specs.Cells.{values_at}
 use Rattle.mk_table.specs.Tables.{IsTimesWhole, EachCell}
 use Rattle.mk_engine.specs.Meaning.{RowsOf}
 use Rattle.mk_joint.specs.Joints.{whole_scope}
-use Rattle.mk_joint.proofs.Tables.{sized_in, sized_parents_in, room_below, factor_more}
+use Rattle.mk_joint.proofs.Tables.{sized_in, sized_parents_in, factor_more}
 use Rattle.mk_joint.proofs.joint.JointEngineEngine.weigh.Goals as goal
 
 pub times_rows-requires-clause-family : goal.times_rows-requires-clause-family
@@ -24,4 +24,4 @@ returns g c = λ m h e.
     let within : c.args.variable < length m.network = subst (λ (n : List Variable). c.args.variable < length n) (sym e) c.requires.in_range in
     let each = subst (λ (n : List Variable). EachCell (λ k x r. IsTimesWhole R.encloses R.has_grade R.is_exact x (share_there n c.args.variable (values_at old.scope k)) r) old.values new.values) (sym e) c.times_rows.ensures.cells in
     factor_more R.encloses R.has_grade R.is_exact g.met.R.Semiring.grade_more old new m (RowsOf c.args.variable) h within
-    (room_below R.encloses R.has_grade R.is_exact g.met.R.Semiring.grade_more old c.requires.meaning c.requires.stands c.requires.room) c.times_rows.ensures.scope each
+    c.requires.meaning c.requires.stands c.requires.room c.times_rows.ensures.scope each
