@@ -1,5 +1,6 @@
 -- The laws of the market's rules. Each is the contract of a function of this crate, and so proved.
 use Rattle.std.specs.Prelude.{◌≡◌, ℕ, ◌≤◌, List, [], ◌∷◌, ◌++◌, length, map, All, Option, Some, None, ⊤, ◌↔◌}
+use Rattle.std.specs.List.{AllByRecursion}
 use Rattle.mk_net.specs.Network.{Variable}
 use Rattle.mk_net.specs.declared.words.QuestionText.{QuestionText}
 use Rattle.mk_net.specs.Asked.{Asked}
@@ -11,6 +12,7 @@ use Rattle.mk_exact.specs.Limits.{Inside}
 use Rattle.mk_exact.specs.Laws.{GainsAreBounded, LossIsBounded}
 use Rattle.mk_command.specs.declared.command.Command.{Command}
 use Rattle.mk_command.specs.declared.command.Command.TheVariants.{Edit}
+use Rattle.mk_reply.specs.Replies.{IsReply}
 use Rattle.mk_reply.specs.declared.refusal.Refusal.{Refusal}
 use Rattle.mk_reply.specs.declared.reply.Payment.{Payment}
 use Rattle.mk_reply.specs.declared.reply.Reply.{Reply}
@@ -20,6 +22,7 @@ use Rattle.mk_rules.specs.Quotes.{Interval, Quotes, no_quotes, last_quote, curre
 use Rattle.mk_rules.specs.Answers.{IsAllowed, IsTrade, IsBeyondRight}
 use Rattle.mk_rules.specs.Transcript.{Standing, opening, Line, OfCommand, IsAllowedFor, after, Run}
 use Rattle.mk_rules.specs.Standings.{IsMarket, Stands, IsReady}
+use Rattle.mk_rules.specs.Bounded.{IsLine, IsBounded}
 
 -- an allowed reply to any line leads from a history that stands to one that does
 abbrev pub AllowedKeeps : Type 0
@@ -76,6 +79,21 @@ RunsExist = (market : Market) (lines : List Line) (old : Standing) → IsMarket 
 -- some state stays possible
 abbrev pub StateStaysPossible : Type 0
 StateStaysPossible = (market : Market) (H : List Entry) → IsMarket market → Stands market H → 1 ≤ length (possible_states (network_of market H) H always)
+
+-- an allowed reply to a line that is a text leads from a bounded history to a bounded one
+abbrev pub BoundedKeeps : Type 0
+BoundedKeeps = (market : Market) (now : Standing) (line : Line) (reply : Reply) → IsMarket market → IsLine line
+    → IsBounded market now.history → IsAllowedFor market now line reply → IsBounded market (after market now line reply).history
+
+-- the history after each run from the opening is bounded
+abbrev pub RunStaysBounded : Type 0
+RunStaysBounded = (market : Market) (new : Standing) (lines : List Line) (replies : List Reply) → IsMarket market → AllByRecursion IsLine lines
+    → Run market opening lines replies new → IsBounded market new.history
+
+-- there, an allowed reply to a line that is a text has a text
+abbrev pub RepliesHaveTexts : Type 0
+RepliesHaveTexts = (market : Market) (now : Standing) (line : Line) (reply : Reply) → IsMarket market → IsReady market now
+    → IsBounded market now.history → IsLine line → IsAllowedFor market now line reply → IsReply reply
 
 -- a run goes on where another ended
 abbrev pub RunsJoin : Type 0
