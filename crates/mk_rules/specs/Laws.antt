@@ -1,7 +1,6 @@
 -- The laws of the market's rules. Each is the contract of a function of this crate, and so proved.
 use Rattle.std.specs.Prelude.{◌≡◌, ℕ, ◌≤◌, List, [], ◌∷◌, ◌++◌, length, map, All, Option, Some, None, ⊤, ◌↔◌}
 use Rattle.std.specs.List.{AllByRecursion}
-use Rattle.mk_net.specs.Network.{Variable}
 use Rattle.mk_net.specs.declared.words.QuestionText.{QuestionText}
 use Rattle.mk_net.specs.Asked.{Asked}
 use Rattle.mk_exact.specs.Events.{always}
@@ -16,10 +15,9 @@ use Rattle.mk_reply.specs.Replies.{IsReply}
 use Rattle.mk_reply.specs.declared.refusal.Refusal.{Refusal}
 use Rattle.mk_reply.specs.declared.reply.Payment.{Payment}
 use Rattle.mk_reply.specs.declared.reply.Reply.{Reply}
-use Rattle.mk_reply.specs.declared.reply.Reply.TheVariants.{Traded, Settled}
+use Rattle.mk_reply.specs.declared.reply.Reply.TheVariants.{Traded, Settled, Refused}
 use Rattle.mk_rules.specs.Refusals.{question_named, user_number, first_refusal}
-use Rattle.mk_rules.specs.Quotes.{Interval, Quotes, no_quotes, last_quote, current_limits}
-use Rattle.mk_rules.specs.Answers.{IsAllowed, IsTrade, IsBeyondRight}
+use Rattle.mk_rules.specs.Quotes.{Interval, no_quotes, last_quote, current_limits}
 use Rattle.mk_rules.specs.Transcript.{Standing, opening, Line, OfCommand, IsAllowedFor, after, Run}
 use Rattle.mk_rules.specs.Standings.{IsMarket, Stands, IsReady}
 use Rattle.mk_rules.specs.Bounded.{IsLine, IsBounded}
@@ -137,10 +135,12 @@ JudgedExactly = (market : Market) (now : Standing) (u : List ℕ) (q : QuestionT
 
 -- a refusal of the table is the one allowed reply
 abbrev pub OneRefusal : Type 0
-OneRefusal = (market : Market) (H : List Entry) (quotes : Quotes) (command : Command) (why : Refusal) (first second : Reply)
-    → first_refusal market H command ≡ Some why → IsAllowed market H quotes command first → IsAllowed market H quotes command second → first ≡ second
+OneRefusal = (market : Market) (now : Standing) (command : Command) (why : Refusal) (reply : Reply) → first_refusal market now.history command ≡ Some why
+    → IsAllowedFor market now (OfCommand command) reply ↔ (reply ≡ Refused why)
 
--- in the small case an edit that is judged afresh has one allowed kind of reply: a trade or a refusal
+-- in the small case the allowed replies to an edit that no refusal of the table meets are all trades or none is
 abbrev pub OneKind : Type 0
-OneKind = (network : List Variable) (H : List Entry) (u : ℕ) (asked : Asked) (X : ℕ) (first second : Reply)
-    → IsSmall network H → 1 ≤ X → X ≤ 999999 → IsTrade network H u asked X first → IsBeyondRight network H u asked X second → ⊥
+OneKind = (market : Market) (now : Standing) (u : List ℕ) (q : QuestionText) (X : ℕ) (seen : Option ℕ) (first second : Reply)
+    → IsSmall (network_of market now.history) now.history → first_refusal market now.history (Edit u q X seen) ≡ None
+    → IsAllowedFor market now (OfCommand (Edit u q X seen)) first → IsAllowedFor market now (OfCommand (Edit u q X seen)) second
+    → IsTraded first ↔ IsTraded second

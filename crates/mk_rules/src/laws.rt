@@ -87,12 +87,12 @@ pub fn judged_exactly()
     ensures { JudgedExactly }
 {}
 
-/// Where a refusal of the table applies, one reply is allowed.
+/// Where a refusal of the table applies, it is the one reply that is allowed.
 pub fn one_refusal()
     ensures { OneRefusal }
 {}
 
-/// In the small case an edit that is judged afresh has one allowed kind of reply.
+/// In the small case an edit has one allowed kind of reply: trades, or refusals.
 pub fn one_kind()
     ensures { OneKind }
 {}

@@ -7,8 +7,9 @@ mod examples;
 mod laws;
 
 pub use examples::{
-    example_answers, example_judged_afresh, example_order, example_quotes, example_refusals,
-    example_resolution, example_run, example_settlement, example_withdrawal, example_worst,
+    example_answers, example_judged_afresh, example_markets, example_order, example_quotes,
+    example_refusals, example_resolution, example_run, example_settlement, example_withdrawal,
+    example_worst,
 };
 pub use laws::{
     allowed_keeps, always_answered, bounded_keeps, judged_exactly, one_kind, one_refusal,
