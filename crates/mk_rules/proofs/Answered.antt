@@ -39,7 +39,7 @@ use Rattle.mk_rules.proofs.Quoted.{current_right}
 use Rattle.mk_rules.proofs.Ready.{ready_keeps}
 
 -- a question that meets no refusal can be asked
-can_be_asked : (network : List Variable) (H : List Entry) (q : QuestionText) (asked : Asked) → question_named network q ≡ Some asked → unknown network (pairs_of q) ≡ None
+pub can_be_asked : (network : List Variable) (H : List Entry) (q : QuestionText) (asked : Asked) → question_named network q ≡ Some asked → unknown network (pairs_of q) ≡ None
     → twice (names_in (pairs_of q)) ≡ None → resolved network H q.target.variable ≡ None → impossible network H q.condition.items ≡ None → CanBeAsked network H asked
 can_be_asked network H q asked named known once unsettled possible =
     let parts = target_named network q asked named in

@@ -1,9 +1,10 @@
 -- What an allowed reply keeps.
-use Rattle.std.proofs.Common.{◌≡◌, ℕ, ◌+◌, ◌<◌, ◌≤◌, ◌⊎◌, inl, inr, false, List, [], ◌∷◌, ◌++◌, Option, Some, None, IfSome, MatchOption, length, refl, sym, subst, arith, append-nil}
+use Rattle.std.proofs.Common.{◌≡◌, ℕ, ◌+◌, ◌-◌, ◌<◌, ◌≤◌, ◌⊎◌, inl, inr, false, List, [], ◌∷◌, ◌++◌, Option, Some, None, IfSome, MatchOption, length, refl, sym, subst, arith, append-nil}
 use Rattle.std.specs.Prelude.{option_to_list}
 use Rattle.std.specs.List.{AllByRecursion}
 use Rattle.mk_net.specs.declared.words.PairText.{PairText}
 use Rattle.mk_net.specs.declared.words.QuestionText.{QuestionText}
+use Rattle.mk_net.specs.Bounds.{million}
 use Rattle.mk_net.specs.Asked.{Asked}
 use Rattle.mk_exact.specs.Events.{always}
 use Rattle.mk_exact.specs.History.{Entry, UserTrade, Join, Deposit as Deposits, Withdraw as Withdraws, Trade, Resolve as Resolves, Settle as Settles, trade_in, users, trades, revision}
@@ -24,11 +25,12 @@ use Rattle.mk_reply.specs.declared.refusal.Refusal.TheVariants.{Memory}
 use Rattle.mk_reply.specs.declared.reply.Reply.{Reply}
 use Rattle.mk_reply.specs.declared.reply.Reply.TheVariants.{Joined, Resolved, Refused}
 use Rattle.mk_rules.specs.Refusals.{question_named, variables_in, is_wide, user_number, refusals, first_refusal}
-use Rattle.mk_rules.specs.Quotes.{Interval, Quotes, last_quote, current_limits}
-use Rattle.mk_rules.specs.Answers.{IsTrade, IsJudged, IsJudgedAfresh, IsWithdrawal, IsAnswer, IsAllowed, entry_of}
+use Rattle.mk_rules.specs.Quotes.{Quotes, last_quote, current_limits}
+use Rattle.mk_rules.specs.Answers.{IsTrade, IsWithdrawal, IsAnswer, IsAllowed, entry_of}
 use Rattle.mk_rules.specs.Transcript.{Standing, Line, OfCommand, NoCommand, LongLine, IsAllowedFor, after, Run}
 use Rattle.mk_rules.specs.Standings.{IsInClique, Stands}
 use Rattle.mk_rules.proofs.Options.{value_of}
+use Rattle.mk_rules.proofs.Appended.{Appends, refused_appends, reply_appends, judged_appends}
 use Rattle.mk_rules.proofs.Unrefused.{none_applies, user_in_range, number_in_range, pair_known, question_known, not_resolved, not_wide}
 use Rattle.mk_rules.proofs.Traded.{ratio_fits}
 
@@ -56,57 +58,28 @@ entry_keeps market H (Some e) stands h = record {
 }
 
 -- what a reply appends may be appended
-AppendsFit : Market → List Entry → Command → Reply → Type 0
-AppendsFit market H command reply = IfSome (entry_of market H command reply) (Fits market H)
-
-refused_fits : (market : Market) (H : List Entry) (command : Command) (why : Refusal) → AppendsFit market H command (Refused why)
-unfolding AppendsFit
-refused_fits market H (User u) why = tt
-refused_fits market H (Deposit u bits) why = tt
-refused_fits market H (Withdraw u bits) why = tt
-refused_fits market H (Price q) why = tt
-refused_fits market H (Limits u q) why = tt
-refused_fits market H (Edit u q X seen) why = tt
-refused_fits market H (Worst u) why = tt
-refused_fits market H (Resolve p) why = tt
-refused_fits market H Settle why = tt
-
--- a reply that is known
-reply_fits : (market : Market) (H : List Entry) (command : Command) (reply known : Reply) → reply ≡ known → AppendsFit market H command known → AppendsFit market H command reply
-reply_fits market H command reply known e h = subst (AppendsFit market H command) (sym e) h
+abbrev AppendsFit : Market → List Entry → Command → Reply → Type 0
+AppendsFit market H command reply = Appends (Fits market H) market H command reply
 
 user_fits : (market : Market) (H : List Entry) (u : List ℕ) (reply : Reply) → (reply ≡ Joined u (revision H + 1)) ⊎ (reply ≡ Refused Memory) → AppendsFit market H (User u) reply
-unfolding AppendsFit
-user_fits market H u reply (inl e) = reply_fits market H (User u) reply _ e (record { acceptable = tt; in_range = tt; narrow = tt })
-user_fits market H u reply (inr e) = reply_fits market H (User u) reply _ e tt
+user_fits market H u reply (inl e) = reply_appends (Fits market H) market H (User u) reply _ e (record { acceptable = tt; in_range = tt; narrow = tt })
+user_fits market H u reply (inr e) = reply_appends (Fits market H) market H (User u) reply _ e tt
 
 withdrawal_fits : (market : Market) (H : List Entry) (u : List ℕ) (bits g : ℕ) (reply : Reply) → least_gain (network_of market H) H (user_number H u) always ≡ Some g
     → IsWithdrawal (IsSmall (network_of market H) H) (factor_with H (user_number H u) g) u bits (revision H + 1) reply → AppendsFit market H (Withdraw u bits) reply
-unfolding AppendsFit
-withdrawal_fits market H u bits g reply e (inl taken) = reply_fits market H (Withdraw u bits) reply _ taken.1
+withdrawal_fits market H u bits g reply e (inl taken) = reply_appends (Fits market H) market H (Withdraw u bits) reply _ taken.1
     (record { acceptable = subst (λ (o : Option ℕ). IfSome o (λ g. Covers (factor_with H (user_number H u) g) bits)) (sym e) taken.0; in_range = tt; narrow = tt })
-withdrawal_fits market H u bits g reply e (inr short) = reply_fits market H (Withdraw u bits) reply _ short.printed tt
+withdrawal_fits market H u bits g reply e (inr short) = reply_appends (Fits market H) market H (Withdraw u bits) reply _ short.printed tt
 
 trade_fits : (market : Market) (H : List Entry) (u : List ℕ) (q : QuestionText) (X : ℕ) (seen : Option ℕ) (asked : Asked) (reply : Reply)
     → question_named (network_of market H) q ≡ Some asked → user_number H u < length (users H) → IsQuestionOf (network_of market H) asked
     → is_wide (cliques_of market H) (asked.target.variable ∷ variables_in asked.condition) ≡ false → X ≤ 999999
     → IsTrade (network_of market H) H (user_number H u) asked X reply → AppendsFit market H (Edit u q X seen) reply
-unfolding AppendsFit
-trade_fits market H u q X seen asked reply named user fits narrow most trade = reply_fits market H (Edit u q X seen) reply _ trade.printed (rw named (record {
+trade_fits market H u q X seen asked reply named user fits narrow most trade = reply_appends (Fits market H) market H (Edit u q X seen) reply _ trade.printed (rw named (record {
   acceptable = fair_pair_is_safe (network_of market H) H (user_number H u) asked X trade.hit trade.miss (omega arith) fits.target trade.fair;
   in_range = record { user = user; ratio = ratio_fits (network_of market H) asked trade.hit trade.miss fits trade.fair.hit_units.fair.positive trade.fair.miss_units.fair.positive };
   narrow = narrow;
 }))
-
-judged_fits : (market : Market) (H : List Entry) (u : List ℕ) (q : QuestionText) (X : ℕ) (seen : Option ℕ) (asked : Asked) (reply : Reply) (o : Option Interval)
-    → (IsTrade (network_of market H) H (user_number H u) asked X reply → AppendsFit market H (Edit u q X seen) reply)
-    → MatchOption o (IsJudgedAfresh (network_of market H) H (user_number H u) asked X reply) (λ limits. IsJudged (network_of market H) H (user_number H u) asked X limits reply)
-    → AppendsFit market H (Edit u q X seen) reply
-unfolding AppendsFit
-judged_fits market H u q X seen asked reply None fits (inl trade) = fits trade
-judged_fits market H u q X seen asked reply None fits (inr beyond) = reply_fits market H (Edit u q X seen) reply _ beyond.beyond.printed tt
-judged_fits market H u q X seen asked reply (Some limits) fits (inl trade) = fits trade.1
-judged_fits market H u q X seen asked reply (Some limits) fits (inr beyond) = reply_fits market H (Edit u q X seen) reply _ beyond.printed tt
 
 -- a command that meets no refusal of the table
 IsUnrefused : Market → List Entry → Command → Type 0
@@ -119,17 +92,17 @@ edit_fits market H quotes u q X seen reply none h =
     let network = network_of market H in
     let refused = none_applies (refusals market H (Edit u q X seen)) none in
     let judged = value_of _ (question_named network q) h in
-    judged_fits market H u q X seen judged.0 reply (current_limits (last_quote quotes (user_number H u)) judged.0 (revision H))
+    judged_appends (Fits market H) market H u q X seen judged.0 reply (current_limits (last_quote quotes (user_number H u)) judged.0 (revision H))
     (trade_fits market H u q X seen judged.0 reply judged.1 (user_in_range H u refused.1.0) (question_known network q judged.0 refused.1.1.0 judged.1)
-    (not_wide market H q judged.0 judged.1 refused.1.1.1.1.1.1.1.0) (number_in_range 999999 X refused.1.1.1.1.1.1.1.1.0).1) judged.2
+    (not_wide market H q judged.0 judged.1 refused.1.1.1.1.1.1.1.0) (number_in_range (million - 1) X refused.1.1.1.1.1.1.1.1.0).1) judged.2
 
 resolve_fits : (market : Market) (H : List Entry) (p : PairText) (reply : Reply)
     → IsUnrefused market H (Resolve p) → reply ≡ Resolved p (revision H + 1) → AppendsFit market H (Resolve p) reply
-unfolding IsUnrefused AppendsFit
+unfolding IsUnrefused
 resolve_fits market H p reply none e =
     let refused = none_applies (refusals market H (Resolve p)) none in
     let named = pair_known (network_of market H) p refused.1.0 in
-    reply_fits market H (Resolve p) reply _ e (rw (named.1) (record {
+    reply_appends (Fits market H) market H (Resolve p) reply _ e (rw (named.1) (record {
       acceptable = tt;
       in_range = (named.2, not_resolved (network_of market H) H p named.0 named.1 refused.1.1.0);
       narrow = tt;
@@ -137,20 +110,19 @@ resolve_fits market H p reply none e =
 
 answer_fits : (market : Market) (H : List Entry) (quotes : Quotes) (command : Command) (reply : Reply)
     → IsUnrefused market H command → IsAnswer market H quotes command reply → AppendsFit market H command reply
-unfolding AppendsFit
 answer_fits market H quotes (User u) reply none h = user_fits market H u reply h
-answer_fits market H quotes (Deposit u bits) reply none h = reply_fits market H (Deposit u bits) reply _ h (record { acceptable = tt; in_range = tt; narrow = tt })
+answer_fits market H quotes (Deposit u bits) reply none h = reply_appends (Fits market H) market H (Deposit u bits) reply _ h (record { acceptable = tt; in_range = tt; narrow = tt })
 answer_fits market H quotes (Withdraw u bits) reply none h = let least = value_of _ (least_gain (network_of market H) H (user_number H u) always) h in
     withdrawal_fits market H u bits least.0 reply least.1 least.2
 answer_fits market H quotes (Price q) reply none h = let price = value_of _ (question_named (network_of market H) q) h in
-    reply_fits market H (Price q) reply _ price.2.printed tt
+    reply_appends (Fits market H) market H (Price q) reply _ price.2.printed tt
 answer_fits market H quotes (Limits u q) reply none h = let limits = value_of _ (question_named (network_of market H) q) h in
-    reply_fits market H (Limits u q) reply _ limits.2.printed tt
+    reply_appends (Fits market H) market H (Limits u q) reply _ limits.2.printed tt
 answer_fits market H quotes (Edit u q X seen) reply none h = edit_fits market H quotes u q X seen reply none h
 answer_fits market H quotes (Worst u) reply none h = let worst = value_of _ (least_gain (network_of market H) H (user_number H u) always) h in
-    reply_fits market H (Worst u) reply _ worst.2.printed tt
+    reply_appends (Fits market H) market H (Worst u) reply _ worst.2.printed tt
 answer_fits market H quotes (Resolve p) reply none h = resolve_fits market H p reply none h
-answer_fits market H quotes Settle reply none h = reply_fits market H Settle reply _ h.printed (record { acceptable = tt; in_range = tt; narrow = tt })
+answer_fits market H quotes Settle reply none h = reply_appends (Fits market H) market H Settle reply _ h.printed (record { acceptable = tt; in_range = tt; narrow = tt })
 
 -- an allowed reply appends what may be appended
 allowed_fits : (market : Market) (H : List Entry) (quotes : Quotes) (command : Command) (reply : Reply) → IsAllowed market H quotes command reply → AppendsFit market H command reply
@@ -159,10 +131,9 @@ allowed_fits market H quotes command reply h = at (first_refusal market H comman
   where
     at : (o : Option Refusal) → first_refusal market H command ≡ o → MatchOption o (IsAnswer market H quotes command reply) (λ why. reply ≡ Refused why) → AppendsFit market H command reply
     at None none h = answer_fits market H quotes command reply none h
-    at (Some why) _ e = reply_fits market H command reply _ e (refused_fits market H command why)
+    at (Some why) _ e = reply_appends (Fits market H) market H command reply _ e (refused_appends (Fits market H) market H command why)
 
 pub allowed_keeps : (market : Market) (now : Standing) (line : Line) (reply : Reply) → Stands market now.history → IsAllowedFor market now line reply → Stands market (after market now line reply).history
-unfolding AppendsFit
 allowed_keeps market now (OfCommand command) reply stands h =
     entry_keeps market now.history (entry_of market now.history command reply) stands (allowed_fits market now.history now.quotes command reply h)
 allowed_keeps market now NoCommand reply stands h = stands

@@ -2,6 +2,7 @@ pub mod Options
 pub mod Unrefused
 pub mod Apart
 pub mod Traded
+pub mod Appended
 pub mod Keeps
 pub mod Cashed
 pub mod Paid
@@ -9,4 +10,8 @@ pub mod Judged
 pub mod Quoted
 pub mod Ready
 pub mod Answered
+pub mod Bounds
+pub mod Follows
+pub mod Revisions
+pub mod Texts
 pub mod OneKind

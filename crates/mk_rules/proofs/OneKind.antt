@@ -1,18 +1,34 @@
--- In the small case a fair and solvent pair has the exact floors, and so right limits hold its share.
-use Rattle.std.proofs.Common.{◌≡◌, ℕ, ◌-◌, ◌*◌, ◌/◌, ◌^◌, ◌<◌, ◌≤◌, List, Option, Some, None, IsSomeAnd, Bool, ◌∙◌, sym, subst, arith}
+-- In the small case a fair and solvent pair has the exact floors, and so right limits hold its share: an edit has one kind of
+-- allowed reply.
+use Rattle.std.proofs.Common.{◌≡◌, ℕ, ◌-◌, ◌*◌, ◌/◌, ◌^◌, ◌<◌, ◌≤◌, inl, inr, List, Option, Some, None, IsSomeAnd, MatchOption, Bool, ◌∙◌, sym, subst, arith}
+use Rattle.std.specs.Prelude.{◌↔◌}
 use Rattle.std.proofs.Math.Nat.{div-eq_of_lt-le}
+use Rattle.mk_net.specs.Bounds.{million}
+use Rattle.mk_net.specs.declared.words.QuestionText.{QuestionText}
 use Rattle.mk_net.specs.Network.{Variable}
 use Rattle.mk_net.specs.Asked.{Asked}
 use Rattle.mk_exact.specs.Events.{with_target, without_target}
 use Rattle.mk_exact.specs.Ratios.{unit}
-use Rattle.mk_exact.specs.History.{Entry}
+use Rattle.mk_exact.specs.History.{Entry, revision}
+use Rattle.mk_exact.specs.Market.{Market, network_of}
 use Rattle.mk_exact.specs.Weight.{IsSmall}
 use Rattle.mk_exact.specs.Factors.{factor_with, least_gain}
 use Rattle.mk_exact.specs.Prices.{price_where, IsSolvent}
 use Rattle.mk_exact.specs.Limits.{Side, IsFairAndSolvent, IsFloorSolvent}
 use Rattle.mk_exact.specs.Sides.{IsSide}
+use Rattle.mk_command.specs.declared.command.Command.{Command}
+use Rattle.mk_command.specs.declared.command.Command.TheVariants.{Edit}
+use Rattle.mk_reply.specs.declared.refusal.Refusal.{Refusal}
 use Rattle.mk_reply.specs.declared.reply.Reply.{Reply}
-use Rattle.mk_rules.specs.Answers.{IsTrade, IsBeyondRight}
+use Rattle.mk_reply.specs.declared.reply.Reply.TheVariants.{Refused}
+use Rattle.mk_rules.specs.Refusals.{question_named, user_number, refusals, first_refusal}
+use Rattle.mk_rules.specs.Quotes.{Interval, last_quote, current_limits}
+use Rattle.mk_rules.specs.Answers.{IsTrade, IsBeyond, IsBeyondRight, IsJudged, IsJudgedAfresh, IsAnswer}
+use Rattle.mk_rules.specs.Transcript.{Standing, OfCommand, IsAllowedFor}
+use Rattle.mk_rules.specs.Laws.{IsTraded}
+use Rattle.mk_rules.proofs.Options.{value_of, at_none, at_some, at_value}
+use Rattle.mk_rules.proofs.Unrefused.{none_applies, number_in_range}
+use Rattle.mk_rules.proofs.Judged.{traded_inside}
 
 -- a question has one side of each kind
 one_side : (network : List Variable) (H : List Entry) (u : ℕ) (asked : Asked) (test : List ℕ → Bool) (a b : Side)
@@ -33,9 +49,9 @@ floor_of small side X F s h = div-eq_of_lt-le {k = F} (10 ^ 6 * side.price.num) 
 floor_solvent : (small : Type 0) (side : Side) (X F : ℕ) → small → IsFairAndSolvent small side X F → IsFloorSolvent side X
 floor_solvent small side X F s h = subst (λ (n : ℕ). (n < 2 ^ 63) × IsSolvent n side.least) (sym (floor_of small side X F s h)) (h.fair.fits, h.solvent)
 
-pub one_kind : (network : List Variable) (H : List Entry) (u : ℕ) (asked : Asked) (X : ℕ) (first second : Reply)
+not_both : (network : List Variable) (H : List Entry) (u : ℕ) (asked : Asked) (X : ℕ) (first second : Reply)
     → IsSmall network H → 1 ≤ X → X ≤ 999999 → IsTrade network H u asked X first → IsBeyondRight network H u asked X second → ⊥
-one_kind network H u asked X first second small least most trade refused =
+not_both network H u asked X first second small least most trade refused =
     refused.beyond.outside ((refused.right.right.exact small X least most).1 (hit, miss))
   where
     hit : IsFloorSolvent refused.right.hit X
@@ -45,3 +61,41 @@ one_kind network H u asked X first second small least most trade refused =
     miss : IsFloorSolvent refused.right.miss (10 ^ 6 - X)
     miss = subst (λ (side : Side). IsFloorSolvent side (10 ^ 6 - X)) (one_side network H u asked (without_target asked) _ _ trade.fair.sides.miss_side refused.right.sides.miss_side)
         (floor_solvent (IsSmall network H) trade.fair.miss (10 ^ 6 - X) trade.miss small trade.fair.miss_units)
+
+not_traded : (limits : Interval) (X : ℕ) (reply : Reply) → IsBeyond limits X reply → IsTraded reply → ⊥
+not_traded limits X reply beyond traded = subst IsTraded beyond.printed traded
+
+module _ (network : List Variable) (H : List Entry) (u : ℕ) (asked : Asked) (X : ℕ) (small : IsSmall network H) (least : 1 ≤ X) (most : X ≤ 999999) where
+  afresh : (first second : Reply) → IsJudgedAfresh network H u asked X first → IsJudgedAfresh network H u asked X second → IsTraded first → IsTraded second
+  afresh first second a (inl trade) traded = subst IsTraded (sym trade.printed) tt
+  afresh first second (inl trade) (inr beyond) traded = absurd (not_both network H u asked X first second small least most trade beyond)
+  afresh first second (inr other) (inr beyond) traded = absurd (not_traded other.limits X first other.beyond traded)
+
+  of_kind : (first second : Reply) (o : Option Interval)
+      → MatchOption o (IsJudgedAfresh network H u asked X first) (λ limits. IsJudged network H u asked X limits first)
+      → MatchOption o (IsJudgedAfresh network H u asked X second) (λ limits. IsJudged network H u asked X limits second) → IsTraded first ↔ IsTraded second
+  of_kind first second None a b = (afresh first second a b, afresh second first b a)
+  of_kind first second (Some limits) a b =
+      let one = traded_inside network H u asked X limits first a in
+      let other = traded_inside network H u asked X limits second b in
+      (λ traded. other.1 (one.0 traded), λ traded. one.1 (other.0 traded))
+
+pub one_kind : (market : Market) (now : Standing) (u : List ℕ) (q : QuestionText) (X : ℕ) (seen : Option ℕ) (first second : Reply)
+    → IsSmall (network_of market now.history) now.history → first_refusal market now.history (Edit u q X seen) ≡ None
+    → IsAllowedFor market now (OfCommand (Edit u q X seen)) first → IsAllowedFor market now (OfCommand (Edit u q X seen)) second
+    → IsTraded first ↔ IsTraded second
+one_kind market now u q X seen first second small none a b =
+    let refused = none_applies (refusals market now.history (Edit u q X seen)) none in
+    let share = number_in_range (million - 1) X refused.1.1.1.1.1.1.1.1.0 in
+    let judged = value_of _ (question_named (network_of market now.history) q) (at_none (λ (why : Refusal). first ≡ Refused why) (first_refusal market now.history (Edit u q X seen)) none a) in
+    of_kind (network_of market now.history) now.history (user_number now.history u) judged.0 X small share.0 share.1 first second
+    (current_limits (last_quote now.quotes (user_number now.history u)) judged.0 (revision now.history)) judged.2
+    (at_value _ (question_named (network_of market now.history) q) judged.0 judged.1
+    (at_none (λ (why : Refusal). second ≡ Refused why) (first_refusal market now.history (Edit u q X seen)) none b))
+
+pub one_refusal : (market : Market) (now : Standing) (command : Command) (why : Refusal) (reply : Reply) → first_refusal market now.history command ≡ Some why
+    → IsAllowedFor market now (OfCommand command) reply ↔ (reply ≡ Refused why)
+one_refusal market now command why reply e = (
+  λ h. at_some (IsAnswer market now.history now.quotes command reply) (λ (w : Refusal). reply ≡ Refused w) (first_refusal market now.history command) why e h,
+  λ h. subst (λ (o : Option Refusal). MatchOption o (IsAnswer market now.history now.quotes command reply) (λ w. reply ≡ Refused w)) (sym e) h,
+)

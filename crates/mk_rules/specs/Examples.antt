@@ -15,6 +15,7 @@ use Rattle.mk_reply.specs.declared.reply.Reply.TheVariants.{Joined, Deposited, W
 use Rattle.mk_rules.specs.Refusals.{first_refusal}
 use Rattle.mk_rules.specs.Quotes.{Quote, EditLimits, last_quote, current_limits}
 use Rattle.mk_rules.specs.Answers.{IsAllowed, next_history, next_quotes}
+use Rattle.mk_rules.specs.Standings.{IsMarket}
 use Rattle.mk_rules.specs.Transcript.{Standing, opening, Line, OfCommand, Run}
 
 -- a coin; a coin whose market takes one trade; the weather; and a chain of three
@@ -81,6 +82,13 @@ all_paid = heads_up ++ Settles ∷ []
 -- after a trade on rain the season turns out dry
 abbrev pub dry : List Entry
 dry = rain_taken ++ Resolves (is 0 1) ∷ []
+
+-- they are markets
+pub record AreMarkets : Type 0 where
+  pub coin_is : IsMarket coin_market
+  pub one_is : IsMarket one_trade
+  pub weather_is : IsMarket weather_market
+  pub chain_is : IsMarket chain_market
 
 -- as many users as that have joined, each under a name of one byte
 abbrev pub crowd : ℕ → List Entry

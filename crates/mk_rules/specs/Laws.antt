@@ -1,6 +1,6 @@
 -- The laws of the market's rules. Each is the contract of a function of this crate, and so proved.
 use Rattle.std.specs.Prelude.{◌≡◌, ℕ, ◌≤◌, List, [], ◌∷◌, ◌++◌, length, map, All, Option, Some, None, ⊤, ◌↔◌}
-use Rattle.mk_net.specs.Network.{Variable}
+use Rattle.std.specs.List.{AllByRecursion}
 use Rattle.mk_net.specs.declared.words.QuestionText.{QuestionText}
 use Rattle.mk_net.specs.Asked.{Asked}
 use Rattle.mk_exact.specs.Events.{always}
@@ -11,15 +11,16 @@ use Rattle.mk_exact.specs.Limits.{Inside}
 use Rattle.mk_exact.specs.Laws.{GainsAreBounded, LossIsBounded}
 use Rattle.mk_command.specs.declared.command.Command.{Command}
 use Rattle.mk_command.specs.declared.command.Command.TheVariants.{Edit}
+use Rattle.mk_reply.specs.Replies.{IsReply}
 use Rattle.mk_reply.specs.declared.refusal.Refusal.{Refusal}
 use Rattle.mk_reply.specs.declared.reply.Payment.{Payment}
 use Rattle.mk_reply.specs.declared.reply.Reply.{Reply}
-use Rattle.mk_reply.specs.declared.reply.Reply.TheVariants.{Traded, Settled}
+use Rattle.mk_reply.specs.declared.reply.Reply.TheVariants.{Traded, Settled, Refused}
 use Rattle.mk_rules.specs.Refusals.{question_named, user_number, first_refusal}
-use Rattle.mk_rules.specs.Quotes.{Interval, Quotes, no_quotes, last_quote, current_limits}
-use Rattle.mk_rules.specs.Answers.{IsAllowed, IsTrade, IsBeyondRight}
+use Rattle.mk_rules.specs.Quotes.{Interval, no_quotes, last_quote, current_limits}
 use Rattle.mk_rules.specs.Transcript.{Standing, opening, Line, OfCommand, IsAllowedFor, after, Run}
 use Rattle.mk_rules.specs.Standings.{IsMarket, Stands, IsReady}
+use Rattle.mk_rules.specs.Bounded.{IsLine, IsBounded}
 
 -- an allowed reply to any line leads from a history that stands to one that does
 abbrev pub AllowedKeeps : Type 0
@@ -77,6 +78,21 @@ RunsExist = (market : Market) (lines : List Line) (old : Standing) → IsMarket 
 abbrev pub StateStaysPossible : Type 0
 StateStaysPossible = (market : Market) (H : List Entry) → IsMarket market → Stands market H → 1 ≤ length (possible_states (network_of market H) H always)
 
+-- an allowed reply to a line that is a text leads from a bounded history to a bounded one
+abbrev pub BoundedKeeps : Type 0
+BoundedKeeps = (market : Market) (now : Standing) (line : Line) (reply : Reply) → IsMarket market → IsLine line
+    → IsBounded market now.history → IsAllowedFor market now line reply → IsBounded market (after market now line reply).history
+
+-- the history after each run from the opening is bounded
+abbrev pub RunStaysBounded : Type 0
+RunStaysBounded = (market : Market) (new : Standing) (lines : List Line) (replies : List Reply) → IsMarket market → AllByRecursion IsLine lines
+    → Run market opening lines replies new → IsBounded market new.history
+
+-- there, an allowed reply to a line that is a text has a text
+abbrev pub RepliesHaveTexts : Type 0
+RepliesHaveTexts = (market : Market) (now : Standing) (line : Line) (reply : Reply) → IsMarket market → IsReady market now
+    → IsBounded market now.history → IsLine line → IsAllowedFor market now line reply → IsReply reply
+
 -- a run goes on where another ended
 abbrev pub RunsJoin : Type 0
 RunsJoin = (market : Market) (old middle new : Standing) (first second : List Line) (replies more : List Reply)
@@ -119,10 +135,12 @@ JudgedExactly = (market : Market) (now : Standing) (u : List ℕ) (q : QuestionT
 
 -- a refusal of the table is the one allowed reply
 abbrev pub OneRefusal : Type 0
-OneRefusal = (market : Market) (H : List Entry) (quotes : Quotes) (command : Command) (why : Refusal) (first second : Reply)
-    → first_refusal market H command ≡ Some why → IsAllowed market H quotes command first → IsAllowed market H quotes command second → first ≡ second
+OneRefusal = (market : Market) (now : Standing) (command : Command) (why : Refusal) (reply : Reply) → first_refusal market now.history command ≡ Some why
+    → IsAllowedFor market now (OfCommand command) reply ↔ (reply ≡ Refused why)
 
--- in the small case an edit that is judged afresh has one allowed kind of reply: a trade or a refusal
+-- in the small case the allowed replies to an edit that no refusal of the table meets are all trades or none is
 abbrev pub OneKind : Type 0
-OneKind = (network : List Variable) (H : List Entry) (u : ℕ) (asked : Asked) (X : ℕ) (first second : Reply)
-    → IsSmall network H → 1 ≤ X → X ≤ 999999 → IsTrade network H u asked X first → IsBeyondRight network H u asked X second → ⊥
+OneKind = (market : Market) (now : Standing) (u : List ℕ) (q : QuestionText) (X : ℕ) (seen : Option ℕ) (first second : Reply)
+    → IsSmall (network_of market now.history) now.history → first_refusal market now.history (Edit u q X seen) ≡ None
+    → IsAllowedFor market now (OfCommand (Edit u q X seen)) first → IsAllowedFor market now (OfCommand (Edit u q X seen)) second
+    → IsTraded first ↔ IsTraded second

@@ -1,9 +1,10 @@
 -- The refusals that come in every history, and their order. Each answers a refusal or none.
-use Rattle.std.specs.Prelude.{ℕ, List, [], ◌∷◌, length, map, Bool, false, ◌&&◌, not, ◌==◌, nat_le, if◌then◌else◌, is_none, Option, Some, None, option_map, find}
+use Rattle.std.specs.Prelude.{ℕ, ◌-◌, List, [], ◌∷◌, length, map, Bool, false, ◌&&◌, not, ◌==◌, nat_le, if◌then◌else◌, is_none, Option, Some, None, option_map, find}
 use Rattle.std.specs.List.{list_all, list_any, position_or_len, enumerate_from, filter_map, count_by}
 use Rattle.mk_net.specs.declared.words.Pair.{Pair}
 use Rattle.mk_net.specs.declared.words.PairText.{PairText}
 use Rattle.mk_net.specs.declared.words.QuestionText.{QuestionText}
+use Rattle.mk_net.specs.Bounds.{max_users, max_transfers, max_transfer_bits, million}
 use Rattle.mk_net.specs.Texts.{same_text}
 use Rattle.mk_net.specs.Network.{Variable}
 use Rattle.mk_net.specs.Named.{pair_named, variable_named}
@@ -76,7 +77,7 @@ abbrev pub exists : List Entry → List ℕ → Option Refusal
 exists H u = fault_if (has_joined H u) (Exists u)
 
 abbrev pub users_full : List Entry → Option Refusal
-users_full H = fault_if (nat_le 256 (length (users H))) (Users 256)
+users_full H = fault_if (nat_le max_users (length (users H))) (Users max_users)
 
 abbrev pub unknown : List Variable → List PairText → Option Refusal
 unknown network pairs = option_map Unknown (find (λ p. is_none (pair_named network p)) pairs)
@@ -110,7 +111,7 @@ abbrev pub full : ℕ → ℕ → Option Refusal
 full most held = fault_if (nat_le most held) (Full most)
 
 abbrev pub transfers_full : List Entry → Option Refusal
-transfers_full H = full 65536 (count_by is_transfer H)
+transfers_full H = full max_transfers (count_by is_transfer H)
 
 abbrev pub trades_full : Market → List Entry → Option Refusal
 trades_full market H = full market.max_trades (length (trades H))
@@ -124,8 +125,8 @@ unresolved network H =
 -- what each command is refused for, in this order
 abbrev pub refusals : Market → List Entry → Command → List (Option Refusal)
 refusals market H (User u) = settled H ∷ exists H u ∷ users_full H ∷ []
-refusals market H (Deposit u bits) = settled H ∷ no_user H u ∷ range 1000 bits ∷ transfers_full H ∷ []
-refusals market H (Withdraw u bits) = settled H ∷ no_user H u ∷ range 1000 bits ∷ transfers_full H ∷ []
+refusals market H (Deposit u bits) = settled H ∷ no_user H u ∷ range max_transfer_bits bits ∷ transfers_full H ∷ []
+refusals market H (Withdraw u bits) = settled H ∷ no_user H u ∷ range max_transfer_bits bits ∷ transfers_full H ∷ []
 refusals market H (Price q) =
     let network = network_of market H in
     settled H ∷ unknown network (pairs_of q) ∷ twice (names_in (pairs_of q)) ∷ resolved network H q.target.variable
@@ -138,7 +139,7 @@ refusals market H (Edit u q to seen) =
     let network = network_of market H in
     settled H ∷ no_user H u ∷ unknown network (pairs_of q) ∷ twice (names_in (pairs_of q)) ∷ stale H seen
     ∷ resolved network H q.target.variable ∷ impossible network H q.condition.items ∷ wide_question market H q
-    ∷ range 999999 to ∷ trades_full market H ∷ []
+    ∷ range (million - 1) to ∷ trades_full market H ∷ []
 refusals market H (Worst u) = settled H ∷ no_user H u ∷ []
 refusals market H (Resolve p) =
     let network = network_of market H in

@@ -1,6 +1,7 @@
 -- What holds of a market and of its standing after every allowed run.
 use Rattle.std.specs.Prelude.{◌≡◌, ℕ, ◌≤◌, List, ◌∷◌, length, false, IfSome}
 use Rattle.std.specs.List.{AllByRecursion}
+use Rattle.mk_net.specs.Bounds.{million, max_market_trades}
 use Rattle.mk_net.specs.Network.{IsNetwork}
 use Rattle.mk_net.specs.Asked.{TradeRatio}
 use Rattle.mk_exact.specs.History.{Entry, UserTrade, users, trades, revision}
@@ -16,9 +17,9 @@ use Rattle.mk_rules.specs.Transcript.{Standing}
 pub record IsMarket (market : Market) : Type 0 where
   pub network : IsNetwork market.network
   pub some_points : 1 ≤ market.points_per_bit
-  pub few_points : market.points_per_bit ≤ 1000000
+  pub few_points : market.points_per_bit ≤ million
   pub some_trades : 1 ≤ market.max_trades
-  pub few_trades : market.max_trades ≤ 65536
+  pub few_trades : market.max_trades ≤ max_market_trades
 
 -- the variables that a ratio speaks of
 abbrev pub variables_of : TradeRatio → List ℕ

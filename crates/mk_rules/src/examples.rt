@@ -1,7 +1,14 @@
 //! The rules at work in three small markets.
-ghost use Rattle.mk_rules.specs.Examples.{AreRefused, ComeInOrder, AreAnswered, AreCurrent, IsTakenOut, IsWorstPaid, IsResolved, IsPaid, IsJudgedByNewLimits, RunsThrough};
+ghost use Rattle.mk_rules.specs.Examples.{AreMarkets, AreRefused, ComeInOrder, AreAnswered, AreCurrent, IsTakenOut, IsWorstPaid, IsResolved, IsPaid, IsJudgedByNewLimits, RunsThrough};
 
-use mk_exact::{example_cash, example_limits};
+use mk_exact::{example_cash, example_limits, example_networks};
+
+/// The markets of these examples are markets.
+pub fn example_markets()
+    ensures { AreMarkets }
+{
+    example_networks();
+}
 
 /// Each refusal where it comes first, and commands that meet none.
 pub fn example_refusals()

@@ -1,5 +1,5 @@
 //! What allowed replies keep.
-ghost use Rattle.mk_rules.specs.Laws.{AllowedKeeps, RunKeeps, RunStands, UnquotedIsReady, ReadyKeeps, RunKeepsReady, RunIsReady, AlwaysAnswered, RunsExist, StateStaysPossible, RunsJoin, RunIsBounded, SettlementKeeps, JudgedExactly, OneRefusal, OneKind};
+ghost use Rattle.mk_rules.specs.Laws.{AllowedKeeps, RunKeeps, RunStands, UnquotedIsReady, ReadyKeeps, RunKeepsReady, RunIsReady, AlwaysAnswered, RunsExist, StateStaysPossible, BoundedKeeps, RunStaysBounded, RepliesHaveTexts, RunsJoin, RunIsBounded, SettlementKeeps, JudgedExactly, OneRefusal, OneKind};
 
 /// An allowed reply leads from a sound history to a sound one, whatever the line, and users, pairs and units stay in range.
 pub fn allowed_keeps()
@@ -51,6 +51,21 @@ pub fn state_stays_possible()
     ensures { StateStaysPossible }
 {}
 
+/// An allowed reply to a line that is a text keeps what bounds the history.
+pub fn bounded_keeps()
+    ensures { BoundedKeeps }
+{}
+
+/// The history after each run from the opening is bounded.
+pub fn run_stays_bounded()
+    ensures { RunStaysBounded }
+{}
+
+/// In a ready standing of a bounded history an allowed reply has a text.
+pub fn replies_have_texts()
+    ensures { RepliesHaveTexts }
+{}
+
 /// A run that goes on where another ended makes one run with it.
 pub fn runs_join()
     ensures { RunsJoin }
@@ -72,12 +87,12 @@ pub fn judged_exactly()
     ensures { JudgedExactly }
 {}
 
-/// Where a refusal of the table applies, one reply is allowed.
+/// Where a refusal of the table applies, it is the one reply that is allowed.
 pub fn one_refusal()
     ensures { OneRefusal }
 {}
 
-/// In the small case an edit that is judged afresh has one allowed kind of reply.
+/// In the small case an edit has one allowed kind of reply: trades, or refusals.
 pub fn one_kind()
     ensures { OneKind }
 {}

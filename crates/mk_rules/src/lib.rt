@@ -7,11 +7,13 @@ mod examples;
 mod laws;
 
 pub use examples::{
-    example_answers, example_judged_afresh, example_order, example_quotes, example_refusals,
-    example_resolution, example_run, example_settlement, example_withdrawal, example_worst,
+    example_answers, example_judged_afresh, example_markets, example_order, example_quotes,
+    example_refusals, example_resolution, example_run, example_settlement, example_withdrawal,
+    example_worst,
 };
 pub use laws::{
-    allowed_keeps, always_answered, judged_exactly, one_kind, one_refusal, ready_keeps,
-    run_is_bounded, run_is_ready, run_keeps, run_keeps_ready, run_stands, runs_exist, runs_join,
-    settlement_keeps, state_stays_possible, unquoted_is_ready,
+    allowed_keeps, always_answered, bounded_keeps, judged_exactly, one_kind, one_refusal,
+    ready_keeps, replies_have_texts, run_is_bounded, run_is_ready, run_keeps, run_keeps_ready,
+    run_stands, run_stays_bounded, runs_exist, runs_join, settlement_keeps, state_stays_possible,
+    unquoted_is_ready,
 };

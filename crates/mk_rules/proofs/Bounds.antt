@@ -1,0 +1,134 @@
+-- An allowed reply to a line of text leads from a bounded history to a bounded one.
+use Rattle.std.proofs.Common.{◌≡◌, ◌≢◌, ℕ, ◌+◌, ◌<◌, ◌≤◌, Bool, true, false, ◌||◌, cond, List, [], ◌∷◌, ◌++◌, length, get_or, None, refl, sym, ap, ◌∙◌, subst, arith, length-append}
+use Rattle.std.specs.Prelude.{⊤}
+use Rattle.std.specs.List.{AllByRecursion, count_by, list_any}
+use Rattle.std.proofs.lemmas.List.Sums.{sum_by-append}
+use Rattle.std.proofs.lemmas.List.Quantifiers.{all_pairs_push}
+use Rattle.mk_net.specs.Bounds.{max_users, max_transfers, max_market_trades, number_limit}
+use Rattle.mk_net.specs.Name.{IsName}
+use Rattle.mk_net.specs.Texts.{same_text}
+use Rattle.mk_net.specs.TextLaws.{same_text_of_equal}
+use Rattle.mk_net.specs.Asked.{TradeRatio}
+use Rattle.mk_net.proofs.Taken.{any_at}
+use Rattle.mk_net.specs.Network.{AreDistinct}
+use Rattle.mk_exact.specs.History.{Entry, UserTrade, Join, Deposit as Deposits, Withdraw as Withdraws, Trade, Resolve as Resolves, Settle as Settles, join_in, trade_in, users, trades, is_transfer, is_settlement, is_settled}
+use Rattle.mk_exact.specs.Market.{Market}
+use Rattle.mk_exact.proofs.Sums.{each-append, each_weaker}
+use Rattle.mk_exact.proofs.After.{users_kept, users_more, trades_kept, trades_more}
+use Rattle.mk_exact.specs.Existing.{HasRoom}
+use Rattle.mk_exact.proofs.ExistBounds.{bounds_kept}
+use Rattle.mk_rules.specs.Bounded.{IsTransferOf, FitsTransfer, IsBounded}
+
+-- an entry that may follow
+abbrev pub MayFollow : Market → List Entry → Entry → Type 0
+MayFollow market H (Join name) = IsName name × (length (users H) < max_users) × (list_any (same_text name) (users H) ≡ false)
+MayFollow market H (Deposits user bits) = IsTransferOf (length (users H)) user bits × (count_by is_transfer H < max_transfers)
+MayFollow market H (Withdraws user bits) = IsTransferOf (length (users H)) user bits × (count_by is_transfer H < max_transfers)
+MayFollow market H (Trade user ratio) = AllByRecursion (λ units. units < number_limit) ratio.factors × (length (trades H) < market.max_trades)
+MayFollow market H (Resolves pair) = ⊤
+MayFollow market H Settles = is_settled H ≡ false
+
+transfer_later : (m n : ℕ) → m ≤ n → (e : Entry) → FitsTransfer m e → FitsTransfer n e
+transfer_later m n p (Join name) h = tt
+transfer_later m n p (Deposits user bits) h = record { user = omega (arith, h.user); some = h.some; few = h.few }
+transfer_later m n p (Withdraws user bits) h = record { user = omega (arith, h.user); some = h.some; few = h.few }
+transfer_later m n p (Trade user ratio) h = tt
+transfer_later m n p (Resolves pair) h = tt
+transfer_later m n p Settles h = tt
+
+-- what an entry adds to a count
+count_more : (test : Entry → Bool) (H : List Entry) (e : Entry) → count_by test (H ++ e ∷ []) ≡ count_by test H + (0 + cond (test e) 1 0)
+count_more test H e = sum_by-append (λ e. cond (test e) 1 0) H (e ∷ [])
+
+-- and in front
+pub count_first : (test : Entry → Bool) (e : Entry) (H : List Entry) → count_by test (e ∷ H) ≡ 0 + cond (test e) 1 0 + count_by test H
+count_first test e H = sum_by-append (λ e. cond (test e) 1 0) (e ∷ []) H
+
+none_settled : (H : List Entry) → is_settled H ≡ false → count_by is_settlement H ≡ 0
+none_settled [] h = refl
+none_settled (e ∷ H) h = count_first is_settlement e H ∙ at (is_settlement e) h (none_settled H)
+  where
+    at : (b : Bool) → (b || is_settled H) ≡ false → (is_settled H ≡ false → count_by is_settlement H ≡ 0) → 0 + cond b 1 0 + count_by is_settlement H ≡ 0
+    at true h later = cc
+    at false h later = omega (arith, later h)
+
+-- a name that no text of a list is the same as differs from each
+differs : (name : List ℕ) (names : List (List ℕ)) → list_any (same_text name) names ≡ false → (k : ℕ) (d : List ℕ) → k < length names → get_or names k d ≢ name
+differs name names h k d inside same =
+    let other : same_text name (get_or names k d) ≡ false = any_at (same_text name) names k d h inside in
+    let alike = same_text_of_equal name (get_or names k d) (sym same) in
+    absurd (cc)
+
+room : (market : Market) (H : List Entry) → market.max_trades ≤ max_market_trades → (e : Entry) → MayFollow market H e → HasRoom H e
+room market H few (Join name) h = tt
+room market H few (Deposits user bits) h = (h.1, h.0.few)
+room market H few (Withdraws user bits) h = h.1
+room market H few (Trade user ratio) h = (omega (arith, h.1), h.0)
+room market H few (Resolves pair) h = tt
+room market H few Settles h = tt
+
+kept_count : (test : Entry → Bool) (most : ℕ) (H : List Entry) (e : Entry) → test e ≡ false → count_by test H ≤ most → count_by test (H ++ e ∷ []) ≤ most
+kept_count test most H e not_it h =
+    let same : count_by test (H ++ e ∷ []) ≡ count_by test H + (0 + cond false 1 0) = count_more test H e ∙ ap (λ (b : Bool). count_by test H + (0 + cond b 1 0)) not_it in
+    omega arith
+
+more_count : (test : Entry → Bool) (most : ℕ) (H : List Entry) (e : Entry) → count_by test H < most → count_by test (H ++ e ∷ []) ≤ most
+more_count test most H e h = at (test e) (count_more test H e)
+  where
+    at : (b : Bool) → count_by test (H ++ e ∷ []) ≡ count_by test H + (0 + cond b 1 0) → count_by test (H ++ e ∷ []) ≤ most
+    at true same = omega arith
+    at false same = omega arith
+
+module _ (market : Market) (H : List Entry) (few : market.max_trades ≤ max_market_trades) (bounded : IsBounded market H) where
+  users_same : (e : Entry) → join_in e ≡ None → length (users (H ++ e ∷ [])) ≡ length (users H)
+  users_same e other = ap length (users_kept H e other)
+
+  transfers_then : (e : Entry) → length (users H) ≤ length (users (H ++ e ∷ [])) → FitsTransfer (length (users (H ++ e ∷ []))) e → AllByRecursion (FitsTransfer (length (users (H ++ e ∷ [])))) (H ++ e ∷ [])
+  transfers_then e more fits = each-append (FitsTransfer (length (users (H ++ e ∷ [])))) H (e ∷ [])
+      (each_weaker (FitsTransfer (length (users H))) (FitsTransfer (length (users (H ++ e ∷ [])))) (transfer_later (length (users H)) (length (users (H ++ e ∷ []))) more) H bounded.transfers_fit) (fits, tt)
+
+  -- an entry that joins nobody
+  not_joined : (e : Entry) → join_in e ≡ None → MayFollow market H e → length (trades (H ++ e ∷ [])) ≤ market.max_trades → FitsTransfer (length (users H)) e
+      → count_by is_settlement (H ++ e ∷ []) ≤ 1 → IsBounded market (H ++ e ∷ [])
+  not_joined e joins follows trades_fit fits settlements = record {
+    within = bounds_kept H e bounded.within (room market H few e follows);
+    few_users = subst (λ (n : ℕ). n ≤ max_users) (sym (users_same e joins)) bounded.few_users;
+    users_named = subst (AllByRecursion IsName) (sym (users_kept H e joins)) bounded.users_named;
+    users_distinct = subst (λ (names : List (List ℕ)). AreDistinct names) (sym (users_kept H e joins)) bounded.users_distinct;
+    few_trades = trades_fit;
+    transfers_fit = transfers_then e (omega (arith, users_same e joins)) (subst (λ (n : ℕ). FitsTransfer n e) (sym (users_same e joins)) fits);
+    settled_once = settlements;
+  }
+
+  trades_stay : (e : Entry) → trade_in e ≡ None → length (trades (H ++ e ∷ [])) ≤ market.max_trades
+  trades_stay e other = subst (λ (ts : List UserTrade). length ts ≤ market.max_trades) (sym (trades_kept H e other)) bounded.few_trades
+
+  one_more_trade : (user : ℕ) (ratio : TradeRatio) → length (trades H) < market.max_trades → length (trades (H ++ Trade user ratio ∷ [])) ≤ market.max_trades
+  one_more_trade user ratio h =
+      let more : length (trades (H ++ Trade user ratio ∷ [])) ≡ length (trades H) + 1 = ap length (trades_more H user ratio) ∙ length-append (trades H) (record { user = user; ratio = ratio } ∷ []) in
+      omega arith
+
+  settlement_stays : (e : Entry) → is_settlement e ≡ false → count_by is_settlement (H ++ e ∷ []) ≤ 1
+  settlement_stays e other = kept_count is_settlement 1 H e other bounded.settled_once
+
+  joined : (name : List ℕ) → MayFollow market H (Join name) → IsBounded market (H ++ Join name ∷ [])
+  joined name follows =
+      let more : length (users (H ++ Join name ∷ [])) ≡ length (users H) + 1 = ap length (users_more H name) ∙ length-append (users H) (name ∷ []) in
+      record {
+        within = bounds_kept H (Join name) bounded.within tt;
+        few_users = omega (arith, follows.1);
+        users_named = subst (AllByRecursion IsName) (sym (users_more H name)) (each-append IsName (users H) (name ∷ []) bounded.users_named (follows.0, tt));
+        users_distinct = subst (λ (names : List (List ℕ)). AreDistinct names) (sym (users_more H name))
+            (all_pairs_push (λ (x y : List ℕ). x ≢ y) (users H) name bounded.users_distinct (differs name (users H) follows.2));
+        few_trades = trades_stay (Join name) refl;
+        transfers_fit = transfers_then (Join name) (omega arith) tt;
+        settled_once = settlement_stays (Join name) refl;
+      }
+
+  pub entry_bounded : (e : Entry) → MayFollow market H e → IsBounded market (H ++ e ∷ [])
+  entry_bounded (Join name) h = joined name h
+  entry_bounded (Deposits user bits) h = not_joined (Deposits user bits) refl h (trades_stay (Deposits user bits) refl) h.0 (settlement_stays (Deposits user bits) refl)
+  entry_bounded (Withdraws user bits) h = not_joined (Withdraws user bits) refl h (trades_stay (Withdraws user bits) refl) h.0 (settlement_stays (Withdraws user bits) refl)
+  entry_bounded (Trade user ratio) h = not_joined (Trade user ratio) refl h (one_more_trade user ratio h.1) tt (settlement_stays (Trade user ratio) refl)
+  entry_bounded (Resolves pair) h = not_joined (Resolves pair) refl h (trades_stay (Resolves pair) refl) tt (settlement_stays (Resolves pair) refl)
+  entry_bounded Settles h = not_joined Settles refl h (trades_stay Settles refl) tt (let none = none_settled H h in more_count is_settlement 1 H Settles (omega arith))

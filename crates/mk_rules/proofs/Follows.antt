@@ -1,0 +1,127 @@
+-- An allowed reply to a line that is a text leads from a bounded history to a bounded one.
+use Rattle.std.proofs.Common.{◌≡◌, ℕ, ◌+◌, ◌<◌, ◌⊎◌, inl, inr, List, [], ◌∷◌, ◌++◌, length, Option, Some, None, IfSome, MatchOption, refl, sym, subst, arith, append-nil}
+use Rattle.std.specs.Prelude.{option_to_list, option_map}
+use Rattle.std.specs.List.{AllByRecursion, count_by}
+use Rattle.std.proofs.lemmas.Bool.{leb-false}
+use Rattle.mk_net.specs.Bounds.{max_users, max_transfers, max_transfer_bits}
+use Rattle.mk_net.specs.declared.words.QuestionText.{QuestionText}
+use Rattle.mk_net.specs.Name.{IsName}
+use Rattle.mk_net.specs.Named.{pair_named}
+use Rattle.mk_net.specs.Asked.{Asked}
+use Rattle.mk_exact.specs.Events.{always}
+use Rattle.mk_exact.specs.History.{Entry, Resolve as Resolves, users, trades, is_transfer, revision}
+use Rattle.mk_exact.specs.Weight.{IsSmall}
+use Rattle.mk_exact.specs.Factors.{factor_with, least_gain}
+use Rattle.mk_exact.specs.Market.{Market, network_of}
+use Rattle.mk_exact.proofs.ExistBounds.{fair_pair_fits}
+use Rattle.mk_command.specs.Commands.{IsCommand}
+use Rattle.mk_command.specs.declared.command.Command.{Command}
+use Rattle.mk_command.specs.declared.command.Command.TheVariants.{User, Deposit, Withdraw, Price, Limits, Edit, Worst, Resolve, Settle}
+use Rattle.mk_reply.specs.declared.refusal.Refusal.{Refusal}
+use Rattle.mk_reply.specs.declared.refusal.Refusal.TheVariants.{Memory}
+use Rattle.mk_reply.specs.declared.reply.Reply.{Reply}
+use Rattle.mk_reply.specs.declared.reply.Reply.TheVariants.{Joined, Refused}
+use Rattle.mk_rules.specs.Refusals.{question_named, user_number, no_user, range, full, refusals, first_refusal}
+use Rattle.mk_rules.specs.Quotes.{Quotes, last_quote, current_limits}
+use Rattle.mk_rules.specs.Answers.{IsTrade, IsWithdrawal, IsAnswer, IsAllowed, entry_of}
+use Rattle.mk_rules.specs.Transcript.{Standing, Line, OfCommand, NoCommand, LongLine, IsAllowedFor, after, Run}
+use Rattle.mk_rules.specs.Standings.{IsMarket}
+use Rattle.mk_rules.specs.Bounded.{IsLine, IsTransferOf, IsBounded}
+use Rattle.mk_rules.proofs.Options.{value_of}
+use Rattle.mk_rules.proofs.Appended.{Appends, refused_appends, reply_appends, judged_appends}
+use Rattle.mk_rules.proofs.Unrefused.{none_applies, not_faulted, user_in_range, number_in_range}
+use Rattle.mk_rules.proofs.Bounds.{MayFollow, entry_bounded}
+
+-- there is room for one more
+has_room : (most held : ℕ) → full most held ≡ None → held < most
+has_room most held h = leb-false most held (not_faulted _ _ h)
+
+transfer_of : (H : List Entry) (u : List ℕ) (bits : ℕ) → no_user H u ≡ None → range max_transfer_bits bits ≡ None → IsTransferOf (length (users H)) (user_number H u) bits
+transfer_of H u bits joined within =
+    let numbers = number_in_range max_transfer_bits bits within in
+    record { user = user_in_range H u joined; some = numbers.0; few = numbers.1 }
+
+module _ (market : Market) (H : List Entry) where
+  abbrev Follows : Command → Reply → Type 0
+  Follows command reply = Appends (MayFollow market H) market H command reply
+
+  user_follows : (u : List ℕ) (reply : Reply) → IsName u → first_refusal market H (User u) ≡ None → (reply ≡ Joined u (revision H + 1)) ⊎ (reply ≡ Refused Memory) → Follows (User u) reply
+  user_follows u reply named none (inl e) =
+      let refused = none_applies (refusals market H (User u)) none in
+      reply_appends (MayFollow market H) market H (User u) reply _ e (named, leb-false max_users (length (users H)) (not_faulted _ _ refused.1.1.0), not_faulted _ _ refused.1.0)
+  user_follows u reply named none (inr e) = reply_appends (MayFollow market H) market H (User u) reply _ e tt
+
+  withdrawal_follows : (u : List ℕ) (bits g : ℕ) (reply : Reply) → first_refusal market H (Withdraw u bits) ≡ None
+      → IsWithdrawal (IsSmall (network_of market H) H) (factor_with H (user_number H u) g) u bits (revision H + 1) reply → Follows (Withdraw u bits) reply
+  withdrawal_follows u bits g reply none (inl taken) =
+      let refused = none_applies (refusals market H (Withdraw u bits)) none in
+      reply_appends (MayFollow market H) market H (Withdraw u bits) reply _ taken.1 (transfer_of H u bits refused.1.0 refused.1.1.0, has_room max_transfers (count_by is_transfer H) refused.1.1.1.0)
+  withdrawal_follows u bits g reply none (inr short) = reply_appends (MayFollow market H) market H (Withdraw u bits) reply _ short.printed tt
+
+  trade_follows : (u : List ℕ) (q : QuestionText) (X : ℕ) (seen : Option ℕ) (asked : Asked) (reply : Reply) → question_named (network_of market H) q ≡ Some asked
+      → length (trades H) < market.max_trades → IsTrade (network_of market H) H (user_number H u) asked X reply → Follows (Edit u q X seen) reply
+  trade_follows u q X seen asked reply named few trade = reply_appends (MayFollow market H) market H (Edit u q X seen) reply _ trade.printed
+      (rw named (fair_pair_fits (network_of market H) H (user_number H u) asked X trade.hit trade.miss trade.fair, few))
+
+  answer_follows : (quotes : Quotes) (command : Command) (reply : Reply) → IsCommand command → first_refusal market H command ≡ None → IsAnswer market H quotes command reply → Follows command reply
+  answer_follows quotes (User u) reply text none h = user_follows u reply text none h
+  answer_follows quotes (Deposit u bits) reply text none h =
+      let refused = none_applies (refusals market H (Deposit u bits)) none in
+      reply_appends (MayFollow market H) market H (Deposit u bits) reply _ h (transfer_of H u bits refused.1.0 refused.1.1.0, has_room max_transfers (count_by is_transfer H) refused.1.1.1.0)
+  answer_follows quotes (Withdraw u bits) reply text none h =
+      let least = value_of _ (least_gain (network_of market H) H (user_number H u) always) h in
+      withdrawal_follows u bits least.0 reply none least.2
+  answer_follows quotes (Price q) reply text none h = reply_appends (MayFollow market H) market H (Price q) reply _ (value_of _ (question_named (network_of market H) q) h).2.printed tt
+  answer_follows quotes (Limits u q) reply text none h = reply_appends (MayFollow market H) market H (Limits u q) reply _ (value_of _ (question_named (network_of market H) q) h).2.printed tt
+  answer_follows quotes (Edit u q X seen) reply text none h =
+      let refused = none_applies (refusals market H (Edit u q X seen)) none in
+      let judged = value_of _ (question_named (network_of market H) q) h in
+      judged_appends (MayFollow market H) market H u q X seen judged.0 reply (current_limits (last_quote quotes (user_number H u)) judged.0 (revision H))
+      (trade_follows u q X seen judged.0 reply judged.1 (has_room market.max_trades (length (trades H)) refused.1.1.1.1.1.1.1.1.1.0)) judged.2
+  answer_follows quotes (Worst u) reply text none h =
+      reply_appends (MayFollow market H) market H (Worst u) reply _ (value_of _ (least_gain (network_of market H) H (user_number H u) always) h).2.printed tt
+  answer_follows quotes (Resolve p) reply text none h = reply_appends (MayFollow market H) market H (Resolve p) reply _ h (resolves (pair_named (network_of market H) p))
+    where
+      resolves : (o : Option _) → IfSome (option_map Resolves o) (MayFollow market H)
+      resolves None = tt
+      resolves (Some pair) = tt
+  answer_follows quotes Settle reply text none h =
+      let refused = none_applies (refusals market H Settle) none in
+      reply_appends (MayFollow market H) market H Settle reply _ h.printed (not_faulted _ _ refused.0)
+
+  allowed_follows : (quotes : Quotes) (command : Command) (reply : Reply) → IsCommand command → IsAllowed market H quotes command reply → Follows command reply
+  allowed_follows quotes command reply text h = at (first_refusal market H command) refl h
+    where
+      at : (o : Option Refusal) → first_refusal market H command ≡ o → MatchOption o (IsAnswer market H quotes command reply) (λ why. reply ≡ Refused why) → Follows command reply
+      at None none h = answer_follows quotes command reply text none h
+      at (Some why) e h = reply_appends (MayFollow market H) market H command reply _ h (refused_appends (MayFollow market H) market H command why)
+
+appended_bounded : (market : Market) (H : List Entry) (o : Option Entry) → IsMarket market → IsBounded market H → IfSome o (MayFollow market H) → IsBounded market (H ++ option_to_list o)
+appended_bounded market H None is_market bounded h = subst (IsBounded market) (sym (append-nil H)) bounded
+appended_bounded market H (Some e) is_market bounded h = entry_bounded market H is_market.few_trades bounded e h
+
+pub bounded_keeps : (market : Market) (now : Standing) (line : Line) (reply : Reply) → IsMarket market → IsLine line → IsBounded market now.history
+    → IsAllowedFor market now line reply → IsBounded market (after market now line reply).history
+bounded_keeps market now (OfCommand command) reply is_market text bounded h =
+    appended_bounded market now.history (entry_of market now.history command reply) is_market bounded (allowed_follows market now.history now.quotes command reply text h)
+bounded_keeps market now NoCommand reply is_market text bounded h = bounded
+bounded_keeps market now LongLine reply is_market text bounded h = bounded
+
+pub run_keeps_bounded : (market : Market) (old new : Standing) (lines : List Line) (replies : List Reply) → IsMarket market → AllByRecursion IsLine lines → IsBounded market old.history
+    → Run market old lines replies new → IsBounded market new.history
+run_keeps_bounded market old new [] [] is_market text bounded h = subst (λ (now : Standing). IsBounded market now.history) (sym h) bounded
+run_keeps_bounded market old new [] (reply ∷ replies) is_market text bounded h = absurd h
+run_keeps_bounded market old new (line ∷ lines) [] is_market text bounded h = absurd h
+run_keeps_bounded market old new (line ∷ lines) (reply ∷ replies) is_market text bounded h =
+    run_keeps_bounded market (after market old line reply) new lines replies is_market text.1 (bounded_keeps market old line reply is_market text.0 bounded h.0) h.1
+
+pub opening_is_bounded : (market : Market) → IsBounded market []
+opening_is_bounded market = record {
+  within = record { few_trades = omega arith; units_fit = tt; few_transfers = omega arith; few_bits = tt };
+  few_users = omega arith;
+  users_named = tt;
+  users_distinct = λ i j d p q. absurd (omega arith);
+  few_trades = omega arith;
+  transfers_fit = tt;
+  settled_once = omega arith;
+}

@@ -1,0 +1,268 @@
+-- In a ready standing an allowed reply to a line that is a text has a text.
+use Rattle.std.proofs.Common.{◌≡◌, ℕ, ◌+◌, ◌*◌, ◌^◌, ◌<◌, ◌≤◌, ◌⊎◌, inl, inr, Bool, true, false, cond, List, [], ◌∷◌, length, Option, Some, None, IfSome, MatchOption, refl, sym, ◌∙◌, subst, arith, mul-le-mul_right}
+use Rattle.std.specs.Prelude.{option_map, find}
+use Rattle.std.specs.List.{AllByRecursion, AllZip, enumerate_from, list_any}
+use Rattle.std.proofs.lemmas.Bool.{cases_lt}
+use Rattle.std.proofs.lemmas.List.Elements.{All-from_recursion, recursion_from_All}
+use Rattle.std.proofs.lemmas.List.FromFn.{length-enumerate_from}
+use Rattle.std.proofs.lemmas.Slice.Zip.{AllZip-long}
+use Rattle.mk_net.specs.declared.words.PairText.{PairText}
+use Rattle.mk_net.specs.declared.words.QuestionText.{QuestionText}
+use Rattle.mk_net.specs.Name.{IsName}
+use Rattle.mk_net.specs.Texts.{same_text}
+use Rattle.mk_net.specs.Network.{Variable, IsNetwork}
+use Rattle.mk_net.specs.Asked.{Asked}
+use Rattle.mk_net.specs.Firsts.{fault_if, first_of}
+use Rattle.mk_exact.specs.Events.{always}
+use Rattle.mk_exact.specs.History.{Entry, users, revision}
+use Rattle.mk_exact.specs.Weight.{IsSmall}
+use Rattle.mk_exact.specs.Factors.{Fraction, factor, factor_with, least_gain}
+use Rattle.mk_exact.specs.Limits.{IsWithinRange}
+use Rattle.mk_exact.specs.Prices.{CoversPrice, exact_price}
+use Rattle.mk_exact.specs.Sides.{AreRightLimits}
+use Rattle.mk_exact.specs.Market.{Market, network_of}
+use Rattle.mk_exact.specs.Cash.{CoversCash}
+use Rattle.mk_exact.specs.Existing.{IsPositivePrice}
+use Rattle.mk_exact.proofs.ExistBounds.{cash_fits, least_cash_fits}
+use Rattle.mk_exact.proofs.ExistMarkets.{price_exists}
+use Rattle.mk_text.specs.Numbers.{IsShort, AreLimits}
+use Rattle.mk_text.specs.Texts.{IsPairText, IsQuestionText}
+use Rattle.mk_command.specs.Commands.{IsCommand}
+use Rattle.mk_command.specs.declared.command.Command.{Command}
+use Rattle.mk_command.specs.declared.command.Command.TheVariants.{User, Deposit, Withdraw, Price, Limits, Edit, Worst, Resolve, Settle}
+use Rattle.mk_reply.specs.Refusals.{IsRefusal}
+use Rattle.mk_reply.specs.Replies.{IsReply, IsPayment as HasText}
+use Rattle.mk_reply.specs.declared.refusal.Refusal.{Refusal}
+use Rattle.mk_reply.specs.declared.refusal.Refusal.TheVariants.{Unknown, Twice, Impossible, Unresolved}
+use Rattle.mk_reply.specs.declared.reply.Payment.{Payment}
+use Rattle.mk_reply.specs.declared.reply.Reply.{Reply}
+use Rattle.mk_reply.specs.declared.reply.Reply.TheVariants.{Refused}
+use Rattle.mk_rules.specs.Refusals.{pairs_of, names_in, question_named, user_number, first_repeat, unknown, twice, stale, impossible, unresolved, refusals, first_refusal}
+use Rattle.mk_rules.specs.Quotes.{Interval, last_quote, current_limits}
+use Rattle.mk_rules.specs.Answers.{IsTrade, IsJudged, IsJudgedAfresh, IsWithdrawal, IsPayment, IsSettlement, IsAnswer, IsAllowed}
+use Rattle.mk_rules.specs.Transcript.{Standing, Line, OfCommand, NoCommand, LongLine, IsAllowedFor}
+use Rattle.mk_rules.specs.Standings.{IsMarket, IsReady}
+use Rattle.mk_rules.specs.Bounded.{IsLine, IsBounded}
+use Rattle.mk_rules.proofs.Options.{value_of}
+use Rattle.mk_rules.proofs.Unrefused.{none_applies}
+use Rattle.mk_rules.proofs.Quoted.{current_right}
+use Rattle.mk_rules.proofs.Revisions.{revision_fits}
+use Rattle.mk_rules.proofs.Answered.{can_be_asked}
+
+faulted : (test : Bool) (why : Refusal) → IsRefusal why → IfSome (fault_if test why) IsRefusal
+faulted true why h = h
+faulted false why h = tt
+
+first_has : (faults : List (Option Refusal)) → AllByRecursion (λ o. IfSome o IsRefusal) faults → IfSome (first_of faults) IsRefusal
+first_has [] h = tt
+first_has (None ∷ later) h = first_has later h.1
+first_has (Some why ∷ later) h = h.0
+
+-- the first that passes a test is one of the list
+found_has : {X : Type 0} (P : X → Type 0) (test : X → Bool) (xs : List X) → AllByRecursion P xs → IfSome (find test xs) P
+found_has P test [] h = tt
+found_has P test (x ∷ xs) h = at (test x) (found_has P test xs h.1)
+  where
+    at : (b : Bool) → IfSome (find test xs) P → IfSome (cond b (Some x) (find test xs)) P
+    at true later = h.0
+    at false later = later
+
+repeat_has : (before names : List (List ℕ)) → AllByRecursion IsName names → IfSome (first_repeat before names) IsName
+repeat_has before [] h = tt
+repeat_has before (name ∷ names) h = at (list_any (same_text name) before) (repeat_has (name ∷ before) names h.1)
+  where
+    at : (b : Bool) → IfSome (first_repeat (name ∷ before) names) IsName → IfSome (cond b (Some name) (first_repeat (name ∷ before) names)) IsName
+    at true later = h.0
+    at false later = later
+
+pair_fault : (f : PairText → Refusal) → ((p : PairText) → IsPairText p → IsRefusal (f p)) → (o : Option PairText) → IfSome o IsPairText → IfSome (option_map f o) IsRefusal
+pair_fault f each None h = tt
+pair_fault f each (Some p) h = each p h
+
+name_fault : (o : Option (List ℕ)) → IfSome o IsName → IfSome (option_map Twice o) IsRefusal
+name_fault None h = tt
+name_fault (Some name) h = h
+
+pair_names : (pairs : List PairText) → AllByRecursion IsPairText pairs → AllByRecursion IsName (names_in pairs)
+pair_names [] h = tt
+pair_names (p ∷ pairs) h = (h.0.variable, pair_names pairs h.1)
+
+-- the pairs of a question are texts
+pairs_are : (q : QuestionText) → IsQuestionText q → AllByRecursion IsPairText (pairs_of q)
+pairs_are q h = (h.target, recursion_from_All IsPairText q.condition.items h.condition.each)
+
+unknown_has : (network : List Variable) (pairs : List PairText) → AllByRecursion IsPairText pairs → IfSome (unknown network pairs) IsRefusal
+unknown_has network pairs h = pair_fault Unknown (λ p text. text) _ (found_has IsPairText _ pairs h)
+
+impossible_has : (network : List Variable) (H : List Entry) (pairs : List PairText) → AllByRecursion IsPairText pairs → IfSome (impossible network H pairs) IsRefusal
+impossible_has network H pairs h = pair_fault Impossible (λ p text. text) _ (found_has IsPairText _ pairs h)
+
+twice_has : (pairs : List PairText) → AllByRecursion IsPairText pairs → IfSome (twice (names_in pairs)) IsRefusal
+twice_has pairs h = name_fault _ (repeat_has [] (names_in pairs) (pair_names pairs h))
+
+stale_has : (H : List Entry) (seen : Option ℕ) → revision H + 1 < 2 ^ 63 → IfSome seen IsShort → IfSome (stale H seen) IsRefusal
+stale_has H None fits short = tt
+stale_has H (Some named) fits short = faulted _ _ (omega (arith, short), omega (arith, fits))
+
+-- the variables of a network, counted from n on, have names
+numbered_named : (n : ℕ) (vs : List Variable) → AllByRecursion (λ (v : Variable). IsName v.name) vs → AllByRecursion (λ (numbered : ℕ × Variable). IsName (numbered.1).name) (enumerate_from n vs)
+numbered_named n [] h = tt
+numbered_named n (v ∷ vs) h = (h.0, numbered_named (n + 1) vs h.1)
+
+variables_named : (network : List Variable) → IsNetwork network → AllByRecursion (λ (v : Variable). IsName v.name) network
+variables_named network net = recursion_from_All (λ (v : Variable). IsName v.name) network (λ k d inside. (net.each k d inside).name)
+
+open_fault : (o : Option (ℕ × Variable)) → IfSome o (λ (numbered : ℕ × Variable). IsName (numbered.1).name)
+    → IfSome (option_map (λ (numbered : ℕ × Variable). Unresolved (numbered.1).name) o) IsRefusal
+open_fault None h = tt
+open_fault (Some numbered) h = h
+
+unresolved_has : (network : List Variable) (H : List Entry) → IsNetwork network → IfSome (unresolved network H) IsRefusal
+unresolved_has network H net = open_fault _ (found_has (λ (numbered : ℕ × Variable). IsName (numbered.1).name) _ (enumerate_from 0 network) (numbered_named 0 network (variables_named network net)))
+
+-- limits that are right have a text
+limits_have : (limits : Interval) → IsWithinRange limits → AreLimits limits
+limits_have None h = tt
+limits_have (Some (low, high)) h = record { positive = h.0; ordered = h.1; below = h.2 }
+
+right_limits_have : (network : List Variable) (H : List Entry) (u : ℕ) (asked : Asked) (limits : Interval) → AreRightLimits network H u asked limits → AreLimits limits
+right_limits_have network H u asked limits h = limits_have limits h.right.in_range
+
+-- the low end of a price is no more than one
+low_at_most_one : (small : Type 0) (price : Fraction) (low high : ℕ) → IsPositivePrice price → CoversPrice small price low high → low ≤ 10 ^ 10
+low_at_most_one small price low high positive covers = at (cases_lt (10 ^ 10) low)
+  where
+    at : (10 ^ 10 < low) ⊎ (low ≤ 10 ^ 10) → low ≤ 10 ^ 10
+    at (inl more) =
+        let next : 10 ^ 10 + 1 ≤ low = omega arith in
+        let above : (10 ^ 10 + 1) * price.den ≤ low * price.den = mul-le-mul_right price.den next in
+        absurd (omega (arith, covers.below, positive.positive, positive.at_most_one))
+    at (inr most) = most
+
+-- payments of a bounded history have texts
+payments_have : (H : List Entry) (b : ℕ) (s : List ℕ) → ((u low high : ℕ) (covers : CoversCash (factor H u s) b low high) → high < 2 ^ 63)
+    → (n : ℕ) (names : List (List ℕ)) (payments : List Payment) → AllByRecursion IsName names → AllZip (IsPayment H b s) (enumerate_from n names) payments → AllByRecursion HasText payments
+payments_have H b s fits n [] [] named paid = tt
+payments_have H b s fits n [] (payment ∷ payments) named paid = absurd paid
+payments_have H b s fits n (name ∷ names) [] named paid = absurd paid
+payments_have H b s fits n (name ∷ names) (payment ∷ payments) named paid =
+    let high : payment.high < 2 ^ 63 = fits n payment.low payment.high paid.0.covers in (
+      record { user = subst IsName (sym paid.0.name) named.0; low = omega (arith, paid.0.covers.above, paid.0.covers.below); high = high; paid = paid.0.low_end },
+      payments_have H b s fits (n + 1) names payments named.1 paid.1,
+    )
+
+-- a reply that is known
+reply_has : (reply known : Reply) → reply ≡ known → IsReply known → IsReply reply
+reply_has reply known e h = subst (λ (r : Reply). IsReply r) (sym e) h
+
+module _ (market : Market) (now : Standing) (is_market : IsMarket market) (ready : IsReady market now) (bounded : IsBounded market now.history) where
+  abbrev network : List Variable
+  network = network_of market now.history
+
+  abbrev H : List Entry
+  H = now.history
+
+  next : revision H + 1 < 2 ^ 63
+  next = revision_fits market H is_market ready.stands bounded
+
+  refusals_have : (command : Command) → IsCommand command → AllByRecursion (λ o. IfSome o IsRefusal) (refusals market H command)
+  refusals_have (User u) text = (faulted _ _ tt, (faulted _ _ text, (faulted _ _ refl, tt)))
+  refusals_have (Deposit u bits) text = (faulted _ _ tt, (faulted _ _ text.0, (faulted _ _ (omega (arith, text.1)), (faulted _ _ (omega arith), tt))))
+  refusals_have (Withdraw u bits) text = (faulted _ _ tt, (faulted _ _ text.0, (faulted _ _ (omega (arith, text.1)), (faulted _ _ (omega arith), tt))))
+  refusals_have (Price q) text =
+      let pairs = pairs_are q text in
+      (faulted _ _ tt, (unknown_has network (pairs_of q) pairs, (twice_has (pairs_of q) pairs, (faulted _ _ pairs.0.variable, (impossible_has network H q.condition.items pairs.1, (faulted _ _ tt, tt))))))
+  refusals_have (Limits u q) text =
+      let pairs = pairs_are q text.1 in
+      (faulted _ _ tt, (faulted _ _ text.0, (unknown_has network (pairs_of q) pairs, (twice_has (pairs_of q) pairs, (faulted _ _ pairs.0.variable, (impossible_has network H q.condition.items pairs.1, (faulted _ _ tt, tt)))))))
+  refusals_have (Edit u q X seen) text =
+      let pairs = pairs_are q text.1 in (
+        faulted _ _ tt,
+        (
+          faulted _ _ text.0,
+          (
+            unknown_has network (pairs_of q) pairs,
+            (
+              twice_has (pairs_of q) pairs,
+              (
+                stale_has H seen next text.3,
+                (
+                  faulted _ _ pairs.0.variable,
+                  (impossible_has network H q.condition.items pairs.1, (faulted _ _ tt, (faulted _ _ (omega (arith, text.2)), (faulted _ _ (omega (arith, is_market.few_trades)), tt)))),
+                ),
+              ),
+            ),
+          ),
+        ),
+      )
+  refusals_have (Worst u) text = (faulted _ _ tt, (faulted _ _ text, tt))
+  refusals_have (Resolve p) text = (faulted _ _ tt, (unknown_has network (p ∷ []) (text, tt), (faulted _ _ text.variable, tt)))
+  refusals_have Settle text = (faulted _ _ tt, (unresolved_has network H is_market.network, tt))
+
+  refusal_has : (command : Command) (why : Refusal) → IsCommand command → first_refusal market H command ≡ Some why → IsRefusal why
+  refusal_has command why text e = subst (λ (o : Option Refusal). IfSome o IsRefusal) e (first_has (refusals market H command) (refusals_have command text))
+
+  trade_has : (u : ℕ) (asked : Asked) (X : ℕ) (reply : Reply) → IsTrade network H u asked X reply → IsReply reply
+  trade_has u asked X reply trade = reply_has reply _ trade.printed (
+    record { positive = trade.fair.hit_units.fair.positive; below = trade.fair.hit_units.fair.fits },
+    record { positive = trade.fair.miss_units.fair.positive; below = trade.fair.miss_units.fair.fits },
+    next,
+  )
+
+  judged_has : (u : ℕ) (asked : Asked) (X : ℕ) (reply : Reply) (o : Option Interval) → current_limits (last_quote now.quotes u) asked (revision H) ≡ o
+      → MatchOption o (IsJudgedAfresh network H u asked X reply) (λ limits. IsJudged network H u asked X limits reply) → IsReply reply
+  judged_has u asked X reply None e (inl trade) = trade_has u asked X reply trade
+  judged_has u asked X reply None e (inr beyond) = reply_has reply _ beyond.beyond.printed (right_limits_have network H u asked beyond.limits beyond.right)
+  judged_has u asked X reply (Some limits) e (inl trade) = trade_has u asked X reply trade.1
+  judged_has u asked X reply (Some limits) e (inr beyond) = reply_has reply _ beyond.printed
+      (right_limits_have network H u asked limits (current_right market H u asked limits (last_quote now.quotes u) (ready.quotes_right u) e))
+
+  withdrawal_has : (u : List ℕ) (bits g : ℕ) (reply : Reply) → IsName u → IsShort bits → IsWithdrawal (IsSmall network H) (factor_with H (user_number H u) g) u bits (revision H + 1) reply → IsReply reply
+  withdrawal_has u bits g reply named short (inl taken) = reply_has reply _ taken.1 (named, omega (arith, short), next)
+  withdrawal_has u bits g reply named short (inr less) = reply_has reply _ less.printed (omega (arith, short, less.less))
+
+  settlement_has : (reply : Reply) → IsSettlement network H market.points_per_bit reply → IsReply reply
+  settlement_has reply settlement =
+      let each : AllByRecursion HasText settlement.payments = payments_have H market.points_per_bit settlement.state
+      (λ u low high covers. cash_fits H u settlement.state market.points_per_bit low high bounded.within is_market.few_points covers) 0 (users H) settlement.payments bounded.users_named settlement.paid in
+      let many : length settlement.payments ≡ length (users H) = AllZip-long (IsPayment H market.points_per_bit settlement.state) (enumerate_from 0 (users H)) settlement.payments settlement.paid ∙ length-enumerate_from 0 (users H) in
+      reply_has reply _ settlement.printed (next, record { few = omega (arith, bounded.few_users); each = All-from_recursion HasText settlement.payments each })
+
+  answer_has : (command : Command) (reply : Reply) → IsCommand command → first_refusal market H command ≡ None → IsAnswer market H now.quotes command reply → IsReply reply
+  answer_has (User u) reply text none (inl e) = reply_has reply _ e (text, next)
+  answer_has (User u) reply text none (inr e) = reply_has reply _ e tt
+  answer_has (Deposit u bits) reply text none h = reply_has reply _ h (text.0, omega (arith, text.1), next)
+  answer_has (Withdraw u bits) reply text none h =
+      let least = value_of _ (least_gain network H (user_number H u) always) h in
+      withdrawal_has u bits least.0 reply text.0 text.1 least.2
+  answer_has (Price q) reply text none h =
+      let refused = none_applies (refusals market H (Price q)) none in
+      let price = value_of _ (question_named network q) h in
+      let exact = price_exists network H price.0 is_market.network ready.stands.proper
+      (can_be_asked network H q price.0 price.1 refused.1.0 refused.1.1.0 refused.1.1.1.0 refused.1.1.1.1.0) in
+      reply_has reply _ price.2.printed (low_at_most_one (IsSmall network H) (exact_price network H price.0) price.2.low price.2.high exact.exact price.2.covers, price.2.covers.at_most_one)
+  answer_has (Limits u q) reply text none h =
+      let limits = value_of _ (question_named network q) h in
+      reply_has reply _ limits.2.printed (right_limits_have network H (user_number H u) limits.0 limits.2.limits limits.2.right, omega (arith, next))
+  answer_has (Edit u q X seen) reply text none h =
+      let judged = value_of _ (question_named network q) h in
+      judged_has (user_number H u) judged.0 X reply (current_limits (last_quote now.quotes (user_number H u)) judged.0 (revision H)) refl judged.2
+  answer_has (Worst u) reply text none h =
+      let least = value_of _ (least_gain network H (user_number H u) always) h in
+      let high = least_cash_fits network H (user_number H u) always least.0 market.points_per_bit least.2.low least.2.high bounded.within is_market.few_points least.1 least.2.covers in
+      reply_has reply _ least.2.printed (omega (arith, high, least.2.covers.above, least.2.covers.below), high)
+  answer_has (Resolve p) reply text none h = reply_has reply _ h (text, next)
+  answer_has Settle reply text none h = settlement_has reply h
+
+  command_has : (command : Command) (reply : Reply) → IsCommand command → IsAllowed market H now.quotes command reply → IsReply reply
+  command_has command reply text h = at (first_refusal market H command) refl h
+    where
+      at : (o : Option Refusal) → first_refusal market H command ≡ o → MatchOption o (IsAnswer market H now.quotes command reply) (λ why. reply ≡ Refused why) → IsReply reply
+      at None none h = answer_has command reply text none h
+      at (Some why) e h = reply_has reply _ h (refusal_has command why text e)
+
+pub replies_have_texts : (market : Market) (now : Standing) (line : Line) (reply : Reply) → IsMarket market → IsReady market now → IsBounded market now.history → IsLine line
+    → IsAllowedFor market now line reply → IsReply reply
+replies_have_texts market now (OfCommand command) reply is_market ready bounded text h = command_has market now is_market ready bounded command reply text h
+replies_have_texts market now NoCommand reply is_market ready bounded text h = reply_has reply _ h tt
+replies_have_texts market now LongLine reply is_market ready bounded text h = reply_has reply _ h tt
