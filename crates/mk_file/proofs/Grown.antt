@@ -15,6 +15,7 @@ use Rattle.mk_net.specs.Firsts.{fault_if, or_else, first_in}
 use Rattle.mk_net.specs.Checked.{is_within, number_of, has_double, checked_variable, checked_network, count_at, count_fault, later_fault as draft_later, first_fault, name_at}
 use Rattle.mk_net.specs.declared.key.Key.{Key}
 use Rattle.mk_net.specs.declared.key.Key.TheVariants.{PointsPerBit, MaxTrades, Variable as VariableKey, Cliques, Links}
+use Rattle.mk_net.proofs.Checked.{checked_is_network}
 use Rattle.mk_tree.specs.Given.{GivenTree, AreLinked}
 use Rattle.mk_tree.specs.Tests.{tree_fault}
 use Rattle.mk_tree.specs.declared.fault.TreeFault.{TreeFault}
@@ -35,22 +36,8 @@ passed false fault h = refl
 passed true fault h = cc
 
 -- the names of a checked network are names
-name_of : (bytes : List ℕ) → is_name bytes ≡ true → IsName bytes
-name_of bytes h =
-    let parts = and_parts (nat_le (length bytes) max_name_bytes) (begins_with_letter bytes && list_all is_name_byte bytes) h in
-    let more = and_parts (begins_with_letter bytes) (list_all is_name_byte bytes) parts.1 in
-    record { short = leb-true (length bytes) max_name_bytes parts.0; first = more.0; each = more.1 }
-
-names_from : (all vs : List DraftOfVariable) (k : ℕ) → first_in name_at k vs ≡ None → All (λ (v : Variable). IsName v.name) (map (checked_variable all) vs)
-names_from all [] k h = All-nil (λ (v : Variable). IsName v.name)
-names_from all (v ∷ vs) k h =
-    let parts = none_of (name_at k v) (first_in name_at (k + 1) vs) h in
-    let fine = not-false (is_name v.name && list_all is_name v.values) (passed (not (is_name v.name && list_all is_name v.values)) _ parts.0) in
-    All-cons (λ (v : Variable). IsName v.name) (checked_variable all v) (map (checked_variable all) vs)
-    (name_of v.name (and_parts (is_name v.name) (list_all is_name v.values) fine).0) (names_from all vs (k + 1) parts.1)
-
 pub names_are : (drafts : List DraftOfVariable) → first_fault drafts ≡ None → All (λ (v : Variable). IsName v.name) (checked_network drafts)
-names_are drafts h = names_from drafts drafts 1 (none_of (first_in name_at 1 drafts) _ (none_of (count_fault drafts) (draft_later drafts) h).1).0
+names_are drafts h = λ k d inside. ((checked_is_network drafts h).each k d inside).name
 
 -- the network has the numbers of the draft
 placed : (all vs : List DraftOfVariable) (name : List ℕ)

@@ -4,6 +4,7 @@ use Rattle.mk_net.specs.declared.key.Key.{Key}
 use Rattle.mk_net.specs.declared.key.Key.TheVariants.{PointsPerBit, MaxTrades, Variable, Cliques, Links}
 use Rattle.mk_net.specs.declared.fault.NetFault.{NetFault}
 use Rattle.mk_net.specs.declared.fault.NetFault.TheVariants.{Count as NetCount, BadName as NetBadName, Repeat as NetRepeat, Parent as NetParent, Rows as NetRows, Width as NetWidth, Entry as NetEntry, Sum as NetSum, Memory as NetMemory}
+use Rattle.mk_net.specs.Bounds.{max_variables, max_cliques, max_market_trades, max_points_per_bit}
 use Rattle.mk_net.specs.Firsts.{fault_if, first_of, first_in}
 use Rattle.mk_net.specs.Checked.{is_within, count_at, later_fault}
 use Rattle.mk_file.specs.declared.fault.FileFault.{FileFault}
@@ -38,17 +39,17 @@ items_fault key low high place n = fault_if (not (is_within low high n)) (Count 
 abbrev pub links_fault : List (List (List ℕ)) → List ℤ → Option FileFault
 links_fault cliques links = fault_if (not (length links + 1 == length cliques)) (Count Links 0 (pos (length links)))
 
--- a clique has 1 to 256 names
+-- a clique has a name, and at most one for each variable that there may be
 abbrev pub names_at : ℕ → List (List ℕ) → Option FileFault
-names_at k names = items_fault Cliques 1 256 k (length names)
+names_at k names = items_fault Cliques 1 max_variables k (length names)
 
 -- the first number outside its limits: those of the top, then those of the variables, then those of the cliques
 abbrev pub counts_fault : DraftOfMarket → Option FileFault
 counts_fault draft = first_of (
-    whole_fault PointsPerBit 1 1000000 draft.points_per_bit
-    ∷ whole_fault MaxTrades 1 65536 draft.max_trades
-    ∷ items_fault Variable 1 256 0 (length draft.variables)
-    ∷ items_fault Cliques 1 256 0 (length draft.cliques)
+    whole_fault PointsPerBit 1 max_points_per_bit draft.points_per_bit
+    ∷ whole_fault MaxTrades 1 max_market_trades draft.max_trades
+    ∷ items_fault Variable 1 max_variables 0 (length draft.variables)
+    ∷ items_fault Cliques 1 max_cliques 0 (length draft.cliques)
     ∷ links_fault draft.cliques draft.links
     ∷ option_map of_net (first_in count_at 1 draft.variables)
     ∷ first_in names_at 1 draft.cliques

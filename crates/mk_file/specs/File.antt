@@ -3,6 +3,7 @@ use Rattle.std.specs.Prelude.{ℕ, List, [], ◌∷◌, length, map, nat_abs, Bo
 use Rattle.std.specs.Str.{is_utf8}
 use Rattle.toml.specs.Data.{Members}
 use Rattle.toml.specs.Parse.{parse_document}
+use Rattle.mk_net.specs.Bounds.{max_clique_cells}
 use Rattle.mk_net.specs.Drafts.{DraftOfVariable}
 use Rattle.mk_net.specs.Firsts.{fault_if, first_of, first_in}
 use Rattle.mk_net.specs.Checked.{checked_network}
@@ -23,9 +24,9 @@ max_file_bytes = 1048576
 abbrev pub states_together : List DraftOfVariable → ℕ
 states_together variables = product_by (λ (v : DraftOfVariable). length v.values) variables
 
--- more states together than one table holds
+-- more states together than a clique may have cells
 abbrev pub large_fault : DraftOfMarket → Option FileFault
-large_fault draft = fault_if (nat_lt 4096 (states_together draft.variables)) Large
+large_fault draft = fault_if (nat_lt max_clique_cells (states_together draft.variables)) Large
 
 -- the first fault of a draft
 abbrev pub draft_fault : DraftOfMarket → Option FileFault

@@ -41,6 +41,10 @@ max_transfers = 65536
 abbrev pub max_transfer_bits : ℕ
 max_transfer_bits = 1000
 
+-- points that a bit is worth
+abbrev pub max_points_per_bit : ℕ
+max_points_per_bit = 1000000
+
 -- numbers that are printed are below this
 abbrev pub number_limit : ℕ
 number_limit = 2 ^ 63

@@ -4,6 +4,7 @@ use Rattle.std.specs.List.{list_all}
 use Rattle.mk_net.specs.declared.words.Pair.{Pair}
 use Rattle.mk_net.specs.declared.sets.VarSet.{VarSet}
 use Rattle.mk_net.specs.Sets.{is_member, no_variables}
+use Rattle.mk_net.specs.Bounds.{max_cliques}
 use Rattle.mk_net.specs.Network.{Variable}
 use Rattle.mk_sums.specs.Trees.{Links, Joined}
 
@@ -27,7 +28,7 @@ link_of t k = slice_index t.links (k - 2)
 -- 1 to 256 cliques, each after the first with its link to an earlier one
 pub record AreLinked (t : GivenTree) : Type 0 where
   pub some : 1 ≤ length t.cliques
-  pub few : length t.cliques ≤ 256
+  pub few : length t.cliques ≤ max_cliques
   pub one_link_each : length t.links + 1 ≡ length t.cliques
   pub earlier : Links (link_of t) (length t.cliques)
 

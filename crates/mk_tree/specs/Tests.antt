@@ -2,6 +2,7 @@
 use Rattle.std.specs.Prelude.{ℕ, ◌+◌, List, [], ◌∷◌, length, filter, Bool, ◌&&◌, ◌||◌, not, ◌==◌, nat_lt, nat_le, if◌then◌else◌, Option, Some, None, option_map, find, count_by}
 use Rattle.std.specs.List.{list_all, list_any, range_with_len}
 use Rattle.mk_net.specs.declared.sets.VarSet.{VarSet}
+use Rattle.mk_net.specs.Bounds.{max_clique_cells, max_cells}
 use Rattle.mk_net.specs.Sets.{is_member}
 use Rattle.mk_net.specs.Network.{Variable, sizes, choices}
 use Rattle.mk_net.specs.Named.{variable_at}
@@ -35,11 +36,11 @@ members network set = filter (is_member set) (numbers_below (length network))
 abbrev pub cells_of : List Variable → VarSet → ℕ
 cells_of network set = choices (sizes network) (members network set)
 
--- the first clique, from number k on, that has more than 4,096 cells or with which there are more than 32,768
+-- the first clique, from number k on, that has too many cells, or with which there are too many
 abbrev pub first_too_large : List Variable → ℕ → ℕ → List VarSet → Option ℕ
 first_too_large network k before [] = None
 first_too_large network k before (set ∷ sets) =
-    if nat_lt 4096 (cells_of network set) || nat_lt 32768 (before + cells_of network set) then Some k
+    if nat_lt max_clique_cells (cells_of network set) || nat_lt max_cells (before + cells_of network set) then Some k
     else first_too_large network (k + 1) (before + cells_of network set) sets
 
 -- the first of the network's variables for which a test fails, numbered from 1
