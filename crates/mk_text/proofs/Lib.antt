@@ -1,4 +1,5 @@
 pub mod WordLemmas
+pub mod Rests
 pub mod NumberLemmas
 pub mod ReadingLaws
 pub mod PartLaws

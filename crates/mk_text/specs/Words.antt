@@ -1,5 +1,5 @@
 -- The words at the front of some bytes.
-use Rattle.std.specs.Prelude.{◌≡◌, ℕ, List, [], ◌∷◌, take, drop, Bool, true, not, Option, Some, None, if◌then◌else◌, ◌==◌}
+use Rattle.std.specs.Prelude.{◌≡◌, ℕ, List, [], ◌∷◌, ◌++◌, take, drop, Bool, true, not, Option, Some, None, if◌then◌else◌, ◌==◌}
 use Rattle.std.specs.List.{prefix_len}
 use Rattle.mk_net.specs.Name.{is_name_byte}
 
@@ -27,3 +27,7 @@ unfoldable pub after : List ℕ → List ℕ → Option (List ℕ)
 after [] bytes = Some bytes
 after (b ∷ text) [] = None
 after (b ∷ text) (c ∷ bytes) = if b == c then after text bytes else None
+
+-- what is left of some bytes when a part at the front is read
+unfoldable pub IsRestOf : List ℕ → List ℕ → Type 0
+IsRestOf left bytes = (front : List ℕ) × (bytes ≡ front ++ left)

@@ -1,7 +1,7 @@
 //! Reading names, numbers, pairs and questions from the front of some bytes.
 
 ghost use Rattle.std.specs.Prelude.{◌≡◌, ◌<◌, ◌≤◌, ◌^◌, false, IfSome, Some, None, option_map, if◌then◌else◌, ◌==◌, length, take, drop};
-ghost use Rattle.mk_text.specs.Words.{word, word_len, behind_word, after};
+ghost use Rattle.mk_text.specs.Words.{word, word_len, behind_word, after, IsRestOf};
 ghost use Rattle.mk_text.specs.Reading.{Finds, read_name, read_number, read_pair, read_condition, more_pairs, read_question, read_price, read_range, read_limits};
 ghost use Rattle.arrayvec.specs.ArrayVec.{array_vec_len};
 
@@ -12,7 +12,8 @@ use arrayvec::ArrayVec;
 use mk_net::{Name, PairText, QuestionText};
 use std::marker::Model;
 
-/// The bytes of a text that are not read yet.
+/// The bytes of a text that are not read yet. Reading goes forward alone: where a part is not found, and the answer is
+/// `None`, what is left is still an end of what was left before.
 #[derive(Drop)]
 pub struct Reader<'a> {
     left: &'a [u8],
@@ -45,6 +46,7 @@ impl<'a> Reader<'a> {
     pub fn skip(&mut self, text: &[u8]) -> bool
         ensures passed { after text.now self.old ≡ (if result then Some self.new else None) }
         ensures kept { result ≡ false → self.new ≡ self.old }
+        ensures rest { IsRestOf self.new self.old }
     {
         match self.left.strip_prefix(text) {
             Some(left) => {
@@ -55,34 +57,39 @@ impl<'a> Reader<'a> {
         }
     }
 
-    /// Passes over a text that has to be the next.
+    /// Passes over a text that has to be the next. Otherwise nothing is read.
     pub fn expect(&mut self, text: &[u8]) -> Option<()>
-        ensures { after text.now self.old ≡ option_map (λ _. self.new) result }
+        ensures passed { after text.now self.old ≡ option_map (λ _. self.new) result }
+        ensures kept { result ≡ None → self.new ≡ self.old }
+        ensures rest { IsRestOf self.new self.old }
     {
         if self.skip(text) { Some(()) } else { None }
     }
 
     /// The name that is the next word.
-    #[tactic(auto, unfolding(crate::specs::Reading::read_name))]
+    #[tactic(auto, using(crate::proofs::Rests::rest_of_word), unfolding(crate::specs::Reading::read_name))]
     pub fn name(&mut self) -> Option<Name>
-        ensures { Finds result self.new (read_name self.old) }
+        ensures found { Finds result self.new (read_name self.old) }
+        ensures rest { IsRestOf self.new self.old }
     {
         Name::read(self.word())
     }
 
     /// The number below a limit that is the next word, without leading zeros.
-    #[tactic(auto, unfolding(crate::specs::Reading::read_number))]
+    #[tactic(auto, using(crate::proofs::Rests::rest_of_word), unfolding(crate::specs::Reading::read_number))]
     pub fn number(&mut self, limit: u64) -> Option<u64>
         ensures found { Finds result self.new (read_number limit self.old) }
         ensures below { IfSome result (λ n. n < limit) }
+        ensures rest { IsRestOf self.new self.old }
     {
         number_of(self.word(), limit)
     }
 
     /// A pair of a variable and a value.
-    #[tactic(auto, unfolding(crate::specs::Reading::read_pair))]
+    #[tactic(auto, using(crate::proofs::Rests::rest_of_rest), unfolding(crate::specs::Reading::read_pair))]
     pub fn pair(&mut self) -> Option<PairText>
-        ensures { Finds result self.new (read_pair self.old) }
+        ensures found { Finds result self.new (read_pair self.old) }
+        ensures rest { IsRestOf self.new self.old }
     {
         let variable = self.name()?;
         self.expect(b"=")?;
@@ -91,9 +98,10 @@ impl<'a> Reader<'a> {
     }
 
     /// A question with its condition.
-    #[tactic(auto, unfolding(crate::specs::Reading::read_question))]
+    #[tactic(auto, using(crate::proofs::Rests::rest_of_rest), unfolding(crate::specs::Reading::read_question))]
     pub fn question(&mut self) -> Option<QuestionText>
-        ensures { Finds result self.new (read_question self.old) }
+        ensures found { Finds result self.new (read_question self.old) }
+        ensures rest { IsRestOf self.new self.old }
     {
         let target = self.pair()?;
         let condition = self.condition()?;
@@ -101,9 +109,10 @@ impl<'a> Reader<'a> {
     }
 
     /// A condition of at most eight pairs. It may be empty.
-    #[tactic(auto, unfolding(crate::specs::Reading::read_condition))]
+    #[tactic(auto, using(crate::proofs::Rests::rest_of_rest), unfolding(crate::specs::Reading::read_condition))]
     pub fn condition(&mut self) -> Option<ArrayVec<PairText, 8>>
-        ensures { Finds (option_map (λ pairs. pairs.items) result) self.new (read_condition self.old) }
+        ensures found { Finds (option_map (λ pairs. pairs.items) result) self.new (read_condition self.old) }
+        ensures rest { IsRestOf self.new self.old }
     {
         let mut pairs = ArrayVec::new();
         if !self.skip(b" | ") {
@@ -114,9 +123,11 @@ impl<'a> Reader<'a> {
         Some(pairs)
     }
 
+    #[tactic(auto, using(crate::proofs::Rests::rest_of_rest, crate::proofs::Rests::rest_all))]
     fn more_pairs(&mut self, pairs: &mut ArrayVec<PairText, 8>) -> Option<()>
         requires { array_vec_len pairs.old ≤ 1 }
-        ensures { Finds (option_map (λ _. pairs.new.items) result) self.new (more_pairs pairs.old.items self.old) }
+        ensures found { Finds (option_map (λ _. pairs.new.items) result) self.new (more_pairs pairs.old.items self.old) }
+        ensures rest { IsRestOf self.new self.old }
     {
         'pairs: for _ in 0..7usize {
             if !self.skip(b", ") {
@@ -128,10 +139,11 @@ impl<'a> Reader<'a> {
     }
 
     /// A price in its units, of which ten thousand million make one point.
-    #[tactic(auto, unfolding(crate::specs::Reading::read_price))]
+    #[tactic(auto, using(crate::proofs::Rests::rest_of_rest, crate::proofs::Rests::rest_of_word), unfolding(crate::specs::Reading::read_price))]
     pub fn price(&mut self) -> Option<u64>
         ensures found { Finds result self.new (read_price self.old) }
         ensures at_most_one { IfSome result (λ price. price ≤ 10 ^ 10) }
+        ensures rest { IsRestOf self.new self.old }
     {
         let whole = self.number(2)?;
         self.expect(b".")?;
@@ -141,10 +153,11 @@ impl<'a> Reader<'a> {
     }
 
     /// Two numbers below a limit with two points between them.
-    #[tactic(auto, unfolding(crate::specs::Reading::read_range))]
+    #[tactic(auto, using(crate::proofs::Rests::rest_of_rest), unfolding(crate::specs::Reading::read_range))]
     pub fn range(&mut self, limit: u64) -> Option<(u64, u64)>
         ensures found { Finds result self.new (read_range limit self.old) }
         ensures below { IfSome result (λ range. (range.0 < limit) × (range.1 < limit)) }
+        ensures rest { IsRestOf self.new self.old }
     {
         let low = self.number(limit)?;
         self.expect(b"..")?;
@@ -153,9 +166,10 @@ impl<'a> Reader<'a> {
     }
 
     /// Limits within a million, or none.
-    #[tactic(auto, unfolding(crate::specs::Reading::read_limits))]
+    #[tactic(auto, using(crate::proofs::Rests::rest_of_rest), unfolding(crate::specs::Reading::read_limits))]
     pub fn limits(&mut self) -> Option<Option<(u32, u32)>>
-        ensures { Finds result self.new (read_limits self.old) }
+        ensures found { Finds result self.new (read_limits self.old) }
+        ensures rest { IsRestOf self.new self.old }
     {
         if self.skip(b"none") {
             return Some(None);
