@@ -5,6 +5,8 @@ mod program;
 #[cfg(test)]
 mod rows;
 #[cfg(test)]
+mod sizes;
+#[cfg(test)]
 mod tests;
 
 use mk_io::{StdInputs, StdSink};

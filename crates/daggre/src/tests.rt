@@ -4,6 +4,7 @@ ghost use Rattle.std.specs.Prelude.{◌≤◌};
 
 use crate::program::program;
 use crate::rows::{COIN, REFUSED, Row, SERVED};
+use crate::sizes::{many_cliques, many_parents, many_variables};
 use mk_io::{MemoryInputs, MemorySink, NamedFile, Status};
 use std::alloc::{AllocError, Global};
 use std::process::Abort;
@@ -140,6 +141,28 @@ fn long_lines_and_files(rt: HostRuntime) -> Result<(), Fail> {
     let ended = run(alloc, &words, &market, b"", 4096, (&[], &[]))?;
     assert!(rt; ended.out.written() == b"refused market long\n".as_slice());
     assert!(rt; ended.status == Status::MarketRefused);
+    Ok(())
+}
+
+/// Markets of many parents and cliques are opened. One of many variables is refused for its states alone, which are
+/// counted last.
+#[test]
+fn large_markets(rt: HostRuntime) -> Result<(), Fail> {
+    let alloc = rt.alloc();
+    let words = ["run", "m.toml"];
+    for (market, output, status) in [
+        (many_parents(alloc)?, "ready 9 100\n", Status::Done),
+        (many_cliques(alloc)?, "ready 1 100\n", Status::Done),
+        (
+            many_variables(alloc)?,
+            "refused market large\n",
+            Status::MarketRefused,
+        ),
+    ] {
+        let ended = run(alloc, &words, market.as_bytes(), b"", 4096, (&[], &[]))?;
+        assert!(rt; ended.out.written() == output.as_bytes());
+        assert!(rt; ended.status == status);
+    }
     Ok(())
 }
 

@@ -1,6 +1,6 @@
 //! The walk over a document: each key there and of its kind, or the first that is not.
 
-ghost use Rattle.std.specs.Prelude.{◌≡◌, ◌+◌, map, MatchResult};
+ghost use Rattle.std.specs.Prelude.{◌≡◌, ◌+◌, ◌≤◌, map, MatchResult};
 ghost use Rattle.toml.specs.View.{table_view};
 ghost use Rattle.mk_net.specs.Drafts.{draft_of_variable};
 ghost use Rattle.mk_file.specs.Walk.{variable_in, variables_in, draft_in};
@@ -25,9 +25,9 @@ pub struct MarketDraft {
     pub links: Vec<i64>,
 }
 
-/// The place of a table, counted from 1.
+/// The place of a table, counted from 1. There is none for the table number 2^32 and those behind it.
 fn place_of(index: usize) -> Result<u32, FileFault>
-    ensures { MatchResult result (λ place. place ≡ index + 1) (λ fault. fault ≡ FileFault.Memory) }
+    ensures { MatchResult result (λ place. place ≡ index + 1) (λ fault. (fault ≡ FileFault.Memory) × (4294967295 ≤ index)) }
 {
     match u32::try_from(index) {
         Ok(index) if index < u32::MAX => Ok(index + 1),
