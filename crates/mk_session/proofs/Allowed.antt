@@ -1,7 +1,7 @@
 -- What a price is refused for in an empty history, and that no other refusal comes.
 use Rattle.std.proofs.Common.{◌≡◌, ℕ, suc, zero, ◌+◌, ◌<◌, ◌≤◌, Bool, true, false, cond, ltb, ◌&&◌, ◌||◌, not, List, [], ◌∷◌, ◌++◌, map, filter, length, ◌⊎◌, inl, inr, Option, Some, None, MatchOption, refl, sym, ap, ap₂, subst, ◌∙◌, arith}
 use Rattle.std.specs.Prelude.{◌==◌, option_map, find, is_none, is_some, IsSomeAnd, position}
-use Rattle.std.specs.List.{list_any, list_all, position_or_len, range_with_len, AllByRecursion}
+use Rattle.std.specs.List.{cons_option, list_any, list_all, position_or_len, range_with_len, AllByRecursion}
 use Rattle.std.proofs.lemmas.Bool.{eqb-true, eq-eqb, cases_eq, cases_lt, lt-ltb, le-ltb}
 use Rattle.mk_net.specs.declared.words.Pair.{Pair}
 use Rattle.mk_net.specs.declared.words.PairText.{PairText}
@@ -12,7 +12,7 @@ use Rattle.mk_net.specs.Events.{pairs_asked}
 use Rattle.mk_net.specs.Sets.{is_member}
 use Rattle.mk_net.specs.Firsts.{or_else}
 use Rattle.mk_net.specs.Network.{Variable}
-use Rattle.mk_net.specs.Named.{pair_named}
+use Rattle.mk_net.specs.Named.{pair_named, variable_named}
 use Rattle.mk_exact.specs.Market.{Market}
 use Rattle.mk_exact.specs.Proper.{IsPairOf, IsQuestionOf}
 use Rattle.mk_tree.specs.Given.{GivenTree, home, holds_event}
@@ -22,15 +22,14 @@ use Rattle.mk_reply.specs.declared.refusal.Refusal.{Refusal}
 use Rattle.mk_reply.specs.declared.refusal.Refusal.TheVariants.{Unknown, Twice, Wide}
 use Rattle.mk_reply.specs.declared.reply.Reply.{Reply}
 use Rattle.mk_reply.specs.declared.reply.Reply.TheVariants.{Refused}
-use Rattle.mk_rules.specs.Refusals.{pairs_of, question_named, first_refusal, first_repeat, unknown, twice, resolved, impossible, wide, is_wide, passes, contradicts, is_resolved}
+use Rattle.mk_rules.specs.Refusals.{pairs_of, names_in, variables_in, known_pairs, question_named, first_refusal, first_repeat, unknown, twice, resolved, impossible, wide_question, is_wide, passes, contradicts, is_resolved}
 use Rattle.mk_rules.specs.Answers.{IsAllowed, IsAnswer, IsPrice}
-use Rattle.mk_rules.proofs.Unrefused.{question_known}
-use Rattle.mk_session.proofs.Questions.{names}
+use Rattle.mk_rules.proofs.Unrefused.{question_known, target_named}
 
-resolved_none : (network : List Variable) (p : PairText) → resolved network [] p ≡ None
-resolved_none network p = at (pair_named network p)
+resolved_none : (network : List Variable) (name : List ℕ) → resolved network [] name ≡ None
+resolved_none network name = at (variable_named network name)
   where
-    at : (o : Option Pair) → cond (passes (λ (t : Pair). is_resolved [] t.variable) o) (Some (Rattle.mk_reply.specs.declared.refusal.Refusal.TheVariants.Resolved p.variable)) None ≡ None
+    at : (o : Option (ℕ × Variable)) → cond (passes (λ (numbered : ℕ × Variable). is_resolved [] (numbered.0)) o) (Some (Rattle.mk_reply.specs.declared.refusal.Refusal.TheVariants.Resolved name)) None ≡ None
     at None = refl
     at (Some x) = refl
 
@@ -48,13 +47,13 @@ impossible_none network ps = ap (option_map Rattle.mk_reply.specs.declared.refus
 
 -- the three refusals that are left
 pub refusal_of : Market → QuestionText → Option Refusal
-refusal_of market q = or_else (unknown market.network (pairs_of q)) (or_else (twice q) (or_else (wide market.network market.cliques q) None))
+refusal_of market q = or_else (unknown market.network (pairs_of q)) (or_else (twice (names_in (pairs_of q))) (or_else (wide_question market [] q) None))
 
 refusal_is : (market : Market) (q : QuestionText) → first_refusal market [] (Price q) ≡ refusal_of market q
 unfolding refusal_of
 refusal_is market q =
-    ap₂ (λ (r i : Option Refusal). or_else (unknown market.network (pairs_of q)) (or_else (twice q) (or_else r (or_else i (or_else (wide market.network market.cliques q) None)))))
-    (resolved_none market.network q.target) (impossible_none market.network q.condition.items)
+    ap₂ (λ (r i : Option Refusal). or_else (unknown market.network (pairs_of q)) (or_else (twice (names_in (pairs_of q))) (or_else r (or_else i (or_else (wide_question market [] q) None)))))
+    (resolved_none market.network q.target.variable) (impossible_none market.network q.condition.items)
 
 refused_when : (market : Market) (q : QuestionText) (why : Refusal) → refusal_of market q ≡ Some why → IsAllowed market [] [] (Price q) (Refused why)
 refused_when market q why e =
@@ -64,32 +63,42 @@ pub unknown_allowed : (market : Market) (q : QuestionText) (pair : PairText) →
     → IsAllowed market [] [] (Price q) (Refused (Unknown pair))
 unfolding refusal_of
 unknown_allowed market q pair e = refused_when market q (Unknown pair)
-    (ap (λ (o : Option PairText). or_else (option_map Unknown o) (or_else (twice q) (or_else (wide market.network market.cliques q) None))) (sym e))
+    (ap (λ (o : Option PairText). or_else (option_map Unknown o) (or_else (twice (names_in (pairs_of q))) (or_else (wide_question market [] q) None))) (sym e))
 
 pub twice_allowed : (market : Market) (q : QuestionText) (variable : List ℕ) → None ≡ find (λ p. is_none (pair_named market.network p)) (pairs_of q)
-    → Some variable ≡ first_repeat [] (names (pairs_of q)) → IsAllowed market [] [] (Price q) (Refused (Twice variable))
+    → Some variable ≡ first_repeat [] (names_in (pairs_of q)) → IsAllowed market [] [] (Price q) (Refused (Twice variable))
 unfolding refusal_of
 twice_allowed market q variable e f = refused_when market q (Twice variable)
-    (ap₂ (λ (o : Option PairText) (n : Option (List ℕ)). or_else (option_map Unknown o) (or_else (option_map Twice n) (or_else (wide market.network market.cliques q) None))) (sym e) (sym f))
+    (ap₂ (λ (o : Option PairText) (n : Option (List ℕ)). or_else (option_map Unknown o) (or_else (option_map Twice n) (or_else (wide_question market [] q) None))) (sym e) (sym f))
+
+-- the variables of a question, the target's first
+abbrev pub asked_variables : Asked → List ℕ
+asked_variables asked = asked.target.variable ∷ variables_in asked.condition
+
+-- the pairs of a question that is known
+pairs_known : (network : List Variable) (q : QuestionText) (asked : Asked) → question_named network q ≡ Some asked → known_pairs network (pairs_of q) ≡ asked.target ∷ asked.condition
+pairs_known network q asked named =
+    let parts = target_named network q asked named in
+    ap (λ (o : Option Pair). cons_option o (known_pairs network q.condition.items)) parts.0 ∙ ap (λ (ps : List Pair). asked.target ∷ ps) (sym parts.1)
 
 -- which refusal a question that is known and has no variable twice meets
 third : (market : Market) (q : QuestionText) (asked : Asked) (b : Bool) → None ≡ find (λ p. is_none (pair_named market.network p)) (pairs_of q)
-    → None ≡ first_repeat [] (names (pairs_of q)) → question_named market.network q ≡ Some asked → is_wide market.cliques asked ≡ b → refusal_of market q ≡ cond b (Some Wide) None
+    → None ≡ first_repeat [] (names_in (pairs_of q)) → question_named market.network q ≡ Some asked → is_wide market.cliques (asked_variables asked) ≡ b → refusal_of market q ≡ cond b (Some Wide) None
 unfolding refusal_of
 third market q asked b e f named h =
-    ap₂ (λ (o : Option PairText) (n : Option (List ℕ)). or_else (option_map Unknown o) (or_else (option_map Twice n) (or_else (wide market.network market.cliques q) None))) (sym e) (sym f)
-    ∙ ap (λ (o : Option Asked). or_else (cond (passes (is_wide market.cliques) o) (Some Wide) None) None) named ∙ ap (λ (b : Bool). or_else (cond b (Some Wide) None) None) h ∙ at b
+    ap₂ (λ (o : Option PairText) (n : Option (List ℕ)). or_else (option_map Unknown o) (or_else (option_map Twice n) (or_else (wide_question market [] q) None))) (sym e) (sym f)
+    ∙ ap (λ (ps : List Pair). or_else (cond (is_wide market.cliques (variables_in ps)) (Some Wide) None) None) (pairs_known market.network q asked named) ∙ ap (λ (b : Bool). or_else (cond b (Some Wide) None) None) h ∙ at b
   where
     at : (b : Bool) → or_else (cond b (Some Wide) None) None ≡ cond b (Some Wide) None
     at true = refl
     at false = refl
 
 pub wide_allowed : (market : Market) (q : QuestionText) (asked : Asked) → None ≡ find (λ p. is_none (pair_named market.network p)) (pairs_of q)
-    → None ≡ first_repeat [] (names (pairs_of q)) → question_named market.network q ≡ Some asked → is_wide market.cliques asked ≡ true → IsAllowed market [] [] (Price q) (Refused Wide)
+    → None ≡ first_repeat [] (names_in (pairs_of q)) → question_named market.network q ≡ Some asked → is_wide market.cliques (asked_variables asked) ≡ true → IsAllowed market [] [] (Price q) (Refused Wide)
 wide_allowed market q asked e f named h = refused_when market q Wide (third market q asked true e f named h)
 
 pub price_allowed : (market : Market) (q : QuestionText) (asked : Asked) (reply : Reply) → None ≡ find (λ p. is_none (pair_named market.network p)) (pairs_of q)
-    → None ≡ first_repeat [] (names (pairs_of q)) → question_named market.network q ≡ Some asked → is_wide market.cliques asked ≡ false
+    → None ≡ first_repeat [] (names_in (pairs_of q)) → question_named market.network q ≡ Some asked → is_wide market.cliques (asked_variables asked) ≡ false
     → IsPrice market.network [] asked reply → IsAllowed market [] [] (Price q) reply
 price_allowed market q asked reply e f named h price =
     subst (λ (o : Option Refusal). MatchOption o (IsAnswer market [] [] (Price q) reply) (λ w. reply ≡ Refused w)) (sym (refusal_is market q ∙ third market q asked false e f named h))
@@ -152,7 +161,7 @@ among m x a (suc n) h k = at (cases_eq a x) (m a) refl (λ d. among m x (a + 1) 
 
 module _ (network : List Variable) where
   holds_same : (set : VarSet) (pairs : List Pair) → AllByRecursion (IsPairOf network) pairs
-      → list_all (λ (p : Pair). list_any (λ v. v == p.variable) (members network set)) pairs ≡ holds_event pairs set
+      → list_all (λ x. list_any (λ v. v == x) (members network set)) (variables_in pairs) ≡ holds_event pairs set
   holds_same set [] fits = refl
   holds_same set (p ∷ pairs) fits = ap₂ (λ a b. a && b) (among (is_member set) p.variable 0 (length network) (omega arith) (omega (arith, fits.0.variable))) (holds_same set pairs fits.1)
 
@@ -166,7 +175,7 @@ module _ (network : List Variable) where
       swap false false c = refl
 
   abbrev covers : Asked → List ℕ → Bool
-  covers asked clique = list_all (λ (p : Pair). list_any (λ v. v == p.variable) clique) (asked.target ∷ asked.condition)
+  covers asked clique = list_all (λ x. list_any (λ v. v == x) clique) (asked_variables asked)
 
   covers_same : (set : VarSet) (asked : Asked) → IsQuestionOf network asked → covers asked (members network set) ≡ holds_event (pairs_asked asked) set
   covers_same set asked fits = holds_same set (asked.target ∷ asked.condition) (fits.target, fits.condition) ∙ target_last set asked.condition asked.target
@@ -178,7 +187,7 @@ module _ (network : List Variable) where
 
   -- a question is wide exactly where its pairs have no home
   pub wide_is : (cliques : List VarSet) (asked : Asked) → IsQuestionOf network asked
-      → is_wide (map (members network) cliques) asked ≡ is_none (position (holds_event (pairs_asked asked)) cliques)
+      → is_wide (map (members network) cliques) (asked_variables asked) ≡ is_none (position (holds_event (pairs_asked asked)) cliques)
   wide_is cliques asked fits = ap not (some_covers cliques asked fits) ∙ no_place (holds_event (pairs_asked asked)) cliques
 
 pub fits_when : (network : List Variable) (q : QuestionText) (asked : Asked) → None ≡ find (λ p. is_none (pair_named network p)) (pairs_of q)
@@ -186,7 +195,7 @@ pub fits_when : (network : List Variable) (q : QuestionText) (asked : Asked) →
 fits_when network q asked e named = question_known network q asked (ap (option_map Unknown) (sym e)) named
 
 pub wide_when : (network : List Variable) (tree : GivenTree) (asked : Asked) (event : List Pair) (found : Option ℕ) (b : Bool) → IsQuestionOf network asked
-    → event ≡ pairs_asked asked → found ≡ home tree event → b ≡ is_none found → is_wide (map (members network) tree.cliques) asked ≡ b
+    → event ≡ pairs_asked asked → found ≡ home tree event → b ≡ is_none found → is_wide (map (members network) tree.cliques) (asked_variables asked) ≡ b
 wide_when network tree asked event found b fits e f g =
     wide_is network tree.cliques asked fits ∙ sym (at (position (holds_event (pairs_asked asked)) tree.cliques))
     ∙ ap (λ (ps : List Pair). is_none (home tree ps)) (sym e) ∙ ap (λ (o : Option ℕ). is_none o) (sym f) ∙ sym g

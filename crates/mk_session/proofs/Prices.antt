@@ -11,6 +11,7 @@ use Rattle.mk_exact.specs.Prices.{exact_price, CoversPrice}
 use Rattle.mk_tree.specs.Given.{GivenTree}
 use Rattle.mk_semiring.specs.declared.held.Held.{Held}
 use Rattle.mk_semiring.specs.Held.{HeldEncloses, HasHeldGrade, IsHeldExact}
+use Rattle.mk_engine.specs.Meaning.{max_grade}
 use Rattle.mk_engine.specs.Beliefs.{IsBelief}
 use Rattle.mk_rules.specs.Answers.{IsPrice}
 use Rattle.mk_session.specs.Weighed.{all_rows}
@@ -49,7 +50,7 @@ module _ (network : List Variable) (tree : GivenTree) (asked : Asked) (event con
     positive = subst (λ (n : ℕ). 1 ≤ n) (sym (belief_is_total network tree (pairs_asked asked)) ∙ belief_of_question network tree asked)
         (event_some network net (pairs_asked asked) (all_fit network asked fits) apart);
     within = part_within network net asked;
-    grade = length (all_rows network tree).factors + 37374;
+    grade = length (all_rows network tree).factors + max_grade;
     low_grade = omega (arith, count_of_rows network tree (length network), net.few);
     num_grade = part_is.grade;
     den_grade = whole_is.grade;

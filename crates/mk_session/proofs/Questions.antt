@@ -1,6 +1,6 @@
 -- Questions in words: repeated variables, and the pairs that a network knows.
-use Rattle.std.proofs.Common.{◌≡◌, ℕ, suc, zero, ◌+◌, ◌<◌, ◌≤◌, Bool, true, false, cond, ◌||◌, List, [], ◌∷◌, ◌++◌, map, length, take, drop, slice_index_or, ◌⊎◌, inl, inr, Option, Some, None, IfNone, refl, sym, ap, ap₂, subst, ◌∙◌, arith}
-use Rattle.std.specs.Prelude.{◌==◌, option_map}
+use Rattle.std.proofs.Common.{◌≡◌, ℕ, suc, zero, ◌+◌, ◌<◌, ◌≤◌, Bool, true, false, ◌||◌, List, [], ◌∷◌, ◌++◌, length, take, drop, slice_index_or, ◌⊎◌, inl, inr, Option, Some, None, IfNone, refl, sym, ap, subst, ◌∙◌, arith}
+use Rattle.std.specs.Prelude.{◌==◌}
 use Rattle.std.specs.List.{list_any, filter_map, cons_option}
 use Rattle.std.proofs.lemmas.Bool.{eqb-true, eq-eqb}
 use Rattle.mk_net.specs.declared.words.Pair.{Pair}
@@ -8,15 +8,10 @@ use Rattle.mk_net.specs.declared.words.PairText.{PairText}
 use Rattle.mk_net.specs.declared.words.QuestionText.{QuestionText}
 use Rattle.mk_net.specs.Events.{speaks_of, AreApart}
 use Rattle.mk_net.specs.Network.{Variable}
-use Rattle.mk_net.specs.Named.{pair_named, variable_at}
+use Rattle.mk_net.specs.Named.{pair_named}
 use Rattle.mk_net.specs.Texts.{same_text}
-use Rattle.mk_net.specs.TextLaws.{same_text_of_equal}
-use Rattle.mk_net.proofs.Named.{pair_variable_name}
-use Rattle.mk_rules.specs.Refusals.{first_repeat, twice}
-
--- the variables of some pairs
-abbrev pub names : List PairText → List (List ℕ)
-names pairs = map (λ (p : PairText). p.variable) pairs
+use Rattle.mk_rules.specs.Refusals.{pairs_of, names_in, first_repeat, twice}
+use Rattle.mk_rules.proofs.Apart.{target_apart}
 
 -- the variables of some pairs, the last first, before some names
 unfoldable pub onto : List (List ℕ) → List PairText → List (List ℕ)
@@ -49,11 +44,11 @@ stands_before target name ps k b e = any_onto (same_text name) (target ∷ []) (
 
 -- the first repeat of the names from a place on
 pub repeat_from : List ℕ → List PairText → ℕ → Option (List ℕ)
-repeat_from target ps k = first_repeat (onto (target ∷ []) (take k ps)) (names (drop k ps))
+repeat_from target ps k = first_repeat (onto (target ∷ []) (take k ps)) (names_in (drop k ps))
 
 step : (before : List (List ℕ)) (ps : List PairText) (k : ℕ) (d : PairText) → k < length ps
     → list_any (same_text (slice_index_or ps k d).variable) (onto before (take k ps)) ≡ false
-    → first_repeat (onto before (take (suc k) ps)) (names (drop (suc k) ps)) ≡ first_repeat (onto before (take k ps)) (names (drop k ps))
+    → first_repeat (onto before (take (suc k) ps)) (names_in (drop (suc k) ps)) ≡ first_repeat (onto before (take k ps)) (names_in (drop k ps))
 unfolding onto
 step before [] k d h e = absurd (omega arith)
 step before (p ∷ ps) zero d h e = sym (rw e refl)
@@ -61,19 +56,19 @@ step before (p ∷ ps) (suc k) d h e = step (p.variable ∷ before) ps k d (omeg
 
 hit : (before : List (List ℕ)) (ps : List PairText) (k : ℕ) (d : PairText) → k < length ps
     → list_any (same_text (slice_index_or ps k d).variable) (onto before (take k ps)) ≡ true
-    → first_repeat (onto before (take k ps)) (names (drop k ps)) ≡ Some (slice_index_or ps k d).variable
+    → first_repeat (onto before (take k ps)) (names_in (drop k ps)) ≡ Some (slice_index_or ps k d).variable
 unfolding onto
 hit before [] k d h e = absurd (omega arith)
 hit before (p ∷ ps) zero d h e = rw e refl
 hit before (p ∷ ps) (suc k) d h e = hit (p.variable ∷ before) ps k d (omega arith) e
 
-none_left : (before : List (List ℕ)) (ps : List PairText) (k : ℕ) → length ps ≤ k → first_repeat before (names (drop k ps)) ≡ None
+none_left : (before : List (List ℕ)) (ps : List PairText) (k : ℕ) → length ps ≤ k → first_repeat before (names_in (drop k ps)) ≡ None
 none_left before [] zero h = refl
 none_left before [] (suc k) h = refl
 none_left before (p ∷ ps) zero h = absurd (omega arith)
 none_left before (p ∷ ps) (suc k) h = none_left before ps k (omega arith)
 
-pub repeat_start : (target : List ℕ) (ps : List PairText) → repeat_from target ps 0 ≡ first_repeat [] (target ∷ names ps)
+pub repeat_start : (target : List ℕ) (ps : List PairText) → repeat_from target ps 0 ≡ first_repeat [] (target ∷ names_in ps)
 unfolding repeat_from onto
 repeat_start target ps = refl
 
@@ -83,7 +78,7 @@ pub repeat_step : (target : List ℕ) (ps : List PairText) (k : ℕ) (d : PairTe
 unfolding repeat_from
 repeat_step target ps k d h e =
     let next : suc k ≡ k + 1 = omega arith in
-    ap (λ (n : ℕ). first_repeat (onto (target ∷ []) (take n ps)) (names (drop n ps))) (sym next)
+    ap (λ (n : ℕ). first_repeat (onto (target ∷ []) (take n ps)) (names_in (drop n ps))) (sym next)
     ∙ step (target ∷ []) ps k d h (stands_before target (slice_index_or ps k d).variable ps k false e)
 
 pub repeat_hit : (target : List ℕ) (ps : List PairText) (k : ℕ) (d : PairText) → k < length ps
@@ -113,78 +108,7 @@ not_apart (x ∷ es) rest q h apart = at (q.variable == x.variable) refl h (λ l
     at true e _ _ = let there = spoken_later es rest q x.variable (sym (eqb-true q.variable x.variable e)) in let not_there = apart.0 in cc
     at false e later then = then later
 
--- no name of a list is that of a variable before it
-Stands : List ℕ → List (List ℕ) → Type 0
-Stands name before = (test : List ℕ → Bool) → test name ≡ true → list_any test before ≡ true
-
-stands_longer : (name other : List ℕ) (before : List (List ℕ)) → Stands name before → Stands name (other ∷ before)
-unfolding Stands
-stands_longer name other before h test e = at (test other) (h test e)
-  where
-    at : (b : Bool) → list_any test before ≡ true → (b || list_any test before) ≡ true
-    at true i = refl
-    at false i = i
-
-stands_first : (name : List ℕ) (before : List (List ℕ)) → Stands name (name ∷ before)
-unfolding Stands
-stands_first name before test e = rw e refl
-
--- the names behind the first, where none repeats one before
-later_names : (before : List (List ℕ)) (name : List ℕ) (ns : List (List ℕ)) → first_repeat before (name ∷ ns) ≡ None
-    → (list_any (same_text name) before ≡ false) × (first_repeat (name ∷ before) ns ≡ None)
-later_names before name ns h = at (list_any (same_text name) before) h
-  where
-    at : (b : Bool) → cond b (Some name) (first_repeat (name ∷ before) ns) ≡ None → (b ≡ false) × (first_repeat (name ∷ before) ns ≡ None)
-    at true e = cc
-    at false e = (refl, e)
-
 module _ (network : List Variable) where
-  same_name : (a b : PairText) (x y : Pair) → pair_named network a ≡ Some x → pair_named network b ≡ Some y → x.variable ≡ y.variable → same_text b.variable a.variable ≡ true
-  same_name a b x y e f h =
-      let first = pair_variable_name network a x (sym e) in
-      let second = pair_variable_name network b y (sym f) in
-      same_text_of_equal b.variable a.variable (sym second ∙ ap (λ (k : ℕ). (variable_at network k).name) (sym h) ∙ first)
-
-  not_spoken : (words : PairText) (x : Pair) → pair_named network words ≡ Some x → (ps : List PairText) (before : List (List ℕ))
-      → Stands words.variable before → first_repeat before (names ps) ≡ None → speaks_of (filter_map (pair_named network) ps) x.variable ≡ false
-  unfolding Stands
-  not_spoken words x named [] before stands h = refl
-  not_spoken words x named (p ∷ ps) before stands h =
-      let later = later_names before p.variable (names ps) h in
-      at (pair_named network p) refl (not_spoken words x named ps (p.variable ∷ before) (stands_longer words.variable p.variable before stands) later.1) later.0
-    where
-      differ : (y : Pair) (b : Bool) → pair_named network p ≡ Some y → (x.variable == y.variable) ≡ b → list_any (same_text p.variable) before ≡ false → b ≡ false
-      differ y false e f g = refl
-      differ y true e f g = let there = stands (same_text p.variable) (same_name words p x y named e (eqb-true x.variable y.variable f)) in cc
-
-      at : (o : Option Pair) → pair_named network p ≡ o → speaks_of (filter_map (pair_named network) ps) x.variable ≡ false → list_any (same_text p.variable) before ≡ false
-          → speaks_of (filter_map (pair_named network) (p ∷ ps)) x.variable ≡ false
-      at None e rest g = rw e rest
-      at (Some y) e rest g = rw e (ap₂ (λ a b. a || b) (differ y (x.variable == y.variable) e refl g) rest)
-
-  apart_of : (ps : List PairText) (before : List (List ℕ)) → first_repeat before (names ps) ≡ None → AreApart (filter_map (pair_named network) ps)
-  apart_of [] before h = tt
-  apart_of (p ∷ ps) before h =
-      let later = later_names before p.variable (names ps) h in
-      at (pair_named network p) refl later.1 (apart_of ps (p.variable ∷ before) later.1)
-    where
-      at : (o : Option Pair) → pair_named network p ≡ o → first_repeat (p.variable ∷ before) (names ps) ≡ None → AreApart (filter_map (pair_named network) ps)
-          → AreApart (filter_map (pair_named network) (p ∷ ps))
-      at None e h rest = rw e rest
-      at (Some y) e h rest = rw e (not_spoken p y e ps (p.variable ∷ before) (stands_first p.variable before) h, rest)
-
-  none_of : {X Y : Type 0} (f : X → Y) (o : Option X) → option_map f o ≡ None → o ≡ None
-  none_of f None h = refl
-  none_of f (Some x) h = cc
-
-  -- where no variable occurs twice, the condition gives none twice, and does not speak of the target's
-  pub condition_apart : (q : QuestionText) → twice q ≡ None → AreApart (filter_map (pair_named network) q.condition.items)
-  condition_apart q h = apart_of q.condition.items (q.target.variable ∷ []) (none_of _ _ h)
-
-  pub target_apart : (q : QuestionText) (target : Pair) → pair_named network q.target ≡ Some target → twice q ≡ None
-      → speaks_of (filter_map (pair_named network) q.condition.items) target.variable ≡ false
-  target_apart q target e h = not_spoken q.target target e q.condition.items (q.target.variable ∷ []) (stands_first q.target.variable []) (none_of _ _ h)
-
   -- a pair whose variable stands already cannot be put behind an event
   drop_at : (ps : List PairText) (k : ℕ) (d : PairText) → k < length ps → drop k ps ≡ slice_index_or ps k d ∷ drop (suc k) ps
   drop_at [] k d h = absurd (omega arith)
@@ -203,20 +127,20 @@ module _ (network : List Variable) where
 
   pub cannot_be_made : {X : Type 0} (o : Option X) (q : QuestionText) (condition : List Pair) (target : Pair) (U : Type 0) → Some target ≡ pair_named network q.target
       → condition ≡ filter_map (pair_named network) q.condition.items → length condition ≤ 8
-      → IfNone o ((8 < length condition) ⊎ (speaks_of condition target.variable ≡ true)) → IfNone o (U → twice q ≡ None → ⊥)
+      → IfNone o ((8 < length condition) ⊎ (speaks_of condition target.variable ≡ true)) → IfNone o (U → twice (names_in (pairs_of q)) ≡ None → ⊥)
   cannot_be_made (Some x) q condition target U named is few h = tt
   cannot_be_made None q condition target U named is few (inl h) = absurd (omega arith)
   cannot_be_made None q condition target U named is few (inr h) = λ known once.
-      let apart = target_apart q target (sym named) once in
+      let apart = target_apart network q target (sym named) once in
       let spoken : speaks_of (filter_map (pair_named network) q.condition.items) target.variable ≡ true = subst (λ (ps : List Pair). speaks_of ps target.variable ≡ true) is h in
       cc
 
 -- the same over the slice of a condition
 pub twice_found : (target : List ℕ) (slice ps : List PairText) (k : ℕ) (d : PairText) → slice ≡ ps → k < length slice
     → true ≡ (same_text (slice_index_or slice k d).variable target || list_any (λ (p : PairText). same_text (slice_index_or slice k d).variable p.variable) (take k slice))
-    → repeat_from target ps k ≡ repeat_from target ps 0 → Some (slice_index_or slice k d).variable ≡ first_repeat [] (target ∷ names ps)
+    → repeat_from target ps k ≡ repeat_from target ps 0 → Some (slice_index_or slice k d).variable ≡ first_repeat [] (target ∷ names_in ps)
 twice_found target slice ps k d same h e kept =
-    subst (λ (qs : List PairText). repeat_from target qs k ≡ repeat_from target qs 0 → Some (slice_index_or slice k d).variable ≡ first_repeat [] (target ∷ names qs)) same
+    subst (λ (qs : List PairText). repeat_from target qs k ≡ repeat_from target qs 0 → Some (slice_index_or slice k d).variable ≡ first_repeat [] (target ∷ names_in qs)) same
     (λ kept. sym (repeat_hit target slice k d h e) ∙ kept ∙ repeat_start target slice) kept
 
 pub twice_kept : (target : List ℕ) (slice ps : List PairText) (k : ℕ) (d : PairText) → slice ≡ ps → k < length slice
@@ -227,7 +151,7 @@ twice_kept target slice ps k d same h e kept =
     (λ kept. repeat_step target slice k d h e ∙ kept) kept
 
 pub twice_ended : (target : List ℕ) (slice ps : List PairText) (k : ℕ) → slice ≡ ps → length slice ≤ k
-    → repeat_from target ps k ≡ repeat_from target ps 0 → None ≡ first_repeat [] (target ∷ names ps)
+    → repeat_from target ps k ≡ repeat_from target ps 0 → None ≡ first_repeat [] (target ∷ names_in ps)
 twice_ended target slice ps k same h kept =
-    subst (λ (qs : List PairText). repeat_from target qs k ≡ repeat_from target qs 0 → None ≡ first_repeat [] (target ∷ names qs)) same
+    subst (λ (qs : List PairText). repeat_from target qs k ≡ repeat_from target qs 0 → None ≡ first_repeat [] (target ∷ names_in qs)) same
     (λ kept. sym (repeat_end target slice k h) ∙ kept ∙ repeat_start target slice) kept

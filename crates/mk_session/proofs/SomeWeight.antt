@@ -16,7 +16,8 @@ use Rattle.mk_exact.specs.Events.{holds, has, with_target}
 use Rattle.mk_exact.specs.Weight.{weight, total}
 use Rattle.mk_exact.specs.Proper.{IsPairOf}
 use Rattle.mk_exact.proofs.Sums.{sums_are_plus, plus_over-states, sum_by_is}
-use Rattle.mk_exact.proofs.Positive.{as_many, size_at, initial_weight_pos}
+use Rattle.mk_exact.proofs.Listed.{as_many}
+use Rattle.mk_exact.proofs.Positive.{size_at, initial_weight_pos}
 use Rattle.mk_exact.proofs.Single.{empty_weight}
 use Rattle.mk_exact.proofs.Totals.{total_is}
 
@@ -61,7 +62,7 @@ module _ (network : List Variable) (net : IsNetwork network) where
   in_range : (event : List Pair) → AllByRecursion (IsPairOf network) event → (k : ℕ) → k < length (sizes network) → slice_index (state_of event) k < slice_index (sizes network) k
   unfolding with_values
   in_range [] fits k h =
-      let below : k < length network = omega (arith, as_many network net) in
+      let below : k < length network = omega (arith, as_many network) in
       omega (arith, get_or-replicate {A = ℕ} (length (sizes network)) k 0 0 h, size_at network net k below, (net.each k nobody below).two_values)
   in_range (p ∷ event) fits k h = at (in_range event fits.1 k h) (cases_eq k p.variable)
     where
@@ -108,7 +109,7 @@ at_most false b n = omega arith
 module _ (network : List Variable) (net : IsNetwork network) where
   below_of : (event : List Pair) → AllByRecursion (IsPairOf network) event → AllByRecursion (λ (p : Pair). p.variable < length (sizes network)) event
   below_of [] fits = tt
-  below_of (p ∷ event) fits = (omega (arith, as_many network net, fits.0.variable), below_of event fits.1)
+  below_of (p ∷ event) fits = (omega (arith, as_many network, fits.0.variable), below_of event fits.1)
 
   -- the states that have the pairs of an event weigh something
   pub event_some : (event : List Pair) → AllByRecursion (IsPairOf network) event → AreApart event → 1 ≤ total network [] (holds event)

@@ -6,7 +6,7 @@ ghost use Rattle.mk_net.specs.Events.{AreApart};
 ghost use Rattle.mk_net.specs.Named.{pair_named};
 ghost use Rattle.mk_net.specs.Texts.{same_text};
 ghost use Rattle.mk_net.specs.declared.words.PairText.{PairText};
-ghost use Rattle.mk_rules.specs.Refusals.{pairs_of, question_named, first_repeat, unknown, twice};
+ghost use Rattle.mk_rules.specs.Refusals.{pairs_of, names_in, question_named, first_repeat, unknown, twice};
 
 use mk_net::{Event, Name, Network, PairText, Question, QuestionText};
 
@@ -33,7 +33,7 @@ fn first_unknown_pair(net: &Network, pairs: &[PairText]) -> Option<PairText>
 
 /// The first variable of a question that occurs a second time, from left to right, the target first.
 pub fn first_twice(question: &QuestionText) -> Option<Name>
-    ensures { result ≡ first_repeat [] (map (λ p. p.variable) (pairs_of question.now)) }
+    ensures { result ≡ first_repeat [] (names_in (pairs_of question.now)) }
 {
     let pairs = question.condition.as_slice();
     for place in 0..pairs.len() {
@@ -61,7 +61,7 @@ fn is_among(variable: &Name, pairs: &[PairText]) -> bool
 /// A question in the numbers of the network. There is one where each pair is known and no variable occurs twice.
 pub fn in_numbers(net: &Network, question: &QuestionText) -> Option<Question>
     ensures some { IfSome result (λ asked. question_named net.now question.now ≡ Some asked) }
-    ensures none { IfNone result (unknown net.now (pairs_of question.now) ≡ None → twice question.now ≡ None → ⊥) }
+    ensures none { IfNone result (unknown net.now (pairs_of question.now) ≡ None → twice (names_in (pairs_of question.now)) ≡ None → ⊥) }
 {
     let target = net.find(&question.target)?;
     let condition = known_pairs(net, question.condition.as_slice())?;

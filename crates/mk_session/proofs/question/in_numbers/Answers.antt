@@ -3,7 +3,8 @@ use Rattle.std.specs.List.{filter_map}
 use Rattle.mk_net.specs.declared.words.PairText.{PairText}
 use Rattle.mk_net.specs.Events.{AreApart}
 use Rattle.mk_net.specs.Named.{pair_named}
-use Rattle.mk_session.proofs.Questions.{condition_apart, cannot_be_made}
+use Rattle.mk_rules.proofs.Apart.{condition_apart}
+use Rattle.mk_session.proofs.Questions.{cannot_be_made}
 use Rattle.mk_session.proofs.question.in_numbers.Goals as goal
 
 pub returns-in_err-condition-clause-none : goal.returns-in_err-condition-clause-none
