@@ -1,11 +1,12 @@
 -- The digits of a number and their places.
-use Rattle.std.proofs.Common.{◌≡◌, ℕ, zero, suc, ◌+◌, ◌-◌, ◌*◌, ◌/◌, ◌%◌, ◌^◌, ◌<◌, ◌≤◌, sym, ap, ◌∙◌, ⊎_elim, refl, arith, le_trans, le_refl}
+use Rattle.std.proofs.Common.{◌≡◌, ℕ, zero, suc, ◌+◌, ◌-◌, ◌*◌, ◌/◌, ◌%◌, ◌^◌, ◌<◌, ◌≤◌, sym, ap, ◌∙◌, ⊎_elim, refl, arith, le_trans, le_refl, lt_of_le_of_lt, lt_of_lt_of_le}
 use Rattle.std.specs.Int.Count.{count_leading_zeros}
 use Rattle.std.specs.Int.Bits.{bit_and}
 use Rattle.std.proofs.lemmas.Nat.{pow-add, pow_pos, leading_top, shl_whole, shl_below, and_mask}
 use Rattle.std.proofs.lemmas.Bool.{cases_lt}
 use Rattle.std.proofs.lemmas.Grind.{and_numeral}
-use Rattle.std.proofs.Math.Nat.{zero-div, mul_comm, mod-eq_of_lt, mul-le-mul, mul-le-mul_left, mul-le-mul_right, mul_assoc, div-mul-le_self, lt-div-mul-add, mul-lt-mul_of_pos_right}
+use Rattle.std.proofs.Math.Nat.{zero-div, div-eq_of_lt, mul_comm, mod-eq_of_lt, mul-le-mul, mul-le-mul_left, mul-le-mul_right, mul_assoc, div-mul-le_self, lt-div-mul-add, mul-lt-mul_of_pos_right}
+use Rattle.mk_scaled.specs.Range.{pow-lt_reflects, pow_le}
 use Rattle.mk_cell.specs.Cell.{bias, bias-is, IsForm, IsCell, IsCut, IsRounded}
 
 -- the first digit of a number moves to the first of 64 places
@@ -108,3 +109,55 @@ rounded_product m e n d q u x h k f l s t =
   where
     gone : m * n ≤ 0 → q ≡ 0
     gone z = no_digits_left (m * n) (64 - u) q h (omega arith)
+
+-- ---- totals
+
+pub few_unused : (k n : ℕ) → 2 ^ k ≤ n → n < 2 ^ 128 → 0 < n → count_leading_zeros 128 n + k < 128
+few_unused k n h l p =
+    let t = leading_top 128 n p l in
+    let i : k < suc t.0 = pow-lt_reflects k (suc t.0) (lt_of_le_of_lt h t.3) in
+    let s : count_leading_zeros 128 n + suc t.0 ≡ 128 = t.1 in
+    omega arith
+
+moved_total : (n : ℕ) → 0 < n → n < 2 ^ 128 → (n * 2 ^ count_leading_zeros 128 n % 2 ^ 128 ≡ n * 2 ^ count_leading_zeros 128 n) × (2 ^ 127 ≤ n * 2 ^ count_leading_zeros 128 n)
+moved_total n p h =
+    let t = leading_top 128 n p h in
+    let s : count_leading_zeros 128 n + suc t.0 ≡ 128 = t.1 in
+    let e : n * 2 ^ count_leading_zeros 128 n % 2 ^ 128 ≡ n * 2 ^ count_leading_zeros 128 n = shl_whole n (suc t.0) (count_leading_zeros 128 n) 128 t.3 (omega arith) in
+    let i : t.0 + count_leading_zeros 128 n ≡ 127 = omega arith in
+    let m : 2 ^ t.0 * 2 ^ count_leading_zeros 128 n ≤ n * 2 ^ count_leading_zeros 128 n = mul-le-mul_right (2 ^ count_leading_zeros 128 n) t.2 in
+    let q : 2 ^ t.0 * 2 ^ count_leading_zeros 128 n ≡ 2 ^ 127 = sym (pow-add 2 t.0 (count_leading_zeros 128 n)) ∙ ap (λ x. 2 ^ x) i in
+    (e, omega arith)
+
+moved_back : (n r e : ℕ) → r ≤ e → (n * 2 ^ r) * 2 ^ (e - r) ≡ n * 2 ^ e
+moved_back n r e h =
+    let i : r + (e - r) ≡ e = omega arith in
+    mul_assoc n (2 ^ r) (2 ^ (e - r)) ∙ ap (λ x. n * x) (sym (pow-add 2 r (e - r)) ∙ ap (λ x. 2 ^ x) i)
+
+full_total : (n q x e : ℕ) → 0 < n → 2 ^ 63 ≤ q → q < 2 ^ 64 → IsCut q (x + bias) (n * 2 ^ e) → IsRounded q x (n * 2 ^ e)
+full_total n q x e p f l c =
+    record {
+      form = record { absent = λ z. absurd (omega arith); full = λ z. f; fits = l };
+      none = λ z. let y = nothing_there n e z in absurd (omega arith);
+      cut = λ z. c;
+    }
+
+pub rounded_total : (n e : ℕ) → 2 ^ 62 ≤ n → n < 2 ^ 128 → 2 ^ 28 + 1 ≤ e → IsRounded (n * 2 ^ count_leading_zeros 128 n % 2 ^ 128 / 2 ^ 64) (e + 64 - count_leading_zeros 128 n - 268435456) (n * 2 ^ e)
+rounded_total n e h l k =
+    let p : 0 < n = omega arith in
+    let r : ℕ = count_leading_zeros 128 n in
+    let m = moved_total n p l in
+    let u = few_unused 62 n h l p in
+    let b : n * 2 ^ count_leading_zeros 128 n % 2 ^ 128 < 2 ^ 128 = omega arith in
+    let f : 2 ^ 63 ≤ n * 2 ^ count_leading_zeros 128 n / 2 ^ 64 = let y = m.1 in omega arith in
+    let g : n * 2 ^ count_leading_zeros 128 n / 2 ^ 64 < 2 ^ 64 = let y = m.0 in omega arith in
+    let i : (e + 64 - count_leading_zeros 128 n - 268435456) + bias ≡ (e - count_leading_zeros 128 n) + 64 = let y = bias-is in omega arith in
+    let c = cut_of (n * 2 ^ count_leading_zeros 128 n) 64 (e - count_leading_zeros 128 n) (n * 2 ^ count_leading_zeros 128 n / 2 ^ 64) ((e + 64 - count_leading_zeros 128 n - 268435456) + bias) (same _) i f g in
+    rw m.0 (full_total n _ _ e p f g (rw (moved_back n (count_leading_zeros 128 n) e (omega arith)) at c))
+  where
+    same : (a : ℕ) → a ≡ a
+    same a = refl
+
+-- digits beyond the last place
+pub gone_by : (n k : ℕ) → n < 2 ^ 64 → 64 ≤ k → 0 ≡ n / 2 ^ k
+gone_by n k h l = sym (div-eq_of_lt (lt_of_lt_of_le h (pow_le 64 k l)))

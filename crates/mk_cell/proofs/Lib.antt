@@ -1,2 +1,6 @@
 pub mod Digits
 pub mod Standing
+pub mod Added
+pub mod Greatest
+pub mod Floors
+pub mod Summed

@@ -86,7 +86,7 @@ times_none j k m e n d v w s t a b h =
 zero_power : (p a : ℕ) → p ≡ 0 → p * 2 ^ a ≡ 0
 zero_power p a z = rw z (omega arith)
 
-nothing_left : (q x k v n : ℕ) → IsForm q x → q ≡ 0 → v ≡ 0 → StandsAt k q x v n
+pub nothing_left : (q x k v n : ℕ) → IsForm q x → q ≡ 0 → v ≡ 0 → StandsAt k q x v n
 nothing_left q x k v n f z h = let y = f.absent z in rw (y, z) (absent_stands k v n h)
 
 pub times_stands : (j k m e n d q x v w s t : ℕ) → StandsAt j m e v s → StandsAt k n d w t → IsRounded q x ((m * n) * 2 ^ (e + d)) → StandsAt (j + k) q x (v * w) (s + t + 1)

@@ -1,3 +1,4 @@
 pub mod Cell
 pub mod Close
 pub mod LowerEnd
+pub mod Passes

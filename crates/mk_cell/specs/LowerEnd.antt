@@ -156,6 +156,19 @@ lower_unscaled low exact whole k n p h = record {
         let y : b ≤ a = le_of_mul-le-mul_right m q in
         omega arith
 
+pub lower_finer : (low exact whole k n : ℕ) → 1 ≤ k → IsLowerEnd low exact whole n → IsLowerEnd (low * k) (exact * k) (whole * k) n
+lower_finer low exact whole k n p h = record {
+  below = mul-le-mul_right k h.below;
+  close = close_scaled low exact k n h.close;
+  same = λ l. ap (λ x. x * k) (h.same (less low whole k l));
+}
+  where
+    less : (a b c : ℕ) → a * c < 2 ^ 63 * (b * c) → a < 2 ^ 63 * b
+    less a b c l =
+        let r : 2 ^ 63 * (b * c) ≡ (2 ^ 63 * b) * c = sym (mul_assoc (2 ^ 63) b c) in
+        let m : a * c < (2 ^ 63 * b) * c = omega (arith, l, r) in
+        lt_of_mul-lt-mul_right c m
+
 -- the same multiple of both
 pub lower_scaled : (low exact whole k n : ℕ) → 1 ≤ k → IsLowerEnd low exact whole n → IsLowerEnd (low * k) (exact * k) whole n
 lower_scaled low exact whole k n p h = record {

@@ -1,8 +1,9 @@
 //! The cell, and products of cells.
 ghost use Rattle.std.specs.Prelude.{◌≡◌, ℕ, ◌+◌, ◌-◌, ◌*◌, ◌/◌, ◌^◌, ◌<◌, ◌≤◌};
+ghost use Rattle.mk_cell.specs.Cell.{IsCell, IsRounded};
 
 /// What exponents are counted from.
-const BIAS: u32 = 1 << 28;
+pub(crate) const BIAS: u32 = 1 << 28;
 
 /// A lower end of an exact number: `digits * 2^(exponent - 2^28)`, with the first of its 64 digits set.
 /// Absent has neither digits nor exponent, and stands for 0.
@@ -17,7 +18,7 @@ pub struct Cell {
 }
 
 impl Cell {
-    ghost use Rattle.mk_cell.specs.Cell.{IsCell, IsRounded, Stands};
+    ghost use Rattle.mk_cell.specs.Cell.{Stands};
 
     /// Nothing, which stands for 0.
     pub const ABSENT: Cell = Cell {
@@ -54,6 +55,25 @@ impl Cell {
             digits,
             exponent: keep(exponent, (digits >> 63) as u32),
         }
+    }
+}
+
+/// The cell of `total * 2^exponent`, where exponents are counted from twice the bias.
+#[inline]
+pub(crate) fn rounded(total: u128, exponent: u32) -> Cell
+    requires full { 0 < total → 2 ^ 62 ≤ total }
+    requires low { 0 < total → 2 ^ 28 + 1 ≤ exponent }
+    requires high { exponent ≤ 2 ^ 30 }
+    ensures rounded { IsRounded result.digits result.exponent (total * 2 ^ exponent) }
+    ensures coarser { 2 ^ 63 ≤ total → exponent ≤ result.exponent + 2 ^ 28 }
+{
+    if total == 0 {
+        return Cell::ABSENT;
+    }
+    let unused = total.leading_zeros();
+    Cell {
+        digits: ((total << unused) >> 64) as u64,
+        exponent: exponent + 64 - unused - BIAS,
     }
 }
 

@@ -2,5 +2,7 @@
 #![tactic(auto)]
 
 mod cell;
+mod sums;
 
 pub use cell::Cell;
+pub use sums::sum;
