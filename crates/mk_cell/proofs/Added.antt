@@ -4,7 +4,7 @@ use Rattle.std.proofs.lemmas.Bool.{cases_lt}
 use Rattle.mk_scaled.specs.Range.{two_to, two_to_pos, two_to-suc, two_to-mono}
 use Rattle.mk_cell.specs.Cell.{IsClose}
 use Rattle.mk_cell.specs.Close.{close-add, close_self}
-use Rattle.mk_cell.specs.Passes.{folded, folded-zero, folded-suc}
+use Rattle.mk_cell.specs.Passes.{folded, folded-zero, folded-suc, folded-next}
 
 abbrev pub added : ℕ → (ℕ → ℕ) → ℕ
 added n f = folded ◌+◌ 0 n f
@@ -98,3 +98,6 @@ added_size (suc n) k f h =
     let y = two_to-suc (64 * (k + n + 1)) in
     let z = two_to-mono (suc (64 * (k + n + 1))) (64 * (k + suc n + 1)) (omega arith) in
     omega arith
+
+pub added_next : (n t r : ℕ) (f : ℕ → ℕ) → t ≡ added n f → r ≡ f n → t + r ≡ added (n + 1) f
+added_next n t r f h k = ap₂ (λ x y. x + y) h k ∙ sym (folded-next ◌+◌ 0 n f)

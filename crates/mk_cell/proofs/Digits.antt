@@ -57,11 +57,11 @@ and_digits n = and_numeral n 18446744073709551614 refl
 
 -- ---- products
 
-left_there : (m n : ℕ) → 0 < m * n → 0 < m
+pub left_there : (m n : ℕ) → 0 < m * n → 0 < m
 left_there zero n h = absurd (omega arith)
 left_there (suc m) n h = omega arith
 
-right_there : (m n : ℕ) → 0 < m * n → 0 < n
+pub right_there : (m n : ℕ) → 0 < m * n → 0 < n
 right_there m n h = left_there n m (rw (mul_comm n m) h)
 
 -- the exponents of a product that is there leave room for the bias

@@ -1,7 +1,7 @@
 -- The greatest of some numbers.
 use Rattle.std.proofs.Common.{◌≡◌, ℕ, zero, suc, ◌+◌, ◌<◌, ◌≤◌, max, sym, ap, ◌∙◌, arith, ⊎_elim}
 use Rattle.std.proofs.lemmas.Bool.{cases_lt}
-use Rattle.mk_cell.specs.Passes.{folded, folded-zero, folded-suc}
+use Rattle.mk_cell.specs.Passes.{folded, folded-zero, folded-suc, folded-next}
 
 pub greatest_is : (n c : ℕ) (f : ℕ → ℕ) → c < n → f c ≤ folded max 0 n f
 greatest_is zero c f h = absurd (omega arith)
@@ -36,3 +36,6 @@ greatest_at_most (suc n) b f h =
     let k = greatest_at_most n b f (λ c l. h c (omega arith)) in
     let l = h n (omega arith) in
     omega arith
+
+pub greatest_next : (n t r : ℕ) (f : ℕ → ℕ) → t ≡ folded max 0 n f → r ≡ max t (f n) → r ≡ folded max 0 (n + 1) f
+greatest_next n t r f h k = k ∙ ap (λ x. max x (f n)) h ∙ sym (folded-next max 0 n f)

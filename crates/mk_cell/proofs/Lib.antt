@@ -4,3 +4,5 @@ pub mod Added
 pub mod Greatest
 pub mod Floors
 pub mod Summed
+pub mod Pairs
+pub mod SummedProducts

@@ -61,7 +61,7 @@ cut_product q x k low number v n f c e h s =
 
 -- ---- the product of two cells
 
-product_is : (m n e d j k : ℕ) → (m * 2 ^ (e + j)) * (n * 2 ^ (d + k)) ≡ ((m * n) * 2 ^ (e + d)) * 2 ^ (j + k)
+pub product_is : (m n e d j k : ℕ) → (m * 2 ^ (e + j)) * (n * 2 ^ (d + k)) ≡ ((m * n) * 2 ^ (e + d)) * 2 ^ (j + k)
 product_is m n e d j k =
     let i : (e + j) + (d + k) ≡ (e + d) + (j + k) = omega arith in
     mul-mul-mul_comm m (2 ^ (e + j)) n (2 ^ (d + k))
@@ -76,7 +76,7 @@ size_of_product v w n p h l =
 product_none : (m n : ℕ) → m * n ≤ 0 → 0 < m → n ≡ 0
 product_none m n h p = let l : 1 * n ≤ m * n = mul-le-mul_right n p in omega arith
 
-times_none : (j k m e n d v w s t : ℕ) → StandsAt j m e v s → StandsAt k n d w t → m * n ≤ 0 → v * w ≡ 0
+pub times_none : (j k m e n d v w s t : ℕ) → StandsAt j m e v s → StandsAt k n d w t → m * n ≤ 0 → v * w ≡ 0
 times_none j k m e n d v w s t a b h =
     ⊎_elim
     (λ (p : 0 < m). let z : w ≡ 0 = no_digits k n d w t b (product_none m n h p) in rw z (omega arith))

@@ -5,4 +5,4 @@ mod cell;
 mod sums;
 
 pub use cell::Cell;
-pub use sums::sum;
+pub use sums::{sum, sum_of_products};
