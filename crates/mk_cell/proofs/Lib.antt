@@ -6,3 +6,5 @@ pub mod Floors
 pub mod Summed
 pub mod Pairs
 pub mod SummedProducts
+pub mod LeastOf
+pub mod LeastCells

@@ -2,3 +2,4 @@ pub mod Cell
 pub mod Close
 pub mod LowerEnd
 pub mod Passes
+pub mod Least

@@ -2,7 +2,9 @@
 #![tactic(auto)]
 
 mod cell;
+mod minima;
 mod sums;
 
 pub use cell::Cell;
+pub use minima::least;
 pub use sums::{sum, sum_of_products};
