@@ -61,11 +61,11 @@ at_least n m e k q low g l d b c o p =
     (λ (r : e c ≤ low). let i : e c ≡ low = omega arith in rw i (mul-le-mul_right (2 ^ (low + k)) (d.below c o i)))
     (cases_lt low (e c))
 
-digits_there : (m a : ℕ) → 0 < m * 2 ^ a → 0 < m
+pub digits_there : (m a : ℕ) → 0 < m * 2 ^ a → 0 < m
 digits_there zero a h = absurd (omega arith)
 digits_there (suc m) a h = omega arith
 
-power_there : (m a : ℕ) → 0 < m → 0 < m * 2 ^ a
+pub power_there : (m a : ℕ) → 0 < m → 0 < m * 2 ^ a
 power_there m a h = let x : m * 1 ≤ m * 2 ^ a = mul-le-mul_left m (pow_pos a) in omega arith
 
 -- the record of what stands, from the cell at a place

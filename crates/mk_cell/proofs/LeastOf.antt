@@ -19,6 +19,13 @@ pub record Adds (counts : Type 0) (far value x : ℕ) : Type 0 where
   pub here : counts → x ≡ value
   pub else_where : (counts ⊎ (x ≡ far))
 
+-- a number that counts from a bound on
+pub adds_from : (low far e x : ℕ) → (low ≤ e → x ≡ e) → (e < low → x ≡ far) → Adds (low ≤ e) far e x
+adds_from low far e x h k = record {
+  here = h;
+  else_where = ⊎_elim (λ (l : e < low). inr (k l)) (λ (l : low ≤ e). inl l) (cases_lt e low);
+}
+
 split : (n c : ℕ) → c < n + 1 → (c < n) ⊎ (c ≡ n)
 split n c h = ⊎_elim (λ (l : c < n). inl l) (λ (l : n ≤ c). let e : c ≡ n = omega arith in inr e) (cases_lt c n)
 

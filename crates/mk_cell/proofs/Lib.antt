@@ -8,3 +8,4 @@ pub mod Pairs
 pub mod SummedProducts
 pub mod LeastOf
 pub mod LeastCells
+pub mod LeastProducts

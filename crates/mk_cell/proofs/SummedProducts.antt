@@ -39,7 +39,7 @@ full_product m e n d a b p =
     let z : 2 ^ 63 * 2 ^ 63 ≤ m * n = mul-le-mul x y in
     omega arith
 
-there_at : (m e n d : ℕ) → IsCell m e → IsCell n d → 6 * 2 ^ 26 ≤ e + d → 0 < m * n
+pub there_at : (m e n d : ℕ) → IsCell m e → IsCell n d → 6 * 2 ^ 26 ≤ e + d → 0 < m * n
 there_at m e n d a b h =
     ⊎_elim (λ (p : 0 < m * n). p) (λ (p : m * n ≤ 0). let z = no_product m e n d a b (omega arith) in absurd (omega arith)) (cases_lt 0 (m * n))
 

@@ -26,3 +26,8 @@ least-both (suc a) (suc b) p q = refl
 pub record IsLeastOf (n : ℕ) (counts : ℕ → Type 0) (far : ℕ) (f : ℕ → ℕ) (value : ℕ) : Type 0 where
   pub below : (c : ℕ) → c < n → counts c → value ≤ f c
   pub attained : value < far → (c : ℕ) × (c < n) × counts c × (f c ≡ value)
+
+-- the exponent is the lowest, or one more
+pub record IsNextTo (lowest exponent : ℕ) : Type 0 where
+  pub low : lowest ≤ exponent
+  pub high : exponent ≤ lowest + 1

@@ -6,5 +6,5 @@ mod minima;
 mod sums;
 
 pub use cell::Cell;
-pub use minima::least;
+pub use minima::{least, least_of_products};
 pub use sums::{sum, sum_of_products};
