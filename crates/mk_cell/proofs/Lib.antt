@@ -9,3 +9,4 @@ pub mod SummedProducts
 pub mod LeastOf
 pub mod LeastCells
 pub mod LeastProducts
+pub mod Each

@@ -3,3 +3,4 @@ pub mod Close
 pub mod LowerEnd
 pub mod Passes
 pub mod Least
+pub mod Laws

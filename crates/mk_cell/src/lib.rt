@@ -3,8 +3,10 @@
 
 mod cell;
 mod minima;
+mod scaling;
 mod sums;
 
 pub use cell::Cell;
 pub use minima::{least, least_of_products};
+pub use scaling::times_each;
 pub use sums::{sum, sum_of_products};
