@@ -10,3 +10,4 @@ pub mod LeastOf
 pub mod LeastCells
 pub mod LeastProducts
 pub mod Each
+pub mod Ends

@@ -2,6 +2,7 @@
 #![tactic(auto)]
 
 mod cell;
+mod enclosing;
 mod minima;
 mod scaling;
 mod sums;
