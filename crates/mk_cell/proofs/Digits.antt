@@ -1,13 +1,13 @@
 -- The digits of a number and their places.
-use Rattle.std.proofs.Common.{◌≡◌, ℕ, zero, suc, ◌+◌, ◌-◌, ◌*◌, ◌/◌, ◌%◌, ◌^◌, ◌<◌, ◌≤◌, sym, ap, ◌∙◌, ⊎_elim, refl, arith, le_trans, le_refl, lt_of_le_of_lt, lt_of_lt_of_le}
+use Rattle.std.proofs.Common.{◌≡◌, ℕ, zero, suc, ◌+◌, ◌-◌, ◌*◌, ◌/◌, ◌%◌, ◌^◌, ◌<◌, ◌≤◌, sym, ap, ◌∙◌, ⊎_elim, refl, arith, lt_of_le_of_lt, lt_of_lt_of_le}
 use Rattle.std.specs.Int.Count.{count_leading_zeros}
 use Rattle.std.specs.Int.Bits.{bit_and}
-use Rattle.std.proofs.lemmas.Nat.{pow-add, pow_pos, leading_top, shl_whole, shl_below, and_mask}
+use Rattle.std.proofs.lemmas.Nat.{pow-add, pow_pos, leading_top, shl_whole}
 use Rattle.std.proofs.lemmas.Bool.{cases_lt}
 use Rattle.std.proofs.lemmas.Grind.{and_numeral}
-use Rattle.std.proofs.Math.Nat.{zero-div, div-eq_of_lt, mul_comm, mod-eq_of_lt, mul-le-mul, mul-le-mul_left, mul-le-mul_right, mul_assoc, div-mul-le_self, lt-div-mul-add, mul-lt-mul_of_pos_right}
+use Rattle.std.proofs.Math.Nat.{zero-div, div-eq_of_lt, mul_comm, mod-eq_of_lt, mul-le-mul_left, mul-le-mul_right, mul_assoc, div-mul-le_self, lt-div-mul-add, mul-lt-mul_of_pos_right}
 use Rattle.mk_scaled.specs.Range.{pow-lt_reflects, pow_le}
-use Rattle.mk_cell.specs.Cell.{bias, bias-is, IsForm, IsCell, IsCut, IsRounded}
+use Rattle.mk_cell.specs.Cell.{bias, bias-is, IsCell, IsCut, IsRounded}
 
 -- the first digit of a number moves to the first of 64 places
 pub moved_up : (n : ℕ) → 0 < n → n < 2 ^ 64 → (n * 2 ^ count_leading_zeros 64 n % 2 ^ 64 ≡ n * 2 ^ count_leading_zeros 64 n) × (2 ^ 63 ≤ n * 2 ^ count_leading_zeros 64 n) × (count_leading_zeros 64 n < 64)

@@ -2,7 +2,7 @@
 use Rattle.std.proofs.Common.{◌≡◌, ◌≢◌, ℕ, ◌+◌, ◌*◌, ◌^◌, ◌<◌, ◌≤◌, List, length, slice_index, slice_set, arith, ◌∙◌, ⊎_elim, get_or-set_other, get_or-set_same}
 use Rattle.std.proofs.Math.ListN.{length-set}
 use Rattle.std.proofs.lemmas.Bool.{cases_lt}
-use Rattle.mk_cell.specs.Cell.{IsRounded, StandsAt, AllStand}
+use Rattle.mk_cell.specs.Cell.{IsRounded, AllStand}
 use Rattle.mk_cell.proofs.Standing.{times_stands}
 
 -- the product of the cells at a place

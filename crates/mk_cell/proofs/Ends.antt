@@ -1,12 +1,12 @@
 -- The two ends of what a cell stands for.
-use Rattle.std.proofs.Common.{◌≡◌, ℕ, zero, suc, ◌+◌, ◌-◌, ◌*◌, ◌/◌, ◌^◌, ◌<◌, ◌≤◌, sym, ap, ◌∙◌, arith, ⊎_elim, le_refl, le_trans, lt_of_le_of_lt, lt_of_lt_of_le}
+use Rattle.std.proofs.Common.{◌≡◌, ℕ, zero, suc, ◌+◌, ◌-◌, ◌*◌, ◌/◌, ◌^◌, ◌<◌, ◌≤◌, sym, ap, ◌∙◌, arith, ⊎_elim, le_refl, lt_of_le_of_lt}
 use Rattle.std.proofs.lemmas.Bool.{cases_lt}
 use Rattle.std.proofs.lemmas.Nat.{pow-add, pow_pos, shl-shr, shl_below}
-use Rattle.std.proofs.Math.Nat.{mul-le-mul, mul-le-mul_left, mul-le-mul_right, mul-lt-mul_of_pos_right, mul_assoc, mul_comm, le_of_mul-le-mul_right, lt_of_mul-lt-mul_right, pow-suc, div-le_self}
+use Rattle.std.proofs.Math.Nat.{mul-le-mul_left, mul-le-mul_right, mul-lt-mul_of_pos_right, mul_assoc, mul_comm, le_of_mul-le-mul_right, pow-suc, div-le_self}
 use Rattle.mk_scaled.specs.Near.{IsNear, near_same, near_step, near_trans, near_between, near-mul}
-use Rattle.mk_scaled.specs.Range.{IsInRange, two_to, two_to_pos, two_to-mono, two_to-suc, two_to-small, whole_below, pow_le, pow-lt_reflects}
+use Rattle.mk_scaled.specs.Range.{IsInRange, two_to, two_to-mono, two_to-suc, two_to-small, whole_below, pow_le, pow-lt_reflects}
 use Rattle.mk_scaled.specs.Rounding.{IsRepresentable, IsLeastAbove}
-use Rattle.mk_cell.specs.Cell.{bias, bias-is, IsClose, IsLowerEnd, StandsAt}
+use Rattle.mk_cell.specs.Cell.{bias, bias-is, StandsAt}
 use Rattle.mk_cell.specs.Close.{close_unscaled, close_width}
 
 -- ---- the upper end above a lower one

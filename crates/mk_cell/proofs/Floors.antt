@@ -1,5 +1,5 @@
 -- Sums of lower ends that are cut to parts of one size.
-use Rattle.std.proofs.Common.{◌≡◌, ℕ, zero, suc, ◌+◌, ◌-◌, ◌*◌, ◌^◌, ◌<◌, ◌≤◌, sym, ap, ◌∙◌, arith, le_trans, le_refl, lt_of_lt_of_le}
+use Rattle.std.proofs.Common.{◌≡◌, ℕ, suc, ◌+◌, ◌*◌, ◌^◌, ◌<◌, ◌≤◌, sym, ◌∙◌, arith, le_trans, le_refl}
 use Rattle.std.proofs.Math.Nat.{mul-le-mul_right}
 use Rattle.mk_cell.specs.Cell.{IsClose, IsLowerEnd}
 use Rattle.mk_cell.specs.Close.{close_between, close_trans, close_scaled, close_loss, close_loss_half}

@@ -1,10 +1,10 @@
 -- The least of cells.
-use Rattle.std.proofs.Common.{◌≡◌, ℕ, zero, suc, ◌+◌, ◌-◌, ◌*◌, ◌/◌, ◌^◌, ◌<◌, ◌≤◌, sym, ap, ◌∙◌, arith, ⊎_elim, le_trans, lt_of_le_of_lt}
+use Rattle.std.proofs.Common.{◌≡◌, ℕ, zero, suc, ◌+◌, ◌*◌, ◌^◌, ◌<◌, ◌≤◌, ◌∙◌, arith, ⊎_elim, lt_of_le_of_lt}
 use Rattle.std.proofs.lemmas.Bool.{cases_lt}
 use Rattle.std.proofs.lemmas.Nat.{pow_pos}
 use Rattle.std.proofs.Math.Nat.{mul-le-mul, mul-le-mul_left, mul-le-mul_right, pow-suc}
-use Rattle.mk_scaled.specs.Range.{two_to, pow_le}
-use Rattle.mk_cell.specs.Cell.{bias, IsForm, IsCell, IsLowerEnd, StandsAt}
+use Rattle.mk_scaled.specs.Range.{pow_le}
+use Rattle.mk_cell.specs.Cell.{bias, IsCell, StandsAt}
 use Rattle.mk_cell.specs.Passes.{plus_below, plus_below-folded}
 use Rattle.mk_cell.specs.Least.{least, IsLeastOf}
 use Rattle.mk_cell.proofs.Standing.{no_digits, absent_stands}

@@ -1,8 +1,8 @@
 -- Searches for a least value, and the least of exact values.
-use Rattle.std.proofs.Common.{◌≡◌, ℕ, zero, suc, ◌+◌, ◌*◌, ◌^◌, ◌<◌, ◌≤◌, ◌⊎◌, inl, inr, min, sym, ap, ◌∙◌, arith, ⊎_elim}
+use Rattle.std.proofs.Common.{◌≡◌, ℕ, zero, suc, ◌+◌, ◌*◌, ◌<◌, ◌≤◌, ◌⊎◌, inl, inr, min, sym, ap, ◌∙◌, arith, ⊎_elim}
 use Rattle.std.proofs.lemmas.Bool.{cases_lt}
-use Rattle.std.proofs.Math.Nat.{mul-le-mul_right, le_of_mul-le-mul_right}
-use Rattle.mk_cell.specs.Cell.{IsClose, IsLowerEnd}
+use Rattle.std.proofs.Math.Nat.{mul-le-mul_right}
+use Rattle.mk_cell.specs.Cell.{IsLowerEnd}
 use Rattle.mk_cell.specs.Close.{close_between}
 use Rattle.mk_cell.specs.LowerEnd.{lower_none}
 use Rattle.mk_cell.specs.Least.{least, least-zero, least-at_zero, least-both, IsLeastOf}

@@ -1,15 +1,14 @@
 -- The least product of cells.
-use Rattle.std.proofs.Common.{◌≡◌, ℕ, zero, suc, ◌+◌, ◌-◌, ◌*◌, ◌/◌, ◌%◌, ◌^◌, ◌<◌, ◌≤◌, inl, inr, sym, ap, ◌∙◌, arith, ⊎_elim, le_trans, lt_of_le_of_lt, lt_of_lt_of_le}
+use Rattle.std.proofs.Common.{◌≡◌, ℕ, suc, ◌+◌, ◌-◌, ◌*◌, ◌/◌, ◌%◌, ◌^◌, ◌<◌, ◌≤◌, inl, inr, sym, ap, ◌∙◌, arith, ⊎_elim, le_trans, lt_of_le_of_lt, lt_of_lt_of_le}
 use Rattle.std.proofs.lemmas.Bool.{cases_lt}
 use Rattle.std.proofs.lemmas.Nat.{pow-add, pow_pos, mul-lt}
-use Rattle.std.proofs.Math.Nat.{mul-le-mul, mul-le-mul_left, mul-le-mul_right, mul_assoc, pow-suc, lt_of_mul-lt-mul_right, le_of_mul-le-mul_right, lt-div-mul-add, div-le_self}
-use Rattle.mk_scaled.specs.Range.{two_to, pow_le}
-use Rattle.mk_cell.specs.Cell.{bias, IsForm, IsCell, IsLowerEnd, IsCut, IsRounded, StandsAt}
+use Rattle.std.proofs.Math.Nat.{mul-le-mul, mul-le-mul_left, mul-le-mul_right, mul_assoc, pow-suc, lt_of_mul-lt-mul_right, lt-div-mul-add, div-le_self}
+use Rattle.mk_scaled.specs.Range.{pow_le}
+use Rattle.mk_cell.specs.Cell.{bias, IsCell, IsCut, IsRounded, StandsAt}
 use Rattle.mk_cell.specs.Passes.{plus_below, plus_below-folded}
 use Rattle.mk_cell.specs.Least.{least, IsLeastOf, IsNextTo}
 use Rattle.mk_cell.proofs.Digits.{product_room}
 use Rattle.mk_cell.proofs.Standing.{times_none, absent_stands, cut_product, size_of_product}
-use Rattle.mk_cell.proofs.Greatest.{IsAt}
 use Rattle.mk_cell.proofs.LeastOf.{Adds, lesser, lesser_at, lesser_at_most, lesser_none, lower_least, was_there}
 use Rattle.mk_cell.proofs.Floors.{IsFloor}
 use Rattle.mk_cell.proofs.Summed.{floor_of}

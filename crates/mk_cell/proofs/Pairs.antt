@@ -1,5 +1,5 @@
 -- Two arrays of cells, of one length.
-use Rattle.std.proofs.Common.{◌≡◌, ℕ, ◌<◌, ◌≤◌, List, length, slice_index, arith}
+use Rattle.std.proofs.Common.{◌≡◌, ℕ, ◌<◌, List, length, slice_index, arith}
 use Rattle.mk_cell.specs.Cell.{IsCell, AreCells, StandsAt, AllStand}
 
 pub record ArePairs (n : ℕ) (a e b d : ℕ → ℕ) : Type 0 where

@@ -1,8 +1,8 @@
 -- What cells stand for.
-use Rattle.std.proofs.Common.{◌≡◌, ℕ, suc, ◌+◌, ◌-◌, ◌*◌, ◌/◌, ◌^◌, ◌<◌, ◌≤◌, sym, ap, ◌∙◌, ⊎_elim, arith, le_trans, le_refl, lt_of_lt_of_le}
+use Rattle.std.proofs.Common.{◌≡◌, ℕ, ◌+◌, ◌*◌, ◌^◌, ◌<◌, ◌≤◌, sym, ap, ◌∙◌, ⊎_elim, arith}
 use Rattle.std.proofs.lemmas.Bool.{cases_lt}
 use Rattle.std.proofs.lemmas.Nat.{pow-add, pow_pos}
-use Rattle.std.proofs.Math.Nat.{mul-le-mul_left, mul-le-mul_right, mul-lt-mul_of_pos_right, mul_assoc, mul_comm, mul-mul-mul_comm}
+use Rattle.std.proofs.Math.Nat.{mul-le-mul_left, mul-le-mul_right, mul-lt-mul_of_pos_right, mul_assoc, mul-mul-mul_comm}
 use Rattle.mk_scaled.specs.Range.{two_to, two_to_pos, whole_below, mul_below}
 use Rattle.mk_cell.specs.Cell.{bias, IsForm, IsLowerEnd, IsCut, IsRounded, StandsAt}
 use Rattle.mk_cell.specs.LowerEnd.{lower_same, lower_more, lower_none, lower-mul, lower_cut, lower_unscaled, power_parts}

@@ -1,10 +1,10 @@
 -- The sum of cells.
-use Rattle.std.proofs.Common.{◌≡◌, ℕ, zero, suc, ◌+◌, ◌-◌, ◌*◌, ◌/◌, ◌^◌, ◌<◌, ◌≤◌, ◌⊎◌, inl, inr, max, sym, ap, ◌∙◌, arith, ⊎_elim, le_trans}
+use Rattle.std.proofs.Common.{◌≡◌, ℕ, zero, suc, ◌+◌, ◌-◌, ◌*◌, ◌/◌, ◌^◌, ◌<◌, ◌≤◌, ◌⊎◌, inl, inr, max, sym, ap, ◌∙◌, arith, ⊎_elim}
 use Rattle.std.proofs.lemmas.Bool.{cases_lt}
 use Rattle.std.proofs.lemmas.Nat.{pow-add, pow_pos}
-use Rattle.std.proofs.Math.Nat.{mul-le-mul_left, mul-le-mul_right, mul-lt-mul_of_pos_right, mul_assoc, zero-div, div-mul-le_self, lt-div-mul-add, div-one, pow-zero}
+use Rattle.std.proofs.Math.Nat.{mul-le-mul_left, mul-le-mul_right, mul-lt-mul_of_pos_right, mul_assoc, zero-div, div-mul-le_self, lt-div-mul-add, div-one}
 use Rattle.mk_scaled.specs.Range.{two_to}
-use Rattle.mk_cell.specs.Cell.{bias, IsForm, IsCell, IsLowerEnd, IsRounded, StandsAt}
+use Rattle.mk_cell.specs.Cell.{bias, IsCell, IsLowerEnd, IsRounded, StandsAt}
 use Rattle.mk_cell.specs.LowerEnd.{power_parts, lower_finer}
 use Rattle.mk_cell.specs.Passes.{folded, plus_below, plus_below-folded}
 use Rattle.mk_cell.proofs.Standing.{no_digits, nothing_left, cut_product}

@@ -1,10 +1,10 @@
 -- The sum of products of cells.
-use Rattle.std.proofs.Common.{◌≡◌, ℕ, zero, suc, ◌+◌, ◌-◌, ◌*◌, ◌/◌, ◌^◌, ◌<◌, ◌≤◌, ◌⊎◌, inl, inr, max, sym, ap, ◌∙◌, arith, ⊎_elim, le_trans, lt_of_lt_of_le}
+use Rattle.std.proofs.Common.{◌≡◌, ℕ, ◌+◌, ◌-◌, ◌*◌, ◌/◌, ◌^◌, ◌<◌, ◌≤◌, ◌⊎◌, inl, inr, max, sym, ap, ◌∙◌, arith, ⊎_elim, lt_of_lt_of_le}
 use Rattle.std.proofs.lemmas.Bool.{cases_lt}
 use Rattle.std.proofs.lemmas.Nat.{pow-add, pow_pos}
 use Rattle.std.proofs.Math.Nat.{mul-le-mul, mul-le-mul_left, mul_assoc, zero-div, div-div-eq-div-mul}
 use Rattle.mk_scaled.specs.Range.{two_to, two_to-mono}
-use Rattle.mk_cell.specs.Cell.{bias, IsForm, IsCell, IsLowerEnd, IsRounded, StandsAt}
+use Rattle.mk_cell.specs.Cell.{bias, IsCell, IsLowerEnd, IsRounded, StandsAt}
 use Rattle.mk_cell.specs.LowerEnd.{power_parts, lower-mul}
 use Rattle.mk_cell.specs.Passes.{folded, plus_below, plus_below-folded}
 use Rattle.mk_cell.proofs.Digits.{product_room, no_product, left_there, right_there}

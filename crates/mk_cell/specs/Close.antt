@@ -1,8 +1,8 @@
 -- How steps of rounding add up.
-use Rattle.std.specs.Prelude.{◌≡◌, ℕ, zero, suc, ◌+◌, ◌-◌, ◌*◌, ◌^◌, ◌<◌, ◌≤◌}
-use Rattle.std.proofs.Common.{sym, ap, ◌∙◌, ⊎_elim, arith, le_trans, le_refl}
-use Rattle.std.proofs.lemmas.Nat.{pow-add, pow_pos}
-use Rattle.std.proofs.Math.Nat.{pow-suc, pow-zero, mul-le-mul, mul-le-mul_left, mul-le-mul_right, mul_assoc, mul_comm, mul_right_comm, le_of_mul-le-mul_right, one-le-pow}
+use Rattle.std.specs.Prelude.{◌≡◌, ℕ, zero, suc, ◌+◌, ◌-◌, ◌*◌, ◌^◌, ◌≤◌}
+use Rattle.std.proofs.Common.{sym, ap, ◌∙◌, arith, le_trans, le_refl}
+use Rattle.std.proofs.lemmas.Nat.{pow-add}
+use Rattle.std.proofs.Math.Nat.{pow-suc, pow-zero, mul-le-mul_left, mul-le-mul_right, mul_assoc, mul_comm, mul_right_comm, le_of_mul-le-mul_right, one-le-pow}
 use Rattle.mk_scaled.specs.Near.{near-mul-base, width_law}
 use Rattle.mk_cell.specs.Cell.{IsClose}
 

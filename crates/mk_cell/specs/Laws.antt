@@ -1,11 +1,11 @@
 -- What holds of each cell that stands.
-use Rattle.std.specs.Prelude.{◌≡◌, ℕ, suc, ◌+◌, ◌*◌, ◌^◌, ◌<◌, ◌≤◌, List, length, slice_index}
-use Rattle.std.proofs.Common.{sym, ap, ◌∙◌, ⊎_elim, arith, le_trans, lt_of_lt_of_le, lt_of_le_of_lt}
+use Rattle.std.specs.Prelude.{◌≡◌, ℕ, ◌+◌, ◌*◌, ◌^◌, ◌<◌, ◌≤◌, List, length, slice_index}
+use Rattle.std.proofs.Common.{sym, ap, ◌∙◌, ⊎_elim, arith, lt_of_lt_of_le, lt_of_le_of_lt}
 use Rattle.std.proofs.lemmas.Bool.{cases_lt}
 use Rattle.std.proofs.lemmas.Nat.{pow-add, pow_pos, shl_below}
 use Rattle.std.proofs.Math.Nat.{mul_assoc, mul_right_comm, mul-le-mul_left, mul-lt-mul_of_pos_right}
 use Rattle.mk_scaled.specs.Range.{two_to, two_to_pos, two_to-add, two_to-mono, two_to-small, two_to-lt, mul_at_most, exponent_below, pow-lt_reflects}
-use Rattle.mk_cell.specs.Cell.{bias, bias-is, IsForm, IsCell, IsLowerEnd, StandsAt, AllStand, AreCells}
+use Rattle.mk_cell.specs.Cell.{bias, bias-is, IsCell, StandsAt, AllStand, AreCells}
 use Rattle.mk_cell.specs.LowerEnd.{lower_more, lower_scaled, at_least_one}
 
 -- a cell stands in more steps too

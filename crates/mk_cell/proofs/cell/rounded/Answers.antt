@@ -1,4 +1,4 @@
-use Rattle.std.proofs.Common.{ℕ, ◌<◌, ◌≤◌, ◌^◌, arith}
+use Rattle.std.proofs.Common.{◌<◌, arith}
 use Rattle.mk_cell.proofs.Digits.{few_unused, rounded_total}
 use Rattle.mk_cell.proofs.cell.rounded.Goals as goal
 

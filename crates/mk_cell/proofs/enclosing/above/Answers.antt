@@ -1,5 +1,4 @@
-use Rattle.std.proofs.Common.{ℕ, ◌+◌, ◌*◌, ◌^◌, ◌<◌, ◌≤◌, arith}
-use Rattle.mk_scaled.specs.Range.{two_to}
+use Rattle.std.proofs.Common.{◌+◌, ◌*◌, arith}
 use Rattle.mk_cell.proofs.Ends.{up_within, end_in_range, ends_in_range, one_in_range}
 use Rattle.mk_cell.proofs.enclosing.above.Goals as goal
 

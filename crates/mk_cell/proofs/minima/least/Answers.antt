@@ -1,4 +1,4 @@
-use Rattle.std.proofs.Common.{◌<◌, slice_index, length, arith}
+use Rattle.std.proofs.Common.{slice_index, length, arith}
 use Rattle.mk_cell.proofs.LeastCells.{no_cell_stands, least_stands}
 use Rattle.mk_cell.proofs.minima.least.Goals as goal
 

@@ -1,5 +1,5 @@
-use Rattle.std.proofs.Common.{ℕ, ◌+◌, ◌<◌, ◌≤◌, slice_index, length, arith}
-use Rattle.mk_cell.specs.Cell.{bias, bias-is}
+use Rattle.std.proofs.Common.{◌+◌, ◌<◌, slice_index, length, arith}
+use Rattle.mk_cell.specs.Cell.{bias-is}
 use Rattle.mk_cell.proofs.Pairs.{pairs_of, pairs_stand}
 use Rattle.mk_cell.proofs.LeastProducts.{no_product_stands, value_full, least_product_stands}
 use Rattle.mk_cell.proofs.minima.least_of_products.Goals as goal

@@ -1,4 +1,4 @@
-use Rattle.std.proofs.Common.{◌≡◌, ◌+◌, ◌-◌, ◌*◌, ◌/◌, ◌%◌, ◌^◌, min, refl, rules, slice_index, arith}
+use Rattle.std.proofs.Common.{◌≡◌, ◌+◌, ◌*◌, min, refl, rules, slice_index, arith}
 use Rattle.mk_cell.proofs.LeastOf.{least_next}
 use Rattle.mk_cell.proofs.LeastProducts.{adds_near}
 use Rattle.mk_cell.proofs.minima.least_product.Goals as goal

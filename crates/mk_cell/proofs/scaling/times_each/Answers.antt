@@ -1,4 +1,4 @@
-use Rattle.std.proofs.Common.{length, ◌<◌, arith}
+use Rattle.std.proofs.Common.{arith}
 use Rattle.mk_cell.proofs.Each.{each_next, each_stands}
 use Rattle.mk_cell.proofs.scaling.times_each.Goals as goal
 

@@ -1,4 +1,4 @@
-use Rattle.std.proofs.Common.{◌≡◌, ℕ, ◌+◌, ◌-◌, ◌*◌, ◌/◌, ◌^◌, ◌<◌, ◌≤◌, ap, ◌∙◌, slice_index, length, arith}
+use Rattle.std.proofs.Common.{◌≡◌, ℕ, ◌+◌, ◌-◌, ◌*◌, ◌/◌, ◌^◌, ap, ◌∙◌, slice_index, length, arith}
 use Rattle.mk_cell.specs.Cell.{bias, bias-is, IsRounded}
 use Rattle.mk_cell.proofs.Added.{added}
 use Rattle.mk_cell.proofs.Greatest.{greatest_is}

@@ -1,8 +1,8 @@
-use Rattle.std.proofs.Common.{◌≡◌, ℕ, ◌+◌, ◌-◌, ◌*◌, ◌/◌, ◌^◌, ◌<◌, ◌≤◌, List, ap, ◌∙◌, slice_index, length, arith}
-use Rattle.mk_cell.specs.Cell.{AreCells, AllStand, IsRounded}
+use Rattle.std.proofs.Common.{◌≡◌, ℕ, ◌+◌, ◌-◌, ◌*◌, ◌/◌, ◌^◌, ap, ◌∙◌, slice_index, length, arith}
+use Rattle.mk_cell.specs.Cell.{IsRounded}
 use Rattle.mk_cell.proofs.Added.{added}
 use Rattle.mk_cell.proofs.Greatest.{greatest_is}
-use Rattle.mk_cell.proofs.Pairs.{ArePairs, pairs_of, pairs_stand}
+use Rattle.mk_cell.proofs.Pairs.{pairs_of, pairs_stand}
 use Rattle.mk_cell.proofs.SummedProducts.{pair_top, pair_top_at_most, pair_terms, total_full, products_stand}
 use Rattle.mk_cell.proofs.sums.sum_of_products.Goals as goal
 

@@ -1,4 +1,4 @@
-use Rattle.std.proofs.Common.{ℕ, ◌+◌, ◌-◌, ◌/◌, ◌^◌, sym, slice_index, arith}
+use Rattle.std.proofs.Common.{◌+◌, ◌-◌, ◌/◌, ◌^◌, sym, slice_index, arith}
 use Rattle.mk_cell.specs.Passes.{folded-zero}
 use Rattle.mk_cell.proofs.Added.{added_next}
 use Rattle.mk_cell.proofs.sums.total.Goals as goal

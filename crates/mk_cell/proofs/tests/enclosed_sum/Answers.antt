@@ -1,5 +1,5 @@
-use Rattle.std.proofs.Common.{◌≡◌, ℕ, zero, suc, ◌+◌, ◌<◌, List, [], ◌∷◌, length, slice_index, refl, arith}
-use Rattle.mk_cell.specs.Cell.{StandsAt, AllStand, AreCells}
+use Rattle.std.proofs.Common.{ℕ, zero, suc, ◌<◌, [], ◌∷◌, slice_index, refl, arith}
+use Rattle.mk_cell.specs.Cell.{StandsAt, AllStand}
 use Rattle.mk_cell.specs.Laws.{all_have_room, stands_with_more}
 use Rattle.mk_cell.proofs.tests.enclosed_sum.Goals as goal
 

@@ -1,6 +1,5 @@
 use Rattle.std.proofs.Common.{◌≡◌, ℕ, ◌+◌, ◌-◌, ◌*◌, ◌/◌, ◌^◌, ◌<◌, ◌≤◌, refl, arith}
 use Rattle.mk_scaled.specs.Near.{near_more}
-use Rattle.mk_enclose.specs.Enclosure.{lower_of, upper_of}
 use Rattle.mk_cell.specs.Cell.{StandsAt}
 use Rattle.mk_cell.proofs.Standing.{no_digits}
 use Rattle.mk_cell.proofs.Ends.{whole_digits, number_is, number_there, few_places, bounded_whole, number_is_below, near_ends, reached, not_above, at_least_half, bounded_end}

@@ -1,6 +1,5 @@
-use Rattle.std.proofs.Common.{◌≡◌, ℕ, ◌+◌, ◌-◌, ◌*◌, ◌/◌, ◌%◌, ◌^◌, ◌<◌, ◌≤◌, ap, ◌∙◌, arith}
-use Rattle.mk_cell.specs.Cell.{IsCell, IsRounded}
-use Rattle.mk_cell.proofs.Digits.{product_room, no_product, rounded_product, no_digits_left}
+use Rattle.std.proofs.Common.{◌≡◌, ◌-◌, ◌*◌, ◌<◌, arith}
+use Rattle.mk_cell.proofs.Digits.{product_room, rounded_product, no_digits_left}
 use Rattle.mk_cell.proofs.Standing.{times_stands}
 use Rattle.mk_cell.proofs.cell.Cell.times.Goals as goal
 
