@@ -17,13 +17,13 @@ none_yet counts far f = record { below = λ c l h. absurd (omega arith); attaine
 -- what a place adds: its value where it counts, and else nothing
 pub record Adds (counts : Type 0) (far value x : ℕ) : Type 0 where
   pub here : counts → x ≡ value
-  pub else_where : (counts ⊎ (x ≡ far))
+  pub elsewhere : (counts ⊎ (x ≡ far))
 
 -- a number that counts from a bound on
 pub adds_from : (low far e x : ℕ) → (low ≤ e → x ≡ e) → (e < low → x ≡ far) → Adds (low ≤ e) far e x
 adds_from low far e x h k = record {
   here = h;
-  else_where = ⊎_elim (λ (l : e < low). inr (k l)) (λ (l : low ≤ e). inl l) (cases_lt e low);
+  elsewhere = ⊎_elim (λ (l : e < low). inr (k l)) (λ (l : low ≤ e). inl l) (cases_lt e low);
 }
 
 split : (n c : ℕ) → c < n + 1 → (c < n) ⊎ (c ≡ n)
@@ -55,7 +55,7 @@ next_attained n counts far f t x r h a e l =
         ⊎_elim
         (λ (k : counts n). let i = a.here k in (n, omega arith, k, sym i ∙ sym q))
         (λ (k : x ≡ far). absurd (omega arith))
-        a.else_where
+        a.elsewhere
 
 pub least_next : (n : ℕ) (counts : ℕ → Type 0) (far : ℕ) (f : ℕ → ℕ) (t x r : ℕ) → IsLeastOf n counts far f t → Adds (counts n) far (f n) x → r ≡ min t x → IsLeastOf (n + 1) counts far f r
 least_next n counts far f t x r h a e = record {

@@ -27,7 +27,7 @@ adds_near e low far p x d h k i near beyond = record {
       let o : d ≡ e - low = omega arith in
       let w : 1 - d ≡ low + 1 - e = omega arith in
       near (omega arith) ∙ ap (λ y. p / 2 ^ y) w;
-  else_where =
+  elsewhere =
       ⊎_elim
       (λ (l : e < low). inr (beyond (omega arith)))
       (λ (l : low ≤ e).

@@ -6,7 +6,7 @@ use Rattle.mk_cell.proofs.minima.least_digits.Goals as goal
 adds : (e wanted far m x : ℕ) → (e ≡ wanted → x ≡ m) → (e ≢ wanted → x ≡ far) → Adds (e ≡ wanted) far m x
 adds e wanted far m x h k = record {
   here = h;
-  else_where =
+  elsewhere =
       ⊎_elim
       (λ (l : e < wanted). inr (k (omega arith)))
       (λ (l : wanted ≤ e). ⊎_elim (λ (o : wanted < e). inr (k (omega arith))) (λ (o : e ≤ wanted). let i : e ≡ wanted = omega arith in inl i) (cases_lt wanted e))
