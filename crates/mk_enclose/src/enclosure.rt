@@ -38,6 +38,16 @@ impl Enclosure {
         }
     }
 
+    /// The numbers from `lo` to `hi`.
+    pub fn between(lo: Scaled, hi: Scaled) -> Enclosure
+        requires positive { 1 ≤ lo }
+        requires ordered { lo ≤ hi }
+        ensures lower { lower_of result ≡ lo }
+        ensures upper { upper_of result ≡ hi }
+    {
+        Enclosure { lo, hi }
+    }
+
     /// The lower end.
     #[inline]
     pub fn lo(&self) -> Scaled

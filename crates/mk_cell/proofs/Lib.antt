@@ -1,0 +1,13 @@
+pub mod Digits
+pub mod Standing
+pub mod Added
+pub mod Greatest
+pub mod Floors
+pub mod Summed
+pub mod Pairs
+pub mod SummedProducts
+pub mod LeastOf
+pub mod LeastCells
+pub mod LeastProducts
+pub mod Each
+pub mod Ends

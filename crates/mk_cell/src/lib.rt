@@ -1,0 +1,16 @@
+//! Cells: lower ends in full digits of the exact numbers of a table.
+#![tactic(auto)]
+
+mod cell;
+mod enclosing;
+mod minima;
+mod scaling;
+mod sums;
+
+pub use cell::Cell;
+pub use minima::{least, least_of_products};
+pub use scaling::times_each;
+pub use sums::{sum, sum_of_products};
+
+#[cfg(test)]
+mod tests;
