@@ -1,0 +1,16 @@
+-- What is told of a file, and what of it is durable.
+use Rattle.std.specs.Prelude.{◌≡◌, ℕ, ◌+◌, List, length, Option, Some}
+use Rattle.mk_disk.specs.Disk.{Only}
+use Rattle.mk_journal.specs.Store.{opened, IsStarted}
+
+-- a read gives these bytes, and a crash leaves nothing else
+pub record IsKept (file : Option (List ℕ)) (may_leave : List ℕ → Type 0) (bytes : List ℕ) : Type 0 where
+  pub told : file ≡ Some bytes
+  pub only : Only bytes may_leave
+
+-- the file durably holds these records, and this is the place of the closed gate behind them
+pub record IsSettled (file : Option (List ℕ)) (may_leave : List ℕ → Type 0) (market : List ℕ) (records : List (List ℕ)) (gate : ℕ) : Type 0 where
+  pub bytes : List ℕ
+  pub kept : IsKept file may_leave bytes
+  pub started : IsStarted market records bytes
+  pub place : gate ≡ length market + 17 + length (opened records)

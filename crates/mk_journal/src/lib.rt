@@ -1,0 +1,6 @@
+//! The store file of a market: records that a crash at any moment leaves whole or leaves out.
+#![tactic(auto)]
+
+mod steps;
+
+
