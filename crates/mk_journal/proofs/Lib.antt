@@ -1,2 +1,4 @@
 pub mod Lasting
 pub mod Writes
+pub mod Spelling
+pub mod Stages

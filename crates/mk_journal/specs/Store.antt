@@ -98,3 +98,11 @@ staged r = framed r ++ 0 ∷ []
 -- the file stands for these records, with one more or without it
 abbrev pub IsWithOrWithout : List ℕ → List (List ℕ) → List ℕ → List ℕ → Type 0
 IsWithOrWithout market records r file = IsStarted market records file ⊎ IsStarted market (records ++ r ∷ []) file
+
+-- the bytes before the gate that follows these records
+abbrev pub before_gate : List ℕ → List (List ℕ) → List ℕ
+before_gate market records = 1 ∷ (header market ++ opened records)
+
+-- this market's header behind its gate, and the first gate closed
+abbrev pub begun : List ℕ → List ℕ
+begun market = header market ++ 0 ∷ []
