@@ -2,3 +2,4 @@ pub mod Lasting
 pub mod Writes
 pub mod Spelling
 pub mod Stages
+pub mod Heads

@@ -1,3 +1,4 @@
 pub mod Store
 pub mod Kept
 pub mod Moments
+pub mod Opening

@@ -2,6 +2,8 @@
 #![tactic(auto)]
 
 mod header;
+mod open;
+mod read;
 mod steps;
 
 
