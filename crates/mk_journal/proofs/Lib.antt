@@ -3,3 +3,4 @@ pub mod Writes
 pub mod Spelling
 pub mod Stages
 pub mod Heads
+pub mod Parsing

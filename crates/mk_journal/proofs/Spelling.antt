@@ -22,7 +22,7 @@ length-before_gate market records = omega (arith, length-append (header market) 
 pub length-staged : (r : List ℕ) → length (staged r) ≡ length r + 5
 length-staged r = omega (arith, length-append (framed r) (0 ∷ []), length-framed r)
 
-opened-push : (records : List (List ℕ)) (r : List ℕ) → opened (records ++ r ∷ []) ≡ opened records ++ 1 ∷ framed r
+pub opened-push : (records : List (List ℕ)) (r : List ℕ) → opened (records ++ r ∷ []) ≡ opened records ++ 1 ∷ framed r
 opened-push [] r = ap (λ (l : List ℕ). 1 ∷ l) (append-nil (framed r))
 opened-push (x ∷ records) r =
     ap (λ (l : List ℕ). 1 ∷ (framed x ++ l)) (opened-push records r) ∙ ap (λ (l : List ℕ). 1 ∷ l) (sym (append_assoc (framed x) (opened records) (1 ∷ framed r)))

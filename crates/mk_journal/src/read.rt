@@ -1,7 +1,9 @@
 //! What the bytes of a store file stand for.
 
-ghost use Rattle.std.specs.Prelude.{◌≡◌, ◌≢◌, ℕ, ◌+◌, ◌^◌, ◌<◌, ◌≤◌, List, ◌∷◌, ◌++◌, length, option_map, MatchOption, IfOk};
+ghost use Rattle.std.specs.Prelude.{◌≡◌, ◌≢◌, ℕ, ◌+◌, ◌^◌, ◌<◌, ◌≤◌, List, ◌∷◌, ◌++◌, length, take, MatchOption, IfNone, IfOk};
 ghost use Rattle.mk_journal.specs.Store.{IsLength, NoRecord, framed, foreign_from, begun};
+
+ghost use Rattle.mk_journal.specs.Opening.{IsRead, IsUnderstood};
 
 use std::alloc::{AllocError, Global};
 
@@ -62,7 +64,9 @@ fn first_record(bytes: &[u8]) -> Option<(&[u8], &[u8])>
 // Where bytes differ from a header or end with it, counted from one on.
 fn foreign_at(head: &[u8], bytes: &[u8]) -> Option<usize>
     requires { length head.now < 2 ^ 63 }
-    ensures { result ≡ foreign_from 1 head.now bytes.now }
+    ensures value { result ≡ foreign_from 1 head.now bytes.now }
+    ensures same { IfNone result (take (length head.now) bytes.now ≡ head.now) }
+    ensures longer { IfNone result (length head.now < length bytes.now) }
 {
     for (i, h) in head.iter().enumerate() {
         if i >= bytes.len() || bytes[i] != *h {
@@ -73,4 +77,49 @@ fn foreign_at(head: &[u8], bytes: &[u8]) -> Option<usize>
         return Some(head.len() + 1);
     }
     None
+}
+
+// The records at the front of some bytes.
+fn read_records(alloc: Global, bytes: &[u8]) -> Result<Read, AllocError>
+    requires { 0 < length bytes.now }
+    ensures { IfOk result (IsRead bytes.now) }
+{
+    let mut records = Vec::new(alloc);
+    let mut rest = bytes;
+    while let Some(after) = behind_gate(rest) {
+        let Some((record, next)) = first_record(after) else {
+            return Ok(Read::Broken(records.len() as u64 + 1));
+        };
+        records.push(record.to_vec(alloc)?)?;
+        rest = next;
+    }
+    Ok(Read::Held(records, (bytes.len() - rest.len()) as u64))
+}
+
+/// What a file is to a market, of which `body` is the header with a closed first gate behind it.
+pub(crate) fn understand(alloc: Global, file: &[u8], body: &[u8]) -> Result<Understood, AllocError>
+    requires { 1 ≤ length body.now }
+    ensures { (market : List ℕ) → body.now ≡ begun market → IfOk result (IsUnderstood market file.now) }
+{
+    if file.len() <= 1 {
+        return Ok(Understood::Unstarted);
+    }
+    let head = &body[..body.len() - 1];
+    if file[0] != 1 {
+        if file.len() - 1 <= body.len() {
+            return Ok(Understood::Unstarted);
+        }
+        return Ok(Understood::Alien(0));
+    }
+    if let Some(at) = foreign_at(head, &file[1..]) {
+        return Ok(Understood::Alien(at as u64));
+    }
+    let rest = &file[body.len()..];
+    match read_records(alloc, rest)? {
+        Read::Held(records, at) => Ok(Understood::Started(Found {
+            records,
+            gate: body.len() as u64 + at,
+        })),
+        Read::Broken(number) => Ok(Understood::Bad(number)),
+    }
 }
