@@ -4,3 +4,4 @@ pub mod Spelling
 pub mod Stages
 pub mod Heads
 pub mod Parsing
+pub mod Reopening

@@ -7,3 +7,6 @@ mod read;
 mod steps;
 
 
+pub use open::{OpenFault, open_store};
+pub use read::Found;
+pub use steps::append;

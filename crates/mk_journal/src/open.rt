@@ -74,3 +74,40 @@ fn header_of(alloc: Global, market: &[u8]) -> Result<Vec<u8>, AllocError>
     body.push(0)?;
     Ok(body)
 }
+
+/// Opens the store of a market on the open file, one that a crash may have left, and gives the records that it stands
+/// for. A file without a header gets one. It may crash too: at any moment each image is one from before the call, or
+/// stands for no record as the file did. `Foreign` and `Unfit` come exactly where the file is another's, or else a
+/// record is bad, and neither `Disk` nor `Memory` comes.
+pub fn open_store<K: Disk>(alloc: Global, disk: &mut K, market: &[u8]) -> Result<Found, OpenFault>
+    requires { IsTrue (K.is_open disk.old) }
+    ensures later { K.faults disk.old ≤ K.faults disk.new }
+    ensures ok { OnOk result (K.faults disk.new ≡ K.faults disk.old) }
+    ensures fault { IfErr result (IsCounted (K.faults disk.old) (K.faults disk.new)) }
+    ensures refused { (n f : List ℕ) → n ≡ K.open_name disk.old → K.file disk.old n ≡ Some f → IfErr result (IsRefused market.now f) }
+    ensures stays { K.is_open disk.new ≡ K.is_open disk.old }
+    ensures stays_name { K.open_name disk.new ≡ K.open_name disk.old }
+    ensures stands { (n f : List ℕ) → n ≡ K.open_name disk.old → K.file disk.old n ≡ Some f
+        → IfOk result (λ found. StandsFor market.now (contents found.records.items) f) }
+    ensures settled { (n f : List ℕ) → n ≡ K.open_name disk.old → K.file disk.old n ≡ Some f
+        → IfOk result (λ found. IsSettled (K.file disk.new n) (K.may_leave disk.new n) market.now (contents found.records.items) found.gate) }
+    ensures place { IfOk result (λ found. IfSome (K.file disk.new (K.open_name disk.old)) (λ f. found.gate < length f)) }
+    ensures any_moment { (n f : List ℕ) → n ≡ K.open_name disk.old → K.file disk.old n ≡ Some f
+        → LeavesOnly (K.moment disk.old) (K.moment disk.new) (K.left_since disk.old n) (K.left_since disk.new n)
+            (λ c. K.may_leave disk.old n c ⊎ (IsUnstarted market.now f × StandsFor market.now [] c)) }
+{
+    let body = header_of(alloc, market)?;
+    let file = load(alloc, disk)?;
+    match understand(alloc, &file, &body)? {
+        Understood::Unstarted => {
+            begin(disk, file.len() as u64, &body)?;
+            Ok(Found {
+                records: Vec::new(alloc),
+                gate: body.len() as u64,
+            })
+        }
+        Understood::Started(found) => Ok(found),
+        Understood::Alien(at) => Err(OpenFault::Foreign { at }),
+        Understood::Bad(number) => Err(OpenFault::Unfit { number }),
+    }
+}
