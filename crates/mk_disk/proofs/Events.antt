@@ -1,10 +1,10 @@
 -- What one event more does to the files, their images and the moments.
-use Rattle.std.proofs.Common.{◌≡◌, ◌≢◌, ◌⊎◌, inl, inr, ℕ, ◌+◌, ◌<◌, ◌≤◌, min, Bool, true, false, List, [], ◌∷◌, ◌++◌, length, take, refl, sym, ◌∙◌, ap, subst, arith, cond, bytes_eq, length-append, Result, Ok, Err, OnOk, OnErr}
+use Rattle.std.proofs.Common.{◌≡◌, ◌≢◌, ◌⊎◌, inl, inr, ℕ, ◌+◌, ◌≤◌, min, true, false, List, [], ◌∷◌, ◌++◌, length, take, refl, sym, ◌∙◌, ap, subst, arith, bytes_eq, length-append, Result, Ok, Err, OnOk, OnErr}
 use Rattle.std.proofs.lemmas.Bool.{cases_lt, cases_Bool, cond-true, cond-false, false_from_ne_true}
 use Rattle.std.proofs.lemmas.List.{take_all, take-append-le}
 use Rattle.std.proofs.lemmas.Slice.Eq.{bytes_eq-Decides}
 use Rattle.mk_disk.specs.declared.event.Event.{Event}
-use Rattle.mk_disk.specs.Disk.{Torn, Only, Follows, NoMore, Elapses, overwritten}
+use Rattle.mk_disk.specs.Disk.{Torn, Only, Follows, NoMore, Elapses}
 use Rattle.mk_disk.specs.Image.{IsImageOf}
 use Rattle.mk_disk.specs.Memory.{FileState, rested, faulted, written, wrote, faulted_in, synced, after_event, after_events, file_after, IsImage, WasImage, Happened}
 

@@ -1,9 +1,9 @@
 -- Each image that is said byte by byte is left by torn writes.
-use Rattle.std.proofs.Common.{◌≡◌, ◌⊎◌, inl, inr, ℕ, ◌+◌, ◌-◌, ◌<◌, ◌≤◌, min, max, List, [], ◌∷◌, ◌++◌, length, get_or, take, drop, refl, sym, ◌∙◌, ap, subst, arith, length-append, length-take, length-drop, append_assoc}
+use Rattle.std.proofs.Common.{◌≡◌, inl, inr, ℕ, ◌+◌, ◌-◌, ◌<◌, ◌≤◌, min, max, List, [], ◌∷◌, ◌++◌, length, get_or, take, drop, refl, sym, ◌∙◌, ap, arith, length-append, length-take, length-drop, append_assoc}
 use Rattle.std.proofs.lemmas.Bool.{cases_lt}
 use Rattle.std.proofs.lemmas.List.{take_at, take_all, take-take, drop_at, drop_all, get_or_append_left, get_or-append_right, get_or-take, get_or-drop, ext_get_or}
 use Rattle.mk_disk.specs.Disk.{Torn}
-use Rattle.mk_disk.specs.Image.{IsImageOf, greatest, BeginWithin, IsOutside, IsDirectImage}
+use Rattle.mk_disk.specs.Image.{IsImageOf, greatest, BeginWithin, IsDirectImage}
 use Rattle.mk_disk.specs.MemoryLaws.{torn_same}
 
 no_less : (len : ℕ) (ranges : List (ℕ × ℕ)) → len ≤ greatest len ranges

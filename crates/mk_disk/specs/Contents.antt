@@ -1,5 +1,5 @@
 -- The bytes of a file in memory.
-use Rattle.std.specs.Prelude.{◌≡◌, List, ℕ}
+use Rattle.std.specs.Prelude.{◌≡◌}
 use Rattle.mk_disk.specs.declared.contents.Contents.{Contents}
 use Rattle.mk_disk.specs.Memory.{FileState}
 

@@ -1,5 +1,5 @@
 -- A disk in memory: what happened to it, and what its files are by that.
-use Rattle.std.specs.Prelude.{◌≡◌, ℕ, ◌+◌, ◌-◌, ◌^◌, ◌≤◌, min, List, [], ◌∷◌, ◌++◌, length, take, drop, replicate, Option, unwrap_or, if◌then◌else◌, bytes_eq, string_bytes, Contains}
+use Rattle.std.specs.Prelude.{◌≡◌, ℕ, ◌+◌, ◌-◌, ◌^◌, ◌≤◌, min, List, [], ◌∷◌, ◌++◌, length, take, replicate, Option, unwrap_or, if◌then◌else◌, bytes_eq, string_bytes, Contains}
 use Rattle.mk_disk.specs.declared.event.Event.{Event}
 use Rattle.mk_disk.specs.declared.event.Event.TheVariants.{Write, Fault, Sync, Crash}
 use Rattle.mk_disk.specs.declared.event.Choice.{Choice}

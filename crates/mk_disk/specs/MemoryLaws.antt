@@ -1,7 +1,7 @@
 -- The laws of a disk in memory.
-use Rattle.std.specs.Prelude.{◌≡◌, ℕ, ◌+◌, ◌-◌, ◌<◌, ◌≤◌, min, max, Bool, true, false, List, [], ◌∷◌, ◌++◌, length, take, drop, replicate, Some, bytes_eq, string_bytes, refl}
-use Rattle.std.proofs.Common.{sym, ◌∙◌, ap, subst, arith, length-append, length-take, length-drop, take-append-drop, cond}
-use Rattle.std.proofs.lemmas.List.{take_all, take_at, take-append-le, drop_at, append_assoc, length-replicate}
+use Rattle.std.specs.Prelude.{◌≡◌, ℕ, ◌+◌, ◌≤◌, min, max, true, false, List, [], ◌∷◌, ◌++◌, length, take, drop, replicate, Some, bytes_eq, string_bytes, refl}
+use Rattle.std.proofs.Common.{sym, ◌∙◌, ap, subst, arith, length-append, length-take, length-drop, cond}
+use Rattle.std.proofs.lemmas.List.{take_all, take_at, drop_at, append_assoc, length-replicate}
 use Rattle.mk_disk.specs.declared.event.Event.{Event}
 use Rattle.mk_disk.specs.declared.event.Event.TheVariants.{Write, Fault, Sync, Crash}
 use Rattle.mk_disk.specs.declared.event.Choice.{Choice}
