@@ -5,3 +5,4 @@ pub mod Stages
 pub mod Heads
 pub mod Parsing
 pub mod Reopening
+pub mod Sealing

@@ -2,3 +2,4 @@ pub mod Store
 pub mod Kept
 pub mod Moments
 pub mod Opening
+pub mod Market

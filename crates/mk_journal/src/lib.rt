@@ -2,11 +2,13 @@
 #![tactic(auto)]
 
 mod header;
+mod kept;
 mod open;
 mod read;
 mod steps;
 
 
+pub use kept::{DurableFault, Kept, Steps};
 pub use open::{OpenFault, open_store};
 pub use read::Found;
 pub use steps::append;
