@@ -1,11 +1,11 @@
 -- A record between its length and a closed gate, in a buffer; and the fronts of what was accepted.
-use Rattle.std.proofs.Common.{◌≡◌, ◌⊎◌, inl, inr, ℕ, suc, ◌+◌, ◌≤◌, List, [], ◌∷◌, ◌++◌, length, take, drop, set, refl, sym, ◌∙◌, ap, subst, arith, length-append, append_assoc}
+use Rattle.std.proofs.Common.{◌≡◌, ◌⊎◌, inl, inr, ℕ, suc, ◌+◌, ◌≤◌, List, [], ◌∷◌, ◌++◌, length, take, drop, set, Result, Ok, Err, OnOk, is_err, false, refl, sym, ◌∙◌, ap, subst, arith, length-append, append_assoc}
 use Rattle.std.specs.Int.{w32, to_be_bytes}
 use Rattle.std.proofs.lemmas.List.{take_at, take_all, take-append-le, length-take-le, length-drop, drop-set-add, set_split}
 use Rattle.mk_disk.specs.Disk.{Only}
-use Rattle.mk_journal.specs.Store.{IsLength, framed, staged, IsStarted}
+use Rattle.mk_journal.specs.Store.{IsLength, framed, staged, IsStarted, IsWithOrWithout}
 use Rattle.mk_journal.specs.Kept.{IsKept, IsSettled}
-use Rattle.mk_journal.specs.Market.{IsChange, IsEither, IsFront}
+use Rattle.mk_journal.specs.Market.{KeptState, IsEither, IsFront}
 
 pub sealed : (body front : List ℕ) (len : ℕ) → length body ≡ 34005 → IsLength len → front ≡ to_be_bytes w32 len → take (len + 5) (front ++ drop 4 (set body (4 + len) 0)) ≡ staged (take len (drop 4 body))
 unfolding framed
@@ -58,3 +58,24 @@ front_more market before after more least c is front = record {
 pub front_either : (market : List ℕ) (before after more : List (List ℕ)) (least : ℕ) (c : List ℕ) → after ≡ before ++ more → least ≤ length before → IsEither market before after c → IsFront market after least c
 front_either market before after more least c is enough (inl old) = front_before market before after more least c is enough old
 front_either market before after more least c is enough (inr new) = front_all market after least c (omega (arith, ap length is, length-append before more)) new
+
+-- equal values are settled alike
+pub settled_at : {M : Type 0} (accepted : M → List (List ℕ)) (k k' : KeptState M) {file : _} {may_leave : List ℕ → Type 0} {market : List ℕ} → k ≡ k' → IsSettled file may_leave market (accepted k'.market) k'.gate → IsSettled file may_leave market (accepted k.market) k.gate
+settled_at accepted k k' {file} {may_leave} {market} same settled =
+    subst (λ x. IsSettled file may_leave market (accepted x.market) x.gate) (sym same) settled
+
+pub accepted_at : {M : Type 0} (accepted : M → List (List ℕ)) (k k' : KeptState M) → k ≡ k' → accepted k.market ≡ accepted k'.market
+accepted_at accepted k k' same = ap (λ x. accepted x.market) same
+
+pub ok_from : {T E P : Type 0} (r : Result T E) → is_err r ≡ false → OnOk r P → P
+ok_from (Ok value) none p = p
+ok_from (Err error) none p = absurd (cc)
+
+pub either_from : (market : List ℕ) (before before' after : List (List ℕ)) (r : List ℕ) → before ≡ before' → after ≡ before ++ r ∷ [] → (c : List ℕ) → IsWithOrWithout market before r c → IsEither market before' after c
+either_from market before before' after r same more c (inl old) = inl (subst (λ (l : List (List ℕ)). IsStarted market l c) same old)
+either_from market before before' after r same more c (inr new) = inr (subst (λ (l : List (List ℕ)). IsStarted market l c) (sym more) new)
+
+pub settled_more : {file : _} {may_leave : List ℕ → Type 0} {market : List ℕ} (before after : List (List ℕ)) (r bytes : List ℕ) (gate end : ℕ) → after ≡ before ++ r ∷ [] → bytes ≡ staged r → end ≡ length (staged r) → IsSettled file may_leave market (before ++ r ∷ []) (gate + length bytes) → IsSettled file may_leave market after (gate + end)
+settled_more {file} {may_leave} {market} before after r bytes gate end more is size settled =
+    let same : length bytes ≡ end = ap length is ∙ sym size in
+    subst (λ (l : List (List ℕ)). IsSettled file may_leave market l (gate + end)) (sym more) (subst (λ k. IsSettled file may_leave market (before ++ r ∷ []) (gate + k)) same settled)

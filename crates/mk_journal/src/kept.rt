@@ -24,13 +24,13 @@ pub trait Steps {
     // the records of the accepted changes, in their order
     ghost accepted: { Self → List (List ℕ) };
 
-    /// Takes a command, and gives the length of the record that it left at the front of `record`, where it accepted a
+    /// Takes a command, and gives the length of the record that it left at the front of `room`, where it accepted a
     /// change.
-    fn step(&mut self, command: &Self::Command, record: &mut [u8]) -> Option<usize>
-        requires { length record.old ≡ 34000 }
+    fn step(&mut self, command: &Self::Command, room: &mut [u8]) -> Option<usize>
+        requires { length room.old ≡ 34000 }
         ensures bound { IfSome result IsLength }
         ensures accepted { MatchOption result (accepted self.new ≡ accepted self.old)
-            (λ len. accepted self.new ≡ accepted self.old ++ take len record.new ∷ []) };
+            (λ len. accepted self.new ≡ accepted self.old ++ take len room.new ∷ []) };
 }
 
 /// Why a command was not taken, or its change is perhaps not on the disk.

@@ -5,10 +5,12 @@ mod header;
 mod kept;
 mod open;
 mod read;
+mod serving;
 mod steps;
 
 
 pub use kept::{DurableFault, Kept, Steps};
 pub use open::{OpenFault, open_store};
 pub use read::Found;
+pub use serving::serve;
 pub use steps::append;
