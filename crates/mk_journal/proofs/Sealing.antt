@@ -1,11 +1,11 @@
 -- A record between its length and a closed gate, in a buffer; and the fronts of what was accepted.
-use Rattle.std.proofs.Common.{◌≡◌, ◌⊎◌, inl, inr, ℕ, suc, ◌+◌, ◌≤◌, List, [], ◌∷◌, ◌++◌, length, take, drop, set, Result, Ok, Err, OnOk, is_err, false, refl, sym, ◌∙◌, ap, subst, arith, length-append, append_assoc}
+use Rattle.std.proofs.Common.{◌≡◌, ◌⊎◌, inl, inr, ℕ, suc, ◌+◌, ◌≤◌, List, [], ◌∷◌, ◌++◌, length, take, drop, set, Result, Ok, Err, OnOk, Bool, true, false, MatchBool, is_err, refl, sym, ◌∙◌, ap, subst, arith, length-append, append_assoc}
 use Rattle.std.specs.Int.{w32, to_be_bytes}
 use Rattle.std.proofs.lemmas.List.{take_at, take_all, take-append-le, length-take-le, length-drop, drop-set-add, set_split}
 use Rattle.mk_disk.specs.Disk.{Only}
 use Rattle.mk_journal.specs.Store.{IsLength, framed, staged, IsStarted, IsWithOrWithout}
 use Rattle.mk_journal.specs.Kept.{IsKept, IsSettled}
-use Rattle.mk_journal.specs.Market.{KeptState, IsEither, IsFront}
+use Rattle.mk_journal.specs.Market.{KeptState, HasFront, IsChange, IsEither, IsFront}
 
 pub sealed : (body front : List ℕ) (len : ℕ) → length body ≡ 34005 → IsLength len → front ≡ to_be_bytes w32 len → take (len + 5) (front ++ drop 4 (set body (4 + len) 0)) ≡ staged (take len (drop 4 body))
 unfolding framed
@@ -79,3 +79,19 @@ pub settled_more : {file : _} {may_leave : List ℕ → Type 0} {market : List �
 settled_more {file} {may_leave} {market} before after r bytes gate end more is size settled =
     let same : length bytes ≡ end = ap length is ∙ sym size in
     subst (λ (l : List (List ℕ)). IsSettled file may_leave market l (gate + end)) (sym more) (subst (λ k. IsSettled file may_leave market (before ++ r ∷ []) (gate + k)) same settled)
+
+-- what was accepted in two calls
+pub front_then : {before mid after : List (List ℕ)} → HasFront before mid → HasFront mid after → HasFront before after
+front_then {before} first second = record {
+  more = first.more ++ second.more;
+  accepted = second.accepted ∙ ap (λ l. l ++ second.more) first.accepted ∙ append_assoc before first.more second.more;
+}
+
+-- the count of acknowledged changes after one call more
+pub counted_few : (b : Bool) (r n i : ℕ) → MatchBool b (r ≡ n + 1) (r ≡ n) → n ≤ i → r ≤ i + 1
+counted_few true r n i is few = omega arith
+counted_few false r n i is few = omega arith
+
+pub counted_length : (b : Bool) (before after : List (List ℕ)) (first r n : ℕ) → MatchBool b (IsChange before after) (after ≡ before) → MatchBool b (r ≡ n + 1) (r ≡ n) → length before ≡ first + n → length after ≡ first + r
+counted_length true before after first r n change is counts = omega (arith, ap length change.accepted, length-append before (change.record_left ∷ []))
+counted_length false before after first r n same is counts = omega (arith, ap length same)
