@@ -6,3 +6,4 @@ pub mod Heads
 pub mod Parsing
 pub mod Reopening
 pub mod Sealing
+pub mod Meanings

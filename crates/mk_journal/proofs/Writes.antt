@@ -4,7 +4,6 @@ use Rattle.std.proofs.lemmas.List.{take_at, take_all, drop_at, drop_all, drop_mo
 use Rattle.mk_disk.specs.Disk.{Torn, overwritten}
 
 module _ (front : List ℕ) (g : ℕ) (rest : List ℕ) (at : ℕ) (place : length front ≡ at) where
-
   abbrev file : List ℕ
   file = front ++ g ∷ rest
 

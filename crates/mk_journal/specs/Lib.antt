@@ -3,3 +3,4 @@ pub mod Kept
 pub mod Moments
 pub mod Opening
 pub mod Market
+pub mod Laws

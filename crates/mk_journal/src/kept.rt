@@ -80,7 +80,11 @@ impl<M: Steps> Kept<M> {
     /// Takes a command, and makes its change durable where it is accepted; says whether it was. After `Disk` each image
     /// that a crash leaves holds the records from before the call, or those and this change's; the store is then to be
     /// opened again.
-    pub fn apply<K: Disk>(&mut self, disk: &mut K, command: &M::Command) -> Result<bool, DurableFault>
+    pub fn apply<K: Disk>(
+        &mut self,
+        disk: &mut K,
+        command: &M::Command,
+    ) -> Result<bool, DurableFault>
         requires is_open { IsTrue (K.is_open disk.old) }
         requires place { HasPlace self.old.closed (K.file disk.old (K.open_name disk.old)) self.old.gate }
         requires bound { self.old.gate < 2 ^ 63 }
@@ -105,7 +109,7 @@ impl<M: Steps> Kept<M> {
         ensures any_moment { (n market : List ℕ) → n ≡ K.open_name disk.old
             → IsSettled (K.file disk.old n) (K.may_leave disk.old n) market (M.accepted self.old.market) self.old.gate
             → LeavesOnly (K.moment disk.old) (K.moment disk.new) (K.left_since disk.old n) (K.left_since disk.new n)
-                (IsEither market (M.accepted self.old.market) (M.accepted self.new.market)) }
+            (IsEither market (M.accepted self.old.market) (M.accepted self.new.market)) }
         ensures left { (n market : List ℕ) → n ≡ K.open_name disk.old
             → IsSettled (K.file disk.old n) (K.may_leave disk.old n) market (M.accepted self.old.market) self.old.gate
             → (c : List ℕ) → K.may_leave disk.new n c

@@ -3,13 +3,16 @@
 
 mod header;
 mod kept;
+mod laws;
 mod open;
 mod read;
 mod serving;
 mod steps;
-
+#[cfg(test)]
+mod tests;
 
 pub use kept::{DurableFault, Kept, Steps};
+pub use laws::{one_reading, refuses_no_honest, stays_honest};
 pub use open::{OpenFault, open_store};
 pub use read::Found;
 pub use serving::serve;

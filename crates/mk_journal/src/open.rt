@@ -94,7 +94,7 @@ pub fn open_store<K: Disk>(alloc: Global, disk: &mut K, market: &[u8]) -> Result
     ensures place { IfOk result (λ found. IfSome (K.file disk.new (K.open_name disk.old)) (λ f. found.gate < length f)) }
     ensures any_moment { (n f : List ℕ) → n ≡ K.open_name disk.old → K.file disk.old n ≡ Some f
         → LeavesOnly (K.moment disk.old) (K.moment disk.new) (K.left_since disk.old n) (K.left_since disk.new n)
-            (λ c. K.may_leave disk.old n c ⊎ (IsUnstarted market.now f × StandsFor market.now [] c)) }
+        (λ c. K.may_leave disk.old n c ⊎ (IsUnstarted market.now f × StandsFor market.now [] c)) }
 {
     let body = header_of(alloc, market)?;
     let file = load(alloc, disk)?;

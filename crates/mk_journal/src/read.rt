@@ -2,7 +2,6 @@
 
 ghost use Rattle.std.specs.Prelude.{◌≡◌, ◌≢◌, ℕ, ◌+◌, ◌^◌, ◌<◌, ◌≤◌, List, ◌∷◌, ◌++◌, length, take, MatchOption, IfNone, IfOk};
 ghost use Rattle.mk_journal.specs.Store.{IsLength, NoRecord, framed, foreign_from, begun};
-
 ghost use Rattle.mk_journal.specs.Opening.{IsRead, IsUnderstood};
 
 use std::alloc::{AllocError, Global};

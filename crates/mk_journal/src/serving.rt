@@ -31,7 +31,7 @@ pub fn serve<M: Steps, K: Disk, S: Sink>(
     ensures any_moment { (n market : List ℕ) → n ≡ K.open_name disk.old
         → IsSettled (K.file disk.old n) (K.may_leave disk.old n) market (M.accepted kept.old.market) kept.old.gate
         → LeavesOnly (K.moment disk.old) (K.moment disk.new) (K.left_since disk.old n) (K.left_since disk.new n)
-            (IsFront market (M.accepted kept.new.market) (length (M.accepted kept.old.market))) }
+        (IsFront market (M.accepted kept.new.market) (length (M.accepted kept.old.market))) }
 {
     let mut acknowledged = 0;
     for command in commands {

@@ -58,8 +58,8 @@ loop-command-preserved g c =
       counts = counted_length c.in-Ok.accepted _ _ _ _ _ c.in-Ok.ensures.change c.counted-acknowledged.ensures inv.counts;
       settled = λ n market named s. c.in-Ok.ensures.settled n market (named ∙ sym inv.name) (inv.settled n market named s);
       moments = λ n market named s.
-        then (weaken (λ b is. front_more market _ _ front.more _ b front.accepted is) (inv.moments n market named s))
-        (weaken (λ b is. front_either market _ _ front.more _ b front.accepted (omega (arith, inv.counts)) is) (c.apply.ensures.any_moment n market (named ∙ sym inv.name) (inv.settled n market named s)));
+          then (weaken (λ b is. front_more market _ _ front.more _ b front.accepted is) (inv.moments n market named s))
+          (weaken (λ b is. front_either market _ _ front.more _ b front.accepted (omega (arith, inv.counts)) is) (c.apply.ensures.any_moment n market (named ∙ sym inv.name) (inv.settled n market named s)));
     }
 
 pub returns-clause-acknowledged : goal.returns-clause-acknowledged
