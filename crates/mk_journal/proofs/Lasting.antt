@@ -1,5 +1,5 @@
 -- How a run of calls goes on.
-use Rattle.std.proofs.Common.{◌≡◌, ◌⊎◌, inl, inr, ⊎_elim, ℕ, ◌≤◌, List, sym, subst, arith}
+use Rattle.std.proofs.Common.{◌≡◌, inl, inr, ⊎_elim, ℕ, List, sym, subst, arith}
 use Rattle.mk_disk.specs.Disk.{Elapses, Only, Follows, Torn}
 use Rattle.mk_journal.specs.Moments.{LeavesOnly}
 

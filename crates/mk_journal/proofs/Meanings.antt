@@ -1,12 +1,12 @@
 -- What the bytes of a store mean, in one way.
-use Rattle.std.proofs.Common.{◌≡◌, ◌≢◌, ◌⊎◌, inl, inr, ℕ, ◌+◌, ◌<◌, ◌≤◌, ◌^◌, List, [], ◌∷◌, ◌++◌, length, take, drop, eqb, ltb, Option, Some, None, refl, sym, ◌∙◌, ap, subst, arith, length-append, append_assoc}
-use Rattle.std.specs.Int.{w32, to_be_bytes, from_be_bytes}
+use Rattle.std.proofs.Common.{◌≡◌, ◌≢◌, inl, inr, ℕ, ◌+◌, List, [], ◌∷◌, ◌++◌, length, take, drop, eqb, ltb, None, refl, sym, ◌∙◌, ap, arith, length-append, append_assoc}
+use Rattle.std.specs.Int.{w32, to_be_bytes}
 use Rattle.std.proofs.lemmas.Bool.{ne_eqb, eq-eqb, le-ltb, cond-true, cond-false}
 use Rattle.std.proofs.lemmas.List.{take_at, drop_at, append_cancel_left}
 use Rattle.std.proofs.lemmas.List.Elements.{All-head, All-tail}
 use Rattle.mk_journal.specs.declared.open.OpenFault.{OpenFault}
 use Rattle.mk_journal.specs.declared.open.OpenFault.TheVariants.{Disk, Foreign, Unfit, Memory}
-use Rattle.mk_journal.specs.Store.{IsLength, AreRecords, NoRecord, framed, opened, header, foreign_from, foreign, Holds, Breaks, IsUnstarted, IsStarted, IsUnfit, StandsFor, IsHonest}
+use Rattle.mk_journal.specs.Store.{IsLength, AreRecords, NoRecord, framed, opened, header, foreign_from, foreign, IsUnstarted, IsStarted, StandsFor, IsHonest}
 use Rattle.mk_journal.specs.Opening.{IsRefused}
 use Rattle.mk_journal.specs.Laws.{IsPlain}
 use Rattle.mk_journal.proofs.Spelling.{length-header}

@@ -1,9 +1,9 @@
 -- How records and headers are read.
-use Rattle.std.proofs.Common.{◌≡◌, ◌≢◌, ◌⊎◌, inl, inr, ℕ, ◌+◌, ◌-◌, ◌<◌, ◌≤◌, ◌^◌, List, [], ◌∷◌, ◌++◌, length, get_or, take, drop, suc, eqb, ltb, Option, Some, None, refl, sym, ◌∙◌, ap, subst, arith, length-append, length-drop, length-take, take-append-drop, append_assoc}
+use Rattle.std.proofs.Common.{◌≡◌, ◌≢◌, inl, inr, ℕ, ◌+◌, ◌-◌, ◌<◌, ◌≤◌, ◌^◌, List, [], ◌∷◌, ◌++◌, length, get_or, take, drop, suc, eqb, ltb, Some, None, refl, sym, ◌∙◌, ap, subst, arith, length-append, length-drop, length-take, take-append-drop, append_assoc}
 use Rattle.std.specs.Int.{w32, to_be_bytes, from_be_bytes}
 use Rattle.std.proofs.lemmas.Bool.{cases_lt, cases_Bool, eqb-true, eq-eqb, lt-ltb, ne_eqb, cond-false, cond-true}
 use Rattle.std.proofs.lemmas.Nat.{be_bytes_4, from_be_bytes-to_be_bytes_4}
-use Rattle.std.proofs.lemmas.List.{take_at, drop_at, drop_more, drop_all, length-take-le, get_or-take, get_or_past}
+use Rattle.std.proofs.lemmas.List.{take_at, drop_more, drop_all, length-take-le, get_or-take, get_or_past}
 use Rattle.std.proofs.lemmas.List.Elements.{All-push}
 use Rattle.mk_journal.specs.Store.{IsLength, AreRecords, NoRecord, framed, opened, header, begun, foreign_from, foreign, Holds, Breaks, IsUnstarted, IsStarted, IsUnfit}
 use Rattle.mk_journal.proofs.Spelling.{opened-push, length-header}

@@ -1,5 +1,5 @@
 -- What an opening knows of the file.
-use Rattle.std.proofs.Common.{◌≡◌, ℕ, ◌+◌, ◌<◌, List, ◌∷◌, ◌++◌, length, Option, Some, None, IfSome, Result, Err, IfErr, sym, ◌∙◌, ap, subst, arith, length-append}
+use Rattle.std.proofs.Common.{◌≡◌, ℕ, ◌+◌, ◌<◌, List, ◌∷◌, length, Option, Some, None, IfSome, sym, ◌∙◌, ap, subst, arith, length-append}
 use Rattle.mk_disk.specs.Disk.{Only}
 use Rattle.mk_journal.specs.Store.{opened, before_gate, IsStarted}
 use Rattle.mk_journal.specs.Kept.{IsKept}

@@ -1,10 +1,9 @@
 -- A record between its length and a closed gate, in a buffer; and the fronts of what was accepted.
-use Rattle.std.proofs.Common.{◌≡◌, ◌⊎◌, inl, inr, ℕ, suc, ◌+◌, ◌≤◌, List, [], ◌∷◌, ◌++◌, length, take, drop, set, Result, Ok, Err, OnOk, Bool, true, false, MatchBool, is_err, refl, sym, ◌∙◌, ap, subst, arith, length-append, append_assoc}
+use Rattle.std.proofs.Common.{◌≡◌, inl, inr, ℕ, suc, ◌+◌, ◌≤◌, List, [], ◌∷◌, ◌++◌, length, take, drop, set, Result, Ok, Err, OnOk, Bool, true, false, MatchBool, is_err, refl, sym, ◌∙◌, ap, subst, arith, length-append, append_assoc}
 use Rattle.std.specs.Int.{w32, to_be_bytes}
 use Rattle.std.proofs.lemmas.List.{take_at, take_all, take-append-le, length-take-le, length-drop, drop-set-add, set_split}
-use Rattle.mk_disk.specs.Disk.{Only}
 use Rattle.mk_journal.specs.Store.{IsLength, framed, staged, IsStarted, IsWithOrWithout}
-use Rattle.mk_journal.specs.Kept.{IsKept, IsSettled}
+use Rattle.mk_journal.specs.Kept.{IsSettled}
 use Rattle.mk_journal.specs.Market.{KeptState, HasFront, IsChange, IsEither, IsFront}
 
 pub sealed : (body front : List ℕ) (len : ℕ) → length body ≡ 34005 → IsLength len → front ≡ to_be_bytes w32 len → take (len + 5) (front ++ drop 4 (set body (4 + len) 0)) ≡ staged (take len (drop 4 body))

@@ -1,12 +1,10 @@
 -- How a store file is spelled at a gate.
-use Rattle.std.proofs.Common.{◌≡◌, ◌≢◌, ◌⊎◌, inl, inr, ℕ, ◌+◌, ◌<◌, ◌≤◌, List, [], ◌∷◌, ◌++◌, length, get_or, drop, take, refl, sym, ◌∙◌, ap, subst, arith, All, length-append, append_assoc}
+use Rattle.std.proofs.Common.{◌≡◌, ◌≢◌, inl, inr, ℕ, ◌+◌, List, [], ◌∷◌, ◌++◌, length, refl, sym, ◌∙◌, ap, arith, length-append, append_assoc}
 use Rattle.std.specs.Int.{w32, w64, to_be_bytes}
 use Rattle.std.proofs.lemmas.Bool.{cases_eq}
 use Rattle.std.proofs.lemmas.List.{append-nil}
 use Rattle.std.proofs.lemmas.List.Elements.{All-push}
-use Rattle.mk_disk.specs.Disk.{Torn, overwritten}
-use Rattle.mk_journal.specs.Store.{IsLength, AreRecords, framed, opened, header, magic, Holds, IsStarted, staged, before_gate, IsWithOrWithout}
-use Rattle.mk_journal.proofs.Writes.{torn_behind, torn_at, written_behind, written_at}
+use Rattle.mk_journal.specs.Store.{IsLength, AreRecords, framed, opened, header, magic, IsStarted, staged, before_gate, IsWithOrWithout}
 
 pub length-framed : (r : List ℕ) → length (framed r) ≡ length r + 4
 unfolding framed

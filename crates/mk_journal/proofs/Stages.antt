@@ -1,5 +1,5 @@
 -- The two steps of an append, on the file's bytes.
-use Rattle.std.proofs.Common.{◌≡◌, ◌⊎◌, ℕ, ◌+◌, List, [], ◌∷◌, ◌++◌, length, get_or, drop, Option, Result, Ok, Err, OnOk, sym, ◌∙◌, subst}
+use Rattle.std.proofs.Common.{◌≡◌, ℕ, ◌+◌, List, [], ◌∷◌, ◌++◌, length, get_or, drop, Option, Result, Ok, Err, OnOk, sym, ◌∙◌, subst}
 use Rattle.mk_disk.specs.Disk.{Torn, overwritten}
 use Rattle.mk_journal.specs.Store.{IsLength, opened, IsStarted, staged, before_gate, IsWithOrWithout}
 use Rattle.mk_journal.specs.Kept.{IsKept, IsSettled, IsStaged}

@@ -1,6 +1,6 @@
 -- What writes leave of a file that is split at a byte.
-use Rattle.std.proofs.Common.{◌≡◌, ◌≢◌, ◌⊎◌, inl, inr, ℕ, ◌+◌, ◌<◌, ◌≤◌, List, [], ◌∷◌, ◌++◌, length, get_or, take, drop, refl, sym, ◌∙◌, ap, subst, arith, length-append, length-take, length-drop, take-append-drop, append_assoc}
-use Rattle.std.proofs.lemmas.List.{take_at, take_all, drop_at, drop_all, drop_more, drop-drop, append-nil}
+use Rattle.std.proofs.Common.{◌≡◌, ℕ, ◌+◌, List, [], ◌∷◌, ◌++◌, length, get_or, take, drop, sym, ◌∙◌, ap, arith, length-append, take-append-drop, append_assoc}
+use Rattle.std.proofs.lemmas.List.{take_at, drop_at, drop_more, drop-drop}
 use Rattle.mk_disk.specs.Disk.{Torn, overwritten}
 
 module _ (front : List ℕ) (g : ℕ) (rest : List ℕ) (at : ℕ) (place : length front ≡ at) where

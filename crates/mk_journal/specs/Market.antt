@@ -1,5 +1,5 @@
 -- A market that is kept: what it accepted, and what of it a crash leaves.
-use Rattle.std.specs.Prelude.{◌≡◌, ◌⊎◌, ℕ, ◌+◌, ◌<◌, ◌≤◌, Bool, true, false, List, [], ◌∷◌, ◌++◌, length, take, Option, IfSome}
+use Rattle.std.specs.Prelude.{◌≡◌, ◌⊎◌, ℕ, ◌<◌, ◌≤◌, Bool, true, false, List, [], ◌∷◌, ◌++◌, length, take, Option, IfSome}
 use Rattle.mk_journal.specs.Store.{IsLength, staged, IsStarted}
 
 -- the value that contracts see: the market, the place of the closed gate, and whether a call of the disk failed

@@ -1,8 +1,7 @@
 -- What an opening finds in a store file, and its faults.
-use Rattle.std.specs.Prelude.{◌≡◌, ◌≢◌, ◌⊎◌, ℕ, ◌+◌, ◌<◌, List, [], ◌∷◌, ◌++◌, length, map, Some, Vec, Option}
+use Rattle.std.specs.Prelude.{◌≡◌, ℕ, ◌+◌, List, length, map, Some, Vec}
 use Rattle.std.specs.declared.alloc.Global.{Global}
 use Rattle.mk_disk.specs.Disk.{Rose}
-use Rattle.mk_journal.specs.declared.read.Found.{Found}
 use Rattle.mk_journal.specs.declared.read.Read.{Read}
 use Rattle.mk_journal.specs.declared.read.Read.TheVariants.{Held, Broken}
 use Rattle.mk_journal.specs.declared.read.Understood.{Understood}

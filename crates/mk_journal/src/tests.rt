@@ -71,6 +71,14 @@ fn reopened(alloc: Global, disk: &mut MemoryDisk) -> Option<Found> {
     open_store(alloc, disk, MARKET).ok()
 }
 
+// Why the store is not that of a market.
+fn refusal(alloc: Global, disk: &mut MemoryDisk, market: &[u8]) -> Option<OpenFault> {
+    if disk.open(NAME).is_err() {
+        return None;
+    }
+    open_store(alloc, disk, market).err()
+}
+
 // Opens the store, again where a call failed.
 fn opened_at_last(alloc: Global, disk: &mut MemoryDisk) -> Option<Found> {
     match reopened(alloc, disk) {
@@ -148,9 +156,9 @@ fn a_store_of_another_market_is_refused(rt: HostRuntime) -> Result<(), Fail> {
     let alloc = rt.alloc();
     let mut disk = MemoryDisk::new(alloc, Vec::new(alloc));
     assert_eq!(rt; run(&rt, alloc, &mut disk)?, 2);
-    let longer = open_store(alloc, &mut disk, b"coins").err();
+    let longer = refusal(alloc, &mut disk, b"coins");
     assert_eq!(rt; longer, Some(OpenFault::Foreign { at: 16 }));
-    let other = open_store(alloc, &mut disk, b"corn").err();
+    let other = refusal(alloc, &mut disk, b"corn");
     assert_eq!(rt; other, Some(OpenFault::Foreign { at: 19 }));
     Ok(())
 }

@@ -1,6 +1,6 @@
 use Rattle.std.proofs.Common.{◌≡◌, [], ◌∷◌, ◌++◌, ◌∙◌, ap, length, rules}
 use Rattle.std.specs.Int.{w64, to_be_bytes}
-use Rattle.mk_journal.specs.Store.{header, magic, begun}
+use Rattle.mk_journal.specs.Store.{header, magic}
 use Rattle.mk_journal.proofs.open.header_of.Goals as goal
 
 pub returns : goal.returns

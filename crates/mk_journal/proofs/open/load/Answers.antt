@@ -1,5 +1,3 @@
-use Rattle.mk_journal.specs.Moments.{LeavesOnly}
-use Rattle.std.proofs.Common.{ℕ, List}
 use Rattle.mk_journal.proofs.Lasting.{started, goes_on}
 use Rattle.mk_journal.proofs.open.load.Goals as goal
 

@@ -1,4 +1,4 @@
-use Rattle.std.proofs.Common.{◌≡◌, ◌≤◌, [], ◌∷◌, ◌++◌, length, ◌∙◌, ap, arith, rules}
+use Rattle.std.proofs.Common.{◌≡◌, [], ◌∷◌, ◌++◌, ◌∙◌, ap, rules}
 use Rattle.std.proofs.lemmas.List.{map_push}
 use Rattle.mk_journal.specs.Opening.{contents}
 use Rattle.mk_journal.proofs.Parsing.{pushed, are_more}

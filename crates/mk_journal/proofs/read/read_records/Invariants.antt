@@ -1,4 +1,4 @@
-use Rattle.std.proofs.Common.{◌≡◌, ◌<◌, ◌≤◌, ◌+◌, ◌++◌, length}
+use Rattle.std.proofs.Common.{◌≡◌, ◌<◌, ◌++◌, length}
 use Rattle.mk_journal.specs.Store.{AreRecords, opened}
 use Rattle.mk_journal.specs.Opening.{contents}
 use Rattle.mk_journal.proofs.read.read_records.Given as goal
