@@ -1,0 +1,6 @@
+pub mod Disk
+pub mod Image
+pub mod Memory
+pub mod Contents
+pub mod MemoryLaws
+pub mod Standard

@@ -1,0 +1,6 @@
+pub mod Store
+pub mod Kept
+pub mod Moments
+pub mod Opening
+pub mod Market
+pub mod Laws

@@ -1,0 +1,108 @@
+-- The store file: a header for one market file, and records, each behind a gate.
+use Rattle.std.specs.Prelude.{◌≡◌, ◌≢◌, ◌⊎◌, ℕ, ◌+◌, ◌<◌, ◌≤◌, List, [], ◌∷◌, ◌++◌, length, Option, Some, None, if◌then◌else◌, ◌==◌, nat_lt, All}
+use Rattle.std.specs.Int.{w32, w64, to_be_bytes}
+
+-- the number of bytes that a record may have
+pub record IsLength (n : ℕ) : Type 0 where
+  pub least : 1 ≤ n
+  pub most : n ≤ 34000
+
+abbrev pub AreRecords : List (List ℕ) → Type 0
+AreRecords records = All (λ r. IsLength (length r)) records
+
+-- a record with its length before it
+unfoldable pub framed : List ℕ → List ℕ
+framed r = to_be_bytes w32 (length r) ++ r
+
+-- these records, each behind an open gate
+abbrev pub opened : List (List ℕ) → List ℕ
+opened [] = []
+opened (r ∷ records) = 1 ∷ (framed r ++ opened records)
+
+-- the text DAGGRE01
+abbrev pub magic : List ℕ
+magic = 68 ∷ 65 ∷ 71 ∷ 71 ∷ 82 ∷ 69 ∷ 48 ∷ 49 ∷ []
+
+-- what stands behind the header's gate
+unfoldable pub header : List ℕ → List ℕ
+header market = magic ++ (to_be_bytes w64 (length market) ++ market)
+
+-- these bytes begin with these records, which a closed gate ends, whatever stands behind it
+pub record Holds (records : List (List ℕ)) (bytes : List ℕ) : Type 0 where
+  pub gate : ℕ
+  pub rest : List ℕ
+  pub closed : gate ≢ 1
+  pub are : AreRecords records
+  pub bytes_are : bytes ≡ opened records ++ gate ∷ rest
+
+-- no record and next gate stand at the front of these bytes
+abbrev pub NoRecord : List ℕ → Type 0
+NoRecord bytes = (r rest : List ℕ) → IsLength (length r) → 0 < length rest → bytes ≡ framed r ++ rest → ⊥
+
+-- these bytes begin with these records, and then behind an open gate there is none
+pub record Breaks (records : List (List ℕ)) (bytes : List ℕ) : Type 0 where
+  pub rest : List ℕ
+  pub are : AreRecords records
+  pub bytes_are : bytes ≡ opened records ++ 1 ∷ rest
+  pub none : NoRecord rest
+
+-- a file that has no header yet
+abbrev pub IsUnstarted : List ℕ → List ℕ → Type 0
+IsUnstarted market [] = Unit {0}
+IsUnstarted market (gate ∷ []) = Unit {0}
+IsUnstarted market (gate ∷ second ∷ rest) = (gate ≢ 1) × (length (gate ∷ second ∷ rest) ≤ length market + 18)
+
+-- a file with this market's header, which holds these records
+pub record IsStarted (market : List ℕ) (records : List (List ℕ)) (file : List ℕ) : Type 0 where
+  pub rest : List ℕ
+  pub file_is : file ≡ 1 ∷ (header market ++ rest)
+  pub holds : Holds records rest
+
+-- the file stands for these records
+abbrev pub StandsFor : List ℕ → List (List ℕ) → List ℕ → Type 0
+StandsFor market records file = (IsUnstarted market file × (records ≡ [])) ⊎ IsStarted market records file
+
+-- the first place, counted from one on, where bytes of a header are missing or differ, or where nothing stands behind it
+abbrev pub foreign_from : ℕ → List ℕ → List ℕ → Option ℕ
+foreign_from at [] [] = Some at
+foreign_from at [] (b ∷ bytes) = None
+foreign_from at (h ∷ head) [] = Some at
+foreign_from at (h ∷ head) (b ∷ bytes) = if h == b then foreign_from (at + 1) head bytes else Some at
+
+-- where a file belongs to another market, or to none
+abbrev pub foreign : List ℕ → List ℕ → Option ℕ
+foreign market [] = None
+foreign market (gate ∷ []) = None
+foreign market (gate ∷ second ∷ rest) =
+    if gate == 1
+    then foreign_from 1 (header market) (second ∷ rest)
+    else (if nat_lt (length market + 18) (length (gate ∷ second ∷ rest)) then Some 0 else None)
+
+-- the record of this number is the first that is bad, counting from one
+pub record IsUnfit (market file : List ℕ) (number : ℕ) : Type 0 where
+  pub records : List (List ℕ)
+  pub rest : List ℕ
+  pub file_is : file ≡ 1 ∷ (header market ++ rest)
+  pub breaks : Breaks records rest
+  pub counted : number ≡ length records + 1
+
+-- the file is this market's, and no record in it is bad
+pub record IsHonest (market file : List ℕ) : Type 0 where
+  pub own : foreign market file ≡ None
+  pub fit : (number : ℕ) → IsUnfit market file number → ⊥
+
+-- the bytes of an append behind the closed gate: a record, and the next gate closed
+abbrev pub staged : List ℕ → List ℕ
+staged r = framed r ++ 0 ∷ []
+
+-- the file stands for these records, with one more or without it
+abbrev pub IsWithOrWithout : List ℕ → List (List ℕ) → List ℕ → List ℕ → Type 0
+IsWithOrWithout market records r file = IsStarted market records file ⊎ IsStarted market (records ++ r ∷ []) file
+
+-- the bytes before the gate that follows these records
+abbrev pub before_gate : List ℕ → List (List ℕ) → List ℕ
+before_gate market records = 1 ∷ (header market ++ opened records)
+
+-- this market's header behind its gate, and the first gate closed
+abbrev pub begun : List ℕ → List ℕ
+begun market = header market ++ 0 ∷ []

@@ -1,0 +1,89 @@
+//! Writes that are made durable one by one, and the two steps of an append.
+
+ghost use Rattle.std.specs.Prelude.{◌≡◌, ℕ, ◌+◌, ◌-◌, ◌^◌, ◌<◌, ◌≤◌, List, [], ◌∷◌, ◌++◌, length, option_map, IsTrue, IfSome, OnOk};
+ghost use Rattle.mk_disk.specs.Disk.{HasCause, Torn, overwritten};
+ghost use Rattle.mk_journal.specs.Store.{IsLength, staged, IsStarted, IsWithOrWithout};
+ghost use Rattle.mk_journal.specs.Kept.{IsKept, IsSettled, IsStaged};
+ghost use Rattle.mk_journal.specs.Moments.{LeavesOnly};
+
+use mk_disk::{Disk, DiskFailed};
+
+/// Writes bytes from a place on, and makes them durable.
+pub(crate) fn write_synced<K: Disk>(disk: &mut K, at: u64, bytes: &[u8]) -> Result<(), DiskFailed>
+    requires is_open { IsTrue (K.is_open disk.old) }
+    requires place { IfSome (K.file disk.old (K.open_name disk.old)) (λ f. at ≤ length f) }
+    requires some { 0 < length bytes.now }
+    ensures cause { HasCause (K.faults disk.old) (K.faults disk.new) result }
+    ensures stays { K.is_open disk.new ≡ K.is_open disk.old }
+    ensures stays_name { K.open_name disk.new ≡ K.open_name disk.old }
+    ensures written { OnOk result (K.file disk.new (K.open_name disk.old) ≡ option_map (overwritten at bytes.now) (K.file disk.old (K.open_name disk.old))) }
+    ensures kept { (n f : List ℕ) → n ≡ K.open_name disk.old → IsKept (K.file disk.old n) (K.may_leave disk.old n) f
+        → OnOk result (IsKept (K.file disk.new n) (K.may_leave disk.new n) (overwritten at bytes.now f)) }
+    ensures any_moment { (n f : List ℕ) → n ≡ K.open_name disk.old → IsKept (K.file disk.old n) (K.may_leave disk.old n) f
+        → LeavesOnly (K.moment disk.old) (K.moment disk.new) (K.left_since disk.old n) (K.left_since disk.new n) (Torn at (length bytes.now) f) }
+{
+    disk.write_at(at, bytes)?;
+    disk.sync()
+}
+
+/// The first step of an append: a record and the next gate, closed, behind its closed gate.
+pub(crate) fn write_record<K: Disk>(disk: &mut K, gate: u64, body: &[u8]) -> Result<(), DiskFailed>
+    requires is_open { IsTrue (K.is_open disk.old) }
+    requires place { IfSome (K.file disk.old (K.open_name disk.old)) (λ f. gate < length f) }
+    requires bound { gate < 2 ^ 63 }
+    requires some { 0 < length body.now }
+    ensures cause { HasCause (K.faults disk.old) (K.faults disk.new) result }
+    ensures stays { K.is_open disk.new ≡ K.is_open disk.old }
+    ensures stays_name { K.open_name disk.new ≡ K.open_name disk.old }
+    ensures place { OnOk result (IfSome (K.file disk.new (K.open_name disk.old)) (λ f. gate + length body.now < length f)) }
+    ensures staged { (n market : List ℕ) (records : List (List ℕ)) → n ≡ K.open_name disk.old
+        → IsSettled (K.file disk.old n) (K.may_leave disk.old n) market records gate
+        → OnOk result (IsStaged (K.file disk.new n) (K.may_leave disk.new n) market records gate body.now) }
+    ensures any_moment { (n market : List ℕ) (records : List (List ℕ)) → n ≡ K.open_name disk.old
+        → IsSettled (K.file disk.old n) (K.may_leave disk.old n) market records gate
+        → LeavesOnly (K.moment disk.old) (K.moment disk.new) (K.left_since disk.old n) (K.left_since disk.new n) (IsStarted market records) }
+{
+    write_synced(disk, gate + 1, body)
+}
+
+/// The second step of an append: the gate before the record is opened.
+pub(crate) fn open_gate<K: Disk>(disk: &mut K, gate: u64) -> Result<(), DiskFailed>
+    requires is_open { IsTrue (K.is_open disk.old) }
+    requires place { IfSome (K.file disk.old (K.open_name disk.old)) (λ f. gate < length f) }
+    ensures cause { HasCause (K.faults disk.old) (K.faults disk.new) result }
+    ensures stays { K.is_open disk.new ≡ K.is_open disk.old }
+    ensures stays_name { K.open_name disk.new ≡ K.open_name disk.old }
+    ensures reached { (end : ℕ) → IfSome (K.file disk.old (K.open_name disk.old)) (λ f. end < length f)
+        → OnOk result (IfSome (K.file disk.new (K.open_name disk.old)) (λ f. end < length f)) }
+    ensures settled { (n market r : List ℕ) (records : List (List ℕ)) → n ≡ K.open_name disk.old → IsLength (length r)
+        → IsStaged (K.file disk.old n) (K.may_leave disk.old n) market records gate (staged r)
+        → OnOk result (IsSettled (K.file disk.new n) (K.may_leave disk.new n) market (records ++ r ∷ []) (gate + length (staged r))) }
+    ensures any_moment { (n market r : List ℕ) (records : List (List ℕ)) → n ≡ K.open_name disk.old → IsLength (length r)
+        → IsStaged (K.file disk.old n) (K.may_leave disk.old n) market records gate (staged r)
+        → LeavesOnly (K.moment disk.old) (K.moment disk.new) (K.left_since disk.old n) (K.left_since disk.new n) (IsWithOrWithout market records r) }
+{
+    write_synced(disk, gate, &[1])
+}
+
+/// Appends a record behind the closed gate at `gate`. At `Ok` each crash from then on leaves it; at any moment of the
+/// call a crash leaves the records from before it, with this one or without. `body` is the record's length, the record
+/// and a closed gate.
+pub fn append<K: Disk>(disk: &mut K, gate: u64, body: &[u8]) -> Result<(), DiskFailed>
+    requires is_open { IsTrue (K.is_open disk.old) }
+    requires place { IfSome (K.file disk.old (K.open_name disk.old)) (λ f. gate < length f) }
+    requires bound { gate < 2 ^ 63 }
+    requires some { 0 < length body.now }
+    ensures cause { HasCause (K.faults disk.old) (K.faults disk.new) result }
+    ensures stays { K.is_open disk.new ≡ K.is_open disk.old }
+    ensures stays_name { K.open_name disk.new ≡ K.open_name disk.old }
+    ensures place { OnOk result (IfSome (K.file disk.new (K.open_name disk.old)) (λ f. gate + length body.now < length f)) }
+    ensures settled { (n market r : List ℕ) (records : List (List ℕ)) → n ≡ K.open_name disk.old → body.now ≡ staged r → IsLength (length r)
+        → IsSettled (K.file disk.old n) (K.may_leave disk.old n) market records gate
+        → OnOk result (IsSettled (K.file disk.new n) (K.may_leave disk.new n) market (records ++ r ∷ []) (gate + length body.now)) }
+    ensures any_moment { (n market r : List ℕ) (records : List (List ℕ)) → n ≡ K.open_name disk.old → body.now ≡ staged r → IsLength (length r)
+        → IsSettled (K.file disk.old n) (K.may_leave disk.old n) market records gate
+        → LeavesOnly (K.moment disk.old) (K.moment disk.new) (K.left_since disk.old n) (K.left_since disk.new n) (IsWithOrWithout market records r) }
+{
+    write_record(disk, gate, body)?;
+    open_gate(disk, gate)
+}
