@@ -108,3 +108,23 @@ fn refuses_others(rt: HostRuntime) -> Result<(), Fail> {
     }
     Ok(())
 }
+
+#[test]
+fn copies_the_ratio_of_a_question(rt: HostRuntime) -> Result<(), Fail> {
+    let wet = Pair {
+        variable: 0,
+        value: 0,
+    };
+    let high = Pair {
+        variable: 4,
+        value: 2,
+    };
+    let condition = Event::empty().with(wet).expect(&rt, "room");
+    let question = Question::make(high, condition).expect(&rt, "a question");
+    let ratio = Ratio::of_question(&question, 3, 7, 5);
+    let copy = ratio.clone()?;
+    assert_eq!(rt; copy.variable, 4);
+    assert_eq!(rt; copy.factors.as_slice(), [5, 5, 7].as_slice());
+    assert_eq!(rt; copy.event().pairs().len(), 2);
+    Ok(())
+}
