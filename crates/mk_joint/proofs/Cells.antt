@@ -1,5 +1,5 @@
 -- The cells of a table over all variables are the states of the network.
-use Rattle.std.proofs.Common.{◌≡◌, ℕ, suc, zero, ◌+◌, ◌<◌, ◌≤◌, Bool, true, cond, ◌||◌, ◌⊎◌, inl, inr, eqb, List, [], ◌∷◌, ◌++◌, map, length, slice_index, slice_index_or, refl, sym, ap, ◌∙◌, arith, eq-eqb}
+use Rattle.std.proofs.Common.{◌≡◌, ℕ, suc, zero, ◌+◌, ◌<◌, ◌≤◌, Bool, true, cond, ◌||◌, ◌⊎◌, inl, inr, eqb, List, ◌∷◌, map, length, slice_index, slice_index_or, refl, sym, ap, ◌∙◌, arith, eq-eqb}
 use Rattle.std.proofs.Math.Path.{fun_ext}
 use Rattle.std.specs.List.{range_with_len, position_or_len}
 use Rattle.std.proofs.lemmas.Bool.{cases_eq, or_left, or_right, or_cases, eqb-true}
@@ -8,18 +8,17 @@ use Rattle.std.proofs.lemmas.List.FromFn.{get_or-map-range_with_len, length-map-
 use Rattle.mk_net.specs.declared.sets.VarSet.{VarSet}
 use Rattle.mk_net.specs.Sets.{is_member}
 use Rattle.mk_net.specs.Network.{Variable, sizes}
-use Rattle.mk_exact.specs.States.{numbers_below, plus_over}
+use Rattle.mk_exact.specs.States.{plus_over}
 use Rattle.mk_exact.specs.InitialWeight.{all_states, value_at}
 use Rattle.mk_exact.specs.Lawful.{Lawful}
-use Rattle.mk_exact.proofs.Sums.{plus_over-append}
 use Rattle.mk_sums.specs.Sums.{plus_below, listed}
 use Rattle.mk_sums.specs.Cells.{keep, cells, place}
 use Rattle.mk_sums.specs.Joint.{variables}
-use Rattle.mk_sums.proofs.States.{is_plus, states_nest}
+use Rattle.mk_sums.proofs.States.{states_nest}
 use Rattle.mk_sums.proofs.Tables.{cells_nest}
 use Rattle.mk_table.specs.Scopes.{ScopeOf, size_in, cells_in, scope_of, has_variable, HasSized}
 use Rattle.mk_table.specs.Cells.{values_at}
-use Rattle.mk_table.proofs.Members.{size_of_map, range_more}
+use Rattle.mk_table.proofs.Members.{size_of_map}
 use Rattle.mk_table.proofs.Places.{cells_same, place_same}
 use Rattle.mk_joint.specs.Joints.{whole_scope, joint_states}
 

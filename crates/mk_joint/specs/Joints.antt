@@ -1,5 +1,5 @@
 -- One table over all variables of a network, and the meanings that it stands for.
-use Rattle.std.specs.Prelude.{◌≡◌, ℕ, ◌^◌, ◌<◌, ◌≤◌, List, length, All, if◌then◌else◌, slice_index}
+use Rattle.std.specs.Prelude.{◌≡◌, ℕ, ◌<◌, ◌≤◌, List, length, All, if◌then◌else◌, slice_index}
 use Rattle.mk_net.specs.Bounds.{max_clique_cells, number_limit}
 use Rattle.mk_net.specs.Network.{Variable, IsNetwork, sizes}
 use Rattle.mk_exact.specs.States.{product_by}

@@ -1,6 +1,7 @@
 //! Beliefs on small networks, beside those that a plain walk over all states finds.
 
 ghost use Rattle.std.specs.Prelude.{◌≡◌, ◌≤◌, ◌<◌, [], ◌∷◌, length};
+ghost use Rattle.mk_net.specs.Bounds.{max_clique_cells};
 ghost use Rattle.mk_engine.specs.Meaning.{ArePairsOf};
 ghost use Rattle.mk_joint.specs.Joints.{joint_states};
 
@@ -20,7 +21,7 @@ use std::test::Fail;
 struct Example {
     net: Network,
     tree: Tree,
-    ghost few: { joint_states net ≤ 4096 },
+    ghost few: { joint_states net ≤ max_clique_cells },
 }
 
 fn texts(alloc: Global, given: &[&str]) -> Result<Vec<String>, Fail> {
