@@ -3,7 +3,7 @@ use Rattle.std.proofs.Common.{◌≡◌, ℕ, zero, suc, ◌+◌, ◌*◌, ◌<�
 use Rattle.std.proofs.lemmas.Bool.{cases_lt}
 use Rattle.mk_scaled.specs.Range.{two_to, two_to_pos, two_to-suc, two_to-mono}
 use Rattle.mk_cell.specs.Cell.{IsClose}
-use Rattle.mk_cell.specs.Close.{close-add, close_self}
+use Rattle.mk_cell.specs.inner.Close.{close-add, close_self}
 use Rattle.mk_cell.specs.Passes.{folded, folded-zero, folded-suc, folded-next}
 
 abbrev pub added : ℕ → (ℕ → ℕ) → ℕ

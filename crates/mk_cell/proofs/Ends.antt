@@ -7,7 +7,7 @@ use Rattle.mk_scaled.specs.Near.{IsNear, near_same, near_step, near_trans, near_
 use Rattle.mk_scaled.specs.Range.{IsInRange, two_to, two_to-mono, two_to-suc, two_to-small, whole_below, pow_le, pow-lt_reflects}
 use Rattle.mk_scaled.specs.Rounding.{IsRepresentable, IsLeastAbove}
 use Rattle.mk_cell.specs.Cell.{bias, bias-is, StandsAt}
-use Rattle.mk_cell.specs.Close.{close_unscaled, close_width}
+use Rattle.mk_cell.specs.inner.Close.{close_unscaled, close_width}
 
 -- ---- the upper end above a lower one
 

@@ -2,8 +2,8 @@
 use Rattle.std.proofs.Common.{◌≡◌, ℕ, suc, ◌+◌, ◌*◌, ◌^◌, ◌<◌, ◌≤◌, sym, ◌∙◌, arith, le_trans, le_refl}
 use Rattle.std.proofs.Math.Nat.{mul-le-mul_right}
 use Rattle.mk_cell.specs.Cell.{IsClose, IsLowerEnd}
-use Rattle.mk_cell.specs.Close.{close_between, close_trans, close_scaled, close_loss, close_loss_half}
-use Rattle.mk_cell.specs.LowerEnd.{next_fits, whole_parts}
+use Rattle.mk_cell.specs.inner.Close.{close_between, close_trans, close_scaled, close_loss, close_loss_half}
+use Rattle.mk_cell.specs.inner.LowerEnd.{next_fits, whole_parts}
 use Rattle.mk_cell.proofs.Added.{added, added_same, added_le, added-mul, added_part, added_close, added_loss, added_loss_but_one}
 
 -- a lower end is t parts and less than one more

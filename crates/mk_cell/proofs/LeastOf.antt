@@ -3,8 +3,8 @@ use Rattle.std.proofs.Common.{◌≡◌, ℕ, zero, suc, ◌+◌, ◌*◌, ◌<�
 use Rattle.std.proofs.lemmas.Bool.{cases_lt}
 use Rattle.std.proofs.Math.Nat.{mul-le-mul_right}
 use Rattle.mk_cell.specs.Cell.{IsLowerEnd}
-use Rattle.mk_cell.specs.Close.{close_between}
-use Rattle.mk_cell.specs.LowerEnd.{lower_none}
+use Rattle.mk_cell.specs.inner.Close.{close_between}
+use Rattle.mk_cell.specs.inner.LowerEnd.{lower_none}
 use Rattle.mk_cell.specs.Least.{least, least-zero, least-at_zero, least-both, IsLeastOf}
 use Rattle.mk_cell.specs.Passes.{folded, folded-zero, folded-suc}
 use Rattle.mk_cell.proofs.Greatest.{IsAt}

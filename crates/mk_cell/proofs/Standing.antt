@@ -5,7 +5,7 @@ use Rattle.std.proofs.lemmas.Nat.{pow-add, pow_pos}
 use Rattle.std.proofs.Math.Nat.{mul-le-mul_left, mul-le-mul_right, mul-lt-mul_of_pos_right, mul_assoc, mul-mul-mul_comm}
 use Rattle.mk_scaled.specs.Range.{two_to, two_to_pos, whole_below, mul_below}
 use Rattle.mk_cell.specs.Cell.{bias, IsForm, IsLowerEnd, IsCut, IsRounded, StandsAt}
-use Rattle.mk_cell.specs.LowerEnd.{lower_same, lower_more, lower_none, lower-mul, lower_cut, lower_unscaled, power_parts}
+use Rattle.mk_cell.specs.inner.LowerEnd.{lower_same, lower_more, lower_none, lower-mul, lower_cut, lower_unscaled, power_parts}
 
 pub absent_form : IsForm 0 0
 absent_form = record { absent = λ h. omega arith; full = λ h. absurd (omega arith); fits = omega arith }

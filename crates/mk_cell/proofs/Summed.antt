@@ -5,7 +5,7 @@ use Rattle.std.proofs.lemmas.Nat.{pow-add, pow_pos}
 use Rattle.std.proofs.Math.Nat.{mul-le-mul_left, mul-le-mul_right, mul-lt-mul_of_pos_right, mul_assoc, zero-div, div-mul-le_self, lt-div-mul-add, div-one}
 use Rattle.mk_scaled.specs.Range.{two_to}
 use Rattle.mk_cell.specs.Cell.{bias, IsCell, IsLowerEnd, IsRounded, StandsAt}
-use Rattle.mk_cell.specs.LowerEnd.{power_parts, lower_finer}
+use Rattle.mk_cell.specs.inner.LowerEnd.{power_parts, lower_finer}
 use Rattle.mk_cell.specs.Passes.{folded, plus_below, plus_below-folded}
 use Rattle.mk_cell.proofs.Standing.{no_digits, nothing_left, cut_product}
 use Rattle.mk_cell.proofs.Added.{added, added_part, added_none, added_size}

@@ -5,7 +5,7 @@ use Rattle.std.proofs.lemmas.Nat.{pow-add, pow_pos}
 use Rattle.std.proofs.Math.Nat.{mul-le-mul, mul-le-mul_left, mul_assoc, zero-div, div-div-eq-div-mul}
 use Rattle.mk_scaled.specs.Range.{two_to, two_to-mono}
 use Rattle.mk_cell.specs.Cell.{bias, IsCell, IsLowerEnd, IsRounded, StandsAt}
-use Rattle.mk_cell.specs.LowerEnd.{power_parts, lower-mul}
+use Rattle.mk_cell.specs.inner.LowerEnd.{power_parts, lower-mul}
 use Rattle.mk_cell.specs.Passes.{folded, plus_below, plus_below-folded}
 use Rattle.mk_cell.proofs.Digits.{product_room, no_product, left_there, right_there}
 use Rattle.mk_cell.proofs.Standing.{times_none, nothing_left, cut_product, product_is, size_of_product}

@@ -11,7 +11,7 @@ use Rattle.mk_text.specs.Reading.{Read, both, behind, given, nothing, read_name,
 use Rattle.mk_text.proofs.ReadingLaws.{Took, Reads, Tells, Spelled, MayFollow, BothFit, both_text, behind_text, both_reads, behind_reads, perhaps_reads, spelled_by, spelled_alone, choose_takes, nothing_takes, made_last, whole_one}
 use Rattle.mk_text.proofs.PartLaws.{EndsQuestion, name_reads, number_reads, pair_reads, question_reads}
 use Rattle.mk_command.specs.Commands.{command_text, IsCommand, at_text}
-use Rattle.mk_command.specs.Reading.{read_short, read_user, read_deposit, read_withdraw, read_price, read_limits, read_at, read_edit, read_worst, read_resolve, forms, read_form}
+use Rattle.mk_command.specs.inner.Reading.{read_short, read_user, read_deposit, read_withdraw, read_price, read_limits, read_at, read_edit, read_worst, read_resolve, forms, read_form}
 use Rattle.mk_command.specs.declared.command.Command.{Command}
 use Rattle.mk_command.specs.declared.command.Command.TheVariants.{User, Deposit, Withdraw, Price, Limits, Edit, Worst, Resolve, Settle}
 

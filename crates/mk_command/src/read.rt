@@ -3,7 +3,7 @@
 ghost use Rattle.std.specs.Prelude.{◌≡◌, ◌≢◌, ◌<◌, ◌^◌, IfOk, IfSome, OnErr};
 ghost use Rattle.mk_text.specs.Reading.{Finds};
 ghost use Rattle.mk_command.specs.Commands.{IsCommand, command_text};
-ghost use Rattle.mk_command.specs.Reading.{read_short, read_user, read_deposit, read_withdraw, read_price, read_limits, read_edit, read_at, read_worst, read_resolve, read_form};
+ghost use Rattle.mk_command.specs.inner.Reading.{read_short, read_user, read_deposit, read_withdraw, read_price, read_limits, read_edit, read_at, read_worst, read_resolve, read_form};
 ghost use Rattle.mk_command.specs.declared.command.Command.{Command};
 
 use crate::command::Command;
@@ -26,7 +26,7 @@ pub fn read_command(line: &[u8]) -> Result<Command, Syntax>
     }
 }
 
-#[tactic(auto, unfolding(crate::specs::Reading::read_form))]
+#[tactic(auto, unfolding(crate::specs::inner::Reading::read_form))]
 fn command(reader: &mut Reader) -> Option<Command>
     ensures { Finds result reader.new (read_form reader.old) }
 {
@@ -60,7 +60,7 @@ fn command(reader: &mut Reader) -> Option<Command>
     None
 }
 
-#[tactic(auto, unfolding(crate::specs::Reading::read_user))]
+#[tactic(auto, unfolding(crate::specs::inner::Reading::read_user))]
 fn user(reader: &mut Reader) -> Option<Command>
     ensures { Finds result reader.new (read_user reader.old) }
 {
@@ -68,7 +68,7 @@ fn user(reader: &mut Reader) -> Option<Command>
     Some(Command::User { user })
 }
 
-#[tactic(auto, unfolding(crate::specs::Reading::read_deposit))]
+#[tactic(auto, unfolding(crate::specs::inner::Reading::read_deposit))]
 fn deposit(reader: &mut Reader) -> Option<Command>
     ensures { Finds result reader.new (read_deposit reader.old) }
 {
@@ -78,7 +78,7 @@ fn deposit(reader: &mut Reader) -> Option<Command>
     Some(Command::Deposit { user, bits })
 }
 
-#[tactic(auto, unfolding(crate::specs::Reading::read_withdraw))]
+#[tactic(auto, unfolding(crate::specs::inner::Reading::read_withdraw))]
 fn withdraw(reader: &mut Reader) -> Option<Command>
     ensures { Finds result reader.new (read_withdraw reader.old) }
 {
@@ -88,7 +88,7 @@ fn withdraw(reader: &mut Reader) -> Option<Command>
     Some(Command::Withdraw { user, bits })
 }
 
-#[tactic(auto, unfolding(crate::specs::Reading::read_price))]
+#[tactic(auto, unfolding(crate::specs::inner::Reading::read_price))]
 fn price(reader: &mut Reader) -> Option<Command>
     ensures { Finds result reader.new (read_price reader.old) }
 {
@@ -96,7 +96,7 @@ fn price(reader: &mut Reader) -> Option<Command>
     Some(Command::Price { question })
 }
 
-#[tactic(auto, unfolding(crate::specs::Reading::read_limits))]
+#[tactic(auto, unfolding(crate::specs::inner::Reading::read_limits))]
 fn limits(reader: &mut Reader) -> Option<Command>
     ensures { Finds result reader.new (read_limits reader.old) }
 {
@@ -106,7 +106,7 @@ fn limits(reader: &mut Reader) -> Option<Command>
     Some(Command::Limits { user, question })
 }
 
-#[tactic(auto, unfolding(crate::specs::Reading::read_edit))]
+#[tactic(auto, unfolding(crate::specs::inner::Reading::read_edit))]
 fn edit(reader: &mut Reader) -> Option<Command>
     ensures { Finds result reader.new (read_edit reader.old) }
 {
@@ -124,7 +124,7 @@ fn edit(reader: &mut Reader) -> Option<Command>
     })
 }
 
-#[tactic(auto, unfolding(crate::specs::Reading::read_at))]
+#[tactic(auto, unfolding(crate::specs::inner::Reading::read_at))]
 fn revision(reader: &mut Reader) -> Option<Option<u32>>
     ensures { Finds result reader.new (read_at reader.old) }
 {
@@ -135,7 +135,7 @@ fn revision(reader: &mut Reader) -> Option<Option<u32>>
     Some(Some(at))
 }
 
-#[tactic(auto, unfolding(crate::specs::Reading::read_worst))]
+#[tactic(auto, unfolding(crate::specs::inner::Reading::read_worst))]
 fn worst(reader: &mut Reader) -> Option<Command>
     ensures { Finds result reader.new (read_worst reader.old) }
 {
@@ -143,7 +143,7 @@ fn worst(reader: &mut Reader) -> Option<Command>
     Some(Command::Worst { user })
 }
 
-#[tactic(auto, unfolding(crate::specs::Reading::read_resolve))]
+#[tactic(auto, unfolding(crate::specs::inner::Reading::read_resolve))]
 fn resolve(reader: &mut Reader) -> Option<Command>
     ensures { Finds result reader.new (read_resolve reader.old) }
 {
@@ -152,7 +152,7 @@ fn resolve(reader: &mut Reader) -> Option<Command>
 }
 
 /// A number of at most nine digits.
-#[tactic(auto, unfolding(crate::specs::Reading::read_short))]
+#[tactic(auto, unfolding(crate::specs::inner::Reading::read_short))]
 fn short(reader: &mut Reader) -> Option<u32>
     ensures { Finds result reader.new (read_short reader.old) }
 {

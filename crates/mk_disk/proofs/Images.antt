@@ -4,7 +4,7 @@ use Rattle.std.proofs.lemmas.Bool.{cases_lt}
 use Rattle.std.proofs.lemmas.List.{take_at, take_all, take-take, drop_at, drop_all, get_or_append_left, get_or-append_right, get_or-take, get_or-drop, ext_get_or}
 use Rattle.mk_disk.specs.Disk.{Torn}
 use Rattle.mk_disk.specs.Image.{IsImageOf, greatest, BeginWithin, IsDirectImage}
-use Rattle.mk_disk.specs.MemoryLaws.{torn_same}
+use Rattle.mk_disk.specs.inner.MemoryLaws.{torn_same}
 
 no_less : (len : ℕ) (ranges : List (ℕ × ℕ)) → len ≤ greatest len ranges
 no_less len [] = omega arith

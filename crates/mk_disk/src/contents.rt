@@ -2,7 +2,7 @@
 
 ghost use Rattle.std.specs.Prelude.{◌≡◌, ◌+◌, ◌≤◌, min, length, replicate, IfOk, OnOk, ℕ};
 ghost use Rattle.mk_disk.specs.Disk.{overwritten};
-ghost use Rattle.mk_disk.specs.Contents.{IsContents};
+ghost use Rattle.mk_disk.specs.inner.Contents.{IsContents};
 ghost use Rattle.mk_disk.specs.Memory.{FileState, rested, chosen, faulted, written, after_event, file_after};
 
 use crate::event::{Choice, Event};

@@ -3,7 +3,7 @@
 ghost use Rattle.std.specs.Prelude.{◌≡◌, ◌≢◌, ℕ, ◌<◌, ◌≤◌, List, [], ◌∷◌, ◌++◌, length, string_bytes, Option, Some, None, Bool, is_some, unwrap_or, option_map, IsTrue, IfOk, OnOk, OnErr, IfSome};
 ghost use Rattle.mk_disk.specs.Disk.{HasCause, overwritten, Torn, Only, Follows, NoMore, Elapses, Fills};
 ghost use Rattle.mk_disk.specs.Memory.{rested, chosen, wrote, faulted_in, synced, file_after, IsImage, WasImage, counted, failed, uncalled, IsFailing, Happened, opened_name, seen_of};
-ghost use Rattle.mk_disk.specs.MemoryLaws.{seen_image, now_counts, now_only};
+ghost use Rattle.mk_disk.specs.inner.MemoryLaws.{seen_image, now_counts, now_only};
 
 use crate::calls::Calls;
 use crate::contents::contents_after;

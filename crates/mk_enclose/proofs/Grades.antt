@@ -4,7 +4,7 @@ use Rattle.std.proofs.lemmas.Bool.{cases_lt}
 use Rattle.std.proofs.Math.Nat.{mul-le-mul_right, pow-suc}
 use Rattle.mk_scaled.specs.Near.{IsNear, near_more, near_between}
 use Rattle.mk_scaled.specs.Rounding.{IsGreatestBelow, IsLeastAbove}
-use Rattle.mk_scaled.specs.Closeness.{close_below, close_above, greatest_exact, least_exact, representable_whole}
+use Rattle.mk_scaled.specs.inner.Closeness.{close_below, close_above, greatest_exact, least_exact, representable_whole}
 
 -- Both ends are rounded to within one part in 2 ^ 62, which together is less than one step of the grade.
 both_rounded : (a b x y p q : ℕ) → b * p ≤ a * q → a * 2 ^ 62 ≤ x * (2 ^ 62 + 1) → y * 2 ^ 62 ≤ b * (2 ^ 62 + 1) → y * (p * 2 ^ 60) ≤ x * (q * (2 ^ 60 + 1))

@@ -1,3 +1,3 @@
 pub mod Enclosure
-pub mod Widths
 pub mod Factor
+pub mod inner

@@ -10,7 +10,7 @@ use Rattle.mk_net.specs.declared.words.Pair.{Pair}
 use Rattle.mk_net.specs.Network.{Variable, sizes, IsNetwork}
 use Rattle.mk_net.specs.Events.{speaks_of}
 use Rattle.mk_net.specs.Texts.{same_text}
-use Rattle.mk_net.specs.TextLaws.{equal_of_same_text, same_text_of_equal}
+use Rattle.mk_net.specs.inner.TextLaws.{equal_of_same_text, same_text_of_equal}
 use Rattle.mk_exact.specs.States.{states, numbers_below, plus_over, IsState}
 use Rattle.mk_exact.specs.InitialWeight.{all_states, value_at}
 use Rattle.mk_exact.specs.Events.{has, holds, always}

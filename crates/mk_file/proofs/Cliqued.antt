@@ -14,7 +14,7 @@ use Rattle.mk_net.specs.Sets.{is_member, no_variables, with_member}
 use Rattle.mk_net.specs.Texts.{same_text}
 use Rattle.mk_net.specs.Checked.{has_double}
 use Rattle.mk_net.proofs.SameText.{equal_of_same_text, same_text_of_equal}
-use Rattle.mk_file.specs.Known.{number_in, is_known_in, is_bad_clique, set_in, IsSetOf}
+use Rattle.mk_file.specs.inner.Known.{number_in, is_known_in, is_bad_clique, set_in, IsSetOf}
 
 same_answer : (p q : Bool) → (p ≡ true → q ≡ true) → (q ≡ true → p ≡ true) → p ≡ q
 same_answer true q there back = sym (there refl)

@@ -24,7 +24,7 @@ use Rattle.mk_file.specs.declared.fault.FileFault.TheVariants.{Clique, Link, Cou
 use Rattle.mk_file.specs.Walk.{DraftOfMarket}
 use Rattle.mk_file.specs.Counts.{is_whole_within, whole_fault, items_fault, names_at, links_fault, counts_fault, variables_fault, of_net}
 use Rattle.mk_file.specs.Cliques.{is_known, clique_at, link_at, given_tree, of_tree}
-use Rattle.mk_file.specs.Known.{number_in, is_known_in, clique_in, set_in, trees_fault}
+use Rattle.mk_file.specs.inner.Known.{number_in, is_known_in, clique_in, set_in, trees_fault}
 use Rattle.mk_file.specs.File.{large_fault, market_in, unless, of_draft}
 
 none_of : {F : Type 0} (a b : Option F) → or_else a b ≡ None → (a ≡ None) × (b ≡ None)

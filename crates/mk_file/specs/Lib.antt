@@ -2,7 +2,6 @@ pub mod Walk
 pub mod Counts
 pub mod Cliques
 pub mod File
-pub mod Views
 pub mod MarketOf
 pub mod Few
-pub mod Known
+pub mod inner

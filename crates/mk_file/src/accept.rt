@@ -7,10 +7,10 @@ ghost use Rattle.mk_tree.specs.Checked.{IsTreeOf};
 ghost use Rattle.mk_tree.specs.Tests.{tree_fault};
 ghost use Rattle.mk_file.specs.Counts.{counts_fault};
 ghost use Rattle.mk_file.specs.Cliques.{given_tree};
-ghost use Rattle.mk_file.specs.Known.{trees_fault};
+ghost use Rattle.mk_file.specs.inner.Known.{trees_fault};
 ghost use Rattle.mk_file.specs.File.{of_draft};
 ghost use Rattle.mk_file.specs.Few.{HasFewStates};
-ghost use Rattle.mk_file.specs.Views.{Gives, draft_of};
+ghost use Rattle.mk_file.specs.inner.Views.{Gives, draft_of};
 ghost use Rattle.mk_file.specs.MarketOf.{market_of};
 
 use crate::cliques::{read_cliques, read_links};

@@ -7,7 +7,7 @@ ghost use Rattle.mk_net.specs.Drafts.{texts_of};
 ghost use Rattle.mk_net.specs.Firsts.{first_in};
 ghost use Rattle.mk_file.specs.Counts.{is_whole_within};
 ghost use Rattle.mk_file.specs.Cliques.{link_at};
-ghost use Rattle.mk_file.specs.Known.{is_bad_clique, clique_in, set_in, IsSetOf};
+ghost use Rattle.mk_file.specs.inner.Known.{is_bad_clique, clique_in, set_in, IsSetOf};
 
 use crate::fault::FileFault;
 use mk_net::{Name, Network, VarSet};

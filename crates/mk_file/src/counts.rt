@@ -4,7 +4,7 @@ ghost use Rattle.std.specs.Prelude.{◌≡◌, ◌<◌, ◌≤◌, ◌^◌, leng
 ghost use Rattle.mk_net.specs.Drafts.{texts_of};
 ghost use Rattle.mk_net.specs.Firsts.{first_in};
 ghost use Rattle.mk_file.specs.Counts as counts;
-ghost use Rattle.mk_file.specs.Views.{draft_of};
+ghost use Rattle.mk_file.specs.inner.Views.{draft_of};
 
 use crate::fault::FileFault;
 use crate::walk::MarketDraft;

@@ -5,7 +5,7 @@ ghost use Rattle.toml.specs.Data.{as_str, as_table};
 ghost use Rattle.toml.specs.View.{view};
 ghost use Rattle.mk_net.specs.Drafts.{texts_of, rows_of};
 ghost use Rattle.mk_file.specs.Walk.{list_of, texts, wholes};
-ghost use Rattle.mk_file.specs.Views.{lists_of, tables_of};
+ghost use Rattle.mk_file.specs.inner.Views.{lists_of, tables_of};
 
 use std::alloc::{AllocError, Global};
 use toml::{Table, Value};

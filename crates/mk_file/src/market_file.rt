@@ -5,7 +5,7 @@ ghost use Rattle.toml.specs.View.{table_view};
 ghost use Rattle.mk_tree.specs.Checked.{IsTreeOf};
 ghost use Rattle.mk_file.specs.File.{file_of, of_document, document_of, max_file_bytes};
 ghost use Rattle.mk_file.specs.Few.{HasFewStates};
-ghost use Rattle.mk_file.specs.Views.{Gives};
+ghost use Rattle.mk_file.specs.inner.Views.{Gives};
 ghost use Rattle.mk_file.specs.MarketOf.{market_of};
 
 use crate::accept::accept;

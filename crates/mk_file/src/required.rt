@@ -6,7 +6,7 @@ ghost use Rattle.toml.specs.View.{view, table_view};
 ghost use Rattle.mk_net.specs.Key.{key_text};
 ghost use Rattle.mk_net.specs.Drafts.{texts_of, rows_of};
 ghost use Rattle.mk_file.specs.Walk.{required, list_of, texts, wholes};
-ghost use Rattle.mk_file.specs.Views.{Gives, lists_of, tables_of};
+ghost use Rattle.mk_file.specs.inner.Views.{Gives, lists_of, tables_of};
 
 use crate::fault::FileFault;
 use crate::kinds::{read_lists, read_rows, read_tables, read_text, read_texts, read_wholes};

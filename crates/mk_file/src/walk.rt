@@ -4,7 +4,7 @@ ghost use Rattle.std.specs.Prelude.{◌≡◌, ◌+◌, ◌≤◌, map, MatchRes
 ghost use Rattle.toml.specs.View.{table_view};
 ghost use Rattle.mk_net.specs.Drafts.{draft_of_variable};
 ghost use Rattle.mk_file.specs.Walk.{variable_in, variables_in, draft_in};
-ghost use Rattle.mk_file.specs.Views.{Gives, draft_of};
+ghost use Rattle.mk_file.specs.inner.Views.{Gives, draft_of};
 
 use crate::fault::FileFault;
 use crate::required::{

@@ -11,8 +11,8 @@ use Rattle.mk_io.specs.Outside.{prepend_known, IsAtEnd}
 use Rattle.mk_io.specs.Stream.{StreamLine, text, long, parts, onto_first, line_of, stream_lines, without_last_cr, max_stream_lines, max_stream_bytes}
 use Rattle.mk_io.proofs.Told.{prepend_known_twice}
 use Rattle.mk_io.specs.Cutting.{Cutting, GivesLine, TakesPiece, IsTooMuch, IsFreshAnswer, first_size, stream_left}
-use Rattle.mk_io.specs.Cut.{front, Settles, CutsLine}
-use Rattle.mk_io.specs.Giving.{GivesText}
+use Rattle.mk_io.specs.inner.Cut.{front, Settles, CutsLine}
+use Rattle.mk_io.specs.inner.Giving.{GivesText}
 
 abbrev NoLf : List ℕ → Type 0
 NoLf part = All (λ b. b ≢ 10) part

@@ -5,7 +5,7 @@ use Rattle.std.proofs.lemmas.List.{length_push}
 use Rattle.std.proofs.lemmas.List.Elements.{All-nil, All-push}
 use Rattle.mk_io.specs.declared.cut.Cut.TheVariants.{Whole, Last, Fault, Full}
 use Rattle.mk_io.specs.Outside.{prepend_known, IsAtEnd, LeavesRest}
-use Rattle.mk_io.specs.Cut.{front, CutsLine}
+use Rattle.mk_io.specs.inner.Cut.{front, CutsLine}
 use Rattle.mk_io.proofs.Told.{prepend_known_twice, prepend_known_none}
 use Rattle.mk_io.proofs.Front.{front_push, front_none}
 

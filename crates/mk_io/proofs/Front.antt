@@ -3,7 +3,7 @@ use Rattle.std.proofs.Common.{◌≡◌, ℕ, ◌+◌, ◌-◌, ◌<◌, ◌≤�
 use Rattle.std.proofs.Math.Numerals.{sub-one}
 use Rattle.std.proofs.lemmas.Bool.{true≢false, ne_eqb}
 use Rattle.std.proofs.lemmas.List.{take_all, take_at, take_more, take_more_set}
-use Rattle.mk_io.specs.Cut.{front, Settles}
+use Rattle.mk_io.specs.inner.Cut.{front, Settles}
 use Rattle.mk_io.specs.Stream.{without_last_cr}
 
 -- a byte behind the first bytes, and the first bytes of all

@@ -2,7 +2,7 @@
 
 ghost use Rattle.std.specs.Prelude.{◌≡◌, ℕ, ◌≤◌, List, Option};
 ghost use Rattle.mk_io.specs.Outside.{LeavesRest, prepend_known};
-ghost use Rattle.mk_io.specs.Cut.{CutsLine, CountsCutFault};
+ghost use Rattle.mk_io.specs.inner.Cut.{CutsLine, CountsCutFault};
 
 use crate::outside::Inputs;
 use crate::pending::Pending;

@@ -4,7 +4,7 @@ ghost use Rattle.std.specs.Prelude.{◌≡◌, ◌≢◌, ℕ, ◌+◌, ◌<◌,
 ghost use Rattle.mk_io.specs.Outside.{LeavesRest};
 ghost use Rattle.mk_io.specs.Stream.{max_stream_lines, max_stream_bytes};
 ghost use Rattle.mk_io.specs.Cutting.{fresh, IsAnswer, IsFreshAnswer, IsWithinLimits, HasReadCause, CountsReadFault};
-ghost use Rattle.mk_io.specs.Giving.{GivesText};
+ghost use Rattle.mk_io.specs.inner.Giving.{GivesText};
 
 use crate::cut::{Cut, cut_line};
 use crate::outside::Inputs;

@@ -2,7 +2,7 @@
 
 ghost use Rattle.std.specs.Prelude.{◌≡◌, ℕ, ◌<◌, List, [], ◌∷◌, Option, length};
 ghost use Rattle.mk_io.specs.Outside.{HasCause, LeavesRest};
-ghost use Rattle.mk_io.specs.Cut.{Refills};
+ghost use Rattle.mk_io.specs.inner.Cut.{Refills};
 
 use crate::outside::{InputFailed, Inputs};
 use std::marker::Model;

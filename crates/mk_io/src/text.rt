@@ -2,7 +2,7 @@
 
 ghost use Rattle.std.specs.Prelude.{◌≡◌, ℕ, ◌+◌, List, [], ◌∷◌, ◌++◌, length};
 ghost use Rattle.mk_io.specs.Stream.{max_line_bytes};
-ghost use Rattle.mk_io.specs.Cut.{front, Settles};
+ghost use Rattle.mk_io.specs.inner.Cut.{front, Settles};
 
 use std::marker::Model;
 

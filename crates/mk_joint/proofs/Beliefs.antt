@@ -18,7 +18,7 @@ use Rattle.mk_table.specs.Cells.{values_at, cells_where}
 use Rattle.mk_table.specs.Tables.{TableOf, IsPlusOver}
 use Rattle.mk_engine.specs.Meaning.{Meaning, factor_there, exact_belief, whole_sum, max_grade}
 use Rattle.mk_engine.specs.Beliefs.{IsBelief}
-use Rattle.mk_joint.specs.Joints.{whole_scope, joint_there, HasJoint}
+use Rattle.mk_joint.specs.inner.Joints.{whole_scope, joint_there, HasJoint}
 use Rattle.mk_joint.proofs.Cells.{states_are_cells}
 use Rattle.mk_joint.proofs.Factors.{product_there, joint_at_most, whole_is}
 

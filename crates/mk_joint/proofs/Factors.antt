@@ -19,7 +19,7 @@ use Rattle.mk_table.specs.Cells.{values_at}
 use Rattle.mk_table.proofs.Kept.{sized_value, sized_values}
 use Rattle.mk_table.proofs.Rows.{share_pos}
 use Rattle.mk_engine.specs.Meaning.{Meaning, Factor, RowsOf, RatioOf, with_factor, with_known, factor_there, whole_sum}
-use Rattle.mk_joint.specs.Joints.{whole_scope, joint_there, IsFactorOf}
+use Rattle.mk_joint.specs.inner.Joints.{whole_scope, joint_there, IsFactorOf}
 use Rattle.mk_joint.proofs.Cells.{states_are_cells, has_sized}
 
 -- the product of all factors, whatever is known

@@ -17,7 +17,7 @@ use Rattle.mk_table.specs.Scopes.{ScopeOf, cells_in, has_variable, HasEvent, Has
 use Rattle.mk_table.specs.Cells.{values_at}
 use Rattle.mk_table.specs.Tables.{TableOf, HaveRoom, IsOne, IsAbsent, IsTimesWhole, EachCell}
 use Rattle.mk_engine.specs.Meaning.{Meaning, Factor, opening, with_factor, with_known, factor_there, whole_sum, max_factors, ArePairsOf}
-use Rattle.mk_joint.specs.Joints.{whole_scope, joint_there, IsFactorOf, IsPlanFor, HasJoint}
+use Rattle.mk_joint.specs.inner.Joints.{whole_scope, joint_there, IsFactorOf, IsPlanFor, HasJoint}
 use Rattle.mk_joint.proofs.Cells.{has_all, has_sized, states_counted}
 use Rattle.mk_joint.proofs.Factors.{sized_parents, joint_more, joint_kept, joint_gone, cell_at_most, whole_grows}
 

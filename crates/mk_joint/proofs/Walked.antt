@@ -12,7 +12,7 @@ use Rattle.mk_sums.specs.Cells.{cells}
 use Rattle.mk_tree.specs.Given.{GivenTree}
 use Rattle.mk_tree.specs.Tests.{cells_of}
 use Rattle.mk_engine.specs.Meaning.{Meaning, Factor, RowsOf, with_factor}
-use Rattle.mk_joint.specs.Joints.{joint_states}
+use Rattle.mk_joint.specs.inner.Joints.{joint_states}
 
 -- the rows of the first variables, in order, and nothing known
 abbrev pub first_rows : List Variable → GivenTree → ℕ → Meaning

@@ -6,7 +6,7 @@ ghost use Rattle.mk_net.specs.Sets.{is_member};
 ghost use Rattle.mk_net.specs.Network.{IsNetwork};
 ghost use Rattle.mk_engine.specs.Meaning.{Meaning};
 ghost use Rattle.mk_engine.specs.Beliefs.{CanBelieve, IsBelief};
-ghost use Rattle.mk_joint.specs.Joints.{HasJoint, IsPlanFor, joint_states};
+ghost use Rattle.mk_joint.specs.inner.Joints.{HasJoint, IsPlanFor, joint_states};
 
 use mk_engine::Engine;
 use mk_net::{Event, Network, NoMemory, Pair, Ratio, VarSet};

@@ -3,7 +3,7 @@
 ghost use Rattle.std.specs.Prelude.{◌≡◌, ◌≤◌, ◌<◌, [], ◌∷◌, length};
 ghost use Rattle.mk_net.specs.Bounds.{max_clique_cells};
 ghost use Rattle.mk_engine.specs.Meaning.{ArePairsOf};
-ghost use Rattle.mk_joint.specs.Joints.{joint_states};
+ghost use Rattle.mk_joint.specs.inner.Joints.{joint_states};
 
 use crate::JointEngine;
 use crate::joint::all_variables;

@@ -7,7 +7,7 @@ use Rattle.std.proofs.lemmas.List.Elements.{All-map}
 use Rattle.std.proofs.lemmas.Bool.{eqb-true, leb-true, ltb-true, not-false}
 use Rattle.mk_net.specs.Name.{IsName, is_name, max_name_bytes, begins_with_letter, is_name_byte}
 use Rattle.mk_net.specs.Network.{IsRow, IsVariable, IsNetwork, sizes, names, choices}
-use Rattle.mk_net.specs.TextLaws.{both}
+use Rattle.mk_net.specs.inner.TextLaws.{both}
 use Rattle.mk_net.specs.Firsts.{fault_if, first_in}
 use Rattle.mk_net.specs.Drafts.{DraftOfVariable}
 use Rattle.mk_net.specs.Checked.{is_within, has_double, number_of, is_before, counts, parents_in, share, is_share, count_at, name_at, repeat_at, parent_at, rows_at, width_of, width_at, entry_of, entry_at, sum_of, sum_at, count_fault, later_fault, first_fault, checked_variable, checked_network}

@@ -5,7 +5,7 @@ use Rattle.std.proofs.lemmas.Bool.{eqb-true, eq-eqb}
 use Rattle.mk_net.specs.declared.words.Pair.{Pair}
 use Rattle.mk_net.specs.Bounds.{max_pairs}
 use Rattle.mk_net.specs.Events.{speaks_of, AreApart, IsEvent}
-use Rattle.mk_net.specs.KeptEvents.{IsKeptEvent, blank}
+use Rattle.mk_net.specs.inner.KeptEvents.{IsKeptEvent, blank}
 
 pub same_place : (x y : ℕ) → (x == y) ≡ false → (y == x) ≡ false
 same_place x y h = choose (y == x) refl

@@ -3,7 +3,7 @@ use Rattle.std.specs.Prelude.{◌≡◌, ℕ, List, [], ◌∷◌, Bool, ◌&&�
 use Rattle.std.proofs.Common.{refl, ap}
 use Rattle.std.specs.Cmp.Lexicographic.{pointwise}
 use Rattle.mk_net.specs.Texts.{same_text}
-pub use Rattle.mk_net.specs.TextLaws.{same_text_refl, same_text_of_equal, both, equal_of_same_text}
+pub use Rattle.mk_net.specs.inner.TextLaws.{same_text_refl, same_text_of_equal, both, equal_of_same_text}
 
 pub pointwise_is_same_text : (a b : List ℕ) → pointwise eqb a b ≡ same_text a b
 pointwise_is_same_text [] [] = refl

@@ -6,7 +6,7 @@ use Rattle.std.proofs.lemmas.Bool.{ltb-false, le-ltb}
 use Rattle.indexmap.specs.IndexMap.{insert_entry}
 use Rattle.indexmap.specs.IndexSet.{insert_key}
 use Rattle.mk_net.specs.Texts.{same_text}
-use Rattle.mk_net.specs.TextLaws.{same_text_equiv}
+use Rattle.mk_net.specs.inner.TextLaws.{same_text_equiv}
 use Rattle.mk_net.specs.Checked.{has_double}
 
 pub neither_of : (p q : Bool) → p || q ≡ false → (p ≡ false) × (q ≡ false)

@@ -2,10 +2,7 @@ pub mod Name
 pub mod Bounds
 pub mod Network
 pub mod Asked
-pub mod Padded
-pub mod PaddedLaws
 pub mod Texts
-pub mod TextLaws
 pub mod Named
 pub mod Stored
 pub mod Key
@@ -14,7 +11,5 @@ pub mod Firsts
 pub mod Checked
 pub mod Events
 pub mod Sets
-pub mod KeptEvents
-pub mod KeptQuestions
 pub mod Trades
-pub mod Counted
+pub mod inner

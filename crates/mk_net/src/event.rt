@@ -20,7 +20,7 @@ pub struct Event {
 impl Model for Event {
     ghost use Rattle.std.specs.Prelude.{ℕ, List, length, take};
     ghost use Rattle.mk_net.specs.declared.words.Pair.{Pair};
-    ghost use Rattle.mk_net.specs.KeptEvents.{IsKeptEvent, padded_event};
+    ghost use Rattle.mk_net.specs.inner.KeptEvents.{IsKeptEvent, padded_event};
 
     ghost Value = { List Pair };
 
@@ -31,7 +31,7 @@ impl Model for Event {
     ghost inverse = { λ event. record { pairs = padded_event event; size = length event } };
 
     ghost use Rattle.std.specs.Prelude.{refl};
-    ghost use Rattle.mk_net.specs.KeptEvents.{kept_inverse};
+    ghost use Rattle.mk_net.specs.inner.KeptEvents.{kept_inverse};
 
     ghost inverse_ok = { λ e kept. kept_inverse e (record { pairs = padded_event (take e.size e.pairs); size = length (take e.size e.pairs) }) refl refl kept };
 }

@@ -3,7 +3,7 @@
 ghost use Rattle.std.specs.Prelude.{◌≡◌, ◌≢◌, ◌≤◌, length, All, None, Some, IfSome, IfNone};
 ghost use Rattle.mk_net.specs.Drafts.{drafts_of};
 ghost use Rattle.mk_net.specs.Checked.{first_fault, later_fault};
-ghost use Rattle.mk_net.specs.Counted.{IsCounted};
+ghost use Rattle.mk_net.specs.inner.Counted.{IsCounted};
 
 use crate::draft::Draft;
 use crate::fault::NetFault;

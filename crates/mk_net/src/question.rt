@@ -21,7 +21,7 @@ pub struct Question {
 impl Model for Question {
     ghost use Rattle.mk_net.specs.Asked.{Asked};
     ghost use Rattle.mk_net.specs.Events.{IsQuestion};
-    ghost use Rattle.mk_net.specs.KeptQuestions.{asked_inverse};
+    ghost use Rattle.mk_net.specs.inner.KeptQuestions.{asked_inverse};
 
     ghost Value = { Asked };
 

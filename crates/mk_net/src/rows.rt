@@ -5,7 +5,7 @@ ghost use Rattle.mk_net.specs.Network.{choices};
 ghost use Rattle.mk_net.specs.Drafts.{drafts_of, draft_of_variable};
 ghost use Rattle.mk_net.specs.Firsts.{first_in};
 ghost use Rattle.mk_net.specs.Checked.{counts, number_of, share, is_share, rows_at, width_at, entry_of, entry_at, sum_of, sum_at};
-ghost use Rattle.mk_net.specs.Counted.{IsCounted, IsNumbered, HasWidths, HasShares};
+ghost use Rattle.mk_net.specs.inner.Counted.{IsCounted, IsNumbered, HasWidths, HasShares};
 
 use crate::draft::{Draft, VariableDraft};
 use crate::fault::NetFault;

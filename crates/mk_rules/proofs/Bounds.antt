@@ -7,7 +7,7 @@ use Rattle.std.proofs.lemmas.List.Quantifiers.{all_pairs_push}
 use Rattle.mk_net.specs.Bounds.{max_users, max_transfers, max_market_trades, number_limit}
 use Rattle.mk_net.specs.Name.{IsName}
 use Rattle.mk_net.specs.Texts.{same_text}
-use Rattle.mk_net.specs.TextLaws.{same_text_of_equal}
+use Rattle.mk_net.specs.inner.TextLaws.{same_text_of_equal}
 use Rattle.mk_net.specs.Asked.{TradeRatio}
 use Rattle.mk_net.proofs.Taken.{any_at}
 use Rattle.mk_net.specs.Network.{AreDistinct}

@@ -8,7 +8,7 @@ use Rattle.std.proofs.Math.Nat.{mul-le-mul_right, mul_assoc, div-one, add-zero, 
 use Rattle.mk_scaled.specs.Form.{IsForm}
 use Rattle.mk_scaled.specs.Range.{two_to, exponent_below, pow_le}
 use Rattle.mk_scaled.specs.Rounding.{IsGreatestBelow, IsLeastAbove}
-use Rattle.mk_scaled.specs.Wide.{IsFull, StandsFor}
+use Rattle.mk_scaled.specs.inner.Wide.{IsFull, StandsFor}
 use Rattle.mk_scaled.proofs.Trailing.{trailing_kept, trailing_lost}
 use Rattle.mk_scaled.proofs.Rounded.{floor_is, ceil_is, exact_is_least, carried}
 

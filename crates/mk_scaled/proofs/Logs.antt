@@ -2,7 +2,7 @@
 use Rattle.std.proofs.Common.{◌≡◌, ℕ, suc, ◌+◌, ◌*◌, ◌^◌, ◌<◌, ◌≤◌, ap, ◌∙◌, arith, le_refl}
 use Rattle.std.proofs.lemmas.Nat.{pow-add, pow_pos}
 use Rattle.std.proofs.Math.Nat.{mul-le-mul, mul_comm, mul-lt-mul_of_pos_right}
-use Rattle.mk_scaled.specs.UniqueForm.{two_pow-suc}
+use Rattle.mk_scaled.specs.inner.UniqueForm.{two_pow-suc}
 
 pub log_below : (m e j : ℕ) → 2 ^ j ≤ m → 2 ^ (e + j) ≤ m * 2 ^ e
 log_below m e j h = rw (pow-add 2 e j, mul_comm (2 ^ e) (2 ^ j)) (mul-le-mul h (le_refl (2 ^ e)))

@@ -4,7 +4,7 @@ use Rattle.std.proofs.lemmas.Nat.{pow_pos}
 use Rattle.std.proofs.lemmas.Bool.{cases_order, lt-ltb, le-ltb, eq-eqb, ne_eqb}
 use Rattle.std.proofs.Math.Nat.{mul-lt-mul_of_pos_right}
 use Rattle.mk_scaled.specs.Form.{mantissa_of, exponent_of, IsStored}
-use Rattle.mk_scaled.specs.UniqueForm.{less_by_exponent}
+use Rattle.mk_scaled.specs.inner.UniqueForm.{less_by_exponent}
 
 abbrev pub key_of : ℕ → ℕ
 key_of n = exponent_of n * 2 ^ 64 + mantissa_of n

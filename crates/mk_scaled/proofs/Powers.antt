@@ -5,8 +5,8 @@ use Rattle.std.proofs.Math.Nat.{pow-suc, pow-zero, pow-le-pow_right, mul-le-mul,
 use Rattle.mk_scaled.specs.Range.{two_to, two_to-mono, two_to-suc, IsInRange}
 use Rattle.mk_scaled.specs.Near.{IsNear, near-mul, near_trans, near_same, near_more, near_width}
 use Rattle.mk_scaled.specs.Rounding.{IsGreatestBelow, IsLeastAbove}
-use Rattle.mk_scaled.specs.Closeness.{near_below, near_above}
-use Rattle.mk_scaled.specs.Wide.{IsNearRange}
+use Rattle.mk_scaled.specs.inner.Closeness.{near_below, near_above}
+use Rattle.mk_scaled.specs.inner.Wide.{IsNearRange}
 
 pow-one : (x : ℕ) → x ^ 1 ≡ x
 pow-one x = pow-suc x 0 ∙ ap (λ y. y * x) (pow-zero x) ∙ omega arith

@@ -6,7 +6,7 @@ use Rattle.std.proofs.lemmas.Nat.{pow-add, pow_pos, le-div}
 use Rattle.std.proofs.lemmas.Bool.{cases_order, false≢true, eqb-true, eqb-false}
 use Rattle.std.proofs.Math.Nat.{mul-le-mul_left, mul-le-mul_right, mul_assoc, mul_comm, mul_right_comm, div-mul-le_self, lt-div-mul-add, div-eq_of_lt-le, mul-lt-mul_of_pos_right, mod-eq_of_lt}
 use Rattle.mk_scaled.specs.declared.scaled.quotient.Whole.{Whole}
-use Rattle.mk_scaled.specs.Quotient.{IsQuotient}
+use Rattle.mk_scaled.specs.inner.Quotient.{IsQuotient}
 use Rattle.mk_scaled.specs.Range.{pow_le}
 
 -- what the code computes for the rest: whether the whole part, multiplied back, is the number

@@ -4,8 +4,8 @@ use Rattle.std.proofs.lemmas.Nat.{pow-add}
 use Rattle.std.proofs.Math.Nat.{mul_assoc}
 use Rattle.mk_scaled.specs.Range.{two_to-mono, IsInRange}
 use Rattle.mk_scaled.specs.Rounding.{IsRepresentable, IsGreatestBelow}
-use Rattle.mk_scaled.specs.Closeness.{greatest_exact}
-use Rattle.mk_scaled.specs.Wide.{IsNearRange}
+use Rattle.mk_scaled.specs.inner.Closeness.{greatest_exact}
+use Rattle.mk_scaled.specs.inner.Wide.{IsNearRange}
 
 pub near_range : (n : ℕ) → IsInRange n → IsNearRange n
 near_range n h = lt_of_lt_of_le h (two_to-mono (2 ^ 50) (2 ^ 50 + 2) (omega arith))

@@ -5,7 +5,7 @@ use Rattle.std.proofs.lemmas.Bool.{cases_lt}
 use Rattle.std.proofs.Math.Nat.{pow-le-pow_right, mul-le-mul, mul-le-mul_right, mul_assoc, lt_of_mul-lt-mul_right}
 use Rattle.mk_scaled.specs.Form.{IsForm}
 use Rattle.mk_scaled.specs.Rounding.{IsRepresentable, IsGreatestBelow, IsLeastAbove}
-use Rattle.mk_scaled.specs.UniqueForm.{two_pow-suc}
+use Rattle.mk_scaled.specs.inner.UniqueForm.{two_pow-suc}
 
 -- a power of two, with a smaller one taken out
 pow_split : (a e b : ℕ) → e ≤ b → a * 2 ^ b ≡ (a * 2 ^ (b - e)) * 2 ^ e

@@ -4,7 +4,7 @@ use Rattle.std.specs.Int.Count.{count_trailing_zeros}
 use Rattle.std.proofs.lemmas.Bool.{cases_order}
 use Rattle.std.proofs.Math.Nat.{div-one, div-mul-le_self, div-div-eq-div-mul}
 use lib.Count.{under}
-use Rattle.mk_scaled.specs.UniqueForm.{two_pow-suc}
+use Rattle.mk_scaled.specs.inner.UniqueForm.{two_pow-suc}
 
 -- one digit more is cut
 halved : (n s : ℕ) → n / 2 ^ suc s * 2 ^ suc s ≡ 2 * (n / 2 / 2 ^ s * 2 ^ s)

@@ -5,7 +5,7 @@ use Rattle.std.proofs.lemmas.Bool.{cases_lt, false≢true}
 use Rattle.std.proofs.Math.Nat.{mul-le-mul, mul_assoc, mul-mul-mul_comm, one-le-mul}
 use Rattle.mk_scaled.specs.Form.{IsForm}
 use Rattle.mk_scaled.specs.Range.{two_to, exponent_below, pow_le}
-use Rattle.mk_scaled.specs.Wide.{IsFull, IsNearRange, StandsFor}
+use Rattle.mk_scaled.specs.inner.Wide.{IsFull, IsNearRange, StandsFor}
 
 -- digits that say the number exactly
 pub exactly : (d e x : ℕ) → x ≡ d * 2 ^ e → StandsFor d e false x

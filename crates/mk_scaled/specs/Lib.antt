@@ -1,9 +1,5 @@
 pub mod Form
-pub mod UniqueForm
-pub mod Fields
 pub mod Range
 pub mod Rounding
-pub mod Wide
 pub mod Near
-pub mod Closeness
-pub mod Quotient
+pub mod inner

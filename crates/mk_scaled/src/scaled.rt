@@ -37,8 +37,8 @@ impl Model for Scaled {
 
     ghost Value = { ℕ };
 
-    ghost use Rattle.mk_scaled.specs.Fields.{fields_of};
-    ghost use Rattle.mk_scaled.specs.UniqueForm.{mantissa-form, exponent-form};
+    ghost use Rattle.mk_scaled.specs.inner.Fields.{fields_of};
+    ghost use Rattle.mk_scaled.specs.inner.UniqueForm.{mantissa-form, exponent-form};
 
     ghost view = { λ s. s.mantissa * 2 ^ s.exponent };
 

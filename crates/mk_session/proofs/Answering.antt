@@ -20,7 +20,7 @@ use Rattle.mk_session.specs.Rules.{is_served}
 use Rattle.mk_session.specs.Texts.{ready_line, reply_line}
 use Rattle.mk_session.specs.Transcript.{Asks, AreAnswered, Transcript}
 use Rattle.mk_session.specs.Outcome.{Adds}
-use Rattle.mk_session.specs.Progress.{AreCutOff}
+use Rattle.mk_session.specs.inner.Progress.{AreCutOff}
 
 pub no_more : {X : Type 0} (xs : List X) → xs ++ [] ≡ xs
 no_more [] = refl

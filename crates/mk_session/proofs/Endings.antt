@@ -13,7 +13,7 @@ use Rattle.mk_rules.specs.Transcript.{Standing, opening}
 use Rattle.mk_session.specs.Texts.{ready_line}
 use Rattle.mk_session.specs.Transcript.{AreAnswered, Transcript}
 use Rattle.mk_session.specs.Outcome.{Adds, HasCauses, CountsNone}
-use Rattle.mk_session.specs.Progress.{AreCutOff, IsBetween, IsSoFar, IsEnded}
+use Rattle.mk_session.specs.inner.Progress.{AreCutOff, IsBetween, IsSoFar, IsEnded}
 use Rattle.mk_session.proofs.Answering.{no_more, then_answered, transcript_of}
 use Rattle.mk_session.proofs.Underway.{rest_of, behind, are_whole, so_far_next}
 

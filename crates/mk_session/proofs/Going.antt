@@ -8,9 +8,9 @@ use Rattle.mk_io.specs.Cutting.{Cutting, fresh, GoesOn}
 use Rattle.mk_io.proofs.Told.{append_known_none, prepend_known_none}
 use Rattle.mk_exact.specs.Market.{Market}
 use Rattle.mk_rules.specs.Transcript.{Standing, opening}
-use Rattle.mk_session.specs.Progress.{IsSoFar}
+use Rattle.mk_session.specs.inner.Progress.{IsSoFar}
 use Rattle.mk_session.specs.Outcome.{CountsNone, HasCauses}
-use Rattle.mk_session.specs.Loading.{IsTaken}
+use Rattle.mk_session.specs.inner.Loading.{IsTaken}
 use Rattle.mk_session.proofs.Answering.{no_more, none_answered}
 
 -- between two lines: the market is the same, the lines go on, no fault was counted, and the run is so far

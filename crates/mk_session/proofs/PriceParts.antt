@@ -9,7 +9,7 @@ use Rattle.mk_enclose.specs.declared.enclosure.Enclosure.{Enclosure}
 use Rattle.mk_enclose.specs.Enclosure.{lower_of, upper_of, Encloses, HasGrade, IsExact}
 use Rattle.mk_semiring.specs.declared.held.Held.{Held}
 use Rattle.mk_semiring.specs.declared.held.Held.TheVariants.{Absent, Present}
-use Rattle.mk_session.specs.Enclosed.{EnclosesPrice, EncloseSome, AreExact}
+use Rattle.mk_session.specs.inner.Enclosed.{EnclosesPrice, EncloseSome, AreExact}
 
 -- what `parts` promises of two enclosures, in units of 10^-10
 pub record ArePartsOf (num den : Enclosure) (low high : ℕ) : Type 0 where

@@ -14,8 +14,8 @@ use Rattle.mk_semiring.specs.Held.{HeldEncloses, HasHeldGrade, IsHeldExact}
 use Rattle.mk_engine.specs.Meaning.{max_grade}
 use Rattle.mk_engine.specs.Beliefs.{IsBelief}
 use Rattle.mk_rules.specs.Answers.{IsPrice}
-use Rattle.mk_session.specs.Weighed.{all_rows}
-use Rattle.mk_session.specs.Enclosed.{EnclosesPrice, AreExact}
+use Rattle.mk_session.specs.inner.Weighed.{all_rows}
+use Rattle.mk_session.specs.inner.Enclosed.{EnclosesPrice, AreExact}
 use Rattle.mk_reply.specs.declared.reply.Reply.TheVariants.{Price as Priced}
 use Rattle.mk_session.proofs.RowsWeighed.{count_of_rows, belief_is_total, belief_of_question, small_whole}
 use Rattle.mk_session.proofs.SomeWeight.{event_some, part_within}

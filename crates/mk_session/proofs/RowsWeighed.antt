@@ -14,7 +14,7 @@ use Rattle.mk_exact.proofs.Sums.{plus_over-map, sum_by_is}
 use Rattle.mk_exact.proofs.Single.{empty_weight}
 use Rattle.mk_tree.specs.Given.{GivenTree}
 use Rattle.mk_engine.specs.Meaning.{Meaning, Factor, RowsOf, with_factor, factor_there, exact_belief, whole_sum}
-use Rattle.mk_session.specs.Weighed.{first_rows, all_rows}
+use Rattle.mk_session.specs.inner.Weighed.{first_rows, all_rows}
 
 -- the rows of one variable more
 pub one_more : (network : List Variable) (tree : GivenTree) (k : ℕ) → with_factor (RowsOf k) (first_rows network tree k) ≡ first_rows network tree (k + 1)

@@ -14,8 +14,8 @@ use Rattle.mk_file.specs.File.{file_of, of_document, document_of}
 use Rattle.mk_session.specs.Texts.{ready_line, fault_line, as_line}
 use Rattle.mk_rules.specs.Transcript.{opening}
 use Rattle.mk_session.specs.Outcome.{Adds, Ends, Serves, NotOpened, Opened}
-use Rattle.mk_session.specs.Progress.{IsEnded}
-use Rattle.mk_session.specs.Loading.{opened_part}
+use Rattle.mk_session.specs.inner.Progress.{IsEnded}
+use Rattle.mk_session.specs.inner.Loading.{opened_part}
 use Rattle.mk_session.proofs.Answering.{no_more, none_answered, transcript_of}
 
 memory_ends : (given : Result Market FileFault) (all : List ℕ) → Ends Memory given all all []

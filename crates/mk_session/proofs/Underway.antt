@@ -10,7 +10,7 @@ use Rattle.mk_exact.specs.Market.{Market}
 use Rattle.mk_rules.specs.Transcript.{Standing, opening}
 use Rattle.mk_session.specs.Transcript.{AreAnswered}
 use Rattle.mk_session.specs.Outcome.{Adds}
-use Rattle.mk_session.specs.Progress.{IsBetween, IsSoFar}
+use Rattle.mk_session.specs.inner.Progress.{IsBetween, IsSoFar}
 use Rattle.mk_session.proofs.Answering.{then_answered}
 
 -- what is left of a source behind some bytes of it that are known

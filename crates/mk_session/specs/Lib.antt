@@ -2,9 +2,5 @@ pub mod Texts
 pub mod Rules
 pub mod Transcript
 pub mod Outcome
-pub mod Trading
-pub mod Weighed
-pub mod Enclosed
-pub mod Progress
-pub mod Loading
 pub mod Complete
+pub mod inner

@@ -12,7 +12,7 @@ ghost use Rattle.mk_rules.specs.Transcript.{opening};
 ghost use Rattle.mk_session.specs.Rules.{is_served};
 ghost use Rattle.mk_session.specs.Transcript.{AreAnswered};
 ghost use Rattle.mk_session.specs.Outcome.{Adds, HasCauses, CountsNone};
-ghost use Rattle.mk_session.specs.Progress.{AreCutOff, IsSoFar, IsEnded};
+ghost use Rattle.mk_session.specs.inner.Progress.{AreCutOff, IsSoFar, IsEnded};
 
 use crate::price::PriceMarket;
 use crate::print::{LineBuffer, print_reply_line};

@@ -21,9 +21,9 @@ pub struct PriceMarket {
 }
 
 impl Model for PriceMarket {
-    ghost use Rattle.mk_session.specs.Trading.{Trading};
+    ghost use Rattle.mk_session.specs.inner.Trading.{Trading};
     ghost use Rattle.mk_rules.specs.Transcript.{opening};
-    ghost use Rattle.mk_session.specs.Weighed.{all_rows};
+    ghost use Rattle.mk_session.specs.inner.Weighed.{all_rows};
     ghost use Rattle.mk_file.specs.MarketOf.{market_of};
 
     ghost Value = { Trading };
@@ -43,7 +43,7 @@ impl PriceMarket {
     ghost use Rattle.mk_rules.specs.Answers.{IsAllowed, IsPrice};
     ghost use Rattle.mk_rules.specs.Transcript.{opening, OfCommand, IsAllowedFor, after};
     ghost use Rattle.mk_session.specs.Rules.{is_served};
-    ghost use Rattle.mk_session.specs.Trading.{Trading};
+    ghost use Rattle.mk_session.specs.inner.Trading.{Trading};
 
     /// Opens the market of a file.
     pub fn start(alloc: Global, file: MarketFile) -> Result<PriceMarket, NoMemory>
@@ -128,8 +128,8 @@ ghost use Rattle.mk_exact.specs.Factors.{Fraction};
 ghost use Rattle.mk_exact.specs.Prices.{CoversPrice};
 ghost use Rattle.mk_tree.specs.Checked.{IsTreeOf};
 ghost use Rattle.mk_file.specs.Few.{HasFewStates};
-ghost use Rattle.mk_session.specs.Weighed.{all_rows};
-ghost use Rattle.mk_session.specs.Enclosed.{EnclosesPrice, EncloseSome, AreExact};
+ghost use Rattle.mk_session.specs.inner.Weighed.{all_rows};
+ghost use Rattle.mk_session.specs.inner.Enclosed.{EnclosesPrice, EncloseSome, AreExact};
 
 /// The units of 10^-10 in one.
 const UNITS: u64 = 10_000_000_000;

@@ -10,7 +10,7 @@ ghost use Rattle.mk_exact.specs.Market.{Market};
 ghost use Rattle.mk_file.specs.declared.fault.FileFault.{FileFault};
 ghost use Rattle.mk_session.specs.Outcome.{Adds, Ends, Opened, Outcome, HasCauses};
 ghost use Rattle.mk_session.specs.Complete.{AreWithin};
-ghost use Rattle.mk_session.specs.Loading.{opened_part, IsTaken, HasLoadCause};
+ghost use Rattle.mk_session.specs.inner.Loading.{opened_part, IsTaken, HasLoadCause};
 
 use crate::answer::answer_lines;
 use crate::price::PriceMarket;

@@ -10,7 +10,7 @@ use Rattle.mk_sums.specs.Cells.{cells, cell_of}
 use Rattle.mk_sums.proofs.Tables.{cell_below}
 use Rattle.mk_table.specs.Scopes.{ScopeOf, IsScope, LiesIn, HasEvent, HasOneEach, HasSized, has_variable, size_in, cells_in}
 use Rattle.mk_table.specs.Cells.{values_at, cell_in}
-use Rattle.mk_table.specs.Columns.{IsColumn, IsKept}
+use Rattle.mk_table.specs.inner.Columns.{IsColumn, IsKept}
 use Rattle.mk_table.proofs.Places.{place_below, cell_step, cell_so_far, listed_at}
 use Rattle.mk_table.proofs.Members.{size_at, size_pos}
 

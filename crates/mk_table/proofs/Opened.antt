@@ -10,7 +10,7 @@ use Rattle.mk_sums.specs.Sums.{listed}
 use Rattle.mk_sums.specs.Cells.{keep, cells}
 use Rattle.mk_sums.specs.Joint.{variables}
 use Rattle.mk_table.specs.Scopes.{IsScope, Rising, scope_of, size_in, cells_in}
-use Rattle.mk_table.specs.Columns.{HaveColumns, IsRun, IsKept}
+use Rattle.mk_table.specs.inner.Columns.{HaveColumns, IsRun, IsKept}
 use Rattle.mk_table.proofs.Members.{keep_below, keep_rising, keep_few, size_of_map}
 use Rattle.mk_table.proofs.Places.{cells_same, place_same, listed_drop}
 use Rattle.mk_table.proofs.Writing.{two_values_at}

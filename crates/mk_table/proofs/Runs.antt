@@ -6,8 +6,8 @@ use Rattle.mk_sums.specs.Sums.{upd}
 use Rattle.mk_sums.specs.Cells.{cells, cell_of, place}
 use Rattle.mk_table.specs.Scopes.{ScopeOf, IsScope, size_in, cells_in}
 use Rattle.mk_table.specs.Cells.{values_at, cell_in}
-use Rattle.mk_table.specs.Columns.{IsRun}
-use Rattle.mk_table.specs.Walks.{IsAt}
+use Rattle.mk_table.specs.inner.Columns.{IsRun}
+use Rattle.mk_table.specs.inner.Walks.{IsAt}
 use Rattle.mk_table.proofs.Members.{size_pos}
 use Rattle.mk_table.proofs.Places.{some_cells, cells_split, cells_pos}
 

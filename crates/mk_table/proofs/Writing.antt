@@ -12,7 +12,7 @@ use Rattle.mk_exact.specs.States.{numbers_below}
 use Rattle.mk_exact.proofs.Positive.{size_at, few_values_at}
 use Rattle.mk_sums.specs.Sums.{listed}
 use Rattle.mk_sums.specs.Cells.{cells, Apart}
-use Rattle.mk_table.specs.Columns.{IsColumn, HaveColumns, IsRun}
+use Rattle.mk_table.specs.inner.Columns.{IsColumn, HaveColumns, IsRun}
 use Rattle.mk_table.proofs.Places.{cells_pos, place_at, listed_at, listed_drop}
 
 pub listed_all : (P : ℕ → Type 0) (xs : List ℕ) → All P xs → (x : ℕ) → listed xs x ≡ true → P x

@@ -1,5 +1,4 @@
 pub mod Scopes
 pub mod Cells
 pub mod Tables
-pub mod Columns
-pub mod Walks
+pub mod inner

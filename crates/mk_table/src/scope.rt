@@ -9,7 +9,7 @@ ghost use Rattle.mk_sums.specs.Joint.{variables};
 ghost use Rattle.mk_exact.specs.States.{numbers_below};
 ghost use Rattle.mk_table.specs.Scopes.{IsScope, LiesIn, Rising, scope_of, size_in, cells_in, has_variable};
 ghost use Rattle.mk_table.specs.Cells.{values_at, cell_in};
-ghost use Rattle.mk_table.specs.Columns.{HaveColumns, IsRun};
+ghost use Rattle.mk_table.specs.inner.Columns.{HaveColumns, IsRun};
 
 use mk_net::{Network, NoMemory, VarSet};
 use std::alloc::Global;
@@ -32,7 +32,7 @@ pub struct Scope {
 
 impl Model for Scope {
     ghost use Rattle.mk_table.specs.Scopes.{ScopeOf};
-    ghost use Rattle.mk_table.specs.Columns.{IsKept};
+    ghost use Rattle.mk_table.specs.inner.Columns.{IsKept};
 
     ghost Value = { ScopeOf };
 

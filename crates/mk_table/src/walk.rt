@@ -17,7 +17,7 @@ pub struct Walk {
 }
 
 impl Walk {
-    ghost use Rattle.mk_table.specs.Walks.{IsAt};
+    ghost use Rattle.mk_table.specs.inner.Walks.{IsAt};
 
     /// A walk before its first cell.
     pub(crate) fn begin(part: &Scope, whole: &Scope) -> Walk

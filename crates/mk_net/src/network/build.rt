@@ -6,7 +6,7 @@ ghost use Rattle.mk_net.specs.Name.{is_name};
 ghost use Rattle.mk_net.specs.Stored.{variable_of};
 ghost use Rattle.mk_net.specs.Drafts.{drafts_of, draft_of_variable};
 ghost use Rattle.mk_net.specs.Checked.{first_fault, checked_variable, checked_network, number_of, has_double, share, is_share};
-ghost use Rattle.mk_net.specs.Counted.{HasShares};
+ghost use Rattle.mk_net.specs.inner.Counted.{HasShares};
 
 use super::{Network, StoredVariable};
 use crate::draft::{Draft, VariableDraft};

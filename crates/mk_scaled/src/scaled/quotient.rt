@@ -2,7 +2,7 @@
 ghost use Rattle.std.specs.Prelude.{◌≡◌, ℕ, ◌+◌, ◌-◌, ◌*◌, ◌/◌, ◌^◌, ◌<◌, ◌≤◌, MatchOption};
 ghost use Rattle.std.specs.Int.{div_ceil};
 ghost use Rattle.std.specs.Option.{SomeIff};
-ghost use Rattle.mk_scaled.specs.Quotient.{IsQuotient};
+ghost use Rattle.mk_scaled.specs.inner.Quotient.{IsQuotient};
 
 /// What answers stay below.
 const LIMIT: u128 = 1 << 63;

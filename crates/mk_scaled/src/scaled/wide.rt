@@ -2,7 +2,7 @@
 ghost use Rattle.std.specs.Prelude.{◌≡◌, ℕ, ◌+◌, ◌*◌, ◌^◌, ◌<◌, ◌≤◌};
 ghost use Rattle.mk_scaled.specs.Form.{IsForm, exponent_of};
 ghost use Rattle.mk_scaled.specs.Rounding.{IsGreatestBelow, IsLeastAbove};
-ghost use Rattle.mk_scaled.specs.Wide.{IsFull, IsNearRange, StandsFor};
+ghost use Rattle.mk_scaled.specs.inner.Wide.{IsFull, IsNearRange, StandsFor};
 
 use super::Scaled;
 

@@ -1,5 +1,5 @@
 use Rattle.std.proofs.Common.{◌*◌, arith}
-use Rattle.mk_cell.specs.Laws.{has_room, stands_with_more}
+use Rattle.mk_cell.specs.inner.Laws.{has_room, stands_with_more}
 use Rattle.mk_cell.proofs.tests.enclosed_product.Goals as goal
 
 pub times-requires-clause-cell : goal.times-requires-clause-cell

@@ -1,6 +1,6 @@
 use Rattle.std.proofs.Common.{ℕ, zero, suc, ◌<◌, [], ◌∷◌, slice_index, refl, arith}
 use Rattle.mk_cell.specs.Cell.{StandsAt, AllStand}
-use Rattle.mk_cell.specs.Laws.{all_have_room, stands_with_more}
+use Rattle.mk_cell.specs.inner.Laws.{all_have_room, stands_with_more}
 use Rattle.mk_cell.proofs.tests.enclosed_sum.Goals as goal
 
 -- two numbers by their place

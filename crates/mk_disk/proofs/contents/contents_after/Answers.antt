@@ -1,6 +1,6 @@
 use Rattle.std.proofs.Common.{◌++◌, [], ◌∷◌, take, sym, ◌∙◌, ap, subst}
 use Rattle.std.proofs.lemmas.List.{take_more}
-use Rattle.mk_disk.specs.Contents.{IsContents}
+use Rattle.mk_disk.specs.inner.Contents.{IsContents}
 use Rattle.mk_disk.specs.Memory.{FileState}
 use Rattle.mk_disk.proofs.Events.{file_push}
 use Rattle.mk_disk.proofs.contents.contents_after.Goals as goal

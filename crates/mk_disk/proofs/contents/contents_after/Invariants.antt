@@ -1,5 +1,5 @@
 use Rattle.std.proofs.Common.{take}
-use Rattle.mk_disk.specs.Contents.{IsContents}
+use Rattle.mk_disk.specs.inner.Contents.{IsContents}
 use Rattle.mk_disk.specs.Memory.{file_after}
 use Rattle.mk_disk.proofs.contents.contents_after.Given as goal
 

@@ -1,7 +1,7 @@
 use Rattle.std.proofs.Common.{sym, ◌∙◌}
 use Rattle.std.proofs.lemmas.Result.{err_from_is_err_and}
 use Rattle.mk_net.specs.Drafts.{drafts_of}
-use Rattle.mk_file.specs.Views.{draft_of}
+use Rattle.mk_file.specs.inner.Views.{draft_of}
 use Rattle.mk_file.proofs.Counted.{few_states}
 use Rattle.mk_file.proofs.Grown.{tree_refused}
 use Rattle.mk_file.proofs.accept.accept.Goals as goal

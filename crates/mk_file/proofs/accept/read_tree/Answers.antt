@@ -3,7 +3,7 @@ use Rattle.std.proofs.lemmas.List.{length-map}
 use Rattle.std.proofs.lemmas.Result.{err_from_is_err_and}
 use Rattle.mk_net.specs.Drafts.{drafts_of}
 use Rattle.mk_file.specs.Cliques.{of_tree}
-use Rattle.mk_file.specs.Views.{draft_of}
+use Rattle.mk_file.specs.inner.Views.{draft_of}
 use Rattle.mk_file.proofs.Grown.{names_are, linked_tree, cliques_stop, links_stop, tree_is, trees_are}
 use Rattle.mk_file.proofs.accept.read_tree.Goals as goal
 

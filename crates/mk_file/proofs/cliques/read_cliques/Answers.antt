@@ -4,7 +4,7 @@ use Rattle.std.proofs.lemmas.List.Elements.{All-push}
 use Rattle.mk_net.specs.Drafts.{texts_of}
 use Rattle.mk_net.specs.Firsts.{fault_if}
 use Rattle.mk_file.specs.declared.fault.FileFault.TheVariants.{Clique}
-use Rattle.mk_file.specs.Known.{clique_in, set_in, IsSetOf}
+use Rattle.mk_file.specs.inner.Known.{clique_in, set_in, IsSetOf}
 use Rattle.mk_file.proofs.Firsts.{dropped, taken, pushed, first_passes, first_stops}
 use Rattle.mk_file.proofs.cliques.read_cliques.Goals as goal
 

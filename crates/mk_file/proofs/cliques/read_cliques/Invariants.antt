@@ -1,7 +1,7 @@
 use Rattle.std.proofs.Common.{◌≡◌, ◌+◌, map, drop, take, All}
 use Rattle.mk_net.specs.Drafts.{texts_of}
 use Rattle.mk_net.specs.Firsts.{first_in}
-use Rattle.mk_file.specs.Known.{clique_in, set_in, IsSetOf}
+use Rattle.mk_file.specs.inner.Known.{clique_in, set_in, IsSetOf}
 use Rattle.mk_file.proofs.cliques.read_cliques.Given as goal
 
 abbrev pub invariant-cliques : goal.invariant-cliques

@@ -1,7 +1,7 @@
 use Rattle.std.proofs.Common.{drop}
 use Rattle.toml.specs.View.{view}
 use Rattle.mk_file.specs.Walk.{texts}
-use Rattle.mk_file.specs.Views.{lists_of}
+use Rattle.mk_file.specs.inner.Views.{lists_of}
 use Rattle.mk_file.proofs.Reading.{Reads}
 use Rattle.mk_file.proofs.kinds.read_lists.Given as goal
 

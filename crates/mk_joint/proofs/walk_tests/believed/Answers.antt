@@ -1,6 +1,6 @@
 use Rattle.std.proofs.Common.{subst, arith, refl}
 use Rattle.mk_engine.specs.Meaning.{Meaning}
-use Rattle.mk_joint.specs.Joints.{HasJoint}
+use Rattle.mk_joint.specs.inner.Joints.{HasJoint}
 use Rattle.mk_joint.proofs.Walked.{first_rows, one_more, count_of_rows}
 use Rattle.mk_joint.proofs.walk_tests.believed.Goals as goal
 

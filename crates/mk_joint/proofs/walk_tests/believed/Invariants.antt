@@ -1,4 +1,4 @@
-use Rattle.mk_joint.specs.Joints.{HasJoint}
+use Rattle.mk_joint.specs.inner.Joints.{HasJoint}
 use Rattle.mk_joint.proofs.Walked.{first_rows}
 use Rattle.mk_joint.proofs.walk_tests.believed.Given as goal
 

@@ -1,6 +1,6 @@
 use Rattle.std.proofs.Common.{length, sym, subst}
 use Rattle.mk_disk.specs.Disk.{Torn}
-use Rattle.mk_disk.specs.MemoryLaws.{torn_same}
+use Rattle.mk_disk.specs.inner.MemoryLaws.{torn_same}
 use Rattle.mk_journal.proofs.Lasting.{started, goes_on, torn_from}
 use Rattle.mk_journal.proofs.steps.write_synced.Goals as goal
 

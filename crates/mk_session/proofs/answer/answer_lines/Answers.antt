@@ -1,6 +1,6 @@
 use Rattle.std.proofs.Common.{ap, sym, subst, refl, inl}
 use Rattle.mk_io.specs.Cutting.{Cutting}
-use Rattle.mk_session.specs.Progress.{IsSoFar}
+use Rattle.mk_session.specs.inner.Progress.{IsSoFar}
 use Rattle.mk_session.proofs.Going.{far_at_start}
 use Rattle.mk_session.proofs.answer.answer_lines.Goals as goal
 

@@ -1,8 +1,8 @@
 use Rattle.std.proofs.Common.{◌≡◌, ℕ, length, subst, arith, refl}
 use Rattle.mk_semiring.specs.Held.{HeldEncloses, HasHeldGrade, IsHeldExact}
 use Rattle.mk_engine.specs.Meaning.{Meaning}
-use Rattle.mk_joint.specs.Joints.{HasJoint}
-use Rattle.mk_session.specs.Weighed.{first_rows}
+use Rattle.mk_joint.specs.inner.Joints.{HasJoint}
+use Rattle.mk_session.specs.inner.Weighed.{first_rows}
 use Rattle.mk_session.proofs.RowsWeighed.{one_more, count_of_rows}
 use Rattle.mk_session.proofs.price.weighed.Goals as goal
 

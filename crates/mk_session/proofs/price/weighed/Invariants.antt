@@ -1,6 +1,6 @@
 use Rattle.mk_semiring.specs.Held.{HeldEncloses, HasHeldGrade, IsHeldExact}
-use Rattle.mk_joint.specs.Joints.{HasJoint}
-use Rattle.mk_session.specs.Weighed.{first_rows}
+use Rattle.mk_joint.specs.inner.Joints.{HasJoint}
+use Rattle.mk_session.specs.inner.Weighed.{first_rows}
 use Rattle.mk_session.proofs.price.weighed.Given as goal
 
 abbrev pub invariant-loop-variable : goal.invariant-loop-variable

@@ -1,5 +1,5 @@
 use Rattle.std.proofs.Common.{◌≤◌, length, arith, rules}
-use Rattle.mk_session.specs.Loading.{opened_part}
+use Rattle.mk_session.specs.inner.Loading.{opened_part}
 use Rattle.mk_session.proofs.Going.{whole_file, front_of_file}
 use Rattle.mk_session.proofs.run.read_opened.Goals as goal
 

@@ -2,7 +2,7 @@ use Rattle.std.proofs.Common.{◌≡◌, ◌<◌, ◌+◌, ◌/◌, ◌%◌, ◌
 use Rattle.std.proofs.lemmas.List.{length-set}
 use Rattle.mk_net.specs.Network.{sizes}
 use Rattle.mk_exact.specs.States.{numbers_below}
-use Rattle.mk_table.specs.Columns.{HaveColumns}
+use Rattle.mk_table.specs.inner.Columns.{HaveColumns}
 use Rattle.mk_table.proofs.Members.{rising_apart}
 use Rattle.mk_table.proofs.Writing.{bounds_of, next_stride, more_columns, column_long}
 use Rattle.mk_table.proofs.Places.{listed_at}

@@ -1,7 +1,7 @@
 use Rattle.std.proofs.Common.{◌≡◌, ◌*◌, length, take, drop, slice_index}
 use Rattle.mk_net.specs.Network.{sizes}
 use Rattle.mk_sums.specs.Cells.{cells}
-use Rattle.mk_table.specs.Columns.{HaveColumns}
+use Rattle.mk_table.specs.inner.Columns.{HaveColumns}
 use Rattle.mk_table.proofs.scope.lay_out.Given as goal
 
 abbrev pub invariant-loop-variable : goal.invariant-loop-variable

@@ -1,6 +1,6 @@
 use Rattle.std.proofs.Common.{◌∙◌, sym, subst, ap}
 use Rattle.mk_disk.specs.Memory.{FileState, MemoryState, IsImage}
-use Rattle.mk_disk.specs.MemoryLaws.{chosen_image}
+use Rattle.mk_disk.specs.inner.MemoryLaws.{chosen_image}
 use Rattle.mk_disk.specs.declared.event.Event.TheVariants.{Crash}
 use Rattle.mk_disk.proofs.Events.{file_push}
 use Rattle.mk_disk.proofs.memory.MemoryDisk.crash.Goals as goal

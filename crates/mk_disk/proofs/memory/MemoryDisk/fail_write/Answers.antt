@@ -1,6 +1,6 @@
 use Rattle.std.proofs.Common.{inl, inr, ap, subst}
 use Rattle.mk_disk.specs.Memory.{opened_name, IsImage, MemoryState, file_after}
-use Rattle.mk_disk.specs.MemoryLaws.{torn_same}
+use Rattle.mk_disk.specs.inner.MemoryLaws.{torn_same}
 use Rattle.mk_disk.proofs.Events.{ok_or_err, torn_fault, faulted_other}
 use Rattle.mk_disk.proofs.memory.MemoryDisk.fail_write.Goals as goal
 

@@ -1,6 +1,6 @@
 use Rattle.std.proofs.Common.{ap, sym, Some, subst}
 use Rattle.mk_disk.specs.Memory.{IsImage, MemoryState, Happened, opened_name, synced}
-use Rattle.mk_disk.specs.MemoryLaws.{chosen_image}
+use Rattle.mk_disk.specs.inner.MemoryLaws.{chosen_image}
 use Rattle.mk_disk.specs.declared.event.Choice.TheVariants.{New}
 use Rattle.mk_disk.proofs.Events.{happened_at, elapses_then, seen_then, only_then, no_more_then}
 use Rattle.mk_disk.proofs.memory.MemoryDiskDisk.sync.Goals as goal

@@ -1,5 +1,5 @@
 use Rattle.std.proofs.Common.{length}
-use Rattle.mk_disk.specs.MemoryLaws.{torn_same}
+use Rattle.mk_disk.specs.inner.MemoryLaws.{torn_same}
 use Rattle.mk_disk.proofs.standard.StdDiskDisk.write_at.Goals as goal
 
 pub returns-then-is_ok-clause-torn : goal.returns-then-is_ok-clause-torn

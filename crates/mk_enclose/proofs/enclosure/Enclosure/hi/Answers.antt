@@ -1,4 +1,4 @@
-use Rattle.mk_enclose.specs.Widths.{narrow_ends}
+use Rattle.mk_enclose.specs.inner.Widths.{narrow_ends}
 use Rattle.mk_enclose.proofs.enclosure.Enclosure.hi.Goals as goal
 
 pub returns-clause-narrow : goal.returns-clause-narrow

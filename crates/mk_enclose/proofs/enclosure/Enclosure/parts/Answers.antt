@@ -1,5 +1,5 @@
 use Rattle.std.proofs.Common.{arith, le_trans}
-use Rattle.mk_enclose.specs.Widths.{narrow_ends}
+use Rattle.mk_enclose.specs.inner.Widths.{narrow_ends}
 use Rattle.mk_enclose.proofs.Parts.{part_below, part_above, parts_close}
 use Rattle.mk_enclose.proofs.enclosure.Enclosure.parts.Goals as goal
 

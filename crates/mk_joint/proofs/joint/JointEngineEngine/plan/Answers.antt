@@ -1,7 +1,7 @@
 use Rattle.std.proofs.Common.{◌≡◌, arith, ap, ◌∙◌}
 use Rattle.std.proofs.lemmas.Result.{IfOk-weaker}
 use Rattle.mk_table.specs.Scopes.{scope_of, cells_in}
-use Rattle.mk_joint.specs.Joints.{IsPlanFor}
+use Rattle.mk_joint.specs.inner.Joints.{IsPlanFor}
 use Rattle.mk_joint.proofs.Cells.{scope_of_all, states_counted}
 use Rattle.mk_joint.proofs.joint.JointEngineEngine.plan.Goals as goal
 

@@ -4,7 +4,7 @@ use Rattle.mk_sums.specs.There.{share_there}
 use Rattle.mk_table.specs.Cells.{values_at}
 use Rattle.mk_table.specs.Tables.{IsTimesWhole, EachCell}
 use Rattle.mk_engine.specs.Meaning.{RowsOf}
-use Rattle.mk_joint.specs.Joints.{whole_scope}
+use Rattle.mk_joint.specs.inner.Joints.{whole_scope}
 use Rattle.mk_joint.proofs.Tables.{sized_in, sized_parents_in, factor_more}
 use Rattle.mk_joint.proofs.joint.JointEngineEngine.weigh.Goals as goal
 

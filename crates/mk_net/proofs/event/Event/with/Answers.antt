@@ -1,7 +1,7 @@
 use Rattle.std.specs.Prelude.{◌≡◌, ℕ, suc, ◌+◌}
 use Rattle.std.proofs.Common.{rules, arith, subst}
 use Rattle.mk_net.specs.Events.{IsEvent}
-use Rattle.mk_net.specs.KeptEvents.{IsKeptEvent}
+use Rattle.mk_net.specs.inner.KeptEvents.{IsKeptEvent}
 use Rattle.std.specs.Prelude.{take, slice_set}
 use Rattle.mk_net.proofs.Events.{kept_longer, event_longer}
 use Rattle.mk_net.proofs.event.Event.with.Goals as goal

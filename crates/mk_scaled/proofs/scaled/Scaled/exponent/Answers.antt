@@ -1,4 +1,4 @@
-use Rattle.mk_scaled.specs.UniqueForm.{stored_form, stored_exponent}
+use Rattle.mk_scaled.specs.inner.UniqueForm.{stored_form, stored_exponent}
 use Rattle.mk_scaled.proofs.scaled.Scaled.exponent.Goals as goal
 
 pub returns-clause-value : goal.returns-clause-value

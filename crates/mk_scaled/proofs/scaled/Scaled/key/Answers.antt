@@ -1,6 +1,6 @@
 use Rattle.std.proofs.Common.{◌≡◌, ◌*◌, ◌^◌, ◌%◌, arith}
 use Rattle.std.proofs.Math.Nat.{mod-eq_of_lt}
-use Rattle.mk_scaled.specs.UniqueForm.{stored_form, stored_mantissa, stored_exponent}
+use Rattle.mk_scaled.specs.inner.UniqueForm.{stored_form, stored_mantissa, stored_exponent}
 use Rattle.mk_scaled.proofs.scaled.Scaled.key.Goals as goal
 
 pub returns-clause-value : goal.returns-clause-value

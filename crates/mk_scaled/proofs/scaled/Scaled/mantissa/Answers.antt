@@ -1,4 +1,4 @@
-use Rattle.mk_scaled.specs.UniqueForm.{stored_form, stored_mantissa}
+use Rattle.mk_scaled.specs.inner.UniqueForm.{stored_form, stored_mantissa}
 use Rattle.mk_scaled.proofs.scaled.Scaled.mantissa.Goals as goal
 
 pub returns-clause-value : goal.returns-clause-value

@@ -1,5 +1,5 @@
 use Rattle.mk_scaled.proofs.Ranges.{near_range, shifted_exactly}
-use Rattle.mk_scaled.specs.Closeness.{representable_form}
+use Rattle.mk_scaled.specs.inner.Closeness.{representable_form}
 use Rattle.mk_scaled.proofs.scaled.Scaled.shift.Goals as goal
 
 pub shifted-requires : goal.shifted-requires

@@ -1,6 +1,6 @@
 use Rattle.std.proofs.Common.{arith, lt_of_le_of_lt, le_refl}
 use Rattle.mk_scaled.specs.Near.{near_self}
-use Rattle.mk_scaled.specs.Closeness.{greatest_positive}
+use Rattle.mk_scaled.specs.inner.Closeness.{greatest_positive}
 use Rattle.mk_scaled.proofs.Powers.{pow-at_one, half_below, squared_below, odd_below, near_even_down, near_odd_down}
 use Rattle.mk_scaled.proofs.scaled.power.+down.Goals as goal
 

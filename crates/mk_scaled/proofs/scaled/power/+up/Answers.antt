@@ -1,6 +1,6 @@
 use Rattle.std.proofs.Common.{arith, lt_of_le_of_lt}
 use Rattle.mk_scaled.specs.Near.{near_self}
-use Rattle.mk_scaled.specs.Closeness.{least_positive}
+use Rattle.mk_scaled.specs.inner.Closeness.{least_positive}
 use Rattle.mk_scaled.proofs.Powers.{pow-at_one, half_below, square_in_range, odd_in_range, squared_above, odd_above, near_even_up, near_odd_up}
 use Rattle.mk_scaled.proofs.scaled.power.+up.Goals as goal
 

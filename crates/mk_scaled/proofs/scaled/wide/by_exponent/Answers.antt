@@ -1,5 +1,5 @@
 use Rattle.std.proofs.Common.{arith}
-use Rattle.mk_scaled.specs.UniqueForm.{exponent-form}
+use Rattle.mk_scaled.specs.inner.UniqueForm.{exponent-form}
 use Rattle.mk_scaled.proofs.scaled.wide.by_exponent.Goals as goal
 
 pub returns-then-a-b-clause-order : goal.returns-then-a-b-clause-order

@@ -6,7 +6,7 @@ use Rattle.mk_file.specs.MarketOf.{market_of}
 use Rattle.mk_command.specs.declared.command.Command.TheVariants.{Price}
 use Rattle.mk_reply.specs.declared.reply.Reply.{Reply}
 use Rattle.mk_rules.specs.Answers.{IsAllowed, IsPrice}
-use Rattle.mk_session.specs.Trading.{Trading}
+use Rattle.mk_session.specs.inner.Trading.{Trading}
 use Rattle.mk_session.proofs.Allowed.{wide_allowed, price_allowed, fits_when, wide_when, none_when}
 use Rattle.mk_session.proofs.price.PriceMarket.answer.Goals as goal
 

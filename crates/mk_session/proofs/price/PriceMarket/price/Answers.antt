@@ -6,10 +6,10 @@ use Rattle.mk_semiring.specs.declared.sums.SumProd.{SumProd}
 use Rattle.mk_semiring.specs.declared.held.Held.{Held}
 use Rattle.mk_semiring.specs.Held.{HeldEncloses, HasHeldGrade, IsHeldExact}
 use Rattle.mk_joint.specs.declared.joint.JointEngine.{JointEngine}
-use Rattle.mk_joint.specs.Joints.{HasJoint}
+use Rattle.mk_joint.specs.inner.Joints.{HasJoint}
 use Rattle.mk_rules.specs.Answers.{IsPrice}
-use Rattle.mk_session.specs.Weighed.{all_rows}
-use Rattle.mk_session.specs.Trading.{Trading}
+use Rattle.mk_session.specs.inner.Weighed.{all_rows}
+use Rattle.mk_session.specs.inner.Trading.{Trading}
 use Rattle.mk_reply.specs.declared.reply.Reply.TheVariants.{Price as Priced}
 use Rattle.mk_session.proofs.Prices.{beliefs_enclose, price_from_beliefs}
 use Rattle.mk_session.proofs.price.PriceMarket.price.Goals as goal

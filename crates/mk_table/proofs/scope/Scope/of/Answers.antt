@@ -1,7 +1,7 @@
 use Rattle.std.proofs.Common.{◌≡◌, List, ℕ, slice_index, arith, ap, subst, ◌∙◌}
 use Rattle.mk_net.specs.Network.{sizes}
 use Rattle.mk_sums.specs.Cells.{cells}
-use Rattle.mk_table.specs.Columns.{HaveColumns, IsRun}
+use Rattle.mk_table.specs.inner.Columns.{HaveColumns, IsRun}
 use Rattle.mk_table.proofs.Opened.{held, held_within, held_rising, held_few, cells_are, kept_of}
 use Rattle.mk_table.proofs.scope.Scope.of.Goals as goal
 

@@ -1,6 +1,6 @@
 use Rattle.std.proofs.Common.{◌≡◌, length}
 use Rattle.mk_table.specs.Cells.{cell_in}
-use Rattle.mk_table.specs.Walks.{IsAt}
+use Rattle.mk_table.specs.inner.Walks.{IsAt}
 use Rattle.mk_table.proofs.Changed.{AreMargins}
 use Rattle.mk_table.proofs.table.Table.margin_into.Given as goal
 

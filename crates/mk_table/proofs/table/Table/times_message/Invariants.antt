@@ -1,7 +1,7 @@
 use Rattle.std.proofs.Common.{◌≡◌, slice_index_or}
 use Rattle.mk_table.specs.Cells.{cell_in}
 use Rattle.mk_table.specs.Tables.{IsTimes}
-use Rattle.mk_table.specs.Walks.{IsAt}
+use Rattle.mk_table.specs.inner.Walks.{IsAt}
 use Rattle.mk_table.proofs.Changed.{IsChangedBelow}
 use Rattle.mk_table.proofs.table.Table.times_message.Given as goal
 

@@ -1,7 +1,7 @@
 use Rattle.std.proofs.Common.{◌≡◌, ℕ, ◌+◌, ◌-◌, ◌*◌, ◌^◌, ◌<◌, ◌≤◌, false, sym, ◌∙◌, ap, arith, ◌%◌}
 use Rattle.mk_scaled.specs.Form.{IsForm, exponent_of}
-use Rattle.mk_scaled.specs.UniqueForm.{exponent-form}
-use Rattle.mk_scaled.specs.Wide.{IsNearRange, IsFull, StandsFor}
+use Rattle.mk_scaled.specs.inner.UniqueForm.{exponent-form}
+use Rattle.mk_scaled.specs.inner.Wide.{IsNearRange, IsFull, StandsFor}
 use Rattle.mk_scaled.proofs.Widened.{IsFull-near, StandsFor-near, IsFull-far, StandsFor-far, near_digits}
 use Rattle.mk_scaled.proofs.scaled.wide.Wide.sum.Goals as goal
 

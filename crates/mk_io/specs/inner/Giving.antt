@@ -3,7 +3,7 @@ use Rattle.std.specs.Prelude.{◌≡◌, ℕ, ◌+◌, Bool, cond, Option}
 use Rattle.mk_io.specs.declared.lines.Next.{Next}
 use Rattle.mk_io.specs.declared.lines.Next.TheVariants.{Line, Long}
 use Rattle.mk_io.specs.Stream.{max_line_bytes}
-use Rattle.mk_io.specs.Cut.{Settles}
+use Rattle.mk_io.specs.inner.Cut.{Settles}
 use Rattle.mk_io.specs.Cutting.{Cutting}
 
 -- the line whose first bytes are in the text is given, and an answer that stays behind it, where there is one

@@ -6,7 +6,7 @@ use Rattle.std.proofs.lemmas.Nat.{pow-add}
 use Rattle.std.proofs.Math.Nat.{pow-suc, mul-le-mul, mul-le-mul_left, mul-le-mul_right, mul_assoc, mul_comm, mul-mul-mul_comm, lt_of_mul-lt-mul_right, le_of_mul-le-mul_right, mul-lt-mul_of_pos_right}
 use Rattle.mk_scaled.specs.Range.{pow-lt_reflects}
 use Rattle.mk_cell.specs.Cell.{IsLowerEnd}
-use Rattle.mk_cell.specs.Close.{close_same, close_step, close-mul, close_trans, close_more, close_scaled, close_unscaled, close_zero}
+use Rattle.mk_cell.specs.inner.Close.{close_same, close_step, close-mul, close_trans, close_more, close_scaled, close_unscaled, close_zero}
 
 pub lower_same : (n whole : ℕ) → IsLowerEnd n n whole 0
 lower_same n whole = record { below = le_refl n; close = close_same n; same = λ h. refl_of n }

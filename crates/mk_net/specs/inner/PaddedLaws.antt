@@ -1,7 +1,7 @@
 -- A kept name gives its fields back.
 use Rattle.std.specs.Prelude.{◌≡◌, ℕ, List, length, take}
 use Rattle.std.proofs.Common.{ap, ◌∙◌, arith, length-take}
-use Rattle.mk_net.specs.Padded.{IsPadded, padded}
+use Rattle.mk_net.specs.inner.Padded.{IsPadded, padded}
 use Rattle.mk_net.specs.declared.name.Name.TheInside.{Inside}
 
 pub kept_length : (bytes : List ℕ) (n : ℕ) → IsPadded bytes n → length (take n bytes) ≡ n

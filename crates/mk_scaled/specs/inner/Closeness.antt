@@ -4,7 +4,7 @@ use Rattle.std.proofs.lemmas.Bool.{cases_lt}
 use Rattle.std.proofs.lemmas.Nat.{pow-add, pow_pos, shr_below, le-div}
 use Rattle.std.proofs.Math.Nat.{mul-le-mul, mul-one, div-mul-le_self, lt-div-mul-add, one-le-mul}
 use Rattle.mk_scaled.specs.Form.{bit_length, IsForm}
-use Rattle.mk_scaled.specs.UniqueForm.{bit_length_bounds, two_pow-suc}
+use Rattle.mk_scaled.specs.inner.UniqueForm.{bit_length_bounds, two_pow-suc}
 use Rattle.mk_scaled.specs.Range.{pow-lt_reflects}
 use Rattle.mk_scaled.specs.Rounding.{IsRepresentable, IsGreatestBelow, IsLeastAbove}
 use Rattle.mk_scaled.specs.Near.{IsNear, near_step}

@@ -6,7 +6,7 @@ use Rattle.std.proofs.lemmas.Nat.{pow-add, pow_pos, shl_below}
 use Rattle.std.proofs.Math.Nat.{mul_assoc, mul_right_comm, mul-le-mul_left, mul-lt-mul_of_pos_right}
 use Rattle.mk_scaled.specs.Range.{two_to, two_to_pos, two_to-add, two_to-mono, two_to-small, two_to-lt, mul_at_most, exponent_below, pow-lt_reflects}
 use Rattle.mk_cell.specs.Cell.{bias, bias-is, IsCell, StandsAt, AllStand, AreCells}
-use Rattle.mk_cell.specs.LowerEnd.{lower_more, lower_scaled, at_least_one}
+use Rattle.mk_cell.specs.inner.LowerEnd.{lower_more, lower_scaled, at_least_one}
 
 -- a cell stands in more steps too
 pub stands_with_more : (shift digits exponent v n p : ℕ) → n ≤ p → StandsAt shift digits exponent v n → StandsAt shift digits exponent v p

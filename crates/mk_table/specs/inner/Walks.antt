@@ -2,7 +2,7 @@
 use Rattle.std.specs.Prelude.{◌≡◌, ℕ, ◌+◌, ◌*◌, ◌<◌, ◌≤◌, List, length, slice_index}
 use Rattle.mk_table.specs.Scopes.{ScopeOf, size_in}
 use Rattle.mk_table.specs.Cells.{cell_in}
-use Rattle.mk_table.specs.Columns.{max_run, IsRun}
+use Rattle.mk_table.specs.inner.Columns.{max_run, IsRun}
 
 -- the walk is before this cell: `base` is the part's cell for the first cell of the run, and `low` the place in the run
 pub record IsAt (part whole : ScopeOf) (run : ℕ) (lows : List ℕ) (base low cell : ℕ) : Type 0 where

@@ -1,0 +1,4 @@
+-- What only proofs and private contracts cite.
+pub mod Close
+pub mod Laws
+pub mod LowerEnd

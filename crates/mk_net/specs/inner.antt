@@ -1,0 +1,7 @@
+-- What only proofs and private contracts cite.
+pub mod Counted
+pub mod KeptEvents
+pub mod KeptQuestions
+pub mod Padded
+pub mod PaddedLaws
+pub mod TextLaws
