@@ -7,7 +7,8 @@ use Rattle.mk_text.specs.Words.{after, EndsWord}
 use Rattle.mk_text.specs.Reading.{Read, both, behind, given, nothing}
 use Rattle.mk_text.proofs.ReadingLaws.{Took, Reads, Spelled, BothFit, both_text, behind_text, both_reads, behind_reads, passed_reads, reads_same, spelled_by, spelled_alone, choose_takes, nothing_takes, made_last}
 use Rattle.mk_text.proofs.PartLaws.{name_reads, number_reads, pair_reads, limits_reads}
-use Rattle.mk_reply.specs.Refusals.{refusal_text, IsRefusal, max_users}
+use Rattle.mk_net.specs.Bounds.{max_users}
+use Rattle.mk_reply.specs.Refusals.{refusal_text, IsRefusal}
 use Rattle.mk_reply.specs.Reading.{read_long, read_narrow, read_held, read_stale, plain_forms, named_forms, paired_forms, numbered_forms, read_numbered, read_paired, read_named, read_refusal}
 use Rattle.mk_reply.specs.declared.refusal.Refusal.{Refusal}
 use Rattle.mk_reply.specs.declared.refusal.Refusal.TheVariants.{Syntax, Long, Settled, User, Exists, Users, Unknown, Twice, Stale, Resolved, Impossible, Wide, Range, Full, Beyond, Short, Unresolved, Memory}

@@ -1,7 +1,7 @@
 -- Reading a reply: the word by which its form is known, and then the parts of that form.
 use Rattle.std.specs.Prelude.{ℕ, ◌^◌, List, [], ◌∷◌, codes, nat_le, ◌==◌}
 use Rattle.mk_text.specs.Reading.{Read, both, behind, made, passed, given, never, items, choose, nothing, read_name, read_number, read_pair, read_price, read_range, read_limits}
-use Rattle.mk_reply.specs.Refusals.{max_users}
+use Rattle.mk_net.specs.Bounds.{max_users}
 use Rattle.mk_reply.specs.declared.refusal.Refusal.{Refusal}
 use Rattle.mk_reply.specs.declared.refusal.Refusal.TheVariants.{Syntax, Long, Settled, User, Exists, Users, Unknown, Twice, Stale, Resolved, Impossible, Wide, Range, Full, Beyond, Short, Unresolved, Memory}
 use Rattle.mk_reply.specs.declared.reply.Payment.{Payment}

@@ -1,15 +1,12 @@
 -- Refusals, and how they are written.
 use Rattle.std.specs.Prelude.{◌≡◌, ℕ, List, codes, decimal, ⊤}
+use Rattle.mk_net.specs.Bounds.{max_users}
 use Rattle.mk_net.specs.Name.{IsName}
 use Rattle.mk_text.specs.Joined.{◌&◌}
 use Rattle.mk_text.specs.Numbers.{IsLong, IsNarrow, AreLimits, limits_text}
 use Rattle.mk_text.specs.Texts.{IsPairText, pair_text}
 use Rattle.mk_reply.specs.declared.refusal.Refusal.{Refusal}
 use Rattle.mk_reply.specs.declared.refusal.Refusal.TheVariants.{Syntax, Long, Settled, User, Exists, Users, Unknown, Twice, Stale, Resolved, Impossible, Wide, Range, Full, Beyond, Short, Unresolved, Memory}
-
--- how many users a market holds where it takes no more
-abbrev pub max_users : ℕ
-max_users = 256
 
 abbrev pub refusal_text : Refusal → List ℕ
 refusal_text Syntax = codes "syntax"

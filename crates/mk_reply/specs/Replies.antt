@@ -1,5 +1,6 @@
 -- Replies, and how they are written.
 use Rattle.std.specs.Prelude.{◌≡◌, ℕ, ◌≤◌, List, length, codes, decimal, All}
+use Rattle.mk_net.specs.Bounds.{max_users}
 use Rattle.mk_net.specs.Name.{IsName}
 use Rattle.mk_text.specs.Joined.{◌&◌, items_text}
 use Rattle.mk_text.specs.Numbers.{IsLong, IsNarrow, IsPrice, price_text, range_text, AreLimits, limits_text}
@@ -40,9 +41,9 @@ pub record IsPayment (p : Payment) : Type 0 where
   pub high : IsLong p.high
   pub paid : p.paid ≡ p.low
 
--- the most payments of a settlement
+-- the most payments of a settlement: one for each user
 abbrev pub max_payments : ℕ
-max_payments = 256
+max_payments = max_users
 
 pub record ArePayments (payments : List Payment) : Type 0 where
   pub few : length payments ≤ max_payments

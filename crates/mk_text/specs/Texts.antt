@@ -1,5 +1,6 @@
 -- Pairs and questions, and how they are written.
 use Rattle.std.specs.Prelude.{ℕ, ◌≤◌, List, [], ◌∷◌, length, codes, All}
+use Rattle.mk_net.specs.Bounds.{max_condition}
 use Rattle.mk_net.specs.Name.{IsName}
 use Rattle.mk_net.specs.declared.words.PairText.{PairText}
 use Rattle.mk_net.specs.declared.words.QuestionText.{QuestionText}
@@ -12,10 +13,6 @@ pub record IsPairText (pair : PairText) : Type 0 where
 
 abbrev pub pair_text : PairText → List ℕ
 pair_text pair = pair.variable & codes "=" & pair.value
-
--- the most pairs of a condition
-abbrev pub max_condition : ℕ
-max_condition = 8
 
 pub record IsCondition (pairs : List PairText) : Type 0 where
   pub few : length pairs ≤ max_condition
