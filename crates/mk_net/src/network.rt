@@ -51,6 +51,10 @@ impl Network {
         ensures faultless { IfOk result (λ network. first_fault (drafts_of draft.now) ≡ None) }
         ensures fault { IfErr result (λ fault. fault ≢ NetFault.Memory → first_fault (drafts_of draft.now) ≡ Some fault) }
     {
+        // No `u32` numbers the last of 2^32 rows: so many are more than can be held.
+        if !draft.is_numbered() {
+            return Err(NetFault::Memory);
+        }
         match draft.first_fault() {
             Some(fault) => Err(fault),
             None => build::network(alloc, draft),
