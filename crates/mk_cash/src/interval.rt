@@ -23,9 +23,8 @@ pub fn cash(factor: &Factor, points_per_bit: u32) -> (u64, u64)
     ensures high_fits { result.1 < number_limit }
 {
     let (low, high) = power_bits(&factor.gain, points_per_bit);
-    let points = points_per_bit as u64;
-    let gained = points * bits_paid_in(factor);
-    let owed = points * (40 * factor.trades as u64 + bits_taken_out(factor));
+    let gained = bits_gained(factor, points_per_bit);
+    let owed = bits_owed(factor, points_per_bit);
     (
         (low + gained).saturating_sub(owed),
         (high + gained).saturating_sub(owed),
@@ -48,15 +47,32 @@ fn power_bits(gain: &Enclosure, power: u32) -> (u64, u64)
     (low.log2_floor(), high.log2_floor())
 }
 
+/// The bits that multiply the power of a factor, besides those of its gain.
+fn bits_gained(factor: &Factor, power: u32) -> u64
+    requires { HasPowersInRange factor.now power }
+    ensures value { result ≡ power * paid_in factor.now.net }
+    ensures small { result < 2 ^ 50 }
+{
+    power as u64 * paid_in(factor)
+}
+
+/// The bits that divide the power of a factor: 40 for each trade, and what was taken out.
+fn bits_owed(factor: &Factor, power: u32) -> u64
+    requires { HasPowersInRange factor.now power }
+    ensures { result ≡ power * (40 * factor.now.trades + taken_out factor.now.net) }
+{
+    power as u64 * (40 * factor.trades as u64 + taken_out(factor))
+}
+
 /// The bits that were paid in on the whole.
-fn bits_paid_in(factor: &Factor) -> u64
+fn paid_in(factor: &Factor) -> u64
     ensures { result ≡ paid_in factor.now.net }
 {
     if factor.net < 0 { 0 } else { factor.net as u64 }
 }
 
 /// The bits that were taken out on the whole.
-fn bits_taken_out(factor: &Factor) -> u64
+fn taken_out(factor: &Factor) -> u64
     ensures value { result ≡ taken_out factor.now.net }
     ensures small { result ≤ 2 ^ 63 }
 {
