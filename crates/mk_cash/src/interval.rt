@@ -1,0 +1,84 @@
+//! The points that a factor is worth.
+ghost use Rattle.std.specs.Prelude.{◌≡◌, ◌+◌, ◌*◌, ◌^◌, ◌<◌, ◌≤◌};
+ghost use Rattle.mk_net.specs.Bounds.{max_points_per_bit, number_limit};
+ghost use Rattle.mk_exact.specs.Factors.{Fraction, IsAtLeastOne};
+ghost use Rattle.mk_exact.specs.Cash.{CoversCash};
+ghost use Rattle.mk_scaled.specs.Range.{IsInRange};
+ghost use Rattle.mk_enclose.specs.Enclosure.{lower_of, upper_of};
+ghost use Rattle.mk_enclose.specs.Factor.{paid_in, taken_out};
+ghost use Rattle.mk_cash.specs.Factors.{IsGradedWithin, StandsFor, HasPowersInRange};
+
+use mk_enclose::{Enclosure, Factor};
+
+/// Bounds on the points that a factor of at least one is worth, at most one apart: `points_per_bit` times the
+/// logarithm of the factor to base 2, rounded down.
+///
+/// Nothing is said of a factor below one but that both numbers are small.
+pub fn cash(factor: &Factor, points_per_bit: u32) -> (u64, u64)
+    requires some_points { 1 ≤ points_per_bit }
+    requires few_points { points_per_bit ≤ max_points_per_bit }
+    requires range { HasPowersInRange factor.now points_per_bit }
+    ensures covers { (q : Fraction) → StandsFor factor.now q.num q.den → IsGradedWithin factor.now.gain (2 ^ 17) → IsAtLeastOne q → CoversCash q points_per_bit result.0 result.1 }
+    ensures low_fits { result.0 < number_limit }
+    ensures high_fits { result.1 < number_limit }
+{
+    let (low, high) = power_bits(&factor.gain, points_per_bit);
+    let gained = bits_gained(factor, points_per_bit);
+    let owed = bits_owed(factor, points_per_bit);
+    (
+        (low + gained).saturating_sub(owed),
+        (high + gained).saturating_sub(owed),
+    )
+}
+
+/// The whole bits of the power of a gain: at its lower end and at its upper end.
+fn power_bits(gain: &Enclosure, power: u32) -> (u64, u64)
+    requires positive { 1 ≤ power }
+    requires small { power ≤ max_points_per_bit }
+    requires range { IsInRange (upper_of gain.now ^ power) }
+    ensures below { 2 ^ result.0 ≤ lower_of gain.now ^ power }
+    ensures above { upper_of gain.now ^ power < 2 ^ (result.1 + 1) }
+    ensures narrow { IsGradedWithin gain.now (2 ^ 17) → result.1 ≤ result.0 + 1 }
+    ensures low_small { result.0 < 2 ^ 52 }
+    ensures high_small { result.1 < 2 ^ 52 }
+{
+    let low = gain.lo().pow_down(power);
+    let high = gain.hi().pow_up(power);
+    (low.log2_floor(), high.log2_floor())
+}
+
+/// The bits that multiply the power of a factor, besides those of its gain.
+fn bits_gained(factor: &Factor, power: u32) -> u64
+    requires { HasPowersInRange factor.now power }
+    ensures value { result ≡ power * paid_in factor.now.net }
+    ensures small { result < 2 ^ 50 }
+{
+    power as u64 * paid_in(factor)
+}
+
+/// The bits that divide the power of a factor: 40 for each trade, and what was taken out.
+fn bits_owed(factor: &Factor, power: u32) -> u64
+    requires { HasPowersInRange factor.now power }
+    ensures { result ≡ power * (40 * factor.now.trades + taken_out factor.now.net) }
+{
+    power as u64 * (40 * factor.trades as u64 + taken_out(factor))
+}
+
+/// The bits that were paid in on the whole.
+fn paid_in(factor: &Factor) -> u64
+    ensures { result ≡ paid_in factor.now.net }
+{
+    if factor.net < 0 { 0 } else { factor.net as u64 }
+}
+
+/// The bits that were taken out on the whole.
+fn taken_out(factor: &Factor) -> u64
+    ensures value { result ≡ taken_out factor.now.net }
+    ensures small { result ≤ 2 ^ 63 }
+{
+    if factor.net < 0 {
+        factor.net.unsigned_abs()
+    } else {
+        0
+    }
+}
