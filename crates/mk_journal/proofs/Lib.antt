@@ -7,3 +7,4 @@ pub mod Parsing
 pub mod Reopening
 pub mod Sealing
 pub mod Meanings
+mod Replying

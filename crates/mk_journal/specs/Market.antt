@@ -1,5 +1,7 @@
 -- A market that is kept: what it accepted, and what of it a crash leaves.
-use Rattle.std.specs.Prelude.{◌≡◌, ◌⊎◌, ℕ, ◌<◌, ◌≤◌, Bool, true, false, List, [], ◌∷◌, ◌++◌, length, take, Option, IfSome}
+use Rattle.std.specs.Prelude.{◌≡◌, ◌⊎◌, ℕ, ◌<◌, ◌≤◌, Bool, true, false, List, [], ◌∷◌, ◌++◌, length, take, Option, IfSome, zero, suc, ◌+◌}
+use Rattle.mk_io.specs.Outside.{append_known}
+use Rattle.mk_disk.specs.Disk.{Rose}
 use Rattle.mk_journal.specs.Store.{IsLength, staged, IsStarted}
 
 -- the value that contracts see: the market, the place of the closed gate, and whether a call of the disk failed
@@ -41,3 +43,18 @@ pub record IsFront (market : List ℕ) (all : List (List ℕ)) (least : ℕ) (fi
   pub enough : least ≤ count
   pub within : count ≤ length all
   pub started : IsStarted market (take count all) file
+
+-- a reply so many times
+abbrev pub repeated : List ℕ → ℕ → List ℕ
+repeated reply zero = []
+repeated reply (suc n) = repeated reply n ++ reply
+
+-- no call of the disk, and none of the sink, failed
+pub record NoneFailed (disk disk_now sink sink_now : ℕ) : Type 0 where
+  pub of_disk : Rose disk disk_now → ⊥
+  pub of_sink : Rose sink sink_now → ⊥
+
+-- each command was answered, and each change that was accepted is acknowledged
+pub record AreAllAnswered (reply : List ℕ) (commands : ℕ) (before after : List (List ℕ)) (acknowledged : ℕ) (written written_now : Option (List ℕ)) : Type 0 where
+  pub replies : written_now ≡ append_known written (repeated reply commands)
+  pub changes : length after ≡ length before + acknowledged

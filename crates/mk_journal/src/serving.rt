@@ -1,8 +1,8 @@
 //! Commands that are answered in turn.
 
-ghost use Rattle.std.specs.Prelude.{◌≡◌, ℕ, ◌+◌, ◌*◌, ◌^◌, ◌<◌, ◌≤◌, List, length, MatchBool, IsTrue};
+ghost use Rattle.std.specs.Prelude.{◌≡◌, ℕ, ◌+◌, ◌*◌, ◌^◌, ◌<◌, ◌≤◌, List, length, false, MatchBool, IsTrue};
 ghost use Rattle.mk_journal.specs.Kept.{IsSettled};
-ghost use Rattle.mk_journal.specs.Market.{HasPlace, HasFront, IsFront};
+ghost use Rattle.mk_journal.specs.Market.{HasPlace, HasFront, IsFront, NoneFailed, AreAllAnswered};
 ghost use Rattle.mk_journal.specs.Moments.{LeavesOnly};
 
 use crate::kept::{Kept, Steps};
@@ -12,7 +12,7 @@ use mk_io::{Sink, write_all};
 /// Applies commands in turn, each before its reply is written, until one of the two fails. Gives how many changes were
 /// acknowledged: accepted, and their reply written whole. Whatever failed, each image that a crash then leaves holds the
 /// first of the accepted changes, among them all from before the call and every acknowledged one; so does, but for the
-/// acknowledged ones, what a crash at any moment of the call leaves.
+/// acknowledged ones, what a crash at any moment of the call leaves. Where nothing failed each command is answered.
 pub fn serve<M: Steps, K: Disk, S: Sink>(
     kept: &mut Kept<M>,
     disk: &mut K,
@@ -32,6 +32,9 @@ pub fn serve<M: Steps, K: Disk, S: Sink>(
         → IsSettled (K.file disk.old n) (K.may_leave disk.old n) market (M.accepted kept.old.market) kept.old.gate
         → LeavesOnly (K.moment disk.old) (K.moment disk.new) (K.left_since disk.old n) (K.left_since disk.new n)
         (IsFront market (M.accepted kept.new.market) (length (M.accepted kept.old.market))) }
+    ensures answered { kept.old.closed ≡ false → NoneFailed (K.faults disk.old) (K.faults disk.new) (S.faults out.old) (S.faults out.new)
+        → AreAllAnswered reply.now (length commands.now) (M.accepted kept.old.market) (M.accepted kept.new.market) result
+        (S.written out.old) (S.written out.new) }
 {
     let mut acknowledged = 0;
     for command in commands {
