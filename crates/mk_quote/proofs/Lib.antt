@@ -1,2 +1,3 @@
 pub mod Bearing
 pub mod Serving
+pub mod Reaching

@@ -1,2 +1,3 @@
 pub mod Sides
 pub mod Laws
+pub mod inner

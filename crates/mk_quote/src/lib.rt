@@ -1,6 +1,7 @@
 //! What an edit of a question may do: the units that it trades for, and the limits within which it is taken.
 #![tactic(auto)]
 
+mod interval;
 mod laws;
 mod side;
 

@@ -52,7 +52,7 @@ impl SideBounds {
 ///
 /// The product of the units and the gain is a whole number times a power of two, and so are the numbers that it is
 /// compared with: its logarithm, rounded down, decides without an error.
-fn bears(factor: &Factor, ratio: u64) -> bool
+pub(crate) fn bears(factor: &Factor, ratio: u64) -> bool
     ensures { IsTrue result ↔ Bears factor.now ratio }
 {
     let gain = factor.gain.lo();
