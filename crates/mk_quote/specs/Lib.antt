@@ -1,3 +1,4 @@
 pub mod Sides
 pub mod Laws
+pub mod Bounds
 pub mod inner
