@@ -4,8 +4,10 @@
 mod bounds;
 mod interval;
 mod laws;
+mod quote;
 mod side;
 
 pub use bounds::Bounds;
 pub use laws::{exactly_serves, served_is_fair, wanted_serves};
+pub use quote::Quote;
 pub use side::SideBounds;
