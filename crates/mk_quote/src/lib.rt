@@ -11,3 +11,6 @@ pub use bounds::Bounds;
 pub use laws::{exactly_serves, served_is_fair, wanted_serves};
 pub use quote::Quote;
 pub use side::SideBounds;
+
+#[cfg(test)]
+mod tests;
