@@ -1,0 +1,4 @@
+pub mod Bearing
+pub mod Serving
+pub mod Reaching
+pub mod Rightness

@@ -1,0 +1,5 @@
+pub mod Sides
+pub mod Laws
+pub mod Bounds
+pub mod Quotes
+pub mod inner

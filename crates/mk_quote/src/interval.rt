@@ -1,0 +1,80 @@
+//! The shares that serve one side of a question.
+ghost use Rattle.std.specs.Prelude.{◌≡◌, ℕ, ◌≤◌, ◌↔◌, min, IsTrue};
+ghost use Rattle.mk_net.specs.Bounds.{number_limit};
+ghost use Rattle.mk_exact.specs.Limits.{Inside, IsWithinRange};
+ghost use Rattle.mk_quote.specs.Sides.{ratio_for, Serves};
+ghost use Rattle.mk_quote.specs.inner.Reached.{Reaches};
+
+use crate::SideBounds;
+use crate::side::bears;
+
+/// The parts that make a whole: one more than the greatest share.
+const MILLION: u32 = 1_000_000;
+
+/// The least number of units that cannot be written.
+const TOO_MANY: u64 = 1 << 63;
+
+/// What the units for a share can reach: with greater shares they stay there.
+#[derive(Clone, Copy, Debug)]
+pub enum Bound {
+    /// Units that the factor bears.
+    Borne,
+    /// Units that cannot be written.
+    TooMany,
+}
+
+impl SideBounds {
+    /// The least and the greatest share, in parts in a million, that `judge` takes: it takes all between them, and no
+    /// other from 1 to 999,999. None where it takes none.
+    pub fn interval(&self) -> Option<(u32, u32)>
+        ensures in_range { IsWithinRange result }
+        ensures serves { (X : ℕ) → 1 ≤ X → X ≤ 999999 → Inside result X ↔ Serves self.now X }
+    {
+        let low = self.first(Bound::Borne);
+        let end = self.first(Bound::TooMany);
+        if low < end {
+            Some((low, end - 1))
+        } else {
+            None
+        }
+    }
+
+    /// The least share whose units reach a bound, or a million where none does.
+    fn first(&self, bound: Bound) -> u32
+        ensures positive { 1 ≤ result }
+        ensures at_most { result ≤ 1000000 }
+        ensures first { (X : ℕ) → 1 ≤ X → X ≤ 999999 → (result ≤ X) ↔ Reaches self.now bound X }
+    {
+        let mut low = 1;
+        let mut high = MILLION;
+        while low < high {
+            let middle = (low + high) / 2;
+            if self.reaches(middle, bound) {
+                high = middle;
+            } else {
+                low = middle + 1;
+            }
+        }
+        low
+    }
+
+    /// Whether the units for a share reach a bound.
+    fn reaches(&self, x: u32, bound: Bound) -> bool
+        requires { x ≤ 999999 }
+        ensures { IsTrue result ↔ Reaches self.now bound x }
+    {
+        let ratio = self.capped_ratio(x);
+        match bound {
+            Bound::Borne => bears(&self.factor, ratio),
+            Bound::TooMany => ratio == TOO_MANY,
+        }
+    }
+
+    /// The units for a share, or `2^63` where they are more.
+    fn capped_ratio(&self, x: u32) -> u64
+        requires { x ≤ 999999 }
+        ensures { result ≡ min number_limit (ratio_for self.now x) }
+    {
+        self.ratio(x).unwrap_or(TOO_MANY)
+    }
+}

@@ -1,0 +1,85 @@
+//! One side of a question: the states where its target holds, or those where it does not.
+ghost use Rattle.std.specs.Prelude.{◌≡◌, ℕ, ◌+◌, ◌*◌, ◌^◌, ◌<◌, ◌≤◌, ◌↔◌, min, SomeIff, IsTrue};
+ghost use Rattle.mk_net.specs.Bounds.{number_limit};
+ghost use Rattle.mk_enclose.specs.Factor.{paid_in, taken_out};
+ghost use Rattle.mk_quote.specs.Sides.{ratio_for, Bears, Serves};
+
+use mk_enclose::{Enclosure, Factor};
+
+/// The units of a ratio that leaves a weight as it was.
+const UNIT: u64 = 1 << 40;
+
+/// The parts that a share is given in.
+const MILLION: u64 = 1_000_000;
+
+/// Bounds on one side of a question: on the weight of its states, on the weight of all states where the condition
+/// holds, and on the least factor of the user over its states.
+#[derive(Clone, Copy, Debug)]
+pub struct SideBounds {
+    pub part: Enclosure,
+    pub whole: Enclosure,
+    pub factor: Factor,
+}
+
+impl SideBounds {
+    /// The units, in parts of `2^40`, that take this side's price to `x` parts in a million: rounded down, by the ends
+    /// that give the fewest. None where they are `2^63` or more.
+    pub fn ratio(&self, x: u32) -> Option<u64>
+        requires { x ≤ 999999 }
+        ensures { SomeIff result (ratio_for self.now x < number_limit) (ratio_for self.now x) }
+    {
+        self.whole
+            .lo()
+            .div_floor(x as u64 * UNIT, &self.part.hi(), MILLION)
+    }
+
+    /// The same units where one more trade of them leaves the user's factor at least one, judged at the lower end of
+    /// its gain. None where they do not, or are `2^63` or more.
+    pub fn judge(&self, x: u32) -> Option<u64>
+        requires { x ≤ 999999 }
+        ensures { SomeIff result (Serves self.now x) (ratio_for self.now x) }
+    {
+        let ratio = self.ratio(x)?;
+        if bears(&self.factor, ratio) {
+            Some(ratio)
+        } else {
+            None
+        }
+    }
+}
+
+/// Whether one more trade of so many units leaves a factor at least one, at the lower end of its gain.
+///
+/// The product of the units and the gain is a whole number times a power of two, and so are the numbers that it is
+/// compared with: its logarithm, rounded down, decides without an error.
+pub(crate) fn bears(factor: &Factor, ratio: u64) -> bool
+    ensures { IsTrue result ↔ Bears factor.now ratio }
+{
+    let gain = factor.gain.lo();
+    let product = ratio as u128 * gain.mantissa() as u128;
+    if product == 0 {
+        return false;
+    }
+    let gained = product.ilog2() as u64 + gain.exponent() + paid_in(factor);
+    gained >= 40 * (factor.trades as u64 + 1) + taken_out(factor)
+}
+
+/// The bits that were paid in on the whole.
+fn paid_in(factor: &Factor) -> u64
+    ensures value { result ≡ paid_in factor.now.net }
+    ensures small { result < 2 ^ 63 }
+{
+    if factor.net < 0 { 0 } else { factor.net as u64 }
+}
+
+/// The bits that were taken out on the whole.
+fn taken_out(factor: &Factor) -> u64
+    ensures value { result ≡ taken_out factor.now.net }
+    ensures small { result ≤ 2 ^ 63 }
+{
+    if factor.net < 0 {
+        factor.net.unsigned_abs()
+    } else {
+        0
+    }
+}
