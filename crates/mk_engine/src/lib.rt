@@ -1,6 +1,8 @@
-//! What each engine of beliefs owes, whatever it keeps.
+//! What each engine of beliefs owes, whatever it keeps, and what follows for each of them.
 #![tactic(auto)]
 
 mod engine;
+mod others;
 
 pub use engine::Engine;
+pub use others::belief_of_others;

@@ -1,0 +1,105 @@
+-- What is found after some of the values, and what a call for one value more asks.
+use Rattle.std.proofs.Common.{◌≡◌, ℕ, suc, zero, ◌+◌, ◌^◌, ◌<◌, ◌≤◌, Bool, true, cond, not, eqb, List, [], ◌∷◌, ◌++◌, length, filter, slice_index, sym, ap, subst, ◌∙◌, arith, append-nil, add-one, eq-eqb, ne_eqb}
+use Rattle.std.proofs.Math.Path.{fun_ext}
+use Rattle.std.specs.Prelude.{option_map, position, is_some}
+use Rattle.std.specs.List.{range_with_len}
+use Rattle.std.proofs.lemmas.List.Elements.{filter-append, All-from_recursion}
+use Rattle.mk_net.specs.declared.words.Pair.{Pair}
+use Rattle.mk_net.specs.declared.sets.VarSet.{VarSet}
+use Rattle.mk_net.specs.Asked.{Asked}
+use Rattle.mk_net.specs.Bounds.{number_limit}
+use Rattle.mk_net.specs.Events.{pairs_asked}
+use Rattle.mk_net.specs.Sets.{is_member}
+use Rattle.mk_net.specs.Network.{Variable, sizes}
+use Rattle.mk_exact.specs.Lawful.{Lawful}
+use Rattle.mk_exact.specs.States.{numbers_below, plus_over}
+use Rattle.mk_exact.specs.Proper.{IsPairOf, IsQuestionOf}
+use Rattle.mk_exact.proofs.Sums.{plus_over-append, list_all-append, each-append}
+use Rattle.mk_sums.proofs.States.{is_plus}
+use Rattle.mk_tree.specs.Given.{GivenTree, home, holds_event}
+use Rattle.mk_engine.specs.Meaning.{Meaning, exact_belief, whole_sum, max_grade, ArePairsOf}
+use Rattle.mk_engine.specs.Beliefs.{IsBelief}
+use Rattle.mk_engine.specs.Cases.{pairs_with, other_values, exact_others}
+use Rattle.mk_engine.proofs.Cases.{others_at_most}
+
+-- a home depends on variables alone
+pub home_with : (t : GivenTree) (asked : Asked) (v : ℕ) → home t (pairs_with asked v) ≡ home t (pairs_asked asked)
+home_with t asked v = ap (λ (has : VarSet → Bool). option_map (λ (k : ℕ). k + 1) (position has t.cliques)) (fun_ext same)
+  where
+    same : (set : VarSet) → holds_event (pairs_with asked v) set ≡ holds_event (pairs_asked asked) set
+    same set =
+        list_all-append (λ (p : Pair). is_member set p.variable) asked.condition (record { variable = asked.target.variable; value = v } ∷ [])
+        ∙ sym (list_all-append (λ (p : Pair). is_member set p.variable) asked.condition (asked.target ∷ []))
+
+pub has_home : (t : GivenTree) (asked : Asked) (v : ℕ) (event : List Pair) → event ≡ pairs_with asked v → is_some (home t (pairs_asked asked)) ≡ true → is_some (home t event) ≡ true
+has_home t asked v event e h = ap (λ (ps : List Pair). is_some (home t ps)) e ∙ ap is_some (home_with t asked v) ∙ h
+
+-- and each pair is one of the network's
+pub pairs_fit : (network : List Variable) (asked : Asked) (v : ℕ) → IsQuestionOf network asked → v < slice_index (sizes network) asked.target.variable
+    → ArePairsOf network (pairs_with asked v)
+pairs_fit network asked v fits l =
+    All-from_recursion (IsPairOf network) (pairs_with asked v)
+    (each-append (IsPairOf network) asked.condition (record { variable = asked.target.variable; value = v } ∷ []) fits.condition
+    (record { variable = fits.target.variable; value = l }, tt))
+
+numbers_more : (a n j : ℕ) → a + n ≡ j → range_with_len a (suc n) ≡ range_with_len a n ++ j ∷ []
+numbers_more a zero j e = let f : a ≡ j = omega arith in ap (λ x. x ∷ []) f
+numbers_more a (suc n) j e = ap (λ xs. a ∷ xs) (numbers_more (a + 1) n j (omega arith))
+
+others_more : (asked : Asked) (v : ℕ) → other_values asked (v + 1) ≡ other_values asked v ++ cond (not (eqb v asked.target.value)) (v ∷ []) []
+others_more asked v =
+    ap (λ n. other_values asked n) (add-one v)
+    ∙ ap (filter (λ w. not (eqb w asked.target.value))) (numbers_more 0 v v (omega arith))
+    ∙ filter-append (λ w. not (eqb w asked.target.value)) (numbers_below v) (v ∷ [])
+
+module _ (plus : ℕ → ℕ → ℕ) (law : Lawful plus) (m : Meaning) (asked : Asked) (v : ℕ) where
+  one_taken : (v ≡ asked.target.value → ⊥) → exact_others plus m asked (v + 1) ≡ plus (exact_others plus m asked v) (exact_belief plus m (pairs_with asked v))
+  one_taken d =
+      ap (plus_over plus 0 (λ w. exact_belief plus m (pairs_with asked w))) (others_more asked v ∙ ap (λ b. other_values asked v ++ cond (not b) (v ∷ []) []) (ne_eqb v asked.target.value d))
+      ∙ plus_over-append plus 0 (is_plus plus law) (λ w. exact_belief plus m (pairs_with asked w)) (other_values asked v) (v ∷ [])
+      ∙ ap (plus (exact_others plus m asked v)) (law.commutes _ 0 ∙ law.neutral _)
+
+  one_skipped : v ≡ asked.target.value → exact_others plus m asked (v + 1) ≡ exact_others plus m asked v
+  one_skipped e =
+      ap (plus_over plus 0 (λ w. exact_belief plus m (pairs_with asked w)))
+      (others_more asked v ∙ ap (λ b. other_values asked v ++ cond (not b) (v ∷ []) []) (eq-eqb v asked.target.value e) ∙ append-nil (other_values asked v))
+
+-- what is found of the values below one encloses the plus of their beliefs, at a grade of one step for each
+pub record IsFound {V : Type 0} (encloses : V → ℕ → Type 0) (has_grade : V → ℕ → Type 0) (is_exact : V → Type 0)
+    (plus : ℕ → ℕ → ℕ) (m : Meaning) (asked : Asked) (v : ℕ) (others : V) : Type 0 where
+  pub value : encloses others (exact_others plus m asked v)
+  pub grade : has_grade others (length m.factors + max_grade + v)
+  pub exact : whole_sum m < number_limit → is_exact others
+
+module _ {V : Type 0} (encloses : V → ℕ → Type 0) (has_grade : V → ℕ → Type 0) (is_exact : V → Type 0) (plus : ℕ → ℕ → ℕ)
+    (grade_more : (x : V) (g h : ℕ) → has_grade x g → g ≤ h → has_grade x h) (m : Meaning) (asked : Asked) where
+  module _ (law : Lawful plus) (v : ℕ) (others : V) (found : IsFound encloses has_grade is_exact plus m asked v others) where
+    pub found_same : v ≡ asked.target.value → IsFound encloses has_grade is_exact plus m asked (v + 1) others
+    found_same e = record {
+      value = subst (encloses others) (sym (one_skipped plus law m asked v e)) found.value;
+      grade = grade_more others (length m.factors + max_grade + v) (length m.factors + max_grade + (v + 1)) found.grade (omega arith);
+      exact = found.exact;
+    }
+
+    module _ (event : List Pair) (belief more : V) (its_pairs : event ≡ pairs_with asked v) (one : IsBelief encloses has_grade is_exact plus m event belief)
+        (value_of : (x y : ℕ) → encloses others x → encloses belief y → encloses more (plus x y))
+        (grade_of : (g : ℕ) → has_grade others g → has_grade belief g → has_grade more (g + 1))
+        (exact_of : (x y : ℕ) → encloses others x → encloses belief y → is_exact others → is_exact belief → plus x y < 2 ^ 63 → is_exact more) where
+      its_value : encloses belief (exact_belief plus m (pairs_with asked v))
+      its_value = subst (λ (e : List Pair). encloses belief (exact_belief plus m e)) its_pairs one.value
+
+      pub found_more : (v ≡ asked.target.value → ⊥) → IsFound encloses has_grade is_exact plus m asked (v + 1) more
+      found_more d = record {
+        value = subst (encloses more) (sym (one_taken plus law m asked v d)) (value_of _ _ found.value its_value);
+        grade = grade_more more (length m.factors + max_grade + v + 1) (length m.factors + max_grade + (v + 1))
+            (grade_of (length m.factors + max_grade + v) found.grade (grade_more belief (length m.factors + max_grade) (length m.factors + max_grade + v) one.grade (omega arith))) (omega arith);
+        exact = λ small. exact_of _ _ found.value its_value (found.exact small) (one.exact small) (within small);
+      }
+        where
+          below_of : (a b c : ℕ) → a ≤ b → b < c → a < c
+          below_of a b c p q = omega arith
+
+          within : whole_sum m < number_limit → plus (exact_others plus m asked v) (exact_belief plus m (pairs_with asked v)) < 2 ^ 63
+          within small =
+              let most = others_at_most plus law m asked (v + 1) in
+              subst (λ n. n < 2 ^ 63) (one_taken plus law m asked v d) (below_of (exact_others plus m asked (v + 1)) (whole_sum m) (2 ^ 63) most small)
