@@ -18,6 +18,17 @@ use Rattle.mk_engine.specs.Cases.{pairs_with, exact_others}
 abbrev pub product_at : Meaning → List ℕ → ℕ
 product_at m s = product_by (λ (f : Factor). factor_there m.network f (value_at s)) m.factors
 
+-- a belief is the plus of these, over the states where the known pairs and the event hold
+pub belief_where : (plus : ℕ → ℕ → ℕ) (m : Meaning) (event : List Pair)
+    → exact_belief plus m event ≡ plus_over plus 0 (product_at m) (filter (λ s. holds m.known s && holds event s) (all_states m.network))
+belief_where plus m event =
+    ap (λ (w : List ℕ → ℕ). plus_over plus 0 w (filter (λ s. holds m.known s && holds event s) (all_states m.network)))
+    (fun_ext (λ s. plus_over-map ◌*◌ 1 (λ (f : (ℕ → ℕ) → ℕ). f (value_at s)) (factor_there m.network) m.factors))
+
+-- what a state adds for a value, if it has this value
+abbrev pub added : Meaning → Asked → List ℕ → ℕ → ℕ
+added m asked s v = cond (not (eqb v asked.target.value)) (cond (holds m.known s && holds asked.condition s) (product_at m s) 0) 0
+
 -- the pairs of an event and one pair more
 pub holds_more : (event : List Pair) (p : Pair) (s : List ℕ) → holds (event ++ p ∷ []) s ≡ (holds event s && has p s)
 holds_more event p s = list_all-append (λ q. has q s) event (p ∷ []) ∙ ap (λ b. holds event s && b) (alone (has p s))
@@ -61,15 +72,10 @@ module _ (plus : ℕ → ℕ → ℕ) (law : Lawful plus) where
   pub belief_by_states : (m : Meaning) (event : List Pair)
       → exact_belief plus m event ≡ plus_over plus 0 (λ s. cond (holds m.known s && holds event s) (product_at m s) 0) (all_states m.network)
   belief_by_states m event =
-      ap (λ (w : List ℕ → ℕ). plus_over plus 0 w (filter (λ s. holds m.known s && holds event s) (all_states m.network)))
-      (fun_ext (λ s. plus_over-map ◌*◌ 1 (λ (f : (ℕ → ℕ) → ℕ). f (value_at s)) (factor_there m.network) m.factors))
+      belief_where plus m event
       ∙ plus_over-filter plus 0 (is_plus plus law) (product_at m) (λ s. holds m.known s && holds event s) (all_states m.network)
 
   module _ (m : Meaning) (asked : Asked) where
-    -- what a state adds for a value, if it has this value
-    abbrev pub added : List ℕ → ℕ → ℕ
-    added s v = cond (not (eqb v asked.target.value)) (cond (holds m.known s && holds asked.condition s) (product_at m s) 0) 0
-
     by_value : (p k h e : Bool) (w : ℕ) → cond p (cond (k && (h && e)) w 0) 0 ≡ cond e (cond p (cond (k && h) w 0) 0) 0
     by_value false k h false w = refl
     by_value false k h true w = refl
@@ -81,7 +87,7 @@ module _ (plus : ℕ → ℕ → ℕ) (law : Lawful plus) where
     by_value true true true true w = refl
 
     in_value : (v : ℕ) → cond (not (eqb v asked.target.value)) (exact_belief plus m (pairs_with asked v)) 0
-        ≡ plus_over plus 0 (λ s. cond (eqb (value_at s asked.target.variable) v) (added s v) 0) (all_states m.network)
+        ≡ plus_over plus 0 (λ s. cond (eqb (value_at s asked.target.variable) v) (added m asked s v) 0) (all_states m.network)
     in_value v =
         ap (λ n. cond (not (eqb v asked.target.value)) n 0) (belief_by_states m (pairs_with asked v))
         ∙ plus_over-cond plus 0 (is_plus plus law) (not (eqb v asked.target.value)) (λ s. cond (holds m.known s && holds (pairs_with asked v) s) (product_at m s) 0) (all_states m.network)
@@ -91,13 +97,13 @@ module _ (plus : ℕ → ℕ → ℕ) (law : Lawful plus) where
 
     -- each state adds for its own value of the variable, where this is below so many
     pub others_by_states : (k : ℕ) → exact_others plus m asked k
-        ≡ plus_over plus 0 (λ s. plus_over plus 0 (λ v. cond (eqb (value_at s asked.target.variable) v) (added s v) 0) (numbers_below k)) (all_states m.network)
+        ≡ plus_over plus 0 (λ s. plus_over plus 0 (λ v. cond (eqb (value_at s asked.target.variable) v) (added m asked s v) 0) (numbers_below k)) (all_states m.network)
     others_by_states k =
         plus_over-filter plus 0 (is_plus plus law) (λ v. exact_belief plus m (pairs_with asked v)) (λ v. not (eqb v asked.target.value)) (numbers_below k)
         ∙ ap (λ (f : ℕ → ℕ). plus_over plus 0 f (numbers_below k)) (fun_ext in_value)
-        ∙ plus_over-swap plus 0 (is_plus plus law) (λ v s. cond (eqb (value_at s asked.target.variable) v) (added s v) 0) (numbers_below k) (all_states m.network)
+        ∙ plus_over-swap plus 0 (is_plus plus law) (λ v s. cond (eqb (value_at s asked.target.variable) v) (added m asked s v) 0) (numbers_below k) (all_states m.network)
 
-    added_at_most : (s : List ℕ) (v : ℕ) → added s v ≤ product_at m s
+    added_at_most : (s : List ℕ) (v : ℕ) → added m asked s v ≤ product_at m s
     added_at_most s v = at (not (eqb v asked.target.value)) (holds m.known s && holds asked.condition s) (product_at m s)
       where
         at : (a b : Bool) (w : ℕ) → cond a (cond b w 0) 0 ≤ w
@@ -105,16 +111,16 @@ module _ (plus : ℕ → ℕ → ℕ) (law : Lawful plus) where
         at true false w = omega arith
         at false b w = omega arith
 
-    once : (k : ℕ) (s : List ℕ) → plus_over plus 0 (λ v. cond (eqb (value_at s asked.target.variable) v) (added s v) 0) (numbers_below k) ≤ product_at m s
+    once : (k : ℕ) (s : List ℕ) → plus_over plus 0 (λ v. cond (eqb (value_at s asked.target.variable) v) (added m asked s v) 0) (numbers_below k) ≤ product_at m s
     once k s = at (cases_lt (value_at s asked.target.variable) k)
       where
         at : ((value_at s asked.target.variable < k) ⊎ (k ≤ value_at s asked.target.variable))
-            → plus_over plus 0 (λ v. cond (eqb (value_at s asked.target.variable) v) (added s v) 0) (numbers_below k) ≤ product_at m s
-        at (inl l) = subst (λ n. n ≤ product_at m s) (sym (plus_over_at plus 0 (is_plus plus law) (added s) k 0 (value_at s asked.target.variable) (omega arith) (omega arith)))
+            → plus_over plus 0 (λ v. cond (eqb (value_at s asked.target.variable) v) (added m asked s v) 0) (numbers_below k) ≤ product_at m s
+        at (inl l) = subst (λ n. n ≤ product_at m s) (sym (plus_over_at plus 0 (is_plus plus law) (added m asked s) k 0 (value_at s asked.target.variable) (omega arith) (omega arith)))
             (added_at_most s (value_at s asked.target.variable))
-        at (inr g) = subst (λ n. n ≤ product_at m s) (sym (plus_over_past plus 0 (is_plus plus law) (added s) k 0 (value_at s asked.target.variable) (omega arith))) (omega arith)
+        at (inr g) = subst (λ n. n ≤ product_at m s) (sym (plus_over_past plus 0 (is_plus plus law) (added m asked s) k 0 (value_at s asked.target.variable) (omega arith))) (omega arith)
 
     -- so together they are at most the sum of all states
     pub others_at_most : (k : ℕ) → exact_others plus m asked k ≤ whole_sum m
     others_at_most k = subst (λ n. n ≤ whole_sum m) (sym (others_by_states k))
-        (plus_over_at_most (λ s. plus_over plus 0 (λ v. cond (eqb (value_at s asked.target.variable) v) (added s v) 0) (numbers_below k)) (product_at m) (once k) (all_states m.network))
+        (plus_over_at_most (λ s. plus_over plus 0 (λ v. cond (eqb (value_at s asked.target.variable) v) (added m asked s v) 0) (numbers_below k)) (product_at m) (once k) (all_states m.network))

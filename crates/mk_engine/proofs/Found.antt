@@ -1,6 +1,7 @@
 -- What is found after some of the values, and what a call for one value more asks.
 use Rattle.std.proofs.Common.{◌≡◌, ℕ, suc, zero, ◌+◌, ◌^◌, ◌<◌, ◌≤◌, Bool, true, cond, not, eqb, List, [], ◌∷◌, ◌++◌, length, filter, slice_index, sym, ap, subst, ◌∙◌, arith, append-nil, add-one, eq-eqb, ne_eqb}
 use Rattle.std.proofs.Math.Path.{fun_ext}
+use Rattle.std.proofs.Math.Nat.{lt_of_le_of_lt}
 use Rattle.std.specs.Prelude.{option_map, position, is_some}
 use Rattle.std.specs.List.{range_with_len}
 use Rattle.std.proofs.lemmas.List.Elements.{filter-append, All-from_recursion}
@@ -96,10 +97,7 @@ module _ {V : Type 0} (encloses : V → ℕ → Type 0) (has_grade : V → ℕ �
         exact = λ small. exact_of _ _ found.value its_value (found.exact small) (one.exact small) (within small);
       }
         where
-          below_of : (a b c : ℕ) → a ≤ b → b < c → a < c
-          below_of a b c p q = omega arith
-
           within : whole_sum m < number_limit → plus (exact_others plus m asked v) (exact_belief plus m (pairs_with asked v)) < 2 ^ 63
           within small =
               let most = others_at_most plus law m asked (v + 1) in
-              subst (λ n. n < 2 ^ 63) (one_taken plus law m asked v d) (below_of (exact_others plus m asked (v + 1)) (whole_sum m) (2 ^ 63) most small)
+              subst (λ n. n < 2 ^ 63) (one_taken plus law m asked v d) (lt_of_le_of_lt most small)

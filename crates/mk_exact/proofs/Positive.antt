@@ -71,7 +71,7 @@ shares_positive network net = All-from_recursion (HasShares network) (all_states
     (each_weaker (IsState (sizes network)) (HasShares network) (λ s is_state. record { shares = share_bounds network net s is_state; weight = initial_weight_pos network net s is_state }) (all_states network) (states_are (sizes network)))
 
 -- a trade in range has units for each state
-ratio_pos : (network : List Variable) (joined : ℕ) (s : List ℕ) → IsState (sizes network) s → (t : UserTrade) → IsTradeOf network joined t → 1 ≤ ratio_at t.ratio s
+pub ratio_pos : (network : List Variable) (joined : ℕ) (s : List ℕ) → IsState (sizes network) s → (t : UserTrade) → IsTradeOf network joined t → 1 ≤ ratio_at t.ratio s
 ratio_pos network joined s is_state t h = either (holds t.ratio.condition s) (All-from_recursion (λ units. 1 ≤ units) t.ratio.factors h.ratio.positive (value_at s t.ratio.variable) 0 inside)
   where
     inside : value_at s t.ratio.variable < length t.ratio.factors

@@ -1,0 +1,4 @@
+pub mod Exact
+pub mod Weighed
+pub mod Gained
+pub mod Grown
