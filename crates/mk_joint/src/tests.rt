@@ -6,7 +6,7 @@ ghost use Rattle.mk_net.specs.Trades.{trade_ratio};
 ghost use Rattle.mk_engine.specs.Meaning.{RowsOf, opening, with_factor};
 
 use crate::JointEngine;
-use mk_engine::Engine;
+use mk_engine::{Engine, belief_of_others};
 use mk_net::{Draft, Event, Network, NoMemory, Pair, Question, Ratio, VarSet, VariableDraft};
 use mk_semiring::{Held, MinProd, Semiring, SumProd};
 use mk_tree::Tree;
@@ -137,6 +137,25 @@ fn when_traded<R: Semiring>(
     Ok(engine.belief(&Event::empty()))
 }
 
+/// Whether the season is wet.
+fn wet(rt: &impl Abort) -> Question
+    ensures { result ≡ record { target = WET; condition = [] } }
+{
+    Question::make(WET, Event::empty()).expect(rt, "a question")
+}
+
+/// The belief in the other season.
+fn other_season<R: Semiring>(
+    rt: &impl Abort,
+    alloc: Global,
+    weather: &Weather,
+) -> Result<R::Value, Fail> {
+    let mut engine = weighed::<R>(alloc, weather)?;
+    let asked = wet(rt);
+    assert!(rt; weather.tree.home(&asked.event()).is_some());
+    Ok(belief_of_others::<R, JointEngine<R>>(&mut engine, &asked, 2))
+}
+
 /// Stops unless the value is this number, exactly.
 fn check(rt: &impl Abort, held: &Held, n: u64) {
     match held {
@@ -166,6 +185,8 @@ fn sums(rt: HostRuntime) -> Result<(), Fail> {
     check(&rt, &all, 400_000_000_000);
     let traded = when_traded::<SumProd>(&rt, alloc, &weather)?;
     check(&rt, &traded, 920_000_000_000);
+    let dry = other_season::<SumProd>(&rt, alloc, &weather)?;
+    check(&rt, &dry, 600_000_000_000);
     Ok(())
 }
 
@@ -181,5 +202,7 @@ fn minima(rt: HostRuntime) -> Result<(), Fail> {
     check(&rt, &all, 120_000_000_000);
     let traded = when_traded::<MinProd>(&rt, alloc, &weather)?;
     check(&rt, &traded, 360_000_000_000);
+    let dry = other_season::<MinProd>(&rt, alloc, &weather)?;
+    check(&rt, &dry, 60_000_000_000);
     Ok(())
 }
