@@ -1,13 +1,15 @@
 -- The total of the cells where an event holds is the exact belief.
-use Rattle.std.proofs.Common.{◌≡◌, ℕ, ◌+◌, ◌*◌, ◌≤◌, Bool, true, false, cond, ◌&&◌, List, map, length, filter, sum_by, refl, sym, ap, subst, ◌∙◌, arith}
+use Rattle.std.proofs.Common.{◌≡◌, ℕ, ◌+◌, ◌*◌, ◌<◌, ◌≤◌, Bool, true, false, cond, ◌&&◌, List, [], ◌∷◌, map, length, filter, refl, sym, ap, subst, ◌∙◌, arith}
 use Rattle.std.proofs.Math.Path.{fun_ext}
 use Rattle.mk_net.specs.declared.words.Pair.{Pair}
-use Rattle.mk_net.specs.Bounds.{max_clique_cells}
+use Rattle.mk_net.specs.Bounds.{max_clique_cells, number_limit}
 use Rattle.mk_exact.specs.States.{plus_over, product_by, numbers_below}
 use Rattle.mk_exact.specs.InitialWeight.{all_states, value_at}
 use Rattle.mk_exact.specs.Events.{holds}
 use Rattle.mk_exact.specs.Lawful.{Lawful}
-use Rattle.mk_exact.proofs.Sums.{plus_over-filter, plus_over-map, sum_by_is, sum_by-filter}
+use Rattle.mk_exact.proofs.Sums.{plus_over-filter, plus_over-map}
+use Rattle.mk_cell.specs.Cell.{StandsAt}
+use Rattle.mk_cell.specs.inner.Laws.{stands_with_more}
 use Rattle.mk_sums.specs.Sums.{plus_below}
 use Rattle.mk_sums.specs.There.{holds_there}
 use Rattle.mk_sums.proofs.Bounds.{sum_grows}
@@ -15,7 +17,7 @@ use Rattle.mk_sums.proofs.States.{is_plus, plus_below_numbers}
 use Rattle.mk_sums.proofs.Grades.{sums_lawful}
 use Rattle.mk_table.specs.Scopes.{ScopeOf, cells_in}
 use Rattle.mk_table.specs.Cells.{values_at, cells_where}
-use Rattle.mk_table.specs.Tables.{TableOf, IsPlusOver}
+use Rattle.mk_table.specs.Tables.{TableOf, HasNumbers}
 use Rattle.mk_engine.specs.Meaning.{Meaning, factor_there, exact_belief, whole_sum, max_grade}
 use Rattle.mk_engine.specs.Beliefs.{IsBelief}
 use Rattle.mk_joint.specs.inner.Joints.{whole_scope, joint_there, HasJoint}
@@ -54,41 +56,56 @@ module _ (plus : ℕ → ℕ → ℕ) (law : Lawful plus) (m : Meaning) (event :
   pub belief_is : (scope : ScopeOf) → scope ≡ whole_scope m.network → plus_over plus 0 (λ c. joint_there m (values_at scope c)) (cells_where scope event) ≡ exact_belief plus m event
   belief_is scope e = subst (λ (s : ScopeOf). plus_over plus 0 (λ c. joint_there m (values_at s c)) (cells_where s event) ≡ exact_belief plus m event) (sym e) (sym in_cells)
 
+-- a plus is at most the sum
+plus_at_most : (plus : ℕ → ℕ → ℕ) → Lawful plus → (f : ℕ → ℕ) (xs : List ℕ) → plus_over plus 0 f xs ≤ plus_over ◌+◌ 0 f xs
+plus_at_most plus law f [] = omega arith
+plus_at_most plus law f (x ∷ xs) = let p = plus_at_most plus law f xs in let q = law.bounded (f x) (plus_over plus 0 f xs) in omega (arith, p, q)
+
 -- the cells where an event holds add up to at most the whole sum
 module _ (m : Meaning) (event : List Pair) where
   added_at_most : (b : Bool) (a : ℕ → ℕ) → cond b (joint_there m a) 0 ≤ product_there m a
   added_at_most true a = joint_at_most m a
   added_at_most false a = omega arith
 
-  whole_at_most : sum_by (λ c. joint_there m (values_at (whole_scope m.network) c)) (cells_where (whole_scope m.network) event) ≤ whole_sum m
+  whole_at_most : plus_over ◌+◌ 0 (λ c. joint_there m (values_at (whole_scope m.network) c)) (cells_where (whole_scope m.network) event) ≤ whole_sum m
   whole_at_most =
       let n = cells_in (whole_scope m.network) in
       let chosen : ℕ → Bool = λ c. holds_there event (values_at (whole_scope m.network) c) in
       let f : ℕ → ℕ = λ c. joint_there m (values_at (whole_scope m.network) c) in
       let g : ℕ → ℕ = λ c. cond (chosen c) (f c) 0 in
-      let e : sum_by f (filter chosen (numbers_below n)) ≡ plus_below ◌+◌ n g =
-      sum_by-filter f chosen (numbers_below n) ∙ sum_by_is g (numbers_below n) ∙ sym (plus_below_numbers ◌+◌ sums_lawful g n) in
+      let e : plus_over ◌+◌ 0 f (filter chosen (numbers_below n)) ≡ plus_below ◌+◌ n g =
+      plus_over-filter ◌+◌ 0 (is_plus ◌+◌ sums_lawful) f chosen (numbers_below n) ∙ sym (plus_below_numbers ◌+◌ sums_lawful g n) in
       let p = sum_grows n g (λ c. product_there m (values_at (whole_scope m.network) c)) (λ c l. added_at_most (chosen c) (values_at (whole_scope m.network) c)) in
       omega (arith, e, p, whole_is m)
 
-  pub total_at_most : (scope : ScopeOf) → scope ≡ whole_scope m.network → sum_by (λ c. joint_there m (values_at scope c)) (cells_where scope event) ≤ whole_sum m
-  total_at_most scope e = subst (λ (s : ScopeOf). sum_by (λ c. joint_there m (values_at s c)) (cells_where s event) ≤ whole_sum m) (sym e) whole_at_most
+  pub total_at_most : (plus : ℕ → ℕ → ℕ) → Lawful plus → (scope : ScopeOf) → scope ≡ whole_scope m.network
+      → plus_over plus 0 (λ c. joint_there m (values_at scope c)) (cells_where scope event) ≤ whole_sum m
+  total_at_most plus law scope e =
+      let p = plus_at_most plus law (λ c. joint_there m (values_at scope c)) (cells_where scope event) in
+      let q = subst (λ (s : ScopeOf). plus_over ◌+◌ 0 (λ c. joint_there m (values_at s c)) (cells_where s event) ≤ whole_sum m) (sym e) whole_at_most in
+      omega (arith, p, q)
 
-module _ {V : Type 0} (encloses : V → ℕ → Type 0) (has_grade : V → ℕ → Type 0) (is_exact : V → Type 0) (plus : ℕ → ℕ → ℕ)
-    (grade_more : (x : V) (g h : ℕ) → has_grade x g → g ≤ h → has_grade x h) where
-  pub belief_grade : (table : TableOf V) (m : Meaning) (event : List Pair) (r : V)
-      → IsPlusOver encloses has_grade is_exact plus table.values (cells_where table.scope event) r → HasJoint encloses has_grade is_exact table m
-      → has_grade r (length m.factors + max_clique_cells)
-  belief_grade table m event r total h =
-      grade_more r (length m.factors + length table.values) (length m.factors + max_clique_cells) (total.grade (length m.factors) h.grade) (omega (arith, h.few_cells))
+-- the total of a table that has a joint
+module _ (plus : ℕ → ℕ → ℕ) (table : TableOf) (count : ℕ) (m : Meaning) (event : List Pair) (h : HasJoint table count m) where
+  abbrev pub totalled : ℕ
+  totalled = plus_over plus 0 (λ c. joint_there m (values_at table.scope c)) (cells_where table.scope event)
 
-  pub belief_of : Lawful plus → (table : TableOf V) (m : Meaning) (event : List Pair) (r : V)
-      → IsPlusOver encloses has_grade is_exact plus table.values (cells_where table.scope event) r → HasJoint encloses has_grade is_exact table m
-      → IsBelief encloses has_grade is_exact plus m event r
-  belief_of law table m event r total h = record {
-    value = subst (encloses r) (belief_is plus law m event table.scope h.scope) (total.value (λ c. joint_there m (values_at table.scope c)) h.value);
-    grade = grade_more r (length m.factors + max_clique_cells) (length m.factors + max_grade) (belief_grade table m event r total h) (omega arith);
-    exact = λ small.
-        total.exact (λ c. joint_there m (values_at table.scope c)) h.value (λ k d l e p. h.exact small _ e p)
-        (let t = total_at_most m event table.scope h.scope in omega (arith, t, small));
-  }
+  pub total_stands : (digits exponent : ℕ)
+      → ((f : ℕ → ℕ) (n : ℕ) → HasNumbers table f n → StandsAt table.shift digits exponent (plus_over plus 0 f (cells_where table.scope event)) (n + 2 * cells_in table.scope))
+      → StandsAt table.shift digits exponent totalled (3 * (count + max_clique_cells))
+  total_stands digits exponent total =
+      stands_with_more table.shift digits exponent totalled (length m.factors + 2 * cells_in table.scope) (3 * (count + max_clique_cells)) (omega (arith, h.counted, h.few_cells))
+      (total (λ c. joint_there m (values_at table.scope c)) (length m.factors) h.numbers)
+
+  module _ {V : Type 0} (encloses : V → ℕ → Type 0) (has_grade : V → ℕ → Type 0) (is_exact : V → Type 0)
+      (grade_more : (x : V) (g h : ℕ) → has_grade x g → g ≤ h → has_grade x h) where
+    pub belief_grade : (r : V) → has_grade r (count + max_clique_cells) → has_grade r (length m.factors + max_clique_cells)
+    belief_grade r g = grade_more r (count + max_clique_cells) (length m.factors + max_clique_cells) g (omega (arith, h.counted))
+
+    pub belief_of : Lawful plus → (r : V) → encloses r totalled → has_grade r (count + max_clique_cells) → (totalled < number_limit → is_exact r)
+        → IsBelief encloses has_grade is_exact plus m event r
+    belief_of law r value grade exact = record {
+      value = subst (encloses r) (belief_is plus law m event table.scope h.scope) value;
+      grade = grade_more r (length m.factors + max_clique_cells) (length m.factors + max_grade) (belief_grade r grade) (omega arith);
+      exact = λ small. exact (let t = total_at_most m event plus law table.scope h.scope in omega (arith, t, small));
+    }

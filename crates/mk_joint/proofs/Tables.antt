@@ -1,10 +1,10 @@
 -- What the calls of a table do to the joint that it has.
-use Rattle.std.proofs.Common.{◌≡◌, ℕ, ◌+◌, ◌<◌, ◌≤◌, ◌⊎◌, inl, inr, true, List, length, slice_index, slice_index_or, All, sym, ap, subst, ◌∙◌, arith}
-use Rattle.std.proofs.lemmas.Bool.{cases_eq}
+use Rattle.std.proofs.Common.{◌≡◌, ℕ, ◌+◌, ◌*◌, ◌<◌, ◌≤◌, ◌==◌, true, if◌then◌else◌, List, length, slice_index, slice_index_or, All, refl, sym, ap, subst, ◌∙◌, arith}
+use Rattle.std.proofs.Math.Path.{fun_ext}
 use Rattle.std.proofs.lemmas.List.{length_push}
 use Rattle.std.proofs.lemmas.List.Elements.{All-push, All-weaker, All-from_recursion, All-nil}
 use Rattle.mk_net.specs.declared.words.Pair.{Pair}
-use Rattle.mk_net.specs.Bounds.{max_clique_cells, number_limit}
+use Rattle.mk_net.specs.Bounds.{max_clique_cells}
 use Rattle.mk_net.specs.Network.{Variable, sizes, IsNetwork}
 use Rattle.mk_net.specs.Named.{variable_at, nobody}
 use Rattle.mk_net.specs.Asked.{TradeRatio, ratio_pairs}
@@ -15,11 +15,11 @@ use Rattle.mk_exact.proofs.Positive.{size_at}
 use Rattle.mk_tree.specs.Given.{GivenTree}
 use Rattle.mk_table.specs.Scopes.{ScopeOf, cells_in, has_variable, HasEvent, HasOneEach, HasSized}
 use Rattle.mk_table.specs.Cells.{values_at}
-use Rattle.mk_table.specs.Tables.{TableOf, HaveRoom, IsOne, IsAbsent, IsTimesWhole, EachCell}
-use Rattle.mk_engine.specs.Meaning.{Meaning, Factor, opening, with_factor, with_known, factor_there, whole_sum, max_factors, ArePairsOf}
+use Rattle.mk_table.specs.Tables.{TableOf, HasNumbers, HasRoom}
+use Rattle.mk_engine.specs.Meaning.{Meaning, Factor, opening, with_factor, with_known, factor_there, max_factors, ArePairsOf}
 use Rattle.mk_joint.specs.inner.Joints.{whole_scope, joint_there, IsFactorOf, IsPlanFor, HasJoint}
 use Rattle.mk_joint.proofs.Cells.{has_all, has_sized, states_counted}
-use Rattle.mk_joint.proofs.Factors.{sized_parents, joint_more, joint_kept, joint_gone, cell_at_most, whole_grows}
+use Rattle.mk_joint.proofs.Factors.{sized_parents, joint_more, joint_known}
 
 -- two networks of one scope have the same sizes, and so the same pairs and ratios
 pub same_sizes : (a b : List Variable) (scope : ScopeOf) → scope ≡ whole_scope a → scope ≡ whole_scope b → sizes a ≡ sizes b
@@ -63,87 +63,63 @@ pairs_of_ratio network legal ratio h =
 pub has_one_each : (network : List Variable) (scope : ScopeOf) → scope ≡ whole_scope network → (ratio : TradeRatio) → IsRatioOf network ratio → HasOneEach scope ratio
 has_one_each network scope e ratio h = h.one_each ∙ sym (sized_in network scope e ratio.variable h.variable).sized
 
-module _ {V : Type 0} (encloses : V → ℕ → Type 0) (has_grade : V → ℕ → Type 0) (is_exact : V → Type 0)
-    (grade_more : (x : V) (g h : ℕ) → has_grade x g → g ≤ h → has_grade x h) where
-  -- a table that has a joint is in range
-  pub has_room : (table : TableOf V) (m : Meaning) → HasJoint encloses has_grade is_exact table m → (room : ℕ) → room ≤ max_clique_cells → HaveRoom encloses has_grade is_exact table.values room
-  has_room table m h room l = record { grade = max_factors; graded = h.room; fits = omega arith }
+-- a table that has a joint has room for a belief
+pub has_room : (table : TableOf) (count : ℕ) (m : Meaning) → HasJoint table count m → (more : ℕ) → more ≤ 2 * max_clique_cells → HasRoom table more
+has_room table count m h more l = record {
+  numbers = λ c. joint_there m (values_at table.scope c);
+  steps = length m.factors;
+  has = h.numbers;
+  few_steps = omega (arith, h.counted, h.room.few_factors);
+  small_shift = omega (arith, h.room.few_factors, h.room.small_shift);
+}
 
-  -- a table of ones has the joint of no factors
-  pub begins : (table : TableOf V) (plan : ScopeOf) (network : List Variable) (tree : GivenTree) → IsPlanFor plan network → table.scope ≡ plan → length table.values ≡ cells_in plan
-      → All (IsOne encloses has_grade is_exact) table.values → HasJoint encloses has_grade is_exact table (opening network tree)
-  begins table plan network tree p scope long ones = record {
-    legal = p.legal;
-    scope = scope ∙ p.scope;
-    one_each = long ∙ ap cells_in (sym scope);
-    few_cells = let e = ap cells_in p.scope in omega (arith, long, e, states_counted network, p.few_states);
-    factors = All-nil (IsFactorOf network);
-    known = All-nil (IsPairOf network);
-    room = λ c d l. grade_more (slice_index_or table.values c d) 0 max_factors (ones c d l).grade (omega arith);
-    value = λ c d l. (ones c d l).value;
-    grade = λ c d l. (ones c d l).grade;
-    exact = λ s c d l. (ones c d l).exact;
-  }
+-- a table of ones has the joint of no factors
+pub begins : (table : TableOf) (plan : ScopeOf) (network : List Variable) (tree : GivenTree) → IsPlanFor plan network → table.scope ≡ plan → table.shift ≡ 0
+    → HasNumbers table (λ c. 1) 0 → HasJoint table 0 (opening network tree)
+begins table plan network tree p scope shift ones = record {
+  legal = p.legal;
+  scope = scope ∙ p.scope;
+  few_cells = let e = ap cells_in (scope ∙ p.scope) in omega (arith, e, states_counted network, p.few_states);
+  factors = All-nil (IsFactorOf network);
+  known = All-nil (IsPairOf network);
+  counted = refl;
+  room = record { few_factors = omega arith; small_shift = omega arith };
+  numbers = ones;
+}
 
-  -- a factor more, at each meaning of the table, where one of them has fewer factors than the most
-  pub factor_more : (old new : TableOf V) (m : Meaning) (f : Factor) → HasJoint encloses has_grade is_exact old m → IsFactorOf m.network f
-      → (few : Meaning) → HasJoint encloses has_grade is_exact old few → length few.factors < max_factors → new.scope ≡ old.scope
-      → EachCell (λ c x r. IsTimesWhole encloses has_grade is_exact x (factor_there m.network f (values_at old.scope c)) r) old.values new.values
-      → HasJoint encloses has_grade is_exact new (with_factor f m)
-  factor_more old new m f h fits few other room scope each = record {
-    legal = h.legal;
-    scope = scope ∙ h.scope;
-    one_each = each.0 ∙ h.one_each ∙ ap cells_in (sym scope);
-    few_cells = omega (arith, each.0, h.few_cells);
-    factors = All-push (IsFactorOf m.network) m.factors f h.factors fits;
-    known = h.known;
-    room = λ c d l. grade_more (slice_index_or new.values c d) (length few.factors + 1) max_factors ((each.1 c d (below c l)).grade (length few.factors) (other.grade c d (below c l))) (omega arith);
-    value = λ c d l. subst (λ (s : ScopeOf). encloses (slice_index_or new.values c d) (joint_there (with_factor f m) (values_at s c))) (sym scope)
-        (subst (encloses (slice_index_or new.values c d)) (sym (joint_more m f (values_at old.scope c))) ((each.1 c d (below c l)).value (joint_there m (values_at old.scope c)) (h.value c d (below c l))));
-    grade = λ c d l. subst (has_grade (slice_index_or new.values c d)) (sym (length_push m.factors f)) ((each.1 c d (below c l)).grade (length m.factors) (h.grade c d (below c l)));
-    exact = λ small c d l.
-        (each.1 c d (below c l)).exact (joint_there m (values_at old.scope c)) (h.value c d (below c l))
-        (h.exact (let g = whole_grows m f h.legal fits in omega (arith, g, small)) c d (below c l))
-        (let t = cell_at_most (with_factor f m) old.scope h.scope c (let b = below c l in omega (arith, b, h.one_each)) in omega (arith, t, small, joint_more m f (values_at old.scope c)));
-  }
-    where
-      below : (c : ℕ) → c < length new.values → c < length old.values
-      below c l = omega (arith, each.0)
+-- a factor more, at each meaning of the table
+pub factor_more : (old new : TableOf) (count : ℕ) (m : Meaning) (f : Factor) → HasJoint old count m → IsFactorOf m.network f → count < max_factors
+    → new.scope ≡ old.scope → new.shift ≤ old.shift + 40
+    → HasNumbers new (λ c. joint_there m (values_at old.scope c) * factor_there m.network f (values_at old.scope c)) (length m.factors + 1)
+    → HasJoint new (count + 1) (with_factor f m)
+factor_more old new count m f h fits few scope shift numbers = record {
+  legal = h.legal;
+  scope = scope ∙ h.scope;
+  few_cells = subst (λ (s : ScopeOf). cells_in s ≤ max_clique_cells) (sym scope) h.few_cells;
+  factors = All-push (IsFactorOf m.network) m.factors f h.factors fits;
+  known = h.known;
+  counted = length_push m.factors f ∙ ap (λ n. n + 1) h.counted;
+  room = record { few_factors = omega arith; small_shift = omega (arith, h.room.small_shift) };
+  numbers =
+      subst (λ (s : ScopeOf). HasNumbers new (λ c. joint_there (with_factor f m) (values_at s c)) (length (with_factor f m).factors)) (sym scope)
+      (subst (λ n. HasNumbers new (λ c. joint_there (with_factor f m) (values_at old.scope c)) n) (sym (length_push m.factors f))
+      (subst (λ (g : ℕ → ℕ). HasNumbers new g (length m.factors + 1)) (sym (fun_ext (λ c. joint_more m f (values_at old.scope c)))) numbers));
+}
 
-  -- a known pair more
-  pub known_more : (old new : TableOf V) (m : Meaning) (p : Pair) → HasJoint encloses has_grade is_exact old m → IsPairOf m.network p → new.scope ≡ old.scope
-      → EachCell (λ c x r. (values_at old.scope c p.variable ≡ p.value → r ≡ x) × ((values_at old.scope c p.variable ≡ p.value → ⊥) → IsAbsent encloses has_grade is_exact r)) old.values new.values
-      → HasJoint encloses has_grade is_exact new (with_known p m)
-  known_more old new m p h fits scope each = record {
-    legal = h.legal;
-    scope = scope ∙ h.scope;
-    one_each = each.0 ∙ h.one_each ∙ ap cells_in (sym scope);
-    few_cells = omega (arith, each.0, h.few_cells);
-    factors = h.factors;
-    known = All-push (IsPairOf m.network) m.known p h.known fits;
-    room = λ c d l. graded c d l max_factors (h.room c d (below c l)) (cases_eq (values_at old.scope c p.variable) p.value);
-    value = λ c d l. subst (λ (s : ScopeOf). encloses (slice_index_or new.values c d) (joint_there (with_known p m) (values_at s c))) (sym scope)
-        (valued c d l (cases_eq (values_at old.scope c p.variable) p.value));
-    grade = λ c d l. graded c d l (length m.factors) (h.grade c d (below c l)) (cases_eq (values_at old.scope c p.variable) p.value);
-    exact = λ small c d l. exactly c d l small (cases_eq (values_at old.scope c p.variable) p.value);
-  }
-    where
-      below : (c : ℕ) → c < length new.values → c < length old.values
-      below c l = omega (arith, each.0)
-
-      graded : (c : ℕ) (d : V) (l : c < length new.values) (g : ℕ) → has_grade (slice_index_or old.values c d) g
-          → ((values_at old.scope c p.variable ≡ p.value) ⊎ (values_at old.scope c p.variable ≡ p.value → ⊥)) → has_grade (slice_index_or new.values c d) g
-      graded c d l g k (inl e) = subst (λ y. has_grade y g) (sym ((each.1 c d (below c l)).0 e)) k
-      graded c d l g k (inr n) = grade_more (slice_index_or new.values c d) 0 g ((each.1 c d (below c l)).1 n).grade (omega arith)
-
-      valued : (c : ℕ) (d : V) (l : c < length new.values)
-          → ((values_at old.scope c p.variable ≡ p.value) ⊎ (values_at old.scope c p.variable ≡ p.value → ⊥))
-          → encloses (slice_index_or new.values c d) (joint_there (with_known p m) (values_at old.scope c))
-      valued c d l (inl e) = subst (encloses (slice_index_or new.values c d)) (joint_kept m p (values_at old.scope c) e)
-          (subst (λ y. encloses y (joint_there m (values_at old.scope c))) (sym ((each.1 c d (below c l)).0 e)) (h.value c d (below c l)))
-      valued c d l (inr n) = subst (encloses (slice_index_or new.values c d)) (joint_gone m p (values_at old.scope c) n) ((each.1 c d (below c l)).1 n).value
-
-      exactly : (c : ℕ) (d : V) (l : c < length new.values) → whole_sum m < number_limit
-          → ((values_at old.scope c p.variable ≡ p.value) ⊎ (values_at old.scope c p.variable ≡ p.value → ⊥)) → is_exact (slice_index_or new.values c d)
-      exactly c d l small (inl e) = subst is_exact (sym ((each.1 c d (below c l)).0 e)) (h.exact small c d (below c l))
-      exactly c d l small (inr n) = ((each.1 c d (below c l)).1 n).exact
+-- a known pair more
+pub known_more : (old new : TableOf) (count : ℕ) (m : Meaning) (p : Pair) → HasJoint old count m → IsPairOf m.network p
+    → new.scope ≡ old.scope → new.shift ≡ old.shift
+    → HasNumbers new (λ c. if values_at old.scope c p.variable == p.value then joint_there m (values_at old.scope c) else 0) (length m.factors)
+    → HasJoint new count (with_known p m)
+known_more old new count m p h fits scope shift numbers = record {
+  legal = h.legal;
+  scope = scope ∙ h.scope;
+  few_cells = subst (λ (s : ScopeOf). cells_in s ≤ max_clique_cells) (sym scope) h.few_cells;
+  factors = h.factors;
+  known = All-push (IsPairOf m.network) m.known p h.known fits;
+  counted = h.counted;
+  room = record { few_factors = h.room.few_factors; small_shift = omega (arith, h.room.small_shift) };
+  numbers =
+      subst (λ (s : ScopeOf). HasNumbers new (λ c. joint_there (with_known p m) (values_at s c)) (length m.factors)) (sym scope)
+      (subst (λ (g : ℕ → ℕ). HasNumbers new g (length m.factors)) (fun_ext (λ c. joint_known m p (values_at old.scope c))) numbers);
+}

@@ -14,44 +14,54 @@ use mk_semiring::Semiring;
 use mk_table::{Scope, Table};
 use mk_tree::Tree;
 use std::alloc::Global;
+use std::rc::Rc;
 
-/// An engine with one value for each joint state of a network. It suits networks of no more joint states than a
+/// The most cells of a clique. A belief costs at most three steps for each.
+const MAX_CELLS: u32 = 4_096;
+
+/// An engine with one cell for each joint state of a network. It suits networks of no more joint states than a
 /// clique may have cells, 4,096, and can answer each event.
+///
+/// It counts its factors, since each costs its table a step, and a belief's grade is made of that count.
 #[derive(Drop)]
 pub struct JointEngine<R: Semiring> {
     table: Table<R>,
+    factors: u32,
 }
 
 impl<R: Semiring> Engine<R> for JointEngine<R> {
-    type Plan = Scope;
+    type Plan = Rc<Scope>;
 
     ghost suits = { λ network tree. joint_states network ≤ max_clique_cells };
 
-    ghost plan_for = { λ plan network tree. IsPlanFor plan network };
+    ghost plan_for = { λ plan network tree. IsPlanFor plan.value network };
 
-    ghost stands_for = { λ engine m. HasJoint R.encloses R.has_grade R.is_exact engine.table m };
+    ghost stands_for = { λ engine m. HasJoint engine.table engine.factors m };
 
     ghost fitting = { λ engine event. true };
 
-    fn plan(alloc: Global, net: &Network, _tree: &Tree) -> Result<Scope, NoMemory>
+    fn plan(alloc: Global, net: &Network, _tree: &Tree) -> Result<Rc<Scope>, NoMemory>
         requires { joint_states net.now ≤ max_clique_cells }
-        ensures { IfOk result (λ plan. IsPlanFor plan net.now) }
+        ensures { IfOk result (λ plan. IsPlanFor plan.value net.now) }
     {
         let all = all_variables(net);
-        Scope::of(alloc, net, &all)
+        let scope = Scope::of(alloc, net, &all)?;
+        Ok(Rc::new(alloc, scope)?)
     }
 
-    fn start(alloc: Global, plan: &Scope) -> Result<JointEngine<R>, NoMemory> {
+    fn start(alloc: Global, plan: &Rc<Scope>) -> Result<JointEngine<R>, NoMemory> {
         let table = Table::ones(alloc, plan)?;
-        Ok(JointEngine { table })
+        Ok(JointEngine { table, factors: 0 })
     }
 
     fn weigh(&mut self, net: &Network, variable: u32) {
         self.table.times_rows(net, variable);
+        self.factors += 1;
     }
 
     fn multiply(&mut self, ratio: &Ratio) {
         self.table.times_ratio(ratio);
+        self.factors += 1;
     }
 
     fn know(&mut self, pair: Pair) {
@@ -71,7 +81,8 @@ impl<R: Semiring> Engine<R> for JointEngine<R> {
             → IsBelief R.encloses R.has_grade R.is_exact R.plus_of m event.now result }
         ensures grade { (m : Meaning) → ⟦<JointEngine<R> as Engine<R>>⟧.stands_for self.old m → R.has_grade result (length m.factors + max_clique_cells) }
     {
-        self.table.total(event)
+        let total = self.table.total(event);
+        R::of_cell(total, self.table.shift(), self.factors + MAX_CELLS)
     }
 
     ghost home_fits = { λ engine m event stands home. refl };

@@ -4,26 +4,26 @@ use Rattle.mk_scaled.specs.Range.{two_to, two_to-mono, two_to-suc, mul_at_most, 
 use Rattle.mk_scaled.specs.Rounding.{IsLeastAbove}
 use Rattle.mk_scaled.specs.Near.{near_more}
 use Rattle.mk_enclose.specs.Enclosure.{Encloses, HasGrade}
+use Rattle.mk_cell.specs.Least.{least, least-zero, least-at_zero}
 use Rattle.mk_enclose.specs.declared.enclosure.Enclosure.{Enclosure}
 use Rattle.mk_semiring.specs.declared.held.Held.{Held}
 use Rattle.mk_semiring.specs.Held.{HeldEncloses, HasHeldGrade, held_grade_more}
-use Rattle.mk_semiring.specs.Least.{least, least-zero, least-at_zero}
 
-pub sum_bound : (r x y g : ℕ) → IsLeastAbove r (x + y) → x ≤ two_to (64 * (g + 1)) → y ≤ two_to (64 * (g + 1)) → r ≤ two_to (64 * (g + 1 + 1))
+pub sum_bound : (r x y g : ℕ) → IsLeastAbove r (x + y) → x ≤ two_to (192 * (g + 1)) → y ≤ two_to (192 * (g + 1)) → r ≤ two_to (192 * (g + 1 + 1))
 sum_bound r x y g h k l =
-    let s = two_to-suc (64 * (g + 1)) in
-    let m = two_to-mono (suc (64 * (g + 1))) (64 * (g + 1 + 1)) (omega arith) in
-    least_at_most r (x + y) (64 * (g + 1 + 1)) h (omega arith)
+    let s = two_to-suc (192 * (g + 1)) in
+    let m = two_to-mono (suc (192 * (g + 1))) (192 * (g + 1 + 1)) (omega arith) in
+    least_at_most r (x + y) (192 * (g + 1 + 1)) h (omega arith)
 
-pub product_bound : (r x y g h : ℕ) → IsLeastAbove r (x * y) → x ≤ two_to (64 * (g + 1)) → y ≤ two_to (64 * (h + 1)) → r ≤ two_to (64 * (g + h + 1 + 1))
+pub product_bound : (r x y g h : ℕ) → IsLeastAbove r (x * y) → x ≤ two_to (192 * (g + 1)) → y ≤ two_to (192 * (h + 1)) → r ≤ two_to (192 * (g + h + 1 + 1))
 product_bound r x y g h a k l =
-    let p : x * y ≤ two_to (64 * (g + 1) + 64 * (h + 1)) = mul_at_most x y (64 * (g + 1)) (64 * (h + 1)) k l in
-    let s : 64 * (g + 1) + 64 * (h + 1) ≡ 64 * (g + h + 1 + 1) = omega arith in
-    least_at_most r (x * y) (64 * (g + h + 1 + 1)) a (rw s at p)
+    let p : x * y ≤ two_to (192 * (g + 1) + 192 * (h + 1)) = mul_at_most x y (192 * (g + 1)) (192 * (h + 1)) k l in
+    let s : 192 * (g + 1) + 192 * (h + 1) ≡ 192 * (g + h + 1 + 1) = omega arith in
+    least_at_most r (x * y) (192 * (g + h + 1 + 1)) a (rw s at p)
 
-pub min_bound : (r x y g : ℕ) → r ≡ min x y → x ≤ two_to (64 * (g + 1)) → r ≤ two_to (64 * (g + 1 + 1))
+pub min_bound : (r x y g : ℕ) → r ≡ min x y → x ≤ two_to (192 * (g + 1)) → r ≤ two_to (192 * (g + 1 + 1))
 min_bound r x y g e h =
-    let m = two_to-mono (64 * (g + 1)) (64 * (g + 1 + 1)) (omega arith) in omega arith
+    let m = two_to-mono (192 * (g + 1)) (192 * (g + 1 + 1)) (omega arith) in omega arith
 
 -- the same grade on both sides, and one more
 pub one_more : (e : Enclosure) (g : ℕ) → HasGrade e (max g g) → HasGrade e (g + 1)

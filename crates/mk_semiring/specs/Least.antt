@@ -1,29 +1,10 @@
--- The lesser of two numbers, where 0 stands for Absent and gives way.
+-- Minima are lawful.
 use Rattle.std.specs.Prelude.{◌≡◌, ℕ, zero, suc, ◌+◌, ◌*◌, ◌<◌, ◌≤◌, min, refl}
 use Rattle.std.proofs.Common.{sym, ap, ◌∙◌, ⊎_elim, arith, inl, inr, ◌⊎◌}
 use Rattle.std.proofs.lemmas.Bool.{cases_lt}
 use Rattle.std.proofs.Math.Nat.{mul-le-mul_left, mul-zero, one-le-mul}
 use Rattle.mk_exact.specs.Lawful.{Lawful}
-
-unfoldable pub least : ℕ → ℕ → ℕ
-least zero b = b
-least (suc a) zero = suc a
-least (suc a) (suc b) = min (suc a) (suc b)
-
-pub least-zero : (b : ℕ) → least 0 b ≡ b
-unfolding least
-least-zero b = refl
-
-pub least-at_zero : (a : ℕ) → least a 0 ≡ a
-unfolding least
-least-at_zero zero = refl
-least-at_zero (suc a) = refl
-
-pub least-both : (a b : ℕ) → 0 < a → 0 < b → least a b ≡ min a b
-unfolding least
-least-both zero b p q = absurd (omega arith)
-least-both (suc a) zero p q = absurd (omega arith)
-least-both (suc a) (suc b) p q = refl
+use Rattle.mk_cell.specs.Least.{least, least-zero, least-at_zero, least-both}
 
 -- each number is 0 or at least 1
 pub absent_or_present : (a : ℕ) → (a ≡ 0) ⊎ (0 < a)

@@ -1,7 +1,10 @@
 //! The value that the semirings share.
 ghost use Rattle.std.specs.Prelude.{◌≡◌, ℕ, ◌+◌, ◌*◌, ◌^◌, ◌<◌, ◌≤◌};
+ghost use Rattle.mk_net.specs.Bounds.{number_limit};
+ghost use Rattle.mk_cell.specs.Cell.{Stands};
 ghost use Rattle.mk_semiring.specs.Held.{HeldEncloses, HasHeldGrade, IsHeldExact, CanTimes};
 
+use mk_cell::Cell;
 use mk_enclose::Enclosure;
 
 /// Absent, or a number that is enclosed. Absent encloses the exact Absent alone.
@@ -37,5 +40,20 @@ pub fn product(a: &Held, b: &Held) -> Held
             Held::Absent => Held::Absent,
             Held::Present(y) => Held::Present(x.mul(y)),
         },
+    }
+}
+
+/// What a cell stands for in at most three steps for each of the grade.
+pub fn of_cell(cell: Cell, shift: u32, grade: u32) -> Held
+    requires grade_at_least { 1 ≤ grade }
+    requires grade_at_most { grade ≤ 2 ^ 17 }
+    requires stands { (v : ℕ) × Stands shift cell v (3 * grade) }
+    ensures value { (v : ℕ) → Stands shift cell v (3 * grade) → HeldEncloses result v }
+    ensures grade { HasHeldGrade result grade }
+    ensures exact { (v : ℕ) → Stands shift cell v (3 * grade) → v < number_limit → IsHeldExact result }
+{
+    match cell.enclosure(shift, grade) {
+        Some(enclosure) => Held::Present(enclosure),
+        None => Held::Absent,
     }
 }

@@ -1,9 +1,11 @@
 //! Minima and products.
-ghost use Rattle.std.specs.Prelude.{◌≡◌, ℕ, ◌+◌, ◌*◌, ◌^◌, ◌<◌, ◌≤◌};
+ghost use Rattle.std.specs.Prelude.{◌≡◌, ℕ, ◌+◌, ◌*◌, ◌^◌, ◌<◌, ◌≤◌, length};
 ghost use Rattle.mk_semiring.specs.Held.{HeldEncloses, HasHeldGrade, IsHeldExact, CanTimes, held_grade_more, held_times_fits};
-ghost use Rattle.mk_semiring.specs.Least.{least, least_lawful};
+ghost use Rattle.mk_cell.specs.Least.{least};
+ghost use Rattle.mk_semiring.specs.Least.{least_lawful};
 
 use crate::{Held, Semiring, held};
+use mk_cell::Cell;
 
 /// Minima and products: plus is the lesser number, and Absent gives way.
 #[derive(Clone, Copy, Debug)]
@@ -58,5 +60,22 @@ impl Semiring for MinProd {
     #[inline]
     fn times(a: &Held, b: &Held) -> Held {
         held::product(a, b)
+    }
+
+    fn over(digits: &[u64], exponents: &[u32]) -> Cell {
+        mk_cell::least(digits, exponents)
+    }
+
+    fn over_products(
+        left_digits: &[u64],
+        left_exponents: &[u32],
+        right_digits: &[u64],
+        right_exponents: &[u32],
+    ) -> Cell {
+        mk_cell::least_of_products(left_digits, left_exponents, right_digits, right_exponents)
+    }
+
+    fn of_cell(cell: Cell, shift: u32, grade: u32) -> Held {
+        held::of_cell(cell, shift, grade)
     }
 }

@@ -1,6 +1,11 @@
 //! The trait.
-ghost use Rattle.std.specs.Prelude.{◌≡◌, ℕ, ◌+◌, ◌*◌, ◌^◌, ◌<◌, ◌≤◌};
+ghost use Rattle.std.specs.Prelude.{◌≡◌, ℕ, ◌+◌, ◌*◌, ◌^◌, ◌<◌, ◌≤◌, length};
+ghost use Rattle.mk_net.specs.Bounds.{number_limit};
 ghost use Rattle.mk_exact.specs.Lawful.{Lawful};
+ghost use Rattle.mk_cell.specs.Cell.{AllStand, AreCells, Stands};
+ghost use Rattle.mk_cell.specs.Passes.{plus_below};
+
+use mk_cell::Cell;
 
 /// A semiring over whole numbers, and values that enclose them.
 ///
@@ -8,6 +13,9 @@ ghost use Rattle.mk_exact.specs.Lawful.{Lawful};
 /// implementation says what its exact plus is. A value encloses an exact one, with a grade that counts
 /// rounding steps; a grade below `2^40` is in range for every call. Whole numbers stay exact while
 /// results are below `2^63`.
+///
+/// A table holds cells in place of values. The plus of cells stands for the exact plus, and a value is
+/// made of a cell where a number is asked for.
 pub trait Semiring {
     type Value: Copy;
 
@@ -56,6 +64,36 @@ pub trait Semiring {
         ensures value { (v w : ℕ) → encloses a.now v → encloses b.now w → encloses result (v * w) }
         ensures grade { (g h : ℕ) → has_grade a.now g → has_grade b.now h → has_grade result (g + h + 1) }
         ensures exact { (v w : ℕ) → encloses a.now v → encloses b.now w → is_exact a.now → is_exact b.now → v * w < 2 ^ 63 → is_exact result };
+
+    /// The plus of cells.
+    fn over(digits: &[u64], exponents: &[u32]) -> Cell
+        requires { AreCells digits.now exponents.now }
+        ensures { (k : ℕ) (f : ℕ → ℕ) (n : ℕ) → AllStand k digits.now exponents.now f n
+            → Stands k result (plus_below plus_of (length digits.now) f) (n + length digits.now) };
+
+    /// The plus of the products of cells.
+    fn over_products(
+        left_digits: &[u64],
+        left_exponents: &[u32],
+        right_digits: &[u64],
+        right_exponents: &[u32],
+    ) -> Cell
+        requires left { AreCells left_digits.now left_exponents.now }
+        requires right { AreCells right_digits.now right_exponents.now }
+        requires same_length { length right_digits.now ≡ length left_digits.now }
+        ensures { (j k : ℕ) (f g : ℕ → ℕ) (n p : ℕ)
+            → AllStand j left_digits.now left_exponents.now f n
+            → AllStand k right_digits.now right_exponents.now g p
+            → Stands (j + k) result (plus_below plus_of (length left_digits.now) (λ c. f c * g c)) (n + p + 2 * length left_digits.now + 1) };
+
+    /// The value of a cell that stands for its number in at most three steps for each of the grade.
+    fn of_cell(cell: Cell, shift: u32, grade: u32) -> Self::Value
+        requires grade_at_least { 1 ≤ grade }
+        requires grade_at_most { grade ≤ 2 ^ 17 }
+        requires stands { (v : ℕ) × Stands shift cell v (3 * grade) }
+        ensures value { (v : ℕ) → Stands shift cell v (3 * grade) → encloses result v }
+        ensures grade { has_grade result grade }
+        ensures exact { (v : ℕ) → Stands shift cell v (3 * grade) → v < number_limit → is_exact result };
 
     ghost lawful: { Lawful plus_of };
 

@@ -1,9 +1,10 @@
 //! Sums and products.
-ghost use Rattle.std.specs.Prelude.{◌≡◌, ℕ, ◌+◌, ◌*◌, ◌^◌, ◌<◌, ◌≤◌};
+ghost use Rattle.std.specs.Prelude.{◌≡◌, ℕ, ◌+◌, ◌*◌, ◌^◌, ◌<◌, ◌≤◌, length};
 ghost use Rattle.mk_semiring.specs.Held.{HeldEncloses, HasHeldGrade, IsHeldExact, CanPlus, CanTimes, held_grade_more, held_plus_fits, held_times_fits};
 ghost use Rattle.mk_semiring.specs.Lawful.{sum_lawful};
 
 use crate::{Held, Semiring, held};
+use mk_cell::Cell;
 
 /// Sums and products.
 #[derive(Clone, Copy, Debug)]
@@ -58,5 +59,22 @@ impl Semiring for SumProd {
     #[inline]
     fn times(a: &Held, b: &Held) -> Held {
         held::product(a, b)
+    }
+
+    fn over(digits: &[u64], exponents: &[u32]) -> Cell {
+        mk_cell::sum(digits, exponents)
+    }
+
+    fn over_products(
+        left_digits: &[u64],
+        left_exponents: &[u32],
+        right_digits: &[u64],
+        right_exponents: &[u32],
+    ) -> Cell {
+        mk_cell::sum_of_products(left_digits, left_exponents, right_digits, right_exponents)
+    }
+
+    fn of_cell(cell: Cell, shift: u32, grade: u32) -> Held {
+        held::of_cell(cell, shift, grade)
     }
 }

@@ -1,6 +1,6 @@
 -- One table over all variables of a network, and the meanings that it stands for.
-use Rattle.std.specs.Prelude.{◌≡◌, ℕ, ◌<◌, ◌≤◌, List, length, All, if◌then◌else◌, slice_index}
-use Rattle.mk_net.specs.Bounds.{max_clique_cells, number_limit}
+use Rattle.std.specs.Prelude.{◌≡◌, ℕ, ◌*◌, ◌<◌, ◌≤◌, List, length, All, if◌then◌else◌, slice_index}
+use Rattle.mk_net.specs.Bounds.{max_clique_cells}
 use Rattle.mk_net.specs.Network.{Variable, IsNetwork, sizes}
 use Rattle.mk_exact.specs.States.{product_by}
 use Rattle.mk_exact.specs.Proper.{IsRatioOf}
@@ -9,8 +9,8 @@ use Rattle.mk_sums.specs.Joint.{variables}
 use Rattle.mk_sums.specs.There.{holds_there}
 use Rattle.mk_table.specs.Scopes.{ScopeOf, cells_in}
 use Rattle.mk_table.specs.Cells.{values_at}
-use Rattle.mk_table.specs.Tables.{TableOf, AllEnclose, AllHaveGrade, AreExact}
-use Rattle.mk_engine.specs.Meaning.{Meaning, Factor, RowsOf, RatioOf, factor_there, whole_sum, max_factors, ArePairsOf}
+use Rattle.mk_table.specs.Tables.{TableOf, HasNumbers}
+use Rattle.mk_engine.specs.Meaning.{Meaning, Factor, RowsOf, RatioOf, factor_there, max_factors, ArePairsOf}
 
 -- the scope of all variables
 abbrev pub whole_scope : List Variable → ScopeOf
@@ -30,23 +30,24 @@ pub record IsPlanFor (plan : ScopeOf) (network : List Variable) : Type 0 where
   pub legal : IsNetwork network
   pub few_states : joint_states network ≤ max_clique_cells
 
+-- No more factors were multiplied than an engine may hold. A ratio raises the shift by the 40 places of its unit.
+pub record IsInRoom (table : TableOf) (count : ℕ) : Type 0 where
+  pub few_factors : count ≤ max_factors
+  pub small_shift : table.shift ≤ 40 * count
+
 -- the rows of one of the network's variables, or a ratio of its pairs
 abbrev pub IsFactorOf : List Variable → Factor → Type 0
 IsFactorOf network (RowsOf k) = k < length network
 IsFactorOf network (RatioOf ratio) = IsRatioOf network ratio
 
--- The table has the joint of a meaning, cell by cell: enclosed, with a grade of one for each factor, and exact in the small
--- case. A table has the joint of many meanings, some of them with factors that change nothing; so the room for one factor
--- more is said of the table, and not of each meaning.
-pub record HasJoint {V : Type 0} (encloses : V → ℕ → Type 0) (has_grade : V → ℕ → Type 0) (is_exact : V → Type 0)
-    (table : TableOf V) (m : Meaning) : Type 0 where
+-- The table has the joint of a meaning, cell by cell, in a step for each factor. A table has the joint of many meanings,
+-- some of them with factors that change nothing, but each with as many factors as the engine counts.
+pub record HasJoint (table : TableOf) (count : ℕ) (m : Meaning) : Type 0 where
   pub legal : IsNetwork m.network
   pub scope : table.scope ≡ whole_scope m.network
-  pub one_each : length table.values ≡ cells_in table.scope
-  pub few_cells : length table.values ≤ max_clique_cells
+  pub few_cells : cells_in table.scope ≤ max_clique_cells
   pub factors : All (IsFactorOf m.network) m.factors
   pub known : ArePairsOf m.network m.known
-  pub room : AllHaveGrade encloses has_grade is_exact table.values max_factors
-  pub value : AllEnclose encloses has_grade is_exact table.values (λ c. joint_there m (values_at table.scope c))
-  pub grade : AllHaveGrade encloses has_grade is_exact table.values (length m.factors)
-  pub exact : whole_sum m < number_limit → AreExact encloses has_grade is_exact table.values
+  pub counted : length m.factors ≡ count
+  pub room : IsInRoom table count
+  pub numbers : HasNumbers table (λ c. joint_there m (values_at table.scope c)) (length m.factors)

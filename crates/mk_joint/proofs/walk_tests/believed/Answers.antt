@@ -17,8 +17,8 @@ weigh-requires g c =
 
 pub loop-variable-preserved : goal.loop-variable-preserved
 loop-variable-preserved g c =
-    let w = c.args.example.now in let k = c.loop-variable.variable in let R = g.R.Semiring in
-    subst (λ (m : Meaning). HasJoint R.encloses R.has_grade R.is_exact c.weigh.new.self.table m) (one_more w.net w.tree k)
+    let w = c.args.example.now in let k = c.loop-variable.variable in
+    subst (λ (m : Meaning). HasJoint c.weigh.new.self.table c.weigh.new.self.factors m) (one_more w.net w.tree k)
     (c.weigh.ensures (first_rows w.net w.tree k) c.loop-variable.invariant refl)
 
 pub belief-requires : goal.belief-requires

@@ -1,5 +1,4 @@
 use Rattle.std.proofs.Common.{◌≡◌, ℕ, length, subst, arith, refl}
-use Rattle.mk_semiring.specs.Held.{HeldEncloses, HasHeldGrade, IsHeldExact}
 use Rattle.mk_engine.specs.Meaning.{Meaning}
 use Rattle.mk_joint.specs.inner.Joints.{HasJoint}
 use Rattle.mk_session.specs.inner.Weighed.{first_rows}
@@ -20,7 +19,7 @@ weigh-requires c =
 pub loop-variable-preserved : goal.loop-variable-preserved
 loop-variable-preserved c =
     let net = c.args.net.now in let tree = c.args.tree.now in let k = c.loop-variable.variable in
-    subst (λ (m : Meaning). HasJoint HeldEncloses HasHeldGrade IsHeldExact c.weigh.new.self.table m) (one_more net tree k)
+    subst (λ (m : Meaning). HasJoint c.weigh.new.self.table c.weigh.new.self.factors m) (one_more net tree k)
     (c.weigh.ensures (first_rows net tree k) c.loop-variable.invariant refl)
 
 pub returns : goal.returns
@@ -28,4 +27,4 @@ returns c =
     let net = c.args.net.now in let tree = c.args.tree.now in
     let done : c.loop-variable.variable ≡ length net =
     omega (arith, c.loop-variable-test.false, c.variables-variable-end.ensures.count, c.loop-variable.auto.variable-end) in
-    subst (λ (k : ℕ). HasJoint HeldEncloses HasHeldGrade IsHeldExact c.loop-variable.engine.table (first_rows net tree k)) done c.loop-variable.invariant
+    subst (λ (k : ℕ). HasJoint c.loop-variable.engine.table c.loop-variable.engine.factors (first_rows net tree k)) done c.loop-variable.invariant

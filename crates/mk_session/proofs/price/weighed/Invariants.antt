@@ -1,7 +1,6 @@
-use Rattle.mk_semiring.specs.Held.{HeldEncloses, HasHeldGrade, IsHeldExact}
 use Rattle.mk_joint.specs.inner.Joints.{HasJoint}
 use Rattle.mk_session.specs.inner.Weighed.{first_rows}
 use Rattle.mk_session.proofs.price.weighed.Given as goal
 
 abbrev pub invariant-loop-variable : goal.invariant-loop-variable
-invariant-loop-variable l = HasJoint HeldEncloses HasHeldGrade IsHeldExact l.engine.table (first_rows l.net l.tree l.variable)
+invariant-loop-variable l = HasJoint l.engine.table l.engine.factors (first_rows l.net l.tree l.variable)

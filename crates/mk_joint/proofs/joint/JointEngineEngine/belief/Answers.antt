@@ -1,23 +1,29 @@
+use Rattle.std.proofs.Common.{arith, sym}
 use Rattle.mk_joint.proofs.Tables.{has_event, has_room}
-use Rattle.mk_joint.proofs.Beliefs.{belief_of, belief_grade}
+use Rattle.mk_joint.proofs.Beliefs.{totalled, total_stands, belief_of}
 use Rattle.mk_joint.proofs.joint.JointEngineEngine.belief.Goals as goal
 
-pub total-requires-clause-event : goal.total-requires-clause-event
-total-requires-clause-event g c =
+pub total-total-requires-clause-event : goal.total-total-requires-clause-event
+total-total-requires-clause-event g c =
     let a = c.requires in
     has_event a.meaning.network c.args.self.now.table.scope a.stands.scope c.args.event.now a.in_range
 
-pub total-requires-clause-range : goal.total-requires-clause-range
-total-requires-clause-range g c =
-    let R = g.R.Semiring in let a = c.requires in
-    has_room R.encloses R.has_grade R.is_exact g.met.R.Semiring.grade_more c.args.self.now.table a.meaning a.stands _ a.stands.few_cells
+pub total-total-requires-clause-room : goal.total-total-requires-clause-room
+total-total-requires-clause-room g c =
+    let a = c.requires in
+    has_room c.args.self.now.table c.args.self.now.factors a.meaning a.stands _ (omega (arith, a.stands.few_cells))
+
+pub of_cell-requires-clause-stands : goal.of_cell-requires-clause-stands
+of_cell-requires-clause-stands g c =
+    let plus = g.R.Semiring.plus_of in let table = c.args.self.now.table in let factors = c.args.self.now.factors in let a = c.requires in let event = c.args.event.now in (
+      totalled plus table factors a.meaning event a.stands,
+      rw c.shift.ensures (total_stands plus table factors a.meaning event a.stands c.total-total.result.digits c.total-total.result.exponent c.total-total.ensures),
+    )
 
 pub returns-clause-belief : goal.returns-clause-belief
 returns-clause-belief g c = λ m h.
-    let R = g.R.Semiring in let law = g.met.R.Semiring in
-    belief_of R.encloses R.has_grade R.is_exact R.plus_of law.grade_more law.lawful c.args.self.now.table m c.args.event.now c.total.result c.total.ensures h
-
-pub returns-clause-grade : goal.returns-clause-grade
-returns-clause-grade g c = λ m h.
-    let R = g.R.Semiring in
-    belief_grade R.encloses R.has_grade R.is_exact R.plus_of g.met.R.Semiring.grade_more c.args.self.now.table m c.args.event.now c.total.result c.total.ensures h
+    let R = g.R.Semiring in let law = g.met.R.Semiring in let table = c.args.self.now.table in let factors = c.args.self.now.factors in let event = c.args.event.now in
+    let stands = rw (sym c.shift.ensures) at (total_stands R.plus_of table factors m event h c.total-total.result.digits c.total-total.result.exponent c.total-total.ensures) in
+    let v = totalled R.plus_of table factors m event h in
+    belief_of R.plus_of table factors m event h R.encloses R.has_grade R.is_exact law.grade_more law.lawful c.of_cell.result
+    (c.of_cell.ensures.value v stands) c.of_cell.ensures.grade (c.of_cell.ensures.exact v stands)

@@ -1,7 +1,5 @@
-use Rattle.std.proofs.Common.{◌≡◌, arith, ap, ◌∙◌}
-use Rattle.std.proofs.lemmas.Result.{IfOk-weaker}
-use Rattle.mk_table.specs.Scopes.{scope_of, cells_in}
-use Rattle.mk_joint.specs.inner.Joints.{IsPlanFor}
+use Rattle.std.proofs.Common.{arith, ap, ◌∙◌}
+use Rattle.mk_table.specs.Scopes.{cells_in}
 use Rattle.mk_joint.proofs.Cells.{scope_of_all, states_counted}
 use Rattle.mk_joint.proofs.joint.JointEngineEngine.plan.Goals as goal
 
@@ -15,6 +13,8 @@ of-requires-clause-few_cells g c =
 pub returns : goal.returns
 returns g c =
     let net = c.args.net.now in let all = c.all_variables-all in
-    IfOk-weaker c.of.result (λ scope. scope ≡ scope_of net all.result) (λ plan. IsPlanFor plan net)
-    (λ scope e. record { scope = e ∙ scope_of_all net all.result all.ensures.all; legal = all.ensures.network; few_states = c.requires })
-    c.of.ensures
+    record {
+      scope = c.in_ok-new.ensures.ok ∙ c.in_ok-scope.ensures ∙ scope_of_all net all.result all.ensures.all;
+      legal = all.ensures.network;
+      few_states = c.requires;
+    }

@@ -1,5 +1,5 @@
 use Rattle.mk_semiring.specs.declared.held.Held.TheVariants.{Present}
-use Rattle.mk_semiring.specs.Least.{least-both}
+use Rattle.mk_cell.specs.Least.{least-both}
 use Rattle.mk_semiring.proofs.Ends.{min_bound, one_more, one_grade_more, present_number, least_of_absent, least_with_absent}
 use Rattle.mk_semiring.proofs.least.MinProdSemiring.plus.Goals as goal
 

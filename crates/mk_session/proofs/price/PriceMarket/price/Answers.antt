@@ -4,7 +4,6 @@ use Rattle.mk_exact.specs.Proper.{IsQuestionOf}
 use Rattle.mk_exact.specs.Prices.{exact_price}
 use Rattle.mk_semiring.specs.declared.sums.SumProd.{SumProd}
 use Rattle.mk_semiring.specs.declared.held.Held.{Held}
-use Rattle.mk_semiring.specs.Held.{HeldEncloses, HasHeldGrade, IsHeldExact}
 use Rattle.mk_joint.specs.declared.joint.JointEngine.{JointEngine}
 use Rattle.mk_joint.specs.inner.Joints.{HasJoint}
 use Rattle.mk_rules.specs.Answers.{IsPrice}
@@ -17,7 +16,7 @@ use Rattle.mk_session.proofs.price.PriceMarket.price.Goals as goal
 pub interval-low-requires : goal.interval-low-requires
 interval-low-requires c =
     let net = c.self.inside.file.net in let tree = c.self.inside.file.tree in let asked = c.args.asked.now in
-    let stands = subst (λ (e : JointEngine SumProd Held). HasJoint HeldEncloses HasHeldGrade IsHeldExact e.table (all_rows net tree)) (sym c.belief-part.ensures.kept) c.self.invariant in
+    let stands = subst (λ (e : JointEngine SumProd Held). HasJoint e.table e.factors (all_rows net tree)) (sym c.belief-part.ensures.kept) c.self.invariant in
     let fits = subst (λ (n : List Variable). IsQuestionOf n asked) (sym (ap (λ (t : Trading). t.market.network) c.self.view_is)) c.requires in
     record {
       price = exact_price net [] asked;
@@ -28,7 +27,7 @@ interval-low-requires c =
 pub returns-clause-price : goal.returns-clause-price
 returns-clause-price c =
     let net = c.self.inside.file.net in let tree = c.self.inside.file.tree in let asked = c.args.asked.now in
-    let stands = subst (λ (e : JointEngine SumProd Held). HasJoint HeldEncloses HasHeldGrade IsHeldExact e.table (all_rows net tree)) (sym c.belief-part.ensures.kept) c.self.invariant in
+    let stands = subst (λ (e : JointEngine SumProd Held). HasJoint e.table e.factors (all_rows net tree)) (sym c.belief-part.ensures.kept) c.self.invariant in
     let fits = subst (λ (n : List Variable). IsQuestionOf n asked) (sym (ap (λ (t : Trading). t.market.network) c.self.view_is)) c.requires in
     let part = c.belief-part.ensures.belief (all_rows net tree) c.self.invariant in
     let whole = c.belief-whole.ensures.belief (all_rows net tree) stands in
