@@ -1,5 +1,5 @@
 -- The plus of chosen cells, by blocks.
-use Rattle.std.proofs.Common.{◌≡◌, ℕ, zero, suc, ◌+◌, ◌-◌, ◌*◌, ◌<◌, ◌≤◌, min, List, [], ◌∷◌, ◌++◌, map, length, take, drop, slice_index, slice_set, All, length-take-le, length-drop, ◌⊎◌, inl, inr, get_or-set_other, get_or-set_same, refl, sym, ap, subst, ◌∙◌, arith, add-one, zero-mul}
+use Rattle.std.proofs.Common.{◌≡◌, ℕ, zero, suc, ◌+◌, ◌-◌, ◌*◌, ◌<◌, ◌≤◌, min, List, [], ◌∷◌, ◌++◌, length, take, drop, slice_index, slice_set, All, length-take-le, length-drop, ◌⊎◌, inl, inr, get_or-set_other, get_or-set_same, refl, sym, ap, subst, ◌∙◌, arith, add-one, zero-mul}
 use Rattle.std.proofs.Math.Nat.{suc-mul}
 use Rattle.std.proofs.Math.Seq.{take-add}
 use Rattle.std.proofs.lemmas.List.{take_more, take_all, get_or-take, length-take}

@@ -1,10 +1,10 @@
 -- Cells of two arrays that are changed one after the other, and what they stand for then.
-use Rattle.std.proofs.Common.{◌≡◌, ℕ, zero, suc, ◌+◌, ◌*◌, ◌^◌, ◌<◌, ◌≤◌, Bool, true, false, cond, ◌⊎◌, inl, inr, List, length, slice_index, slice_set, refl, sym, ap, subst, ◌∙◌, arith, get_or-set_other, get_or-set_same}
+use Rattle.std.proofs.Common.{◌≡◌, ℕ, ◌+◌, ◌*◌, ◌^◌, ◌<◌, Bool, true, false, cond, ◌⊎◌, inl, inr, List, length, slice_index, slice_set, refl, sym, ap, subst, ◌∙◌, arith, zero-mul, get_or-set_other, get_or-set_same}
 use Rattle.std.proofs.Math.ListN.{length-set}
 use Rattle.std.proofs.lemmas.Bool.{cases_eq, cases_Bool}
-use Rattle.mk_cell.specs.Cell.{bias, IsForm, IsLowerEnd, IsCell, StandsAt, AllStand}
+use Rattle.mk_cell.specs.Cell.{bias, IsLowerEnd, IsCell, StandsAt, AllStand}
 use Rattle.mk_cell.specs.inner.LowerEnd.{lower_same, lower_more}
-use Rattle.mk_cell.specs.inner.Laws.{has_room, untouched_stands, stands_with_more, all_have_room}
+use Rattle.mk_cell.specs.inner.Laws.{has_room, untouched_stands}
 use Rattle.mk_table.specs.inner.Parts.{HaveRoom, IsTimes, IsChanged, IsAmong, IsRestricted}
 
 module _ (R : ℕ → ℕ → ℕ → ℕ → ℕ → Type 0) where
@@ -169,13 +169,23 @@ times_some passes units reached od oe d e all none h j f n a = record { each = �
         (subst (λ y. StandsAt (j + 40) (slice_index od c) y (f c * 2 ^ 40) (n + 1)) (sym (h.exponents_left c (none c p)))
         (untouched_stands j 40 (slice_index od c) (slice_index oe c) (f c) n (omega arith) (a.each c l))))
 
--- Absent stands for 0, whatever the shift and the steps
+nothing_lower : (low exact whole n : ℕ) → low ≡ 0 → exact ≡ 0 → IsLowerEnd low exact whole n
+nothing_lower low exact whole n e f = rw (e, f) (lower_more 0 0 whole 0 n (omega arith) (lower_same 0 whole))
+
+-- Absent stands for 0, where something stands in as many steps
+nothing_stands : (shift digits exponent v n : ℕ) → StandsAt shift digits exponent v n → StandsAt shift 0 0 0 n
+nothing_stands shift digits exponent v n s = record {
+  form = record { absent = λ p. refl; full = λ p. absurd (omega arith); fits = omega arith };
+  lower = nothing_lower (0 * 2 ^ (0 + shift)) (0 * 2 ^ bias) (2 ^ bias) n (zero-mul (2 ^ (0 + shift))) (zero-mul (2 ^ bias));
+  size = let l = s.size in omega (arith, l);
+}
+
 pub absent_stands : (shift n digits exponent : ℕ) → digits ≡ 0 → exponent ≡ 0 → StandsAt shift 0 0 0 n → StandsAt shift digits exponent 0 n
 absent_stands shift n digits exponent d e h = rw (d, e) h
 
 pub kept_all : (kept : ℕ → Bool) (od oe d e : List ℕ) (count : ℕ) → length od ≡ count → IsChanged (λ c a b x y. IsRestricted (kept c) a b x y) (λ c. c < count) od oe d e
-    → (j : ℕ) (f : ℕ → ℕ) (n : ℕ) → StandsAt j 0 0 0 n → AllStand j od oe f n → AllStand j d e (λ c. cond (kept c) (f c) 0) n
-kept_all kept od oe d e count long h j f n none a = record { each = λ c l. at c (omega (arith, h.as_many_digits)) (cases_Bool (kept c)) }
+    → (j : ℕ) (f : ℕ → ℕ) (n : ℕ) → AllStand j od oe f n → AllStand j d e (λ c. cond (kept c) (f c) 0) n
+kept_all kept od oe d e count long h j f n a = record { each = λ c l. at c (omega (arith, h.as_many_digits)) (cases_Bool (kept c)) }
   where
     at : (c : ℕ) → c < length od → ((kept c ≡ true) ⊎ (kept c ≡ false)) → StandsAt j (slice_index d c) (slice_index e c) (cond (kept c) (f c) 0) n
     at c l (inl p) =
@@ -185,4 +195,4 @@ kept_all kept od oe d e count long h j f n none a = record { each = λ c l. at c
     at c l (inr p) =
         let r = h.done c (omega (arith, long)) in
         subst (λ b. StandsAt j (slice_index d c) (slice_index e c) (cond b (f c) 0) n) (sym p)
-        (absent_stands j n (slice_index d c) (slice_index e c) (r.no_digits p) (r.no_exponent p) none)
+        (absent_stands j n (slice_index d c) (slice_index e c) (r.no_digits p) (r.no_exponent p) (nothing_stands j (slice_index od c) (slice_index oe c) (f c) n (a.each c l)))

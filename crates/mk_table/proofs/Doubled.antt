@@ -1,10 +1,10 @@
 -- Cells that are found by strides are those that pass a test of each variable's value, in rising order.
-use Rattle.std.proofs.Common.{◌≡◌, ℕ, zero, suc, ◌+◌, ◌*◌, ◌/◌, ◌%◌, ◌<◌, ◌≤◌, Bool, true, false, cond, not, ◌&&◌, ◌||◌, ◌⊎◌, inl, inr, eqb, List, [], ◌∷◌, ◌++◌, map, filter, flat_map, length, slice_index, All, refl, sym, ap, subst, ◌∙◌, arith, zero-mul, eq-eqb, ne_eqb, length-append, add-one, take}
+use Rattle.std.proofs.Common.{◌≡◌, ℕ, zero, suc, ◌+◌, ◌*◌, ◌/◌, ◌<◌, ◌≤◌, Bool, true, false, cond, ◌&&◌, ◌⊎◌, inl, inr, eqb, List, [], ◌∷◌, ◌++◌, map, filter, flat_map, length, All, refl, sym, ap, ◌∙◌, arith, zero-mul, eq-eqb, ne_eqb, length-append, add-one, take}
 use Rattle.std.specs.List.{range_with_len, list_all}
-use Rattle.std.proofs.Math.Nat.{suc-mul, mod-lt, mul-le-mul}
+use Rattle.std.proofs.Math.Nat.{suc-mul, mul-le-mul}
 use Rattle.std.proofs.Math.Path.{fun_ext}
 use Rattle.std.proofs.lemmas.Nat.{div-mul-add, mod-mul-add, mul-add-lt}
-use Rattle.std.proofs.lemmas.Bool.{cases_eq, cases_Bool, both_ways}
+use Rattle.std.proofs.lemmas.Bool.{cases_eq}
 use Rattle.std.proofs.Math.Seq.{take-append_seam}
 use Rattle.std.proofs.lemmas.List.{map-append, length-map}
 use Rattle.std.proofs.lemmas.List.Elements.{filter-append, All-nil, All-cons, All-head, All-tail, All-weaker, All-map, All-append}
@@ -145,11 +145,11 @@ with_tests size test (x ∷ xs) d a =
 
 -- ---- the values of one variable
 
-
 past : (a n q : ℕ) → q < a → filter (λ v. eqb v q) (range_with_len a n) ≡ []
 past a zero q h = refl
 past a (suc n) q h =
     ap (λ b. cond b (a ∷ filter (λ v. eqb v q) (range_with_len (a + 1) n)) (filter (λ v. eqb v q) (range_with_len (a + 1) n))) (ne_eqb a q (λ e. omega arith)) ∙ past (a + 1) n q (omega arith)
+
 single : (a n q : ℕ) → a ≤ q → q < a + n → filter (λ v. eqb v q) (range_with_len a n) ≡ q ∷ []
 single a zero q h l = absurd (omega arith)
 single a (suc n) q h l = at (cases_eq a q) (λ d. single (a + 1) n q (omega (arith, d)) (omega arith))

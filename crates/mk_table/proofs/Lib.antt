@@ -13,3 +13,4 @@ pub mod Doubled
 pub mod Pinned
 pub mod Listed
 pub mod Onto
+pub mod Whole

@@ -1,15 +1,15 @@
 -- One variable more of the cells that a scope lists by strides.
-use Rattle.std.proofs.Common.{◌≡◌, ℕ, suc, ◌+◌, ◌-◌, ◌*◌, ◌<◌, ◌≤◌, Bool, true, false, cond, List, [], ◌∷◌, length, get_or, take, drop, filter, All, refl, sym, ap, subst, ◌∙◌, arith}
+use Rattle.std.proofs.Common.{◌≡◌, ℕ, ◌+◌, ◌-◌, ◌*◌, ◌<◌, ◌≤◌, Bool, true, false, cond, List, [], ◌∷◌, length, get_or, take, drop, filter, All, refl, sym, ap, subst, ◌∙◌, arith}
 use Rattle.std.specs.List.{list_all}
 use Rattle.std.proofs.Math.Nat.{le-mul_of_pos_right}
-use Rattle.std.proofs.lemmas.List.{drop_more, drop_all, get_or_read}
+use Rattle.std.proofs.lemmas.List.{drop_more, get_or_read}
 use Rattle.std.proofs.lemmas.List.Elements.{All-nil, All-cons, All-weaker, filter_agree}
 use Rattle.std.proofs.lemmas.List.FromFn.{length-range_with_len}
 use Rattle.mk_net.specs.declared.words.Pair.{Pair}
 use Rattle.mk_exact.specs.States.{numbers_below}
 use Rattle.mk_sums.specs.Cells.{cells}
 use Rattle.mk_sums.specs.There.{holds_there}
-use Rattle.mk_table.specs.Scopes.{ScopeOf, IsScope, HasEvent, size_in, cells_in, has_variable}
+use Rattle.mk_table.specs.Scopes.{ScopeOf, IsScope, HasEvent, size_in, cells_in}
 use Rattle.mk_table.specs.Cells.{values_at, cells_where}
 use Rattle.mk_table.specs.inner.Strides.{repeated, cells_with, lets, values_let, values_moved, is_moved}
 use Rattle.mk_table.proofs.Members.{size_at, size_pos, rising_apart}
@@ -80,7 +80,7 @@ pub ready_kept : (kept scope : ScopeOf) → IsScope kept → kept ≡ scope → 
     → IsReady scope values passed size x stride items
 ready_kept kept scope is same values are passed place size x stride items l p q r =
     subst (λ (s : ScopeOf). AreValues (size_in s) values → stride ≡ cells (size_in s) (drop (length s.variables - passed) s.variables) → items ≡ cells_with (size_in s) values (drop (length s.variables - passed) s.variables)
-        → IsReady s values passed size x stride items) same
+    → IsReady s values passed size x stride items) same
     (λ a e f. ready kept is values a passed place size x stride items l p (get_or_read kept.sizes place size (omega (arith, p, is.one_size_each)) q 0) (get_or_read kept.variables place x (omega (arith, p)) r 0) e f) are
 
 -- ---- the values of an event, and of what moves
@@ -115,7 +115,7 @@ pub cells_of_event : (scope : ScopeOf) → IsScope scope → (event : List Pair)
 cells_of_event scope is event has =
     sym (with_tests (size_in scope) (lets event) scope.variables (rising_apart scope.variables is.rising) (λ x. 0))
     ∙ sym (filter_agree (λ c. holds_there event (values_at scope c)) (λ c. list_all (λ x. lets event x (values_at scope c x)) scope.variables)
-        (λ c. holds_by_values event scope.variables (values_at scope c) has) (numbers_below (cells_in scope)))
+    (λ c. holds_by_values event scope.variables (values_at scope c) has) (numbers_below (cells_in scope)))
 
 pub cells_of_event_few : (scope : ScopeOf) (event : List Pair) → length (cells_where scope event) ≤ cells_in scope
 cells_of_event_few scope event = chosen_few (λ c. holds_there event (values_at scope c)) (cells_in scope)

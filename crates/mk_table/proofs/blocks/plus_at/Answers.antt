@@ -1,4 +1,4 @@
-use Rattle.std.proofs.Common.{◌≡◌, ◌+◌, ◌*◌, ◌<◌, ◌≤◌, ℕ, List, length, take, slice_index, arith, subst, sym, ap, ◌∙◌, length-take-le}
+use Rattle.std.proofs.Common.{◌+◌, ◌*◌, ◌<◌, ◌≤◌, ℕ, List, length, take, arith, subst, sym, ◌∙◌, length-take-le}
 use Rattle.std.proofs.Math.ListN.{length-set}
 use Rattle.std.proofs.lemmas.Grind.{div_ceil_times}
 use Rattle.mk_exact.specs.States.{plus_over}
@@ -43,10 +43,10 @@ loop-block-preserved g c =
           b c.plus_of_block-cell.result.digits c.plus_of_block-cell.result.exponent c.loop-block.block_digits c.loop-block.block_exponents
           (omega (arith, few, l, c.loop-block.invariant.long)) (omega (arith, few, l, c.loop-block.invariant.long_too)) c.loop-block.invariant.stand
           (λ k f n a.
-              let made : StandsAt k c.plus_of_block-cell.result.digits c.plus_of_block-cell.result.exponent (plus_over R.plus_of 0 (λ j. f (c.args.base + j)) (block_of xs b)) (n + length (block_of xs b)) =
-              subst (λ (ys : List ℕ). StandsAt k c.plus_of_block-cell.result.digits c.plus_of_block-cell.result.exponent (plus_over R.plus_of 0 (λ j. f (c.args.base + j)) ys) (n + length ys)) c.block_of.ensures (c.plus_of_block-cell.ensures k f n a) in
-              let few_more = block_few xs b in
-              stands_with_more k _ _ _ (n + length (block_of xs b)) (n + length xs) (omega arith) made);
+          let made : StandsAt k c.plus_of_block-cell.result.digits c.plus_of_block-cell.result.exponent (plus_over R.plus_of 0 (λ j. f (c.args.base + j)) (block_of xs b)) (n + length (block_of xs b)) =
+          subst (λ (ys : List ℕ). StandsAt k c.plus_of_block-cell.result.digits c.plus_of_block-cell.result.exponent (plus_over R.plus_of 0 (λ j. f (c.args.base + j)) ys) (n + length ys)) c.block_of.ensures (c.plus_of_block-cell.ensures k f n a) in
+          let few_more = block_few xs b in
+          stands_with_more k _ _ _ (n + length (block_of xs b)) (n + length xs) (omega arith) made);
     }
 
 pub over-requires : goal.over-requires
@@ -61,7 +61,7 @@ over-requires g c =
     (λ b. plus_over R.plus_of 0 (λ j. room.numbers (c.args.base + j)) (block_of xs b)) (room.steps + length xs) room.small_shift (omega arith)
     (length-take-le blocks c.loop-block.block_exponents m ∙ sym (length-take-le blocks c.loop-block.block_digits l))
     (first_stand c.requires.room.0 c.loop-block.block_digits c.loop-block.block_exponents (λ b. plus_over R.plus_of 0 (λ j. room.numbers (c.args.base + j)) (block_of xs b)) (room.steps + length xs) blocks l
-        (λ b p. c.loop-block.invariant.stand b (omega (arith, c.loop-block-test.false)) c.requires.room.0 room.numbers room.steps room.stand))
+    (λ b p. c.loop-block.invariant.stand b (omega (arith, c.loop-block-test.false)) c.requires.room.0 room.numbers room.steps room.stand))
 
 pub returns : goal.returns
 returns g c = λ k f n a.

@@ -1,5 +1,4 @@
-use Rattle.std.proofs.Common.{◌≡◌, ◌+◌, ◌<◌, ℕ, length, take, slice_index, arith, subst, ap, ◌∙◌}
-use Rattle.mk_exact.specs.States.{plus_over}
+use Rattle.std.proofs.Common.{◌+◌, ℕ, length, take, slice_index, arith, subst}
 use Rattle.mk_cell.specs.Cell.{StandsAt}
 use Rattle.mk_cell.specs.Passes.{plus_below}
 use Rattle.mk_table.proofs.Blocked.{AreGathered, gathered_first, gathered_stand, gathered_cells, gathered_all}
@@ -11,7 +10,7 @@ over-requires g c =
     let count = length c.args.offsets.now in
     gathered_cells at count c.args.digits.now c.args.exponents.now (take count c.loop-place.block_digits) (take count c.loop-place.block_exponents)
     (gathered_first at count c.args.digits.now c.args.exponents.now c.loop-place.block_digits c.loop-place.block_exponents (omega (arith, c.requires.few, c.loop-place.invariant.long)) (omega (arith, c.requires.few, c.loop-place.invariant.long_too))
-        (λ k l. c.requires.within k 0 l) (λ k l. c.loop-place.invariant.digits k (omega (arith, c.loop-place-test.false))) (λ k l. c.loop-place.invariant.exponents k (omega (arith, c.loop-place-test.false))))
+    (λ k l. c.requires.within k 0 l) (λ k l. c.loop-place.invariant.digits k (omega (arith, c.loop-place-test.false))) (λ k l. c.loop-place.invariant.exponents k (omega (arith, c.loop-place-test.false))))
     c.requires.cells
 
 pub returns : goal.returns

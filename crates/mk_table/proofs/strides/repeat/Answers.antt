@@ -1,5 +1,5 @@
 use Rattle.std.proofs.Common.{◌≡◌, ◌+◌, ◌*◌, ◌<◌, ◌≤◌, ◌++◌, List, ℕ, length, map, take, All, arith, ap, subst, sym, ◌∙◌, suc}
-use Rattle.std.proofs.Math.Nat.{suc-mul, mul-le-mul, le-mul_of_pos_right}
+use Rattle.std.proofs.Math.Nat.{suc-mul, mul-le-mul}
 use Rattle.std.proofs.lemmas.List.Elements.{All-weaker}
 use Rattle.std.proofs.lemmas.List.FromFn.{length-range_with_len}
 use Rattle.mk_exact.specs.States.{numbers_below}

@@ -1,6 +1,4 @@
-use Rattle.std.proofs.Common.{◌≡◌, ℕ, ◌∷◌, [], List, cond, ap, sym, ◌∙◌, true, false}
-use Rattle.mk_exact.specs.States.{numbers_below}
-use Rattle.mk_table.specs.inner.Strides.{repeated}
+use Rattle.std.proofs.Common.{sym}
 use Rattle.mk_table.proofs.Doubled.{repeated_first}
 use Rattle.mk_table.proofs.strides.take_moved.Goals as goal
 

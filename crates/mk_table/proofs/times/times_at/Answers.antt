@@ -1,5 +1,4 @@
-use Rattle.std.proofs.Common.{subst, sym, get_or-set_same}
-use Rattle.mk_table.specs.inner.Parts.{IsTimes}
+use Rattle.std.proofs.Common.{get_or-set_same}
 use Rattle.mk_table.proofs.times.times_at.Goals as goal
 
 pub returns-clause-times : goal.returns-clause-times

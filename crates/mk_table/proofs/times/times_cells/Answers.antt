@@ -1,8 +1,8 @@
-use Rattle.std.proofs.Common.{◌≡◌, ◌<◌, ℕ, length, slice_index, subst, sym, ap, arith, ◌∙◌}
+use Rattle.std.proofs.Common.{◌≡◌, ◌<◌, ℕ, length, slice_index, subst, arith}
 use Rattle.mk_cell.specs.Cell.{StandsAt}
 use Rattle.mk_table.specs.Scopes.{cells_in}
 use Rattle.mk_table.specs.Cells.{cell_in}
-use Rattle.mk_table.specs.inner.Parts.{IsTimes, IsChanged, HaveRoom}
+use Rattle.mk_table.specs.inner.Parts.{IsTimes, IsChanged}
 use Rattle.mk_table.proofs.Changes.{left_cell, room_cell, written_below}
 use Rattle.mk_table.proofs.times.times_cells.Goals as goal
 
@@ -28,7 +28,7 @@ loop-cell-preserved c = record {
       written_below (λ i d e x y. IsTimes d e k (g (goes i)) p x y) c.args.digits.now c.args.exponents.now c.loop-cell.digits c.loop-cell.exponents c.times_at.new.digits c.times_at.new.exponents n
       l (omega (arith, l, c.requires.full.as_many_digits, c.requires.full.as_many_exponents)) (c.loop-cell.invariant.some k g p h) c.times_at.ensures.digits c.times_at.ensures.exponents
       (c.times_at.ensures.times k (g (goes n)) p
-          (subst (λ i. StandsAt k (slice_index c.args.other_digits.now c.next-place.result) (slice_index c.args.other_exponents.now c.next-place.result) (g i) p) c.next-place.ensures.cell (h.each c.next-place.result m)));
+      (subst (λ i. StandsAt k (slice_index c.args.other_digits.now c.next-place.result) (slice_index c.args.other_exponents.now c.next-place.result) (g i) p) c.next-place.ensures.cell (h.each c.next-place.result m)));
 }
 
 pub returns : goal.returns

@@ -1,11 +1,11 @@
-use Rattle.std.proofs.Common.{◌≡◌, ◌<◌, ◌≤◌, ℕ, List, Bool, length, slice_index, subst, sym, ap, arith, ◌∙◌, true}
+use Rattle.std.proofs.Common.{◌≡◌, ◌<◌, ℕ, List, Bool, length, slice_index, subst, sym, ap, arith, ◌∙◌}
 use Rattle.mk_net.specs.Trades.{trade_ratio}
 use Rattle.mk_exact.specs.Ratios.{units_of}
 use Rattle.mk_sums.specs.There.{holds_there}
 use Rattle.mk_cell.specs.Cell.{StandsAt}
-use Rattle.mk_table.specs.Scopes.{cells_in, has_variable}
+use Rattle.mk_table.specs.Scopes.{cells_in}
 use Rattle.mk_table.specs.Cells.{values_at}
-use Rattle.mk_table.specs.inner.Parts.{IsTimes, IsChanged, IsAmong}
+use Rattle.mk_table.specs.inner.Parts.{IsTimes, IsAmong}
 use Rattle.mk_table.proofs.Changes.{left_cell, whole_cell, written_among}
 use Rattle.mk_table.proofs.Chosen.{chosen_below, chosen_apart}
 use Rattle.mk_table.proofs.Kept.{place_of_units, event_last}

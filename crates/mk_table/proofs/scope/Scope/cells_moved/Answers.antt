@@ -1,7 +1,7 @@
-use Rattle.std.proofs.Common.{◌≡◌, ◌+◌, ◌-◌, ◌*◌, ◌<◌, ◌≤◌, ℕ, List, [], ◌∷◌, Bool, cond, not, length, drop, arith, ap, subst, sym, ◌∙◌}
+use Rattle.std.proofs.Common.{◌≡◌, ◌+◌, ◌-◌, ◌<◌, [], ◌∷◌, cond, not, length, drop, arith, ap, subst, ◌∙◌}
 use Rattle.mk_exact.specs.States.{numbers_below}
-use Rattle.mk_table.specs.Scopes.{ScopeOf, size_in, cells_in}
-use Rattle.mk_table.specs.Scopes.{IsScope, has_variable}
+use Rattle.mk_table.specs.Scopes.{ScopeOf, size_in}
+use Rattle.mk_table.specs.Scopes.{IsScope}
 use Rattle.mk_table.specs.inner.Strides.{repeated, cells_with, values_moved, is_moved}
 use Rattle.mk_table.proofs.Listed.{ready_kept, values_of_moved}
 use Rattle.mk_table.proofs.scope.Scope.cells_moved.Goals as goal

@@ -1,5 +1,5 @@
-use Rattle.std.proofs.Common.{◌≡◌, ◌+◌, ◌≤◌, List, ℕ, map, length, slice_index, ap, subst, sym, ◌∙◌, true, false}
-use Rattle.mk_table.specs.Scopes.{size_in, cells_in}
+use Rattle.std.proofs.Common.{◌+◌, List, ℕ, map, length, slice_index, ap, ◌∙◌, true, false}
+use Rattle.mk_table.specs.Scopes.{size_in}
 use Rattle.mk_table.specs.inner.Strides.{cells_with, values_moved}
 use Rattle.mk_table.proofs.Doubled.{cells_with_few}
 use Rattle.mk_table.proofs.Listed.{values_of_moved}

@@ -1,8 +1,7 @@
-use Rattle.std.proofs.Common.{◌≡◌, ◌+◌, ◌-◌, ◌*◌, ◌<◌, ◌≤◌, ℕ, List, length, drop, filter, arith, ap, subst, sym, ◌∙◌}
+use Rattle.std.proofs.Common.{◌≡◌, ◌+◌, ◌-◌, ◌<◌, List, length, drop, filter, arith, ap, subst, ◌∙◌}
 use Rattle.mk_exact.specs.States.{numbers_below}
-use Rattle.mk_table.specs.Scopes.{ScopeOf, IsScope, size_in, cells_in}
+use Rattle.mk_table.specs.Scopes.{ScopeOf, IsScope, size_in}
 use Rattle.mk_net.specs.declared.words.Pair.{Pair}
-use Rattle.mk_table.specs.Cells.{cells_where}
 use Rattle.mk_table.specs.inner.Strides.{repeated, cells_with, lets, values_let}
 use Rattle.mk_table.proofs.Listed.{ready_kept, values_of_event, cells_of_event, cells_of_event_few}
 use Rattle.mk_table.proofs.scope.Scope.cells_where.Goals as goal

@@ -1,4 +1,4 @@
-use Rattle.std.proofs.Common.{◌≡◌, ◌==◌, ap, ◌∙◌}
+use Rattle.std.proofs.Common.{◌==◌, ap, ◌∙◌}
 use Rattle.std.specs.List.{list_any}
 use Rattle.mk_table.specs.Scopes.{ScopeOf, has_variable}
 use Rattle.mk_table.proofs.Pinned.{listed_by_any}
