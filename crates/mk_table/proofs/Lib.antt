@@ -3,8 +3,14 @@ pub mod Members
 pub mod Kept
 pub mod Writing
 pub mod Opened
-pub mod Changed
 pub mod Rows
-pub mod Rooms
 pub mod Examples
 pub mod Runs
+pub mod Changes
+pub mod Chosen
+pub mod Blocked
+pub mod Doubled
+pub mod Pinned
+pub mod Listed
+pub mod Onto
+pub mod Whole

@@ -1,12 +1,14 @@
-//! Tables over scopes: one value for each list of values of some variables.
+//! Tables over scopes: one cell for each list of values of some variables.
 #![tactic(auto)]
 
+mod blocks;
+mod picked;
 mod scope;
+mod strides;
 mod table;
+mod times;
 mod walk;
 
 pub use scope::Scope;
+pub use strides::CellList;
 pub use table::Table;
-
-#[cfg(test)]
-mod tests;

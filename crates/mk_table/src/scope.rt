@@ -1,17 +1,19 @@
 //! The scope of a table.
 
-ghost use Rattle.std.specs.Prelude.{◌≡◌, ℕ, ◌<◌, ◌≤◌, ◌*◌, ◌/◌, ◌%◌, List, [], ◌++◌, All, map, length, slice_index, true, IfOk, OnOk};
+ghost use Rattle.std.specs.Prelude.{◌≡◌, ℕ, ◌+◌, ◌<◌, ◌≤◌, ◌*◌, ◌/◌, ◌%◌, List, [], ◌++◌, All, map, length, slice_index, true, IfOk, OnOk};
 ghost use Rattle.mk_net.specs.Bounds.{max_clique_cells, max_values, max_variables};
 ghost use Rattle.mk_net.specs.Sets.{is_member};
 ghost use Rattle.mk_net.specs.Network.{sizes, IsNetwork};
 ghost use Rattle.mk_sums.specs.Cells.{keep, cells};
 ghost use Rattle.mk_sums.specs.Joint.{variables};
 ghost use Rattle.mk_exact.specs.States.{numbers_below};
-ghost use Rattle.mk_table.specs.Scopes.{IsScope, LiesIn, Rising, scope_of, size_in, cells_in, has_variable};
-ghost use Rattle.mk_table.specs.Cells.{values_at, cell_in};
+ghost use Rattle.mk_table.specs.Scopes.{IsScope, LiesIn, Rising, scope_of, size_in, cells_in, has_variable, HasEvent};
+ghost use Rattle.mk_table.specs.Cells.{values_at, cell_in, cells_where, cells_onto};
 ghost use Rattle.mk_table.specs.inner.Columns.{HaveColumns, IsRun};
+ghost use Rattle.mk_table.specs.inner.Strides.{cells_with, values_moved};
 
-use mk_net::{Network, NoMemory, VarSet};
+use crate::strides::{CellList, begin, is_moved, take_moved, take_values};
+use mk_net::{Event, Network, NoMemory, VarSet};
 use std::alloc::Global;
 use std::marker::Model;
 
@@ -74,26 +76,54 @@ impl Scope {
         self.cells
     }
 
-    /// An equal scope.
-    pub fn copy(&self, alloc: Global) -> Result<Scope, NoMemory>
-        ensures { IfOk result (λ scope. scope ≡ self.now) }
+    /// Lists the cells where an event holds, in rising order.
+    ///
+    /// The list grows variable by variable, the last first: what is listed so far comes again a stride further on for each
+    /// value that the variable may have.
+    pub fn cells_where(&self, event: &Event, cells: &mut CellList)
+        requires { HasEvent self.now event.now }
+        ensures cells { cells.new.items ≡ cells_where self.now event.now }
+        ensures few { length cells.new.items ≤ cells_in self.now }
+        ensures scope { IsScope self.now }
     {
-        let mut variables = Vec::new(alloc);
-        let mut sizes = Vec::new(alloc);
-        let mut starts = Vec::new(alloc);
-        let mut columns = Vec::new(alloc);
-        variables.extend_from_slice(&self.variables)?;
-        sizes.extend_from_slice(&self.sizes)?;
-        starts.extend_from_slice(&self.starts)?;
-        columns.extend_from_slice(&self.columns)?;
-        Ok(Scope {
-            variables,
-            sizes,
-            cells: self.cells,
-            run: self.run,
-            starts,
-            columns,
-        })
+        let pairs = event.pairs();
+        let mut stride = 1;
+        begin(cells);
+        for passed in 0..self.variables.len() {
+            let place = self.variables.len() - 1 - passed;
+            let size = self.sizes[place] as usize;
+            take_values(cells, stride, size, pairs, self.variables[place]);
+            stride *= size;
+        }
+    }
+
+    /// Lists the first cell with the values of each cell of a part, and how far the others with these values lie from it.
+    pub(crate) fn cells_onto(&self, part: &Scope, bases: &mut CellList, offsets: &mut CellList)
+        requires { LiesIn part.now self.now }
+        ensures bases { length bases.new.items ≡ cells_in part.now }
+        ensures onto { (d : ℕ) → d < cells_in part.now
+            → map (λ c. slice_index bases.new.items d + c) offsets.new.items ≡ cells_onto part.now self.now d }
+        ensures few { length offsets.new.items ≤ cells_in self.now }
+        ensures scope { IsScope self.now }
+    {
+        let _ = (part.cells(), self.cells());
+        self.cells_moved(part, true, bases);
+        self.cells_moved(part, false, offsets);
+    }
+
+    /// Lists the cells where each variable has its first value, but for those that a part has, or those that it has not.
+    fn cells_moved(&self, part: &Scope, inside: bool, cells: &mut CellList)
+        ensures { cells.new.items ≡ cells_with (size_in self.now) (values_moved self.now part.now inside) self.now.variables }
+    {
+        let mut stride = 1;
+        begin(cells);
+        for passed in 0..self.variables.len() {
+            let place = self.variables.len() - 1 - passed;
+            let size = self.sizes[place] as usize;
+            let has = part.has(self.variables[place]);
+            take_moved(cells, stride, size, is_moved(has, inside));
+            stride *= size;
+        }
     }
 
     /// The cells of the last variables: as many as make at most `MAX_RUN`.
@@ -102,6 +132,13 @@ impl Scope {
         ensures scope { IsScope self.now }
     {
         self.run
+    }
+
+    /// Whether the scope has a variable.
+    pub(crate) fn has(&self, variable: u32) -> bool
+        ensures { result ≡ has_variable self.now variable }
+    {
+        self.variables.contains(&variable)
     }
 
     /// The value that a cell gives a variable.

@@ -1,63 +1,53 @@
-use Rattle.std.proofs.Common.{◌≡◌, ◌+◌, ◌<◌, length, get_or, set, filter, arith, ap, subst, sym, ◌∙◌, ◌==◌}
-use Rattle.std.proofs.lemmas.List.{length-set}
-use Rattle.mk_exact.specs.States.{numbers_below}
+use Rattle.std.proofs.Common.{◌≡◌, ◌+◌, ◌*◌, ◌<◌, ◌≤◌, ℕ, List, length, slice_index, arith, ap, subst, ◌∙◌}
 use Rattle.mk_table.specs.Scopes.{ScopeOf, cells_in}
-use Rattle.mk_table.specs.Cells.{cell_in, cells_onto}
-use Rattle.mk_table.specs.Tables.{TableOf, IsPlusOver}
-use Rattle.mk_table.proofs.Changed.{IsPlusSoFar, IsPlusOfTwo, AreMargins, next_fits, margin_step, so_far_all}
+use Rattle.mk_table.specs.Tables.{TableOf}
+use Rattle.mk_table.specs.inner.Parts.{IsFull}
+use Rattle.std.proofs.Common.{map}
+use Rattle.mk_exact.specs.States.{plus_over}
+use Rattle.mk_cell.specs.Cell.{AllStand}
+use Rattle.mk_table.specs.Cells.{cells_onto}
+use Rattle.mk_table.proofs.Whole.{AreParts, stand_items, parts_stand, parts_full, onto_within, onto_stand}
 use Rattle.mk_table.proofs.table.Table.margin_into.Goals as goal
 
-pub plus-sum-requires : goal.plus-sum-requires
-plus-sum-requires g c =
-    let R = g.R.Semiring in let law = g.met.R.Semiring in
-    let items = c.self.inside.values.items in let out = c.loop-cell.out-inside.values.items in let cell = c.loop-cell.cell in
-    let goes = cell_in c.out.inside.scope c.self.inside.scope in
-    let same : items ≡ c.args.self.now.values = ap (λ (t : TableOf g.row.R-Value.Denot). t.values) c.self.view_is in
-    let l : cell < length items = omega (arith, c.self.inside.values.ok.0) in
-    let place : c.next-place.result ≡ goes cell = c.next-place.ensures.cell ∙ ap (λ (s : ScopeOf). cell_in s c.self.inside.scope cell) c.loop-cell.invariant.scope in
-    let long : length out ≡ cells_in c.loop-cell.out-inside.scope =
-    c.loop-cell.invariant.long ∙ c.make_absent.ensures.cells ∙ c.out.invariant ∙ ap (λ (s : ScopeOf). cells_in s) (sym c.loop-cell.invariant.scope) in
-    let within : c.next-place.result < length out = omega (arith, long, c.next-place.ensures.within) in
-    let chosen = filter (λ k. goes k == c.next-place.result) (numbers_below cell) in
-    let was : IsPlusSoFar R.encloses R.has_grade R.is_exact R.plus_of items chosen cell c.index.result.now =
-    subst (λ (y : g.row.R-Value.Denot). IsPlusSoFar R.encloses R.has_grade R.is_exact R.plus_of items chosen cell y) (sym c.index.ensures) (c.loop-cell.invariant.cells c.next-place.result c.index.result.now within) in
-    next_fits R.encloses R.has_grade R.is_exact R.plus_of law.lawful law.grade_more items R.can_plus law.plus_fits c.args.self.now.values same c.requires.range chosen cell c.index.result.now c.index-in-loop-cell.result.now l was c.index-in-loop-cell.ensures
+pub plus_at_each-requires-clause-within : goal.plus_at_each-requires-clause-within
+plus_at_each-requires-clause-within g c = λ b l.
+    let parts : AreParts c.args.self.now c.deref.result.now c.self.inside.shift c.deref-3.result.now c.deref-4.result.now = record {
+      scope_is = c.deref.ensures ∙ ap (λ (t : TableOf). t.scope) c.self.view_is;
+      shift_is = ap (λ (t : TableOf). t.shift) c.self.view_is;
+      digits_are = c.deref-3.ensures.value ∙ ap (λ (t : TableOf). t.digits) c.self.view_is;
+      exponents_are = c.deref-4.ensures.value ∙ ap (λ (t : TableOf). t.exponents) c.self.view_is;
+      full = subst (λ (t : TableOf). IsFull t.scope t.digits t.exponents) c.self.view_is c.self.invariant;
+    } in
+    let part = c.deref-2.result.now in let whole = c.deref.result.now in
+    let full = parts_full _ _ _ _ _ parts in
+    let long = ap (λ (ys : List ℕ). length ys) c.deref-5.ensures.0 in
+    let e : map (λ k. slice_index c.deref-5.result.now b + k) c.deref-6.result.now ≡ cells_onto part whole b =
+    rw (c.deref-5.ensures.0, c.deref-6.ensures.0) (c.cells_onto.ensures.onto b (omega (arith, long, c.cells_onto.ensures.bases))) in
+    rw full.as_many_digits (onto_within part whole (slice_index c.deref-5.result.now b) c.deref-6.result.now b e)
 
-pub loop-cell-preserved : goal.loop-cell-preserved
-loop-cell-preserved g c =
-    let R = g.R.Semiring in let law = g.met.R.Semiring in
-    let items = c.self.inside.values.items in let out = c.loop-cell.out-inside.values.items in let cell = c.loop-cell.cell in
-    let goes = cell_in c.out.inside.scope c.self.inside.scope in
-    let l : cell < length items = omega (arith, c.self.inside.values.ok.0) in
-    let place : c.next-place.result ≡ goes cell = c.next-place.ensures.cell ∙ ap (λ (s : ScopeOf). cell_in s c.self.inside.scope cell) c.loop-cell.invariant.scope in
-    let long : length out ≡ cells_in c.loop-cell.out-inside.scope =
-    c.loop-cell.invariant.long ∙ c.make_absent.ensures.cells ∙ c.out.invariant ∙ ap (λ (s : ScopeOf). cells_in s) (sym c.loop-cell.invariant.scope) in
-    let within : goes cell < length out = omega (arith, long, c.next-place.ensures.within, place) in
-    let was : c.index.result.now ≡ get_or out (goes cell) c.index.result.now = subst (λ k. c.index.result.now ≡ get_or out k c.index.result.now) place c.index.ensures in
-    let two : IsPlusOfTwo R.encloses R.has_grade R.is_exact R.plus_of c.index.result.now c.index-in-loop-cell.result.now c.plus-sum.result =
-    record { value = c.plus-sum.ensures.value; grade = c.plus-sum.ensures.grade; exact = c.plus-sum.ensures.exact } in
-    let more = margin_step R.encloses R.has_grade R.is_exact R.plus_of law.lawful law.grade_more items goes out cell c.index.result.now c.index-in-loop-cell.result.now c.plus-sum.result l within c.loop-cell.invariant.cells was c.index-in-loop-cell.ensures two in
+pub returns-clause-numbers : goal.returns-clause-numbers
+returns-clause-numbers g c = λ f n h.
+    let parts : AreParts c.args.self.now c.deref.result.now c.self.inside.shift c.deref-3.result.now c.deref-4.result.now = record {
+      scope_is = c.deref.ensures ∙ ap (λ (t : TableOf). t.scope) c.self.view_is;
+      shift_is = ap (λ (t : TableOf). t.shift) c.self.view_is;
+      digits_are = c.deref-3.ensures.value ∙ ap (λ (t : TableOf). t.digits) c.self.view_is;
+      exponents_are = c.deref-4.ensures.value ∙ ap (λ (t : TableOf). t.exponents) c.self.view_is;
+      full = subst (λ (t : TableOf). IsFull t.scope t.digits t.exponents) c.self.view_is c.self.invariant;
+    } in
+    let part = c.deref-2.result.now in let whole = c.deref.result.now in
+    let R = g.R.Semiring in
+    let part_is : part ≡ c.args.out.now.scope = c.deref-2.ensures ∙ ap (λ (t : TableOf). t.scope) c.out.view_is in
+    let long : length c.plus_at_each.new.out_digits ≡ cells_in part =
+    let e = ap (λ (ys : List ℕ). length ys) c.deref_mut.ensures.value in let s = ap (λ (s : ScopeOf). cells_in s) c.deref-2.ensures in
+    omega (arith, c.plus_at_each.ensures.same_digits, e, s, c.out.invariant.as_many_digits) in
+    let few : length c.deref-6.result.now ≤ cells_in whole = let e = ap (λ (ys : List ℕ). length ys) c.deref-6.ensures.0 in omega (arith, e, c.cells_onto.ensures.few) in
+    let onto : (d : ℕ) → d < cells_in part → map (λ k. slice_index c.deref-5.result.now d + k) c.deref-6.result.now ≡ cells_onto part whole d =
+    rw (c.deref-5.ensures.0, c.deref-6.ensures.0) c.cells_onto.ensures.onto in
+    let made = onto_stand R.plus_of c.self.inside.shift part whole c.deref-5.result.now c.deref-6.result.now c.plus_at_each.new.out_digits c.plus_at_each.new.out_exponents f n long few onto
+    (c.plus_at_each.ensures.stand c.self.inside.shift f n (parts_stand _ _ _ _ _ parts f n h)) in
     record {
-      walk = c.next-place.ensures.at;
-      scope = c.loop-cell.invariant.scope;
-      long = rw length-set c.loop-cell.invariant.long;
-      cells = subst (λ k. AreMargins R.encloses R.has_grade R.is_exact R.plus_of law.lawful law.grade_more items goes (set out k c.plus-sum.result) (cell + 1)) (sym place) more;
+      stand = stand_items c.out.inside.digits c.out.inside.exponents c.plus_at_each.new.out_digits c.plus_at_each.new.out_exponents (omega (arith, c.plus_at_each.auto.out_digits, c.deref_mut.ensures.len)) (omega (arith, c.plus_at_each.auto.out_exponents, c.deref_mut-2.ensures.len)) _ _ _
+          (
+          subst (λ (s : ScopeOf). AllStand c.self.inside.shift c.plus_at_each.new.out_digits c.plus_at_each.new.out_exponents (λ d. plus_over R.plus_of 0 f (cells_onto s c.args.self.now.scope d)) (n + 2 * cells_in c.args.self.now.scope)) part_is
+          (subst (λ (s : ScopeOf). AllStand c.self.inside.shift c.plus_at_each.new.out_digits c.plus_at_each.new.out_exponents (λ d. plus_over R.plus_of 0 f (cells_onto part s d)) (n + 2 * cells_in s)) parts.scope_is made));
     }
-
-pub returns-clause-cells : goal.returns-clause-cells
-returns-clause-cells g c =
-    let R = g.R.Semiring in let law = g.met.R.Semiring in
-    let items = c.self.inside.values.items in let out = c.loop-cell.out-inside.values.items in let cell = c.loop-cell.cell in
-    let done : cell ≡ length items = omega (arith, c.self.inside.values.ok.0) in
-    let count : cell ≡ cells_in c.self.inside.scope = done ∙ c.self.invariant in
-    λ d e l.
-    let chosen = filter (λ k. cell_in c.out.inside.scope c.self.inside.scope k == d) (numbers_below cell) in
-    let all : IsPlusOver R.encloses R.has_grade R.is_exact R.plus_of items chosen (get_or out d e) =
-    so_far_all R.encloses R.has_grade R.is_exact R.plus_of law.lawful law.grade_more items chosen cell (get_or out d e) done (c.loop-cell.invariant.cells d e l) in
-    let there = subst (λ n. IsPlusOver R.encloses R.has_grade R.is_exact R.plus_of items (filter (λ k. cell_in c.out.inside.scope c.self.inside.scope k == d) (numbers_below n)) (get_or out d e)) count all in
-    let seen = subst (λ (t : TableOf g.row.R-Value.Denot). IsPlusOver R.encloses R.has_grade R.is_exact R.plus_of t.values (cells_onto c.out.inside.scope t.scope d) (get_or out d e)) c.self.view_is there in
-    subst (λ (t : TableOf g.row.R-Value.Denot). IsPlusOver R.encloses R.has_grade R.is_exact R.plus_of c.args.self.now.values (cells_onto t.scope c.args.self.now.scope d) (get_or out d e)) c.out.view_is seen
-
-pub returns-clause-count : goal.returns-clause-count
-returns-clause-count g c =
-    c.loop-cell.invariant.long ∙ c.make_absent.ensures.cells ∙ ap (λ (t : TableOf g.row.R-Value.Denot). length t.values) c.out.view_is

@@ -1,27 +1,30 @@
-use Rattle.std.proofs.Common.{◌≡◌, ◌<◌, ◌≤◌, length, arith, ap, subst, ◌∙◌}
-use Rattle.mk_net.specs.Trades.{trade_ratio}
-use Rattle.mk_sums.specs.There.{ratio_there}
+use Rattle.std.proofs.Common.{◌≡◌, arith, ap, subst, sym, ◌∙◌}
 use Rattle.mk_table.specs.Scopes.{ScopeOf}
-use Rattle.mk_table.specs.Cells.{values_at}
-use Rattle.mk_table.specs.Tables.{TableOf, IsTimesWhole, EachCell}
-use Rattle.mk_table.proofs.Changed.{changed_more, changed_all}
+use Rattle.mk_table.specs.Tables.{TableOf}
+use Rattle.mk_table.specs.inner.Parts.{IsFull}
+use Rattle.mk_net.specs.Trades.{trade_ratio}
+use Rattle.mk_table.specs.Cells.{cells_where}
+use Rattle.mk_table.proofs.Kept.{event_first}
+use Rattle.mk_table.proofs.Whole.{AreParts, stand_items, ratio_numbers}
 use Rattle.mk_table.proofs.table.Table.times_ratio.Goals as goal
 
-pub loop-cell-preserved : goal.loop-cell-preserved
-loop-cell-preserved g c =
-    let old = c.self.inside.values.items in
-    let l : c.loop-cell.cell < length old = omega (arith, c.self.inside.values.ok.0) in
-    let units : c.units_of-units.result ≡ ratio_there (trade_ratio c.args.ratio.now) (values_at c.self.inside.scope c.loop-cell.cell) =
-    c.units_of-units.ensures.units ∙ ap (λ (s : ScopeOf). ratio_there (trade_ratio c.args.ratio.now) (values_at s c.loop-cell.cell)) c.loop-cell.invariant.scope in
-    let made = subst (λ n. IsTimesWhole g.R.Semiring.encloses g.R.Semiring.has_grade g.R.Semiring.is_exact c.index.result.now n c.times_whole.result) units c.times_whole.ensures in
-    record {
-      scope = c.loop-cell.invariant.scope;
-      cells = changed_more _ old c.loop-cell.self-inside.values.items c.loop-cell.cell c.index.result.now c.times_whole.result l c.loop-cell.invariant.cells c.index.ensures made;
-    }
+pub cells_where-requires : goal.cells_where-requires
+cells_where-requires g c =
+    let same : c.deref.result.now ≡ c.args.self.now.scope = c.deref.ensures ∙ ap (λ (t : TableOf). t.scope) c.self.view_is in
+    rw same (event_first c.args.self.now.scope c.args.ratio.now.condition _ c.requires.event)
 
-pub returns-clause-cells : goal.returns-clause-cells
-returns-clause-cells g c =
-    let old = c.self.inside.values.items in let new = c.loop-cell.self-inside.values.items in
-    let l : length old ≤ c.loop-cell.cell = omega (arith, c.self.inside.values.ok.0) in
-    subst (λ (t : TableOf g.row.R-Value.Denot). EachCell (λ k x r. IsTimesWhole g.R.Semiring.encloses g.R.Semiring.has_grade g.R.Semiring.is_exact x (ratio_there (trade_ratio c.args.ratio.now) (values_at t.scope k)) r) t.values new) c.self.view_is
-    (changed_all _ old new c.loop-cell.cell l c.loop-cell.invariant.cells)
+pub returns-clause-numbers : goal.returns-clause-numbers
+returns-clause-numbers g c = λ f n h.
+    let parts : AreParts c.args.self.now c.deref-2.result.now c.self.inside.shift c.deref_mut.result.now c.deref_mut-2.result.now = record {
+      scope_is = c.deref-2.ensures ∙ ap (λ (t : TableOf). t.scope) c.self.view_is;
+      shift_is = ap (λ (t : TableOf). t.shift) c.self.view_is;
+      digits_are = c.deref_mut.ensures.value ∙ ap (λ (t : TableOf). t.digits) c.self.view_is;
+      exponents_are = c.deref_mut-2.ensures.value ∙ ap (λ (t : TableOf). t.exponents) c.self.view_is;
+      full = subst (λ (t : TableOf). IsFull t.scope t.digits t.exponents) c.self.view_is c.self.invariant;
+    } in
+    let chosen : c.deref-3.result.now ≡ cells_where c.deref-2.result.now c.args.ratio.now.condition =
+    c.deref-3.ensures.0 ∙ c.cells_where.ensures.cells ∙ ap (λ (s : ScopeOf). cells_where s c.args.ratio.now.condition) (c.deref.ensures ∙ sym c.deref-2.ensures) in
+    record {
+      stand = stand_items c.self.inside.digits c.self.inside.exponents c.times_units.new.digits c.times_units.new.exponents (omega (arith, c.times_units.auto.digits, c.deref_mut.ensures.len)) (omega (arith, c.times_units.auto.exponents, c.deref_mut-2.ensures.len)) _ _ _
+          (ratio_numbers c.args.self.now _ _ _ _ parts (trade_ratio c.args.ratio.now) c.deref-3.result.now c.times_units.new.digits c.times_units.new.exponents chosen c.times_units.ensures f n h);
+    }

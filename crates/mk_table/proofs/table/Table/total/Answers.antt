@@ -1,46 +1,41 @@
-use Rattle.std.proofs.Common.{◌≡◌, ℕ, Bool, ◌<◌, List, length, filter, arith, ap, subst, sym, ◌∙◌}
-use Rattle.mk_net.specs.declared.words.Pair.{Pair}
-use Rattle.mk_exact.specs.States.{numbers_below}
-use Rattle.mk_sums.specs.There.{holds_there}
-use Rattle.mk_table.specs.Scopes.{cells_in}
-use Rattle.mk_table.specs.Cells.{values_at, cells_where}
-use Rattle.mk_table.specs.Tables.{TableOf, IsPlusOver}
-use Rattle.mk_table.proofs.Changed.{IsPlusOfTwo, next_fits, total_step, total_skip, so_far_all}
+use Rattle.std.proofs.Common.{◌≡◌, ◌+◌, ◌*◌, ◌≤◌, ℕ, List, length, arith, ap, subst, ◌∙◌}
+use Rattle.mk_table.specs.Scopes.{ScopeOf, cells_in}
+use Rattle.mk_table.specs.Tables.{TableOf}
+use Rattle.mk_table.specs.inner.Parts.{IsFull}
+use Rattle.mk_exact.specs.States.{plus_over}
+use Rattle.mk_cell.specs.Cell.{StandsAt}
+use Rattle.mk_table.specs.Cells.{cells_where}
+use Rattle.mk_table.proofs.Whole.{AreParts, parts_stand, parts_full, where_within, total_stands}
 use Rattle.mk_table.proofs.table.Table.total.Goals as goal
-use Rattle.mk_table.proofs.table.Table.total.Goals.{then-holds, else-holds}
 
-pub plus-sum-requires : goal.plus-sum-requires
-plus-sum-requires g c =
-    let R = g.R.Semiring in let law = g.met.R.Semiring in
-    let items = c.self.inside.values.items in
-    let same : items ≡ c.args.self.now.values = ap (λ (t : TableOf g.row.R-Value.Denot). t.values) c.self.view_is in
-    let l : c.loop-cell.cell < length items = omega (arith, c.self.inside.values.ok.0) in
-    next_fits R.encloses R.has_grade R.is_exact R.plus_of law.lawful law.grade_more items R.can_plus law.plus_fits c.args.self.now.values same c.requires.range _ c.loop-cell.cell c.loop-cell.sum c.index.result.now l c.loop-cell.invariant c.index.ensures
-
-pub loop-cell-preserved : goal.loop-cell-preserved
-loop-cell-preserved g c =
-    let R = g.R.Semiring in let law = g.met.R.Semiring in
-    let items = c.self.inside.values.items in let scope = c.self.inside.scope in let event = c.args.event.now in let cell = c.loop-cell.cell in
-    let passes : ℕ → Bool = λ k. holds_there event (values_at scope k) in
-    let l : cell < length items = omega (arith, c.self.inside.values.ok.0) in
-    let tested : passes cell ≡ c.holds.result = sym (c.holds.ensures ∙ ap (λ (ps : List Pair). holds_there ps (values_at scope cell)) c.pairs.ensures.pairs) in
-    elim c.if-holds.branch [
-      | then-holds w ↦
-          let two : IsPlusOfTwo R.encloses R.has_grade R.is_exact R.plus_of c.loop-cell.sum w.index.result.now w.plus-sum.result =
-          record { value = w.plus-sum.ensures.value; grade = w.plus-sum.ensures.grade; exact = w.plus-sum.ensures.exact } in
-          rw w.sum-is (total_step R.encloses R.has_grade R.is_exact R.plus_of law.lawful law.grade_more items passes cell c.loop-cell.sum w.index.result.now w.plus-sum.result l c.loop-cell.invariant (tested ∙ w.if-holds.true) w.index.ensures two)
-      | else-holds w ↦
-          rw w.sum-is (total_skip R.encloses R.has_grade R.is_exact R.plus_of law.lawful law.grade_more items passes cell c.loop-cell.sum c.loop-cell.invariant (tested ∙ w.if-holds.false))
-    ]
+pub plus_at-requires-clause-within : goal.plus_at-requires-clause-within
+plus_at-requires-clause-within g c =
+    let parts : AreParts c.args.self.now c.deref.result.now c.self.inside.shift c.deref-2.result.now c.deref-3.result.now = record {
+      scope_is = c.deref.ensures ∙ ap (λ (t : TableOf). t.scope) c.self.view_is;
+      shift_is = ap (λ (t : TableOf). t.shift) c.self.view_is;
+      digits_are = c.deref-2.ensures.value ∙ ap (λ (t : TableOf). t.digits) c.self.view_is;
+      exponents_are = c.deref-3.ensures.value ∙ ap (λ (t : TableOf). t.exponents) c.self.view_is;
+      full = subst (λ (t : TableOf). IsFull t.scope t.digits t.exponents) c.self.view_is c.self.invariant;
+    } in
+    let scope = c.deref.result.now in
+    let full = parts_full _ _ _ _ _ parts in
+    let chosen : c.deref-4.result.now ≡ cells_where scope c.args.event.now = c.deref-4.ensures.0 ∙ c.cells_where.ensures.cells in
+    rw (chosen, full.as_many_digits) (where_within scope c.args.event.now)
 
 pub returns : goal.returns
-returns g c =
-    let R = g.R.Semiring in let law = g.met.R.Semiring in
-    let items = c.self.inside.values.items in let scope = c.self.inside.scope in let event = c.args.event.now in let cell = c.loop-cell.cell in
-    let done : cell ≡ length items = omega (arith, c.self.inside.values.ok.0) in
-    let chosen = filter (λ k. holds_there event (values_at scope k)) (numbers_below cell) in
-    let all : IsPlusOver R.encloses R.has_grade R.is_exact R.plus_of items chosen c.loop-cell.sum =
-    so_far_all R.encloses R.has_grade R.is_exact R.plus_of law.lawful law.grade_more items chosen cell c.loop-cell.sum done c.loop-cell.invariant in
-    let count : cell ≡ cells_in scope = done ∙ c.self.invariant in
-    let there = subst (λ n. IsPlusOver R.encloses R.has_grade R.is_exact R.plus_of items (filter (λ k. holds_there event (values_at scope k)) (numbers_below n)) c.loop-cell.sum) count all in
-    subst (λ (t : TableOf g.row.R-Value.Denot). IsPlusOver R.encloses R.has_grade R.is_exact R.plus_of t.values (cells_where t.scope event) c.loop-cell.sum) c.self.view_is there
+returns g c = λ f n h.
+    let parts : AreParts c.args.self.now c.deref.result.now c.self.inside.shift c.deref-2.result.now c.deref-3.result.now = record {
+      scope_is = c.deref.ensures ∙ ap (λ (t : TableOf). t.scope) c.self.view_is;
+      shift_is = ap (λ (t : TableOf). t.shift) c.self.view_is;
+      digits_are = c.deref-2.ensures.value ∙ ap (λ (t : TableOf). t.digits) c.self.view_is;
+      exponents_are = c.deref-3.ensures.value ∙ ap (λ (t : TableOf). t.exponents) c.self.view_is;
+      full = subst (λ (t : TableOf). IsFull t.scope t.digits t.exponents) c.self.view_is c.self.invariant;
+    } in
+    let scope = c.deref.result.now in let R = g.R.Semiring in
+    let chosen : c.deref-4.result.now ≡ cells_where c.args.self.now.scope c.args.event.now =
+    c.deref-4.ensures.0 ∙ c.cells_where.ensures.cells ∙ ap (λ (s : ScopeOf). cells_where s c.args.event.now) parts.scope_is in
+    let few : length c.deref-4.result.now ≤ cells_in c.args.self.now.scope =
+    let e = ap (λ (ys : List ℕ). length ys) c.deref-4.ensures.0 in let s = ap (λ (s : ScopeOf). cells_in s) parts.scope_is in omega (arith, e, s, c.cells_where.ensures.few) in
+    let made = total_stands R.plus_of c.self.inside.shift _ _ c.deref-4.result.now (cells_in c.args.self.now.scope) f n few (c.plus_at.ensures c.self.inside.shift f n (parts_stand _ _ _ _ _ parts f n h)) in
+    subst (λ k. StandsAt k c.plus_at.result.digits c.plus_at.result.exponent (plus_over R.plus_of 0 f (cells_where c.args.self.now.scope c.args.event.now)) (n + 2 * cells_in c.args.self.now.scope)) parts.shift_is
+    (subst (λ (ys : List ℕ). StandsAt c.self.inside.shift c.plus_at.result.digits c.plus_at.result.exponent (plus_over R.plus_of 0 f ys) (n + 2 * cells_in c.args.self.now.scope)) chosen made)

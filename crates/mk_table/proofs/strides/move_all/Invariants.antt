@@ -1,0 +1,9 @@
+use Rattle.std.proofs.Common.{◌≡◌, ℕ, ◌+◌, ◌<◌, ◌≤◌, length, slice_index}
+use Rattle.mk_table.proofs.strides.move_all.Given as goal
+
+abbrev pub invariant-loop-place : goal.invariant-loop-place
+invariant-loop-place l = record {
+  long : length l.cells.items ≡ length l.fn.cells.items;
+  moved : (k : ℕ) → k < l.place → slice_index l.cells.items k ≡ l.by + slice_index l.fn.cells.items k;
+  left : (k : ℕ) → l.place ≤ k → slice_index l.cells.items k ≡ slice_index l.fn.cells.items k;
+}

@@ -1,0 +1,19 @@
+use Rattle.std.proofs.Common.{arith, ap, subst, ◌∙◌}
+use Rattle.mk_table.specs.Tables.{TableOf}
+use Rattle.mk_table.specs.inner.Parts.{IsFull}
+use Rattle.mk_table.proofs.Whole.{AreParts, stand_items, kept_numbers}
+use Rattle.mk_table.proofs.table.Table.restrict.Goals as goal
+
+pub returns-clause-numbers : goal.returns-clause-numbers
+returns-clause-numbers g c = λ f n h.
+    let parts : AreParts c.args.self.now c.deref.result.now c.self.inside.shift c.deref_mut.result.now c.deref_mut-2.result.now = record {
+      scope_is = c.deref.ensures ∙ ap (λ (t : TableOf). t.scope) c.self.view_is;
+      shift_is = ap (λ (t : TableOf). t.shift) c.self.view_is;
+      digits_are = c.deref_mut.ensures.value ∙ ap (λ (t : TableOf). t.digits) c.self.view_is;
+      exponents_are = c.deref_mut-2.ensures.value ∙ ap (λ (t : TableOf). t.exponents) c.self.view_is;
+      full = subst (λ (t : TableOf). IsFull t.scope t.digits t.exponents) c.self.view_is c.self.invariant;
+    } in
+    record {
+      stand = stand_items c.self.inside.digits c.self.inside.exponents c.keep_value.new.digits c.keep_value.new.exponents (omega (arith, c.keep_value.auto.digits, c.deref_mut.ensures.len)) (omega (arith, c.keep_value.auto.exponents, c.deref_mut-2.ensures.len)) _ _ _
+          (kept_numbers c.args.self.now _ _ _ _ parts c.args.pair c.keep_value.new.digits c.keep_value.new.exponents c.keep_value.ensures f n h);
+    }

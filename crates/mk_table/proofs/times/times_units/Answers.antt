@@ -1,0 +1,76 @@
+use Rattle.std.proofs.Common.{◌≡◌, ◌<◌, ℕ, List, Bool, length, slice_index, subst, sym, ap, arith, ◌∙◌}
+use Rattle.mk_net.specs.Trades.{trade_ratio}
+use Rattle.mk_exact.specs.Ratios.{units_of}
+use Rattle.mk_sums.specs.There.{holds_there}
+use Rattle.mk_cell.specs.Cell.{StandsAt}
+use Rattle.mk_table.specs.Scopes.{cells_in}
+use Rattle.mk_table.specs.Cells.{values_at}
+use Rattle.mk_table.specs.inner.Parts.{IsTimes, IsAmong}
+use Rattle.mk_table.proofs.Changes.{left_cell, whole_cell, written_among}
+use Rattle.mk_table.proofs.Chosen.{chosen_below, chosen_apart}
+use Rattle.mk_table.proofs.Kept.{place_of_units, event_last}
+use Rattle.mk_table.proofs.times.times_units.Goals as goal
+
+-- each of the chosen cells is one of the scope's
+cell_below : (chosen : List ℕ) (passes : List ℕ) (n i : ℕ) → chosen ≡ passes → ((k : ℕ) → k < length passes → slice_index passes k < n) → i < length chosen → slice_index chosen i < n
+cell_below chosen passes n i e h l = subst (λ (ys : List ℕ). i < length ys → slice_index ys i < n) (sym e) (h i) l
+
+pub value-requires-clause-cell : goal.value-requires-clause-cell
+value-requires-clause-cell c =
+    let scope = c.args.scope.now in
+    cell_below c.args.chosen.now _ (cells_in scope) c.loop-place.place c.requires.chosen (chosen_below (λ k. holds_there c.args.ratio.now.condition (values_at scope k)) (cells_in scope)) (omega (arith, c.loop-place-test.true))
+
+pub value-requires-clause-variable : goal.value-requires-clause-variable
+value-requires-clause-variable c =
+    event_last c.args.scope.now c.args.ratio.now.condition (record { variable = c.args.ratio.now.variable; value = 0 }) c.requires.event
+
+pub units_for-units-requires : goal.units_for-units-requires
+units_for-units-requires c =
+    let scope = c.args.scope.now in
+    let l = cell_below c.args.chosen.now _ (cells_in scope) c.loop-place.place c.requires.chosen (chosen_below (λ k. holds_there c.args.ratio.now.condition (values_at scope k)) (cells_in scope)) (omega (arith, c.loop-place-test.true)) in
+    let below = place_of_units scope (trade_ratio c.args.ratio.now) c.requires.event c.requires.one_each (slice_index c.args.chosen.now c.loop-place.place) l in
+    rw c.value.ensures below
+
+pub times_at-requires-clause-within : goal.times_at-requires-clause-within
+times_at-requires-clause-within c =
+    let scope = c.args.scope.now in
+    let l = cell_below c.args.chosen.now _ (cells_in scope) c.loop-place.place c.requires.chosen (chosen_below (λ k. holds_there c.args.ratio.now.condition (values_at scope k)) (cells_in scope)) (omega (arith, c.loop-place-test.true)) in
+    omega (arith, l, c.requires.full.as_many_digits, c.loop-place.invariant.as_many_digits)
+
+pub times_at-requires-clause-within_exponents : goal.times_at-requires-clause-within_exponents
+times_at-requires-clause-within_exponents c =
+    let scope = c.args.scope.now in
+    let l = cell_below c.args.chosen.now _ (cells_in scope) c.loop-place.place c.requires.chosen (chosen_below (λ k. holds_there c.args.ratio.now.condition (values_at scope k)) (cells_in scope)) (omega (arith, c.loop-place-test.true)) in
+    omega (arith, l, c.requires.full.as_many_exponents, c.loop-place.invariant.as_many_exponents)
+
+-- a chosen cell was not reached before
+new_cell : (chosen passes : List ℕ) (i : ℕ) → chosen ≡ passes → ((k j : ℕ) → k < j → j < length passes → slice_index passes k ≡ slice_index passes j → ⊥) → i < length chosen
+    → (k : ℕ) → k < i → slice_index chosen k ≡ slice_index chosen i → ⊥
+new_cell chosen passes i e h l = subst (λ (ys : List ℕ). i < length ys → (k : ℕ) → k < i → slice_index ys k ≡ slice_index ys i → ⊥) (sym e) (λ m k p. h k i p m) l
+
+pub times_at-requires-clause-cell : goal.times_at-requires-clause-cell
+times_at-requires-clause-cell c =
+    let scope = c.args.scope.now in let i = c.loop-place.place in
+    let passes : ℕ → Bool = λ k. holds_there c.args.ratio.now.condition (values_at scope k) in
+    let m : i < length c.args.chosen.now = omega (arith, c.loop-place-test.true) in
+    let l = cell_below c.args.chosen.now _ (cells_in scope) i c.requires.chosen (chosen_below passes (cells_in scope)) m in
+    let new = new_cell c.args.chosen.now _ i c.requires.chosen (chosen_apart passes (cells_in scope)) m in
+    left_cell _ (IsAmong c.args.chosen.now i) c.args.digits.now c.args.exponents.now c.loop-place.digits c.loop-place.exponents c.requires.room.0 1 (slice_index c.args.chosen.now i) c.requires.room.1 c.loop-place.invariant
+    (λ p. new p.0 p.1 p.2) (omega (arith, l, c.requires.full.as_many_digits))
+
+pub times_at-requires-clause-other : goal.times_at-requires-clause-other
+times_at-requires-clause-other c = whole_cell 40 _ _ _ (omega arith) c.of_whole.ensures
+
+pub loop-place-preserved : goal.loop-place-preserved
+loop-place-preserved c =
+    let scope = c.args.scope.now in let i = c.loop-place.place in
+    let passes : ℕ → Bool = λ k. holds_there c.args.ratio.now.condition (values_at scope k) in
+    let m : i < length c.args.chosen.now = omega (arith, c.loop-place-test.true) in
+    let cell = slice_index c.args.chosen.now i in
+    let l = cell_below c.args.chosen.now _ (cells_in scope) i c.requires.chosen (chosen_below passes (cells_in scope)) m in
+    let units : ℕ → ℕ = λ k. units_of (trade_ratio c.args.ratio.now) (values_at scope k c.args.ratio.now.variable) in
+    let e : c.units_for-units.result ≡ units cell = c.units_for-units.ensures ∙ ap (λ v. slice_index c.args.ratio.now.factors.items v) c.value.ensures in
+    written_among (λ k d e x y. IsTimes d e 40 (units k) 0 x y) c.args.chosen.now c.args.digits.now c.args.exponents.now c.loop-place.digits c.loop-place.exponents c.times_at.new.digits c.times_at.new.exponents
+    i cell (omega arith) (new_cell c.args.chosen.now _ i c.requires.chosen (chosen_apart passes (cells_in scope)) m)
+    (omega (arith, l, c.requires.full.as_many_digits)) (omega (arith, l, c.requires.full.as_many_exponents)) c.loop-place.invariant c.times_at.ensures.digits c.times_at.ensures.exponents
+    (c.times_at.ensures.times 40 (units cell) 0 (subst (λ w. StandsAt 40 c.of_whole.result.digits c.of_whole.result.exponent w 0) e c.of_whole.ensures))

@@ -1,0 +1,46 @@
+-- Tables by their parts: two arrays, and what is done to their cells.
+use Rattle.std.specs.Prelude.{◌≡◌, ℕ, ◌+◌, ◌*◌, ◌<◌, Bool, true, false, List, length, slice_index, take, drop}
+use Rattle.mk_cell.specs.Cell.{AllStand, StandsAt}
+use Rattle.mk_table.specs.Scopes.{ScopeOf, cells_in}
+use Rattle.mk_table.specs.Tables.{max_steps, max_shift}
+
+-- both arrays have a place for each cell of the scope
+pub record IsFull (scope : ScopeOf) (digits exponents : List ℕ) : Type 0 where
+  pub as_many_digits : length digits ≡ cells_in scope
+  pub as_many_exponents : length exponents ≡ cells_in scope
+
+-- two arrays whose cells stand under a shift, with room for so many steps more
+pub record HaveRoom (shift : ℕ) (digits exponents : List ℕ) (more : ℕ) : Type 0 where
+  pub same_length : length exponents ≡ length digits
+  pub numbers : ℕ → ℕ
+  pub steps : ℕ
+  pub stand : AllStand shift digits exponents numbers steps
+  pub few_steps : steps + more < max_steps
+  pub small_shift : shift < max_shift
+
+-- A cell becomes another, which stands for the product by a number under a shift, in one step more than both.
+pub record IsTimes (digits exponent shift number steps new_digits new_exponent : ℕ) : Type 0 where
+  pub stands : (j v n : ℕ) → StandsAt j digits exponent v n → StandsAt (j + shift) new_digits new_exponent (v * number) (n + steps + 1)
+
+-- Of two arrays the cells that are reached are changed as R says, and the others are as they were.
+pub record IsChanged (R : ℕ → ℕ → ℕ → ℕ → ℕ → Type 0) (reached : ℕ → Type 0) (old_digits old_exponents digits exponents : List ℕ) : Type 0 where
+  pub as_many_digits : length digits ≡ length old_digits
+  pub as_many_exponents : length exponents ≡ length old_exponents
+  pub done : (c : ℕ) → reached c → R c (slice_index old_digits c) (slice_index old_exponents c) (slice_index digits c) (slice_index exponents c)
+  pub digits_left : (c : ℕ) → (reached c → ⊥) → slice_index digits c ≡ slice_index old_digits c
+  pub exponents_left : (c : ℕ) → (reached c → ⊥) → slice_index exponents c ≡ slice_index old_exponents c
+
+-- one of the first n numbers of a list
+abbrev pub IsAmong : List ℕ → ℕ → ℕ → Type 0
+IsAmong xs n c = (k : ℕ) × (k < n) × (slice_index xs k ≡ c)
+
+-- what a restriction makes of a cell that it keeps, or does not keep
+pub record IsRestricted (kept : Bool) (digits exponent new_digits new_exponent : ℕ) : Type 0 where
+  pub same_digits : kept ≡ true → new_digits ≡ digits
+  pub same_exponent : kept ≡ true → new_exponent ≡ exponent
+  pub no_digits : kept ≡ false → new_digits ≡ 0
+  pub no_exponent : kept ≡ false → new_exponent ≡ 0
+
+-- a block of a list of cells
+abbrev pub block_of : List ℕ → ℕ → List ℕ
+block_of xs b = take 64 (drop (b * 64) xs)

@@ -1,0 +1,97 @@
+//! The plus of chosen cells, by blocks that lie on the stack.
+
+ghost use Rattle.std.specs.Prelude.{◌≡◌, ℕ, ◌+◌, ◌*◌, ◌<◌, ◌≤◌, List, All, map, length, slice_index};
+ghost use Rattle.mk_net.specs.Bounds.{max_clique_cells};
+ghost use Rattle.mk_exact.specs.States.{plus_over};
+ghost use Rattle.mk_cell.specs.Cell.{AllStand, AreCells, Stands};
+ghost use Rattle.mk_table.specs.inner.Parts.{HaveRoom, block_of};
+
+use mk_cell::Cell;
+use mk_semiring::Semiring;
+
+/// The cells of a block, and the blocks of a list.
+const BLOCK: usize = 64;
+
+/// Puts into each cell of a table the plus of the cells that lie so far from the cell's base.
+pub(crate) fn plus_at_each<R: Semiring>(
+    digits: &[u64],
+    exponents: &[u32],
+    bases: &[u16],
+    offsets: &[u16],
+    out_digits: &mut [u64],
+    out_exponents: &mut [u32],
+)
+    requires few { length offsets.now ≤ max_clique_cells }
+    requires within { (b : ℕ) → b < length bases.now → All (λ c. slice_index bases.now b + c < length digits.now) offsets.now }
+    requires room { (k : ℕ) × HaveRoom k digits.now exponents.now (2 * length offsets.now) }
+    requires digits { length out_digits.old ≡ length bases.now }
+    requires exponents { length out_exponents.old ≡ length bases.now }
+    ensures stand { (k : ℕ) (f : ℕ → ℕ) (n : ℕ) → AllStand k digits.now exponents.now f n
+        → AllStand k out_digits.new out_exponents.new (λ b. plus_over R.plus_of 0 (λ c. f (slice_index bases.now b + c)) offsets.now) (n + 2 * length offsets.now) }
+    ensures same_digits { length out_digits.new ≡ length out_digits.old }
+    ensures same_exponents { length out_exponents.new ≡ length out_exponents.old }
+{
+    for place in 0..bases.len() {
+        let cell = plus_at::<R>(digits, exponents, bases[place] as usize, offsets);
+        out_digits[place] = cell.digits;
+        out_exponents[place] = cell.exponent;
+    }
+}
+
+/// The plus of the cells that lie so far from a base.
+pub(crate) fn plus_at<R: Semiring>(
+    digits: &[u64],
+    exponents: &[u32],
+    base: usize,
+    offsets: &[u16],
+) -> Cell
+    requires few { length offsets.now ≤ max_clique_cells }
+    requires within { All (λ c. base + c < length digits.now) offsets.now }
+    requires room { (k : ℕ) × HaveRoom k digits.now exponents.now (2 * length offsets.now) }
+    ensures { (k : ℕ) (f : ℕ → ℕ) (n : ℕ) → AllStand k digits.now exponents.now f n
+        → Stands k result (plus_over R.plus_of 0 (λ c. f (base + c)) offsets.now) (n + 2 * length offsets.now) }
+{
+    let blocks = offsets.len().div_ceil(BLOCK);
+    let mut block_digits = [0u64; BLOCK];
+    let mut block_exponents = [0u32; BLOCK];
+    for block in 0..blocks {
+        let cell = plus_of_block::<R>(digits, exponents, base, block_of(offsets, block));
+        block_digits[block] = cell.digits;
+        block_exponents[block] = cell.exponent;
+    }
+    R::over(&block_digits[..blocks], &block_exponents[..blocks])
+}
+
+/// A block of a list.
+#[inline]
+fn block_of(offsets: &[u16], block: usize) -> &[u16]
+    requires { block * 64 ≤ length offsets.now }
+    ensures { result.now ≡ block_of offsets.now block }
+{
+    let rest = &offsets[block * BLOCK..];
+    &rest[..BLOCK.min(rest.len())]
+}
+
+/// The plus of the cells of one block.
+fn plus_of_block<R: Semiring>(
+    digits: &[u64],
+    exponents: &[u32],
+    base: usize,
+    offsets: &[u16],
+) -> Cell
+    requires few { length offsets.now ≤ 64 }
+    requires within { All (λ c. base + c < length digits.now) offsets.now }
+    requires cells { AreCells digits.now exponents.now }
+    ensures { (k : ℕ) (f : ℕ → ℕ) (n : ℕ) → AllStand k digits.now exponents.now f n
+        → Stands k result (plus_over R.plus_of 0 (λ c. f (base + c)) offsets.now) (n + length offsets.now) }
+{
+    let count = offsets.len();
+    let mut block_digits = [0u64; BLOCK];
+    let mut block_exponents = [0u32; BLOCK];
+    for place in 0..count {
+        let cell = base + offsets[place] as usize;
+        block_digits[place] = digits[cell];
+        block_exponents[place] = exponents[cell];
+    }
+    R::over(&block_digits[..count], &block_exponents[..count])
+}

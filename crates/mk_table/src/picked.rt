@@ -1,0 +1,51 @@
+//! What a cell picks: a share in the rows of a variable, and the units of a trade.
+
+ghost use Rattle.std.specs.Prelude.{◌≡◌, ◌<◌, ◌≤◌, length, All, slice_index};
+ghost use Rattle.mk_net.specs.Network.{sizes};
+ghost use Rattle.mk_net.specs.Named.{variable_at};
+ghost use Rattle.mk_sums.specs.There.{row_there, share_there};
+ghost use Rattle.mk_table.specs.Scopes.{HasSized, cells_in};
+ghost use Rattle.mk_table.specs.Cells.{values_at};
+
+use crate::scope::Scope;
+use mk_net::{Network, Ratio};
+
+/// The units for a value of the ratio's variable.
+#[inline]
+pub(crate) fn units_for(ratio: &Ratio, value: u32) -> u64
+    requires { value < length ratio.now.factors.items }
+    ensures { result ≡ slice_index ratio.now.factors.items value }
+{
+    ratio.factors[value as usize]
+}
+
+/// The number of the row that a cell picks for a variable.
+#[inline]
+fn row_of(net: &Network, variable: u32, scope: &Scope, cell: usize) -> u32
+    requires variable { variable < length net.now }
+    requires parents { All (HasSized net.now scope.now) (variable_at net.now variable).parents }
+    requires cell { cell < cells_in scope.now }
+    ensures number { result ≡ row_there (sizes net.now) (variable_at net.now variable).parents (values_at scope.now cell) }
+    ensures within { result < length (variable_at net.now variable).rows }
+{
+    let _ = net.variables();
+    let mut row: u64 = 0;
+    for parent in net.parents(variable) {
+        row = row * net.values(*parent) as u64 + scope.value(cell, *parent) as u64;
+    }
+    row as u32
+}
+
+/// The share that a cell picks in the rows of a variable.
+#[inline]
+pub(crate) fn share_of(net: &Network, variable: u32, scope: &Scope, cell: usize) -> u32
+    requires variable { variable < length net.now }
+    requires family { HasSized net.now scope.now variable }
+    requires parents { All (HasSized net.now scope.now) (variable_at net.now variable).parents }
+    requires cell { cell < cells_in scope.now }
+    ensures { result ≡ share_there net.now variable (values_at scope.now cell) }
+{
+    let _ = net.variables();
+    let row = row_of(net, variable, scope, cell);
+    net.entry(variable, row, scope.value(cell, variable))
+}

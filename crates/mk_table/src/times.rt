@@ -1,0 +1,132 @@
+//! What multiplies the cells of a table, by its two arrays.
+
+ghost use Rattle.std.specs.Prelude.{◌≡◌, ℕ, ◌+◌, ◌*◌, ◌<◌, ◌≤◌, ◌==◌, true, false, List, All, length, slice_index, slice_set};
+ghost use Rattle.mk_net.specs.Network.{sizes};
+ghost use Rattle.mk_net.specs.Named.{variable_at};
+ghost use Rattle.mk_net.specs.Asked.{ratio_pairs};
+ghost use Rattle.mk_net.specs.Trades.{trade_ratio};
+ghost use Rattle.mk_exact.specs.Ratios.{units_of};
+ghost use Rattle.mk_sums.specs.There.{share_there};
+ghost use Rattle.mk_cell.specs.Cell.{AllStand, IsCell, Stands};
+ghost use Rattle.mk_table.specs.Scopes.{LiesIn, HasEvent, HasOneEach, HasSized, cells_in, has_variable};
+ghost use Rattle.mk_table.specs.Cells.{values_at, cell_in, cells_where};
+ghost use Rattle.mk_table.specs.inner.Parts.{IsFull, HaveRoom, IsTimes, IsChanged, IsAmong, IsRestricted};
+
+use crate::picked::{share_of, units_for};
+use crate::scope::Scope;
+use crate::walk::Walk;
+use mk_cell::Cell;
+use mk_net::{Network, Pair, Ratio};
+
+/// The places of two by which the units of a ratio are shifted.
+pub(crate) const RATIO_SHIFT: u32 = 40;
+
+/// Multiplies one cell.
+#[inline]
+fn times_at(digits: &mut [u64], exponents: &mut [u32], cell: usize, other: Cell)
+    requires within { cell < length digits.old }
+    requires within_exponents { cell < length exponents.old }
+    requires cell { IsCell (slice_index digits.old cell) (slice_index exponents.old cell) }
+    requires other { IsCell other.digits other.exponent }
+    ensures digits { digits.new ≡ slice_set digits.old cell (slice_index digits.new cell) }
+    ensures exponents { exponents.new ≡ slice_set exponents.old cell (slice_index exponents.new cell) }
+    ensures times { (k w p : ℕ) → Stands k other w p
+        → IsTimes (slice_index digits.old cell) (slice_index exponents.old cell) k w p (slice_index digits.new cell) (slice_index exponents.new cell) }
+{
+    let product = Cell {
+        digits: digits[cell],
+        exponent: exponents[cell],
+    }
+    .times(other);
+    digits[cell] = product.digits;
+    exponents[cell] = product.exponent;
+}
+
+/// Multiplies each cell by the share that it picks in the rows of a variable.
+pub(crate) fn times_shares(
+    digits: &mut [u64],
+    exponents: &mut [u32],
+    scope: &Scope,
+    net: &Network,
+    variable: u32,
+)
+    requires variable { variable < length net.now }
+    requires family { HasSized net.now scope.now variable }
+    requires parents { All (HasSized net.now scope.now) (variable_at net.now variable).parents }
+    requires full { IsFull scope.now digits.old exponents.old }
+    requires room { (k : ℕ) × HaveRoom k digits.old exponents.old 1 }
+    ensures { IsChanged (λ c d e x y. IsTimes d e 0 (share_there net.now variable (values_at scope.now c)) 0 x y)
+        (λ c. c < cells_in scope.now) digits.old exponents.old digits.new exponents.new }
+{
+    for cell in 0..digits.len() {
+        let share = share_of(net, variable, scope, cell);
+        times_at(digits, exponents, cell, Cell::of_whole(share as u64, 0));
+    }
+}
+
+/// Multiplies chosen cells by a ratio's units for the value that each gives the ratio's variable.
+pub(crate) fn times_units(
+    digits: &mut [u64],
+    exponents: &mut [u32],
+    scope: &Scope,
+    ratio: &Ratio,
+    chosen: &[u16],
+)
+    requires event { HasEvent scope.now (ratio_pairs (trade_ratio ratio.now)) }
+    requires one_each { HasOneEach scope.now (trade_ratio ratio.now) }
+    requires full { IsFull scope.now digits.old exponents.old }
+    requires chosen { chosen.now ≡ cells_where scope.now ratio.now.condition }
+    requires room { (k : ℕ) × HaveRoom k digits.old exponents.old 1 }
+    ensures { IsChanged (λ c d e x y. IsTimes d e 40 (units_of (trade_ratio ratio.now) (values_at scope.now c ratio.now.variable)) 0 x y)
+        (IsAmong chosen.now (length chosen.now)) digits.old exponents.old digits.new exponents.new }
+{
+    for place in 0..chosen.len() {
+        let cell = chosen[place] as usize;
+        let units = units_for(ratio, scope.value(cell, ratio.variable));
+        times_at(digits, exponents, cell, Cell::of_whole(units, RATIO_SHIFT));
+    }
+}
+
+/// Multiplies each cell by the cell of a message that has its values.
+pub(crate) fn times_cells(
+    digits: &mut [u64],
+    exponents: &mut [u32],
+    scope: &Scope,
+    other_digits: &[u64],
+    other_exponents: &[u32],
+    other_scope: &Scope,
+)
+    requires lies_in { LiesIn other_scope.now scope.now }
+    requires full { IsFull scope.now digits.old exponents.old }
+    requires other_full { IsFull other_scope.now other_digits.now other_exponents.now }
+    requires room { (k : ℕ) × HaveRoom k digits.old exponents.old 1 }
+    requires other_room { (k : ℕ) × HaveRoom k other_digits.now other_exponents.now 1 }
+    ensures { (k : ℕ) (g : ℕ → ℕ) (p : ℕ) → AllStand k other_digits.now other_exponents.now g p
+        → IsChanged (λ c d e x y. IsTimes d e k (g (cell_in other_scope.now scope.now c)) p x y)
+        (λ c. c < cells_in scope.now) digits.old exponents.old digits.new exponents.new }
+{
+    let mut walk = Walk::begin(other_scope, scope);
+    for cell in 0..digits.len() {
+        let place = walk.next(other_scope, scope, cell);
+        let other = Cell {
+            digits: other_digits[place],
+            exponent: other_exponents[place],
+        };
+        times_at(digits, exponents, cell, other);
+    }
+}
+
+/// Makes absent each cell that gives the pair's variable another value.
+pub(crate) fn keep_value(digits: &mut [u64], exponents: &mut [u32], scope: &Scope, pair: Pair)
+    requires variable { has_variable scope.now pair.variable ≡ true }
+    requires full { IsFull scope.now digits.old exponents.old }
+    ensures { IsChanged (λ c d e x y. IsRestricted (values_at scope.now c pair.variable == pair.value) d e x y)
+        (λ c. c < cells_in scope.now) digits.old exponents.old digits.new exponents.new }
+{
+    for cell in 0..digits.len() {
+        if scope.value(cell, pair.variable) != pair.value {
+            digits[cell] = 0;
+            exponents[cell] = 0;
+        }
+    }
+}
