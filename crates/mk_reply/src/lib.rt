@@ -1,7 +1,6 @@
 //! Replies and refusals: what they are, how they are read and how they are written.
 #![tactic(auto)]
 
-mod fault;
 mod laws;
 mod print;
 mod read;
@@ -9,14 +8,11 @@ mod read_refusal;
 mod refusal;
 mod reply;
 
-pub use fault::print_fault;
 pub use laws::{one_reply_each, read_printed, short_replies};
 pub use print::print_reply;
 pub use read::read_reply;
 pub use refusal::Refusal;
 pub use reply::{Payment, Reply};
 
-#[cfg(test)]
-mod fault_tests;
 #[cfg(test)]
 mod tests;
