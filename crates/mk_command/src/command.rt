@@ -46,3 +46,5 @@ pub enum Command {
     /// `settle`: each user is paid.
     Settle,
 }
+
+const _: () = prove!(size_of::<Command>() <= 700);

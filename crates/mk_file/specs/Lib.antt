@@ -4,4 +4,5 @@ pub mod Cliques
 pub mod File
 pub mod MarketOf
 pub mod Few
+pub mod Faults
 pub mod inner

@@ -9,12 +9,16 @@ mod kinds;
 mod large;
 mod market_file;
 mod opened;
+mod print;
 mod required;
 mod walk;
 
 pub use fault::FileFault;
 pub use market_file::read_market;
 pub use opened::MarketFile;
+pub use print::print_fault;
 
+#[cfg(test)]
+mod print_tests;
 #[cfg(test)]
 mod tests;

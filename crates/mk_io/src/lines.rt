@@ -31,6 +31,8 @@ pub enum Next {
     TooMany,
 }
 
+const _: () = prove!(size_of::<Next>() <= 1);
+
 /// Cuts a stream of commands into its lines.
 #[derive(Drop)]
 pub struct Lines {

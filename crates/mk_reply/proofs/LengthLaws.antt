@@ -6,7 +6,7 @@ use Rattle.mk_text.specs.Numbers.{IsLong, IsNarrow, price_text, limits_text}
 use Rattle.mk_text.proofs.LengthLaws.{long_length, pair_length, price_length, limits_length, items_length}
 use Rattle.mk_reply.specs.Refusals.{refusal_text, IsRefusal}
 use Rattle.mk_reply.specs.Replies.{reply_text, at_text, payment_text, IsPayment, IsReply}
-use Rattle.mk_reply.specs.declared.reply.Payment.{Payment}
+use Rattle.mk_reply.specs.declared.payments.Payment.{Payment}
 use Rattle.mk_reply.specs.declared.reply.Reply.{Reply}
 use Rattle.mk_reply.specs.declared.reply.Reply.TheVariants.{Joined, Deposited, Withdrawn, Price, Limits, Traded, Worst, Resolved, Settled, Refused}
 use Rattle.mk_reply.specs.declared.refusal.Refusal.{Refusal}
@@ -63,7 +63,7 @@ reply_length (Worst low high) fits = simp length-append (omega (arith, long_leng
 reply_length (Resolved pair at) fits =
     simp length-append (omega (arith, pair_length pair fits.0, long_length at fits.1))
 reply_length (Settled at payments) fits =
-    let list = items_length (codes ", ") payment_text IsPayment 100 payment_length payments.items fits.1.each in
-    let both = two_lengths (at_text at) (items_text (codes ", ") payment_text payments.items) 23 25600 (at_length at fits.0) (omega (arith, list, fits.1.few)) in
-    omega (arith, length-append (codes "settle") (at_text at ++ items_text (codes ", ") payment_text payments.items), both)
+    let list = items_length (codes ", ") payment_text IsPayment 100 payment_length payments fits.1.each in
+    let both = two_lengths (at_text at) (items_text (codes ", ") payment_text payments) 23 25600 (at_length at fits.0) (omega (arith, list, fits.1.few)) in
+    omega (arith, length-append (codes "settle") (at_text at ++ items_text (codes ", ") payment_text payments), both)
 reply_length (Refused why) fits = omega (arith, length-append (codes "refused ") (refusal_text why), refusal_length why fits)

@@ -1,21 +1,24 @@
 -- Each reply is read from its text, and from no other.
-use Rattle.std.specs.Prelude.{◌≡◌, ◌≢◌, ℕ, ◌^◌, List, [], ◌∷◌, ◌++◌, codes, decimal, Some, nat_le, true, ◌==◌, IfOk, OnErr, Result, Ok, Err}
-use Rattle.std.proofs.Common.{refl, sym, ap, ◌∙◌, lit≤}
+use Rattle.std.specs.Prelude.{◌≡◌, ◌≢◌, ℕ, ◌^◌, List, [], ◌∷◌, ◌++◌, codes, decimal, length, Option, Some, None, nat_le, true, false, ◌==◌, IfOk, IfErr, MatchResult, Result, Ok, Err}
+use Rattle.std.proofs.Common.{refl, sym, ◌∙◌, subst, lit≤}
+use Rattle.std.proofs.lemmas.Option.{none-some, same_Some}
 use Rattle.std.proofs.lemmas.Bool.{leb-true, le-leb, eqb-true, eq-eqb}
 use Rattle.mk_net.specs.Name.{IsName}
-use Rattle.mk_net.specs.declared.words.Syntax.{Syntax}
 use Rattle.mk_text.specs.Joined.{items_text}
 use Rattle.mk_text.specs.Numbers.{IsLong, IsNarrow, IsPrice, price_text}
 use Rattle.mk_text.specs.Words.{after, EndsWord}
-use Rattle.mk_text.specs.Reading.{Read, both, behind, made, nothing, read_name, read_price, read_range}
-use Rattle.mk_text.proofs.ReadingLaws.{Took, Reads, Tells, Spelled, IsMade, BothFit, both_text, behind_text, both_reads, behind_reads, passed_reads, made_reads, reads_same, AreItems, EndsList, list_reads, spelled_by, choose_takes, nothing_takes, made_last, whole_one}
+use Rattle.mk_text.specs.Reading.{Finds, Read, both, behind, made, nothing, read_name, read_price, read_range}
+use Rattle.mk_text.proofs.ReadingLaws.{Took, Reads, Tells, Spelled, IsMade, BothFit, both_text, behind_text, both_reads, behind_reads, passed_reads, made_reads, reads_same, AreItems, EndsList, list_reads, spelled_by, choose_takes, nothing_takes, made_last, whole_one, whole_found, whole_nothing, whole_left}
+use Rattle.mk_text.proofs.WordLemmas.{after_begins}
 use Rattle.mk_text.proofs.PartLaws.{name_reads, pair_reads, limits_reads, price_reads, range_reads, both_ends, AreBelow}
-use Rattle.mk_reply.specs.Replies.{reply_text, at_text, payment_text, IsRatio, IsPayment, IsReply}
-use Rattle.mk_reply.specs.Reading.{read_long, read_ratio, dated, read_joined, read_moved, read_prices, read_limited, read_traded, read_worst, read_resolved, read_payment, read_payments, read_settled, read_refusal, forms, read_form}
+use Rattle.mk_reply.specs.Replies.{reply_text, at_text, payment_text, IsRatio, IsPayment, IsReply, IsUnread}
+use Rattle.mk_reply.specs.Reading.{read_long, read_ratio, dated, read_joined, read_moved, read_prices, read_limited, read_traded, read_worst, read_resolved, read_payment, read_payments, read_settled, read_refusal, other_forms, read_other, read_form}
 use Rattle.mk_reply.proofs.RefusalLaws.{long_reads, narrow_reads, refusal_reads}
-use Rattle.mk_reply.specs.declared.reply.Payment.{Payment}
+use Rattle.mk_reply.specs.declared.payments.Payment.{Payment}
 use Rattle.mk_reply.specs.declared.reply.Reply.{Reply}
 use Rattle.mk_reply.specs.declared.reply.Reply.TheVariants.{Joined, Deposited, Withdrawn, Price, Limits, Traded, Worst, Resolved, Settled, Refused}
+use Rattle.mk_reply.specs.declared.unread.Unread.{Unread}
+use Rattle.mk_reply.specs.declared.unread.Unread.TheVariants.{Syntax, Memory}
 
 abbrev OfReply : List ℕ × Read Reply → Type 0
 OfReply = Spelled reply_text IsReply
@@ -146,32 +149,36 @@ resolved_form = spelled_by (codes "resolve ") (λ parts. Resolved (parts.0) (par
 
 settled_form : OfReply (codes "settle", read_settled)
 unfolding read_settled
-settled_form = spelled_by (codes "settle") (λ parts. Settled (parts.0) (record { items = parts.1 })) settled_parts
+settled_form = spelled_by (codes "settle") (λ parts. Settled (parts.0) (parts.1)) settled_parts
     (λ parts fits. (refl, (fits.0, record { few = fits.1.few; each = fits.1.each })))
 
 refused_form : OfReply (codes "refused ", made (λ why. Refused why) read_refusal)
 refused_form = spelled_by (codes "refused ") (λ why. Refused why) refusal_reads (λ why fits. (refl, fits))
 
-form_takes : (bytes : List ℕ) (r : Reply) (rest : List ℕ) → read_form bytes ≡ Some (r, rest) → Took reply_text IsReply bytes r rest
-unfolding read_form
-form_takes = choose_takes reply_text IsReply forms nothing (
+other_takes : (bytes : List ℕ) (r : Reply) (rest : List ℕ) → read_other bytes ≡ Some (r, rest) → Took reply_text IsReply bytes r rest
+unfolding read_other
+other_takes = choose_takes reply_text IsReply other_forms nothing (
   joined_form,
   (
     spelled_by (codes "deposit ") (λ parts. Deposited (parts.0) (parts.1.0) (parts.1.1)) moved_reads (λ parts fits. (refl, (fits.0, fits.1.0, fits.1.1))),
     (
       spelled_by (codes "withdraw ") (λ parts. Withdrawn (parts.0) (parts.1.0) (parts.1.1)) moved_reads (λ parts fits. (refl, (fits.0, fits.1.0, fits.1.1))),
-      (prices_form, (limited_form, (traded_form, (worst_form, (resolved_form, (settled_form, (refused_form, tt))))))),
+      (prices_form, (limited_form, (traded_form, (worst_form, (resolved_form, (refused_form, tt)))))),
     ),
   ),
 )
     (nothing_takes reply_text IsReply)
+
+form_takes : (bytes : List ℕ) (r : Reply) (rest : List ℕ) → read_form bytes ≡ Some (r, rest) → Took reply_text IsReply bytes r rest
+unfolding read_form
+form_takes = choose_takes reply_text IsReply ((codes "settle", read_settled) ∷ []) read_other (settled_form, tt) other_takes
 
 ends_payments : EndsList EndsWord (codes ", ") []
 unfolding after
 ends_payments = record { follows = refl; missing = refl }
 
 form_last : (r : Reply) → IsReply r → read_form (reply_text r) ≡ Some (r, [])
-unfolding read_form read_joined read_prices read_limited read_traded read_worst read_resolved read_settled after
+unfolding read_form read_other read_joined read_prices read_limited read_traded read_worst read_resolved read_settled after
 form_last (Joined user at) fits = made_last (λ parts. Joined (parts.0) (parts.1)) (dated_reads name_reads) (user, at) fits refl
 form_last (Deposited user bits at) fits =
     made_last (λ parts. Deposited (parts.0) (parts.1.0) (parts.1.1)) moved_reads (user, (bits, at)) (fits.0, (fits.1, fits.2)) refl
@@ -183,7 +190,7 @@ form_last (Traded hit miss at) fits =
     made_last (λ parts. Traded (parts.0) (parts.1.0) (parts.1.1)) traded_parts (hit, (miss, at)) (fits.0, (fits.1, fits.2)) refl
 form_last (Worst low high) fits = made_last (λ range. Worst (range.0) (range.1)) worst_parts (low, high) fits refl
 form_last (Resolved pair at) fits = made_last (λ parts. Resolved (parts.0) (parts.1)) (dated_reads pair_reads) (pair, at) fits refl
-form_last (Settled at payments) fits = made_last (λ parts. Settled (parts.0) (record { items = parts.1 })) settled_parts (at, payments.items)
+form_last (Settled at payments) fits = made_last (λ parts. Settled (parts.0) (parts.1)) settled_parts (at, payments)
     (fits.0, record { few = fits.1.few; each = fits.1.each }) ends_payments
 form_last (Refused why) fits = made_last (λ why. Refused why) refusal_reads why fits refl
 
@@ -191,7 +198,31 @@ pub form_tells : Tells read_form reply_text IsReply
 form_tells = record { takes = form_takes; last = form_last }
 
 -- what is read of a reply's text
-pub read_again : (line : List ℕ) (r : Reply) (read : Result Reply Syntax) → IsReply r → line ≡ reply_text r →
-    IfOk read (λ q. IsReply q × (line ≡ reply_text q)) → OnErr read ((q : Reply) → IsReply q → line ≢ reply_text q) → read ≡ Ok r
-read_again line r (Ok q) fits same found none = ap (λ (q : Reply). Ok q) (whole_one form_tells q r (found.0) fits (sym (found.1) ∙ same))
-read_again line r (Err e) fits same found none = absurd (none r fits same)
+pub read_again : (line : List ℕ) (r : Reply) (read : Result Reply Unread) → IsReply r → line ≡ reply_text r →
+    IfOk read (λ q. IsReply q × (line ≡ reply_text q)) → IfErr read (IsUnread line) → MatchResult read (λ q. q ≡ r) (λ unread. unread ≡ Memory)
+read_again line r (Ok q) fits same found unread = whole_one form_tells q r (found.0) fits (sym (found.1) ∙ same)
+read_again line r (Err Syntax) fits same found unread = absurd (unread r fits same)
+read_again line r (Err Memory) fits same found unread = refl
+
+-- bytes with the text before them that every settlement has
+pub settlement_begins : {T E : Type 0} (read : Result T E) (bytes left : List ℕ) → after (codes "settle") bytes ≡ Some left
+    → IfErr read (λ e. (rest : List ℕ) × (bytes ≡ codes "settle" ++ rest))
+settlement_begins (Ok x) bytes left here = tt
+settlement_begins (Err e) bytes left here = (left, after_begins (codes "settle") bytes left here)
+
+-- what a line is where nothing was found at its front, where a reply was all of it, and where bytes were left behind one
+pub nothing_found : (found : Option Reply) (line left : List ℕ) → found ≡ None → Finds found left (read_form line)
+    → (r : Reply) → IsReply r → line ≢ reply_text r
+nothing_found None line left none finds = whole_nothing form_tells line finds
+nothing_found (Some q) line left none finds = absurd (none-some q (sym none))
+
+pub whole_line : (found : Option Reply) (r : Reply) (line left : List ℕ) → found ≡ Some r → Finds found left (read_form line)
+    → (length left == 0) ≡ true → IsReply r × (line ≡ reply_text r)
+whole_line None r line left some finds ends = absurd (none-some r some)
+whole_line (Some q) r line left some finds ends =
+    subst (λ (s : Reply). IsReply s × (line ≡ reply_text s)) (same_Some q r some) (whole_found form_tells line q left finds ends)
+
+pub more_left : (found : Option Reply) (r : Reply) (line left : List ℕ) → found ≡ Some r → Finds found left (read_form line)
+    → (length left == 0) ≡ false → (s : Reply) → IsReply s → line ≢ reply_text s
+more_left None r line left some finds more = absurd (none-some r some)
+more_left (Some q) r line left some finds more = whole_left form_tells line q left finds more

@@ -1,4 +1,3 @@
 pub mod Replies
 pub mod Refusals
 pub mod Reading
-pub mod Faults

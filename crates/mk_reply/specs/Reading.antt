@@ -4,7 +4,7 @@ use Rattle.mk_text.specs.Reading.{Read, both, behind, made, passed, given, never
 use Rattle.mk_net.specs.Bounds.{max_users}
 use Rattle.mk_reply.specs.declared.refusal.Refusal.{Refusal}
 use Rattle.mk_reply.specs.declared.refusal.Refusal.TheVariants.{Syntax, Long, Settled, User, Exists, Users, Unknown, Twice, Stale, Resolved, Impossible, Wide, Range, Full, Beyond, Short, Unresolved, Memory}
-use Rattle.mk_reply.specs.declared.reply.Payment.{Payment}
+use Rattle.mk_reply.specs.declared.payments.Payment.{Payment}
 use Rattle.mk_reply.specs.declared.reply.Reply.{Reply}
 use Rattle.mk_reply.specs.declared.reply.Reply.TheVariants.{Joined, Deposited, Withdrawn, Price, Limits as Limited, Traded, Worst, Resolved as ResolvedPair, Settled as AllSettled, Refused}
 
@@ -107,10 +107,10 @@ unfoldable pub read_payments : Read (List Payment)
 read_payments = items never (codes ", ") read_payment 256 []
 
 unfoldable pub read_settled : Read Reply
-read_settled = made (λ parts. AllSettled (parts.0) (record { items = parts.1 })) (both (behind (codes " at ") read_long) read_payments)
+read_settled = made (λ parts. AllSettled (parts.0) (parts.1)) (both (behind (codes " at ") read_long) read_payments)
 
-abbrev pub forms : List (List ℕ × Read Reply)
-forms =
+abbrev pub other_forms : List (List ℕ × Read Reply)
+other_forms =
     (codes "user ", read_joined)
     ∷ (codes "deposit ", made (λ parts. Deposited (parts.0) (parts.1.0) (parts.1.1)) read_moved)
     ∷ (codes "withdraw ", made (λ parts. Withdrawn (parts.0) (parts.1.0) (parts.1.1)) read_moved)
@@ -119,9 +119,12 @@ forms =
     ∷ (codes "trade ", read_traded)
     ∷ (codes "worst ", read_worst)
     ∷ (codes "resolve ", read_resolved)
-    ∷ (codes "settle", read_settled)
     ∷ (codes "refused ", made (λ why. Refused why) read_refusal)
     ∷ []
 
+unfoldable pub read_other : Read Reply
+read_other = choose other_forms nothing
+
+-- a settlement, which alone takes memory, or another reply
 unfoldable pub read_form : Read Reply
-read_form = choose forms nothing
+read_form = choose ((codes "settle", read_settled) ∷ []) read_other

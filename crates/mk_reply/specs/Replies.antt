@@ -1,14 +1,16 @@
 -- Replies, and how they are written.
-use Rattle.std.specs.Prelude.{◌≡◌, ℕ, ◌≤◌, List, length, codes, decimal, All}
+use Rattle.std.specs.Prelude.{◌≡◌, ◌≢◌, ℕ, ◌≤◌, List, ◌++◌, length, codes, decimal, All}
 use Rattle.mk_net.specs.Bounds.{max_users}
 use Rattle.mk_net.specs.Name.{IsName}
 use Rattle.mk_text.specs.Joined.{◌&◌, items_text}
 use Rattle.mk_text.specs.Numbers.{IsLong, IsNarrow, IsPrice, price_text, range_text, AreLimits, limits_text}
 use Rattle.mk_text.specs.Texts.{IsPairText, pair_text}
 use Rattle.mk_reply.specs.Refusals.{refusal_text, IsRefusal}
-use Rattle.mk_reply.specs.declared.reply.Payment.{Payment}
+use Rattle.mk_reply.specs.declared.payments.Payment.{Payment}
 use Rattle.mk_reply.specs.declared.reply.Reply.{Reply}
 use Rattle.mk_reply.specs.declared.reply.Reply.TheVariants.{Joined, Deposited, Withdrawn, Price, Limits, Traded, Worst, Resolved, Settled, Refused}
+use Rattle.mk_reply.specs.declared.unread.Unread.{Unread}
+use Rattle.mk_reply.specs.declared.unread.Unread.TheVariants.{Syntax, Memory}
 
 -- the revision after the reply
 abbrev pub at_text : ℕ → List ℕ
@@ -26,7 +28,7 @@ reply_text (Limits limits at) = codes "limits " & limits_text limits & at_text a
 reply_text (Traded hit miss at) = codes "trade " & decimal hit & codes " " & decimal miss & at_text at
 reply_text (Worst low high) = codes "worst " & range_text low high
 reply_text (Resolved pair at) = codes "resolve " & pair_text pair & at_text at
-reply_text (Settled at payments) = codes "settle" & at_text at & items_text (codes ", ") payment_text payments.items
+reply_text (Settled at payments) = codes "settle" & at_text at & items_text (codes ", ") payment_text payments
 reply_text (Refused why) = codes "refused " & refusal_text why
 
 -- a ratio of a trade
@@ -59,5 +61,10 @@ IsReply (Limits limits at) = AreLimits limits × IsLong at
 IsReply (Traded hit miss at) = IsRatio hit × IsRatio miss × IsLong at
 IsReply (Worst low high) = IsLong low × IsLong high
 IsReply (Resolved pair at) = IsPairText pair × IsLong at
-IsReply (Settled at payments) = IsLong at × ArePayments payments.items
+IsReply (Settled at payments) = IsLong at × ArePayments payments
 IsReply (Refused why) = IsRefusal why
+
+-- bytes that are not read: the text of no reply, or the front of a settlement, for which memory was wanting
+abbrev pub IsUnread : List ℕ → Unread → Type 0
+IsUnread line Syntax = (r : Reply) → IsReply r → line ≢ reply_text r
+IsUnread line Memory = (rest : List ℕ) × (line ≡ codes "settle" ++ rest)

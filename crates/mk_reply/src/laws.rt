@@ -1,14 +1,15 @@
 //! Laws of the texts of replies.
 
-ghost use Rattle.std.specs.Prelude.{◌≡◌, ◌<◌, length, Ok};
+ghost use Rattle.std.specs.Prelude.{◌≡◌, ◌<◌, length, MatchResult};
 ghost use Rattle.mk_reply.specs.Replies.{IsReply, reply_text};
 ghost use Rattle.mk_reply.specs.declared.reply.Reply.{Reply};
 
 use crate::print::print_reply;
 use crate::read::read_reply;
 use crate::reply::Reply;
+use crate::unread::Unread;
 use arrayvec::ArrayString;
-use mk_net::Syntax;
+use std::alloc::Global;
 
 /// No two replies share a text.
 pub fn one_reply_each()
@@ -20,12 +21,12 @@ pub fn short_replies()
     ensures { (r : Reply) → IsReply r → length (reply_text r) < 32768 }
 {}
 
-/// What is read of the text of a reply: the same reply.
-pub fn read_printed(reply: &Reply) -> Result<Reply, Syntax>
+/// What is read of the text of a reply: the same reply, unless memory was wanting.
+pub fn read_printed(alloc: Global, reply: &Reply) -> Result<Reply, Unread>
     requires { IsReply reply.now }
-    ensures { result ≡ Ok reply.now }
+    ensures { MatchResult result (λ read. read ≡ reply.now) (λ unread. unread ≡ Unread.Memory) }
 {
     let mut text = ArrayString::new();
     print_reply(reply, &mut text);
-    read_reply(text.as_bytes())
+    read_reply(alloc, text.as_bytes())
 }

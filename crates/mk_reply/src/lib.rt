@@ -1,22 +1,22 @@
 //! Replies and refusals: what they are, how they are read and how they are written.
 #![tactic(auto)]
 
-mod fault;
 mod laws;
+mod payments;
 mod print;
 mod read;
 mod read_refusal;
 mod refusal;
 mod reply;
+mod unread;
 
-pub use fault::print_fault;
 pub use laws::{one_reply_each, read_printed, short_replies};
+pub use payments::{Payment, Payments};
 pub use print::print_reply;
 pub use read::read_reply;
 pub use refusal::Refusal;
-pub use reply::{Payment, Reply};
+pub use reply::Reply;
+pub use unread::Unread;
 
-#[cfg(test)]
-mod fault_tests;
 #[cfg(test)]
 mod tests;

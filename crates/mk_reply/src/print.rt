@@ -8,8 +8,9 @@ ghost use Rattle.mk_text.specs.Texts.{pair_text};
 ghost use Rattle.mk_reply.specs.Refusals.{refusal_text};
 ghost use Rattle.mk_reply.specs.Replies.{reply_text, at_text, payment_text};
 
+use crate::payments::Payment;
 use crate::refusal::Refusal;
-use crate::reply::{Payment, Reply};
+use crate::reply::Reply;
 use arrayvec::ArrayString;
 use mk_net::{Name, PairText};
 use mk_text::{put_limits, put_name, put_number, put_pair, put_price, put_range};
@@ -55,7 +56,7 @@ pub fn print_reply(reply: &Reply, out: &mut ArrayString<32768>)
         Reply::Settled { at, payments } => {
             out.push_str("settle");
             put_at(out, *at);
-            put_payments(out, payments.as_slice());
+            put_payments(out, payments.rows());
         }
         Reply::Refused { why } => {
             out.push_str("refused ");

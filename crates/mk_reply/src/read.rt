@@ -1,36 +1,50 @@
 //! Reading a reply.
 
-ghost use Rattle.std.specs.Prelude.{◌≡◌, ◌≢◌, ◌<◌, ◌≤◌, ◌^◌, IfOk, IfSome, OnErr, option_map, length, [], codes};
+ghost use Rattle.std.specs.Prelude.{◌≡◌, ◌<◌, ◌≤◌, ◌^◌, ℕ, List, IfOk, IfErr, IfSome, option_map, length, [], ◌++◌, codes};
 ghost use Rattle.mk_text.specs.Reading.{Finds, behind};
-ghost use Rattle.mk_reply.specs.Replies.{IsReply, reply_text};
-ghost use Rattle.mk_reply.specs.Reading.{read_long, read_ratio, read_joined, read_moved, read_prices, read_limited, read_traded, read_worst, read_resolved, read_payment, read_payments, read_settled, read_form};
-ghost use Rattle.mk_reply.specs.declared.reply.Reply.{Reply};
+ghost use Rattle.mk_reply.specs.Replies.{IsReply, reply_text, IsUnread};
+ghost use Rattle.mk_reply.specs.Reading.{read_long, read_ratio, read_joined, read_moved, read_prices, read_limited, read_traded, read_worst, read_resolved, read_payment, read_payments, read_settled, read_other, read_form};
 
+use crate::payments::{Payment, Payments};
 use crate::read_refusal::{long, narrow, refusal};
-use crate::reply::{Payment, Reply};
-use arrayvec::ArrayVec;
-use mk_net::{Name, Syntax};
+use crate::reply::Reply;
+use crate::unread::Unread;
+use mk_net::{Name, NoMemory};
 use mk_text::Reader;
+use std::alloc::Global;
 
-/// The reply of which these bytes are the text. Syntax where they are the text of no reply.
-pub fn read_reply(line: &[u8]) -> Result<Reply, Syntax>
+/// The reply of which these bytes are the text. Only a settlement takes memory.
+pub fn read_reply(alloc: Global, line: &[u8]) -> Result<Reply, Unread>
     ensures found { IfOk result (λ r. IsReply r × (line.now ≡ reply_text r)) }
-    ensures none { OnErr result ((r : Reply) → IsReply r → line.now ≢ reply_text r) }
+    ensures unread { IfErr result (IsUnread line.now) }
 {
     let mut reader = Reader::new(line);
-    let Some(reply) = reply(&mut reader) else {
-        return Err(Syntax);
+    let Some(reply) = reply(alloc, &mut reader)? else {
+        return Err(Unread::Syntax);
     };
     if reader.is_at_end() {
         Ok(reply)
     } else {
-        Err(Syntax)
+        Err(Unread::Syntax)
     }
 }
 
 #[tactic(auto, unfolding(crate::specs::Reading::read_form))]
-fn reply(reader: &mut Reader) -> Option<Reply>
-    ensures { Finds result reader.new (read_form reader.old) }
+fn reply(alloc: Global, reader: &mut Reader) -> Result<Option<Reply>, NoMemory>
+    ensures found { IfOk result (λ found. Finds found reader.new (read_form reader.old)) }
+    ensures memory { IfErr result (λ _. (rest : List ℕ) × (reader.old ≡ codes "settle" ++ rest)) }
+{
+    if reader.skip(b"settle") {
+        settled(alloc, reader)
+    } else {
+        Ok(other(reader))
+    }
+}
+
+/// A reply that is no settlement.
+#[tactic(auto, unfolding(crate::specs::Reading::read_other))]
+fn other(reader: &mut Reader) -> Option<Reply>
+    ensures { Finds result reader.new (read_other reader.old) }
 {
     if reader.skip(b"user ") {
         return joined(reader);
@@ -57,9 +71,6 @@ fn reply(reader: &mut Reader) -> Option<Reply>
     }
     if reader.skip(b"resolve ") {
         return resolved(reader);
-    }
-    if reader.skip(b"settle") {
-        return settled(reader);
     }
     if reader.skip(b"refused ") {
         let why = refusal(reader)?;
@@ -152,18 +163,22 @@ fn resolved(reader: &mut Reader) -> Option<Reply>
 }
 
 #[tactic(auto, unfolding(crate::specs::Reading::read_settled))]
-fn settled(reader: &mut Reader) -> Option<Reply>
-    ensures { Finds result reader.new (read_settled reader.old) }
+fn settled(alloc: Global, reader: &mut Reader) -> Result<Option<Reply>, NoMemory>
+    ensures { IfOk result (λ found. Finds found reader.new (read_settled reader.old)) }
 {
-    let at = revision(reader)?;
-    let mut payments = ArrayVec::new();
-    read_payments(reader, &mut payments)?;
-    Some(Reply::Settled { at, payments })
+    let Some(at) = revision(reader) else {
+        return Ok(None);
+    };
+    let mut payments = Payments::start(alloc)?;
+    match read_payments(reader, &mut payments) {
+        Some(()) => Ok(Some(Reply::Settled { at, payments })),
+        None => Ok(None),
+    }
 }
 
-fn read_payments(reader: &mut Reader, payments: &mut ArrayVec<Payment, 256>) -> Option<()>
-    requires { payments.old.items ≡ [] }
-    ensures { Finds (option_map (λ _. payments.new.items) result) reader.new (read_payments reader.old) }
+fn read_payments(reader: &mut Reader, payments: &mut Payments) -> Option<()>
+    requires { payments.old ≡ [] }
+    ensures { Finds (option_map (λ _. payments.new) result) reader.new (read_payments reader.old) }
 {
     'payments: for _ in 0..256usize {
         if !reader.skip(b", ") {

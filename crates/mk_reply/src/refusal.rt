@@ -42,3 +42,5 @@ pub enum Refusal {
     /// Memory was wanting.
     Memory,
 }
+
+const _: () = prove!(size_of::<Refusal>() <= 80);

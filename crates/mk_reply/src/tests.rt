@@ -1,10 +1,14 @@
+use crate::payments::{Payment, Payments};
 use crate::print::print_reply;
 use crate::read::read_reply;
 use crate::refusal::Refusal;
-use crate::reply::{Payment, Reply};
-use arrayvec::{ArrayString, ArrayVec};
-use mk_net::{Name, PairText, Syntax};
+use crate::reply::Reply;
+use crate::unread::Unread;
+use arrayvec::ArrayString;
+use mk_net::{Name, PairText};
+use std::alloc::Global;
 use std::process::Abort;
+use std::test::Fail;
 
 const MOST: u64 = 9_223_372_036_854_775_807;
 
@@ -12,60 +16,70 @@ fn name(rt: &impl Abort, text: &[u8]) -> Name {
     Name::read(text).expect(rt, "a name")
 }
 
-fn both_ways(rt: &impl Abort, text: &str, reply: Reply) {
-    match read_reply(text.as_bytes()) {
-        Ok(read) => {
-            assert_eq!(rt; read, reply, "{text}");
-            let mut printed = ArrayString::new();
-            print_reply(&read, &mut printed);
-            assert_eq!(rt; printed.as_str(), text);
-        }
-        Err(_) => assert!(rt; false, "{text} is no reply"),
-    }
+fn both_ways(rt: &impl Abort, alloc: Global, text: &str, reply: Reply) -> Result<(), Fail> {
+    let read = read_reply(alloc, text.as_bytes())?;
+    assert_eq!(rt; read, reply, "{text}");
+    let mut printed = ArrayString::new();
+    print_reply(&read, &mut printed);
+    assert_eq!(rt; printed.as_str(), text);
+    Ok(())
 }
 
 #[test]
-fn reads_and_prints_changes(rt: HostRuntime) {
+fn reads_and_prints_changes(rt: HostRuntime) -> Result<(), Fail> {
     let user = name(&rt, b"alice");
     let pair = PairText {
         variable: name(&rt, b"coin"),
         value: name(&rt, b"heads"),
     };
     let at = 1;
-    both_ways(&rt, "user alice at 1", Reply::Joined { user, at });
+    both_ways(
+        &rt,
+        rt.alloc(),
+        "user alice at 1",
+        Reply::Joined { user, at },
+    )?;
     let bits = 1000;
     both_ways(
         &rt,
+        rt.alloc(),
         "deposit alice 1000 at 1",
         Reply::Deposited { user, bits, at },
-    );
+    )?;
     let bits = u32::MAX;
     let text = "deposit alice 4294967295 at 1";
-    both_ways(&rt, text, Reply::Deposited { user, bits, at });
+    both_ways(&rt, rt.alloc(), text, Reply::Deposited { user, bits, at })?;
     let bits = 0;
     let at = 0;
     both_ways(
         &rt,
+        rt.alloc(),
         "withdraw alice 0 at 0",
         Reply::Withdrawn { user, bits, at },
-    );
-    both_ways(&rt, "resolve coin=heads at 0", Reply::Resolved { pair, at });
+    )?;
+    both_ways(
+        &rt,
+        rt.alloc(),
+        "resolve coin=heads at 0",
+        Reply::Resolved { pair, at },
+    )?;
     let hit = 1_319_413_953_331;
     let miss = 879_609_302_220;
     let at = 3;
     let text = "trade 1319413953331 879609302220 at 3";
-    both_ways(&rt, text, Reply::Traded { hit, miss, at });
+    both_ways(&rt, rt.alloc(), text, Reply::Traded { hit, miss, at })?;
     let text = "trade 1 9223372036854775807 at 9223372036854775807";
     let traded = Reply::Traded {
         hit: 1,
         miss: MOST,
         at: MOST,
     };
-    both_ways(&rt, text, traded);
+    both_ways(&rt, rt.alloc(), text, traded)?;
+    Ok(())
 }
 
 #[test]
-fn reads_and_prints_answers(rt: HostRuntime) {
+fn reads_and_prints_answers(rt: HostRuntime) -> Result<(), Fail> {
     for (low, high, text) in [
         (0, 10_000_000_000, "price 0.0000000000..1.0000000000"),
         (
@@ -75,54 +89,56 @@ fn reads_and_prints_answers(rt: HostRuntime) {
         ),
         (1, 3_333_333_334, "price 0.0000000001..0.3333333334"),
     ] {
-        both_ways(&rt, text, Reply::Price { low, high });
+        both_ways(&rt, rt.alloc(), text, Reply::Price { low, high })?;
     }
     for (limits, at, text) in [
         (None, 4, "limits none at 4"),
         (Some((1, 999_999)), 2, "limits 1..999999 at 2"),
         (Some((500_000, 500_000)), 1, "limits 500000..500000 at 1"),
     ] {
-        both_ways(&rt, text, Reply::Limits { limits, at });
+        both_ways(&rt, rt.alloc(), text, Reply::Limits { limits, at })?;
     }
     for (low, high, text) in [
         (67, 67, "worst 67..67"),
         (0, MOST, "worst 0..9223372036854775807"),
     ] {
-        both_ways(&rt, text, Reply::Worst { low, high });
+        both_ways(&rt, rt.alloc(), text, Reply::Worst { low, high })?;
     }
+    Ok(())
 }
 
 #[test]
-fn reads_and_prints_settlements(rt: HostRuntime) {
+fn reads_and_prints_settlements(rt: HostRuntime) -> Result<(), Fail> {
     let alice = Payment {
         user: name(&rt, b"alice"),
         low: 126,
         high: 127,
         paid: 126,
     };
-    let mut payments = ArrayVec::new();
     let nobody = Reply::Settled {
         at: 6,
-        payments: ArrayVec::new(),
+        payments: Payments::start(rt.alloc())?,
     };
-    both_ways(&rt, "settle at 6", nobody);
-    let _ = payments.try_push(alice);
-    let _ = payments.try_push(Payment {
+    both_ways(&rt, rt.alloc(), "settle at 6", nobody)?;
+    let mut payments = Payments::start(rt.alloc())?;
+    payments.push(alice);
+    payments.push(Payment {
         user: name(&rt, b"paid"),
         low: 0,
         high: MOST,
         paid: 0,
     });
     let text = "settle at 6, alice 126..127 paid 126, paid 0..9223372036854775807 paid 0";
-    both_ways(&rt, text, Reply::Settled { at: 6, payments });
+    both_ways(&rt, rt.alloc(), text, Reply::Settled { at: 6, payments })?;
+    Ok(())
 }
 
 #[test]
-fn reads_and_prints_the_longest_settlement(rt: HostRuntime) {
+fn reads_and_prints_the_longest_settlement(rt: HostRuntime) -> Result<(), Fail> {
     let user = name(&rt, b"abcdefghijklmnopqrstuvwxyz_01234");
-    let mut payments = ArrayVec::new();
+    let mut payments = Payments::start(rt.alloc())?;
     for _ in 0..256usize {
-        let _ = payments.try_push(Payment {
+        payments.push(Payment {
             user,
             low: MOST,
             high: MOST,
@@ -133,11 +149,12 @@ fn reads_and_prints_the_longest_settlement(rt: HostRuntime) {
     let mut text = ArrayString::new();
     print_reply(&settled, &mut text);
     assert_eq!(rt; text.len(), 25_629);
-    both_ways(&rt, text.as_str(), settled);
+    both_ways(&rt, rt.alloc(), text.as_str(), settled)?;
+    Ok(())
 }
 
 #[test]
-fn reads_and_prints_refusals(rt: HostRuntime) {
+fn reads_and_prints_refusals(rt: HostRuntime) -> Result<(), Fail> {
     let user = name(&rt, b"zed");
     let variable = name(&rt, b"coin");
     let value = name(&rt, b"edge");
@@ -174,12 +191,13 @@ fn reads_and_prints_refusals(rt: HostRuntime) {
         (Refusal::Unresolved { variable }, "refused open coin"),
         (Refusal::Memory, "refused memory"),
     ] {
-        both_ways(&rt, text, Reply::Refused { why });
+        both_ways(&rt, rt.alloc(), text, Reply::Refused { why })?;
     }
+    Ok(())
 }
 
 #[test]
-fn reads_nothing_else(rt: HostRuntime) {
+fn reads_nothing_else(rt: HostRuntime) -> Result<(), Fail> {
     for text in [
         "",
         "user alice",
@@ -234,6 +252,11 @@ fn reads_nothing_else(rt: HostRuntime) {
         "refused unresolved coin",
         "refused name coin",
     ] {
-        assert_eq!(rt; read_reply(text.as_bytes()), Err(Syntax), "{text}");
+        match read_reply(rt.alloc(), text.as_bytes()) {
+            Err(Unread::Syntax) => {}
+            Err(Unread::Memory) => return Err(Unread::Memory)?,
+            Ok(_) => assert!(rt; false, "{text} is a reply"),
+        }
     }
+    Ok(())
 }

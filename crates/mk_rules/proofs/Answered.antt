@@ -24,7 +24,7 @@ use Rattle.mk_command.specs.declared.command.Command.{Command}
 use Rattle.mk_command.specs.declared.command.Command.TheVariants.{User, Deposit, Withdraw, Price, Limits, Edit, Worst, Resolve, Settle}
 use Rattle.mk_reply.specs.declared.refusal.Refusal.{Refusal}
 use Rattle.mk_reply.specs.declared.refusal.Refusal.TheVariants.{Syntax, Long, Beyond, Short}
-use Rattle.mk_reply.specs.declared.reply.Payment.{Payment}
+use Rattle.mk_reply.specs.declared.payments.Payment.{Payment}
 use Rattle.mk_reply.specs.declared.reply.Reply.{Reply}
 use Rattle.mk_reply.specs.declared.reply.Reply.TheVariants.{Joined, Deposited, Withdrawn, Price as Priced, Limits as Limited, Traded, Worst as Worsted, Resolved, Settled, Refused}
 use Rattle.mk_rules.specs.Refusals.{pairs_of, names_in, question_named, user_number, unknown, twice, resolved, impossible, refusals, first_refusal}
@@ -120,7 +120,7 @@ module _ (market : Market) (now : Standing) (is_market : IsMarket market) (ready
   settlement each =
       let outcome = outcome_exists network H is_market.network ready.stands.proper ready.stands.sound each in
       let paid = payments_from outcome.state outcome.safe 0 (users H) in
-      (Settled (revision H + 1) (record { items = paid.0 }), record { state = outcome.state; one_state = outcome.one_state; payments = paid.0; printed = refl; paid = paid.1 })
+      (Settled (revision H + 1) (paid.0), record { state = outcome.state; one_state = outcome.one_state; payments = paid.0; printed = refl; paid = paid.1 })
 
   answered : (command : Command) → first_refusal market H command ≡ None → HasAnswer command
   answered (User u) none = (Joined u (revision H + 1), inl refl)

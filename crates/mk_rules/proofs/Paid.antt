@@ -18,7 +18,7 @@ use Rattle.mk_exact.proofs.Gains.{settlement_bounded}
 use Rattle.mk_command.specs.declared.command.Command.{Command}
 use Rattle.mk_command.specs.declared.command.Command.TheVariants.{User, Deposit, Withdraw, Price, Limits, Edit, Worst, Resolve, Settle}
 use Rattle.mk_reply.specs.declared.refusal.Refusal.{Refusal}
-use Rattle.mk_reply.specs.declared.reply.Payment.{Payment}
+use Rattle.mk_reply.specs.declared.payments.Payment.{Payment}
 use Rattle.mk_reply.specs.declared.reply.Reply.{Reply}
 use Rattle.mk_reply.specs.declared.reply.Reply.TheVariants.{Settled, Refused}
 use Rattle.mk_rules.specs.Refusals.{question_named, user_number, first_refusal}
@@ -49,11 +49,11 @@ are_payments H b s payments h = record {
 }
 
 payments_in : Reply → List Payment
-payments_in (Settled at payments) = payments.items
+payments_in (Settled at payments) = payments
 payments_in _ = []
 
 settlement_costs : (market : Market) (H : List Entry) (at : ℕ) (payments : List Payment) → Stands market H
-    → IsSettlement (network_of market H) H market.points_per_bit (Settled at (record { items = payments })) → CostsAtMost market H payments
+    → IsSettlement (network_of market H) H market.points_per_bit (Settled at payments) → CostsAtMost market H payments
 unfolding payments_in
 settlement_costs market H at payments stands settlement = record {
   state = settlement.state;
@@ -67,7 +67,7 @@ settlement_costs market H at payments stands settlement = record {
     Bounded s = (paid : List ℕ) → ArePayments H market.points_per_bit s paid → LossIsBounded (network_of market H) H market.points_per_bit s paid
 
 abbrev settling : ℕ → List Payment → Reply
-settling at payments = Settled at (record { items = payments })
+settling at payments = Settled at payments
 
 -- no other command is answered by a settlement
 withdrawal_settles_not : (small : Type 0) (q : Fraction) (u : List ℕ) (bits n at : ℕ) (payments : List Payment) → IsWithdrawal small q u bits n (settling at payments) → ⊥
@@ -110,7 +110,7 @@ module _ (market : Market) (H : List Entry) (quotes : Quotes) (at : ℕ) (paymen
   answer_costs (Resolve p) stands h = absurd (other_settles_not (Resolve p) (λ e. cc) h)
 
 pub settlement_keeps : (market : Market) (now : Standing) (line : Line) (at : ℕ) (payments : List Payment) → Stands market now.history
-    → IsAllowedFor market now line (Settled at (record { items = payments })) → CostsAtMost market now.history payments
+    → IsAllowedFor market now line (Settled at payments) → CostsAtMost market now.history payments
 settlement_keeps market now (OfCommand command) at payments stands h = meet (first_refusal market now.history command) h
   where
     meet : (o : Option Refusal) → MatchOption o (IsAnswer market now.history now.quotes command (settling at payments)) (λ why. settling at payments ≡ Refused why)

@@ -34,7 +34,7 @@ use Rattle.mk_reply.specs.Refusals.{IsRefusal}
 use Rattle.mk_reply.specs.Replies.{IsReply, IsPayment as HasText}
 use Rattle.mk_reply.specs.declared.refusal.Refusal.{Refusal}
 use Rattle.mk_reply.specs.declared.refusal.Refusal.TheVariants.{Unknown, Twice, Impossible, Unresolved}
-use Rattle.mk_reply.specs.declared.reply.Payment.{Payment}
+use Rattle.mk_reply.specs.declared.payments.Payment.{Payment}
 use Rattle.mk_reply.specs.declared.reply.Reply.{Reply}
 use Rattle.mk_reply.specs.declared.reply.Reply.TheVariants.{Refused}
 use Rattle.mk_rules.specs.Refusals.{pairs_of, names_in, question_named, user_number, first_repeat, unknown, twice, stale, impossible, unresolved, refusals, first_refusal}

@@ -18,7 +18,7 @@ use Rattle.mk_exact.specs.Market.{Market, network_of}
 use Rattle.mk_command.specs.declared.command.Command.{Command}
 use Rattle.mk_command.specs.declared.command.Command.TheVariants.{User, Deposit, Withdraw, Price, Limits, Edit, Worst, Resolve, Settle}
 use Rattle.mk_reply.specs.declared.refusal.Refusal.TheVariants.{Beyond, Short, Memory}
-use Rattle.mk_reply.specs.declared.reply.Payment.{Payment}
+use Rattle.mk_reply.specs.declared.payments.Payment.{Payment}
 use Rattle.mk_reply.specs.declared.reply.Reply.{Reply}
 use Rattle.mk_reply.specs.declared.reply.Reply.TheVariants.{Joined, Deposited, Withdrawn, Price as Priced, Limits as Limited, Traded, Worst as Worsted, Resolved, Settled, Refused}
 use Rattle.mk_rules.specs.Refusals.{question_named, user_number, first_refusal}
@@ -92,7 +92,7 @@ pub record IsSettlement (network : List Variable) (H : List Entry) (points_per_b
   pub state : List ℕ
   pub one_state : possible_states network H always ≡ state ∷ []
   pub payments : List Payment
-  pub printed : reply ≡ Settled (revision H + 1) (record { items = payments })
+  pub printed : reply ≡ Settled (revision H + 1) payments
   pub paid : AllZip (IsPayment H points_per_bit state) (enumerate_from 0 (users H)) payments
 
 -- the replies to a command that meets no refusal of the table, but perhaps `beyond`, `short` or want of memory

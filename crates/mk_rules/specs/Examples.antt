@@ -9,7 +9,7 @@ use Rattle.mk_exact.specs.Market.{Market}
 use Rattle.mk_exact.specs.Examples.{coin, weather, chain, is, ask, alice, deposited_one, heads_taken, rain_taken}
 use Rattle.mk_command.specs.declared.command.Command.TheVariants.{User, Deposit, Withdraw, Price, Limits, Edit, Worst, Resolve, Settle}
 use Rattle.mk_reply.specs.declared.refusal.Refusal.TheVariants.{Settled as IsSettled, User as NoUser, Exists, Users, Unknown, Twice, Stale, Resolved, Impossible, Wide, Range, Full, Beyond, Short, Unresolved, Memory}
-use Rattle.mk_reply.specs.declared.reply.Payment.{Payment}
+use Rattle.mk_reply.specs.declared.payments.Payment.{Payment}
 use Rattle.mk_reply.specs.declared.reply.Reply.{Reply}
 use Rattle.mk_reply.specs.declared.reply.Reply.TheVariants.{Joined, Deposited, Withdrawn, Price as Priced, Limits as Limited, Traded, Worst as Worsted, Resolved as NowResolved, Settled, Refused}
 use Rattle.mk_rules.specs.Refusals.{first_refusal}
@@ -228,7 +228,7 @@ abbrev pub paying : List ℕ → ℕ → ℕ → ℕ → Payment
 paying user low high paid = record { user = user; low = low; high = high; paid = paid }
 
 abbrev pub settled_with : List Payment → Reply
-settled_with payments = Settled 6 (record { items = payments })
+settled_with payments = Settled 6 payments
 
 -- heads came up: alice is paid 126 points and bob none, in this order; the high end of a wider interval is not paid
 pub record IsPaid : Type 0 where

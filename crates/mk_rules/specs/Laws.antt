@@ -13,7 +13,7 @@ use Rattle.mk_command.specs.declared.command.Command.{Command}
 use Rattle.mk_command.specs.declared.command.Command.TheVariants.{Edit}
 use Rattle.mk_reply.specs.Replies.{IsReply}
 use Rattle.mk_reply.specs.declared.refusal.Refusal.{Refusal}
-use Rattle.mk_reply.specs.declared.reply.Payment.{Payment}
+use Rattle.mk_reply.specs.declared.payments.Payment.{Payment}
 use Rattle.mk_reply.specs.declared.reply.Reply.{Reply}
 use Rattle.mk_reply.specs.declared.reply.Reply.TheVariants.{Traded, Settled, Refused}
 use Rattle.mk_rules.specs.Refusals.{question_named, user_number, first_refusal}
@@ -117,7 +117,7 @@ pub record CostsAtMost (market : Market) (H : List Entry) (payments : List Payme
 -- a settlement that is allowed does
 abbrev pub SettlementKeeps : Type 0
 SettlementKeeps = (market : Market) (now : Standing) (line : Line) (at : ℕ) (payments : List Payment) → Stands market now.history
-    → IsAllowedFor market now line (Settled at (record { items = payments })) → CostsAtMost market now.history payments
+    → IsAllowedFor market now line (Settled at payments) → CostsAtMost market now.history payments
 
 -- the reply to an edit is a trade
 abbrev pub IsTraded : Reply → Type 0

@@ -4,7 +4,7 @@ use Rattle.mk_file.specs.declared.fault.FileFault.{FileFault}
 use Rattle.mk_exact.specs.Market.{Market}
 use Rattle.mk_reply.specs.declared.reply.Reply.{Reply}
 use Rattle.mk_reply.specs.Replies.{reply_text}
-use Rattle.mk_reply.specs.Faults.{fault_text}
+use Rattle.mk_file.specs.Faults.{fault_text}
 
 -- an output line ends with one LF
 abbrev pub as_line : List ℕ → List ℕ

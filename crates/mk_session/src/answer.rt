@@ -34,34 +34,30 @@ fn is_served(command: &Command) -> bool
     matches!(command, Command::Price { .. })
 }
 
-/// The served command of which these bytes are the text. None exactly where they are the text of none.
-fn read_served(line: &[u8]) -> Option<Command>
-    ensures found { IfSome result (λ c. IsCommand c × (line.now ≡ command_text c) × (is_served c ≡ true)) }
-    ensures none { IfNone result ((c : Command) → IsCommand c → is_served c ≡ true → line.now ≢ command_text c) }
-{
-    match read_command(line) {
-        Err(_) => None,
-        Ok(command) => {
-            if is_served(&command) {
-                Some(command)
-            } else {
-                None
-            }
-        }
-    }
-}
-
 /// The reply to a line that is not too long and not blank.
 fn reply_to(market: &mut PriceMarket, line: &[u8]) -> Reply
     requires { list_all (λ b. b == 32) line.now ≡ false }
     ensures market { market.new.market ≡ market.old.market }
     ensures answered { AreAnswered market.old.market market.old.standing (text line.now ∷ []) market.new.standing (reply_line result) }
 {
-    match read_served(line) {
-        None => Reply::Refused {
-            why: Refusal::Syntax,
-        },
-        Some(command) => market.apply(&command),
+    match read_command(line) {
+        Err(_) => not_served(),
+        Ok(command) => {
+            if is_served(&command) {
+                market.apply(&command)
+            } else {
+                not_served()
+            }
+        }
+    }
+}
+
+/// The reply to the text of no command that is served.
+fn not_served() -> Reply
+    ensures { result ≡ Reply.Refused Refusal.Syntax }
+{
+    Reply::Refused {
+        why: Refusal::Syntax,
     }
 }
 

@@ -5,8 +5,8 @@ ghost use Rattle.mk_file.specs.declared.fault.FileFault.TheVariants.{Memory};
 ghost use Rattle.mk_session.specs.Texts.{as_line, reply_line, fault_line};
 
 use arrayvec::ArrayString;
-use mk_file::FileFault;
-use mk_reply::{Reply, print_fault, print_reply};
+use mk_file::{FileFault, print_fault};
+use mk_reply::{Reply, print_reply};
 use mk_text::put_number;
 
 /// A line of the output, its LF included.

@@ -44,24 +44,26 @@ pub fn serve<I: Inputs, S: Sink>(alloc: Global, name: &str, inputs: &mut I, out:
     match load(alloc, name, inputs) {
         Err(LoadFault::Input) => Status::ReadFault,
         Err(LoadFault::Memory) => Status::Memory,
-        Ok(bytes) => serve_bytes(alloc, bytes.as_slice(), inputs, out),
+        Ok(bytes) => serve_bytes(alloc, bytes, inputs, out),
     }
 }
 
-/// Runs the market of these bytes of a file.
+/// Runs the market of these bytes of a file, and gives their memory back before the first command is read.
 fn serve_bytes<I: Inputs, S: Sink>(
     alloc: Global,
-    bytes: &[u8],
+    bytes: Vec<u8>,
     inputs: &mut I,
     out: &mut S,
 ) -> Status
     ensures outcome { (all : List ℕ) → I.commands inputs.old ≡ Some all →
-        Opened result (file_of bytes.now) all (I.commands inputs.new) (S.written out.old) (S.written out.new) }
+        Opened result (file_of bytes.items) all (I.commands inputs.new) (S.written out.old) (S.written out.new) }
     ensures causes { HasCauses result (I.faults inputs.old) (I.faults inputs.new) (S.faults out.old) (S.faults out.new) }
     ensures not_usage { result ≢ Status.Usage }
 {
+    let read = read_market(alloc, bytes.as_slice());
+    drop(bytes);
     let mut line = LineBuffer::new();
-    match read_market(alloc, bytes) {
+    match read {
         Err(fault) => refuse(fault, &mut line, out),
         Ok(file) => answer_file(alloc, file, inputs, &mut line, out),
     }

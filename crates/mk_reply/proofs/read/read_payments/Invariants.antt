@@ -5,6 +5,6 @@ use Rattle.mk_reply.proofs.read.read_payments.Given as goal
 
 abbrev pub invariant-payments : goal.invariant-payments
 invariant-payments l = record {
-  few : length l.payments.items ≤ l.counter;
-  left : items never (codes ", ") read_payment (256 - l.counter) l.payments.items l.reader ≡ items never (codes ", ") read_payment 256 l.initial.payments.items l.initial.reader;
+  few : length l.payments ≤ l.counter;
+  left : items never (codes ", ") read_payment (256 - l.counter) l.payments l.reader ≡ items never (codes ", ") read_payment 256 l.initial.payments l.initial.reader;
 }

@@ -1,15 +1,15 @@
 use Rattle.std.proofs.Common.{sym}
-use Rattle.mk_text.proofs.ReadingLaws.{whole_found, whole_nothing, whole_left}
-use Rattle.mk_reply.proofs.ReplyLaws.{form_tells}
+use Rattle.mk_reply.proofs.ReplyLaws.{nothing_found, whole_line, more_left}
 use Rattle.mk_reply.proofs.read.read_reply.Goals as goal
 
-pub returns-in_default-clause-none : goal.returns-in_default-clause-none
-returns-in_default-clause-none c = whole_nothing form_tells c.args.line.now (rw (← c.new-reader.ensures) c.in_default.ensures)
+pub returns-in_default-clause-unread : goal.returns-in_default-clause-unread
+returns-in_default-clause-unread c = nothing_found c.in_ok-reply.field-0 c.args.line.now c.reply.new.reader c.in_default.is
+    (rw (← c.new-reader.ensures) c.in_ok-reply.ensures.found)
 
 pub returns-then-is_at_end-clause-found : goal.returns-then-is_at_end-clause-found
-returns-then-is_at_end-clause-found c = whole_found form_tells c.args.line.now c.in-Some.reply c.reply.new.reader
-    (rw (← c.new-reader.ensures) c.in-Some.ensures) (sym c.if-is_at_end.ensures)
+returns-then-is_at_end-clause-found c = whole_line c.in_ok-reply.field-0 c.in-Some.reply c.args.line.now c.reply.new.reader c.in-Some.is
+    (rw (← c.new-reader.ensures) c.in_ok-reply.ensures.found) (sym c.if-is_at_end.ensures)
 
-pub returns-else-is_at_end-clause-none : goal.returns-else-is_at_end-clause-none
-returns-else-is_at_end-clause-none c = whole_left form_tells c.args.line.now c.in-Some.reply c.reply.new.reader
-    (rw (← c.new-reader.ensures) c.in-Some.ensures) (sym c.if-is_at_end.ensures)
+pub returns-else-is_at_end-clause-unread : goal.returns-else-is_at_end-clause-unread
+returns-else-is_at_end-clause-unread c = more_left c.in_ok-reply.field-0 c.in-Some.reply c.args.line.now c.reply.new.reader c.in-Some.is
+    (rw (← c.new-reader.ensures) c.in_ok-reply.ensures.found) (sym c.if-is_at_end.ensures)

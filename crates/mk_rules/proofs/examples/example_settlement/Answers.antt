@@ -4,7 +4,7 @@ use Rattle.mk_exact.specs.History.{users}
 use Rattle.mk_exact.specs.Factors.{factor}
 use Rattle.mk_exact.specs.Cash.{IsCash, CoversCash}
 use Rattle.mk_exact.specs.Examples.{coin, alice, heads_taken}
-use Rattle.mk_reply.specs.declared.reply.Payment.{Payment}
+use Rattle.mk_reply.specs.declared.payments.Payment.{Payment}
 use Rattle.mk_reply.specs.declared.reply.Reply.{Reply}
 use Rattle.mk_reply.specs.declared.reply.Reply.TheVariants.{Settled}
 use Rattle.mk_rules.specs.Answers.{IsPayment, IsSettlement}
@@ -29,7 +29,7 @@ settlement a b p q r h = record {
 }
 
 payments_in : Reply → List Payment
-payments_in (Settled at payments) = payments.items
+payments_in (Settled at payments) = payments
 payments_in _ = []
 
 -- what the payments of an allowed settlement are

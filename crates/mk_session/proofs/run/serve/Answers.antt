@@ -9,15 +9,15 @@ use Rattle.mk_session.proofs.run.serve.Goals as goal
 
 pub returns-in-Ok-clause-outcome : goal.returns-in-Ok-clause-outcome
 returns-in-Ok-clause-outcome g c = λ file all told_file told_all.
-    let same = ap file_of (c.as_slice.ensures.value ∙ c.in-Ok.ensures.bytes file told_file) ∙ opened_same file in
+    let same = ap file_of (c.in-Ok.ensures.bytes file told_file) ∙ opened_same file in
     inr (subst (λ (given : Result Market FileFault). Opened c.serve_bytes.result given all (g.I.Inputs.commands c.serve_bytes.new.inputs)
     (g.S.Sink.written c.args.out.now) (g.S.Sink.written c.serve_bytes.new.out)) same
     (c.serve_bytes.ensures.outcome all (c.load.ensures.commands ∙ told_all)))
 
 pub returns-in-Ok-clause-complete : goal.returns-in-Ok-clause-complete
 returns-in-Ok-clause-complete g c = λ file all told_file told_all ok within steady_inputs steady_sink.
-    let same = ap file_of (c.as_slice.ensures.value ∙ c.in-Ok.ensures.bytes file told_file) ∙ opened_same file in
-    completes c.serve_bytes.result (file_of c.as_slice.result.now) all (g.I.Inputs.commands c.serve_bytes.new.inputs)
+    let same = ap file_of (c.in-Ok.ensures.bytes file told_file) ∙ opened_same file in
+    completes c.serve_bytes.result (file_of c.in-Ok.bytes.items) all (g.I.Inputs.commands c.serve_bytes.new.inputs)
     (g.S.Sink.written c.args.out.now) (g.S.Sink.written c.serve_bytes.new.out)
     (g.I.Inputs.faults c.args.inputs.now) (g.I.Inputs.faults c.serve_bytes.new.inputs) (g.S.Sink.faults c.args.out.now) (g.S.Sink.faults c.serve_bytes.new.out)
     (c.serve_bytes.ensures.outcome all (c.load.ensures.commands ∙ told_all))

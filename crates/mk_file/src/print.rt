@@ -3,11 +3,11 @@
 ghost use Rattle.std.specs.Prelude.{◌≡◌, ◌≢◌, ◌+◌, ◌<◌, ◌≤◌, ◌++◌, length, codes};
 ghost use Rattle.arrayvec.specs.ArrayString.{array_string_len};
 ghost use Rattle.mk_file.specs.declared.fault.FileFault.TheVariants.{Memory};
-ghost use Rattle.mk_reply.specs.Faults.{fault_text, cause_text, place_text, then_number, then_signed};
+ghost use Rattle.mk_file.specs.Faults.{fault_text, cause_text, place_text, then_number, then_signed};
 
+use crate::fault::FileFault;
 use arrayvec::ArrayString;
 use itoa::Buffer;
-use mk_file::FileFault;
 use mk_net::Key;
 use mk_text::put_number;
 

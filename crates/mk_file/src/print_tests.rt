@@ -1,6 +1,6 @@
-use crate::fault::print_fault;
+use crate::fault::FileFault;
+use crate::print::print_fault;
 use arrayvec::ArrayString;
-use mk_file::FileFault;
 use mk_net::Key;
 
 #[test]

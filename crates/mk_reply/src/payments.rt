@@ -1,0 +1,78 @@
+//! The payments of a settlement.
+
+ghost use Rattle.std.specs.Prelude.{◌≡◌, ◌<◌, ◌≤◌, [], ◌∷◌, ◌++◌, length, IfOk};
+ghost use Rattle.std.specs.Cmp.Lexicographic.{pointwise, lists_per};
+ghost use Rattle.mk_net.specs.Bounds.{max_users};
+
+use mk_net::{Name, NoMemory};
+use std::alloc::Global;
+use std::marker::Model;
+
+/// The most users of a market, each of whom is paid once.
+const MAX_USERS: usize = 256;
+
+/// What a user is paid at the end: the low end of the interval that holds the cash of the user's factor, in points.
+#[derive(Clone, Copy, Debug, Default, PartialEq, Eq)]
+pub struct Payment {
+    pub user: Name,
+    pub low: u64,
+    pub high: u64,
+    pub paid: u64,
+}
+
+/// The payments of a settlement, in the order of joining. All memory is taken at the start.
+#[derive(Debug, Drop)]
+pub struct Payments {
+    rows: Vec<Payment>,
+}
+
+impl Model for Payments {
+    ghost use Rattle.std.specs.Prelude.{List, ◌≤◌, length, vec_capacity};
+    ghost use Rattle.mk_net.specs.Bounds.{max_users};
+    ghost use Rattle.mk_reply.specs.declared.payments.Payment.{Payment};
+
+    ghost Value = { List Payment };
+
+    ghost view = { λ p. p.rows.items };
+
+    ghost invariant = { λ p. (max_users ≤ vec_capacity p.rows) × (length p.rows.items ≤ max_users) };
+}
+
+impl Payments {
+    /// No payment yet, with room for one to each user.
+    pub fn start(alloc: Global) -> Result<Payments, NoMemory>
+        ensures { IfOk result (λ payments. payments ≡ []) }
+    {
+        let rows = Vec::with_capacity(alloc, MAX_USERS)?;
+        Ok(Payments { rows })
+    }
+
+    /// Puts a payment behind those before.
+    pub fn push(&mut self, payment: Payment)
+        requires { length self.old < max_users }
+        ensures { self.new ≡ self.old ++ payment ∷ [] }
+    {
+        self.rows.push_reserved(payment);
+    }
+
+    /// The payments in their order.
+    pub fn rows(&self) -> &[Payment]
+        ensures same { result.now ≡ self.now }
+        ensures few { length self.now ≤ max_users }
+    {
+        self.rows.as_slice()
+    }
+}
+
+/// Payments are equal where their rows are.
+impl PartialEq for Payments {
+    ghost eq = { pointwise ⟦<Payment as PartialEq>⟧.eq };
+
+    ghost use Rattle.mk_reply.specs.contracts.payments.PaymentPartialEq.TheImpl.Laws.{laws-law};
+
+    ghost laws = { lists_per laws-law };
+
+    fn eq(&self, other: &Payments) -> bool {
+        self.rows() == other.rows()
+    }
+}
