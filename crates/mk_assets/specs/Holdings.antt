@@ -1,0 +1,117 @@
+-- What one user's assets stand for, and what is asked of them.
+use Rattle.std.specs.Prelude.{◌≡◌, ℕ, ◌+◌, ◌*◌, ◌<◌, ◌≤◌, ℤ, List, [], Bool, true, length, Option, IsNone, IfSome, ◌↔◌}
+use Rattle.mk_net.specs.declared.words.Pair.{Pair}
+use Rattle.mk_net.specs.Asked.{Asked, TradeRatio, ratio_pairs}
+use Rattle.mk_net.specs.Bounds.{max_transfers, max_transfer_bits, max_market_trades, number_limit}
+use Rattle.mk_net.specs.Network.{Variable}
+use Rattle.mk_exact.specs.Proper.{IsPairOf, IsRatioOf}
+use Rattle.mk_enclose.specs.declared.factor.Factor.{Factor}
+use Rattle.mk_enclose.specs.Enclosure.{Encloses, IsExact}
+use Rattle.mk_enclose.specs.Factor.{paid_in, taken_out}
+use Rattle.mk_tree.specs.Given.{GivenTree}
+use Rattle.mk_semiring.specs.declared.held.Held.TheVariants.{Present}
+use Rattle.mk_semiring.specs.Held.{HasHeldGrade}
+use Rattle.mk_engine.specs.Meaning.{Meaning, RatioOf, opening, with_factor, with_known, whole_sum, ArePairsOf}
+use Rattle.mk_engine.specs.Beliefs.{CanBelieve}
+use Rattle.mk_engine.specs.Cases.{CanAskOthers}
+use Rattle.mk_assets.specs.declared.assets.Assets.{Assets}
+
+-- what a user's assets stand for: the ratios of the user's trades over the states of a network, with what is known, and the bits
+-- of the user's transfers
+pub record Holding : Type 0 where
+  pub meaning : Meaning
+  pub deposited : ℕ
+  pub withdrawn : ℕ
+
+-- nothing is traded, and nothing transferred
+abbrev pub opening_holding : List Variable → GivenTree → List Pair → Holding
+opening_holding network tree known =
+    record { meaning = record { network = network; tree = tree; factors = []; known = known }; deposited = 0; withdrawn = 0 }
+
+-- with one trade more
+abbrev pub with_trade : TradeRatio → Holding → Holding
+with_trade ratio h = record { meaning = with_factor (RatioOf ratio) h.meaning; deposited = h.deposited; withdrawn = h.withdrawn }
+
+-- with bits deposited
+abbrev pub with_deposit : ℕ → Holding → Holding
+with_deposit bits h = record { meaning = h.meaning; deposited = h.deposited + bits; withdrawn = h.withdrawn }
+
+-- with bits withdrawn
+abbrev pub with_withdrawal : ℕ → Holding → Holding
+with_withdrawal bits h = record { meaning = h.meaning; deposited = h.deposited; withdrawn = h.withdrawn + bits }
+
+-- with one known pair more
+abbrev pub with_known_pair : Pair → Holding → Holding
+with_known_pair pair h = record { meaning = with_known pair h.meaning; deposited = h.deposited; withdrawn = h.withdrawn }
+
+-- as many bits as all transfers of a market can come to
+abbrev pub max_bits : ℕ
+max_bits = max_transfers * max_transfer_bits
+
+-- net bits are those deposited less those withdrawn
+pub record IsNet (net : ℤ) (deposited withdrawn : ℕ) : Type 0 where
+  pub same : paid_in net + withdrawn ≡ deposited + taken_out net
+
+-- the pairs are of a network that the plan stands for
+pub record CanStart {P : Type 0} (plan_for : P → List Variable → GivenTree → Type 0) (plan : P) (known : List Pair) : Type 0 where
+  pub network : List Variable
+  pub tree : GivenTree
+  pub planned : plan_for plan network tree
+  pub in_range : ArePairsOf network known
+
+module _ {E P : Type 0} (stands_for : E → Meaning → Type 0) where
+  -- the assets stand for a holding
+  pub record Owns (assets : Assets E P) (h : Holding) : Type 0 where
+    pub stands : stands_for assets.engine h.meaning
+    pub counted : assets.trades ≡ length h.meaning.factors
+    pub net : IsNet assets.net h.deposited h.withdrawn
+    pub few_in : h.deposited ≤ max_bits
+    pub few_out : h.withdrawn ≤ max_bits
+
+  -- they stand for a holding of whose network this is a ratio, with fewer trades than a market takes
+  pub record CanTrade (assets : Assets E P) (ratio : TradeRatio) : Type 0 where
+    pub holding : Holding
+    pub owns : Owns assets holding
+    pub in_range : IsRatioOf holding.meaning.network ratio
+    pub room : length holding.meaning.factors < max_market_trades
+
+  -- for one that so many bits may be deposited to
+  pub record CanDeposit (assets : Assets E P) (bits : ℕ) : Type 0 where
+    pub holding : Holding
+    pub owns : Owns assets holding
+    pub room : holding.deposited + bits ≤ max_bits
+
+  -- for one that so many bits may be withdrawn from
+  pub record CanWithdraw (assets : Assets E P) (bits : ℕ) : Type 0 where
+    pub holding : Holding
+    pub owns : Owns assets holding
+    pub room : holding.withdrawn + bits ≤ max_bits
+
+  -- for one of whose network this is a pair
+  pub record CanLearn (assets : Assets E P) (pair : Pair) : Type 0 where
+    pub holding : Holding
+    pub owns : Owns assets holding
+    pub in_range : IsPairOf holding.meaning.network pair
+
+  -- for one of whose network these are pairs
+  pub record CanFindLeast (assets : Assets E P) (event : List Pair) : Type 0 where
+    pub holding : Holding
+    pub owns : Owns assets holding
+    pub in_range : ArePairsOf holding.meaning.network event
+
+  -- their engine can be asked for the other values of a question's variable, of which there are so many
+  abbrev pub CanFindLeastOfOthers : Assets E P → Asked → ℕ → Type 0
+  CanFindLeastOfOthers assets asked values = CanAskOthers stands_for assets.engine asked values
+
+-- their engine can answer an event
+abbrev pub FitsEvent : {E P : Type 0} → (E → List Pair → Bool) → Assets E P → List Pair → Type 0
+FitsEvent fitting assets event = fitting assets.engine event ≡ true
+
+-- the least factor of a holding over the states where the known pairs and an event hold: none where there is no such state
+pub record IsLeastFactor (h : Holding) (least_gain most : ℕ) (result : Option Factor) : Type 0 where
+  pub none : IsNone result ↔ (least_gain ≡ 0)
+  pub gain : IfSome result (λ (f : Factor). Encloses f.gain least_gain)
+  pub grade : IfSome result (λ (f : Factor). HasHeldGrade (Present f.gain) most)
+  pub exact : whole_sum h.meaning < number_limit → IfSome result (λ (f : Factor). IsExact f.gain)
+  pub trades : IfSome result (λ (f : Factor). f.trades ≡ length h.meaning.factors)
+  pub net : IfSome result (λ (f : Factor). IsNet f.net h.deposited h.withdrawn)

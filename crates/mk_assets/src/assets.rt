@@ -1,0 +1,122 @@
+//! One user's assets.
+
+ghost use Rattle.std.specs.Prelude.{◌≡◌, ◌+◌, ◌≤◌, List, length, slice_index, IfOk};
+ghost use Rattle.mk_net.specs.Network.{Variable, sizes};
+ghost use Rattle.mk_net.specs.Asked.{ratio_pairs};
+ghost use Rattle.mk_net.specs.Bounds.{max_values};
+ghost use Rattle.mk_net.specs.Trades.{trade_ratio};
+ghost use Rattle.mk_tree.specs.Given.{GivenTree};
+ghost use Rattle.mk_engine.specs.Meaning.{exact_belief, max_grade};
+ghost use Rattle.mk_engine.specs.Cases.{exact_others};
+ghost use Rattle.mk_assets.specs.Holdings.{Holding, Owns, CanStart, CanTrade, CanDeposit, CanWithdraw, CanLearn, CanFindLeast, CanFindLeastOfOthers, FitsEvent, IsLeastFactor, max_bits, opening_holding, with_trade, with_deposit, with_withdrawal, with_known_pair};
+
+use mk_enclose::Factor;
+use mk_engine::{Engine, belief_of_others};
+use mk_net::{Event, NoMemory, Pair, Question, Ratio};
+use mk_semiring::{Held, MinProd, Semiring};
+use std::alloc::Global;
+
+/// One user's engine with the number of trades and the bits that were paid in, less those taken out.
+///
+/// Assets stand for holdings. Each clause holds for every holding that they stand for before the call.
+#[derive(Drop)]
+pub struct Assets<E: Engine<MinProd>> {
+    engine: E,
+    trades: u32,
+    net: i64,
+}
+
+impl<E: Engine<MinProd>> Assets<E> {
+    /// The assets of a user who has not traded, with what is known already.
+    pub fn start(alloc: Global, plan: &E::Plan, known: &[Pair]) -> Result<Assets<E>, NoMemory>
+        requires { CanStart E.plan_for plan.now known.now }
+        ensures { IfOk result (λ assets. (network : List Variable) (tree : GivenTree) → E.plan_for plan.now network tree → Owns E.stands_for assets (opening_holding network tree known.now)) }
+    {
+        let mut engine = E::start(alloc, plan)?;
+        for pair in known {
+            engine.know(*pair);
+        }
+        Ok(Assets {
+            engine,
+            trades: 0,
+            net: 0,
+        })
+    }
+
+    /// Adds a trade.
+    pub fn trade(&mut self, ratio: &Ratio)
+        requires fits { FitsEvent E.fitting self.old (ratio_pairs (trade_ratio ratio.now)) }
+        requires range { CanTrade E.stands_for self.old (trade_ratio ratio.now) }
+        ensures { (h : Holding) → Owns E.stands_for self.old h → Owns E.stands_for self.new (with_trade (trade_ratio ratio.now) h) }
+    {
+        self.engine.multiply(ratio);
+        self.trades += 1;
+    }
+
+    /// How many trades there were.
+    pub fn trades(&self) -> u32
+        ensures { (h : Holding) → Owns E.stands_for self.now h → result ≡ length h.meaning.factors }
+    {
+        self.trades
+    }
+
+    /// Adds bits that were paid in.
+    pub fn deposit(&mut self, bits: u32)
+        requires { CanDeposit E.stands_for self.old bits }
+        ensures { (h : Holding) → Owns E.stands_for self.old h → h.deposited + bits ≤ max_bits → Owns E.stands_for self.new (with_deposit bits h) }
+    {
+        self.net += bits as i64;
+    }
+
+    /// Adds bits that were taken out.
+    pub fn withdraw(&mut self, bits: u32)
+        requires { CanWithdraw E.stands_for self.old bits }
+        ensures { (h : Holding) → Owns E.stands_for self.old h → h.withdrawn + bits ≤ max_bits → Owns E.stands_for self.new (with_withdrawal bits h) }
+    {
+        self.net -= bits as i64;
+    }
+
+    /// Adds a known pair.
+    pub fn know(&mut self, pair: Pair)
+        requires { CanLearn E.stands_for self.old pair }
+        ensures { (h : Holding) → Owns E.stands_for self.old h → Owns E.stands_for self.new (with_known_pair pair h) }
+    {
+        self.engine.know(pair);
+    }
+
+    /// The least factor over the states where the known pairs and an event hold. None where there is no such state.
+    pub fn least(&mut self, event: &Event) -> Option<Factor>
+        requires fits { FitsEvent E.fitting self.old event.now }
+        requires range { CanFindLeast E.stands_for self.old event.now }
+        ensures kept { (h : Holding) → Owns E.stands_for self.old h → Owns E.stands_for self.new h }
+        ensures least { (h : Holding) → Owns E.stands_for self.old h
+            → IsLeastFactor h (exact_belief ⟦<MinProd as Semiring>⟧.plus_of h.meaning event.now) (length h.meaning.factors + max_grade) result }
+    {
+        let least = self.engine.belief(event);
+        self.factor(&least)
+    }
+
+    /// The least factor over the states where the known pairs and the condition of a question hold and its target does
+    /// not: its variable has one of its other values, of which there are `values` with the target's.
+    pub fn least_of_others(&mut self, asked: &Question, values: u32) -> Option<Factor>
+        requires { CanFindLeastOfOthers E.stands_for self.old asked.now values }
+        ensures kept { (h : Holding) → Owns E.stands_for self.old h → Owns E.stands_for self.new h }
+        ensures least { (h : Holding) → Owns E.stands_for self.old h → values ≡ slice_index (sizes h.meaning.network) asked.now.target.variable
+            → IsLeastFactor h (exact_others ⟦<MinProd as Semiring>⟧.plus_of h.meaning asked.now values) (length h.meaning.factors + max_grade + max_values) result }
+    {
+        let least = belief_of_others::<MinProd, E>(&mut self.engine, asked, values);
+        self.factor(&least)
+    }
+
+    /// The factor of a least gain.
+    fn factor(&self, least: &Held) -> Option<Factor> {
+        match least {
+            Held::Absent => None,
+            Held::Present(gain) => Some(Factor {
+                gain: *gain,
+                trades: self.trades,
+                net: self.net,
+            }),
+        }
+    }
+}
