@@ -4,9 +4,9 @@ ghost use Rattle.mk_net.specs.Bounds.{max_points_per_bit, number_limit};
 ghost use Rattle.mk_exact.specs.Factors.{Fraction, IsAtLeastOne};
 ghost use Rattle.mk_exact.specs.Cash.{CoversCash};
 ghost use Rattle.mk_scaled.specs.Range.{IsInRange};
-ghost use Rattle.mk_enclose.specs.Enclosure.{lower_of, upper_of};
-ghost use Rattle.mk_enclose.specs.Factor.{paid_in, taken_out};
-ghost use Rattle.mk_cash.specs.Factors.{IsGradedWithin, StandsFor, HasPowersInRange};
+ghost use Rattle.mk_enclose.specs.Enclosure.{lower_of, upper_of, IsGradedWithin};
+ghost use Rattle.mk_enclose.specs.Factor.{paid_in, taken_out, StandsFor};
+ghost use Rattle.mk_cash.specs.Factors.{HasPowersInRange};
 
 use mk_enclose::{Enclosure, Factor};
 
@@ -53,7 +53,7 @@ fn bits_gained(factor: &Factor, power: u32) -> u64
     ensures value { result ≡ power * paid_in factor.now.net }
     ensures small { result < 2 ^ 50 }
 {
-    power as u64 * paid_in(factor)
+    power as u64 * factor.paid_in()
 }
 
 /// The bits that divide the power of a factor: 40 for each trade, and what was taken out.
@@ -61,24 +61,5 @@ fn bits_owed(factor: &Factor, power: u32) -> u64
     requires { HasPowersInRange factor.now power }
     ensures { result ≡ power * (40 * factor.now.trades + taken_out factor.now.net) }
 {
-    power as u64 * (40 * factor.trades as u64 + taken_out(factor))
-}
-
-/// The bits that were paid in on the whole.
-fn paid_in(factor: &Factor) -> u64
-    ensures { result ≡ paid_in factor.now.net }
-{
-    if factor.net < 0 { 0 } else { factor.net as u64 }
-}
-
-/// The bits that were taken out on the whole.
-fn taken_out(factor: &Factor) -> u64
-    ensures value { result ≡ taken_out factor.now.net }
-    ensures small { result ≤ 2 ^ 63 }
-{
-    if factor.net < 0 {
-        factor.net.unsigned_abs()
-    } else {
-        0
-    }
+    power as u64 * (40 * factor.trades as u64 + factor.taken_out())
 }

@@ -22,3 +22,9 @@ pub record HasGrade (e : Enclosure) (grade : ℕ) : Type 0 where
 -- nothing was rounded
 pub record IsExact (e : Enclosure) : Type 0 where
   pub same : e.lo ≡ e.hi
+
+-- the ends are near each other, by at most so many steps of rounding
+pub record IsGradedWithin (e : Enclosure) (most : ℕ) : Type 0 where
+  pub grade : ℕ
+  pub small : grade ≤ most
+  pub has : HasGrade e grade

@@ -22,8 +22,29 @@ impl Factor {
         ensures fits { 0 < result → BitsFit self.now result }
         ensures greatest { (k : ℕ) → BitsFit self.now k → k ≤ result }
     {
-        let (paid_in, taken_out) = apart(self.net);
-        (log2_of(&self.gain) + paid_in).saturating_sub(40 * self.trades as u64 + taken_out)
+        (log2_of(&self.gain) + self.paid_in()).saturating_sub(
+            40 * self.trades as u64 + self.taken_out(),
+        )
+    }
+
+    /// The bits that were paid in on the whole: 0 where more were taken out.
+    pub fn paid_in(&self) -> u64
+        ensures value { result ≡ paid_in self.now.net }
+        ensures small { result < 2 ^ 63 }
+    {
+        if self.net < 0 { 0 } else { self.net as u64 }
+    }
+
+    /// The bits that were taken out on the whole: 0 where more were paid in.
+    pub fn taken_out(&self) -> u64
+        ensures value { result ≡ taken_out self.now.net }
+        ensures small { result ≤ 2 ^ 63 }
+    {
+        if self.net < 0 {
+            self.net.unsigned_abs()
+        } else {
+            0
+        }
     }
 }
 
@@ -34,18 +55,4 @@ fn log2_of(gain: &Enclosure) -> u64
     ensures small { result < 2 ^ 52 }
 {
     gain.lo().log2_floor()
-}
-
-/// The bits paid in and the bits taken out on the whole: one of them is 0.
-fn apart(net: i64) -> (u64, u64)
-    ensures paid { result.0 ≡ paid_in net }
-    ensures taken { result.1 ≡ taken_out net }
-    ensures paid_below { result.0 < 2 ^ 63 }
-    ensures taken_at_most { result.1 ≤ 2 ^ 63 }
-{
-    if net < 0 {
-        (0, net.unsigned_abs())
-    } else {
-        (net as u64, 0)
-    }
 }

@@ -8,10 +8,9 @@ use Rattle.mk_exact.specs.Prices.{IsSolvent}
 use Rattle.mk_exact.specs.Limits.{Side, IsFairAndSolvent, IsWanted, IsFloorSolvent}
 use Rattle.mk_enclose.specs.declared.enclosure.Enclosure.{Enclosure}
 use Rattle.mk_enclose.specs.declared.factor.Factor.{Factor}
-use Rattle.mk_enclose.specs.Enclosure.{lower_of, upper_of}
+use Rattle.mk_enclose.specs.Enclosure.{lower_of, upper_of, IsGradedWithin}
 use Rattle.mk_enclose.specs.Factor.{paid_in, taken_out}
 use Rattle.mk_enclose.specs.inner.Widths.{narrow_ends}
-use Rattle.mk_cash.specs.Factors.{IsGradedWithin}
 use Rattle.mk_quote.specs.declared.side.SideBounds.{SideBounds}
 use Rattle.mk_quote.specs.Sides.{AreBoundsOf, AreGraded, AreExact, ratio_for, Bears, Serves}
 

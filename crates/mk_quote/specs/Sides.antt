@@ -4,9 +4,8 @@ use Rattle.mk_net.specs.Bounds.{number_limit, million}
 use Rattle.mk_exact.specs.Ratios.{unit}
 use Rattle.mk_exact.specs.Limits.{Side}
 use Rattle.mk_enclose.specs.declared.factor.Factor.{Factor}
-use Rattle.mk_enclose.specs.Enclosure.{lower_of, upper_of, Encloses, IsExact}
-use Rattle.mk_enclose.specs.Factor.{paid_in, taken_out}
-use Rattle.mk_cash.specs.Factors.{IsGradedWithin, StandsFor}
+use Rattle.mk_enclose.specs.Enclosure.{lower_of, upper_of, Encloses, IsExact, IsGradedWithin}
+use Rattle.mk_enclose.specs.Factor.{paid_in, taken_out, StandsFor}
 use Rattle.mk_quote.specs.declared.side.SideBounds.{SideBounds}
 
 -- the bounds enclose the price and the least factor of a side, and its price is at most one

@@ -60,26 +60,6 @@ pub(crate) fn bears(factor: &Factor, ratio: u64) -> bool
     if product == 0 {
         return false;
     }
-    let gained = product.ilog2() as u64 + gain.exponent() + paid_in(factor);
-    gained >= 40 * (factor.trades as u64 + 1) + taken_out(factor)
-}
-
-/// The bits that were paid in on the whole.
-fn paid_in(factor: &Factor) -> u64
-    ensures value { result ≡ paid_in factor.now.net }
-    ensures small { result < 2 ^ 63 }
-{
-    if factor.net < 0 { 0 } else { factor.net as u64 }
-}
-
-/// The bits that were taken out on the whole.
-fn taken_out(factor: &Factor) -> u64
-    ensures value { result ≡ taken_out factor.now.net }
-    ensures small { result ≤ 2 ^ 63 }
-{
-    if factor.net < 0 {
-        factor.net.unsigned_abs()
-    } else {
-        0
-    }
+    let gained = product.ilog2() as u64 + gain.exponent() + factor.paid_in();
+    gained >= 40 * (factor.trades as u64 + 1) + factor.taken_out()
 }
