@@ -8,15 +8,6 @@ use Rattle.mk_cell.specs.inner.Laws.{has_room, untouched_stands}
 use Rattle.mk_table.specs.inner.Parts.{HaveRoom, IsTimes, IsChanged, IsAmong, IsRestricted}
 
 module _ (R : ℕ → ℕ → ℕ → ℕ → ℕ → Type 0) where
-  pub changed_none : (reached : ℕ → Type 0) (od oe : List ℕ) → ((c : ℕ) → reached c → ⊥) → IsChanged R reached od oe od oe
-  changed_none reached od oe h = record {
-    as_many_digits = refl;
-    as_many_exponents = refl;
-    done = λ c p. absurd (h c p);
-    digits_left = λ c p. refl;
-    exponents_left = λ c p. refl;
-  }
-
   -- the cell at n is written, by what was read there
   pub changed_more : (before after : ℕ → Type 0) (od oe d e : List ℕ) (n q x : ℕ)
       → ((c : ℕ) → after c → before c ⊎ (c ≡ n)) → ((c : ℕ) → before c → after c) → after n → (before n → ⊥)
@@ -77,25 +68,6 @@ module _ (R : ℕ → ℕ → ℕ → ℕ → ℕ → Type 0) where
       subst (λ (ys : List ℕ). IsChanged R (λ c. c < n + 1) od oe ys ne) (sym i)
       (subst (λ (ys : List ℕ). IsChanged R (λ c. c < n + 1) od oe (slice_set d n (slice_index nd n)) ys) (sym j)
       (changed_below od oe d e n (slice_index nd n) (slice_index ne n) l m h made))
-
-  -- the cell at n stays
-  pub same_below : (od oe d e : List ℕ) (n : ℕ) → IsChanged R (λ c. c < n) od oe d e → ((x y : ℕ) → R n x y x y) → IsChanged R (λ c. c < n + 1) od oe d e
-  same_below od oe d e n h made = record {
-    as_many_digits = h.as_many_digits;
-    as_many_exponents = h.as_many_exponents;
-    done = λ c p. at c p (cases_eq c n);
-    digits_left = λ c p. h.digits_left c (λ b. p (omega arith));
-    exponents_left = λ c p. h.exponents_left c (λ b. p (omega arith));
-  }
-    where
-      here : R n (slice_index od n) (slice_index oe n) (slice_index d n) (slice_index e n)
-      here =
-          subst (λ y. R n (slice_index od n) (slice_index oe n) y (slice_index e n)) (sym (h.digits_left n (λ b. omega arith)))
-          (subst (λ y. R n (slice_index od n) (slice_index oe n) (slice_index od n) y) (sym (h.exponents_left n (λ b. omega arith))) (made (slice_index od n) (slice_index oe n)))
-
-      at : (c : ℕ) → c < n + 1 → ((c ≡ n) ⊎ (c ≡ n → ⊥)) → R c (slice_index od c) (slice_index oe c) (slice_index d c) (slice_index e c)
-      at c p (inl i) = subst (λ k. R k (slice_index od k) (slice_index oe k) (slice_index d k) (slice_index e k)) (sym i) here
-      at c p (inr i) = h.done c (omega (arith, i))
 
   -- one more of the chosen cells, which were not reached before
   pub written_among : (chosen od oe d e nd ne : List ℕ) (i n : ℕ) → n ≡ slice_index chosen i → ((k : ℕ) → k < i → slice_index chosen k ≡ slice_index chosen i → ⊥)

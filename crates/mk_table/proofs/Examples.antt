@@ -1,22 +1,15 @@
--- The scope of the first of two variables lies in the scope of both.
-use Rattle.std.proofs.Common.{◌≡◌, ℕ, ◌<◌, true, false, ◌⊎◌, inl, inr, eqb, [], ◌∷◌, refl, sym, subst}
-use Rattle.std.proofs.lemmas.Bool.{both_ways, or_cases, eqb-true}
-use Rattle.mk_table.specs.Scopes.{ScopeOf, LiesIn, has_variable, size_in}
-use Rattle.mk_table.specs.Cells.{cell_in}
-use Rattle.mk_table.proofs.Kept.{cell_within}
+-- What the tests' networks and tables have.
+use Rattle.std.proofs.Common.{◌≡◌, ℕ, ◌+◌, ◌^◌, ◌<◌, List, length, All, arith, subst}
+use Rattle.std.proofs.lemmas.List.Elements.{All-weaker}
+use Rattle.mk_net.specs.Network.{Variable, IsNetwork}
+use Rattle.mk_net.specs.Named.{variable_at, nobody}
+use Rattle.mk_table.specs.Scopes.{ScopeOf, HasSized}
+use Rattle.mk_table.specs.Tables.{TableOf, HasNumbers, HasRoom}
 
-abbrev pub both_scope : ScopeOf
-both_scope = record { variables = 0 ∷ 1 ∷ []; sizes = 2 ∷ 3 ∷ [] }
+-- the parents of the second variable of a network
+pub one_parent : (network : List Variable) → IsNetwork network → 1 < length network → (scope : ScopeOf) → HasSized network scope 0 → All (HasSized network scope) (variable_at network 1).parents
+one_parent network net h scope s =
+    All-weaker (λ p. p < 1) (HasSized network scope) (λ p q. let e : 0 ≡ p = omega arith in subst (HasSized network scope) e s) (variable_at network 1).parents (net.each 1 nobody h).parents_earlier
 
-abbrev pub first_scope : ScopeOf
-first_scope = record { variables = 0 ∷ []; sizes = 2 ∷ [] }
-
-first_in_both : LiesIn first_scope both_scope
-first_in_both x p = at (or_cases (eqb x 0) false p)
-  where
-    at : ((eqb x 0 ≡ true) ⊎ (false ≡ true)) → (has_variable both_scope x ≡ true) × (size_in first_scope x ≡ size_in both_scope x)
-    at (inl e) = subst (λ y. (has_variable both_scope y ≡ true) × (size_in first_scope y ≡ size_in both_scope y)) (sym (eqb-true x 0 e)) (refl, refl)
-    at (inr e) = absurd (both_ways false refl e)
-
-pub first_within : (part whole : ScopeOf) → part ≡ first_scope → whole ≡ both_scope → (c : ℕ) → c < 6 → cell_in part whole c < 2
-first_within part whole e f c h = rw (e, f) (cell_within first_scope both_scope first_in_both c h)
+pub room_of : (t : TableOf) (f : ℕ → ℕ) (n more : ℕ) → HasNumbers t f n → n + more < 2 ^ 19 → t.shift < 2 ^ 25 → HasRoom t more
+room_of t f n more h l m = record { numbers = f; steps = n; has = h; few_steps = l; small_shift = m }

@@ -2,7 +2,7 @@
 use Rattle.std.proofs.Common.{◌≡◌, ℕ, zero, suc, ◌+◌, ◌<◌, Bool, true, false, cond, not, ◌&&◌, ◌||◌, ◌⊎◌, inl, inr, eqb, List, [], ◌∷◌, ◌++◌, length, get_or, take, drop, All, refl, sym, ap, subst, ◌∙◌, eq-eqb, ne_eqb}
 use Rattle.std.specs.List.{list_all, list_any}
 use Rattle.std.proofs.lemmas.Bool.{cases_eq, or_parts}
-use Rattle.std.proofs.lemmas.List.{take_more, take-append-drop, drop_more}
+use Rattle.std.proofs.lemmas.List.{take-append-drop, drop_more}
 use Rattle.std.proofs.lemmas.List.Elements.{All-head, All-tail}
 use Rattle.std.proofs.lemmas.List.Folds.{list_all-append}
 use Rattle.mk_net.specs.declared.words.Pair.{Pair}
@@ -32,12 +32,6 @@ apart_drop : (ps : List Pair) → AreApart ps → (i : ℕ) → AreApart (drop i
 apart_drop ps h zero = h
 apart_drop [] h (suc i) = h
 apart_drop (p ∷ ps) h (suc i) = apart_drop ps h.1 i
-
--- the pairs before the one that speaks of the variable
-pub lets_more : (ps : List Pair) (x i : ℕ) (d : Pair) → i < length ps → ((get_or ps i d).variable ≡ x → ⊥) → ((v : ℕ) → lets (take i ps) x v ≡ true) → (v : ℕ) → lets (take (i + 1) ps) x v ≡ true
-lets_more ps x i d l other h v =
-    ap (λ (qs : List Pair). lets qs x v) (take_more ps i d l) ∙ list_all-append (λ (p : Pair). lets_pair p x v) (take i ps) (get_or ps i d ∷ [])
-    ∙ ap (λ b. b && (lets_pair (get_or ps i d) x v && true)) (h v) ∙ ap (λ b. (not b || eqb v (get_or ps i d).value) && true) (ne_eqb (get_or ps i d).variable x other)
 
 pub lets_found : (ps : List Pair) → AreApart ps → (x i : ℕ) (d : Pair) → i < length ps → (get_or ps i d).variable ≡ x → ((v : ℕ) → lets (take i ps) x v ≡ true) → (v : ℕ) → lets ps x v ≡ eqb v (get_or ps i d).value
 lets_found ps apart x i d l here h v =

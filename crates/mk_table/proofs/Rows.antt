@@ -1,13 +1,13 @@
 -- The number of a row, parent by parent, where each parent has one of its values.
-use Rattle.std.proofs.Common.{◌≡◌, ℕ, ◌+◌, ◌*◌, ◌^◌, ◌<◌, ◌≤◌, List, [], ◌∷◌, length, get_or, take, take_all, fold, slice_index, slice_index_or, All, sym, ap, ◌∙◌, arith, subst, add-one, pow-suc, mul-le-mul_right, lt_of_lt_of_le, le_refl}
+use Rattle.std.proofs.Common.{◌≡◌, ℕ, ◌+◌, ◌*◌, ◌^◌, ◌<◌, ◌≤◌, List, [], ◌∷◌, length, get_or, take, take_all, fold, slice_index, All, sym, ap, ◌∙◌, arith, subst, add-one, pow-suc, mul-le-mul_right, lt_of_lt_of_le, le_refl}
 use Rattle.std.proofs.Math.Nat.{pow-le-pow_right}
 use Rattle.std.proofs.lemmas.Nat.{mul-add-lt}
 use Rattle.std.proofs.lemmas.List.Sums.{fold_more}
 use Rattle.std.proofs.lemmas.List.Elements.{All-head, All-tail, All-same, All-from_recursion}
-use Rattle.mk_net.specs.Network.{Variable, sizes, choices, IsNetwork, IsRow}
+use Rattle.mk_net.specs.Network.{Variable, sizes, choices, IsNetwork}
 use Rattle.mk_net.specs.Named.{variable_at, nobody}
-use Rattle.mk_exact.proofs.Positive.{size_at, few_values_at, parents_within}
-use Rattle.mk_sums.specs.There.{row_there, share_there}
+use Rattle.mk_exact.proofs.Positive.{few_values_at, parents_within}
+use Rattle.mk_sums.specs.There.{row_there}
 
 number_grows : (row size v i : ℕ) → row < 16 ^ i → size ≤ 16 → v < size → row * size + v < 16 ^ (i + 1)
 number_grows row size v i p q r = lt_of_lt_of_le (mul-add-lt row size v (16 ^ i) p r) (rw (add-one i, pow-suc 16 i) (let m : size * 16 ^ i ≤ 16 * 16 ^ i = mul-le-mul_right (16 ^ i) q in omega arith))
@@ -26,15 +26,6 @@ module _ (network : List Variable) (net : IsNetwork network) (k : ℕ) (within :
     (fit : All (λ p. a p < slice_index (sizes network) p) (variable_at network k).parents) where
   pub row_within : row_there (sizes network) (variable_at network k).parents a < length (variable_at network k).rows
   row_within = omega (arith, (net.each k nobody within).one_row_each, row_below (sizes network) a (variable_at network k).parents 0 1 (le_refl 1) fit)
-
-  pub share_pos : a k < slice_index (sizes network) k → 1 ≤ share_there network k a
-  share_pos h = row.positive (a k) 0 (omega (arith, h, size_at network net k within, row.one_each))
-    where
-      picked : List ℕ
-      picked = slice_index_or (variable_at network k).rows (row_there (sizes network) (variable_at network k).parents a) []
-
-      row : IsRow (length (variable_at network k).values) picked
-      row = (net.each k nobody within).rows_fit (row_there (sizes network) (variable_at network k).parents a) [] row_within
 
   module _ (parents : List ℕ) (are : parents ≡ (variable_at network k).parents) where
     pub step_small : (i row : ℕ) → i < length parents → row < 16 ^ i → row * slice_index (sizes network) (get_or parents i 0) + a (get_or parents i 0) < 16 ^ (i + 1)

@@ -16,8 +16,8 @@ use Rattle.mk_cell.specs.Cell.{AllStand, StandsAt}
 use Rattle.mk_cell.specs.inner.Laws.{stands_with_more}
 use Rattle.mk_table.specs.Scopes.{ScopeOf, cells_in}
 use Rattle.mk_table.specs.Cells.{values_at, cell_in, cells_onto, cells_where}
-use Rattle.mk_table.specs.Tables.{TableOf, HasNumbers, HasRoom}
-use Rattle.mk_table.specs.inner.Parts.{IsFull, HaveRoom, IsTimes, IsChanged, IsAmong, IsRestricted}
+use Rattle.mk_table.specs.Tables.{TableOf, HasNumbers}
+use Rattle.mk_table.specs.inner.Parts.{IsFull, IsTimes, IsChanged, IsAmong, IsRestricted}
 use Rattle.mk_table.proofs.Changes.{times_all, times_whole, times_some, kept_all}
 use Rattle.mk_table.proofs.Chosen.{among_chosen, none_among, chosen_pass}
 
@@ -37,19 +37,6 @@ module _ (t : TableOf) (scope : ScopeOf) (shift : ℕ) (od oe : List ℕ) (are :
   pub parts_full : IsFull scope od oe
   parts_full =
       subst (λ (s : ScopeOf). IsFull s od oe) (sym are.scope_is) (subst (λ (ys : List ℕ). IsFull t.scope ys oe) (sym are.digits_are) (subst (λ (ys : List ℕ). IsFull t.scope t.digits ys) (sym are.exponents_are) are.full))
-
-  pub parts_room : (more less : ℕ) → less ≤ more → HasRoom t more → HaveRoom shift od oe less
-  parts_room more less l room =
-      let few = room.few_steps in
-      let full = parts_full in
-      record {
-        same_length = full.as_many_exponents ∙ sym full.as_many_digits;
-        numbers = room.numbers;
-        steps = room.steps;
-        stand = parts_stand room.numbers room.steps room.has;
-        few_steps = omega arith;
-        small_shift = let s = room.small_shift in omega (arith, are.shift_is, s);
-      }
 
   pub rows_numbers : (share : ScopeOf → ℕ → ℕ) (nd ne : List ℕ) → IsChanged (λ c d e x y. IsTimes d e 0 (share scope c) 0 x y) (λ c. c < cells_in scope) od oe nd ne
       → (f : ℕ → ℕ) (n : ℕ) → HasNumbers t f n → AllStand shift nd ne (λ c. f c * share t.scope c) (n + 1)

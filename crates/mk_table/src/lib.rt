@@ -12,3 +12,6 @@ mod walk;
 pub use scope::Scope;
 pub use strides::CellList;
 pub use table::Table;
+
+#[cfg(test)]
+mod tests;
