@@ -1,6 +1,6 @@
 //! Reading a reply.
 
-ghost use Rattle.std.specs.Prelude.{◌≡◌, ◌<◌, ◌≤◌, ◌^◌, ℕ, List, IfOk, IfErr, IfSome, option_map, length, [], ◌++◌, codes};
+ghost use Rattle.std.specs.Prelude.{◌≡◌, ℕ, List, IfOk, IfErr, option_map, [], ◌++◌, codes};
 ghost use Rattle.mk_text.specs.Reading.{Finds, behind};
 ghost use Rattle.mk_reply.specs.Replies.{IsReply, reply_text, IsUnread};
 ghost use Rattle.mk_reply.specs.Reading.{read_long, read_ratio, read_joined, read_moved, read_prices, read_limited, read_traded, read_worst, read_resolved, read_payment, read_payments, read_settled, read_other, read_form};

@@ -6,8 +6,6 @@ ghost use Rattle.mk_io.specs.Outside.{HasCause, AddsFront, append_known};
 ghost use Rattle.mk_io.specs.Stream.{text, long, max_stream_lines};
 ghost use Rattle.mk_io.specs.Cutting.{GoesOn};
 ghost use Rattle.mk_session.specs.Texts.{reply_line};
-ghost use Rattle.mk_command.specs.Commands.{IsCommand, command_text};
-ghost use Rattle.mk_command.specs.declared.command.Command.{Command};
 ghost use Rattle.mk_rules.specs.Transcript.{opening};
 ghost use Rattle.mk_session.specs.Rules.{is_served};
 ghost use Rattle.mk_session.specs.Transcript.{AreAnswered};

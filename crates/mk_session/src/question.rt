@@ -10,6 +10,8 @@ ghost use Rattle.mk_rules.specs.Refusals.{pairs_of, names_in, question_named, fi
 
 use mk_net::{Event, Name, Network, PairText, Question, QuestionText};
 
+const _: () = prove!(size_of::<Question>() <= 100);
+
 /// The first pair of a question, the target first, that the network does not know.
 pub fn first_unknown(net: &Network, question: &QuestionText) -> Option<PairText>
     ensures { result ≡ find (λ p. is_none (pair_named net.now p)) (pairs_of question.now) }
