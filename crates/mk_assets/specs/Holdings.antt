@@ -1,7 +1,7 @@
 -- What one user's assets stand for, and what is asked of them.
 use Rattle.std.specs.Prelude.{◌≡◌, ℕ, ◌+◌, ◌*◌, ◌<◌, ◌≤◌, ℤ, List, [], Bool, true, length, Option, IsNone, IfSome, ◌↔◌}
 use Rattle.mk_net.specs.declared.words.Pair.{Pair}
-use Rattle.mk_net.specs.Asked.{Asked, TradeRatio, ratio_pairs}
+use Rattle.mk_net.specs.Asked.{Asked, TradeRatio}
 use Rattle.mk_net.specs.Bounds.{max_transfers, max_transfer_bits, max_market_trades, number_limit}
 use Rattle.mk_net.specs.Network.{Variable}
 use Rattle.mk_exact.specs.Proper.{IsPairOf, IsRatioOf}
@@ -11,8 +11,7 @@ use Rattle.mk_enclose.specs.Factor.{paid_in, taken_out}
 use Rattle.mk_tree.specs.Given.{GivenTree}
 use Rattle.mk_semiring.specs.declared.held.Held.TheVariants.{Present}
 use Rattle.mk_semiring.specs.Held.{HasHeldGrade}
-use Rattle.mk_engine.specs.Meaning.{Meaning, RatioOf, opening, with_factor, with_known, whole_sum, ArePairsOf}
-use Rattle.mk_engine.specs.Beliefs.{CanBelieve}
+use Rattle.mk_engine.specs.Meaning.{Meaning, RatioOf, with_factor, with_known, whole_sum, ArePairsOf}
 use Rattle.mk_engine.specs.Cases.{CanAskOthers}
 use Rattle.mk_assets.specs.declared.assets.Assets.{Assets}
 

@@ -1,6 +1,6 @@
 //! One user's assets.
 
-ghost use Rattle.std.specs.Prelude.{◌≡◌, ◌+◌, ◌≤◌, List, length, slice_index, IfOk};
+ghost use Rattle.std.specs.Prelude.{◌≡◌, ℕ, ◌+◌, ◌≤◌, List, length, slice_index, IfOk};
 ghost use Rattle.mk_net.specs.Network.{Variable, sizes};
 ghost use Rattle.mk_net.specs.Asked.{ratio_pairs};
 ghost use Rattle.mk_net.specs.Bounds.{max_values};
@@ -9,6 +9,7 @@ ghost use Rattle.mk_tree.specs.Given.{GivenTree};
 ghost use Rattle.mk_engine.specs.Meaning.{exact_belief, max_grade};
 ghost use Rattle.mk_engine.specs.Cases.{exact_others};
 ghost use Rattle.mk_assets.specs.Holdings.{Holding, Owns, CanStart, CanTrade, CanDeposit, CanWithdraw, CanLearn, CanFindLeast, CanFindLeastOfOthers, FitsEvent, IsLeastFactor, max_bits, opening_holding, with_trade, with_deposit, with_withdrawal, with_known_pair};
+ghost use Rattle.mk_assets.specs.inner.Found.{IsFound};
 
 use mk_enclose::Factor;
 use mk_engine::{Engine, belief_of_others};
@@ -92,8 +93,8 @@ impl<E: Engine<MinProd>> Assets<E> {
         ensures least { (h : Holding) → Owns E.stands_for self.old h
             → IsLeastFactor h (exact_belief ⟦<MinProd as Semiring>⟧.plus_of h.meaning event.now) (length h.meaning.factors + max_grade) result }
     {
-        let least = self.engine.belief(event);
-        self.factor(&least)
+        let found = self.engine.belief(event);
+        self.factor(&found)
     }
 
     /// The least factor over the states where the known pairs and the condition of a question hold and its target does
@@ -104,13 +105,15 @@ impl<E: Engine<MinProd>> Assets<E> {
         ensures least { (h : Holding) → Owns E.stands_for self.old h → values ≡ slice_index (sizes h.meaning.network) asked.now.target.variable
             → IsLeastFactor h (exact_others ⟦<MinProd as Semiring>⟧.plus_of h.meaning asked.now values) (length h.meaning.factors + max_grade + max_values) result }
     {
-        let least = belief_of_others::<MinProd, E>(&mut self.engine, asked, values);
-        self.factor(&least)
+        let found = belief_of_others::<MinProd, E>(&mut self.engine, asked, values);
+        self.factor(&found)
     }
 
-    /// The factor of a least gain.
-    fn factor(&self, least: &Held) -> Option<Factor> {
-        match least {
+    /// The factor of the least gain that was found.
+    fn factor(&self, found: &Held) -> Option<Factor>
+        ensures { (h : Holding) (least_gain most : ℕ) → Owns E.stands_for self.now h → IsFound h least_gain most found.now → IsLeastFactor h least_gain most result }
+    {
+        match found {
             Held::Absent => None,
             Held::Present(gain) => Some(Factor {
                 gain: *gain,

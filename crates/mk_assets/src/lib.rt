@@ -4,3 +4,6 @@
 mod assets;
 
 pub use assets::Assets;
+
+#[cfg(test)]
+mod tests;
