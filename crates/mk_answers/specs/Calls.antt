@@ -1,0 +1,43 @@
+-- What each call asks: some market in use, for which the engines stand.
+use Rattle.std.specs.Prelude.{◌≡◌, ℕ, List, slice_index}
+use Rattle.mk_net.specs.Network.{Variable, sizes}
+use Rattle.mk_net.specs.Asked.{Asked}
+use Rattle.mk_exact.specs.History.{Entry}
+use Rattle.mk_tree.specs.Given.{GivenTree}
+use Rattle.mk_engine.specs.Meaning.{Meaning}
+use Rattle.mk_beliefs.specs.Meanings.{weights_of}
+use Rattle.mk_assets.specs.declared.assets.Assets.{Assets}
+use Rattle.mk_assets.specs.Holdings.{Owns}
+use Rattle.mk_answers.specs.Open.{IsOpen, CanBeAnswered, holding_of}
+
+-- the engine has the weights of a market in use, where the question can be answered
+pub record CanPrice {E : Type 0} (stands_for : E → Meaning → Type 0) (prices : E) (asked : Asked) : Type 0 where
+  pub network : List Variable
+  pub tree : GivenTree
+  pub history : List Entry
+  pub stands : stands_for prices (weights_of network tree history)
+  pub is_open : IsOpen network tree history
+  pub answered : CanBeAnswered network tree history asked
+
+-- the assets are those of a user of a market in use
+pub record CanFindWorst {E P : Type 0} (stands_for : E → Meaning → Type 0) (assets : Assets E P) : Type 0 where
+  pub network : List Variable
+  pub tree : GivenTree
+  pub history : List Entry
+  pub user : ℕ
+  pub owns : Owns stands_for assets (holding_of network tree history user)
+  pub is_open : IsOpen network tree history
+
+-- the engine has the weights and the assets are a user's of one market in use, where the question can be answered, and its
+-- variable has so many values
+pub record CanBound {E A P : Type 0} (stands_for : E → Meaning → Type 0) (owned_for : A → Meaning → Type 0) (prices : E) (assets : Assets A P)
+    (asked : Asked) (values : ℕ) : Type 0 where
+  pub network : List Variable
+  pub tree : GivenTree
+  pub history : List Entry
+  pub user : ℕ
+  pub stands : stands_for prices (weights_of network tree history)
+  pub owns : Owns owned_for assets (holding_of network tree history user)
+  pub is_open : IsOpen network tree history
+  pub answered : CanBeAnswered network tree history asked
+  pub sized : values ≡ slice_index (sizes network) asked.target.variable

@@ -1,0 +1,4 @@
+pub mod Open
+pub mod Calls
+pub mod Laws
+pub mod inner

@@ -1,0 +1,49 @@
+-- A market in use, what the engines stand for there, and what the numbers of its answers owe the exact ones.
+use Rattle.std.specs.Prelude.{◌≡◌, ℕ, ◌^◌, List, true, is_some}
+use Rattle.mk_net.specs.Network.{Variable, IsNetwork}
+use Rattle.mk_net.specs.Asked.{Asked}
+use Rattle.mk_net.specs.Events.{pairs_asked}
+use Rattle.mk_exact.specs.History.{Entry, deposited, withdrawn}
+use Rattle.mk_exact.specs.Factors.{Fraction}
+use Rattle.mk_exact.specs.Limits.{Side}
+use Rattle.mk_exact.specs.Sound.{IsSound}
+use Rattle.mk_exact.specs.Proper.{IsProper}
+use Rattle.mk_exact.specs.Existing.{CanBeAsked, IsWithinBounds}
+use Rattle.mk_tree.specs.Given.{GivenTree, home}
+use Rattle.mk_tree.specs.Checked.{IsTreeOf}
+use Rattle.mk_enclose.specs.declared.factor.Factor.{Factor}
+use Rattle.mk_enclose.specs.Enclosure.{IsExact, IsGradedWithin}
+use Rattle.mk_enclose.specs.Factor.{StandsFor}
+use Rattle.mk_quote.specs.declared.bounds.Bounds.{Bounds}
+use Rattle.mk_quote.specs.Bounds.{EncloseSides, AreAllGraded, AreAllExact}
+use Rattle.mk_beliefs.specs.Meanings.{gains_of}
+use Rattle.mk_assets.specs.Holdings.{Holding}
+
+-- a market in use: a network with its tree, and a history that stands
+pub record IsOpen (network : List Variable) (tree : GivenTree) (H : List Entry) : Type 0 where
+  pub legal : IsNetwork network
+  pub tree_of_it : IsTreeOf network tree
+  pub proper : IsProper network H
+  pub sound : IsSound network H
+  pub within : IsWithinBounds H
+
+-- what a user's assets stand for then
+abbrev pub holding_of : List Variable → GivenTree → List Entry → ℕ → Holding
+holding_of network tree H u = record { meaning = gains_of network tree H u; deposited = deposited H u; withdrawn = withdrawn H u }
+
+-- a question that can be asked, and has a home
+pub record CanBeAnswered (network : List Variable) (tree : GivenTree) (H : List Entry) (asked : Asked) : Type 0 where
+  pub can_ask : CanBeAsked network H asked
+  pub home : is_some (home tree (pairs_asked asked)) ≡ true
+
+-- the bounds enclose both sides, with their grades, and are exact in the small case
+pub record AreBoundsFor (bounds : Bounds) (small : Type 0) (hit miss : Side) : Type 0 where
+  pub sides : EncloseSides bounds hit miss
+  pub graded : AreAllGraded bounds
+  pub exact : small → AreAllExact bounds
+
+-- the factor stands for the fraction, with its grade, and is exact in the small case
+pub record IsFactorFor (factor : Factor) (small : Type 0) (q : Fraction) : Type 0 where
+  pub stands : StandsFor factor q.num q.den
+  pub graded : IsGradedWithin factor.gain (2 ^ 17)
+  pub exact : small → IsExact factor.gain

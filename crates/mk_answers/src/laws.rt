@@ -1,0 +1,12 @@
+//! What the bounds of a question promise of its market.
+ghost use Rattle.mk_answers.specs.Laws.{FairByBounds, RightByBounds};
+
+/// Units that are fair and solvent by bounds for the two sides of a question are a fair pair.
+pub fn fair_by_bounds()
+    ensures { FairByBounds }
+{}
+
+/// Limits that are right by bounds for the two sides of a question are right for it.
+pub fn right_by_bounds()
+    ensures { RightByBounds }
+{}

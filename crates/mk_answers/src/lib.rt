@@ -1,0 +1,14 @@
+//! The numbers of a market's answers, from the beliefs of its engines: prices, the bounds of an edit, and the least that
+//! a user owns.
+#![tactic(auto)]
+
+mod edit;
+mod found;
+mod laws;
+mod price;
+mod worst;
+
+pub use edit::bounds_of;
+pub use laws::{fair_by_bounds, right_by_bounds};
+pub use price::price_of;
+pub use worst::{least_of, most_bits};
