@@ -1,0 +1,5 @@
+pub mod Entries
+pub mod Journals
+pub mod Members
+pub mod Lending
+pub mod inner
