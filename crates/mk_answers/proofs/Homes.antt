@@ -1,5 +1,5 @@
 -- An event has a home where a longer one has.
-use Rattle.std.proofs.Common.{◌≡◌, ℕ, suc, ◌+◌, ◌<◌, ◌≤◌, Bool, true, false, cond, ◌&&◌, ltb, List, [], ◌∷◌, ◌++◌, length, Option, Some, None, refl, sym, ap, ◌∙◌, arith}
+use Rattle.std.proofs.Common.{◌≡◌, ℕ, suc, ◌+◌, ◌<◌, ◌≤◌, Bool, true, false, cond, not, ◌&&◌, ltb, List, [], ◌∷◌, ◌++◌, length, Option, Some, None, refl, sym, ap, ◌∙◌, arith}
 use Rattle.std.specs.Prelude.{option_map, position, is_some}
 use Rattle.std.specs.List.{list_all, position_or_len}
 use Rattle.std.proofs.lemmas.Bool.{ltb-true, lt-ltb}
@@ -17,8 +17,9 @@ earlier p q weaker [] = omega arith
 earlier {X} p q weaker (x ∷ xs) = at (p x) (q x) (weaker x) (earlier p q weaker xs)
   where
     at : (a b : Bool) → (a ≡ true → b ≡ true) → position_or_len q xs ≤ position_or_len p xs
-        → cond b 0 (suc (position_or_len q xs)) ≤ cond a 0 (suc (position_or_len p xs))
-    at true b h l = elim b as (λ c. b ≡ c → cond c 0 (suc (position_or_len q xs)) ≤ 0) [ true ↦ λ e. omega arith | false ↦ λ e. absurd (cc (h refl, e)) ] refl
+        → cond (not b) (1 + position_or_len q xs) 0 ≤ cond (not a) (1 + position_or_len p xs) 0
+    at true true h l = omega arith
+    at true false h l = absurd (cc (h refl))
     at false true h l = omega arith
     at false false h l = omega arith
 
@@ -52,4 +53,4 @@ home_of_nothing t event e some = ap (λ (ps : List Pair). is_some (home t ps)) e
   where
     at : (cliques : List VarSet) → 1 ≤ length cliques → is_some (option_map (λ (n : ℕ). n + 1) (position (holds_event []) cliques)) ≡ true
     at [] l = absurd (omega arith)
-    at (c ∷ cs) l = refl
+    at (c ∷ cs) l = found_there (ltb 0 (length (c ∷ cs))) 0 ∙ lt-ltb 0 (length (c ∷ cs)) l
