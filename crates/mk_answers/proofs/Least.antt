@@ -1,16 +1,15 @@
 -- The least factors of a user's assets in a market in use.
-use Rattle.std.proofs.Common.{◌≡◌, ℕ, zero, suc, ℤ, pos, negsuc, ◌+◌, ◌*◌, ◌^◌, ◌<◌, ◌≤◌, ◌↔◌, true, false, List, [], length, Option, Some, None, IsSome, refl, sym, ap, subst, ◌∙◌, arith, le_trans}
+use Rattle.std.proofs.Common.{◌≡◌, ℕ, zero, suc, ℤ, pos, negsuc, ◌+◌, ◌*◌, ◌^◌, ◌<◌, ◌≤◌, ◌↔◌, true, false, List, [], length, Option, Some, None, IsSome, refl, sym, subst, ◌∙◌, arith}
 use Rattle.std.specs.Prelude.{is_some}
 use Rattle.std.proofs.lemmas.List.{length-map}
 use Rattle.std.proofs.Math.Nat.{mul-le-mul}
 use Rattle.mk_net.specs.declared.words.Pair.{Pair}
-use Rattle.mk_net.specs.Bounds.{max_points_per_bit}
+use Rattle.mk_net.specs.Bounds.{max_points_per_bit, max_values}
 use Rattle.mk_net.specs.Network.{Variable}
 use Rattle.mk_exact.specs.Events.{always}
-use Rattle.mk_exact.specs.Factors.{Fraction, factor_with, least_gain, trade_count}
+use Rattle.mk_exact.specs.Factors.{factor_with, least_gain, trade_count}
 use Rattle.mk_exact.specs.History.{Entry, UserTrade, deposited, withdrawn, trades_of}
 use Rattle.mk_exact.specs.Weight.{IsSmall}
-use Rattle.mk_exact.specs.Existing.{HasLeast}
 use Rattle.mk_exact.proofs.ExistMarkets.{least_gain_exists}
 use Rattle.mk_cell.specs.Least.{least}
 use Rattle.mk_tree.specs.Given.{GivenTree}
@@ -25,7 +24,6 @@ use Rattle.mk_cash.specs.Factors.{HasPowersInRange}
 use Rattle.mk_cash.specs.inner.Within.{powers_in_range}
 use Rattle.mk_assets.specs.Holdings.{Holding, IsNet, IsLeastFactor, max_bits}
 use Rattle.mk_answers.specs.Open.{IsOpen, IsFactorFor, holding_of}
-use Rattle.mk_answers.specs.inner.Found.{max_side_grade}
 
 -- a least value that is present is the number itself
 pub present_is : (n g : ℕ) → if_present n ≡ Some g → (n ≡ g) × (1 ≤ n)
@@ -57,7 +55,7 @@ module _ (network : List Variable) (tree : GivenTree) (H : List Entry) (u : ℕ)
   few = (factors_are_few network tree H u is_open.legal is_open.within.few_trades).1
 
   module _ (n most : ℕ) (result : Option Factor) (f : Factor) (is : result ≡ Some f) (least_is : IsLeastFactor (holding_of network tree H u) n most result)
-      (close : most ≤ length (gains_of network tree H u).factors + max_grade + 16) where
+      (close : most ≤ length (gains_of network tree H u).factors + max_grade + max_values) where
     its : IsLeastFactor (holding_of network tree H u) n most (Some f)
     its = subst (λ (o : Option Factor). IsLeastFactor (holding_of network tree H u) n most o) is least_is
 
@@ -106,7 +104,7 @@ module _ (network : List Variable) (tree : GivenTree) (H : List Entry) (u : ℕ)
     pub some_worst : IsSome result
     some_worst = some_least (holding_of network tree H u) (exact_belief least (gains_of network tree H u) []) most result over_all always_some
 
-    module _ (f : Factor) (is : result ≡ Some f) (close : most ≤ length (gains_of network tree H u).factors + max_grade + 16) where
+    module _ (f : Factor) (is : result ≡ Some f) (close : most ≤ length (gains_of network tree H u).factors + max_grade + max_values) where
       pub worst_for : (g : ℕ) → least_gain network H u always ≡ Some g → IsFactorFor f (IsSmall network H) (factor_with H u g)
       worst_for g e = factor_for (exact_belief least (gains_of network tree H u) []) most result f is over_all close g (always_is g e)
 

@@ -4,4 +4,4 @@ mod MostBits
 mod Parts
 mod Weights
 mod Least
--- mod Bounding
+mod Bounding

@@ -1,5 +1,4 @@
 use Rattle.std.proofs.Common.{arith}
-use Rattle.mk_engine.specs.Meaning.{max_grade}
 use Rattle.mk_beliefs.specs.Meanings.{gains_of}
 use Rattle.mk_answers.specs.Open.{holding_of}
 use Rattle.mk_answers.proofs.Homes.{home_of_nothing}
