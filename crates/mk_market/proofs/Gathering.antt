@@ -1,5 +1,5 @@
 -- Questions in words: the pairs of a condition that are gathered, and the variable that is repeated first.
-use Rattle.std.proofs.Common.{◌≡◌, ℕ, suc, zero, ◌+◌, ◌<◌, ◌≤◌, Bool, true, false, cond, ◌||◌, List, [], ◌∷◌, ◌++◌, length, length-++, take, drop, slice_index_or, Option, Some, None, IfSome, IfNone, is_none, refl, sym, ap, ap₂, subst, ◌∙◌, arith}
+use Rattle.std.proofs.Common.{◌≡◌, ℕ, suc, zero, ◌+◌, ◌<◌, ◌≤◌, Bool, true, false, cond, ◌||◌, List, [], ◌∷◌, ◌++◌, length, length-append, take, drop, slice_index_or, Option, Some, None, IfSome, IfNone, is_none, refl, sym, ap, ap₂, subst, ◌∙◌, arith}
 use Rattle.std.specs.Prelude.{◌==◌, find}
 use Rattle.std.specs.List.{list_any, filter_map, cons_option}
 use Rattle.std.proofs.lemmas.Bool.{eqb-true, eq-eqb}
@@ -72,7 +72,7 @@ module _ (network : List Variable) where
           let second = variable_known network b y f in
           number (sym first.1 ∙ ap (variable_named network) h ∙ second.1)
         where
-          number : {i j : ℕ} {v w : Variable} → Some (i, v) ≡ Some (j, w) → i ≡ j
+          number : {i j : ℕ} {v w : Variable} → ◌≡◌ {A = Option (ℕ × Variable)} (Some (i, v)) (Some (j, w)) → i ≡ j
           number h = cc
 
       at : (s : Bool) → (x.variable == y.variable) ≡ s → (t : Bool) → same_text a.variable b.variable ≡ t → same_text a.variable b.variable ≡ s
@@ -81,12 +81,12 @@ module _ (network : List Variable) where
       at false i false j = j
 
   -- a name that is known stands among the target's and the earlier ones exactly where its variable does
-  AreMatched : List PairText → ℕ → List Pair → PairText → Pair → Type 0
+  pub AreMatched : List PairText → ℕ → List Pair → PairText → Pair → Type 0
   AreMatched pairs k condition t x = (p : PairText) (z : Pair) → pair_named network p ≡ Some z
       → list_any (same_text p.variable) (onto (t.variable ∷ []) (take k pairs)) ≡ ((z.variable == x.variable) || speaks_of condition z.variable)
 
   -- the first repeat behind a target, where so many pairs were gathered
-  FirstAt : List PairText → ℕ → List Pair → Option (List ℕ) → PairText → Pair → Type 0
+  pub FirstAt : List PairText → ℕ → List Pair → Option (List ℕ) → PairText → Pair → Type 0
   FirstAt pairs k condition repeated t x = first_repeat (t.variable ∷ []) (names_in pairs)
       ≡ cond (speaks_of condition x.variable) (Some t.variable) (or_else repeated (first_repeat (onto (t.variable ∷ []) (take k pairs)) (names_in (drop k pairs))))
 
@@ -147,7 +147,8 @@ module _ (network : List Variable) where
   unfolding AreMatched FirstAt
   repeated_now pairs k d y condition t x h named matched spoken first =
       first ∙ ap (λ (o : Option (List ℕ)). cond (speaks_of condition x.variable) (Some t.variable) o)
-      (repeat_here (onto (t.variable ∷ []) (take k pairs)) pairs k d h ∙ ap (λ (b : Bool). cond b (Some (slice_index_or pairs k d).variable) _) stands)
+      (repeat_here (onto (t.variable ∷ []) (take k pairs)) pairs k d h
+      ∙ ap (λ (b : Bool). cond b (Some (slice_index_or pairs k d).variable) (first_repeat ((slice_index_or pairs k d).variable ∷ onto (t.variable ∷ []) (take k pairs)) (names_in (drop (suc k) pairs)))) stands)
     where
       always : (a b : Bool) → b ≡ true → (a || b) ≡ true
       always true b h = refl
@@ -165,7 +166,7 @@ module _ (network : List Variable) where
       first ∙ ap (λ (o : Option (List ℕ)). cond (speaks_of condition x.variable) (Some t.variable) o)
       (repeat_here (onto (t.variable ∷ []) (take k pairs)) pairs k d h
       ∙ ap (λ (b : Bool). cond b (Some (slice_index_or pairs k d).variable) (first_repeat ((slice_index_or pairs k d).variable ∷ onto (t.variable ∷ []) (take k pairs)) (names_in (drop (suc k) pairs)))) stands)
-      ∙ at (speaks_of condition x.variable) (y.variable == x.variable) refl
+      ∙ at (speaks_of condition x.variable) (y.variable == x.variable) _ refl
       ∙ ap₂ (λ (b : Bool) (names : List (List ℕ)). cond b (Some t.variable) (first_repeat names (names_in (drop (suc k) pairs)))) (sym (speaks_more condition y x.variable))
       (sym (onto_more (t.variable ∷ []) pairs k d h))
     where
@@ -187,11 +188,11 @@ module _ (network : List Variable) where
       same_name : (y.variable == x.variable) ≡ true → (slice_index_or pairs k d).variable ≡ t.variable
       same_name e = equal_of_same_text (slice_index_or pairs k d).variable t.variable (names_agree (slice_index_or pairs k d) t y x named target ∙ e)
 
-      at : (a b : Bool) {later : Option (List ℕ)} → (y.variable == x.variable) ≡ b
+      at : (a b : Bool) (later : Option (List ℕ)) → (y.variable == x.variable) ≡ b
           → cond a (Some t.variable) (cond b (Some (slice_index_or pairs k d).variable) later) ≡ cond (a || (x.variable == y.variable)) (Some t.variable) later
-      at true b e = refl
-      at false true e = rw (turned true e) (ap (λ (name : List ℕ). Some name) (same_name e))
-      at false false e = rw (turned false e) refl
+      at true b later e = refl
+      at false true later e = rw (turned true e) (ap (λ (name : List ℕ). Some name) (same_name e))
+      at false false later e = rw (turned false e) refl
 
   repeated_stays : (pairs : List PairText) (k : ℕ) (condition : List Pair) (name : List ℕ) (t : PairText) (x : Pair)
       → FirstAt pairs k condition (Some name) t x → FirstAt pairs (suc k) condition (Some name) t x
@@ -234,7 +235,7 @@ module _ (network : List Variable) where
           }))
         where
           longer : (ps : List Pair) {n : ℕ} → length ps ≤ n → length (ps ++ y ∷ []) ≤ suc n
-          longer ps h = omega (arith, length-++ ps (y ∷ []), h)
+          longer ps h = omega (arith, length-append ps (y ∷ []), h)
 
   pub gathered_all : (pairs : List PairText) (k : ℕ) (condition : List Pair) (repeated : Option (List ℕ)) → k ≡ length pairs → length pairs ≤ max_condition
       → IsGatheredTo pairs k condition repeated → IsGathered network pairs condition repeated

@@ -1,2 +1,5 @@
+pub mod Entries
+pub mod Journals
+pub mod Members
 pub mod Refused
 pub mod inner

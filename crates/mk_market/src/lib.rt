@@ -2,5 +2,11 @@
 #![tactic(auto)]
 
 mod asking;
+mod entry;
+mod journal;
+mod users;
 
 pub use asking::{ask, known};
+pub use entry::Entry;
+pub use journal::Journal;
+pub use users::{Member, Users};
