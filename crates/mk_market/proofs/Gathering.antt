@@ -1,12 +1,14 @@
 -- Questions in words: the pairs of a condition that are gathered, and the variable that is repeated first.
 use Rattle.std.proofs.Common.{◌≡◌, ℕ, suc, zero, ◌+◌, ◌<◌, ◌≤◌, Bool, true, false, cond, ◌||◌, List, [], ◌∷◌, ◌++◌, length, length-append, take, drop, slice_index_or, Option, Some, None, IfSome, IfNone, is_none, refl, sym, ap, ap₂, subst, ◌∙◌, arith}
-use Rattle.std.specs.Prelude.{◌==◌, find}
+use Rattle.std.specs.Prelude.{◌==◌, find, option_map}
 use Rattle.std.specs.List.{list_any, filter_map, cons_option}
 use Rattle.std.proofs.lemmas.Bool.{eqb-true, eq-eqb}
 use Rattle.mk_net.specs.declared.words.Pair.{Pair}
 use Rattle.mk_net.specs.declared.words.PairText.{PairText}
+use Rattle.mk_net.specs.declared.words.QuestionText.{QuestionText}
+use Rattle.mk_net.specs.Asked.{Asked}
 use Rattle.mk_net.specs.Bounds.{max_condition}
-use Rattle.mk_net.specs.Events.{speaks_of}
+use Rattle.mk_net.specs.Events.{speaks_of, AreApart}
 use Rattle.mk_net.specs.Firsts.{fault_if, or_else}
 use Rattle.mk_net.specs.Network.{Variable}
 use Rattle.mk_net.specs.Named.{pair_named, variable_at, variable_named}
@@ -14,7 +16,9 @@ use Rattle.mk_net.specs.Texts.{same_text}
 use Rattle.mk_net.proofs.Named.{pair_variable_name, pair_variable_in_range, pair_value_in_range}
 use Rattle.mk_net.proofs.SameText.{same_text_of_equal, equal_of_same_text}
 use Rattle.mk_exact.specs.Proper.{IsPairOf}
-use Rattle.mk_rules.specs.Refusals.{names_in, known_pairs, first_repeat}
+use Rattle.mk_reply.specs.declared.refusal.Refusal.{Refusal}
+use Rattle.mk_reply.specs.declared.refusal.Refusal.TheVariants.{Unknown, Twice}
+use Rattle.mk_rules.specs.Refusals.{pairs_of, names_in, known_pairs, question_named, first_repeat, unknown, twice}
 use Rattle.mk_rules.proofs.Unrefused.{variable_known}
 use Rattle.mk_market.specs.inner.Gathered.{IsGathered}
 
@@ -58,6 +62,20 @@ speaks_more (x ∷ condition) y v = ap (λ (b : Bool). (v == x.variable) || b) (
     at true = refl
     at false = refl
 
+-- where a list with one pair more gives no variable twice, the others do not speak of the last one's
+pub last_unspoken : (condition : List Pair) (y : Pair) → AreApart (condition ++ y ∷ []) → speaks_of condition y.variable ≡ false
+last_unspoken [] y h = refl
+last_unspoken (x ∷ condition) y h = at (y.variable == x.variable) refl (speaks_of condition y.variable) (last_unspoken condition y h.1)
+  where
+    later : (a b : Bool) → (a || b) ≡ false → b ≡ false
+    later true b h = cc
+    later false b h = h
+
+    at : (b : Bool) → (y.variable == x.variable) ≡ b → (rest : Bool) → rest ≡ false → (b || rest) ≡ false
+    at true e rest i = absurd (let same = eq-eqb x.variable y.variable (sym (eqb-true y.variable x.variable e)) in
+        let other = later (speaks_of condition x.variable) (x.variable == y.variable) (sym (speaks_more condition y x.variable) ∙ h.0) in cc)
+    at false e rest i = i
+
 module _ (network : List Variable) where
   -- known names are the same text exactly where they have the same number
   names_agree : (a b : PairText) (x y : Pair) → pair_named network a ≡ Some x → pair_named network b ≡ Some y → same_text a.variable b.variable ≡ (x.variable == y.variable)
@@ -73,7 +91,7 @@ module _ (network : List Variable) where
           number (sym first.1 ∙ ap (variable_named network) h ∙ second.1)
         where
           number : {i j : ℕ} {v w : Variable} → ◌≡◌ {A = Option (ℕ × Variable)} (Some (i, v)) (Some (j, w)) → i ≡ j
-          number h = cc
+          number {i = i} h = ap (λ (o : Option (ℕ × Variable)). elim o [ None ↦ i | Some r ↦ r.0 ]) h
 
       at : (s : Bool) → (x.variable == y.variable) ≡ s → (t : Bool) → same_text a.variable b.variable ≡ t → same_text a.variable b.variable ≡ s
       at true i t j = same_text_of_equal a.variable b.variable (equal (eqb-true x.variable y.variable i))
@@ -205,37 +223,50 @@ module _ (network : List Variable) where
       → new_repeated ≡ or_else repeated (fault_if (speaks_of condition y.variable) (slice_index_or pairs k d).variable)
       → new_condition ≡ cond (is_none new_repeated) (condition ++ y ∷ []) condition
       → IsGatheredTo pairs k condition repeated → IsGatheredTo pairs (suc k) new_condition new_repeated
-  gathered_next pairs k d y condition new_condition (Some name) new_repeated h named e f g = rw e (rw (f ∙ rw e refl) (record {
+  gathered_next pairs k d y condition new_condition (Some name) new_repeated h named e f g = rw (e, f ∙ ap (λ (o : Option (List ℕ)). cond (is_none o) (condition ++ y ∷ []) condition) e) (record {
     few = omega (arith, g.few);
     unknown = unknown_next pairs k d y h named ∙ g.unknown;
     whole = tt;
     matched = λ t x i. tt;
     first = λ t x i. repeated_stays pairs k condition name t x (g.first t x i);
-  }))
+  })
   gathered_next pairs k d y condition new_condition None new_repeated h named e f g = at (speaks_of condition y.variable) refl
     where
       at : (b : Bool) → speaks_of condition y.variable ≡ b → IsGatheredTo pairs (suc k) new_condition new_repeated
       at true spoken =
-          let now : new_repeated ≡ Some (slice_index_or pairs k d).variable = e ∙ rw spoken refl in
-          rw now (rw (f ∙ rw now refl) (record {
+          let now : new_repeated ≡ Some (slice_index_or pairs k d).variable = e ∙ ap (λ (b : Bool). fault_if b (slice_index_or pairs k d).variable) spoken in
+          let same : new_condition ≡ condition = f ∙ ap (λ (o : Option (List ℕ)). cond (is_none o) (condition ++ y ∷ []) condition) now in
+          rw (now, same) (record {
             few = omega (arith, g.few);
             unknown = unknown_next pairs k d y h named ∙ g.unknown;
             whole = tt;
             matched = λ t x i. tt;
             first = λ t x i. repeated_now pairs k d y condition t x h named (g.matched t x i) spoken (g.first t x i);
-          }))
+          })
       at false unspoken =
-          let now : new_repeated ≡ None = e ∙ rw unspoken refl in
-          rw now (rw (f ∙ rw now refl) (record {
+          let now : new_repeated ≡ None = e ∙ ap (λ (b : Bool). fault_if b (slice_index_or pairs k d).variable) unspoken in
+          let put : new_condition ≡ condition ++ y ∷ [] = f ∙ ap (λ (o : Option (List ℕ)). cond (is_none o) (condition ++ y ∷ []) condition) now in
+          rw (now, put) (record {
             few = longer condition g.few;
             unknown = unknown_next pairs k d y h named ∙ g.unknown;
             whole = whole_next pairs k d y condition h named g.whole;
             matched = λ t x i. matched_next pairs k d y condition t x h named (g.matched t x i);
             first = λ t x i. put_now pairs k d y condition t x h i named (g.matched t x i) unspoken (g.first t x i);
-          }))
+          })
         where
           longer : (ps : List Pair) {n : ℕ} → length ps ≤ n → length (ps ++ y ∷ []) ≤ suc n
           longer ps h = omega (arith, length-append ps (y ∷ []), h)
+
+  pub gathered_after : (pairs : List PairText) (k : ℕ) (words : PairText) (y : Pair) (condition new_condition : List Pair) (repeated new_repeated : Option (List ℕ)) → k < length pairs
+      → words ≡ slice_index_or pairs k words → pair_named network words ≡ Some y
+      → new_repeated ≡ or_else repeated (fault_if (speaks_of condition y.variable) words.variable)
+      → new_condition ≡ cond (is_none new_repeated) (condition ++ y ∷ []) condition
+      → IsGatheredTo pairs k condition repeated → IsGatheredTo pairs (k + 1) new_condition new_repeated
+  gathered_after pairs k words y condition new_condition repeated new_repeated h at named e f g =
+      let next : suc k ≡ k + 1 = omega arith in
+      subst (λ (n : ℕ). IsGatheredTo pairs n new_condition new_repeated) next
+      (gathered_next pairs k words y condition new_condition repeated new_repeated h (ap (pair_named network) (sym at) ∙ named)
+      (e ∙ ap (λ (p : PairText). or_else repeated (fault_if (speaks_of condition y.variable) p.variable)) at) f g)
 
   pub gathered_all : (pairs : List PairText) (k : ℕ) (condition : List Pair) (repeated : Option (List ℕ)) → k ≡ length pairs → length pairs ≤ max_condition
       → IsGatheredTo pairs k condition repeated → IsGathered network pairs condition repeated
@@ -266,3 +297,24 @@ module _ (network : List Variable) where
 pub pair_of_network : (network : List Variable) (words : PairText) (o : Option Pair) → o ≡ pair_named network words → IfSome o (λ pair. IsPairOf network pair)
 pair_of_network network words None e = tt
 pair_of_network network words (Some pair) e = record { variable = pair_variable_in_range network words pair e; value = pair_value_in_range network words pair e }
+
+pub all_known : (network : List Variable) (q : QuestionText) (target : Pair) (ps : List PairText) → pair_named network q.target ≡ Some target → ps ≡ q.condition.items
+    → None ≡ unknown network ps → unknown network (pairs_of q) ≡ None
+all_known network q target ps named same known =
+    ap (λ (o : Option Pair). option_map Unknown (cond (is_none o) (Some q.target) (find (λ p. is_none (pair_named network p)) q.condition.items))) named
+    ∙ ap (unknown network) (sym same) ∙ sym known
+
+-- what a question is refused for, once its target and its condition are known
+pub refused_for : (network : List Variable) (q : QuestionText) (target : Pair) (ps : List PairText) (condition : List Pair) (repeated : Option (List ℕ)) → pair_named network q.target ≡ Some target
+    → ps ≡ q.condition.items → None ≡ unknown network ps → IsGathered network ps condition repeated
+    → or_else (unknown network (pairs_of q)) (twice (names_in (pairs_of q))) ≡ option_map Twice (cond (speaks_of condition target.variable) (Some q.target.variable) repeated)
+refused_for network q target ps condition repeated named same known g =
+    ap (λ (o : Option Refusal). or_else o (twice (names_in (pairs_of q)))) (all_known network q target ps named same known)
+    ∙ ap (λ (rest : List PairText). option_map Twice (first_repeat (q.target.variable ∷ []) (names_in rest))) (sym same)
+    ∙ ap (option_map Twice) (g.first q.target target named)
+
+pub question_is : (network : List Variable) (q : QuestionText) (target : Pair) (ps : List PairText) (asked : Asked) (condition : List Pair) (repeated : Option (List ℕ)) → pair_named network q.target ≡ Some target
+    → ps ≡ q.condition.items → IsGathered network ps condition repeated → repeated ≡ None → asked ≡ record { target = target; condition = condition } → question_named network q ≡ Some asked
+question_is network q target ps asked condition repeated named same g none is =
+    rw is (ap (option_map (λ t. record { target = t; condition = known_pairs network q.condition.items })) named
+    ∙ ap (λ (pairs : List Pair). Some (record { target = target; condition = pairs })) (ap (known_pairs network) (sym same) ∙ sym (subst (λ (o : Option (List ℕ)). IfNone o (condition ≡ known_pairs network ps)) none g.whole)))

@@ -1,4 +1,4 @@
-use Rattle.std.proofs.Common.{sym, Option, Some, None, ◌≡◌, ok_or, tt}
+use Rattle.std.proofs.Common.{Option, Some, None, ◌≡◌, ok_or}
 use Rattle.std.specs.Prelude.{IfSome, IfOk, Ok, Err, Result}
 use Rattle.mk_market.proofs.Gathering.{pair_of_network}
 use Rattle.mk_market.proofs.asking.known.Goals as goal
