@@ -1,6 +1,6 @@
 -- What is refused, and what is known where nothing is.
 use Rattle.std.proofs.Common.{◌≡◌, ℕ, suc, zero, ◌+◌, ◌<◌, ◌≤◌, Bool, true, false, cond, not, ltb, ◌&&◌, ◌||◌, List, [], ◌∷◌, ◌++◌, length, drop, map, filter, slice_index_or, ◌⊎◌, inl, inr, Option, Some, None, IfSome, IfNone, is_none, refl, sym, ap, ap₂, subst, ◌∙◌, arith}
-use Rattle.std.specs.Prelude.{◌==◌, find, option_map, is_some, position, slice_get, Result, Ok, Err, IfOk, ⊤}
+use Rattle.std.specs.Prelude.{◌==◌, ◌-◌, find, option_map, is_some, position, slice_get, Result, Ok, Err, IfOk, IsErrAnd, ⊤}
 use Rattle.std.specs.List.{list_any, list_all, filter_map, cons_option, position_or_len, enumerate_from, range_with_len, AllByRecursion}
 use Rattle.std.proofs.lemmas.Bool.{eqb-true, eq-eqb, cases_eq, cases_lt, lt-ltb, le-ltb, ltb-true, ltb-false}
 use Rattle.std.proofs.lemmas.List.Folds.{find_at}
@@ -10,6 +10,7 @@ use Rattle.mk_net.specs.declared.words.PairText.{PairText}
 use Rattle.mk_net.specs.declared.words.QuestionText.{QuestionText}
 use Rattle.mk_net.specs.declared.sets.VarSet.{VarSet}
 use Rattle.mk_net.specs.Asked.{Asked}
+use Rattle.mk_net.specs.Bounds.{million}
 use Rattle.mk_net.specs.Events.{speaks_of, AreApart, IsQuestion, pairs_asked}
 use Rattle.mk_net.specs.Firsts.{fault_if, or_else, first_of}
 use Rattle.mk_net.specs.Network.{Variable}
@@ -21,9 +22,10 @@ use Rattle.mk_tree.specs.Given.{GivenTree, home, holds_event}
 use Rattle.mk_tree.specs.Tests.{members}
 use Rattle.mk_file.specs.declared.opened.MarketFile.{MarketFile}
 use Rattle.mk_file.specs.MarketOf.{market_of}
+use Rattle.mk_command.specs.declared.command.Command.TheVariants.{Edit}
 use Rattle.mk_reply.specs.declared.refusal.Refusal.{Refusal}
 use Rattle.mk_reply.specs.declared.refusal.Refusal.TheVariants.{Unknown, Twice, Wide, Unresolved, Impossible}
-use Rattle.mk_rules.specs.Refusals.{pairs_of, names_in, variables_in, known_pairs, question_named, is_resolved, contradicts, passes, is_wide, unknown, resolved, impossible, wide_question, unresolved}
+use Rattle.mk_rules.specs.Refusals.{pairs_of, names_in, variables_in, known_pairs, question_named, is_resolved, contradicts, passes, is_wide, unknown, resolved, impossible, wide_question, unresolved, twice, settled, no_user, stale, range, trades_full, first_refusal}
 use Rattle.mk_rules.proofs.Unrefused.{not_mapped, question_known, target_named, not_resolved, condition_agrees}
 use Rattle.mk_market.specs.Refused.{refusal_in, IsQuestionFor}
 
@@ -288,3 +290,29 @@ pairs_are network q asked condition words named e f = e ∙ (target_named networ
 
 pub slice_known : (network : List Variable) (q : QuestionText) (words : List PairText) → words ≡ q.condition.items → unknown network (pairs_of q) ≡ None → unknown network words ≡ None
 slice_known network q words e known = ap (unknown network) e ∙ others_known network q.target q.condition.items known
+
+-- a refusal behind five that do not apply
+refused_sixth : (settled user unknown twice stale free agreed wide later : Option Refusal) (why : Refusal) → None ≡ settled → None ≡ user → None ≡ or_else unknown twice → None ≡ stale
+    → Some why ≡ or_else free (or_else agreed (or_else wide None))
+    → Some why ≡ or_else settled (or_else user (or_else unknown (or_else twice (or_else stale (or_else free (or_else agreed (or_else wide later)))))))
+refused_sixth None None None None None (Some x) agreed wide later why e f g h i = i
+refused_sixth None None None None None None (Some x) wide later why e f g h i = i
+refused_sixth None None None None None None None (Some x) later why e f g h i = i
+refused_sixth None None None None None None None None later why e f g h i = cc
+refused_sixth (Some x) user unknown twice stale free agreed wide later why e f g h i = cc
+refused_sixth None (Some x) unknown twice stale free agreed wide later why e f g h i = cc
+refused_sixth None None (Some x) twice stale free agreed wide later why e f g h i = cc
+refused_sixth None None None (Some x) stale free agreed wide later why e f g h i = cc
+refused_sixth None None None None (Some x) free agreed wide later why e f g h i = cc
+
+pub edit_refused : (file : MarketFile) (H : List Entry) (name : List ℕ) (q : QuestionText) (to : ℕ) (at : Option ℕ) (why : Refusal) → None ≡ settled H → None ≡ no_user H name
+    → None ≡ or_else (unknown file.net (pairs_of q)) (twice (names_in (pairs_of q))) → None ≡ stale H at
+    → Some why ≡ first_of (resolved file.net H q.target.variable ∷ impossible file.net H q.condition.items ∷ wide_question (market_of file) H q ∷ [])
+    → Some why ≡ first_refusal (market_of file) H (Edit name q to at)
+edit_refused file H name q to at why e f g h i =
+    refused_sixth (settled H) (no_user H name) (unknown file.net (pairs_of q)) (twice (names_in (pairs_of q))) (stale H at) (resolved file.net H q.target.variable)
+    (impossible file.net H q.condition.items) (wide_question (market_of file) H q) (or_else (range (million - 1) to) (or_else (trades_full (market_of file) H) None)) why e f g h i
+
+pub error_kept : {T : Type 0} (r : Result T Refusal) (why : Refusal) → IsErrAnd r (λ e. e ≡ why) → refusal_in r ≡ Some why
+error_kept (Ok x) why h = absurd h
+error_kept (Err e) why h = ap (λ (w : Refusal). Some w) h
