@@ -2,4 +2,5 @@ pub mod Entries
 pub mod Journals
 pub mod Members
 pub mod Lending
+pub mod Refused
 pub mod inner
