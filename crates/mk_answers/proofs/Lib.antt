@@ -5,3 +5,4 @@ mod Parts
 mod Weights
 mod Least
 mod Bounding
+mod Staged
