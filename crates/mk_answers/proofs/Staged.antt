@@ -6,7 +6,8 @@ use Rattle.std.proofs.lemmas.List.{length-map}
 use Rattle.std.proofs.lemmas.List.FromFn.{map-range_with_len_more, length-map-range_with_len}
 use Rattle.mk_net.specs.declared.words.Pair.{Pair}
 use Rattle.mk_net.specs.Asked.{Asked, TradeRatio, factors_of, ratio_pairs, question_ratio}
-use Rattle.mk_net.specs.Bounds.{max_market_trades, number_limit, million}
+use Rattle.mk_net.specs.Bounds.{max_market_trades, max_values, number_limit, million}
+use Rattle.mk_net.specs.Named.{nobody}
 use Rattle.mk_net.specs.Events.{pairs_asked, speaks_of}
 use Rattle.mk_net.specs.Network.{Variable, IsNetwork, sizes}
 use Rattle.mk_net.proofs.UnitsOf.{factors_length}
@@ -19,6 +20,7 @@ use Rattle.mk_exact.specs.Sides.{AreSides, IsFairPair, ratio_in}
 use Rattle.mk_exact.specs.Existing.{CanBeAsked, IsWithinBounds, HasSides}
 use Rattle.mk_exact.proofs.Sums.{each-map, each_always}
 use Rattle.mk_exact.proofs.After.{trades_more, trades_of_more, users_kept, resolutions_kept, deposited_kept, withdrawn_kept, deposited_more}
+use Rattle.mk_exact.proofs.Positive.{size_at}
 use Rattle.mk_exact.proofs.Next.{sound_next}
 use Rattle.mk_exact.proofs.Range.{proper_next, empty_proper, fair_pair_is_safe}
 use Rattle.mk_exact.proofs.Single.{empty_sound}
@@ -169,3 +171,14 @@ module _ (network : List Variable) (tree : GivenTree) (H : List Entry) (asked : 
 
   pub later_unresolved : resolutions H ≡ [] → resolutions later ≡ []
   later_unresolved none = resolutions_kept H (Trade 0 (ratio_in network asked hit miss)) refl ∙ none
+
+-- how many values the question's variable has
+pub values_are : (network : List Variable) (tree : GivenTree) (asked : Asked) (values : ℕ) → IsNetwork network → IsFit network tree asked values
+    → (2 ≤ values) × (values ≤ max_values) × (asked.target.value < values)
+values_are network tree asked values net fit =
+    let inside = fit.in_range.target.variable in
+    let size = size_at network net asked.target.variable inside in
+    let each = net.each asked.target.variable nobody inside in
+    let sized = fit.sized in let value = fit.in_range.target.value in
+    let two = each.two_values in let few = each.few_values in
+    (omega arith, omega arith, omega arith)
