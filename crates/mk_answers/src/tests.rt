@@ -1,6 +1,6 @@
 //! A coin, a die and the weather: prices, limits, units and cash as an exact reference over whole numbers has them.
 
-ghost use Rattle.std.specs.Prelude.{◌≡◌, ◌≤◌, ◌<◌, true, length};
+ghost use Rattle.std.specs.Prelude.{◌≡◌, ℕ, ◌≤◌, ◌<◌, true, length, IfOk};
 ghost use Rattle.std.specs.List.{AllByRecursion};
 ghost use Rattle.mk_net.specs.Bounds.{max_clique_cells};
 ghost use Rattle.mk_exact.specs.Proper.{IsPairOf};
@@ -196,7 +196,6 @@ const WEATHER: [Step; 4] = [
 struct Example {
     net: Network,
     tree: Tree,
-    ghost of_it: { IsTreeOf net tree },
     ghost few: { joint_states net ≤ max_clique_cells },
 }
 
@@ -240,7 +239,9 @@ fn all_variables(net: &Network) -> VarSet
     all
 }
 
-fn make_example(alloc: Global, variables: Vec<VariableDraft>) -> Result<Example, Fail> {
+fn make_example(alloc: Global, variables: Vec<VariableDraft>) -> Result<Example, Fail>
+    ensures { IfOk result (λ example. IsTreeOf example.net example.tree) }
+{
     let net = Network::check(alloc, &Draft { variables })?;
     let all = all_variables(&net);
     let tree = Tree::from_cliques(alloc, &net, &[all], &[])?;
@@ -359,6 +360,7 @@ fn run<P: Engine<SumProd>, A: Engine<MinProd>>(
     bits: u32,
     steps: &[Step],
 ) -> Result<(), Fail>
+    requires tree { IsTreeOf example.now.net example.now.tree }
     requires suits { P.suits example.now.net example.now.tree }
     requires suits_assets { A.suits example.now.net example.now.tree }
     requires bits { bits ≤ 1000 }
