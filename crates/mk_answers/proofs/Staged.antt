@@ -1,14 +1,14 @@
 -- What a test's market keeps from one edit to the next.
-use Rattle.std.proofs.Common.{◌≡◌, ℕ, ◌+◌, ◌-◌, ◌*◌, ◌^◌, ◌<◌, ◌≤◌, Bool, true, false, cond, eqb, List, [], ◌∷◌, ◌++◌, map, length, slice_index, refl, sym, ap, ap₂, subst, ◌∙◌, arith, length-append}
+use Rattle.std.proofs.Common.{◌≡◌, ℕ, ◌+◌, ◌<◌, ◌≤◌, Bool, true, false, cond, eqb, List, [], ◌∷◌, ◌++◌, length, slice_index, refl, sym, ap, ap₂, subst, ◌∙◌, arith, length-append}
 use Rattle.std.specs.Prelude.{is_some}
 use Rattle.std.specs.List.{AllByRecursion, range_with_len}
 use Rattle.std.proofs.lemmas.List.{length-map}
 use Rattle.std.proofs.lemmas.List.FromFn.{map-range_with_len_more, length-map-range_with_len}
 use Rattle.mk_net.specs.declared.words.Pair.{Pair}
 use Rattle.mk_net.specs.Asked.{Asked, TradeRatio, factors_of, ratio_pairs, question_ratio}
-use Rattle.mk_net.specs.Bounds.{max_market_trades, max_values, number_limit, million}
+use Rattle.mk_net.specs.Bounds.{max_market_trades, max_values}
 use Rattle.mk_net.specs.Named.{nobody}
-use Rattle.mk_net.specs.Events.{pairs_asked, speaks_of}
+use Rattle.mk_net.specs.Events.{speaks_of}
 use Rattle.mk_net.specs.Network.{Variable, IsNetwork, sizes}
 use Rattle.mk_net.proofs.UnitsOf.{factors_length}
 use Rattle.mk_exact.specs.History.{Entry, Join, Deposit, Trade, UserTrade, users, trades, trades_of, resolutions, deposited, withdrawn}
@@ -17,7 +17,7 @@ use Rattle.mk_exact.specs.Proper.{IsQuestionOf, IsRatioOf}
 use Rattle.mk_exact.specs.Laws.{AgreesWith}
 use Rattle.mk_exact.specs.Limits.{Side}
 use Rattle.mk_exact.specs.Sides.{AreSides, IsFairPair, ratio_in}
-use Rattle.mk_exact.specs.Existing.{CanBeAsked, IsWithinBounds, HasSides}
+use Rattle.mk_exact.specs.Existing.{IsWithinBounds}
 use Rattle.mk_exact.proofs.Sums.{each-map, each_always}
 use Rattle.mk_exact.proofs.After.{trades_more, trades_of_more, users_kept, resolutions_kept, deposited_kept, withdrawn_kept, deposited_more}
 use Rattle.mk_exact.proofs.Positive.{size_at}
@@ -33,8 +33,8 @@ use Rattle.mk_engine.proofs.Found.{home_with}
 use Rattle.mk_quote.specs.declared.bounds.Bounds.{Bounds}
 use Rattle.mk_quote.specs.Bounds.{AreFairAndSolvent}
 use Rattle.mk_beliefs.specs.Meanings.{weights_of, gains_of}
-use Rattle.mk_beliefs.proofs.Grown.{weights_grow, gains_grow, factors_are_few, opening_is_rows}
-use Rattle.mk_assets.specs.Holdings.{Holding, with_trade, with_deposit, opening_holding}
+use Rattle.mk_beliefs.proofs.Grown.{weights_grow, gains_grow, factors_are_few}
+use Rattle.mk_assets.specs.Holdings.{with_trade, with_deposit, opening_holding}
 use Rattle.mk_answers.specs.Open.{IsOpen, CanBeAnswered, AreBoundsFor, holding_of}
 use Rattle.mk_answers.specs.inner.Stages.{IsFit, first_rows}
 use Rattle.mk_answers.proofs.Weaker.{fair_by_bounds}

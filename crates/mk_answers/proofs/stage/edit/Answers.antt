@@ -1,4 +1,4 @@
-use Rattle.std.proofs.Common.{◌<◌, length, sym, subst, arith}
+use Rattle.std.proofs.Common.{◌<◌, length, subst, arith}
 use Rattle.std.proofs.lemmas.List.{length-map}
 use Rattle.mk_net.specs.Trades.{trade_ratio}
 use Rattle.mk_exact.specs.History.{UserTrade, trades_of}
