@@ -1,7 +1,8 @@
-mod Homes
-mod Weaker
-mod MostBits
-mod Parts
-mod Weights
-mod Least
-mod Bounding
+pub mod Homes
+pub mod Weaker
+pub mod MostBits
+pub mod Parts
+pub mod Weights
+pub mod Least
+pub mod Bounding
+pub mod Staged

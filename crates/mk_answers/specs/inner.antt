@@ -1,2 +1,3 @@
--- What only proofs and private contracts cite.
+-- What only proofs, private contracts and tests cite.
 pub mod Found
+pub mod Stages

@@ -12,3 +12,8 @@ pub use edit::bounds_of;
 pub use laws::{fair_by_bounds, right_by_bounds};
 pub use price::price_of;
 pub use worst::{least_of, most_bits};
+
+#[cfg(test)]
+mod stage;
+#[cfg(test)]
+mod tests;
