@@ -8,3 +8,6 @@ mod users;
 pub use entry::Entry;
 pub use journal::Journal;
 pub use users::{Member, Users};
+
+#[cfg(test)]
+mod tests;
