@@ -15,3 +15,6 @@ pub use refusals::{
     refuse_worst,
 };
 pub use users::{Member, Users};
+
+#[cfg(test)]
+mod tests;
