@@ -11,7 +11,7 @@ pub use asking::{ask, known};
 pub use entry::Entry;
 pub use journal::Journal;
 pub use refusals::{
-    refuse_edit, refuse_limits, refuse_price, refuse_resolve, refuse_settle, refuse_transfer, refuse_user,
-    refuse_worst,
+    refuse_edit, refuse_limits, refuse_price, refuse_resolve, refuse_settle, refuse_transfer,
+    refuse_user, refuse_worst,
 };
 pub use users::{Member, Users};
