@@ -15,3 +15,6 @@ pub use refusals::{
     refuse_user, refuse_worst,
 };
 pub use users::{Member, Users};
+
+#[cfg(test)]
+mod refusal_tests;
