@@ -82,7 +82,10 @@ const WEATHER_LINES: [(&str, &str); 8] = [
     ("deposit ann 1", ""),
     ("edit ann rain=yes | season=wet to 800000", ""),
     ("resolve season=dry", ""),
-    ("price rain=yes | season=wet", "refused impossible season=wet"),
+    (
+        "price rain=yes | season=wet",
+        "refused impossible season=wet",
+    ),
     ("price season=wet", "refused resolved season"),
     ("resolve rain=snow", "refused name rain=snow"),
     ("settle", "refused open rain"),
