@@ -1,7 +1,7 @@
 -- Questions in words: the pairs of a condition that are gathered, and the variable that is repeated first.
 use Rattle.std.proofs.Common.{◌≡◌, ℕ, suc, zero, ◌+◌, ◌<◌, ◌≤◌, Bool, true, false, cond, ◌||◌, List, [], ◌∷◌, ◌++◌, length, length-append, take, drop, slice_index_or, Option, Some, None, IfSome, IfNone, is_none, refl, sym, ap, ap₂, subst, ◌∙◌, arith}
 use Rattle.std.specs.Prelude.{◌==◌, find, option_map}
-use Rattle.std.specs.List.{list_any, filter_map, cons_option}
+use Rattle.std.specs.List.{list_any, cons_option}
 use Rattle.std.proofs.lemmas.Bool.{eqb-true, eq-eqb}
 use Rattle.mk_net.specs.declared.words.Pair.{Pair}
 use Rattle.mk_net.specs.declared.words.PairText.{PairText}
@@ -130,7 +130,7 @@ module _ (network : List Variable) where
   repeat_here : (before : List (List ℕ)) (pairs : List PairText) (k : ℕ) (d : PairText) → k < length pairs
       → first_repeat before (names_in (drop k pairs))
       ≡ cond (list_any (same_text (slice_index_or pairs k d).variable) before) (Some (slice_index_or pairs k d).variable)
-        (first_repeat ((slice_index_or pairs k d).variable ∷ before) (names_in (drop (suc k) pairs)))
+      (first_repeat ((slice_index_or pairs k d).variable ∷ before) (names_in (drop (suc k) pairs)))
   repeat_here before pairs k d h = ap (λ (ps : List PairText). first_repeat before (names_in ps)) (rest_at pairs k d h)
 
   unknown_next : (pairs : List PairText) (k : ℕ) (d : PairText) (y : Pair) → k < length pairs → pair_named network (slice_index_or pairs k d) ≡ Some y

@@ -29,7 +29,9 @@ use mk_tree::Tree;
 
 /// The most users of a market, its most deposits and withdrawals, and the most bits of one.
 const MAX_USERS: u32 = 256;
+
 const MAX_TRANSFERS: u32 = 65_536;
+
 const MAX_TRANSFER_BITS: u32 = 1_000;
 
 /// The most millionths to which a price may be moved.
@@ -190,11 +192,7 @@ fn can_be_answered(
     ensures question { IfOk result (λ _. IsQuestionFor (market_of file.now) file.now.tree journal.now.history question.now asked.now) }
 {
     not_resolved(journal, &question.target, asked.target())?;
-    agrees(
-        journal,
-        &asked.condition(),
-        question.condition.as_slice(),
-    )?;
+    agrees(journal, &asked.condition(), question.condition.as_slice())?;
     not_wide(&file.tree, asked)
 }
 
@@ -214,10 +212,7 @@ fn not_settled(journal: &Journal) -> Result<(), Refusal>
 fn not_joined<A: Engine<MinProd>>(users: &Users<A>, name: &Name) -> Result<(), Refusal>
     ensures { (H : List history.Entry) → names_of users.now ≡ history.users H → refusal_in result ≡ rules.exists H name.now }
 {
-    refuse_if(
-        users.find(name).is_some(),
-        Refusal::Exists { user: *name },
-    )
+    refuse_if(users.find(name).is_some(), Refusal::Exists { user: *name })
 }
 
 fn room_for_user(journal: &Journal) -> Result<(), Refusal>
@@ -233,18 +228,13 @@ fn find_user<A: Engine<MinProd>>(users: &Users<A>, name: &Name) -> Result<u32, R
     ensures refusal { (H : List history.Entry) → names_of users.now ≡ history.users H → refusal_in result ≡ rules.no_user H name.now }
     ensures user { (H : List history.Entry) → names_of users.now ≡ history.users H → IfOk result (λ user. IsUser H name.now user) }
 {
-    users
-        .find(name)
-        .ok_or(Refusal::User { user: *name })
+    users.find(name).ok_or(Refusal::User { user: *name })
 }
 
 fn in_range(number: u32, most: u32) -> Result<(), Refusal>
     ensures { refusal_in result ≡ rules.range most number }
 {
-    refuse_if(
-        number < 1 || number > most,
-        Refusal::Range { number },
-    )
+    refuse_if(number < 1 || number > most, Refusal::Range { number })
 }
 
 fn room_for_transfer(journal: &Journal) -> Result<(), Refusal>
@@ -277,10 +267,7 @@ fn not_stale(journal: &Journal, at: Option<u32>) -> Result<(), Refusal>
         None => Ok(()),
         Some(named) => {
             let now = journal.revision();
-            refuse_if(
-                named as u64 != now,
-                Refusal::Stale { named, now },
-            )
+            refuse_if(named as u64 != now, Refusal::Stale { named, now })
         }
     }
 }
@@ -314,19 +301,14 @@ fn first_contradicted(journal: &Journal, pairs: &[Pair]) -> Option<usize>
     ensures first { result ≡ position (rules.contradicts journal.now.history) pairs.now }
     ensures within { IfSome result (λ place. place < length pairs.now) }
 {
-    pairs
-        .iter()
-        .position(|pair| journal.contradicts(*pair))
+    pairs.iter().position(|pair| journal.contradicts(*pair))
 }
 
 /// A clique is to hold the question.
 fn not_wide(tree: &Tree, asked: &Question) -> Result<(), Refusal>
     ensures { refusal_in result ≡ fault_if (is_none (home tree.now (pairs_asked asked.now))) Refusal.Wide }
 {
-    refuse_if(
-        tree.home(&asked.event()).is_none(),
-        Refusal::Wide,
-    )
+    refuse_if(tree.home(&asked.event()).is_none(), Refusal::Wide)
 }
 
 /// Each variable is to be resolved.
