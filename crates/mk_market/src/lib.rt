@@ -1,0 +1,10 @@
+//! A market in use: its accepted changes, and its users.
+#![tactic(auto)]
+
+mod entry;
+mod journal;
+mod users;
+
+pub use entry::Entry;
+pub use journal::Journal;
+pub use users::{Member, Users};
