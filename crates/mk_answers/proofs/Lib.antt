@@ -1,0 +1,7 @@
+mod Homes
+mod Weaker
+mod MostBits
+mod Parts
+mod Weights
+-- mod Least
+-- mod Bounding

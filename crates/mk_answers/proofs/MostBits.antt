@@ -1,0 +1,112 @@
+-- The whole bits of a factor at the lower end of its gain are the most that can be taken from it.
+use Rattle.std.proofs.Common.{◌≡◌, ℕ, zero, suc, ◌+◌, ◌-◌, ◌*◌, ◌^◌, ◌<◌, ◌≤◌, List, sym, ap, subst, ◌∙◌, ⊎_elim, arith, le_trans, lt_of_lt_of_le, lt_of_le_of_lt}
+use Rattle.std.proofs.lemmas.Bool.{cases_lt}
+use Rattle.std.proofs.lemmas.Nat.{pow-add, pow_pos}
+use Rattle.std.proofs.Math.Nat.{pow-zero, pow-suc, pow-le-pow_right, mul-le-mul_left, mul-le-mul_right, mul-lt-mul_of_pos_right, one-le-mul, one-le-pow, le_of_mul-le-mul_right, lt_of_mul-lt-mul_right}
+use Rattle.mk_exact.specs.Accepted.{Covers, IsMost}
+use Rattle.mk_exact.specs.Factors.{Fraction, IsAtLeastOne}
+use Rattle.mk_enclose.specs.declared.factor.Factor.{Factor}
+use Rattle.mk_enclose.specs.Enclosure.{lower_of, upper_of, IsExact, IsGradedWithin}
+use Rattle.mk_enclose.specs.Factor.{paid_in, taken_out, StandsFor, BitsFit}
+use Rattle.mk_enclose.specs.inner.Widths.{narrow_ends}
+use Rattle.mk_answers.specs.Open.{IsFactorFor}
+
+-- ---- over plain numbers: n / d is g with p for a factor above the line, and s below it
+
+within : (k n d s p g low : ℕ) → n * s ≡ p * g * d → low ≤ g → k * s ≤ low * p → 1 ≤ s → k * d ≤ n
+within k n d s p g low same below fit positive =
+    let a : k * s * d ≤ low * p * d = mul-le-mul_right d fit in
+    let b : low * (p * d) ≤ g * (p * d) = mul-le-mul_right (p * d) below in
+    let c : k * d * s ≤ n * s = omega arith in
+    le_of_mul-le-mul_right c positive
+
+-- a number below the next power of two, by the ends that are near each other
+nearly : (k n d s p g low high : ℕ) → n * s ≡ p * g * d → g ≤ high → high * 2 ^ 40 ≤ low * (2 ^ 40 + 1) → low * p < k * s → 1 ≤ d
+    → n * 2 ^ 40 < k * d * (2 ^ 40 + 1)
+nearly k n d s p g low high same above near short positive =
+    let a : p * d * (g * 2 ^ 40) ≤ p * d * (low * (2 ^ 40 + 1)) = mul-le-mul_left (p * d) (le_trans (mul-le-mul_right (2 ^ 40) above) near) in
+    let b : low * p * d < k * s * d = mul-lt-mul_of_pos_right short positive in
+    let c : n * 2 ^ 40 * s < k * d * (2 ^ 40 + 1) * s = omega arith in
+    lt_of_mul-lt-mul_right s c
+
+exactly : (k n d s p g low : ℕ) → n * s ≡ p * g * d → g ≡ low → low * p < k * s → 1 ≤ d → n < k * d
+exactly k n d s p g low same exact short positive =
+    let a : low * p * d < k * s * d = mul-lt-mul_of_pos_right short positive in
+    let b : p * g * d ≡ p * low * d = ap (λ z. p * z * d) exact in
+    let c : n * s < k * d * s = omega arith in
+    lt_of_mul-lt-mul_right s c
+
+nearest : (n x : ℕ) → n * 2 ^ 40 < x * (2 ^ 40 + 1) → n * (2 ^ 40 - 1) < x * 2 ^ 40
+nearest n x h = omega arith
+
+-- ---- over factors
+
+power_of_power : (m b : ℕ) → (2 ^ m) ^ b ≡ 2 ^ (m * b)
+power_of_power m zero = let e : 0 ≡ m * 0 = omega arith in pow-zero (2 ^ m) ∙ sym (pow-zero 2) ∙ ap (λ k. 2 ^ k) e
+power_of_power m (suc b) =
+    let e : m * b + m ≡ m * suc b = omega arith in
+    pow-suc (2 ^ m) b ∙ ap (λ k. k * 2 ^ m) (power_of_power m b) ∙ sym (pow-add 2 (m * b) m) ∙ ap (λ k. 2 ^ k) e
+
+-- what stands below the line
+owed : Factor → ℕ
+owed f = 2 ^ taken_out f.net * (2 ^ 40) ^ f.trades
+
+owed_pos : (f : Factor) → 1 ≤ owed f
+unfolding owed
+owed_pos f = one-le-mul (pow_pos (taken_out f.net)) (one-le-pow f.trades (2 ^ 40) (omega arith))
+
+split : (k : ℕ) (f : Factor) → 2 ^ (k + 40 * f.trades + taken_out f.net) ≡ 2 ^ k * owed f
+unfolding owed
+split k f =
+    let e : k + 40 * f.trades + taken_out f.net ≡ k + (taken_out f.net + 40 * f.trades) = omega arith in
+    ap (λ i. 2 ^ i) e ∙ pow-add 2 k (taken_out f.net + 40 * f.trades)
+    ∙ ap (λ i. 2 ^ k * i) (pow-add 2 (taken_out f.net) (40 * f.trades) ∙ ap (λ i. 2 ^ taken_out f.net * i) (sym (power_of_power 40 f.trades)))
+
+-- what `whole_bits` promises
+pub record AreBitsOf (f : Factor) (bits : ℕ) : Type 0 where
+  pub fits : 0 < bits → BitsFit f bits
+  pub greatest : (k : ℕ) → BitsFit f k → k ≤ bits
+
+module _ (f : Factor) (bits : ℕ) (are : AreBitsOf f bits) (q : Fraction) (stands : StandsFor f q.num q.den) (least : IsAtLeastOne q) where
+  same : q.num * owed f ≡ 2 ^ paid_in f.net * stands.gain * q.den
+  unfolding owed
+  same = stands.same
+
+  bits_fit : (k : ℕ) → BitsFit f k → Covers q k
+  bits_fit k fit =
+      within (2 ^ k) q.num q.den (owed f) (2 ^ paid_in f.net) stands.gain (lower_of f.gain) same stands.encloses.lower
+      (subst (λ n. n ≤ lower_of f.gain * 2 ^ paid_in f.net) (split k f) fit.fit) (owed_pos f)
+
+  pub covered : Covers q bits
+  covered = at bits are.fits
+    where
+      at : (k : ℕ) → (0 < k → BitsFit f k) → Covers q k
+      at zero fits = let one : 2 ^ 0 ≡ 1 = pow-zero 2 in subst (λ n. n * q.den ≤ q.num) (sym one) (omega (arith, least))
+      at (suc k) fits = bits_fit (suc k) (fits (omega arith))
+
+  pub fewer_covered : (k : ℕ) → k ≤ bits → Covers q k
+  fewer_covered k l = let p : 2 ^ k ≤ 2 ^ bits = pow-le-pow_right (omega arith) l in le_trans (mul-le-mul_right q.den p) covered
+
+  -- one bit more is more than the lower end
+  short : lower_of f.gain * 2 ^ paid_in f.net < 2 ^ (bits + 1) * owed f
+  short =
+      ⊎_elim (λ less. less)
+      (λ more. absurd (let l = are.greatest (bits + 1) (record { fit = subst (λ n. n ≤ lower_of f.gain * 2 ^ paid_in f.net) (sym (split (bits + 1) f)) more }) in omega arith))
+      (cases_lt (lower_of f.gain * 2 ^ paid_in f.net) (2 ^ (bits + 1) * owed f))
+
+  near : IsGradedWithin f.gain (2 ^ 17) → q.num * (2 ^ 40 - 1) < 2 ^ (bits + 1) * 2 ^ 40 * q.den
+  near graded =
+      let narrow = narrow_ends (lower_of f.gain) (upper_of f.gain) graded.grade graded.small graded.has.near in
+      let l = nearest q.num (2 ^ (bits + 1) * q.den)
+      (nearly (2 ^ (bits + 1)) q.num q.den (owed f) (2 ^ paid_in f.net) stands.gain (lower_of f.gain) (upper_of f.gain) same stands.encloses.upper narrow short stands.positive) in
+      omega arith
+
+  next : IsExact f.gain → q.num < 2 ^ (bits + 1) * q.den
+  next exact = exactly (2 ^ (bits + 1)) q.num q.den (owed f) (2 ^ paid_in f.net) stands.gain (lower_of f.gain) same
+      (omega (arith, stands.encloses.lower, stands.encloses.upper, exact.same)) short stands.positive
+
+  pub is_most : (small : Type 0) → IsGradedWithin f.gain (2 ^ 17) → (small → IsExact f.gain) → IsMost small q bits
+  is_most small graded exact = record { within = covered; nearly = near graded; exactly = λ s. next (exact s) }
+
+pub most_for : (f : Factor) (bits : ℕ) → AreBitsOf f bits → (small : Type 0) (q : Fraction) → IsFactorFor f small q → IsAtLeastOne q → IsMost small q bits
+most_for f bits are small q for least = is_most f bits are q for.stands least small for.graded for.exact

@@ -1,0 +1,111 @@
+-- The price engine's beliefs in a market in use.
+use Rattle.std.proofs.Common.{◌≡◌, ℕ, ◌+◌, ◌*◌, ◌^◌, ◌<◌, ◌≤◌, List, [], ◌∷◌, length, slice_index, refl, sym, ap, subst, ◌∙◌, arith}
+use Rattle.std.proofs.lemmas.List.Elements.{All-from_recursion}
+use Rattle.mk_net.specs.declared.words.Pair.{Pair}
+use Rattle.mk_net.specs.Asked.{Asked}
+use Rattle.mk_net.specs.Events.{pairs_asked}
+use Rattle.mk_net.specs.Network.{Variable, sizes}
+use Rattle.mk_exact.specs.Events.{holds, with_target, without_target}
+use Rattle.mk_exact.specs.History.{Entry}
+use Rattle.mk_exact.specs.Weight.{total, IsSmall}
+use Rattle.mk_exact.specs.Proper.{IsPairOf, IsQuestionOf}
+use Rattle.mk_exact.specs.Prices.{exact_price, CoversPrice}
+use Rattle.mk_exact.specs.Existing.{IsPositivePrice}
+use Rattle.mk_exact.proofs.Sums.{each-append}
+use Rattle.mk_exact.proofs.ExistMarkets.{price_exists}
+use Rattle.mk_tree.specs.Given.{GivenTree}
+use Rattle.mk_enclose.specs.declared.enclosure.Enclosure.{Enclosure}
+use Rattle.mk_enclose.specs.Enclosure.{lower_of, upper_of, IsExact}
+use Rattle.mk_semiring.specs.declared.held.Held.{Held}
+use Rattle.mk_semiring.specs.declared.held.Held.TheVariants.{Present}
+use Rattle.mk_semiring.specs.Held.{HeldEncloses, HasHeldGrade, IsHeldExact, held_grade_more}
+use Rattle.mk_engine.specs.Meaning.{max_factors, max_grade, ArePairsOf}
+use Rattle.mk_engine.specs.Beliefs.{IsBelief}
+use Rattle.mk_engine.specs.Cases.{exact_others, IsOthersBelief}
+use Rattle.mk_beliefs.specs.Meanings.{weights_of}
+use Rattle.mk_beliefs.proofs.Weighed.{belief_is_total, others_are_total, target_is_total, weights_are_small}
+use Rattle.mk_beliefs.proofs.Grown.{factors_are_few}
+use Rattle.mk_answers.specs.Open.{IsOpen, CanBeAnswered}
+use Rattle.mk_answers.specs.inner.Found.{IsThere, IsBeliefIn, max_side_grade}
+use Rattle.mk_answers.proofs.Weaker.{covers_when}
+use Rattle.mk_answers.proofs.Parts.{ArePartsOf, parts_cover}
+
+-- a belief in an event of the weights
+abbrev pub IsWeightOf : List Variable → GivenTree → List Entry → List Pair → Held → Type 0
+IsWeightOf network tree H event belief = IsBelief HeldEncloses HasHeldGrade IsHeldExact ◌+◌ (weights_of network tree H) event belief
+
+-- a belief of such a number, or of one that is the same
+in_same : (belief : Held) (small : Type 0) (m n : ℕ) → m ≡ n → IsBeliefIn belief small m → IsBeliefIn belief small n
+in_same belief small m n e b = subst (IsBeliefIn belief small) e b
+
+pub is_there : (belief : Held) (small : Type 0) (n : ℕ) → IsBeliefIn belief small n → 1 ≤ n → IsThere belief
+is_there belief small n b some = record { number = n; encloses = b.encloses; positive = some }
+
+module _ (network : List Variable) (tree : GivenTree) (H : List Entry) (is_open : IsOpen network tree H) where
+  few : length (weights_of network tree H).factors ≤ max_factors
+  few = (factors_are_few network tree H 0 is_open.legal is_open.within.few_trades).0
+
+  event_in : (event : List Pair) (belief : Held) → IsWeightOf network tree H event belief → IsBeliefIn belief (IsSmall network H) (total network H (holds event))
+  event_in event belief b = record {
+    encloses = subst (HeldEncloses belief) (belief_is_total network tree H event) b.value;
+    grade = held_grade_more belief (length (weights_of network tree H).factors + max_grade) max_side_grade b.grade (omega (arith, few));
+    exact = λ s. b.exact (weights_are_small network tree H s);
+  }
+
+  module _ (asked : Asked) where
+    pub hit_in : (event : List Pair) (belief : Held) → event ≡ pairs_asked asked → IsWeightOf network tree H event belief
+        → IsBeliefIn belief (IsSmall network H) (total network H (with_target asked))
+    hit_in event belief e b = in_same belief (IsSmall network H) _ _ (ap (λ (ps : List Pair). total network H (holds ps)) e ∙ target_is_total network H asked) (event_in event belief b)
+
+    pub condition_in : (event : List Pair) (belief : Held) → event ≡ asked.condition → IsWeightOf network tree H event belief
+        → IsBeliefIn belief (IsSmall network H) (total network H (holds asked.condition))
+    condition_in event belief e b = in_same belief (IsSmall network H) _ _ (ap (λ (ps : List Pair). total network H (holds ps)) e) (event_in event belief b)
+
+    pub miss_in : (values : ℕ) (belief : Held) → IsQuestionOf network asked → values ≡ slice_index (sizes network) asked.target.variable
+        → IsOthersBelief HeldEncloses HasHeldGrade IsHeldExact ◌+◌ (weights_of network tree H) asked values belief
+        → IsBeliefIn belief (IsSmall network H) (total network H (without_target asked))
+    miss_in values belief fits sized b = record {
+      encloses = subst (HeldEncloses belief) (ap (λ n. exact_others ◌+◌ (weights_of network tree H) asked n) sized ∙ others_are_total network tree H asked fits) b.value;
+      grade = held_grade_more belief _ max_side_grade b.grade (omega (arith, few));
+      exact = λ s. b.exact (weights_are_small network tree H s);
+    }
+
+  module _ (asked : Asked) (answered : CanBeAnswered network tree H asked) where
+    price_is : IsPositivePrice (exact_price network H asked)
+    price_is = (price_exists network H asked is_open.legal is_open.proper answered.can_ask).exact
+
+    pub hit_some : 1 ≤ total network H (with_target asked)
+    hit_some = price_is.positive
+
+    pub condition_some : 1 ≤ total network H (holds asked.condition)
+    condition_some = omega (arith, price_is.positive, price_is.at_most_one)
+
+    pub hit_share : total network H (with_target asked) ≤ total network H (holds asked.condition)
+    hit_share = price_is.at_most_one
+
+    -- the interval of the two beliefs covers the price
+    module _ (part whole : Held) (num den : Enclosure) (part_is : part ≡ Present num) (whole_is : whole ≡ Present den)
+        (part_in : IsBeliefIn part (IsSmall network H) (total network H (with_target asked)))
+        (whole_in : IsBeliefIn whole (IsSmall network H) (total network H (holds asked.condition))) where
+      num_in : IsBeliefIn (Present num) (IsSmall network H) (total network H (with_target asked))
+      num_in = subst (λ (b : Held). IsBeliefIn b (IsSmall network H) (total network H (with_target asked))) part_is part_in
+
+      den_in : IsBeliefIn (Present den) (IsSmall network H) (total network H (holds asked.condition))
+      den_in = subst (λ (b : Held). IsBeliefIn b (IsSmall network H) (total network H (holds asked.condition))) whole_is whole_in
+
+      pub ends_in_order : lower_of num ≤ upper_of den
+      ends_in_order = omega (arith, num_in.encloses.lower, den_in.encloses.upper, hit_share)
+
+      pub interval_covers : (low high : ℕ) → ArePartsOf num den low high → CoversPrice (IsSmall network H) (exact_price network H asked) low high
+      interval_covers low high parts =
+          covers_when (IsSmall network H) (IsExact num × IsExact den) (λ s. (num_in.exact s, den_in.exact s)) (exact_price network H asked) low high
+          (parts_cover num den _ _ max_side_grade low high num_in.encloses den_in.encloses condition_some hit_share (omega arith) num_in.grade.0 den_in.grade.0 parts)
+
+-- the network's own pairs, in a condition
+pub condition_fits : (network : List Variable) (asked : Asked) (event : List Pair) → event ≡ asked.condition → IsQuestionOf network asked → ArePairsOf network event
+condition_fits network asked event e fits = subst (λ (ps : List Pair). ArePairsOf network ps) (sym e) (All-from_recursion (IsPairOf network) asked.condition fits.condition)
+
+pub event_fits : (network : List Variable) (asked : Asked) (event : List Pair) → event ≡ pairs_asked asked → IsQuestionOf network asked → ArePairsOf network event
+event_fits network asked event e fits =
+    subst (λ (ps : List Pair). ArePairsOf network ps) (sym e)
+    (All-from_recursion (IsPairOf network) (pairs_asked asked) (each-append (IsPairOf network) asked.condition (asked.target ∷ []) fits.condition (fits.target, tt)))
