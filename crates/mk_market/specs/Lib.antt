@@ -1,4 +1,6 @@
 pub mod Entries
 pub mod Journals
 pub mod Members
+pub mod Points
+pub mod Trading
 pub mod inner
