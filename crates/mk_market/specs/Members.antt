@@ -1,11 +1,11 @@
 -- What is read of the users of a market, and how it changes.
-use Rattle.std.specs.Prelude.{ℕ, List, map, Option, Some, None, MatchOption, option_and_then, option_map, get_or, slice_get, slice_set}
+use Rattle.std.specs.Prelude.{ℕ, List, map, Option, Some, None, option_map, unwrap_or, slice_get, slice_set}
 use Rattle.mk_assets.specs.declared.assets.Assets.{Assets}
 use Rattle.mk_quote.specs.declared.quote.Quote.{Quote}
 use Rattle.mk_market.specs.declared.users.Member.{Member}
 
 module _ {E P : Type 0} where
-  -- a user who joined with these assets
+  -- a user who joined with these assets, and was given no quote
   abbrev pub new_member : List ℕ → Assets E P → Member E P
   new_member name assets = record { name = name; assets = assets; quote = None }
 
@@ -23,11 +23,7 @@ module _ {E P : Type 0} where
 
   -- the same users, of whom one changed
   abbrev pub with_member : (Member E P → Member E P) → List (Member E P) → ℕ → List (Member E P)
-  with_member change members user = option_or members (option_map (λ (m : Member E P). slice_set members user (change m)) (slice_get members user))
-    where
-      option_or : List (Member E P) → Option (List (Member E P)) → List (Member E P)
-      option_or otherwise None = otherwise
-      option_or otherwise (Some found) = found
+  with_member change members user = unwrap_or (option_map (λ (m : Member E P). slice_set members user (change m)) (slice_get members user)) members
 
   -- a quote is one user's last
   abbrev pub with_quote : List (Member E P) → ℕ → Quote → List (Member E P)

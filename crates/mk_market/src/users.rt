@@ -34,8 +34,12 @@ impl<A: Engine<MinProd>> Model for Users<A> {
     ghost use Rattle.std.specs.Prelude.{List};
     ghost use Rattle.mk_market.specs.declared.users.Member.{Member};
     ghost use Rattle.mk_market.specs.inner.Enrolled.{IsEnrolled};
+    ghost use Rattle.std.specs.Coded.{codes};
+    ghost use Rattle.mk_quote.specs.contracts.quote.Quote as quote;
 
     ghost Value = { List (Member A A.Plan) };
+
+    ghost coded = { Prim.hlevel (codes, quote.the_row.coded, A.code, A.Plan.code) };
 
     ghost view = { λ u. u.members.items };
 
@@ -43,6 +47,9 @@ impl<A: Engine<MinProd>> Model for Users<A> {
 }
 
 impl<A: Engine<MinProd>> Users<A> {
+    ghost use Rattle.std.specs.Borrow.{sem};
+    ghost use Rattle.mk_market.specs.Lending.{LendsAssets};
+
     /// Nobody. It takes no memory.
     pub fn none(alloc: Global) -> Users<A>
         ensures { result ≡ [] }
@@ -99,6 +106,7 @@ impl<A: Engine<MinProd>> Users<A> {
     /// A user's assets.
     pub fn assets(&mut self, user: u32) -> &mut Assets<A>
         requires { user < length self.old }
+        ensures* writes_back { sem 𝓛 (LendsAssets A.row A.Plan.row A.Engine self.entry user result) }
         ensures value { slice_get (assets_of self.old) user ≡ Some result.now }
     {
         let member = &mut self.members[user as usize];
