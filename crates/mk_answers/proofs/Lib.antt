@@ -3,5 +3,5 @@ mod Weaker
 mod MostBits
 mod Parts
 mod Weights
--- mod Least
--- mod Bounding
+mod Least
+mod Bounding

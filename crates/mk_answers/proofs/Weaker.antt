@@ -1,5 +1,5 @@
 -- What holds where nothing was rounded holds in each case in which nothing was.
-use Rattle.std.proofs.Common.{◌≡◌, ℕ, ◌-◌, List, Option}
+use Rattle.std.proofs.Common.{ℕ, ◌-◌, List, Option}
 use Rattle.mk_net.specs.Bounds.{million}
 use Rattle.mk_net.specs.Network.{Variable}
 use Rattle.mk_net.specs.Asked.{Asked}
@@ -7,7 +7,7 @@ use Rattle.mk_exact.specs.Factors.{Fraction}
 use Rattle.mk_exact.specs.History.{Entry}
 use Rattle.mk_exact.specs.Weight.{IsSmall}
 use Rattle.mk_exact.specs.Prices.{IsFair, CoversPrice}
-use Rattle.mk_exact.specs.Limits.{Side, IsFairAndSolvent, AreRight, Inside}
+use Rattle.mk_exact.specs.Limits.{Side, IsFairAndSolvent, AreRight}
 use Rattle.mk_exact.specs.Sides.{AreSides, AreRightLimits, IsFairPair}
 use Rattle.mk_quote.specs.declared.bounds.Bounds.{Bounds}
 use Rattle.mk_quote.specs.Bounds.{AreFairAndSolvent, AreRightFor, AreAllExact}

@@ -1,7 +1,6 @@
 use Rattle.mk_exact.specs.Weight.{IsSmall, total}
 use Rattle.mk_exact.specs.Events.{holds, with_target}
 use Rattle.mk_beliefs.specs.Meanings.{weights_of}
-use Rattle.mk_answers.specs.inner.Found.{IsBeliefIn}
 use Rattle.mk_answers.proofs.Homes.{home_of_condition}
 use Rattle.mk_answers.proofs.Weights.{is_there, hit_in, condition_in, hit_some, condition_some, condition_fits, ends_in_order, interval_covers}
 use Rattle.mk_answers.proofs.price.price_of.Goals as goal

@@ -1,5 +1,5 @@
 use Rattle.mk_exact.specs.Weight.{IsSmall}
-use Rattle.mk_answers.proofs.MostBits.{AreBitsOf, most_for, fewer_covered}
+use Rattle.mk_answers.proofs.MostBits.{most_for, fewer_covered}
 use Rattle.mk_answers.proofs.worst.most_bits.Goals as goal
 
 pub returns-clause-most : goal.returns-clause-most

@@ -1,0 +1,112 @@
+-- The least factors of a user's assets in a market in use.
+use Rattle.std.proofs.Common.{◌≡◌, ℕ, zero, suc, ℤ, pos, negsuc, ◌+◌, ◌*◌, ◌^◌, ◌<◌, ◌≤◌, ◌↔◌, true, false, List, [], length, Option, Some, None, IsSome, refl, sym, subst, ◌∙◌, arith}
+use Rattle.std.specs.Prelude.{is_some}
+use Rattle.std.proofs.lemmas.List.{length-map}
+use Rattle.std.proofs.Math.Nat.{mul-le-mul}
+use Rattle.mk_net.specs.declared.words.Pair.{Pair}
+use Rattle.mk_net.specs.Bounds.{max_points_per_bit, max_values}
+use Rattle.mk_net.specs.Network.{Variable}
+use Rattle.mk_exact.specs.Events.{always}
+use Rattle.mk_exact.specs.Factors.{factor_with, least_gain, trade_count}
+use Rattle.mk_exact.specs.History.{Entry, UserTrade, deposited, withdrawn, trades_of}
+use Rattle.mk_exact.specs.Weight.{IsSmall}
+use Rattle.mk_exact.proofs.ExistMarkets.{least_gain_exists}
+use Rattle.mk_cell.specs.Least.{least}
+use Rattle.mk_tree.specs.Given.{GivenTree}
+use Rattle.mk_enclose.specs.declared.factor.Factor.{Factor}
+use Rattle.mk_enclose.specs.Factor.{paid_in, taken_out, StandsFor}
+use Rattle.mk_enclose.specs.inner.Standing.{stands_for}
+use Rattle.mk_engine.specs.Meaning.{RatioOf, exact_belief, max_factors, max_grade}
+use Rattle.mk_beliefs.specs.Meanings.{gains_of, if_present}
+use Rattle.mk_beliefs.proofs.Gained.{all_is_least, gains_are_small}
+use Rattle.mk_beliefs.proofs.Grown.{factors_are_few}
+use Rattle.mk_cash.specs.Factors.{HasPowersInRange}
+use Rattle.mk_cash.specs.inner.Within.{powers_in_range}
+use Rattle.mk_assets.specs.Holdings.{Holding, IsNet, IsLeastFactor, max_bits}
+use Rattle.mk_answers.specs.Open.{IsOpen, IsFactorFor, holding_of}
+
+-- a least value that is present is the number itself
+pub present_is : (n g : ℕ) → if_present n ≡ Some g → (n ≡ g) × (1 ≤ n)
+present_is zero g e = cc
+present_is (suc n) g e = (cc, omega arith)
+
+-- a holding whose least gain is not zero has a least factor
+pub some_least : (h : Holding) (n most : ℕ) (result : Option Factor) → IsLeastFactor h n most result → 1 ≤ n → IsSome result
+some_least h n most result l some = at result l.none
+  where
+    at : (o : Option Factor) → (is_some o ≡ false) ↔ (n ≡ 0) → is_some o ≡ true
+    at None k = absurd (let z = k.0 refl in omega arith)
+    at (Some f) k = refl
+
+-- net bits are no more than were paid in, or than were taken out
+paid_few : (net : ℤ) (deposits withdrawals : ℕ) → IsNet net deposits withdrawals → paid_in net ≤ deposits
+paid_few (pos n) deposits withdrawals h = omega (arith, h.same)
+paid_few (negsuc n) deposits withdrawals h = omega arith
+
+taken_few : (net : ℤ) (deposits withdrawals : ℕ) → IsNet net deposits withdrawals → taken_out net ≤ withdrawals
+taken_few (pos n) deposits withdrawals h = omega arith
+taken_few (negsuc n) deposits withdrawals h = omega (arith, h.same)
+
+product_small : (b x : ℕ) → b ≤ 1000000 → x ≤ 2 ^ 27 → b * x < 2 ^ 50
+product_small b x h l = let m : b * x ≤ 1000000 * 2 ^ 27 = mul-le-mul h l in omega arith
+
+module _ (network : List Variable) (tree : GivenTree) (H : List Entry) (u : ℕ) (is_open : IsOpen network tree H) where
+  few : length (gains_of network tree H u).factors ≤ max_factors
+  few = (factors_are_few network tree H u is_open.legal is_open.within.few_trades).1
+
+  module _ (n most : ℕ) (result : Option Factor) (f : Factor) (is : result ≡ Some f) (least_is : IsLeastFactor (holding_of network tree H u) n most result)
+      (close : most ≤ length (gains_of network tree H u).factors + max_grade + max_values) where
+    its : IsLeastFactor (holding_of network tree H u) n most (Some f)
+    its = subst (λ (o : Option Factor). IsLeastFactor (holding_of network tree H u) n most o) is least_is
+
+    counted : f.trades ≡ trade_count H u
+    counted = its.trades ∙ length-map (trades_of H u) (λ (t : UserTrade). RatioOf t.ratio)
+
+    stands : (g : ℕ) → n ≡ g → StandsFor f (2 ^ deposited H u * g) (2 ^ withdrawn H u * (2 ^ 40) ^ trade_count H u)
+    stands g e =
+        subst (λ (m : ℕ). StandsFor f (2 ^ deposited H u * m) (2 ^ withdrawn H u * (2 ^ 40) ^ trade_count H u)) e
+        (subst (λ (k : ℕ). StandsFor f (2 ^ deposited H u * n) (2 ^ withdrawn H u * (2 ^ 40) ^ k)) counted
+        (stands_for f n (deposited H u) (withdrawn H u) its.gain its.net.same))
+
+    -- the factor that is found is for the least gain
+    pub factor_for : (g : ℕ) → n ≡ g → IsFactorFor f (IsSmall network H) (factor_with H u g)
+    factor_for g e = record {
+      stands = stands g e;
+      graded = record { grade = most; small = omega (arith, close, few); has = its.grade.0 };
+      exact = λ s. its.exact (gains_are_small network tree H u is_open.proper is_open.legal s);
+    }
+
+    -- and its powers are in range
+    pub factor_in_range : deposited H u ≤ max_bits → withdrawn H u ≤ max_bits → (b : ℕ) → b ≤ max_points_per_bit → HasPowersInRange f b
+    factor_in_range few_in few_out b h =
+        let paid = paid_few f.net (deposited H u) (withdrawn H u) its.net in
+        let taken = taken_few f.net (deposited H u) (withdrawn H u) its.net in
+        let top = its.grade.1 in
+        let trades = its.trades in
+        powers_in_range f b (192 * (most + 1)) top
+        (product_small b (paid_in f.net + 192 * (most + 1)) h (omega (arith, paid, few_in, close, few)))
+        (product_small b (40 * f.trades + taken_out f.net) h (omega (arith, taken, few_out, trades, few)))
+
+  -- the least gain over all possible states
+  pub always_some : 1 ≤ exact_belief least (gains_of network tree H u) []
+  always_some =
+      let has = least_gain_exists network H u is_open.legal is_open.proper is_open.sound in
+      (present_is (exact_belief least (gains_of network tree H u) []) has.least (sym (all_is_least network tree H u is_open.proper) ∙ has.is_least)).1
+
+  pub always_is : (g : ℕ) → least_gain network H u always ≡ Some g → exact_belief least (gains_of network tree H u) [] ≡ g
+  always_is g e = (present_is (exact_belief least (gains_of network tree H u) []) g (sym (all_is_least network tree H u is_open.proper) ∙ e)).0
+
+  module _ (event : List Pair) (nothing : event ≡ []) (most : ℕ) (result : Option Factor)
+      (least_is : IsLeastFactor (holding_of network tree H u) (exact_belief least (gains_of network tree H u) event) most result) where
+    over_all : IsLeastFactor (holding_of network tree H u) (exact_belief least (gains_of network tree H u) []) most result
+    over_all = subst (λ (ps : List Pair). IsLeastFactor (holding_of network tree H u) (exact_belief least (gains_of network tree H u) ps) most result) nothing least_is
+
+    pub some_worst : IsSome result
+    some_worst = some_least (holding_of network tree H u) (exact_belief least (gains_of network tree H u) []) most result over_all always_some
+
+    module _ (f : Factor) (is : result ≡ Some f) (close : most ≤ length (gains_of network tree H u).factors + max_grade + max_values) where
+      pub worst_for : (g : ℕ) → least_gain network H u always ≡ Some g → IsFactorFor f (IsSmall network H) (factor_with H u g)
+      worst_for g e = factor_for (exact_belief least (gains_of network tree H u) []) most result f is over_all close g (always_is g e)
+
+      pub worst_in_range : deposited H u ≤ max_bits → withdrawn H u ≤ max_bits → (b : ℕ) → b ≤ max_points_per_bit → HasPowersInRange f b
+      worst_in_range few_in few_out = factor_in_range (exact_belief least (gains_of network tree H u) []) most result f is over_all close few_in few_out

@@ -1,0 +1,28 @@
+use Rattle.std.proofs.Common.{arith}
+use Rattle.mk_beliefs.specs.Meanings.{gains_of}
+use Rattle.mk_answers.specs.Open.{holding_of}
+use Rattle.mk_answers.proofs.Homes.{home_of_nothing}
+use Rattle.mk_answers.proofs.Least.{some_worst, worst_for, worst_in_range}
+use Rattle.mk_answers.proofs.worst.least_of.Goals as goal
+
+pub least-requires-clause-fits : goal.least-requires-clause-fits
+least-requires-clause-fits g c =
+    let a = c.requires in
+    g.met.A.Engine.home_fits c.args.assets.now.engine (gains_of a.network a.tree a.history a.user) c.empty.result a.owns.stands
+    (home_of_nothing a.tree c.empty.result c.empty.ensures a.is_open.tree_of_it.linked.some)
+
+pub factor_of-requires : goal.factor_of-requires
+factor_of-requires g c =
+    let a = c.requires in
+    some_worst a.network a.tree a.history a.user a.is_open c.empty.result c.empty.ensures _ c.least.result (c.least.ensures.least (holding_of a.network a.tree a.history a.user) a.owns)
+
+pub returns-clause-least : goal.returns-clause-least
+returns-clause-least g c = λ network tree H u gain owns is_open is_least.
+    worst_for network tree H u is_open c.empty.result c.empty.ensures _ c.least.result (c.least.ensures.least (holding_of network tree H u) owns)
+    c.factor_of.result c.factor_of.ensures (omega arith) gain is_least
+
+pub returns-clause-range : goal.returns-clause-range
+returns-clause-range g c =
+    let a = c.requires in
+    worst_in_range a.network a.tree a.history a.user a.is_open c.empty.result c.empty.ensures _ c.least.result (c.least.ensures.least (holding_of a.network a.tree a.history a.user) a.owns)
+    c.factor_of.result c.factor_of.ensures (omega arith) a.owns.few_in a.owns.few_out
