@@ -1,3 +1,6 @@
 pub mod Changed
 pub mod Appends
 pub mod Counts
+pub mod Gathering
+pub mod Refusing
+pub mod Growing

@@ -4,4 +4,6 @@ pub mod Lending
 pub mod Members
 pub mod Points
 pub mod Trading
+pub mod Refused
+pub mod Served
 pub mod inner
