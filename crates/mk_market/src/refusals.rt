@@ -1,6 +1,6 @@
 //! What each command is refused for, first to last.
 
-ghost use Rattle.std.specs.Prelude.{◌≡◌, ◌≤◌, ◌<◌, ◌-◌, ℕ, List, [], ◌∷◌, length, is_none, true, false, Some, None, IfOk};
+ghost use Rattle.std.specs.Prelude.{◌≡◌, ◌≤◌, ◌<◌, ◌-◌, ℕ, List, [], ◌∷◌, length, is_none, Some, None, IfOk, IfSome, position};
 ghost use Rattle.std.specs.List.{count_by};
 ghost use Rattle.mk_net.specs.Bounds.{max_users, max_transfers, max_transfer_bits, million};
 ghost use Rattle.mk_net.specs.Events.{pairs_asked, speaks_of};
@@ -287,16 +287,23 @@ fn not_resolved(journal: &Journal, words: &PairText, pair: Pair) -> Result<(), R
 /// No resolution is to contradict a pair of a condition, which the words name.
 fn agrees(journal: &Journal, condition: &Event, words: &[PairText]) -> Result<(), Refusal>
     requires one_each { length condition.now ≡ length words.now }
-    ensures { (network : List Variable) → condition.now ≡ rules.known_pairs network words.now → refusal_in result ≡ rules.impossible network journal.now.history words.now }
+    ensures { (network : List Variable) → rules.unknown network words.now ≡ None → condition.now ≡ rules.known_pairs network words.now
+        → refusal_in result ≡ rules.impossible network journal.now.history words.now }
 {
-    let contradicted = condition
-        .pairs()
-        .iter()
-        .position(|pair| journal.contradicts(*pair));
-    match contradicted {
+    match first_contradicted(journal, condition.pairs()) {
         Some(place) => Err(Refusal::Impossible { pair: words[place] }),
         None => Ok(()),
     }
+}
+
+/// The place of the first pair that a resolution contradicts.
+fn first_contradicted(journal: &Journal, pairs: &[Pair]) -> Option<usize>
+    ensures first { result ≡ position (rules.contradicts journal.now.history) pairs.now }
+    ensures within { IfSome result (λ place. place < length pairs.now) }
+{
+    pairs
+        .iter()
+        .position(|pair| journal.contradicts(*pair))
 }
 
 /// A clique is to hold the question.
