@@ -4,3 +4,7 @@ pub mod Counts
 pub mod Gathering
 pub mod Refusing
 pub mod Growing
+pub mod Owned
+pub mod Accounted
+pub mod Replies
+pub mod Deposits
