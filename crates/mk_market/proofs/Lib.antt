@@ -8,3 +8,6 @@ pub mod Owned
 pub mod Accounted
 pub mod Replies
 pub mod Deposits
+pub mod Joins
+pub mod Answers
+pub mod Openings
