@@ -1,9 +1,8 @@
 -- Prices, and what users are worth at least.
-use Rattle.std.specs.Prelude.{◌≡◌, ℕ, ◌^◌, ◌≤◌, List, [], map, Option, Some, None, option_map, slice_get, IsSomeAnd}
-use Rattle.std.proofs.Common.{refl, sym, ap, ◌∙◌, subst, arith}
+use Rattle.std.specs.Prelude.{◌≡◌, ℕ, ◌^◌, List, map, Option, Some, None, option_map, slice_get, IsSomeAnd}
+use Rattle.std.proofs.Common.{refl, sym, ap, ◌∙◌, subst}
 use Rattle.mk_net.specs.Network.{Variable}
 use Rattle.mk_net.specs.Asked.{Asked}
-use Rattle.mk_net.specs.Bounds.{max_points_per_bit}
 use Rattle.mk_net.specs.declared.words.QuestionText.{QuestionText}
 use Rattle.mk_exact.specs.Events.{always}
 use Rattle.mk_exact.specs.History.{Entry}
@@ -28,14 +27,14 @@ use Rattle.mk_quote.specs.declared.quote.Quote.{Quote}
 use Rattle.mk_command.specs.declared.command.Command.TheVariants.{Price, Worst}
 use Rattle.mk_reply.specs.declared.payments.Payment.{Payment}
 use Rattle.mk_reply.specs.declared.reply.Reply.TheVariants.{Price as Priced, Worst as Worsted}
-use Rattle.mk_rules.specs.Refusals.{first_refusal, user_number}
+use Rattle.mk_rules.specs.Refusals.{first_refusal}
 use Rattle.mk_rules.specs.Answers.{IsPrice, IsWorst}
-use Rattle.mk_rules.specs.Transcript.{Standing, OfCommand, IsAllowedFor, after}
+use Rattle.mk_rules.specs.Transcript.{OfCommand, IsAllowedFor, after}
 use Rattle.mk_answers.specs.Open.{IsOpen, CanBeAnswered, IsFactorFor, holding_of}
 use Rattle.mk_answers.specs.Calls.{CanPrice, CanFindWorst}
 use Rattle.mk_market.specs.declared.users.Member.{Member}
 use Rattle.mk_market.specs.Journals.{JournalOf}
-use Rattle.mk_market.specs.Members.{names_of, assets_of, quotes_of, with_assets}
+use Rattle.mk_market.specs.Members.{assets_of, with_assets}
 use Rattle.mk_market.specs.Refused.{IsUser, IsQuestionFor}
 use Rattle.mk_market.specs.inner.Keeping.{quoted, standing_of, IsKept}
 use Rattle.mk_market.proofs.Growing.{is_open, kept_still}
@@ -62,7 +61,7 @@ module _ {P A Plan : Type 0} (weights_stand : P → Meaning → Type 0) (gains_s
 
     pub price_allowed : (low high : ℕ) → None ≡ first_refusal (market_of file) journal.history (Price question)
         → ((network : List Variable) (tree : GivenTree) (H : List Entry) → weights_stand prices (weights_of network tree H) → IsOpen network tree H → CanBeAnswered network tree H asked
-            → CoversPrice (IsSmall network H) (exact_price network H asked) low high)
+        → CoversPrice (IsSmall network H) (exact_price network H asked) low high)
         → IsAllowedFor (market_of file) (standing_of journal members) (OfCommand (Price question)) (Priced low high)
     price_allowed low high none covers =
         let price : IsPrice file.net journal.history asked (Priced low high)
@@ -95,7 +94,7 @@ module _ {P A Plan : Type 0} (weights_stand : P → Meaning → Type 0) (gains_s
 
     pub worst_allowed : (factor : Factor) (low high : ℕ) → None ≡ first_refusal (market_of file) journal.history (Worst name)
         → ((network : List Variable) (tree : GivenTree) (H : List Entry) (u g : ℕ) → Owns gains_stand before (holding_of network tree H u) → IsOpen network tree H
-            → least_gain network H u always ≡ Some g → IsFactorFor factor (IsSmall network H) (factor_with H u g))
+        → least_gain network H u always ≡ Some g → IsFactorFor factor (IsSmall network H) (factor_with H u g))
         → ((q : Fraction) → StandsFor factor q.num q.den → IsGradedWithin factor.gain (2 ^ 17) → IsAtLeastOne q → CoversCash q file.points_per_bit low high)
         → IsAllowedFor (market_of file) (standing_of journal members) (OfCommand (Worst name)) (Worsted low high)
     worst_allowed factor low high none found covers =
