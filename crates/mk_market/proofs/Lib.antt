@@ -4,3 +4,11 @@ pub mod Counts
 pub mod Gathering
 pub mod Refusing
 pub mod NamesKept
+pub mod Growing
+pub mod Owned
+pub mod Accounted
+pub mod Replies
+pub mod Deposits
+pub mod Joins
+pub mod Answers
+pub mod Openings

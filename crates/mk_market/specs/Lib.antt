@@ -1,6 +1,9 @@
 pub mod Entries
 pub mod Journals
-pub mod Members
 pub mod Lending
+pub mod Members
+pub mod Points
+pub mod Trading
 pub mod Refused
+pub mod Served
 pub mod inner

@@ -1,4 +1,5 @@
 -- What only proofs and private contracts cite.
 pub mod Counted
 pub mod Enrolled
+pub mod Keeping
 pub mod Gathered

@@ -1,0 +1,62 @@
+//! The market in use.
+
+use crate::entry::Entry;
+use crate::journal::Journal;
+use crate::users::Users;
+use mk_cash::Ledger;
+use mk_engine::Engine;
+use mk_file::MarketFile;
+use mk_net::NoMemory;
+use mk_reply::Payments;
+use mk_semiring::{MinProd, SumProd};
+use std::alloc::Global;
+use std::marker::Model;
+
+/// A market in use: its file, an engine with the weights of all states, the plan from which users' engines start, the
+/// users with their assets and last quotes, the ledger of their points, the journal of accepted changes, and room for
+/// the payments of the settlement.
+#[derive(Drop)]
+pub struct Market<P: Engine<SumProd>, A: Engine<MinProd>> {
+    pub(crate) file: MarketFile,
+    pub(crate) prices: P,
+    pub(crate) plan: A::Plan,
+    pub(crate) users: Users<A>,
+    pub(crate) ledger: Ledger,
+    pub(crate) journal: Journal,
+    pub(crate) payments: Option<Payments>,
+}
+
+impl<P: Engine<SumProd>, A: Engine<MinProd>> Model for Market<P, A> {
+    ghost use Rattle.mk_market.specs.Trading.{Trading};
+    ghost use Rattle.mk_market.specs.inner.Keeping.{IsKept, standing_of};
+    ghost use Rattle.mk_file.specs.MarketOf.{market_of};
+
+    ghost Value = { Trading };
+
+    ghost view = { λ m. record { market = market_of m.file; standing = standing_of m.journal m.users } };
+
+    ghost invariant = { λ m. IsKept P.stands_for A.stands_for A.plan_for m.file m.prices m.plan m.users m.ledger m.journal m.payments };
+}
+
+impl<P: Engine<SumProd>, A: Engine<MinProd>> Market<P, A> {
+    ghost use Rattle.std.specs.Prelude.{◌≡◌, IfOk};
+    ghost use Rattle.mk_tree.specs.Checked.{IsTreeOf};
+    ghost use Rattle.mk_file.specs.MarketOf.{market_of};
+    ghost use Rattle.mk_rules.specs.Transcript.{opening};
+    ghost use Rattle.mk_market.specs.Entries.{changes};
+    ghost use Rattle.mk_market.specs.Points.{AreAccounts};
+
+    /// The accepted changes, in order.
+    pub fn history(&self) -> &[Entry]
+        ensures { changes result.now ≡ (self.now.standing).history }
+    {
+        self.journal.entries()
+    }
+
+    /// What each user deposited, withdrew and was paid.
+    pub fn ledger(&self) -> &Ledger
+        ensures { AreAccounts (self.now.market).points_per_bit (self.now.standing).history result.now }
+    {
+        &self.ledger
+    }
+}
