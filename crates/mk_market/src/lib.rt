@@ -24,3 +24,6 @@ pub use refusals::{
 };
 pub use served::is_served;
 pub use users::{Member, Users};
+
+#[cfg(test)]
+mod market_tests;
