@@ -18,3 +18,5 @@ pub use users::{Member, Users};
 
 #[cfg(test)]
 mod refusal_tests;
+#[cfg(test)]
+mod tests;
