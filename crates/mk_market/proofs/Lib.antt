@@ -11,3 +11,4 @@ pub mod Deposits
 pub mod Joins
 pub mod Answers
 pub mod Openings
+pub mod NamesKept

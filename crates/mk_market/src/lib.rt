@@ -27,3 +27,7 @@ pub use users::{Member, Users};
 
 #[cfg(test)]
 mod market_tests;
+#[cfg(test)]
+mod refusal_tests;
+#[cfg(test)]
+mod tests;
