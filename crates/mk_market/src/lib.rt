@@ -26,6 +26,8 @@ pub use served::is_served;
 pub use users::{Member, Users};
 
 #[cfg(test)]
+mod market_tests;
+#[cfg(test)]
 mod refusal_tests;
 #[cfg(test)]
 mod tests;
