@@ -1,3 +1,5 @@
 pub mod Changed
 pub mod Appends
 pub mod Counts
+pub mod Gathering
+pub mod Refusing

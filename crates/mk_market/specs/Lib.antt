@@ -4,4 +4,5 @@ pub mod Lending
 pub mod Members
 pub mod Points
 pub mod Trading
+pub mod Refused
 pub mod inner
