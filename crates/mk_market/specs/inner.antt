@@ -3,3 +3,4 @@ pub mod Counted
 pub mod Enrolled
 pub mod Keeping
 pub mod Gathered
+pub mod Quoting

@@ -5,6 +5,7 @@ mod asking;
 mod entry;
 mod journal;
 mod market;
+mod quoting;
 mod refusals;
 mod users;
 
