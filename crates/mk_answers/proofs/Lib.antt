@@ -1,5 +1,5 @@
 mod Homes
-mod Weaker
+pub mod Weaker
 mod MostBits
 mod Parts
 mod Weights

@@ -130,7 +130,7 @@ module _ (network : List Variable) where
   repeat_here : (before : List (List ℕ)) (pairs : List PairText) (k : ℕ) (d : PairText) → k < length pairs
       → first_repeat before (names_in (drop k pairs))
       ≡ cond (list_any (same_text (slice_index_or pairs k d).variable) before) (Some (slice_index_or pairs k d).variable)
-        (first_repeat ((slice_index_or pairs k d).variable ∷ before) (names_in (drop (suc k) pairs)))
+      (first_repeat ((slice_index_or pairs k d).variable ∷ before) (names_in (drop (suc k) pairs)))
   repeat_here before pairs k d h = ap (λ (ps : List PairText). first_repeat before (names_in ps)) (rest_at pairs k d h)
 
   unknown_next : (pairs : List PairText) (k : ℕ) (d : PairText) (y : Pair) → k < length pairs → pair_named network (slice_index_or pairs k d) ≡ Some y

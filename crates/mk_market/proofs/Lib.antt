@@ -3,3 +3,4 @@ pub mod Appends
 pub mod Counts
 pub mod Gathering
 pub mod Refusing
+pub mod Growing

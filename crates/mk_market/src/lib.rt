@@ -1,12 +1,18 @@
-//! A market in use: its accepted changes, its users, and what its commands are refused for.
+//! A market in use: its accepted changes, its users, what its commands are refused for, and how they are answered.
 #![tactic(auto)]
 
+mod answering;
 mod asking;
 mod entry;
+mod joining;
 mod journal;
 mod market;
+mod opening;
+mod pricing;
 mod quoting;
 mod refusals;
+mod served;
+mod transfers;
 mod users;
 
 pub use asking::{ask, known};
@@ -14,7 +20,8 @@ pub use entry::Entry;
 pub use journal::Journal;
 pub use market::Market;
 pub use refusals::{
-    refuse_edit, refuse_limits, refuse_price, refuse_resolve, refuse_settle, refuse_transfer, refuse_user,
-    refuse_worst,
+    refuse_edit, refuse_limits, refuse_price, refuse_resolve, refuse_settle, refuse_transfer,
+    refuse_user, refuse_worst,
 };
+pub use served::is_served;
 pub use users::{Member, Users};

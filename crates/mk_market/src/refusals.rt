@@ -1,6 +1,6 @@
 //! What each command is refused for, first to last.
 
-ghost use Rattle.std.specs.Prelude.{◌≡◌, ◌≤◌, ◌<◌, ◌-◌, ℕ, List, [], ◌∷◌, length, is_none, true, false, Some, None, IfOk};
+ghost use Rattle.std.specs.Prelude.{◌≡◌, ◌≤◌, ◌<◌, ◌-◌, ℕ, List, [], ◌∷◌, length, is_none, Some, None, IfOk, IfSome, position};
 ghost use Rattle.std.specs.List.{count_by};
 ghost use Rattle.mk_net.specs.Bounds.{max_users, max_transfers, max_transfer_bits, million};
 ghost use Rattle.mk_net.specs.Events.{pairs_asked, speaks_of};
@@ -29,7 +29,9 @@ use mk_tree::Tree;
 
 /// The most users of a market, its most deposits and withdrawals, and the most bits of one.
 const MAX_USERS: u32 = 256;
+
 const MAX_TRANSFERS: u32 = 65_536;
+
 const MAX_TRANSFER_BITS: u32 = 1_000;
 
 /// The most millionths to which a price may be moved.
@@ -190,11 +192,7 @@ fn can_be_answered(
     ensures question { IfOk result (λ _. IsQuestionFor (market_of file.now) file.now.tree journal.now.history question.now asked.now) }
 {
     not_resolved(journal, &question.target, asked.target())?;
-    agrees(
-        journal,
-        &asked.condition(),
-        question.condition.as_slice(),
-    )?;
+    agrees(journal, &asked.condition(), question.condition.as_slice())?;
     not_wide(&file.tree, asked)
 }
 
@@ -214,10 +212,7 @@ fn not_settled(journal: &Journal) -> Result<(), Refusal>
 fn not_joined<A: Engine<MinProd>>(users: &Users<A>, name: &Name) -> Result<(), Refusal>
     ensures { (H : List history.Entry) → names_of users.now ≡ history.users H → refusal_in result ≡ rules.exists H name.now }
 {
-    refuse_if(
-        users.find(name).is_some(),
-        Refusal::Exists { user: *name },
-    )
+    refuse_if(users.find(name).is_some(), Refusal::Exists { user: *name })
 }
 
 fn room_for_user(journal: &Journal) -> Result<(), Refusal>
@@ -233,18 +228,13 @@ fn find_user<A: Engine<MinProd>>(users: &Users<A>, name: &Name) -> Result<u32, R
     ensures refusal { (H : List history.Entry) → names_of users.now ≡ history.users H → refusal_in result ≡ rules.no_user H name.now }
     ensures user { (H : List history.Entry) → names_of users.now ≡ history.users H → IfOk result (λ user. IsUser H name.now user) }
 {
-    users
-        .find(name)
-        .ok_or(Refusal::User { user: *name })
+    users.find(name).ok_or(Refusal::User { user: *name })
 }
 
 fn in_range(number: u32, most: u32) -> Result<(), Refusal>
     ensures { refusal_in result ≡ rules.range most number }
 {
-    refuse_if(
-        number < 1 || number > most,
-        Refusal::Range { number },
-    )
+    refuse_if(number < 1 || number > most, Refusal::Range { number })
 }
 
 fn room_for_transfer(journal: &Journal) -> Result<(), Refusal>
@@ -277,10 +267,7 @@ fn not_stale(journal: &Journal, at: Option<u32>) -> Result<(), Refusal>
         None => Ok(()),
         Some(named) => {
             let now = journal.revision();
-            refuse_if(
-                named as u64 != now,
-                Refusal::Stale { named, now },
-            )
+            refuse_if(named as u64 != now, Refusal::Stale { named, now })
         }
     }
 }
@@ -300,26 +287,30 @@ fn not_resolved(journal: &Journal, words: &PairText, pair: Pair) -> Result<(), R
 /// No resolution is to contradict a pair of a condition, which the words name.
 fn agrees(journal: &Journal, condition: &Event, words: &[PairText]) -> Result<(), Refusal>
     requires one_each { length condition.now ≡ length words.now }
-    ensures { (network : List Variable) → condition.now ≡ rules.known_pairs network words.now → refusal_in result ≡ rules.impossible network journal.now.history words.now }
+    ensures { (network : List Variable) → rules.unknown network words.now ≡ None → condition.now ≡ rules.known_pairs network words.now
+        → refusal_in result ≡ rules.impossible network journal.now.history words.now }
 {
-    let contradicted = condition
-        .pairs()
-        .iter()
-        .position(|pair| journal.contradicts(*pair));
-    match contradicted {
+    match first_contradicted(journal, condition.pairs()) {
         Some(place) => Err(Refusal::Impossible { pair: words[place] }),
         None => Ok(()),
     }
+}
+
+/// The place of the first pair that a resolution contradicts.
+fn first_contradicted(journal: &Journal, pairs: &[Pair]) -> Option<usize>
+    ensures first { result ≡ position (rules.contradicts journal.now.history) pairs.now }
+    ensures within { IfSome result (λ place. place < length pairs.now) }
+{
+    pairs
+        .iter()
+        .position(|pair| journal.contradicts(*pair))
 }
 
 /// A clique is to hold the question.
 fn not_wide(tree: &Tree, asked: &Question) -> Result<(), Refusal>
     ensures { refusal_in result ≡ fault_if (is_none (home tree.now (pairs_asked asked.now))) Refusal.Wide }
 {
-    refuse_if(
-        tree.home(&asked.event()).is_none(),
-        Refusal::Wide,
-    )
+    refuse_if(tree.home(&asked.event()).is_none(), Refusal::Wide)
 }
 
 /// Each variable is to be resolved.

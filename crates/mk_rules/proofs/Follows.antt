@@ -14,7 +14,6 @@ use Rattle.mk_exact.specs.Weight.{IsSmall}
 use Rattle.mk_exact.specs.Factors.{factor_with, least_gain}
 use Rattle.mk_exact.specs.Market.{Market, network_of}
 use Rattle.mk_exact.proofs.ExistBounds.{fair_pair_fits}
-use Rattle.mk_command.specs.Commands.{IsCommand}
 use Rattle.mk_command.specs.declared.command.Command.{Command}
 use Rattle.mk_command.specs.declared.command.Command.TheVariants.{User, Deposit, Withdraw, Price, Limits, Edit, Worst, Resolve, Settle}
 use Rattle.mk_reply.specs.declared.refusal.Refusal.{Refusal}
@@ -26,7 +25,7 @@ use Rattle.mk_rules.specs.Quotes.{Quotes, last_quote, current_limits}
 use Rattle.mk_rules.specs.Answers.{IsTrade, IsWithdrawal, IsAnswer, IsAllowed, entry_of}
 use Rattle.mk_rules.specs.Transcript.{Standing, Line, OfCommand, NoCommand, LongLine, IsAllowedFor, after, Run}
 use Rattle.mk_rules.specs.Standings.{IsMarket}
-use Rattle.mk_rules.specs.Bounded.{IsLine, IsTransferOf, IsBounded}
+use Rattle.mk_rules.specs.Bounded.{IsLine, JoinsByName, IsTransferOf, IsBounded}
 use Rattle.mk_rules.proofs.Options.{value_of}
 use Rattle.mk_rules.proofs.Appended.{Appends, refused_appends, reply_appends, judged_appends}
 use Rattle.mk_rules.proofs.Unrefused.{none_applies, not_faulted, user_in_range, number_in_range}
@@ -63,7 +62,7 @@ module _ (market : Market) (H : List Entry) where
   trade_follows u q X seen asked reply named few trade = reply_appends (MayFollow market H) market H (Edit u q X seen) reply _ trade.printed
       (rw named (fair_pair_fits (network_of market H) H (user_number H u) asked X trade.hit trade.miss trade.fair, few))
 
-  answer_follows : (quotes : Quotes) (command : Command) (reply : Reply) → IsCommand command → first_refusal market H command ≡ None → IsAnswer market H quotes command reply → Follows command reply
+  answer_follows : (quotes : Quotes) (command : Command) (reply : Reply) → JoinsByName (OfCommand command) → first_refusal market H command ≡ None → IsAnswer market H quotes command reply → Follows command reply
   answer_follows quotes (User u) reply text none h = user_follows u reply text none h
   answer_follows quotes (Deposit u bits) reply text none h =
       let refused = none_applies (refusals market H (Deposit u bits)) none in
@@ -89,7 +88,7 @@ module _ (market : Market) (H : List Entry) where
       let refused = none_applies (refusals market H Settle) none in
       reply_appends (MayFollow market H) market H Settle reply _ h.printed (not_faulted _ _ refused.0)
 
-  allowed_follows : (quotes : Quotes) (command : Command) (reply : Reply) → IsCommand command → IsAllowed market H quotes command reply → Follows command reply
+  allowed_follows : (quotes : Quotes) (command : Command) (reply : Reply) → JoinsByName (OfCommand command) → IsAllowed market H quotes command reply → Follows command reply
   allowed_follows quotes command reply text h = at (first_refusal market H command) refl h
     where
       at : (o : Option Refusal) → first_refusal market H command ≡ o → MatchOption o (IsAnswer market H quotes command reply) (λ why. reply ≡ Refused why) → Follows command reply
@@ -100,12 +99,30 @@ appended_bounded : (market : Market) (H : List Entry) (o : Option Entry) → IsM
 appended_bounded market H None is_market bounded h = subst (IsBounded market) (sym (append-nil H)) bounded
 appended_bounded market H (Some e) is_market bounded h = entry_bounded market H is_market.few_trades bounded e h
 
+pub names_keep_bounds : (market : Market) (now : Standing) (line : Line) (reply : Reply) → IsMarket market → JoinsByName line → IsBounded market now.history
+    → IsAllowedFor market now line reply → IsBounded market (after market now line reply).history
+names_keep_bounds market now (OfCommand command) reply is_market joins bounded h =
+    appended_bounded market now.history (entry_of market now.history command reply) is_market bounded (allowed_follows market now.history now.quotes command reply joins h)
+names_keep_bounds market now NoCommand reply is_market joins bounded h = bounded
+names_keep_bounds market now LongLine reply is_market joins bounded h = bounded
+
+-- a command that is a text joins a user by a name
+joins_by_name : (line : Line) → IsLine line → JoinsByName line
+joins_by_name (OfCommand (User u)) text = text
+joins_by_name (OfCommand (Deposit u bits)) text = tt
+joins_by_name (OfCommand (Withdraw u bits)) text = tt
+joins_by_name (OfCommand (Price q)) text = tt
+joins_by_name (OfCommand (Limits u q)) text = tt
+joins_by_name (OfCommand (Edit u q X seen)) text = tt
+joins_by_name (OfCommand (Worst u)) text = tt
+joins_by_name (OfCommand (Resolve p)) text = tt
+joins_by_name (OfCommand Settle) text = tt
+joins_by_name NoCommand text = tt
+joins_by_name LongLine text = tt
+
 pub bounded_keeps : (market : Market) (now : Standing) (line : Line) (reply : Reply) → IsMarket market → IsLine line → IsBounded market now.history
     → IsAllowedFor market now line reply → IsBounded market (after market now line reply).history
-bounded_keeps market now (OfCommand command) reply is_market text bounded h =
-    appended_bounded market now.history (entry_of market now.history command reply) is_market bounded (allowed_follows market now.history now.quotes command reply text h)
-bounded_keeps market now NoCommand reply is_market text bounded h = bounded
-bounded_keeps market now LongLine reply is_market text bounded h = bounded
+bounded_keeps market now line reply is_market text = names_keep_bounds market now line reply is_market (joins_by_name line text)
 
 pub run_keeps_bounded : (market : Market) (old new : Standing) (lines : List Line) (replies : List Reply) → IsMarket market → AllByRecursion IsLine lines → IsBounded market old.history
     → Run market old lines replies new → IsBounded market new.history

@@ -8,6 +8,7 @@ use Rattle.mk_exact.specs.History.{Entry, Join, Deposit, Withdraw, Trade, Resolv
 use Rattle.mk_exact.specs.Market.{Market}
 use Rattle.mk_exact.specs.Existing.{IsWithinBounds}
 use Rattle.mk_command.specs.Commands.{IsCommand}
+use Rattle.mk_command.specs.declared.command.Command.TheVariants.{User}
 use Rattle.mk_rules.specs.Transcript.{Line, OfCommand, NoCommand, LongLine}
 
 -- a line that is a text gives a command that has one
@@ -15,6 +16,11 @@ abbrev pub IsLine : Line → Type 0
 IsLine (OfCommand command) = IsCommand command
 IsLine NoCommand = ⊤
 IsLine LongLine = ⊤
+
+-- a user who joins has a name
+abbrev pub JoinsByName : Line → Type 0
+JoinsByName (OfCommand (User u)) = IsName u
+JoinsByName _ = ⊤
 
 -- 1 to 1,000 bits, by a user who joined
 pub record IsTransferOf (joined u bits : ℕ) : Type 0 where

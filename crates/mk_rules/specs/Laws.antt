@@ -20,7 +20,7 @@ use Rattle.mk_rules.specs.Refusals.{question_named, user_number, first_refusal}
 use Rattle.mk_rules.specs.Quotes.{Interval, no_quotes, last_quote, current_limits}
 use Rattle.mk_rules.specs.Transcript.{Standing, opening, Line, OfCommand, IsAllowedFor, after, Run}
 use Rattle.mk_rules.specs.Standings.{IsMarket, Stands, IsReady}
-use Rattle.mk_rules.specs.Bounded.{IsLine, IsBounded}
+use Rattle.mk_rules.specs.Bounded.{IsLine, JoinsByName, IsBounded}
 
 -- an allowed reply to any line leads from a history that stands to one that does
 abbrev pub AllowedKeeps : Type 0
@@ -81,6 +81,11 @@ StateStaysPossible = (market : Market) (H : List Entry) → IsMarket market → 
 -- an allowed reply to a line that is a text leads from a bounded history to a bounded one
 abbrev pub BoundedKeeps : Type 0
 BoundedKeeps = (market : Market) (now : Standing) (line : Line) (reply : Reply) → IsMarket market → IsLine line
+    → IsBounded market now.history → IsAllowedFor market now line reply → IsBounded market (after market now line reply).history
+
+-- and so does one to any line by which nobody joins but by a name
+abbrev pub NamesKeepBounds : Type 0
+NamesKeepBounds = (market : Market) (now : Standing) (line : Line) (reply : Reply) → IsMarket market → JoinsByName line
     → IsBounded market now.history → IsAllowedFor market now line reply → IsBounded market (after market now line reply).history
 
 -- the history after each run from the opening is bounded

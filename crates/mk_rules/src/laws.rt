@@ -1,5 +1,5 @@
 //! What allowed replies keep.
-ghost use Rattle.mk_rules.specs.Laws.{AllowedKeeps, RunKeeps, RunStands, UnquotedIsReady, ReadyKeeps, RunKeepsReady, RunIsReady, AlwaysAnswered, RunsExist, StateStaysPossible, BoundedKeeps, RunStaysBounded, RepliesHaveTexts, RunsJoin, RunIsBounded, SettlementKeeps, JudgedExactly, OneRefusal, OneKind};
+ghost use Rattle.mk_rules.specs.Laws.{AllowedKeeps, RunKeeps, RunStands, UnquotedIsReady, ReadyKeeps, RunKeepsReady, RunIsReady, AlwaysAnswered, RunsExist, StateStaysPossible, BoundedKeeps, NamesKeepBounds, RunStaysBounded, RepliesHaveTexts, RunsJoin, RunIsBounded, SettlementKeeps, JudgedExactly, OneRefusal, OneKind};
 
 /// An allowed reply leads from a sound history to a sound one, whatever the line, and users, pairs and units stay in range.
 pub fn allowed_keeps()
@@ -54,6 +54,11 @@ pub fn state_stays_possible()
 /// An allowed reply to a line that is a text keeps what bounds the history.
 pub fn bounded_keeps()
     ensures { BoundedKeeps }
+{}
+
+/// So does one to any line, where whoever joins has a name.
+pub fn names_keep_bounds()
+    ensures { NamesKeepBounds }
 {}
 
 /// The history after each run from the opening is bounded.

@@ -1,6 +1,6 @@
 -- How a market is kept.
 use Rattle.std.specs.Prelude.{◌≡◌, ℕ, ◌<◌, ◌≤◌, List, [], map, length, false, Option, Some, option_map, slice_index_or, slice_get, IfSome}
-use Rattle.mk_net.specs.Network.{Variable}
+use Rattle.mk_net.specs.Network.{Variable, IsNetwork}
 use Rattle.mk_exact.specs.Limits.{Side}
 use Rattle.mk_exact.specs.Sides.{AreSides}
 use Rattle.mk_exact.specs.Weight.{IsSmall}
@@ -49,6 +49,7 @@ pub record IsKeptQuote (network : List Variable) (tree : GivenTree) (H : List En
 module _ {P A Plan : Type 0} (weights_stand : P → Meaning → Type 0) (gains_stand : A → Meaning → Type 0) (plan_for : Plan → List Variable → GivenTree → Type 0) where
   pub record IsKept (file : MarketFile) (prices : P) (plan : Plan) (members : List (Member A Plan)) (accounts : List Account) (journal : JournalOf)
       (payments : Option (List Payment)) : Type 0 where
+    pub legal : IsNetwork file.net
     pub tree : IsTreeOf file.net file.tree
     pub planned : plan_for plan file.net file.tree
     pub prices_stand : weights_stand prices (weights_of file.net file.tree journal.history)

@@ -1,0 +1,134 @@
+-- How a market is kept while its history grows, and while it stays.
+use Rattle.std.specs.Prelude.{◌≡◌, ℕ, ◌+◌, List, [], ◌∷◌, ◌++◌, map, length, false, Option, Some, option_map, slice_get}
+use Rattle.std.proofs.Common.{refl, sym, ap, ◌∙◌, subst, arith}
+use Rattle.std.proofs.lemmas.List.{length_push}
+use Rattle.mk_net.specs.Network.{Variable, IsNetwork}
+use Rattle.mk_exact.specs.History.{Entry, users, is_settled}
+use Rattle.mk_tree.specs.Given.{GivenTree}
+use Rattle.mk_file.specs.declared.opened.MarketFile.{MarketFile}
+use Rattle.mk_file.specs.MarketOf.{market_of}
+use Rattle.mk_engine.specs.Meaning.{Meaning}
+use Rattle.mk_beliefs.specs.Meanings.{weights_of, grown}
+use Rattle.mk_beliefs.proofs.Grown.{weights_grow}
+use Rattle.mk_assets.specs.declared.assets.Assets.{Assets}
+use Rattle.mk_assets.specs.Holdings.{Holding, Owns}
+use Rattle.mk_cash.specs.declared.ledger.Account.{Account}
+use Rattle.mk_quote.specs.declared.quote.Quote.{Quote}
+use Rattle.mk_command.specs.declared.command.Command.{Command}
+use Rattle.mk_reply.specs.declared.payments.Payment.{Payment}
+use Rattle.mk_reply.specs.declared.reply.Reply.{Reply}
+use Rattle.mk_rules.specs.Transcript.{Standing, OfCommand, IsAllowedFor, after}
+use Rattle.mk_rules.specs.Standings.{IsMarket, IsReady}
+use Rattle.mk_rules.specs.Bounded.{JoinsByName, IsBounded}
+use Rattle.mk_rules.proofs.Ready.{ready_keeps}
+use Rattle.mk_rules.proofs.Follows.{names_keep_bounds}
+use Rattle.mk_answers.specs.Open.{IsOpen, holding_of}
+use Rattle.mk_market.specs.declared.users.Member.{Member}
+use Rattle.mk_market.specs.Journals.{JournalOf}
+use Rattle.mk_market.specs.Members.{names_of, assets_of, quotes_of}
+use Rattle.mk_market.specs.Points.{AreAccounts}
+use Rattle.mk_market.specs.inner.Keeping.{quoted, standing_of, IsKeptQuote, IsKept}
+
+-- the market of a file is one
+pub market_is : (file : MarketFile) → IsNetwork file.net → IsMarket (market_of file)
+market_is file legal = record {
+  network = legal;
+  some_points = file.points_positive;
+  few_points = file.points_most;
+  some_trades = file.trades_positive;
+  few_trades = file.trades_most;
+}
+
+-- after an entry a quote is of an earlier revision
+pub quote_later : (network : List Variable) (tree : GivenTree) (H : List Entry) (e : Entry) (u : ℕ) (quote : Quote)
+    → IsKeptQuote network tree H u quote → IsKeptQuote network tree (H ++ e ∷ []) u quote
+quote_later network tree H e u quote kept =
+    let longer : length (H ++ e ∷ []) ≡ length H + 1 = length_push H e in
+    record { not_later = omega (arith, kept.not_later); current = λ same. absurd (omega (arith, kept.not_later)) }
+
+module _ {P A Plan : Type 0} (weights_stand : P → Meaning → Type 0) (gains_stand : A → Meaning → Type 0) (plan_for : Plan → List Variable → GivenTree → Type 0) where
+  -- a market that is kept is open
+  pub is_open : (file : MarketFile) (prices : P) (plan : Plan) (members : List (Member A Plan)) (accounts : List Account) (journal : JournalOf) (payments : Option (List Payment))
+      → IsKept weights_stand gains_stand plan_for file prices plan members accounts journal payments → IsOpen file.net file.tree journal.history
+  is_open file prices plan members accounts journal payments kept = record {
+    legal = kept.legal;
+    tree_of_it = kept.tree;
+    proper = kept.ready.stands.proper;
+    sound = kept.ready.stands.sound;
+    within = kept.bounded.within;
+  }
+
+  -- what the parts of a market became by an entry
+  pub record AreGrown (file : MarketFile) (journal new_journal : JournalOf) (e : Entry) (prices new_prices : P) (members new_members : List (Member A Plan))
+      (new_accounts : List Account) (new_payments : Option (List Payment)) : Type 0 where
+    pub history : new_journal.history ≡ journal.history ++ e ∷ []
+    pub limit : new_journal.max_trades ≡ journal.max_trades
+    pub prices_grown : (m : Meaning) → weights_stand prices m → weights_stand new_prices (grown e m)
+    pub names : names_of new_members ≡ users (journal.history ++ e ∷ [])
+    pub owned : (u : ℕ) (assets : Assets A Plan) → slice_get (assets_of new_members) u ≡ Some assets
+        → Owns gains_stand assets (holding_of file.net file.tree (journal.history ++ e ∷ []) u)
+    pub none_quoted : (u : ℕ) (quote : Quote) → slice_get (quotes_of new_members) u ≡ Some (Some quote) → slice_get (quotes_of members) u ≡ Some (Some quote)
+    pub accounts : AreAccounts file.points_per_bit (journal.history ++ e ∷ []) new_accounts
+    pub room : is_settled (journal.history ++ e ∷ []) ≡ false → new_payments ≡ Some []
+
+  -- an allowed reply that appends an entry leads from a market that is kept to one that is
+  pub kept_grown : (file : MarketFile) (prices new_prices : P) (plan : Plan) (members new_members : List (Member A Plan)) (accounts new_accounts : List Account)
+      (journal new_journal : JournalOf) (payments new_payments : Option (List Payment)) (e : Entry) (command : Command) (reply : Reply)
+      → JoinsByName (OfCommand command)
+      → IsKept weights_stand gains_stand plan_for file prices plan members accounts journal payments
+      → IsAllowedFor (market_of file) (standing_of journal members) (OfCommand command) reply
+      → standing_of new_journal new_members ≡ after (market_of file) (standing_of journal members) (OfCommand command) reply
+      → AreGrown file journal new_journal e prices new_prices members new_members new_accounts new_payments
+      → IsKept weights_stand gains_stand plan_for file new_prices plan new_members new_accounts new_journal new_payments
+  kept_grown file prices new_prices plan members new_members accounts new_accounts journal new_journal payments new_payments e command reply joins kept allowed next are =
+      let market = market_of file in
+      let old : Standing = standing_of journal members in
+      let back : journal.history ++ e ∷ [] ≡ new_journal.history = sym are.history in
+      record {
+        legal = kept.legal;
+        tree = kept.tree;
+        planned = kept.planned;
+        prices_stand = subst (λ (H : List Entry). weights_stand new_prices (weights_of file.net file.tree H)) back
+            (subst (weights_stand new_prices) (sym (weights_grow file.net file.tree journal.history e)) (are.prices_grown (weights_of file.net file.tree journal.history) kept.prices_stand));
+        named = are.names ∙ ap users back;
+        owns = λ u assets at. subst (λ (H : List Entry). Owns gains_stand assets (holding_of file.net file.tree H u)) back (are.owned u assets at);
+        quotes_kept = λ u quote at. subst (λ (H : List Entry). IsKeptQuote file.net file.tree H u quote) back
+            (quote_later file.net file.tree journal.history e u quote (kept.quotes_kept u quote (are.none_quoted u quote at)));
+        accounts_kept = subst (λ (H : List Entry). AreAccounts file.points_per_bit H new_accounts) back are.accounts;
+        ready = subst (IsReady market) (sym next) (ready_keeps market old (OfCommand command) reply kept.ready allowed);
+        bounded = subst (λ (now : Standing). IsBounded market now.history) (sym next)
+            (names_keep_bounds market old (OfCommand command) reply (market_is file kept.legal) joins kept.bounded allowed);
+        max_trades = are.limit ∙ kept.max_trades;
+        room = λ unsettled. are.room (subst (λ (H : List Entry). is_settled H ≡ false) are.history unsettled);
+      }
+
+  -- engines and assets that stand for all that they stood for, beside the same names and quotes
+  pub record AreStill (prices new_prices : P) (members new_members : List (Member A Plan)) : Type 0 where
+    pub prices_still : (m : Meaning) → weights_stand prices m → weights_stand new_prices m
+    pub names_still : names_of new_members ≡ names_of members
+    pub quotes_still : quotes_of new_members ≡ quotes_of members
+    pub owned_still : (u : ℕ) (assets : Assets A Plan) → slice_get (assets_of new_members) u ≡ Some assets
+        → (before : Assets A Plan) × (slice_get (assets_of members) u ≡ Some before) × ((h : Holding) → Owns gains_stand before h → Owns gains_stand assets h)
+
+  -- an answer that appends none
+  pub kept_still : (file : MarketFile) (prices new_prices : P) (plan : Plan) (members new_members : List (Member A Plan)) (accounts : List Account)
+      (journal : JournalOf) (payments : Option (List Payment))
+      → IsKept weights_stand gains_stand plan_for file prices plan members accounts journal payments
+      → AreStill prices new_prices members new_members
+      → IsKept weights_stand gains_stand plan_for file new_prices plan new_members accounts journal payments
+  kept_still file prices new_prices plan members new_members accounts journal payments kept are = record {
+    legal = kept.legal;
+    tree = kept.tree;
+    planned = kept.planned;
+    prices_stand = are.prices_still (weights_of file.net file.tree journal.history) kept.prices_stand;
+    named = are.names_still ∙ kept.named;
+    owns = λ u assets at.
+        let own = are.owned_still u assets at in
+        own.2 (holding_of file.net file.tree journal.history u) (kept.owns u (own.0) (own.1));
+    quotes_kept = λ u quote at. kept.quotes_kept u quote (subst (λ (qs : List (Option Quote)). slice_get qs u ≡ Some (Some quote)) are.quotes_still at);
+    accounts_kept = kept.accounts_kept;
+    ready = subst (λ (qs : List (Option Quote)). IsReady (market_of file) (record { history = journal.history; quotes = map (option_map quoted) qs })) (sym are.quotes_still) kept.ready;
+    bounded = kept.bounded;
+    max_trades = kept.max_trades;
+    room = kept.room;
+  }

@@ -1,0 +1,50 @@
+//! Answers to commands.
+
+use crate::market::Market;
+use mk_command::Command;
+use mk_engine::Engine;
+use mk_reply::{Refusal, Reply};
+use mk_semiring::{MinProd, SumProd};
+use std::alloc::Global;
+
+impl<P: Engine<SumProd>, A: Engine<MinProd>> Market<P, A> {
+    ghost use Rattle.std.specs.Prelude.{◌≡◌, true};
+    ghost use Rattle.mk_market.specs.Served.{is_served};
+    ghost use Rattle.mk_market.specs.Trading.{IsAnswered, reply_of};
+
+    /// Answers a command. Only a user who joins takes memory, all of it before anything changes.
+    pub fn apply(&mut self, alloc: Global, command: &Command) -> Reply
+        requires { is_served command.now ≡ true }
+        ensures { IsAnswered self.old self.new command.now result }
+    {
+        let answered = self.answer(alloc, command);
+        reply_of(answered)
+    }
+
+    /// The answer to a command, or its refusal.
+    fn answer(&mut self, alloc: Global, command: &Command) -> Result<Reply, Refusal>
+        requires { is_served command.now ≡ true }
+        ensures { IsAnswered self.old self.new command.now (reply_of result) }
+    {
+        match command {
+            Command::User { user } => self.user(alloc, user),
+            Command::Deposit { user, bits } => self.deposit(user, *bits),
+            Command::Price { question } => self.price(question),
+            Command::Worst { user } => self.worst(user),
+            _ => unreachable!(),
+        }
+    }
+}
+
+ghost use Rattle.std.specs.Prelude.{◌≡◌};
+ghost use Rattle.mk_market.specs.Trading.{reply_of};
+
+/// The reply of an answer, or of a refusal.
+fn reply_of(answered: Result<Reply, Refusal>) -> Reply
+    ensures { result ≡ reply_of answered }
+{
+    match answered {
+        Ok(reply) => reply,
+        Err(why) => Reply::Refused { why },
+    }
+}

@@ -1,0 +1,34 @@
+//! Joining.
+
+use crate::market::Market;
+use crate::refusals::refuse_user;
+use mk_assets::Assets;
+use mk_engine::Engine;
+use mk_net::Name;
+use mk_reply::{Refusal, Reply};
+use mk_semiring::{MinProd, SumProd};
+use std::alloc::Global;
+
+impl<P: Engine<SumProd>, A: Engine<MinProd>> Market<P, A> {
+    ghost use Rattle.mk_command.specs.declared.command.Command.TheVariants.{User};
+    ghost use Rattle.mk_market.specs.Trading.{IsAnswered, reply_of};
+
+    /// A user joins. All memory is taken before anything changes.
+    pub(crate) fn user(&mut self, alloc: Global, name: &Name) -> Result<Reply, Refusal>
+        ensures { IsAnswered self.old self.new (User name.now) (reply_of result) }
+    {
+        refuse_user(&self.journal, &self.users, name)?;
+        let Ok(assets) = Assets::start(alloc, &self.plan, self.journal.known()) else {
+            return Err(Refusal::Memory);
+        };
+        let Ok(()) = self.users.join(*name, assets) else {
+            return Err(Refusal::Memory);
+        };
+        self.ledger.join();
+        self.journal.join(*name);
+        Ok(Reply::Joined {
+            user: *name,
+            at: self.journal.revision(),
+        })
+    }
+}
