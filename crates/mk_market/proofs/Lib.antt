@@ -4,3 +4,5 @@ pub mod Counts
 pub mod Gathering
 pub mod Refusing
 pub mod Growing
+pub mod Lent
+pub mod Edited

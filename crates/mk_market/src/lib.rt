@@ -3,6 +3,7 @@
 
 mod answering;
 mod asking;
+mod editing;
 mod entry;
 mod joining;
 mod journal;

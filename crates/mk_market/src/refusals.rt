@@ -301,9 +301,7 @@ fn first_contradicted(journal: &Journal, pairs: &[Pair]) -> Option<usize>
     ensures first { result ≡ position (rules.contradicts journal.now.history) pairs.now }
     ensures within { IfSome result (λ place. place < length pairs.now) }
 {
-    pairs
-        .iter()
-        .position(|pair| journal.contradicts(*pair))
+    pairs.iter().position(|pair| journal.contradicts(*pair))
 }
 
 /// A clique is to hold the question.

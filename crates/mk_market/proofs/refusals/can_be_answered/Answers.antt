@@ -1,14 +1,15 @@
 use Rattle.std.proofs.Common.{sym, ap, ◌∙◌}
-
 use Rattle.mk_rules.specs.Refusals.{impossible}
 use Rattle.mk_rules.proofs.Unrefused.{target_named}
 use Rattle.mk_market.proofs.Refusing.{one_each, others_known, wide_is_homeless, can_answer, where_ok, last_refusal, pair_is, pairs_are, slice_known}
 use Rattle.mk_market.proofs.refusals.can_be_answered.Goals as goal
 
 pub agrees-requires : goal.agrees-requires
-agrees-requires c = record { one_each =
-    one_each c.args.file.now.net c.args.question.now.condition.items c.as_slice.result.now c.condition.result (others_known c.args.file.now.net _ _ c.requires.known)
-    (c.condition.ensures.condition ∙ (target_named c.args.file.now.net c.args.question.now c.args.asked.now c.requires.named).1) c.as_slice.ensures.value }
+agrees-requires c = record {
+  one_each =
+      one_each c.args.file.now.net c.args.question.now.condition.items c.as_slice.result.now c.condition.result (others_known c.args.file.now.net _ _ c.requires.known)
+      (c.condition.ensures.condition ∙ (target_named c.args.file.now.net c.args.question.now c.args.asked.now c.requires.named).1) c.as_slice.ensures.value;
+}
 
 pub returns-clause-refusal : goal.returns-clause-refusal
 returns-clause-refusal c =
