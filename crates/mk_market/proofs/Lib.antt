@@ -6,3 +6,10 @@ pub mod Refusing
 pub mod Growing
 pub mod Lent
 pub mod Edited
+pub mod Owned
+pub mod Accounted
+pub mod Replies
+pub mod Deposits
+pub mod Joins
+pub mod Answers
+pub mod Openings

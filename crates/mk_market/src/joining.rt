@@ -24,6 +24,7 @@ impl<P: Engine<SumProd>, A: Engine<MinProd>> Market<P, A> {
         let Ok(()) = self.users.join(*name, assets) else {
             return Err(Refusal::Memory);
         };
+        let _ = name.bytes();
         self.ledger.join();
         self.journal.join(*name);
         Ok(Reply::Joined {

@@ -43,6 +43,7 @@ impl<P: Engine<SumProd>, A: Engine<MinProd>> Market<P, A> {
 }
 
 ghost use Rattle.std.specs.Prelude.{◌≡◌, [], IfOk};
+ghost use Rattle.mk_net.specs.Network.{IsNetwork};
 ghost use Rattle.mk_tree.specs.Checked.{IsTreeOf};
 ghost use Rattle.mk_beliefs.specs.Meanings.{weights_of};
 
@@ -50,7 +51,8 @@ ghost use Rattle.mk_beliefs.specs.Meanings.{weights_of};
 fn weighed<P: Engine<SumProd>>(alloc: Global, net: &Network, tree: &Tree) -> Result<P, NoMemory>
     requires tree { IsTreeOf net.now tree.now }
     requires suits { P.suits net.now tree.now }
-    ensures { IfOk result (λ engine. P.stands_for engine (weights_of net.now tree.now [])) }
+    ensures stands { IfOk result (λ engine. P.stands_for engine (weights_of net.now tree.now [])) }
+    ensures network { IfOk result (λ _. IsNetwork net.now) }
 {
     let plan = P::plan(alloc, net, tree)?;
     let mut engine = P::start(alloc, &plan)?;

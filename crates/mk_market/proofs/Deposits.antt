@@ -1,0 +1,100 @@
+-- Bits are paid in.
+use Rattle.std.specs.Prelude.{◌≡◌, ℕ, ◌+◌, ◌*◌, ◌<◌, ◌≤◌, List, [], ◌∷◌, ◌++◌, map, length, Option, Some, None, option_map, slice_get, slice_set}
+use Rattle.std.proofs.Common.{refl, sym, ap, ap₂, ◌∙◌, subst, arith}
+use Rattle.std.proofs.Math.Nat.{mul-le-mul}
+use Rattle.std.proofs.lemmas.List.{length_push}
+use Rattle.mk_net.specs.Network.{Variable}
+use Rattle.mk_net.specs.Bounds.{number_limit}
+use Rattle.mk_exact.specs.History.{Entry, Deposit as Deposits, users, deposited, revision, is_settlement}
+use Rattle.mk_tree.specs.Given.{GivenTree}
+use Rattle.mk_file.specs.declared.opened.MarketFile.{MarketFile}
+use Rattle.mk_file.specs.MarketOf.{market_of}
+use Rattle.mk_engine.specs.Meaning.{Meaning}
+use Rattle.mk_assets.specs.declared.assets.Assets.{Assets}
+use Rattle.mk_assets.specs.Holdings.{Holding, Owns, CanDeposit, max_bits, with_deposit}
+use Rattle.mk_cash.specs.declared.ledger.Account.{Account}
+use Rattle.mk_cash.specs.Accounts.{account_of}
+use Rattle.mk_quote.specs.declared.quote.Quote.{Quote}
+use Rattle.mk_command.specs.declared.command.Command.TheVariants.{Deposit}
+use Rattle.mk_reply.specs.declared.payments.Payment.{Payment}
+use Rattle.mk_reply.specs.declared.reply.Reply.{Reply}
+use Rattle.mk_reply.specs.declared.reply.Reply.TheVariants.{Deposited}
+use Rattle.mk_rules.specs.Refusals.{first_refusal}
+use Rattle.mk_rules.specs.Transcript.{Standing, OfCommand, IsAllowedFor, after}
+use Rattle.mk_answers.specs.Open.{holding_of}
+use Rattle.mk_market.specs.declared.users.Member.{Member}
+use Rattle.mk_market.specs.Journals.{JournalOf}
+use Rattle.mk_market.specs.Members.{names_of, assets_of, quotes_of, with_assets}
+use Rattle.mk_market.specs.Points.{IsAccount}
+use Rattle.mk_market.specs.Refused.{IsUser, HasRoomForTransfer}
+use Rattle.mk_market.specs.inner.Keeping.{quoted, standing_of, IsKept}
+use Rattle.mk_market.proofs.Appends.{not_there, not_found}
+use Rattle.mk_market.proofs.Growing.{kept_grown}
+use Rattle.mk_market.proofs.Owned.{names_same, quotes_same, owned_one, deposit_holding, deposit_others, few_moved}
+use Rattle.mk_market.proofs.Accounted.{accounts_deposited}
+use Rattle.mk_market.proofs.Replies.{answer_allowed}
+
+module _ {P A Plan : Type 0} (weights_stand : P → Meaning → Type 0) (gains_stand : A → Meaning → Type 0) (plan_for : Plan → List Variable → GivenTree → Type 0)
+    (file : MarketFile) (prices : P) (plan : Plan) (members : List (Member A Plan)) (accounts : List Account) (journal : JournalOf) (payments : Option (List Payment))
+    (kept : IsKept weights_stand gains_stand plan_for file prices plan members accounts journal payments)
+    (name : List ℕ) (user bits : ℕ) (is_user : IsUser journal.history name user) (room : HasRoomForTransfer journal.history bits) where
+  bits_fit : deposited journal.history user + bits ≤ max_bits
+  bits_fit = let most = few_moved (length (users journal.history)) user journal.history kept.bounded.transfers_fit in omega (arith, most.0, room.most, room.few)
+
+  pub can_deposit : (before : Assets A Plan) → slice_get (assets_of members) user ≡ Some before → CanDeposit gains_stand before bits
+  can_deposit before there = record { holding = holding_of file.net file.tree journal.history user; owns = kept.owns user before there; room = bits_fit }
+
+  pub points_fit : (account_of accounts user).deposited + file.points_per_bit * bits < number_limit
+  points_fit =
+      let account : IsAccount file.points_per_bit journal.history user (account_of accounts user) = kept.accounts_kept.each user (omega (arith, is_user.within, kept.accounts_kept.one_each)) in
+      let most : file.points_per_bit * (deposited journal.history user + bits) ≤ 1000000 * 65536000 = mul-le-mul file.points_most bits_fit in
+      omega (arith, account.paid_in, most)
+
+  module _ (before now : Assets A Plan) (there : slice_get (assets_of members) user ≡ Some before) (new_accounts : List Account) (new_journal : JournalOf)
+      (history : new_journal.history ≡ journal.history ++ Deposits user bits ∷ []) (none : None ≡ first_refusal (market_of file) journal.history (Deposit name bits)) where
+    same_quotes : quotes_of (with_assets members user now) ≡ quotes_of members
+    same_quotes = quotes_same members user before now there
+
+    reply : Reply
+    reply = Deposited name bits (revision journal.history + 1)
+
+    allowed : IsAllowedFor (market_of file) (standing_of journal members) (OfCommand (Deposit name bits)) reply
+    unfolding reply
+    allowed = answer_allowed (market_of file) (standing_of journal members) (Deposit name bits) (Deposited name bits (revision journal.history + 1)) none refl
+
+    next : standing_of new_journal (with_assets members user now) ≡ after (market_of file) (standing_of journal members) (OfCommand (Deposit name bits)) reply
+    unfolding reply
+    next = ap₂ (λ (H : List Entry) (qs : List (Option Quote)). record { history = H; quotes = map (option_map quoted) qs })
+        (history ∙ ap (λ (v : ℕ). journal.history ++ Deposits v bits ∷ []) is_user.number) same_quotes
+
+    -- the market is kept
+    pub deposit_kept : new_journal.max_trades ≡ journal.max_trades
+        → ((h : Holding) → Owns gains_stand before h → h.deposited + bits ≤ max_bits → Owns gains_stand now (with_deposit bits h))
+        → new_accounts ≡ slice_set accounts user (let account = account_of accounts user in record account { deposited = account.deposited + file.points_per_bit * bits })
+        → IsKept weights_stand gains_stand plan_for file prices plan (with_assets members user now) new_accounts new_journal payments
+    deposit_kept limit deposits paid =
+        let H = journal.history in
+        kept_grown weights_stand gains_stand plan_for file prices prices plan members (with_assets members user now) accounts new_accounts journal new_journal payments payments
+        (Deposits user bits) (Deposit name bits) reply tt kept allowed next
+        (record {
+          history = history;
+          limit = limit;
+          prices_grown = λ m stands. stands;
+          names = names_same members user before now there ∙ kept.named ∙ sym (not_found H (Deposits user bits) Rattle.mk_exact.specs.History.join_in refl);
+          owned = owned_one file.net file.tree H gains_stand members user before now (Deposits user bits) there kept.owns
+              (subst (Owns gains_stand now) (sym (deposit_holding file.net file.tree H user bits)) (deposits (holding_of file.net file.tree H user) (kept.owns user before there) bits_fit))
+              (deposit_others file.net file.tree H user bits);
+          none_quoted = λ u quote at. subst (λ (qs : List (Option Quote)). slice_get qs u ≡ Some (Some quote)) same_quotes at;
+          accounts = rw paid (accounts_deposited file.points_per_bit H accounts user bits (file.points_per_bit * bits) is_user.within refl kept.accounts_kept);
+          room = λ unsettled. kept.room (sym (not_there H (Deposits user bits) is_settlement refl) ∙ unsettled);
+        })
+
+    pub deposit_allowed : (at : ℕ) → at ≡ revision new_journal.history → IsAllowedFor (market_of file) (standing_of journal members) (OfCommand (Deposit name bits)) (Deposited name bits at)
+    unfolding reply
+    deposit_allowed at e =
+        subst (λ (n : ℕ). IsAllowedFor (market_of file) (standing_of journal members) (OfCommand (Deposit name bits)) (Deposited name bits n))
+        (sym (e ∙ ap (λ (H : List Entry). length H) history ∙ length_push journal.history (Deposits user bits))) allowed
+
+    pub deposit_next : (at : ℕ) → standing_of new_journal (with_assets members user now) ≡ after (market_of file) (standing_of journal members) (OfCommand (Deposit name bits)) (Deposited name bits at)
+    unfolding reply
+    deposit_next at = next

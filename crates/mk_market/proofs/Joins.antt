@@ -1,0 +1,93 @@
+-- A user joins.
+use Rattle.std.specs.Prelude.{◌≡◌, ℕ, ◌+◌, ◌<◌, List, [], ◌∷◌, ◌++◌, map, length, false, Option, Some, None, option_map, slice_get, OnErr, Result}
+use Rattle.std.specs.List.{list_any}
+use Rattle.std.proofs.Common.{inr, refl, sym, ap, ap₂, ◌∙◌, subst, arith}
+use Rattle.std.proofs.lemmas.List.{length_push, length-map, map-append}
+use Rattle.std.proofs.lemmas.List.Elements.{All-from_recursion}
+use Rattle.mk_net.specs.declared.words.Pair.{Pair}
+use Rattle.mk_net.specs.Network.{Variable}
+use Rattle.mk_net.specs.Name.{IsName}
+use Rattle.mk_net.specs.Texts.{same_text}
+use Rattle.mk_net.specs.Bounds.{max_users}
+use Rattle.mk_exact.specs.History.{Entry, Join, users, resolutions, revision, is_settlement}
+use Rattle.mk_exact.specs.Proper.{IsPairOf}
+use Rattle.mk_exact.proofs.After.{users_more}
+use Rattle.mk_tree.specs.Given.{GivenTree}
+use Rattle.mk_file.specs.declared.opened.MarketFile.{MarketFile}
+use Rattle.mk_file.specs.MarketOf.{market_of}
+use Rattle.mk_engine.specs.Meaning.{Meaning}
+use Rattle.mk_assets.specs.declared.assets.Assets.{Assets}
+use Rattle.mk_assets.specs.Holdings.{Holding, Owns, CanStart, opening_holding}
+use Rattle.mk_cash.specs.declared.ledger.Account.{Account}
+use Rattle.mk_cash.specs.Accounts.{empty_account}
+use Rattle.mk_command.specs.declared.command.Command.TheVariants.{User}
+use Rattle.mk_reply.specs.declared.payments.Payment.{Payment}
+use Rattle.mk_reply.specs.declared.refusal.Refusal.TheVariants.{Memory}
+use Rattle.mk_reply.specs.declared.reply.Reply.TheVariants.{Joined, Refused}
+use Rattle.mk_rules.specs.Refusals.{first_refusal}
+use Rattle.mk_rules.specs.Quotes.{Quote, Quotes}
+use Rattle.mk_rules.specs.Transcript.{Standing, OfCommand, IsAllowedFor, after}
+use Rattle.mk_market.specs.declared.users.Member.{Member}
+use Rattle.mk_market.specs.Journals.{JournalOf}
+use Rattle.mk_market.specs.Members.{new_member, names_of, assets_of, quotes_of}
+use Rattle.mk_market.specs.Refused.{HasRoomForUser}
+use Rattle.mk_market.specs.Trading.{Trading, IsAnswered}
+use Rattle.mk_market.specs.inner.Keeping.{quoted, standing_of, IsKept}
+use Rattle.mk_market.proofs.Appends.{not_there}
+use Rattle.mk_market.proofs.Growing.{kept_grown}
+use Rattle.mk_market.proofs.Owned.{owned_joined, none_quoted_joined}
+use Rattle.mk_market.proofs.Accounted.{accounts_joined}
+use Rattle.mk_market.proofs.Replies.{answer_allowed, refused_stays}
+
+-- where memory is wanting nothing changes
+pub memory_answered : (now : Trading) (name : List ℕ) → None ≡ first_refusal now.market now.standing.history (User name) → IsAnswered now now (User name) (Refused Memory)
+memory_answered now name none = record {
+  same_market = refl;
+  allowed = answer_allowed now.market now.standing (User name) (Refused Memory) none (inr refl);
+  next = refused_stays now.market now.standing (User name) Memory tt;
+}
+
+module _ {P A Plan : Type 0} (weights_stand : P → Meaning → Type 0) (gains_stand : A → Meaning → Type 0) (plan_for : Plan → List Variable → GivenTree → Type 0)
+    (file : MarketFile) (prices : P) (plan : Plan) (members : List (Member A Plan)) (accounts : List Account) (journal : JournalOf) (payments : Option (List Payment))
+    (kept : IsKept weights_stand gains_stand plan_for file prices plan members accounts journal payments)
+    (name : List ℕ) where
+  module _ (assets : Assets A Plan) (known : List Pair) (known_is : known ≡ resolutions journal.history)
+      (owns : Owns gains_stand assets (opening_holding file.net file.tree known)) (new_members : List (Member A Plan)) (more : new_members ≡ members ++ new_member name assets ∷ [])
+      (new_accounts : List Account) (new_journal : JournalOf) (history : new_journal.history ≡ journal.history ++ Join name ∷ [])
+      (none : None ≡ first_refusal (market_of file) journal.history (User name)) where
+    quotes_more : map (option_map quoted) (quotes_of new_members) ≡ map (option_map quoted) (quotes_of members) ++ None ∷ []
+    quotes_more =
+        ap (λ (ms : List (Member A Plan)). map (option_map quoted) (quotes_of ms)) more
+        ∙ ap (λ (qs : List (Option _)). map (option_map quoted) qs) (map-append (λ (m : Member A Plan). m.quote) members (new_member name assets ∷ []))
+        ∙ map-append (option_map quoted) (quotes_of members) (None ∷ [])
+
+    pub join_next : (at : ℕ) → standing_of new_journal new_members ≡ after (market_of file) (standing_of journal members) (OfCommand (User name)) (Joined name at)
+    join_next at = ap₂ (λ (H : List Entry) (qs : Quotes). record { history = H; quotes = qs }) history quotes_more
+
+    pub join_allowed : (at : ℕ) → at ≡ revision new_journal.history → IsAllowedFor (market_of file) (standing_of journal members) (OfCommand (User name)) (Joined name at)
+    join_allowed at e = answer_allowed (market_of file) (standing_of journal members) (User name) (Joined name at) none
+        (Rattle.std.proofs.Common.inl (ap (λ (n : ℕ). Joined name n) (e ∙ ap (λ (H : List Entry). length H) history ∙ length_push journal.history (Join name))))
+
+    names_more : names_of new_members ≡ users (journal.history ++ Join name ∷ [])
+    names_more =
+        ap (λ (ms : List (Member A Plan)). names_of ms) more ∙ map-append (λ (m : Member A Plan). m.name) members (new_member name assets ∷ [])
+        ∙ ap (λ (names : List (List ℕ)). names ++ name ∷ []) kept.named ∙ sym (users_more journal.history name)
+
+    -- the market is kept
+    pub join_kept : IsName name → new_journal.max_trades ≡ journal.max_trades → new_accounts ≡ accounts ++ empty_account ∷ []
+        → IsKept weights_stand gains_stand plan_for file prices plan new_members new_accounts new_journal payments
+    join_kept is_name limit opened =
+        let H = journal.history in
+        kept_grown weights_stand gains_stand plan_for file prices prices plan members new_members accounts new_accounts journal new_journal payments payments
+        (Join name) (User name) (Joined name (revision new_journal.history)) is_name kept (join_allowed (revision new_journal.history) refl) (join_next (revision new_journal.history))
+        (record {
+          history = history;
+          limit = limit;
+          prices_grown = λ m stands. stands;
+          names = names_more;
+          owned = rw more (owned_joined file.net file.tree H name gains_stand members assets kept.named kept.ready.stands.proper kept.bounded.transfers_fit kept.owns
+              (subst (λ (ps : List Pair). Owns gains_stand assets (opening_holding file.net file.tree ps)) known_is owns));
+          none_quoted = rw more (none_quoted_joined file.net file.tree H name members assets);
+          accounts = rw opened (accounts_joined file.points_per_bit H accounts name kept.bounded.transfers_fit kept.accounts_kept);
+          room = λ unsettled. kept.room (sym (not_there H (Join name) is_settlement refl) ∙ unsettled);
+        })

@@ -1,0 +1,223 @@
+-- What the users of a market own once the assets of one changed, or a user joined.
+use Rattle.std.specs.Prelude.{◌≡◌, ℕ, ◌+◌, ◌*◌, ◌<◌, ◌≤◌, zero, suc, List, [], ◌∷◌, ◌++◌, map, length, Bool, true, false, ◌==◌, cond, Option, Some, None, option_map, unwrap_or, slice_get, slice_set, ◌⊎◌}
+use Rattle.std.specs.List.{AllByRecursion, count_by}
+use Rattle.std.proofs.Common.{inl, inr, refl, sym, ap, ◌∙◌, subst, arith, eq-eqb, ne_eqb}
+use Rattle.std.proofs.lemmas.Bool.{cases_eq}
+use Rattle.std.proofs.lemmas.List.{length-map, map-set, map-append}
+use Rattle.std.proofs.lemmas.List.Sums.{sum_by-cons}
+use Rattle.std.proofs.lemmas.Option.{slice_get-map, slice_get_within, get_or_from_slice_get}
+use Rattle.std.proofs.Math.Seq.{map-set_same}
+use Rattle.mk_net.specs.Network.{Variable}
+use Rattle.mk_exact.specs.History.{Entry, Join, Deposit, Withdraw, Trade, Resolve, Settle, users, resolutions, deposited, withdrawn, bits_in, bits_out, is_transfer}
+use Rattle.mk_exact.specs.Proper.{IsProper}
+use Rattle.mk_exact.proofs.After.{deposited_more, withdrawn_more}
+use Rattle.mk_tree.specs.Given.{GivenTree}
+use Rattle.mk_engine.specs.Meaning.{Meaning}
+use Rattle.mk_beliefs.specs.Meanings.{gains_of, grown_for}
+use Rattle.mk_beliefs.proofs.Grown.{gains_grow, newcomer_has_none}
+use Rattle.mk_assets.specs.declared.assets.Assets.{Assets}
+use Rattle.mk_assets.specs.Holdings.{Holding, Owns, opening_holding, with_deposit}
+use Rattle.mk_quote.specs.declared.quote.Quote.{Quote}
+use Rattle.mk_rules.specs.Bounded.{FitsTransfer}
+use Rattle.mk_rules.proofs.Bounds.{count_first}
+use Rattle.mk_answers.specs.Open.{holding_of}
+use Rattle.mk_market.specs.declared.users.Member.{Member}
+use Rattle.mk_market.specs.Members.{new_member, names_of, assets_of, quotes_of, with_assets}
+
+-- a value that was mapped
+mapped : {X Y : Type 0} (f : X → Y) (o : Option X) (y : Y) → option_map f o ≡ Some y → (x : X) × (o ≡ Some x) × (f x ≡ y)
+mapped f None y e = cc
+mapped f (Some x) y e = (x, refl, cc)
+
+-- what stands at a place after a write
+set_cases : {X : Type 0} (xs : List X) (i k : ℕ) (y x : X) → slice_get (slice_set xs i y) k ≡ Some x → ((k ≡ i) × (y ≡ x)) ⊎ ((k ≡ i → ⊥) × (slice_get xs k ≡ Some x))
+set_cases [] i k y x e = cc
+set_cases (a ∷ xs) zero zero y x e = inl (refl, cc)
+set_cases (a ∷ xs) zero (suc k) y x e = inr (λ same. absurd (omega (arith, same)), e)
+set_cases (a ∷ xs) (suc i) zero y x e = inr (λ same. absurd (omega (arith, same)), e)
+set_cases (a ∷ xs) (suc i) (suc k) y x e = later (set_cases xs i k y x e)
+  where
+    later : ((k ≡ i) × (y ≡ x)) ⊎ ((k ≡ i → ⊥) × (slice_get xs k ≡ Some x)) → ((suc k ≡ suc i) × (y ≡ x)) ⊎ ((suc k ≡ suc i → ⊥) × (slice_get xs k ≡ Some x))
+    later (inl h) = inl (ap suc (h.0), h.1)
+    later (inr h) = inr (λ same. h.0 (omega (arith, same)), h.1)
+
+-- and after a push
+push_cases : {X : Type 0} (xs : List X) (k : ℕ) (y x : X) → slice_get (xs ++ y ∷ []) k ≡ Some x → ((k ≡ length xs) × (y ≡ x)) ⊎ (slice_get xs k ≡ Some x)
+push_cases [] zero y x e = inl (refl, cc)
+push_cases [] (suc k) y x e = cc
+push_cases (a ∷ xs) zero y x e = inr e
+push_cases (a ∷ xs) (suc k) y x e = later (push_cases xs k y x e)
+  where
+    later : ((k ≡ length xs) × (y ≡ x)) ⊎ (slice_get xs k ≡ Some x) → ((suc k ≡ length (a ∷ xs)) × (y ≡ x)) ⊎ (slice_get xs k ≡ Some x)
+    later (inl h) = inl (omega (arith, h.0), h.1)
+    later (inr h) = inr h
+
+-- the assets of one user change
+module _ {E Plan : Type 0} (members : List (Member E Plan)) (user : ℕ) (before after : Assets E Plan) (there : slice_get (assets_of members) user ≡ Some before) where
+  the_member : (m : Member E Plan) × (slice_get members user ≡ Some m) × (m.assets ≡ before)
+  the_member = mapped (λ (m : Member E Plan). m.assets) (slice_get members user) before (sym (slice_get-map (λ (m : Member E Plan). m.assets) members user) ∙ there)
+
+  changed : Member E Plan
+  changed = let m : Member E Plan = the_member.0 in record m { assets = after }
+
+  is_set : with_assets members user after ≡ slice_set members user changed
+  unfolding changed
+  is_set = ap (λ (o : Option (Member E Plan)). unwrap_or (option_map (λ (m : Member E Plan). slice_set members user (record m { assets = after })) o) members) (the_member.1)
+
+  pub names_same : names_of (with_assets members user after) ≡ names_of members
+  unfolding changed
+  names_same = ap (λ (ms : List (Member E Plan)). names_of ms) is_set
+      ∙ map-set_same (λ (m : Member E Plan). m.name) members user changed (the_member.0) (ap (λ (m : Member E Plan). m.name) (sym (get_or_from_slice_get members user (the_member.0) (the_member.0) (the_member.1))))
+
+  pub quotes_same : quotes_of (with_assets members user after) ≡ quotes_of members
+  unfolding changed
+  quotes_same = ap (λ (ms : List (Member E Plan)). quotes_of ms) is_set
+      ∙ map-set_same (λ (m : Member E Plan). m.quote) members user changed (the_member.0) (ap (λ (m : Member E Plan). m.quote) (sym (get_or_from_slice_get members user (the_member.0) (the_member.0) (the_member.1))))
+
+  assets_set : assets_of (with_assets members user after) ≡ slice_set (assets_of members) user after
+  unfolding changed
+  assets_set = ap (λ (ms : List (Member E Plan)). assets_of ms) is_set ∙ map-set (λ (m : Member E Plan). m.assets) members user changed
+
+  -- whose assets are read then
+  pub whose : (u : ℕ) (x : Assets E Plan) → slice_get (assets_of (with_assets members user after)) u ≡ Some x
+      → ((u ≡ user) × (after ≡ x)) ⊎ ((u ≡ user → ⊥) × (slice_get (assets_of members) u ≡ Some x))
+  whose u x at = set_cases (assets_of members) user u after x (subst (λ (xs : List (Assets E Plan)). slice_get xs u ≡ Some x) assets_set at)
+
+  -- where they stand for all that they stood for, so do each user's
+  pub all_still : (stands_for : E → Meaning → Type 0) → ((h : Holding) → Owns stands_for before h → Owns stands_for after h)
+      → (u : ℕ) (x : Assets E Plan) → slice_get (assets_of (with_assets members user after)) u ≡ Some x
+      → (old : Assets E Plan) × (slice_get (assets_of members) u ≡ Some old) × ((h : Holding) → Owns stands_for old h → Owns stands_for x h)
+  all_still stands_for still u x at = each (whose u x at)
+    where
+      each : ((u ≡ user) × (after ≡ x)) ⊎ ((u ≡ user → ⊥) × (slice_get (assets_of members) u ≡ Some x))
+          → (old : Assets E Plan) × (slice_get (assets_of members) u ≡ Some old) × ((h : Holding) → Owns stands_for old h → Owns stands_for x h)
+      each (inl h) = (before, ap (slice_get (assets_of members)) (h.0) ∙ there, λ (held : Holding) owns. subst (λ (a : Assets E Plan). Owns stands_for a held) (h.1) (still held owns))
+      each (inr h) = (x, h.1, λ (held : Holding) owns. owns)
+
+-- what each user holds after an entry
+module _ (network : List Variable) (tree : GivenTree) (H : List Entry) where
+  pub holding_grows : (e : Entry) (u : ℕ) → holding_of network tree (H ++ e ∷ []) u
+      ≡ record { meaning = grown_for u e (gains_of network tree H u); deposited = deposited H u + bits_in u e; withdrawn = withdrawn H u + bits_out u e }
+  holding_grows e u =
+      let holding : Meaning → ℕ → ℕ → Holding = λ m d w. record { meaning = m; deposited = d; withdrawn = w } in
+      ap (λ (m : Meaning). holding m (deposited (H ++ e ∷ []) u) (withdrawn (H ++ e ∷ []) u)) (gains_grow network tree H u e)
+      ∙ ap (λ (d : ℕ). holding (grown_for u e (gains_of network tree H u)) d (withdrawn (H ++ e ∷ []) u)) (deposited_more H e u)
+      ∙ ap (holding (grown_for u e (gains_of network tree H u)) (deposited H u + bits_in u e)) (withdrawn_more H e u)
+
+  -- one that neither multiplies the user's gains, nor makes a pair known, nor moves the user's bits
+  pub holding_same : (e : Entry) (u : ℕ) → grown_for u e (gains_of network tree H u) ≡ gains_of network tree H u → bits_in u e ≡ 0 → bits_out u e ≡ 0
+      → holding_of network tree (H ++ e ∷ []) u ≡ holding_of network tree H u
+  holding_same e u gains ins outs =
+      let holding : Meaning → ℕ → ℕ → Holding = λ m d w. record { meaning = m; deposited = d; withdrawn = w } in
+      let d : deposited H u + bits_in u e ≡ deposited H u = omega (arith, ins) in
+      let w : withdrawn H u + bits_out u e ≡ withdrawn H u = omega (arith, outs) in
+      holding_grows e u
+      ∙ ap (λ (m : Meaning). holding m (deposited H u + bits_in u e) (withdrawn H u + bits_out u e)) gains
+      ∙ ap (λ (n : ℕ). holding (gains_of network tree H u) n (withdrawn H u + bits_out u e)) d
+      ∙ ap (holding (gains_of network tree H u) (deposited H u)) w
+
+  -- each user owns what the history leaves, where one user's assets do and nothing changes for another
+  pub owned_one : {E Plan : Type 0} (stands_for : E → Meaning → Type 0) (members : List (Member E Plan)) (user : ℕ) (before after : Assets E Plan) (e : Entry)
+      → slice_get (assets_of members) user ≡ Some before
+      → ((u : ℕ) (x : Assets E Plan) → slice_get (assets_of members) u ≡ Some x → Owns stands_for x (holding_of network tree H u))
+      → Owns stands_for after (holding_of network tree (H ++ e ∷ []) user)
+      → ((u : ℕ) → (u ≡ user → ⊥) → holding_of network tree (H ++ e ∷ []) u ≡ holding_of network tree H u)
+      → (u : ℕ) (x : Assets E Plan) → slice_get (assets_of (with_assets members user after)) u ≡ Some x → Owns stands_for x (holding_of network tree (H ++ e ∷ []) u)
+  owned_one {E} {Plan} stands_for members user before after e there owns own others u x at = each (whose members user before after there u x at)
+    where
+      each : ((u ≡ user) × (after ≡ x)) ⊎ ((u ≡ user → ⊥) × (slice_get (assets_of members) u ≡ Some x)) → Owns stands_for x (holding_of network tree (H ++ e ∷ []) u)
+      each (inl h) = subst (λ (v : ℕ). Owns stands_for x (holding_of network tree (H ++ e ∷ []) v)) (sym (h.0)) (subst (λ (a : Assets E Plan). Owns stands_for a (holding_of network tree (H ++ e ∷ []) user)) (h.1) own)
+      each (inr h) = subst (Owns stands_for x) (sym (others u (h.0))) (owns u x (h.1))
+
+  -- bits are paid in by a user
+  pub deposit_holding : (user bits : ℕ) → holding_of network tree (H ++ Deposit user bits ∷ []) user ≡ with_deposit bits (holding_of network tree H user)
+  deposit_holding user bits =
+      let m = gains_of network tree H user in
+      let ins : bits_in user (Deposit user bits) ≡ bits = rw (eq-eqb user user refl) refl in
+      let outs : withdrawn H user + bits_out user (Deposit user bits) ≡ withdrawn H user = omega arith in
+      holding_grows (Deposit user bits) user
+      ∙ ap (λ (n : ℕ). record { meaning = m; deposited = deposited H user + n; withdrawn = withdrawn H user + bits_out user (Deposit user bits) }) ins
+      ∙ ap (λ (w : ℕ). record { meaning = m; deposited = deposited H user + bits; withdrawn = w }) outs
+
+  pub deposit_others : (user bits u : ℕ) → (u ≡ user → ⊥) → holding_of network tree (H ++ Deposit user bits ∷ []) u ≡ holding_of network tree H u
+  deposit_others user bits u other = holding_same (Deposit user bits) u refl (rw (ne_eqb user u (λ same. other (sym same))) refl) refl
+
+-- a user who has not joined moved no bits, and nobody moved more than 1,000 at once
+module _ (n : ℕ) where
+  bits_none : (e : Entry) → FitsTransfer n e → (bits_in n e ≡ 0) × (bits_out n e ≡ 0)
+  bits_none (Join name) h = (refl, refl)
+  bits_none (Deposit user bits) h = (rw (ne_eqb user n (λ same. absurd (omega (arith, same, h.user)))) refl, refl)
+  bits_none (Withdraw user bits) h = (refl, rw (ne_eqb user n (λ same. absurd (omega (arith, same, h.user)))) refl)
+  bits_none (Trade user ratio) h = (refl, refl)
+  bits_none (Resolve pair) h = (refl, refl)
+  bits_none Settle h = (refl, refl)
+
+  pub none_moved : (H : List Entry) → AllByRecursion (FitsTransfer n) H → (deposited H n ≡ 0) × (withdrawn H n ≡ 0)
+  none_moved [] h = (refl, refl)
+  none_moved (e ∷ H) h =
+      let first = bits_none e (h.0) in let rest = none_moved H (h.1) in
+      (omega (arith, sum_by-cons (bits_in n) e H, first.0, rest.0), omega (arith, sum_by-cons (bits_out n) e H, first.1, rest.1))
+
+  bits_few : (u : ℕ) (e : Entry) → FitsTransfer n e → (bits_in u e ≤ 1000 * cond (is_transfer e) 1 0) × (bits_out u e ≤ 1000 * cond (is_transfer e) 1 0)
+  bits_few u (Join name) h = (omega arith, omega arith)
+  bits_few u (Deposit user bits) h = (at (user == u), omega arith)
+    where
+      at : (b : Bool) → cond b bits 0 ≤ 1000 * 1
+      at true = omega (arith, h.few)
+      at false = omega arith
+  bits_few u (Withdraw user bits) h = (omega arith, at (user == u))
+    where
+      at : (b : Bool) → cond b bits 0 ≤ 1000 * 1
+      at true = omega (arith, h.few)
+      at false = omega arith
+  bits_few u (Trade user ratio) h = (omega arith, omega arith)
+  bits_few u (Resolve pair) h = (omega arith, omega arith)
+  bits_few u Settle h = (omega arith, omega arith)
+
+  pub few_moved : (u : ℕ) (H : List Entry) → AllByRecursion (FitsTransfer n) H → (deposited H u ≤ 1000 * count_by is_transfer H) × (withdrawn H u ≤ 1000 * count_by is_transfer H)
+  few_moved u [] h = (omega arith, omega arith)
+  few_moved u (e ∷ H) h =
+      let first = bits_few u e (h.0) in let rest = few_moved u H (h.1) in let count = count_first is_transfer e H in
+      (omega (arith, sum_by-cons (bits_in u) e H, first.0, rest.0, count), omega (arith, sum_by-cons (bits_out u) e H, first.1, rest.1, count))
+
+-- a user joins
+module _ (network : List Variable) (tree : GivenTree) (H : List Entry) (name : List ℕ) where
+  join_others : (u : ℕ) → holding_of network tree (H ++ Join name ∷ []) u ≡ holding_of network tree H u
+  join_others u = holding_same network tree H (Join name) u refl refl refl
+
+  -- who owns nothing but knows what is resolved
+  newcomer_holding : IsProper network H → AllByRecursion (FitsTransfer (length (users H))) H
+      → holding_of network tree H (length (users H)) ≡ opening_holding network tree (resolutions H)
+  newcomer_holding proper fits =
+      let n = length (users H) in let moved = none_moved n H fits in
+      let holding : Meaning → ℕ → ℕ → Holding = λ m d w. record { meaning = m; deposited = d; withdrawn = w } in
+      let none : Meaning = record { network = network; tree = tree; factors = []; known = resolutions H } in
+      ap (λ (m : Meaning). holding m (deposited H n) (withdrawn H n)) (newcomer_has_none network tree H proper)
+      ∙ ap (λ (d : ℕ). holding none d (withdrawn H n)) (moved.0)
+      ∙ ap (holding none 0) (moved.1)
+
+  pub owned_joined : {E Plan : Type 0} (stands_for : E → Meaning → Type 0) (members : List (Member E Plan)) (assets : Assets E Plan)
+      → names_of members ≡ users H → IsProper network H → AllByRecursion (FitsTransfer (length (users H))) H
+      → ((u : ℕ) (x : Assets E Plan) → slice_get (assets_of members) u ≡ Some x → Owns stands_for x (holding_of network tree H u))
+      → Owns stands_for assets (opening_holding network tree (resolutions H))
+      → (u : ℕ) (x : Assets E Plan) → slice_get (assets_of (members ++ new_member name assets ∷ [])) u ≡ Some x → Owns stands_for x (holding_of network tree (H ++ Join name ∷ []) u)
+  owned_joined {E} {Plan} stands_for members assets named proper fits owns own u x at =
+      each (push_cases (assets_of members) u assets x (subst (λ (xs : List (Assets E Plan)). slice_get xs u ≡ Some x) (map-append (λ (m : Member E Plan). m.assets) members (new_member name assets ∷ [])) at))
+    where
+      count : length (assets_of members) ≡ length (users H)
+      count = length-map members (λ (m : Member E Plan). m.assets) ∙ sym (length-map members (λ (m : Member E Plan). m.name)) ∙ ap (λ (names : List (List ℕ)). length names) named
+
+      each : ((u ≡ length (assets_of members)) × (assets ≡ x)) ⊎ (slice_get (assets_of members) u ≡ Some x) → Owns stands_for x (holding_of network tree (H ++ Join name ∷ []) u)
+      each (inl h) = subst (λ (v : ℕ). Owns stands_for x (holding_of network tree (H ++ Join name ∷ []) v)) (sym (h.0 ∙ count))
+          (subst (Owns stands_for x) (sym (join_others (length (users H)) ∙ newcomer_holding proper fits)) (subst (λ (a : Assets E Plan). Owns stands_for a (opening_holding network tree (resolutions H))) (h.1) own))
+      each (inr h) = subst (Owns stands_for x) (sym (join_others u)) (owns u x h)
+
+  -- a newcomer was quoted nothing
+  pub none_quoted_joined : {E Plan : Type 0} (members : List (Member E Plan)) (assets : Assets E Plan) (u : ℕ) (quote : Quote)
+      → slice_get (quotes_of (members ++ new_member name assets ∷ [])) u ≡ Some (Some quote) → slice_get (quotes_of members) u ≡ Some (Some quote)
+  none_quoted_joined {E} {Plan} members assets u quote at =
+      each (push_cases (quotes_of members) u None (Some quote) (subst (λ (qs : List (Option Quote)). slice_get qs u ≡ Some (Some quote)) (map-append (λ (m : Member E Plan). m.quote) members (new_member name assets ∷ [])) at))
+    where
+      each : ((u ≡ length (quotes_of members)) × (None ≡ Some quote)) ⊎ (slice_get (quotes_of members) u ≡ Some (Some quote)) → slice_get (quotes_of members) u ≡ Some (Some quote)
+      each (inl h) = let no : None ≡ Some quote = h.1 in cc
+      each (inr h) = h

@@ -1,0 +1,67 @@
+-- Replies that a market allows, and those that leave its standing.
+use Rattle.std.specs.Prelude.{◌≡◌, List, [], ◌∷◌, ◌++◌, Option, Some, None, MatchOption, Result, Ok, Err, IsErrAnd}
+use Rattle.std.proofs.Common.{refl, sym, ap, ◌∙◌, subst, append-nil}
+use Rattle.mk_exact.specs.History.{Entry}
+use Rattle.mk_exact.specs.Market.{Market}
+use Rattle.mk_command.specs.declared.command.Command.{Command}
+use Rattle.mk_command.specs.declared.command.Command.TheVariants.{User, Deposit, Withdraw, Price, Limits, Edit, Worst, Resolve, Settle}
+use Rattle.mk_reply.specs.declared.refusal.Refusal.{Refusal}
+use Rattle.mk_reply.specs.declared.reply.Reply.{Reply}
+use Rattle.mk_reply.specs.declared.reply.Reply.TheVariants.{Refused}
+use Rattle.mk_rules.specs.Refusals.{first_refusal}
+use Rattle.mk_rules.specs.Answers.{IsAnswer, entry_of, next_quotes}
+use Rattle.mk_rules.specs.Transcript.{Standing, OfCommand, IsAllowedFor, after}
+use Rattle.mk_market.specs.Trading.{Trading, IsAnswered, reply_of}
+
+-- the refusal of the table
+pub refusal_allowed : (market : Market) (now : Standing) (command : Command) (why : Refusal) → Some why ≡ first_refusal market now.history command
+    → IsAllowedFor market now (OfCommand command) (Refused why)
+refusal_allowed market now command why e =
+    subst (λ (o : Option Refusal). MatchOption o (IsAnswer market now.history now.quotes command (Refused why)) (λ w. Refused why ≡ Refused w)) e refl
+
+-- an answer where none applies
+pub answer_allowed : (market : Market) (now : Standing) (command : Command) (reply : Reply) → None ≡ first_refusal market now.history command
+    → IsAnswer market now.history now.quotes command reply → IsAllowedFor market now (OfCommand command) reply
+answer_allowed market now command reply e h =
+    subst (λ (o : Option Refusal). MatchOption o (IsAnswer market now.history now.quotes command reply) (λ w. reply ≡ Refused w)) e h
+
+-- a reply that appends no entry and sets no quote
+pub none_appended : (market : Market) (now : Standing) (command : Command) (reply : Reply) → entry_of market now.history command reply ≡ None
+    → next_quotes market now.history now.quotes command reply ≡ now.quotes → now ≡ after market now (OfCommand command) reply
+none_appended market now command reply no_entry same =
+    sym (ap (λ (o : Option Entry). record { history = now.history ++ Rattle.std.specs.Prelude.option_to_list o; quotes = next_quotes market now.history now.quotes command reply }) no_entry
+    ∙ ap (λ (qs : Rattle.mk_rules.specs.Quotes.Quotes). record { history = now.history ++ []; quotes = qs }) same
+    ∙ ap (λ (H : List Entry). record { history = H; quotes = now.quotes }) (append-nil now.history))
+
+-- every command but an edit
+abbrev pub IsNoEdit : Command → Type 0
+IsNoEdit (Edit user question to at) = ⊥
+IsNoEdit _ = Unit {0}
+
+-- leaves the standing where it is refused
+pub refused_stays : (market : Market) (now : Standing) (command : Command) (why : Refusal) → IsNoEdit command → now ≡ after market now (OfCommand command) (Refused why)
+refused_stays market now (User user) why h = none_appended market now (User user) (Refused why) refl refl
+refused_stays market now (Deposit user bits) why h = none_appended market now (Deposit user bits) (Refused why) refl refl
+refused_stays market now (Withdraw user bits) why h = none_appended market now (Withdraw user bits) (Refused why) refl refl
+refused_stays market now (Price question) why h = none_appended market now (Price question) (Refused why) refl refl
+refused_stays market now (Limits user question) why h = none_appended market now (Limits user question) (Refused why) refl refl
+refused_stays market now (Edit user question to at) why h = absurd h
+refused_stays market now (Worst user) why h = none_appended market now (Worst user) (Refused why) refl refl
+refused_stays market now (Resolve pair) why h = none_appended market now (Resolve pair) (Refused why) refl refl
+refused_stays market now Settle why h = none_appended market now Settle (Refused why) refl refl
+
+refused_answered : (old : Trading) (command : Command) (why : Refusal) → IsNoEdit command → Some why ≡ first_refusal old.market old.standing.history command
+    → IsAnswered old old command (Refused why)
+refused_answered old command why other e = record {
+  same_market = refl;
+  allowed = refusal_allowed old.market old.standing command why e;
+  next = refused_stays old.market old.standing command why other;
+}
+
+-- so does the market
+pub answered_refused : (old known : Trading) → known ≡ old → (command : Command) → IsNoEdit command → (why : Refusal) (result : Result Reply Refusal) → IsErrAnd result (λ e. e ≡ why)
+    → Some why ≡ first_refusal known.market known.standing.history command → IsAnswered old old command (reply_of result)
+answered_refused old known same command other why (Ok reply) e refusal = absurd e
+answered_refused old known same command other why (Err found) e refusal =
+    subst (λ (w : Refusal). IsAnswered old old command (Refused w)) (sym e)
+    (subst (λ (t : Trading). IsAnswered t t command (Refused why)) same (refused_answered known command why other refusal))
