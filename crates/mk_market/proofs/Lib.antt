@@ -13,3 +13,4 @@ pub mod Deposits
 pub mod Joins
 pub mod Answers
 pub mod Openings
+pub mod Traded

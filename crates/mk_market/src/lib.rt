@@ -13,6 +13,7 @@ mod pricing;
 mod quoting;
 mod refusals;
 mod served;
+mod trading;
 mod transfers;
 mod users;
 
