@@ -62,7 +62,7 @@ module _ {P A Plan : Type 0} (weights_stand : P → Meaning → Type 0) (gains_s
 
     pub price_allowed : (low high : ℕ) → None ≡ first_refusal (market_of file) journal.history (Price question)
         → ((network : List Variable) (tree : GivenTree) (H : List Entry) → weights_stand prices (weights_of network tree H) → IsOpen network tree H → CanBeAnswered network tree H asked
-            → CoversPrice (IsSmall network H) (exact_price network H asked) low high)
+        → CoversPrice (IsSmall network H) (exact_price network H asked) low high)
         → IsAllowedFor (market_of file) (standing_of journal members) (OfCommand (Price question)) (Priced low high)
     price_allowed low high none covers =
         let price : IsPrice file.net journal.history asked (Priced low high)
@@ -95,7 +95,7 @@ module _ {P A Plan : Type 0} (weights_stand : P → Meaning → Type 0) (gains_s
 
     pub worst_allowed : (factor : Factor) (low high : ℕ) → None ≡ first_refusal (market_of file) journal.history (Worst name)
         → ((network : List Variable) (tree : GivenTree) (H : List Entry) (u g : ℕ) → Owns gains_stand before (holding_of network tree H u) → IsOpen network tree H
-            → least_gain network H u always ≡ Some g → IsFactorFor factor (IsSmall network H) (factor_with H u g))
+        → least_gain network H u always ≡ Some g → IsFactorFor factor (IsSmall network H) (factor_with H u g))
         → ((q : Fraction) → StandsFor factor q.num q.den → IsGradedWithin factor.gain (2 ^ 17) → IsAtLeastOne q → CoversCash q file.points_per_bit low high)
         → IsAllowedFor (market_of file) (standing_of journal members) (OfCommand (Worst name)) (Worsted low high)
     worst_allowed factor low high none found covers =

@@ -1,21 +1,21 @@
 -- A user is quoted limits, or an edit is judged by them.
-use Rattle.std.specs.Prelude.{◌≡◌, ℕ, ◌<◌, ◌==◌, List, [], ◌∷◌, ◌++◌, ◌⊎◌, Bool, true, false, if◌then◌else◌, length, map, Option, Some, None, option_map, option_and_then, MatchOption, IsSomeAnd, ⊤, slice_get, slice_set}
+use Rattle.std.specs.Prelude.{◌≡◌, ℕ, ◌+◌, ◌<◌, ◌==◌, List, [], ◌∷◌, ◌++◌, ◌⊎◌, Bool, true, false, if◌then◌else◌, length, map, Option, Some, None, option_map, option_and_then, option_to_list, MatchOption, IsSomeAnd, Result, Ok, Err, IsErrAnd, ⊤, slice_get, slice_set}
 use Rattle.std.proofs.Common.{refl, sym, ap, ap₂, ◌∙◌, subst, inl, inr, arith, append-nil}
 use Rattle.std.proofs.lemmas.Bool.{eqb-true}
-use Rattle.std.proofs.lemmas.List.{map-set}
+use Rattle.std.proofs.lemmas.List.{map-set, length_push}
 use Rattle.std.proofs.lemmas.Option.{slice_get-map}
 use Rattle.mk_net.specs.declared.words.QuestionText.{QuestionText}
 use Rattle.mk_net.specs.Network.{Variable}
-use Rattle.mk_net.specs.Asked.{Asked}
-use Rattle.mk_exact.specs.History.{Entry, users, revision}
+use Rattle.mk_net.specs.Asked.{Asked, IsUnits}
+use Rattle.mk_exact.specs.History.{Entry, Trade, join_in, users, revision, is_settlement}
 use Rattle.mk_exact.specs.Limits.{Inside}
 use Rattle.mk_exact.specs.Market.{Market, network_of}
-use Rattle.mk_exact.specs.Sides.{AreRightLimits, IsFairPair}
+use Rattle.mk_exact.specs.Sides.{AreRightLimits, IsFairPair, ratio_in}
 use Rattle.mk_exact.proofs.ExistMarkets.{sides_exist}
 use Rattle.mk_tree.specs.Given.{GivenTree}
 use Rattle.mk_file.specs.declared.opened.MarketFile.{MarketFile}
 use Rattle.mk_file.specs.MarketOf.{market_of}
-use Rattle.mk_engine.specs.Meaning.{Meaning}
+use Rattle.mk_engine.specs.Meaning.{Meaning, RatioOf, with_factor}
 use Rattle.mk_beliefs.specs.Meanings.{weights_of}
 use Rattle.mk_assets.specs.declared.assets.Assets.{Assets}
 use Rattle.mk_assets.specs.Holdings.{Holding, Owns}
@@ -26,6 +26,7 @@ use Rattle.mk_quote.specs.declared.quote.Quote.{Quote}
 use Rattle.mk_quote.specs.Bounds.{AreRightFor, AreFairAndSolvent}
 use Rattle.mk_quote.specs.Quotes.{question_of, revision_of, limits_of, bounds_of, IsFor}
 use Rattle.mk_reply.specs.declared.payments.Payment.{Payment}
+use Rattle.mk_reply.specs.declared.refusal.Refusal.{Refusal}
 use Rattle.mk_reply.specs.declared.refusal.Refusal.TheVariants.{Beyond}
 use Rattle.mk_reply.specs.declared.reply.Reply.{Reply}
 use Rattle.mk_reply.specs.declared.reply.Reply.TheVariants.{Limits as Limited, Traded, Refused}
@@ -34,7 +35,7 @@ use Rattle.mk_rules.specs.Refusals.{question_named, user_number, first_refusal}
 use Rattle.mk_rules.specs.Quotes as rules
 use Rattle.mk_rules.specs.Transcript.{Standing, OfCommand, IsAllowedFor, after}
 use Rattle.mk_rules.specs.Standings.{IsReady}
-use Rattle.mk_rules.proofs.Ready.{ready_keeps}
+use Rattle.mk_rules.proofs.Ready.{ready_keeps, edit_refused}
 use Rattle.mk_rules.proofs.Quoted.{same_question_is}
 use Rattle.mk_answers.specs.Open.{IsOpen, holding_of}
 use Rattle.mk_answers.proofs.Weaker.{right_by_bounds, fair_by_bounds}
@@ -42,16 +43,34 @@ use Rattle.mk_market.specs.declared.users.Member.{Member}
 use Rattle.mk_market.specs.Journals.{JournalOf}
 use Rattle.mk_market.specs.Members.{names_of, assets_of, quotes_of, with_quote}
 use Rattle.mk_market.specs.Refused.{IsUser, IsQuestionFor}
-use Rattle.mk_market.specs.Trading.{Trading, IsAnswered}
+use Rattle.mk_market.specs.Trading.{Trading, IsAnswered, reply_of}
 use Rattle.mk_market.specs.inner.Keeping.{quoted, standing_of, IsKeptQuote, IsKept}
 use Rattle.mk_market.specs.inner.Quoting.{OwnsAt, IsQuoteOf}
-use Rattle.mk_market.proofs.Growing.{is_open}
+use Rattle.mk_market.proofs.Accounted.{accounts_kept}
+use Rattle.mk_market.proofs.Appends.{not_there, not_found}
+use Rattle.mk_market.proofs.Growing.{is_open, kept_grown}
+use Rattle.mk_market.proofs.Replies.{answer_allowed, refusal_allowed, none_appended}
 use Rattle.mk_market.proofs.Lent.{in_range, read_set, names_beside, assets_beside, quotes_set}
 
--- a command that is not refused has the replies that answer it
-pub unrefused : (market : Market) (H : List Entry) (quotes : rules.Quotes) (command : Command) (reply : Reply) → None ≡ first_refusal market H command
-    → IsAnswer market H quotes command reply → IsAllowed market H quotes command reply
-unrefused market H quotes command reply none answer = subst (λ (o : Option _). MatchOption o (IsAnswer market H quotes command reply) (λ why. reply ≡ Refused why)) none answer
+-- ---- a refusal
+
+-- an edit that a refusal of the table meets leaves the standing
+refused_answered : (old : Trading) (name : List ℕ) (q : QuestionText) (X : ℕ) (seen : Option ℕ) (why : Refusal)
+    → Some why ≡ first_refusal old.market old.standing.history (Edit name q X seen) → IsAnswered old old (Edit name q X seen) (Refused why)
+refused_answered old name q X seen why e = record {
+  same_market = refl;
+  allowed = refusal_allowed old.market old.standing (Edit name q X seen) why e;
+  next = none_appended old.market old.standing (Edit name q X seen) (Refused why) refl
+      (edit_refused old.market old.standing.history old.standing.quotes name q X seen why (sym e));
+}
+
+pub edit_refused_answered : (old known : Trading) → known ≡ old → (name : List ℕ) (q : QuestionText) (X : ℕ) (seen : Option ℕ) (why : Refusal) (result : Result Reply Refusal)
+    → IsErrAnd result (λ e. e ≡ why) → Some why ≡ first_refusal known.market known.standing.history (Edit name q X seen)
+    → IsAnswered old old (Edit name q X seen) (reply_of result)
+edit_refused_answered old known same name q X seen why (Ok reply) e refusal = absurd e
+edit_refused_answered old known same name q X seen why (Err found) e refusal =
+    subst (λ (w : Refusal). IsAnswered old old (Edit name q X seen) (Refused w)) (sym e)
+    (subst (λ (t : Trading). IsAnswered t t (Edit name q X seen) (Refused why)) same (refused_answered known name q X seen why refusal))
 
 -- ---- a quote
 
@@ -147,6 +166,25 @@ judged_by members user asked now quote last Afresh By afresh by =
     at None h = afresh
     at (Some limits) h = subst By (sym h) by
 
+-- an edit that no refusal of the table meets is answered as the quote judges it
+module _ {A Plan : Type 0} (file : MarketFile) (journal : JournalOf) (members : List (Member A Plan)) (name : List ℕ) (user : ℕ) (is_user : IsUser journal.history name user)
+    (q : QuestionText) (asked : Asked) (is_question : IsQuestionFor (market_of file) file.tree journal.history q asked) (quote : Quote)
+    (last : (held : Quote) → slice_get (quotes_of members) user ≡ Some (Some held) → IsFor held asked (revision journal.history) → quote ≡ held) where
+  pub edit_allowed : (X : ℕ) (seen : Option ℕ) (reply : Reply) → None ≡ first_refusal (market_of file) journal.history (Edit name q X seen)
+      → IsJudgedAfresh file.net journal.history user asked X reply → IsJudged file.net journal.history user asked X (limits_of quote) reply
+      → IsAllowedFor (market_of file) (standing_of journal members) (OfCommand (Edit name q X seen)) reply
+  edit_allowed X seen reply none afresh by =
+      let H = journal.history in
+      let quotes : rules.Quotes = map (option_map quoted) (quotes_of members) in
+      answer_allowed (market_of file) (standing_of journal members) (Edit name q X seen) reply none
+      (subst (λ (o : Option Asked). IsSomeAnd o (λ asked. MatchOption (rules.current_limits (rules.last_quote quotes (user_number H name)) asked (revision H))
+      (IsJudgedAfresh file.net H (user_number H name) asked X reply) (λ limits. IsJudged file.net H (user_number H name) asked X limits reply)))
+      (sym is_question.named)
+      (subst (λ (n : ℕ). MatchOption (rules.current_limits (rules.last_quote quotes n) asked (revision H))
+      (IsJudgedAfresh file.net H n asked X reply) (λ limits. IsJudged file.net H n asked X limits reply))
+      is_user.number
+      (judged_by members user asked (revision H) quote last (IsJudgedAfresh file.net H user asked X reply) (λ limits. IsJudged file.net H user asked X limits reply) afresh by)))
+
 -- ---- the market
 
 -- a market as its callers see it
@@ -220,8 +258,96 @@ module _ {P A Plan : Type 0} (weights_stand : P → Meaning → Type 0) (gains_s
       subst (IsAnswered (trading file journal members) (trading file journal new_members) (Limits name q)) (sym printed)
       (record {
         same_market = refl;
-        allowed = unrefused (market_of file) journal.history (standing_of journal members).quotes (Limits name q) reply none
+        allowed = answer_allowed (market_of file) (standing_of journal members) (Limits name q) reply none
             (subst (λ (o : Option Asked). IsSomeAnd o (λ a. IsLimits file.net journal.history (user_number journal.history name) a reply)) (sym is_question.named)
             (record { limits = limits_of quote; printed = refl; right = right_for_user (subst (AreRightFor (bounds_of quote)) its right) }));
         next = next_quoted;
       })
+
+  -- an edit that is outside of the quote's limits
+  pub beyond_answered : (X : ℕ) (seen : Option ℕ) (limits : Option (ℕ × ℕ)) → None ≡ first_refusal (market_of file) journal.history (Edit name q X seen)
+      → limits ≡ limits_of quote → AreRightFor (bounds_of quote) limits → ¬ Inside (limits_of quote) X
+      → ((held : Quote) → slice_get (quotes_of members) user ≡ Some (Some held) → IsFor held asked (revision journal.history) → quote ≡ held)
+      → IsAnswered (trading file journal members) (trading file journal new_members) (Edit name q X seen) (Refused (Beyond limits))
+  beyond_answered X seen limits none its right outside last =
+      let reply = Refused (Beyond (limits_of quote)) in
+      let printed : Refused (Beyond limits) ≡ reply = ap (λ (l : Option (ℕ × ℕ)). Refused (Beyond l)) its in
+      let beyond : IsBeyond (limits_of quote) X reply = record { outside = outside; printed = refl } in
+      subst (IsAnswered (trading file journal members) (trading file journal new_members) (Edit name q X seen)) (sym printed)
+      (record {
+        same_market = refl;
+        allowed = edit_allowed file journal members name user is_user q asked is_question quote last X seen reply none
+            (inr (record {
+              limits = limits_of quote;
+              right = right_limits file.net file.tree journal.history user asked quote is open_for (limits_of quote) (subst (AreRightFor (bounds_of quote)) its right);
+              beyond = beyond;
+            }))
+            (inr beyond);
+        next = next_quoted;
+      })
+
+-- ---- a trade
+
+module _ {P A Plan : Type 0} (weights_stand : P → Meaning → Type 0) (gains_stand : A → Meaning → Type 0) (plan_for : Plan → List Variable → GivenTree → Type 0)
+    (file : MarketFile) (prices : P) (plan : Plan) (members : List (Member A Plan)) (accounts : List Account) (journal : JournalOf)
+    (payments : Option (List Payment)) (kept : IsKept weights_stand gains_stand plan_for file prices plan members accounts journal payments)
+    (name : List ℕ) (user : ℕ) (is_user : IsUser journal.history name user) (q : QuestionText) (asked : Asked)
+    (is_question : IsQuestionFor (market_of file) file.tree journal.history q asked)
+    (quote : Quote) (is : IsQuoteOf file.net file.tree journal.history user asked quote) (X hit miss : ℕ) (fair : AreFairAndSolvent (bounds_of quote) X hit miss) where
+  opened : IsOpen file.net file.tree journal.history
+  opened = is_open weights_stand gains_stand plan_for file prices plan members accounts journal payments kept
+
+  pair : IsFairPair file.net journal.history user asked X hit miss
+  pair = fair_pair file.net file.tree journal.history user asked quote is opened X hit miss fair
+
+  -- both numbers are units
+  pub hit_units : IsUnits hit
+  hit_units = record { positive = pair.hit_units.fair.positive; fits = pair.hit_units.fair.fits }
+
+  pub miss_units : IsUnits miss
+  miss_units = record { positive = pair.miss_units.fair.positive; fits = pair.miss_units.fair.fits }
+
+  module _ (seen : Option ℕ) (none : None ≡ first_refusal (market_of file) journal.history (Edit name q X seen)) (inside : Inside (limits_of quote) X)
+      (last : (held : Quote) → slice_get (quotes_of members) user ≡ Some (Some held) → IsFor held asked (revision journal.history) → quote ≡ held)
+      (new_members : List (Member A Plan)) (new_journal : JournalOf)
+      (history : new_journal.history ≡ journal.history ++ Trade user (ratio_in file.net asked hit miss) ∷ []) (same_quotes : quotes_of new_members ≡ quotes_of members)
+      (at : ℕ) (now : at ≡ revision new_journal.history) where
+    trade_allowed : IsAllowedFor (market_of file) (standing_of journal members) (OfCommand (Edit name q X seen)) (Traded hit miss at)
+    trade_allowed =
+        let later : at ≡ revision journal.history + 1
+        = now ∙ ap (λ (H : List Entry). length H) history ∙ length_push journal.history (Trade user (ratio_in file.net asked hit miss)) in
+        let trade : IsTrade file.net journal.history user asked X (Traded hit miss at)
+        = record { hit = hit; miss = miss; printed = ap (λ (n : ℕ). Traded hit miss n) later; fair = pair } in
+        edit_allowed file journal members name user is_user q asked is_question quote last X seen (Traded hit miss at) none (inl trade) (inl (inside, trade))
+
+    trade_next : standing_of new_journal new_members ≡ after (market_of file) (standing_of journal members) (OfCommand (Edit name q X seen)) (Traded hit miss at)
+    trade_next =
+        ap₂ (λ (H : List Entry) (qs : List (Option Quote)). record { history = H; quotes = map (option_map quoted) qs })
+        (history
+        ∙ ap (λ (o : Option Asked). journal.history ++ option_to_list (option_map (λ (a : Asked). Trade user (ratio_in file.net a hit miss)) o)) (sym is_question.named)
+        ∙ ap (λ (n : ℕ). journal.history ++ option_to_list (option_map (λ (a : Asked). Trade n (ratio_in file.net a hit miss)) (question_named file.net q))) is_user.number)
+        same_quotes
+
+    pub trade_answered : IsAnswered (trading file journal members) (trading file new_journal new_members) (Edit name q X seen) (Traded hit miss at)
+    trade_answered = record { same_market = refl; allowed = trade_allowed; next = trade_next }
+
+    pub trade_kept : (new_prices : P) → new_journal.max_trades ≡ journal.max_trades
+        → ((m : Meaning) → weights_stand prices m → weights_stand new_prices (with_factor (RatioOf (ratio_in file.net asked hit miss)) m))
+        → names_of new_members ≡ names_of members
+        → ((u : ℕ) → OwnsAt gains_stand new_members u (holding_of file.net file.tree (journal.history ++ Trade user (ratio_in file.net asked hit miss) ∷ []) u))
+        → IsKept weights_stand gains_stand plan_for file new_prices plan new_members accounts new_journal payments
+    trade_kept new_prices limit grown names owned =
+        let e : Entry = Trade user (ratio_in file.net asked hit miss) in
+        let H = journal.history in
+        kept_grown weights_stand gains_stand plan_for file prices new_prices plan members new_members accounts accounts journal new_journal payments payments
+        e (Edit name q X seen) (Traded hit miss at) tt kept trade_allowed trade_next
+        (record {
+          history = history;
+          limit = limit;
+          prices_grown = grown;
+          names = names ∙ kept.named ∙ sym (not_found H (Trade user (ratio_in file.net asked hit miss)) join_in refl);
+          owned = owned;
+          none_quoted = λ u quote at. subst (λ (qs : List (Option Quote)). slice_get qs u ≡ Some (Some quote)) same_quotes at;
+          accounts = accounts_kept file.points_per_bit H (Trade user (ratio_in file.net asked hit miss)) accounts refl (λ u. (refl, refl)) kept.accounts_kept;
+          room = λ unsettled. kept.room (sym (not_there H (Trade user (ratio_in file.net asked hit miss)) is_settlement refl) ∙ unsettled);
+        })

@@ -115,7 +115,7 @@ module _ (network : List Variable) (tree : GivenTree) (H : List Entry) (user : �
   trader_holding =
       holding_grows network tree H (Trade user ratio) user
       ∙ rw (eq-eqb user user refl) (
-        ap₂ (λ (d w : ℕ). record { meaning = with_factor (RatioOf ratio) (gains_of network tree H user); deposited = d; withdrawn = w }) (add-zero (deposited H user)) (add-zero (withdrawn H user))
+      ap₂ (λ (d w : ℕ). record { meaning = with_factor (RatioOf ratio) (gains_of network tree H user); deposited = d; withdrawn = w }) (add-zero (deposited H user)) (add-zero (withdrawn H user))
       )
 
   pub others_holding : (u : ℕ) → (u ≡ user → ⊥) → holding_of network tree (H ++ Trade user ratio ∷ []) u ≡ holding_of network tree H u

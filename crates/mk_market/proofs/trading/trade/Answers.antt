@@ -29,7 +29,7 @@ pub multiply-requires-clause-fits : goal.multiply-requires-clause-fits
 multiply-requires-clause-fits g c =
     let a = c.requires in let net = c.args.file.now.net in let tree = c.args.file.now.tree in let H = c.args.journal.now.history in let asked = c.args.asked.now in
     let same = c.of_question-ratio.ensures
-        ∙ ap (λ n. question_ratio asked n (c.args.units.0) (c.args.units.1)) (c.values-values.ensures ∙ ap (λ (p : Pair). slice_index (sizes net) p.variable) c.target.ensures) in
+    ∙ ap (λ n. question_ratio asked n (c.args.units.0) (c.args.units.1)) (c.values-values.ensures ∙ ap (λ (p : Pair). slice_index (sizes net) p.variable) c.target.ensures) in
     subst (λ (r : TradeRatio). g.P.Engine.fitting c.args.prices.now (ratio_pairs r) ≡ true) (sym same)
     (g.met.P.Engine.home_fits c.args.prices.now (weights_of net tree H) (ratio_pairs (ratio_in net asked (c.args.units.0) (c.args.units.1))) a.in_use.weights
     (home_of_ratio net tree H a.in_use.is_open asked a.answered (c.args.units.0) (c.args.units.1) a.hit a.miss))
@@ -38,7 +38,7 @@ pub multiply-requires-clause-range : goal.multiply-requires-clause-range
 multiply-requires-clause-range g c =
     let a = c.requires in let net = c.args.file.now.net in let tree = c.args.file.now.tree in let H = c.args.journal.now.history in let asked = c.args.asked.now in
     let same = c.of_question-ratio.ensures
-        ∙ ap (λ n. question_ratio asked n (c.args.units.0) (c.args.units.1)) (c.values-values.ensures ∙ ap (λ (p : Pair). slice_index (sizes net) p.variable) c.target.ensures) in
+    ∙ ap (λ n. question_ratio asked n (c.args.units.0) (c.args.units.1)) (c.values-values.ensures ∙ ap (λ (p : Pair). slice_index (sizes net) p.variable) c.target.ensures) in
     subst (λ (r : TradeRatio). CanMultiply g.P.Engine.stands_for c.args.prices.now r) (sym same)
     (can_multiply net tree H a.in_use.is_open asked a.answered (c.args.units.0) (c.args.units.1) a.hit a.miss c.args.user (omega (arith, a.room, a.few)) g.P.Engine.stands_for c.args.prices.now
     a.in_use.weights)
@@ -47,7 +47,7 @@ pub trade-requires-clause-fits : goal.trade-requires-clause-fits
 trade-requires-clause-fits g c =
     let a = c.requires in let net = c.args.file.now.net in let tree = c.args.file.now.tree in let H = c.args.journal.now.history in let asked = c.args.asked.now in
     let same = c.of_question-ratio.ensures
-        ∙ ap (λ n. question_ratio asked n (c.args.units.0) (c.args.units.1)) (c.values-values.ensures ∙ ap (λ (p : Pair). slice_index (sizes net) p.variable) c.target.ensures) in
+    ∙ ap (λ n. question_ratio asked n (c.args.units.0) (c.args.units.1)) (c.values-values.ensures ∙ ap (λ (p : Pair). slice_index (sizes net) p.variable) c.target.ensures) in
     subst (λ (r : TradeRatio). g.A.Engine.fitting c.assets.result.now.engine (ratio_pairs r) ≡ true) (sym same)
     (g.met.A.Engine.home_fits c.assets.result.now.engine (gains_of net tree H c.args.user) (ratio_pairs (ratio_in net asked (c.args.units.0) (c.args.units.1)))
     (a.in_use.owns c.args.user c.assets.result.now c.assets.ensures.value).stands
@@ -57,7 +57,7 @@ pub trade-requires-clause-range : goal.trade-requires-clause-range
 trade-requires-clause-range g c =
     let a = c.requires in let net = c.args.file.now.net in let tree = c.args.file.now.tree in let H = c.args.journal.now.history in let asked = c.args.asked.now in
     let same = c.of_question-ratio.ensures
-        ∙ ap (λ n. question_ratio asked n (c.args.units.0) (c.args.units.1)) (c.values-values.ensures ∙ ap (λ (p : Pair). slice_index (sizes net) p.variable) c.target.ensures) in
+    ∙ ap (λ n. question_ratio asked n (c.args.units.0) (c.args.units.1)) (c.values-values.ensures ∙ ap (λ (p : Pair). slice_index (sizes net) p.variable) c.target.ensures) in
     subst (λ (r : TradeRatio). CanTrade g.A.Engine.stands_for c.assets.result.now r) (sym same)
     (can_trade net tree H a.in_use.is_open asked a.answered (c.args.units.0) (c.args.units.1) a.hit a.miss c.args.user (omega (arith, a.room, a.few)) g.A.Engine.stands_for c.assets.result.now
     (a.in_use.owns c.args.user c.assets.result.now c.assets.ensures.value))
@@ -67,7 +67,7 @@ returns-clause-assets g c =
     let a = c.requires in let net = c.args.file.now.net in let tree = c.args.file.now.tree in let H = c.args.journal.now.history in let asked = c.args.asked.now in
     let ratio = ratio_in net asked (c.args.units.0) (c.args.units.1) in
     let same = c.of_question-ratio.ensures
-        ∙ ap (λ n. question_ratio asked n (c.args.units.0) (c.args.units.1)) (c.values-values.ensures ∙ ap (λ (p : Pair). slice_index (sizes net) p.variable) c.target.ensures) in
+    ∙ ap (λ n. question_ratio asked n (c.args.units.0) (c.args.units.1)) (c.values-values.ensures ∙ ap (λ (p : Pair). slice_index (sizes net) p.variable) c.target.ensures) in
     owned_one net tree H g.A.Engine.stands_for c.args.users.now c.args.user c.assets.result.now c.trade.new.self (Trade c.args.user ratio) c.assets.ensures.value a.in_use.owns
     (subst (Owns g.A.Engine.stands_for c.trade.new.self) (sym (trader_holding net tree H c.args.user ratio))
     (subst (λ (r : TradeRatio). Owns g.A.Engine.stands_for c.trade.new.self (with_trade r (holding_of net tree H c.args.user))) same
