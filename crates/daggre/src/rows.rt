@@ -167,7 +167,7 @@ const LATE_PARENT: &[&str] = &[
 ];
 
 /// Markets that are served.
-pub const SERVED: [Row; 12] = [
+pub const SERVED: [Row; 14] = [
     Row {
         market: COIN,
         commands: "",
@@ -236,8 +236,20 @@ pub const SERVED: [Row; 12] = [
     },
     Row {
         market: CHAIN,
-        commands: "price c=up | b=up, c=down\nprice c=up|b=up\nuser alice\n",
+        commands: "price c=up | b=up, c=down\nprice c=up|b=up\nsettle\n",
         output: "ready 3 100\nrefused twice c\nrefused syntax\nrefused syntax\n",
+        status: Status::Done,
+    },
+    Row {
+        market: COIN,
+        commands: "user alice\nworst alice\ndeposit alice 1\nworst alice\nworst bob\nprice coin=heads\n",
+        output: "ready 1 100\nuser alice at 1\nworst 0..0\ndeposit alice 1 at 2\nworst 100..100\nrefused user bob\nprice 0.5000000000..0.5000000000\n",
+        status: Status::Done,
+    },
+    Row {
+        market: COIN,
+        commands: "user alice\ndeposit alice 1\ndeposit alice 1001\nuser alice\ndeposit alice 0\ndeposit bob 1\nuser bob\ndeposit bob 1000\nworst bob\nworst alice\n",
+        output: "ready 1 100\nuser alice at 1\ndeposit alice 1 at 2\nrefused range 1001\nrefused exists alice\nrefused range 0\nrefused user bob\nuser bob at 3\ndeposit bob 1000 at 4\nworst 100000..100000\nworst 100..100\n",
         status: Status::Done,
     },
 ];

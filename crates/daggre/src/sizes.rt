@@ -1,4 +1,4 @@
-//! Market files of many parents, variables and cliques.
+//! Market files of many parents, variables and cliques, and commands of many users.
 
 use std::alloc::{AllocError, Global};
 
@@ -91,4 +91,18 @@ pub fn many_cliques(alloc: Global) -> Result<String, AllocError> {
     put_chain(alloc, &mut text, &[0; 256])?;
     put_coin(alloc, &mut text, 0, 0, 1)?;
     Ok(text)
+}
+
+/// As many users as a market holds, and one more; and what they are answered in a market of one variable.
+pub fn many_users(alloc: Global) -> Result<(String, String), AllocError> {
+    let mut commands = String::new(alloc);
+    let mut output = String::new(alloc);
+    output.push_str("ready 1 100\n")?;
+    for number in 1..257 {
+        commands.push_str(format!(in alloc; "user u{number}\n")?.as_str())?;
+        output.push_str(format!(in alloc; "user u{number} at {number}\n")?.as_str())?;
+    }
+    commands.push_str("user u257\nworst u256\n")?;
+    output.push_str("refused users 256\nworst 0..0\n")?;
+    Ok((commands, output))
 }

@@ -4,7 +4,7 @@ ghost use Rattle.std.specs.Prelude.{◌≤◌};
 
 use crate::program::program;
 use crate::rows::{COIN, REFUSED, Row, SERVED};
-use crate::sizes::{many_cliques, many_parents, many_variables};
+use crate::sizes::{many_cliques, many_parents, many_users, many_variables};
 use mk_io::{MemoryInputs, MemorySink, NamedFile, Status};
 use std::alloc::{AllocError, Global};
 use std::process::Abort;
@@ -45,7 +45,7 @@ fn run(
     })?;
     let (reads, writes) = failing;
     let mut inputs = MemoryInputs::new(files, commands.to_vec(alloc)?, piece, reads.to_vec(alloc)?);
-    let mut out = MemorySink::new(vec![in alloc; 0u8; 256]?, piece, writes.to_vec(alloc)?);
+    let mut out = MemorySink::new(vec![in alloc; 0u8; 8192]?, piece, writes.to_vec(alloc)?);
     let status = program(alloc, words, &mut inputs, &mut out);
     Ok(Ended {
         out,
@@ -163,6 +163,24 @@ fn large_markets(rt: HostRuntime) -> Result<(), Fail> {
         assert!(rt; ended.out.written() == output.as_bytes());
         assert!(rt; ended.status == status);
     }
+    Ok(())
+}
+
+#[test]
+fn crowded_market(rt: HostRuntime) -> Result<(), Fail> {
+    let alloc = rt.alloc();
+    let market = text_of(alloc, COIN)?;
+    let (commands, output) = many_users(alloc)?;
+    let ended = run(
+        alloc,
+        &["run", "m.toml"],
+        &market,
+        commands.as_bytes(),
+        4096,
+        (&[], &[]),
+    )?;
+    assert!(rt; ended.out.written() == output.as_bytes());
+    assert!(rt; ended.status == Status::Done);
     Ok(())
 }
 

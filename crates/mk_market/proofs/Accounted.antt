@@ -1,11 +1,11 @@
 -- The accounts of a market's users after one more entry.
-use Rattle.std.specs.Prelude.{◌≡◌, ℕ, ◌+◌, ◌*◌, ◌<◌, List, [], ◌∷◌, ◌++◌, length, Bool, true, false, ◌||◌, None, slice_set, slice_index_or, ◌⊎◌}
-use Rattle.std.specs.List.{AllByRecursion, list_any}
+use Rattle.std.specs.Prelude.{◌≡◌, ℕ, ◌+◌, ◌*◌, ◌<◌, List, [], ◌∷◌, ◌++◌, length, Bool, true, false, ◌||◌, None, slice_set, ◌⊎◌}
+use Rattle.std.specs.List.{AllByRecursion}
 use Rattle.std.proofs.Common.{inl, inr, refl, sym, ap, ◌∙◌, subst, arith, eq-eqb, ne_eqb}
 use Rattle.std.proofs.lemmas.Bool.{cases_eq}
 use Rattle.std.proofs.lemmas.List.{length_push, length-set, get_or-set_same, get_or-set_other, get_or_append_left, get_or_push}
 use Rattle.std.proofs.lemmas.List.Folds.{list_any-append}
-use Rattle.mk_exact.specs.History.{Entry, Join, Deposit, Withdraw, users, deposited, withdrawn, bits_in, bits_out, join_in, is_settlement, is_settled}
+use Rattle.mk_exact.specs.History.{Entry, Join, Deposit, users, deposited, withdrawn, bits_in, bits_out, join_in, is_settlement, is_settled}
 use Rattle.mk_exact.proofs.After.{deposited_more, withdrawn_more, users_kept, users_more}
 use Rattle.mk_rules.specs.Bounded.{FitsTransfer}
 use Rattle.mk_cash.specs.declared.ledger.Account.{Account}

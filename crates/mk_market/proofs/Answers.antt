@@ -1,9 +1,8 @@
 -- Prices, and what users are worth at least.
-use Rattle.std.specs.Prelude.{◌≡◌, ℕ, ◌^◌, ◌≤◌, List, [], map, Option, Some, None, option_map, slice_get, IsSomeAnd}
-use Rattle.std.proofs.Common.{refl, sym, ap, ◌∙◌, subst, arith}
+use Rattle.std.specs.Prelude.{◌≡◌, ℕ, ◌^◌, List, map, Option, Some, None, option_map, slice_get, IsSomeAnd}
+use Rattle.std.proofs.Common.{refl, sym, ap, ◌∙◌, subst}
 use Rattle.mk_net.specs.Network.{Variable}
 use Rattle.mk_net.specs.Asked.{Asked}
-use Rattle.mk_net.specs.Bounds.{max_points_per_bit}
 use Rattle.mk_net.specs.declared.words.QuestionText.{QuestionText}
 use Rattle.mk_exact.specs.Events.{always}
 use Rattle.mk_exact.specs.History.{Entry}
@@ -28,14 +27,14 @@ use Rattle.mk_quote.specs.declared.quote.Quote.{Quote}
 use Rattle.mk_command.specs.declared.command.Command.TheVariants.{Price, Worst}
 use Rattle.mk_reply.specs.declared.payments.Payment.{Payment}
 use Rattle.mk_reply.specs.declared.reply.Reply.TheVariants.{Price as Priced, Worst as Worsted}
-use Rattle.mk_rules.specs.Refusals.{first_refusal, user_number}
+use Rattle.mk_rules.specs.Refusals.{first_refusal}
 use Rattle.mk_rules.specs.Answers.{IsPrice, IsWorst}
-use Rattle.mk_rules.specs.Transcript.{Standing, OfCommand, IsAllowedFor, after}
+use Rattle.mk_rules.specs.Transcript.{OfCommand, IsAllowedFor, after}
 use Rattle.mk_answers.specs.Open.{IsOpen, CanBeAnswered, IsFactorFor, holding_of}
 use Rattle.mk_answers.specs.Calls.{CanPrice, CanFindWorst}
 use Rattle.mk_market.specs.declared.users.Member.{Member}
 use Rattle.mk_market.specs.Journals.{JournalOf}
-use Rattle.mk_market.specs.Members.{names_of, assets_of, quotes_of, with_assets}
+use Rattle.mk_market.specs.Members.{assets_of, with_assets}
 use Rattle.mk_market.specs.Refused.{IsUser, IsQuestionFor}
 use Rattle.mk_market.specs.inner.Keeping.{quoted, standing_of, IsKept}
 use Rattle.mk_market.proofs.Growing.{is_open, kept_still}

@@ -1,23 +1,18 @@
 -- A user joins.
-use Rattle.std.specs.Prelude.{◌≡◌, ℕ, ◌+◌, ◌<◌, List, [], ◌∷◌, ◌++◌, map, length, false, Option, Some, None, option_map, slice_get, OnErr, Result}
-use Rattle.std.specs.List.{list_any}
+use Rattle.std.specs.Prelude.{◌≡◌, ℕ, List, [], ◌∷◌, ◌++◌, map, length, Option, None, option_map}
 use Rattle.std.proofs.Common.{inr, refl, sym, ap, ap₂, ◌∙◌, subst, arith}
-use Rattle.std.proofs.lemmas.List.{length_push, length-map, map-append}
-use Rattle.std.proofs.lemmas.List.Elements.{All-from_recursion}
+use Rattle.std.proofs.lemmas.List.{length_push, map-append}
 use Rattle.mk_net.specs.declared.words.Pair.{Pair}
 use Rattle.mk_net.specs.Network.{Variable}
 use Rattle.mk_net.specs.Name.{IsName}
-use Rattle.mk_net.specs.Texts.{same_text}
-use Rattle.mk_net.specs.Bounds.{max_users}
 use Rattle.mk_exact.specs.History.{Entry, Join, users, resolutions, revision, is_settlement}
-use Rattle.mk_exact.specs.Proper.{IsPairOf}
 use Rattle.mk_exact.proofs.After.{users_more}
 use Rattle.mk_tree.specs.Given.{GivenTree}
 use Rattle.mk_file.specs.declared.opened.MarketFile.{MarketFile}
 use Rattle.mk_file.specs.MarketOf.{market_of}
 use Rattle.mk_engine.specs.Meaning.{Meaning}
 use Rattle.mk_assets.specs.declared.assets.Assets.{Assets}
-use Rattle.mk_assets.specs.Holdings.{Holding, Owns, CanStart, opening_holding}
+use Rattle.mk_assets.specs.Holdings.{Owns, opening_holding}
 use Rattle.mk_cash.specs.declared.ledger.Account.{Account}
 use Rattle.mk_cash.specs.Accounts.{empty_account}
 use Rattle.mk_command.specs.declared.command.Command.TheVariants.{User}
@@ -25,12 +20,11 @@ use Rattle.mk_reply.specs.declared.payments.Payment.{Payment}
 use Rattle.mk_reply.specs.declared.refusal.Refusal.TheVariants.{Memory}
 use Rattle.mk_reply.specs.declared.reply.Reply.TheVariants.{Joined, Refused}
 use Rattle.mk_rules.specs.Refusals.{first_refusal}
-use Rattle.mk_rules.specs.Quotes.{Quote, Quotes}
-use Rattle.mk_rules.specs.Transcript.{Standing, OfCommand, IsAllowedFor, after}
+use Rattle.mk_rules.specs.Quotes.{Quotes}
+use Rattle.mk_rules.specs.Transcript.{OfCommand, IsAllowedFor, after}
 use Rattle.mk_market.specs.declared.users.Member.{Member}
 use Rattle.mk_market.specs.Journals.{JournalOf}
-use Rattle.mk_market.specs.Members.{new_member, names_of, assets_of, quotes_of}
-use Rattle.mk_market.specs.Refused.{HasRoomForUser}
+use Rattle.mk_market.specs.Members.{new_member, names_of, quotes_of}
 use Rattle.mk_market.specs.Trading.{Trading, IsAnswered}
 use Rattle.mk_market.specs.inner.Keeping.{quoted, standing_of, IsKept}
 use Rattle.mk_market.proofs.Appends.{not_there}

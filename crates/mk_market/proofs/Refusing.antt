@@ -1,7 +1,7 @@
 -- What is refused, and what is known where nothing is.
-use Rattle.std.proofs.Common.{◌≡◌, ℕ, suc, zero, ◌+◌, ◌<◌, ◌≤◌, Bool, true, false, cond, not, ltb, ◌&&◌, ◌||◌, List, [], ◌∷◌, ◌++◌, length, drop, map, filter, slice_index_or, ◌⊎◌, inl, inr, Option, Some, None, IfSome, IfNone, is_none, refl, sym, ap, ap₂, subst, ◌∙◌, arith}
+use Rattle.std.proofs.Common.{◌≡◌, ℕ, suc, zero, ◌+◌, ◌<◌, ◌≤◌, Bool, true, false, cond, not, ltb, ◌&&◌, ◌||◌, List, [], ◌∷◌, ◌++◌, length, drop, map, filter, slice_index_or, ◌⊎◌, inl, inr, Option, Some, None, is_none, refl, sym, ap, ap₂, subst, ◌∙◌, arith}
 use Rattle.std.specs.Prelude.{◌==◌, ◌-◌, find, option_map, is_some, position, slice_get, Result, Ok, Err, IfOk, IsErrAnd, ⊤}
-use Rattle.std.specs.List.{list_any, list_all, filter_map, cons_option, position_or_len, enumerate_from, range_with_len, AllByRecursion}
+use Rattle.std.specs.List.{list_any, list_all, cons_option, position_or_len, enumerate_from, range_with_len, AllByRecursion}
 use Rattle.std.proofs.lemmas.Bool.{eqb-true, eq-eqb, cases_eq, cases_lt, lt-ltb, le-ltb, ltb-true, ltb-false}
 use Rattle.std.proofs.lemmas.List.Folds.{find_at}
 use Rattle.std.proofs.lemmas.Option.{slice_get_past, slice_get-get_or}
@@ -11,12 +11,12 @@ use Rattle.mk_net.specs.declared.words.QuestionText.{QuestionText}
 use Rattle.mk_net.specs.declared.sets.VarSet.{VarSet}
 use Rattle.mk_net.specs.Asked.{Asked}
 use Rattle.mk_net.specs.Bounds.{million}
-use Rattle.mk_net.specs.Events.{speaks_of, AreApart, IsQuestion, pairs_asked}
+use Rattle.mk_net.specs.Events.{IsQuestion, pairs_asked}
 use Rattle.mk_net.specs.Firsts.{fault_if, or_else, first_of}
 use Rattle.mk_net.specs.Network.{Variable}
-use Rattle.mk_net.specs.Named.{pair_named, variable_at, nobody}
+use Rattle.mk_net.specs.Named.{pair_named, variable_at}
 use Rattle.mk_net.specs.Sets.{is_member}
-use Rattle.mk_exact.specs.History.{Entry, resolutions}
+use Rattle.mk_exact.specs.History.{Entry}
 use Rattle.mk_exact.specs.Proper.{IsPairOf, IsQuestionOf}
 use Rattle.mk_tree.specs.Given.{GivenTree, home, holds_event}
 use Rattle.mk_tree.specs.Tests.{members}
@@ -24,7 +24,7 @@ use Rattle.mk_file.specs.declared.opened.MarketFile.{MarketFile}
 use Rattle.mk_file.specs.MarketOf.{market_of}
 use Rattle.mk_command.specs.declared.command.Command.TheVariants.{Edit}
 use Rattle.mk_reply.specs.declared.refusal.Refusal.{Refusal}
-use Rattle.mk_reply.specs.declared.refusal.Refusal.TheVariants.{Unknown, Twice, Wide, Unresolved, Impossible}
+use Rattle.mk_reply.specs.declared.refusal.Refusal.TheVariants.{Unknown, Wide, Unresolved, Impossible}
 use Rattle.mk_rules.specs.Refusals.{pairs_of, names_in, variables_in, known_pairs, question_named, is_resolved, contradicts, passes, is_wide, unknown, resolved, impossible, wide_question, unresolved, twice, settled, no_user, stale, range, trades_full, first_refusal}
 use Rattle.mk_rules.proofs.Unrefused.{not_mapped, question_known, target_named, not_resolved, condition_agrees}
 use Rattle.mk_market.specs.Refused.{refusal_in, IsQuestionFor}

@@ -39,12 +39,24 @@ impl<P: Engine<SumProd>, A: Engine<MinProd>> Model for Market<P, A> {
 }
 
 impl<P: Engine<SumProd>, A: Engine<MinProd>> Market<P, A> {
-    ghost use Rattle.std.specs.Prelude.{◌≡◌, IfOk};
-    ghost use Rattle.mk_tree.specs.Checked.{IsTreeOf};
+    ghost use Rattle.std.specs.Prelude.{◌≡◌, length};
     ghost use Rattle.mk_file.specs.MarketOf.{market_of};
-    ghost use Rattle.mk_rules.specs.Transcript.{opening};
     ghost use Rattle.mk_market.specs.Entries.{changes};
     ghost use Rattle.mk_market.specs.Points.{AreAccounts};
+
+    /// How many variables the market has.
+    pub fn variables(&self) -> u32
+        ensures { result ≡ length (self.now.market).network }
+    {
+        self.file.net.variables()
+    }
+
+    /// The points of one bit.
+    pub fn points_per_bit(&self) -> u32
+        ensures { result ≡ (self.now.market).points_per_bit }
+    {
+        self.file.points_per_bit
+    }
 
     /// The accepted changes, in order.
     pub fn history(&self) -> &[Entry]

@@ -16,7 +16,7 @@ use Rattle.mk_reply.specs.declared.reply.Reply.{Reply}
 use Rattle.mk_rules.specs.Transcript.{Standing, opening, Line, IsAllowedFor, after, Run}
 use Rattle.mk_rules.specs.Standings.{Stands}
 use Rattle.mk_rules.proofs.Keeps.{run_keeps, opening_stands}
-use Rattle.mk_session.specs.Rules.{is_served}
+use Rattle.mk_market.specs.Served.{is_served}
 use Rattle.mk_session.specs.Texts.{ready_line, reply_line}
 use Rattle.mk_session.specs.Transcript.{Asks, AreAnswered, Transcript}
 use Rattle.mk_session.specs.Outcome.{Adds}

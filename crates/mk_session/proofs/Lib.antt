@@ -1,12 +1,6 @@
-pub mod RowsWeighed
-pub mod SomeWeight
-pub mod PriceParts
-pub mod Prices
 pub mod Answering
 pub mod Underway
 pub mod Endings
 pub mod Going
 pub mod Serving
 pub mod Completing
-pub mod Questions
-pub mod Allowed

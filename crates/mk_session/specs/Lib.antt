@@ -1,5 +1,4 @@
 pub mod Texts
-pub mod Rules
 pub mod Transcript
 pub mod Outcome
 pub mod Complete

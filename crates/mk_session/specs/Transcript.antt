@@ -12,7 +12,7 @@ use Rattle.mk_reply.specs.declared.reply.Reply.{Reply}
 use Rattle.mk_rules.specs.Transcript.{Standing, opening, Line, OfCommand, NoCommand, LongLine, Run}
 use Rattle.mk_rules.specs.Standings.{Stands}
 use Rattle.mk_session.specs.Texts.{ready_line, reply_line}
-use Rattle.mk_session.specs.Rules.{is_served}
+use Rattle.mk_market.specs.Served.{is_served}
 
 -- what a line of the stream asks: a command that is served, the text of none, or nothing since it is too long
 abbrev pub Asks : StreamLine → Line → Type 0

@@ -7,16 +7,21 @@ ghost use Rattle.mk_io.specs.Stream.{text, long, max_stream_lines};
 ghost use Rattle.mk_io.specs.Cutting.{GoesOn};
 ghost use Rattle.mk_session.specs.Texts.{reply_line};
 ghost use Rattle.mk_rules.specs.Transcript.{opening};
-ghost use Rattle.mk_session.specs.Rules.{is_served};
 ghost use Rattle.mk_session.specs.Transcript.{AreAnswered};
 ghost use Rattle.mk_session.specs.Outcome.{Adds, HasCauses, CountsNone};
 ghost use Rattle.mk_session.specs.inner.Progress.{AreCutOff, IsSoFar, IsEnded};
 
-use crate::price::PriceMarket;
 use crate::print::{LineBuffer, print_reply_line};
-use mk_command::{Command, read_command};
+use mk_command::read_command;
 use mk_io::{Inputs, Lines, Next, Sink, SinkFailed, Status, write_all};
+use mk_joint::JointEngine;
+use mk_market::{Market, is_served};
 use mk_reply::{Refusal, Reply};
+use mk_semiring::{MinProd, SumProd};
+use std::alloc::Global;
+
+/// A market over engines with one cell for each joint state.
+pub type JointMarket = Market<JointEngine<SumProd>, JointEngine<MinProd>>;
 
 /// Whether a line holds no byte but spaces.
 fn is_blank(line: &[u8]) -> bool
@@ -25,15 +30,8 @@ fn is_blank(line: &[u8]) -> bool
     line.iter().all(|byte| *byte == b' ')
 }
 
-/// Whether a command is served.
-fn is_served(command: &Command) -> bool
-    ensures { result ≡ is_served command.now }
-{
-    matches!(command, Command::Price { .. })
-}
-
 /// The reply to a line that is not too long and not blank.
-fn reply_to(market: &mut PriceMarket, line: &[u8]) -> Reply
+fn reply_to(alloc: Global, market: &mut JointMarket, line: &[u8]) -> Reply
     requires { list_all (λ b. b == 32) line.now ≡ false }
     ensures market { market.new.market ≡ market.old.market }
     ensures answered { AreAnswered market.old.market market.old.standing (text line.now ∷ []) market.new.standing (reply_line result) }
@@ -42,7 +40,7 @@ fn reply_to(market: &mut PriceMarket, line: &[u8]) -> Reply
         Err(_) => not_served(),
         Ok(command) => {
             if is_served(&command) {
-                market.apply(&command)
+                market.apply(alloc, &command)
             } else {
                 not_served()
             }
@@ -71,7 +69,8 @@ fn say<S: Sink>(reply: &Reply, buffer: &mut LineBuffer, out: &mut S) -> Result<(
 
 /// Answers a line that is not too long: nothing is written for a blank one.
 fn answer_text<S: Sink>(
-    market: &mut PriceMarket,
+    alloc: Global,
+    market: &mut JointMarket,
     line: &[u8],
     buffer: &mut LineBuffer,
     out: &mut S,
@@ -86,13 +85,13 @@ fn answer_text<S: Sink>(
     if is_blank(line) {
         return Ok(());
     }
-    let reply = reply_to(market, line);
+    let reply = reply_to(alloc, market, line);
     say(&reply, buffer, out)
 }
 
 /// Answers a line that is too long.
 fn answer_long<S: Sink>(
-    market: &mut PriceMarket,
+    market: &mut JointMarket,
     buffer: &mut LineBuffer,
     out: &mut S,
 ) -> Result<(), SinkFailed>
@@ -109,7 +108,8 @@ fn answer_long<S: Sink>(
 
 /// Takes the next line of the stream and answers it. None where the run goes on; else how it ends.
 fn take_turn<I: Inputs, S: Sink>(
-    market: &mut PriceMarket,
+    alloc: Global,
+    market: &mut JointMarket,
     lines: &mut Lines,
     inputs: &mut I,
     buffer: &mut LineBuffer,
@@ -132,7 +132,7 @@ fn take_turn<I: Inputs, S: Sink>(
     ensures not_usage { IfSome result (λ status. status ≢ Status.Usage) }
 {
     match lines.next(inputs) {
-        Next::Line => end_after(answer_text(market, lines.line(), buffer, out)),
+        Next::Line => end_after(answer_text(alloc, market, lines.line(), buffer, out)),
         Next::Long => end_after(answer_long(market, buffer, out)),
         Next::End => Some(Status::Done),
         Next::ReadFault => Some(Status::ReadFault),
@@ -152,7 +152,8 @@ fn end_after(said: Result<(), SinkFailed>) -> Option<Status>
 
 /// Answers the commands to their end, or until reading or writing fails.
 pub fn answer_lines<I: Inputs, S: Sink>(
-    market: &mut PriceMarket,
+    alloc: Global,
+    market: &mut JointMarket,
     inputs: &mut I,
     buffer: &mut LineBuffer,
     out: &mut S,
@@ -165,7 +166,7 @@ pub fn answer_lines<I: Inputs, S: Sink>(
 {
     let mut lines = Lines::new();
     loop {
-        if let Some(status) = take_turn(market, &mut lines, inputs, buffer, out) {
+        if let Some(status) = take_turn(alloc, market, &mut lines, inputs, buffer, out) {
             return status;
         }
     }

@@ -2,9 +2,7 @@
 #![tactic(auto)]
 
 mod answer;
-mod price;
 mod print;
-mod question;
 mod run;
 
 pub use run::serve;

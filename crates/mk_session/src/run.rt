@@ -12,8 +12,7 @@ ghost use Rattle.mk_session.specs.Outcome.{Adds, Ends, Opened, Outcome, HasCause
 ghost use Rattle.mk_session.specs.Complete.{AreWithin};
 ghost use Rattle.mk_session.specs.inner.Loading.{opened_part, IsTaken, HasLoadCause};
 
-use crate::answer::answer_lines;
-use crate::price::PriceMarket;
+use crate::answer::{JointMarket, answer_lines};
 use crate::print::{LineBuffer, print_fault_line, print_ready};
 use mk_file::{FileFault, MarketFile, read_market};
 use mk_io::{InputFailed, Inputs, Sink, Status, write_all};
@@ -103,13 +102,13 @@ fn answer_file<I: Inputs, S: Sink>(
     ensures causes { HasCauses result (I.faults inputs.old) (I.faults inputs.new) (S.faults out.old) (S.faults out.new) }
     ensures not_usage { result ≢ Status.Usage }
 {
-    let mut market = match PriceMarket::start(alloc, file) {
+    let mut market = match JointMarket::start(alloc, file) {
         Ok(market) => market,
         Err(_) => return Status::Memory,
     };
     print_ready(market.variables(), market.points_per_bit(), line);
     match write_all(out, line.as_bytes()) {
-        Ok(()) => answer_lines(&mut market, inputs, line, out),
+        Ok(()) => answer_lines(alloc, &mut market, inputs, line, out),
         Err(_) => Status::WriteFault,
     }
 }

@@ -1,5 +1,5 @@
-use Rattle.std.proofs.Common.{sym, subst, arith}
-use Rattle.mk_market.proofs.Gathering.{IsGatheredTo, gathered_none, gathered_after, gathered_all}
+use Rattle.std.proofs.Common.{arith}
+use Rattle.mk_market.proofs.Gathering.{gathered_none, gathered_after, gathered_all}
 use Rattle.mk_market.proofs.asking.gather.Goals as goal
 
 pub loop-words-init : goal.loop-words-init

@@ -1,5 +1,5 @@
 use Rattle.std.proofs.Common.{Option, Some, None, ◌≡◌, ok_or}
-use Rattle.std.specs.Prelude.{IfSome, IfOk, Ok, Err, Result}
+use Rattle.std.specs.Prelude.{IfSome, IfOk, Result}
 use Rattle.mk_market.proofs.Gathering.{pair_of_network}
 use Rattle.mk_market.proofs.asking.known.Goals as goal
 

@@ -1,4 +1,4 @@
-use Rattle.std.proofs.Common.{◌≡◌, ℕ, [], Some, sym, ap, ◌∙◌}
+use Rattle.std.proofs.Common.{ℕ, [], Some, sym, ap, ◌∙◌}
 use Rattle.std.specs.Prelude.{option_map, slice_index_or}
 use Rattle.mk_net.specs.declared.words.PairText.{PairText}
 use Rattle.mk_reply.specs.declared.refusal.Refusal.TheVariants.{Impossible}

@@ -1,6 +1,6 @@
 use Rattle.std.proofs.Common.{ap, ◌∙◌}
 use Rattle.mk_file.specs.MarketOf.{market_of}
-use Rattle.mk_session.specs.inner.Trading.{Trading}
+use Rattle.mk_market.specs.Trading.{Trading}
 use Rattle.mk_session.proofs.Serving.{ready_is, served_when_ended, broken_at_ready}
 use Rattle.mk_session.proofs.run.answer_file.Goals as goal
 
