@@ -30,6 +30,13 @@ impl<P: Engine<SumProd>, A: Engine<MinProd>> Market<P, A> {
             Command::User { user } => self.user(alloc, user),
             Command::Deposit { user, bits } => self.deposit(user, *bits),
             Command::Price { question } => self.price(question),
+            Command::Limits { user, question } => self.limits(user, question),
+            Command::Edit {
+                user,
+                question,
+                to,
+                at,
+            } => self.edit(user, question, *to, *at),
             Command::Worst { user } => self.worst(user),
             _ => unreachable!(),
         }

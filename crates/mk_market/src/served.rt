@@ -14,6 +14,8 @@ pub fn is_served(command: &Command) -> bool
         Command::User { .. }
             | Command::Deposit { .. }
             | Command::Price { .. }
+            | Command::Limits { .. }
+            | Command::Edit { .. }
             | Command::Worst { .. }
     )
 }
