@@ -14,3 +14,4 @@ pub mod Joins
 pub mod Answers
 pub mod Openings
 pub mod Traded
+pub mod Withdrawals

@@ -16,6 +16,7 @@ mod served;
 mod trading;
 mod transfers;
 mod users;
+mod withdrawing;
 
 pub use asking::{ask, known};
 pub use entry::Entry;
