@@ -15,3 +15,5 @@ pub mod Answers
 pub mod Openings
 pub mod Traded
 pub mod Withdrawals
+pub mod Told
+pub mod Resolved

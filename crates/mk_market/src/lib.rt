@@ -12,6 +12,7 @@ mod opening;
 mod pricing;
 mod quoting;
 mod refusals;
+mod resolving;
 mod served;
 mod trading;
 mod transfers;

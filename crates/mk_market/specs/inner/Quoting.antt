@@ -2,12 +2,13 @@
 use Rattle.std.specs.Prelude.{◌≡◌, ℕ, List, Some, slice_get}
 use Rattle.mk_net.specs.Network.{Variable}
 use Rattle.mk_net.specs.Asked.{Asked}
+use Rattle.mk_net.specs.declared.words.Pair.{Pair}
 use Rattle.mk_exact.specs.History.{Entry, revision}
 use Rattle.mk_tree.specs.Given.{GivenTree}
 use Rattle.mk_engine.specs.Meaning.{Meaning}
 use Rattle.mk_beliefs.specs.Meanings.{weights_of}
 use Rattle.mk_assets.specs.declared.assets.Assets.{Assets}
-use Rattle.mk_assets.specs.Holdings.{Holding, Owns}
+use Rattle.mk_assets.specs.Holdings.{Holding, Owns, CanLearn}
 use Rattle.mk_quote.specs.declared.quote.Quote.{Quote}
 use Rattle.mk_quote.specs.Quotes.{question_of, revision_of}
 use Rattle.mk_answers.specs.Open.{IsOpen, holding_of}
@@ -31,3 +32,7 @@ pub record IsQuoteOf (network : List Variable) (tree : GivenTree) (H : List Entr
   pub question : question_of quote ≡ asked
   pub at_present : revision_of quote ≡ revision H
   pub current : IsCurrent network tree H u quote
+
+-- each user's assets can learn a pair
+abbrev pub CanBeTold : {A Plan : Type 0} → (A → Meaning → Type 0) → List (Member A Plan) → Pair → Type 0
+CanBeTold {A} {Plan} gains_stand members pair = (u : ℕ) (assets : Assets A Plan) → slice_get (assets_of members) u ≡ Some assets → CanLearn gains_stand assets pair
