@@ -17,3 +17,5 @@ pub mod Traded
 pub mod Withdrawals
 pub mod Told
 pub mod Resolved
+pub mod Paid
+pub mod Settlement

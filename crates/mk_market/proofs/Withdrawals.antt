@@ -63,7 +63,7 @@ module _ {P A Plan : Type 0} (weights_stand : P → Meaning → Type 0) (gains_s
 
     module _ (factor : Factor) (most : ℕ) (none : None ≡ first_refusal (market_of file) journal.history (Withdraw name bits))
         (found : (network : List Variable) (tree : GivenTree) (H : List Entry) (u g : ℕ) → Owns gains_stand before (holding_of network tree H u) → IsOpen network tree H
-            → least_gain network H u always ≡ Some g → IsFactorFor factor (IsSmall network H) (factor_with H u g)) where
+        → least_gain network H u always ≡ Some g → IsFactorFor factor (IsSmall network H) (factor_with H u g)) where
       has_least : HasLeast file.net journal.history user
       has_least = least_gain_exists file.net journal.history user kept.legal kept.ready.stands.proper kept.ready.stands.sound
 

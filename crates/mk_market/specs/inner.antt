@@ -4,3 +4,4 @@ pub mod Enrolled
 pub mod Keeping
 pub mod Gathered
 pub mod Quoting
+pub mod Paying

@@ -14,6 +14,7 @@ mod quoting;
 mod refusals;
 mod resolving;
 mod served;
+mod settling;
 mod trading;
 mod transfers;
 mod users;

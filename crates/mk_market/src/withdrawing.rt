@@ -23,7 +23,8 @@ impl<P: Engine<SumProd>, A: Engine<MinProd>> Market<P, A> {
             return Err(Refusal::Short { bits: most });
         }
         assets.withdraw(bits);
-        self.ledger.withdraw(user, self.file.points_per_bit as u64 * bits as u64);
+        self.ledger
+            .withdraw(user, self.file.points_per_bit as u64 * bits as u64);
         self.journal.withdraw(user, bits);
         Ok(Reply::Withdrawn {
             user: *name,
