@@ -19,3 +19,4 @@ pub mod Told
 pub mod Resolved
 pub mod Paid
 pub mod Settlement
+pub mod NamesKept

@@ -30,3 +30,10 @@ pub use refusals::{
 };
 pub use served::is_served;
 pub use users::{Member, Users};
+
+#[cfg(test)]
+mod market_tests;
+#[cfg(test)]
+mod refusal_tests;
+#[cfg(test)]
+mod tests;
