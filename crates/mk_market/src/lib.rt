@@ -13,7 +13,6 @@ mod pricing;
 mod quoting;
 mod refusals;
 mod resolving;
-mod served;
 mod settling;
 mod trading;
 mod transfers;
@@ -28,7 +27,6 @@ pub use refusals::{
     refuse_edit, refuse_limits, refuse_price, refuse_resolve, refuse_settle, refuse_transfer,
     refuse_user, refuse_worst,
 };
-pub use served::is_served;
 pub use users::{Member, Users};
 
 #[cfg(test)]
