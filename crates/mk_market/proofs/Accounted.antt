@@ -5,7 +5,7 @@ use Rattle.std.proofs.Common.{inl, inr, refl, sym, ap, ◌∙◌, subst, arith, 
 use Rattle.std.proofs.lemmas.Bool.{cases_eq}
 use Rattle.std.proofs.lemmas.List.{length_push, length-set, get_or-set_same, get_or-set_other, get_or_append_left, get_or_push}
 use Rattle.std.proofs.lemmas.List.Folds.{list_any-append}
-use Rattle.mk_exact.specs.History.{Entry, Join, Deposit, users, deposited, withdrawn, bits_in, bits_out, join_in, is_settlement, is_settled}
+use Rattle.mk_exact.specs.History.{Entry, Join, Deposit, Withdraw, users, deposited, withdrawn, bits_in, bits_out, join_in, is_settlement, is_settled}
 use Rattle.mk_exact.proofs.After.{deposited_more, withdrawn_more, users_kept, users_more}
 use Rattle.mk_rules.specs.Bounded.{FitsTransfer}
 use Rattle.mk_cash.specs.declared.ledger.Account.{Account}
@@ -80,6 +80,32 @@ module _ (b : ℕ) (H : List Entry) where
         paid_in = rw (deposits, account.paid_in, worth) (omega arith);
         taken_out = account.taken_out ∙ ap (λ (n : ℕ). b * n) withdrawals;
         unpaid = λ h. account.unpaid (settled_before H (Deposit user bits) h);
+      }
+
+  -- or taken out
+  pub accounts_withdrawn : (accounts : List Account) (user bits points : ℕ) → user < length (users H) → points ≡ b * bits → AreAccounts b H accounts
+      → AreAccounts b (H ++ Withdraw user bits ∷ []) (slice_set accounts user (let before = account_of accounts user in record before { withdrawn = before.withdrawn + points }))
+  accounts_withdrawn accounts user bits points within worth old =
+      accounts_set (Withdraw user bits) accounts user (let before = account_of accounts user in record before { withdrawn = before.withdrawn + points }) refl within
+      (λ u other. (refl, rw (ne_eqb user u (λ same. other (sym same))) refl)) own old
+    where
+      account : IsAccount b H user (account_of accounts user)
+      account = old.each user (omega (arith, within, old.one_each))
+
+      outs : bits_out user (Withdraw user bits) ≡ bits
+      outs = rw (eq-eqb user user refl) refl
+
+      withdrawals : withdrawn (H ++ Withdraw user bits ∷ []) user ≡ withdrawn H user + bits
+      withdrawals = withdrawn_more H (Withdraw user bits) user ∙ ap (λ (n : ℕ). withdrawn H user + n) outs
+
+      deposits : deposited H user ≡ deposited (H ++ Withdraw user bits ∷ []) user
+      deposits = omega (arith, deposited_more H (Withdraw user bits) user)
+
+      own : IsAccount b (H ++ Withdraw user bits ∷ []) user (let before = account_of accounts user in record before { withdrawn = before.withdrawn + points })
+      own = record {
+        paid_in = account.paid_in ∙ ap (λ (n : ℕ). b * n) deposits;
+        taken_out = rw (withdrawals, account.taken_out, worth) (omega arith);
+        unpaid = λ h. account.unpaid (settled_before H (Withdraw user bits) h);
       }
 
   -- a user joins

@@ -5,6 +5,8 @@ pub mod Gathering
 pub mod Refusing
 pub mod NamesKept
 pub mod Growing
+pub mod Lent
+pub mod Edited
 pub mod Owned
 pub mod Accounted
 pub mod Replies
@@ -12,3 +14,9 @@ pub mod Deposits
 pub mod Joins
 pub mod Answers
 pub mod Openings
+pub mod Traded
+pub mod Withdrawals
+pub mod Told
+pub mod Resolved
+pub mod Paid
+pub mod Settlement

@@ -15,7 +15,7 @@ use Rattle.mk_engine.specs.Meaning.{Meaning}
 use Rattle.mk_beliefs.specs.Meanings.{gains_of, grown_for}
 use Rattle.mk_beliefs.proofs.Grown.{gains_grow, newcomer_has_none}
 use Rattle.mk_assets.specs.declared.assets.Assets.{Assets}
-use Rattle.mk_assets.specs.Holdings.{Holding, Owns, opening_holding, with_deposit}
+use Rattle.mk_assets.specs.Holdings.{Holding, Owns, opening_holding, with_deposit, with_withdrawal}
 use Rattle.mk_quote.specs.declared.quote.Quote.{Quote}
 use Rattle.mk_rules.specs.Bounded.{FitsTransfer}
 use Rattle.mk_rules.proofs.Bounds.{count_first}
@@ -140,6 +140,19 @@ module _ (network : List Variable) (tree : GivenTree) (H : List Entry) where
 
   pub deposit_others : (user bits u : ℕ) → (u ≡ user → ⊥) → holding_of network tree (H ++ Deposit user bits ∷ []) u ≡ holding_of network tree H u
   deposit_others user bits u other = holding_same (Deposit user bits) u refl (rw (ne_eqb user u (λ same. other (sym same))) refl) refl
+
+  -- or taken out
+  pub withdrawal_holding : (user bits : ℕ) → holding_of network tree (H ++ Withdraw user bits ∷ []) user ≡ with_withdrawal bits (holding_of network tree H user)
+  withdrawal_holding user bits =
+      let m = gains_of network tree H user in
+      let outs : bits_out user (Withdraw user bits) ≡ bits = rw (eq-eqb user user refl) refl in
+      let ins : deposited H user + bits_in user (Withdraw user bits) ≡ deposited H user = omega arith in
+      holding_grows (Withdraw user bits) user
+      ∙ ap (λ (n : ℕ). record { meaning = m; deposited = deposited H user + bits_in user (Withdraw user bits); withdrawn = withdrawn H user + n }) outs
+      ∙ ap (λ (d : ℕ). record { meaning = m; deposited = d; withdrawn = withdrawn H user + bits }) ins
+
+  pub withdrawal_others : (user bits u : ℕ) → (u ≡ user → ⊥) → holding_of network tree (H ++ Withdraw user bits ∷ []) u ≡ holding_of network tree H u
+  withdrawal_others user bits u other = holding_same (Withdraw user bits) u refl refl (rw (ne_eqb user u (λ same. other (sym same))) refl)
 
 -- a user who has not joined moved no bits, and nobody moved more than 1,000 at once
 module _ (n : ℕ) where

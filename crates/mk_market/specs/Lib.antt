@@ -5,5 +5,4 @@ pub mod Members
 pub mod Points
 pub mod Trading
 pub mod Refused
-pub mod Served
 pub mod inner

@@ -3,3 +3,5 @@ pub mod Counted
 pub mod Enrolled
 pub mod Keeping
 pub mod Gathered
+pub mod Quoting
+pub mod Paying

@@ -8,13 +8,10 @@ use mk_semiring::{MinProd, SumProd};
 use std::alloc::Global;
 
 impl<P: Engine<SumProd>, A: Engine<MinProd>> Market<P, A> {
-    ghost use Rattle.std.specs.Prelude.{◌≡◌, true};
-    ghost use Rattle.mk_market.specs.Served.{is_served};
     ghost use Rattle.mk_market.specs.Trading.{IsAnswered, reply_of};
 
     /// Answers a command. Only a user who joins takes memory, all of it before anything changes.
     pub fn apply(&mut self, alloc: Global, command: &Command) -> Reply
-        requires { is_served command.now ≡ true }
         ensures { IsAnswered self.old self.new command.now result }
     {
         let answered = self.answer(alloc, command);
@@ -23,15 +20,23 @@ impl<P: Engine<SumProd>, A: Engine<MinProd>> Market<P, A> {
 
     /// The answer to a command, or its refusal.
     fn answer(&mut self, alloc: Global, command: &Command) -> Result<Reply, Refusal>
-        requires { is_served command.now ≡ true }
         ensures { IsAnswered self.old self.new command.now (reply_of result) }
     {
         match command {
             Command::User { user } => self.user(alloc, user),
             Command::Deposit { user, bits } => self.deposit(user, *bits),
+            Command::Withdraw { user, bits } => self.withdraw(user, *bits),
             Command::Price { question } => self.price(question),
+            Command::Limits { user, question } => self.limits(user, question),
+            Command::Edit {
+                user,
+                question,
+                to,
+                at,
+            } => self.edit(user, question, *to, *at),
             Command::Worst { user } => self.worst(user),
-            _ => unreachable!(),
+            Command::Resolve { pair } => self.resolve(pair),
+            Command::Settle => self.settle(),
         }
     }
 }

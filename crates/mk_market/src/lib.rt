@@ -3,16 +3,21 @@
 
 mod answering;
 mod asking;
+mod editing;
 mod entry;
 mod joining;
 mod journal;
 mod market;
 mod opening;
 mod pricing;
+mod quoting;
 mod refusals;
-mod served;
+mod resolving;
+mod settling;
+mod trading;
 mod transfers;
 mod users;
+mod withdrawing;
 
 pub use asking::{ask, known};
 pub use entry::Entry;
@@ -22,7 +27,6 @@ pub use refusals::{
     refuse_edit, refuse_limits, refuse_price, refuse_resolve, refuse_settle, refuse_transfer,
     refuse_user, refuse_worst,
 };
-pub use served::is_served;
 pub use users::{Member, Users};
 
 #[cfg(test)]

@@ -1,6 +1,6 @@
 //! A market of a coin: commands, their replies, and what the market keeps of them.
 
-use crate::{Market, is_served};
+use crate::Market;
 use arrayvec::ArrayString;
 use mk_command::read_command;
 use mk_file::read_market;
@@ -51,7 +51,6 @@ fn expect_reply(
         assert!(rt; false, "{line} is no command");
         return;
     };
-    assert!(rt; is_served(&command));
     let reply = market.apply(alloc, &command);
     let mut text = ArrayString::new();
     print_reply(&reply, &mut text);

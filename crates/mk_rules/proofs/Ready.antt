@@ -142,6 +142,13 @@ edit_stays market H quotes u q X seen Memory h = refl
 value_has : {X : Type 0} (P : X → Type 0) (o : Option X) (x : X) → o ≡ Some x → IfSome o P → P x
 value_has P o x e h = subst (λ (o : Option _). IfSome o P) e h
 
+-- a refusal of the table leaves the quotes of an edit as they are
+pub edit_refused : (market : Market) (H : List Entry) (quotes : Quotes) (u : List ℕ) (q : QuestionText) (X : ℕ) (seen : Option ℕ) (why : Refusal)
+    → first_refusal market H (Edit u q X seen) ≡ Some why → next_quotes market H quotes (Edit u q X seen) (Refused why) ≡ quotes
+edit_refused market H quotes u q X seen why h =
+    edit_stays market H quotes u q X seen why
+    (value_has CarriesNoLimits _ why h (first_carries_none (refusals market H (Edit u q X seen)) (edit_carries_none market H u q X seen)))
+
 module _ (market : Market) (now : Standing) (kept : AreKept market now.history now.quotes) where
   stays : (quotes : Quotes) → AreKept market now.history quotes → AreKept market (now.history ++ []) quotes
   stays quotes h = subst (λ (H : List Entry). AreKept market H quotes) (sym (append-nil now.history)) h
@@ -158,9 +165,8 @@ module _ (market : Market) (now : Standing) (kept : AreKept market now.history n
   refused_kept (Price q) why h = stays now.quotes kept
   refused_kept (Limits u q) why h = stays now.quotes kept
   refused_kept (Edit u q X seen) why h =
-      let carries : CarriesNoLimits why = value_has CarriesNoLimits _ why h (first_carries_none (refusals market now.history (Edit u q X seen)) (edit_carries_none market now.history u q X seen)) in
       stays (next_quotes market now.history now.quotes (Edit u q X seen) (Refused why))
-      (subst (AreKept market now.history) (sym (edit_stays market now.history now.quotes u q X seen why carries)) kept)
+      (subst (AreKept market now.history) (sym (edit_refused market now.history now.quotes u q X seen why h)) kept)
   refused_kept (Worst u) why h = stays now.quotes kept
   refused_kept (Resolve p) why h = stays now.quotes kept
   refused_kept Settle why h = stays now.quotes kept

@@ -16,7 +16,6 @@ use Rattle.mk_reply.specs.declared.reply.Reply.{Reply}
 use Rattle.mk_rules.specs.Transcript.{Standing, opening, Line, IsAllowedFor, after, Run}
 use Rattle.mk_rules.specs.Standings.{Stands}
 use Rattle.mk_rules.proofs.Keeps.{run_keeps, opening_stands}
-use Rattle.mk_market.specs.Served.{is_served}
 use Rattle.mk_session.specs.Texts.{ready_line, reply_line}
 use Rattle.mk_session.specs.Transcript.{Asks, AreAnswered, Transcript}
 use Rattle.mk_session.specs.Outcome.{Adds}
@@ -105,11 +104,3 @@ pub cut_off_when_not : {T E : Type 0} (market : Market) (old : Standing) (lines 
     → OnErr said (AddsFront before after output) → OnErr said (AreCutOff market old lines new before after)
 cut_off_when_not market old lines new output before after (Ok v) answered front = tt
 cut_off_when_not market old lines new output before after (Err e) answered front = record { output = output; answered = answered; front = front }
-
--- the text of a command that is not served is that of no served one
-pub none_served : (line : List ℕ) (other : Command) → IsCommand other → line ≡ command_text other → is_served other ≡ false
-    → (command : Command) → IsCommand command → is_served command ≡ true → line ≡ command_text command → ⊥
-none_served line other is text not_served command is_command served spelled =
-    let same : command ≡ other = whole_one form_tells command other is_command is (sym spelled ∙ text) in
-    let both : is_served command ≡ is_served other = ap is_served same in
-    cc

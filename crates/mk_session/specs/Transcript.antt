@@ -12,12 +12,11 @@ use Rattle.mk_reply.specs.declared.reply.Reply.{Reply}
 use Rattle.mk_rules.specs.Transcript.{Standing, opening, Line, OfCommand, NoCommand, LongLine, Run}
 use Rattle.mk_rules.specs.Standings.{Stands}
 use Rattle.mk_session.specs.Texts.{ready_line, reply_line}
-use Rattle.mk_market.specs.Served.{is_served}
 
--- what a line of the stream asks: a command that is served, the text of none, or nothing since it is too long
+-- what a line of the stream asks: a command, the text of none, or nothing since it is too long
 abbrev pub Asks : StreamLine → Line → Type 0
-Asks (text bytes) (OfCommand command) = IsCommand command × (bytes ≡ command_text command) × (is_served command ≡ true)
-Asks (text bytes) NoCommand = (command : Command) → IsCommand command → is_served command ≡ true → bytes ≢ command_text command
+Asks (text bytes) (OfCommand command) = IsCommand command × (bytes ≡ command_text command)
+Asks (text bytes) NoCommand = (command : Command) → IsCommand command → bytes ≢ command_text command
 Asks (text bytes) LongLine = ⊥
 Asks long LongLine = Unit {0}
 Asks long NoCommand = ⊥

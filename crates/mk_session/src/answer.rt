@@ -15,7 +15,7 @@ use crate::print::{LineBuffer, print_reply_line};
 use mk_command::read_command;
 use mk_io::{Inputs, Lines, Next, Sink, SinkFailed, Status, write_all};
 use mk_joint::JointEngine;
-use mk_market::{Market, is_served};
+use mk_market::Market;
 use mk_reply::{Refusal, Reply};
 use mk_semiring::{MinProd, SumProd};
 use std::alloc::Global;
@@ -37,23 +37,10 @@ fn reply_to(alloc: Global, market: &mut JointMarket, line: &[u8]) -> Reply
     ensures answered { AreAnswered market.old.market market.old.standing (text line.now ∷ []) market.new.standing (reply_line result) }
 {
     match read_command(line) {
-        Err(_) => not_served(),
-        Ok(command) => {
-            if is_served(&command) {
-                market.apply(alloc, &command)
-            } else {
-                not_served()
-            }
-        }
-    }
-}
-
-/// The reply to the text of no command that is served.
-fn not_served() -> Reply
-    ensures { result ≡ Reply.Refused Refusal.Syntax }
-{
-    Reply::Refused {
-        why: Refusal::Syntax,
+        Err(_) => Reply::Refused {
+            why: Refusal::Syntax,
+        },
+        Ok(command) => market.apply(alloc, &command),
     }
 }
 

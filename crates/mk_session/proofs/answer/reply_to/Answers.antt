@@ -1,28 +1,21 @@
 use Rattle.std.proofs.Common.{[], ◌∷◌, sym, subst, refl}
 use Rattle.mk_io.specs.Stream.{text}
+use Rattle.mk_reply.specs.declared.reply.Reply.TheVariants.{Refused}
+use Rattle.mk_reply.specs.declared.refusal.Refusal.TheVariants.{Syntax}
 use Rattle.mk_rules.specs.Transcript.{Standing, OfCommand, NoCommand}
 use Rattle.mk_session.specs.Texts.{reply_line}
 use Rattle.mk_session.specs.Transcript.{AreAnswered}
-use Rattle.mk_session.proofs.Answering.{one_answered, none_served}
+use Rattle.mk_session.proofs.Answering.{one_answered}
 use Rattle.mk_session.proofs.answer.reply_to.Goals as goal
 
 pub returns-in-Err-clause-answered : goal.returns-in-Err-clause-answered
 returns-in-Err-clause-answered c =
     let m = c.args.market.now in
-    one_answered m.market m.standing (text c.args.line.now) NoCommand c.not_served.result (rw c.requires refl)
-    (λ command is served. c.in-Err.ensures.none command is) c.not_served.ensures
+    one_answered m.market m.standing (text c.args.line.now) NoCommand (Refused Syntax) (rw c.requires refl) c.in-Err.ensures.none refl
 
-pub returns-then-is_served-clause-answered : goal.returns-then-is_served-clause-answered
-returns-then-is_served-clause-answered c =
+pub returns-in-Ok-clause-answered : goal.returns-in-Ok-clause-answered
+returns-in-Ok-clause-answered c =
     let m = c.args.market.now in
     let found = c.in-Ok.ensures.found in
     subst (λ (then : Standing). AreAnswered m.market m.standing (text c.args.line.now ∷ []) then (reply_line c.apply.result)) (sym c.apply.ensures.next)
-    (one_answered m.market m.standing (text c.args.line.now) (OfCommand c.in-Ok.command) c.apply.result (rw c.requires refl)
-    (found.0, found.1, sym c.if-is_served.ensures) c.apply.ensures.allowed)
-
-pub returns-else-is_served-clause-answered : goal.returns-else-is_served-clause-answered
-returns-else-is_served-clause-answered c =
-    let m = c.args.market.now in
-    let found = c.in-Ok.ensures.found in
-    one_answered m.market m.standing (text c.args.line.now) NoCommand c.not_served-else-is_served.result (rw c.requires refl)
-    (none_served c.args.line.now c.in-Ok.command (found.0) (found.1) (sym c.if-is_served.ensures)) c.not_served-else-is_served.ensures
+    (one_answered m.market m.standing (text c.args.line.now) (OfCommand c.in-Ok.command) c.apply.result (rw c.requires refl) found c.apply.ensures.allowed)

@@ -1,0 +1,98 @@
+-- A variable is resolved.
+use Rattle.std.specs.Prelude.{◌≡◌, ℕ, ◌+◌, ◌<◌, ◌≤◌, List, [], ◌∷◌, ◌++◌, map, length, Option, Some, None, option_map, option_to_list, slice_get}
+use Rattle.std.proofs.Common.{refl, sym, ap, ap₂, ◌∙◌, subst, arith, add-zero}
+use Rattle.std.proofs.lemmas.List.{length_push}
+use Rattle.mk_net.specs.declared.words.Pair.{Pair}
+use Rattle.mk_net.specs.declared.words.PairText.{PairText}
+use Rattle.mk_net.specs.Bounds.{max_variables}
+use Rattle.mk_net.specs.Named.{pair_named}
+use Rattle.mk_net.specs.Network.{Variable}
+use Rattle.mk_exact.specs.History.{Entry, Resolve as Resolves, join_in, users, resolutions, deposited, withdrawn, revision, is_settlement}
+use Rattle.mk_exact.specs.Proper.{IsProper}
+use Rattle.mk_exact.proofs.After.{resolutions_more}
+use Rattle.mk_tree.specs.Given.{GivenTree}
+use Rattle.mk_file.specs.declared.opened.MarketFile.{MarketFile}
+use Rattle.mk_file.specs.MarketOf.{market_of}
+use Rattle.mk_engine.specs.Meaning.{Meaning, with_known}
+use Rattle.mk_beliefs.specs.Meanings.{gains_of}
+use Rattle.mk_assets.specs.declared.assets.Assets.{Assets}
+use Rattle.mk_assets.specs.Holdings.{Holding, Owns, with_known_pair}
+use Rattle.mk_cash.specs.declared.ledger.Account.{Account}
+use Rattle.mk_quote.specs.declared.quote.Quote.{Quote}
+use Rattle.mk_command.specs.declared.command.Command.TheVariants.{Resolve}
+use Rattle.mk_reply.specs.declared.payments.Payment.{Payment}
+use Rattle.mk_reply.specs.declared.reply.Reply.{Reply}
+use Rattle.mk_reply.specs.declared.reply.Reply.TheVariants.{Resolved}
+use Rattle.mk_rules.specs.Refusals.{first_refusal}
+use Rattle.mk_rules.specs.Transcript.{Standing, OfCommand, IsAllowedFor, after}
+use Rattle.mk_rules.proofs.Keeps.{allowed_keeps}
+use Rattle.mk_rules.proofs.Revisions.{few_resolutions}
+use Rattle.mk_answers.specs.Open.{holding_of}
+use Rattle.mk_market.specs.declared.users.Member.{Member}
+use Rattle.mk_market.specs.Journals.{JournalOf}
+use Rattle.mk_market.specs.Members.{names_of, quotes_of}
+use Rattle.mk_market.specs.Refused.{CanBeResolved}
+use Rattle.mk_market.specs.inner.Keeping.{quoted, standing_of, IsKept}
+use Rattle.mk_market.specs.inner.Quoting.{OwnsAt, CanBeTold}
+use Rattle.mk_market.proofs.Accounted.{accounts_kept}
+use Rattle.mk_market.proofs.Appends.{not_there, not_found}
+use Rattle.mk_market.proofs.Growing.{kept_grown}
+use Rattle.mk_market.proofs.Owned.{holding_grows}
+use Rattle.mk_market.proofs.Replies.{answer_allowed}
+
+-- what users hold then
+told_holding : (network : List Variable) (tree : GivenTree) (H : List Entry) (pair : Pair) (u : ℕ)
+    → holding_of network tree (H ++ Resolves pair ∷ []) u ≡ with_known_pair pair (holding_of network tree H u)
+told_holding network tree H pair u =
+    holding_grows network tree H (Resolves pair) u
+    ∙ ap₂ (λ (d w : ℕ). record { meaning = with_known pair (gains_of network tree H u); deposited = d; withdrawn = w }) (add-zero (deposited H u)) (add-zero (withdrawn H u))
+
+module _ {P A Plan : Type 0} (weights_stand : P → Meaning → Type 0) (gains_stand : A → Meaning → Type 0) (plan_for : Plan → List Variable → GivenTree → Type 0)
+    (file : MarketFile) (prices : P) (plan : Plan) (members : List (Member A Plan)) (accounts : List Account) (journal : JournalOf) (payments : Option (List Payment))
+    (kept : IsKept weights_stand gains_stand plan_for file prices plan members accounts journal payments)
+    (words : PairText) (pair : Pair) (named : pair_named file.net words ≡ Some pair) (can : CanBeResolved file.net journal.history pair) where
+  pub can_be_told : CanBeTold gains_stand members pair
+  can_be_told = λ u assets at. record { holding = holding_of file.net file.tree journal.history u; owns = kept.owns u assets at; in_range = can.in_range }
+
+  module _ (none : None ≡ first_refusal (market_of file) journal.history (Resolve words)) where
+    reply : Reply
+    reply = Resolved words (revision journal.history + 1)
+
+    allowed : IsAllowedFor (market_of file) (standing_of journal members) (OfCommand (Resolve words)) reply
+    unfolding reply
+    allowed = answer_allowed (market_of file) (standing_of journal members) (Resolve words) (Resolved words (revision journal.history + 1)) none refl
+
+    longer : (after (market_of file) (standing_of journal members) (OfCommand (Resolve words)) reply).history ≡ journal.history ++ Resolves pair ∷ []
+    unfolding reply
+    longer = ap (λ (o : Option Pair). journal.history ++ option_to_list (option_map Resolves o)) named
+
+    pub few_known : length (resolutions journal.history) < max_variables
+    few_known =
+        let stands = allowed_keeps (market_of file) (standing_of journal members) (OfCommand (Resolve words)) reply kept.ready.stands allowed in
+        let proper : IsProper file.net (journal.history ++ Resolves pair ∷ []) = subst (λ (H : List Entry). IsProper file.net H) longer stands.proper in
+        let few = few_resolutions file.net (journal.history ++ Resolves pair ∷ []) proper in
+        let more = ap (λ (ps : List Pair). length ps) (resolutions_more journal.history pair) in
+        omega (arith, few, more, length_push (resolutions journal.history) pair, kept.legal.few)
+
+    -- the market is kept
+    pub resolution_kept : (new_prices : P) (new_members : List (Member A Plan)) (new_journal : JournalOf)
+        → new_journal.history ≡ journal.history ++ Resolves pair ∷ [] → new_journal.max_trades ≡ journal.max_trades
+        → ((m : Meaning) → weights_stand prices m → weights_stand new_prices (with_known pair m))
+        → ((u : ℕ) (h : Holding) → OwnsAt gains_stand members u h → OwnsAt gains_stand new_members u (with_known_pair pair h))
+        → names_of new_members ≡ names_of members → quotes_of new_members ≡ quotes_of members
+        → IsKept weights_stand gains_stand plan_for file new_prices plan new_members accounts new_journal payments
+    resolution_kept new_prices new_members new_journal history limit known told names same_quotes =
+        let H = journal.history in
+        kept_grown weights_stand gains_stand plan_for file prices new_prices plan members new_members accounts accounts journal new_journal payments payments
+        (Resolves pair) (Resolve words) reply tt kept allowed
+        (ap₂ (λ (H : List Entry) (qs : List (Option Quote)). record { history = H; quotes = map (option_map quoted) qs }) (history ∙ sym longer) same_quotes)
+        (record {
+          history = history;
+          limit = limit;
+          prices_grown = known;
+          names = names ∙ kept.named ∙ sym (not_found H (Resolves pair) join_in refl);
+          owned = λ u assets at. subst (Owns gains_stand assets) (sym (told_holding file.net file.tree H pair u)) (told u (holding_of file.net file.tree H u) (kept.owns u) assets at);
+          none_quoted = λ u quote at. subst (λ (qs : List (Option Quote)). slice_get qs u ≡ Some (Some quote)) same_quotes at;
+          accounts = accounts_kept file.points_per_bit H (Resolves pair) accounts refl (λ u. (refl, refl)) kept.accounts_kept;
+          room = λ unsettled. kept.room (sym (not_there H (Resolves pair) is_settlement refl) ∙ unsettled);
+        })

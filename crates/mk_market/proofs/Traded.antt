@@ -1,0 +1,122 @@
+-- A user trades a question.
+use Rattle.std.specs.Prelude.{◌≡◌, ℕ, ◌+◌, ◌<◌, ◌≤◌, List, [], ◌∷◌, ◌++◌, map, length, filter, ◌==◌, Bool, true, false, cond, not, ◌&&◌, ltb, Option, Some, None, option_map, position, is_some, slice_get, slice_index}
+use Rattle.std.specs.List.{position_or_len, count_by, list_all}
+use Rattle.std.proofs.Common.{refl, sym, ap, ap₂, add-zero, ◌∙◌, subst, arith, eq-eqb, ne_eqb, length-append}
+use Rattle.std.proofs.lemmas.List.{length-map, length_push}
+use Rattle.std.proofs.lemmas.List.Sums.{length-filter}
+use Rattle.mk_net.specs.declared.words.Pair.{Pair}
+use Rattle.mk_net.specs.declared.sets.VarSet.{VarSet}
+use Rattle.mk_net.specs.Asked.{Asked, TradeRatio, IsUnits, ratio_pairs}
+use Rattle.mk_net.specs.Bounds.{max_values, max_market_trades}
+use Rattle.mk_net.specs.Events.{pairs_asked}
+use Rattle.mk_net.specs.Network.{Variable, IsNetwork, sizes}
+use Rattle.mk_net.specs.Named.{nobody}
+use Rattle.mk_net.specs.Sets.{is_member}
+use Rattle.mk_exact.specs.History.{Entry, UserTrade, Trade, trades, trades_of, deposited, withdrawn}
+use Rattle.mk_exact.specs.Sides.{ratio_in, traded}
+use Rattle.mk_exact.proofs.After.{trades_more, trades_of_more}
+use Rattle.mk_exact.proofs.Positive.{size_at, few_values_at}
+use Rattle.mk_exact.proofs.Sums.{list_all-append}
+use Rattle.mk_tree.specs.Given.{GivenTree, home, holds_event}
+use Rattle.mk_engine.specs.Meaning.{Meaning, RatioOf, with_factor, max_factors}
+use Rattle.mk_engine.specs.Beliefs.{CanMultiply}
+use Rattle.mk_beliefs.specs.Meanings.{weights_of, gains_of}
+use Rattle.mk_beliefs.proofs.Grown.{weights_grow, factors_are_few}
+use Rattle.mk_assets.specs.declared.assets.Assets.{Assets}
+use Rattle.mk_assets.specs.Holdings.{Holding, Owns, CanTrade, with_trade}
+use Rattle.mk_rules.proofs.Traded.{ratio_fits}
+use Rattle.mk_answers.specs.Open.{IsOpen, CanBeAnswered, holding_of}
+use Rattle.mk_market.specs.inner.Quoting.{OwnsAt}
+use Rattle.mk_market.proofs.Owned.{holding_grows, holding_same}
+
+-- the same test finds the same place
+same_place : {X : Type 0} (p q : X → Bool) → ((x : X) → p x ≡ q x) → (xs : List X) → position_or_len p xs ≡ position_or_len q xs
+same_place p q same [] = refl
+same_place p q same (x ∷ xs) = ap (λ (b : Bool). cond (not b) (1 + position_or_len p xs) 0) (same x) ∙ ap (λ (n : ℕ). cond (not (q x)) (1 + n) 0) (same_place p q same xs)
+
+same_position : {X : Type 0} (p q : X → Bool) → ((x : X) → p x ≡ q x) → (xs : List X) → position p xs ≡ position q xs
+same_position p q same xs = ap (λ (n : ℕ). cond (ltb n (length xs)) (Some n) None) (same_place p q same xs)
+
+-- homes depend on the variables of pairs alone
+same_home : (t : GivenTree) (condition : List Pair) (a b : Pair) → a.variable ≡ b.variable → home t (condition ++ a ∷ []) ≡ home t (condition ++ b ∷ [])
+same_home t condition a b same =
+    ap (option_map (λ (k : ℕ). k + 1)) (same_position (holds_event (condition ++ a ∷ [])) (holds_event (condition ++ b ∷ [])) at t.cliques)
+  where
+    at : (set : VarSet) → holds_event (condition ++ a ∷ []) set ≡ holds_event (condition ++ b ∷ []) set
+    at set =
+        list_all-append (λ (p : Pair). is_member set p.variable) condition (a ∷ [])
+        ∙ ap (λ (v : ℕ). list_all (λ (p : Pair). is_member set p.variable) condition && (is_member set v && true)) same
+        ∙ sym (list_all-append (λ (p : Pair). is_member set p.variable) condition (b ∷ []))
+
+module _ (network : List Variable) (tree : GivenTree) (H : List Entry) (open_for : IsOpen network tree H) (asked : Asked) (answered : CanBeAnswered network tree H asked) where
+  pub two_values : (values : ℕ) → values ≡ slice_index (sizes network) asked.target.variable → 2 ≤ values
+  two_values values sized =
+      let v = asked.target.variable in
+      omega (arith, sized, size_at network open_for.legal v answered.can_ask.in_range.target.variable, (open_for.legal.each v nobody answered.can_ask.in_range.target.variable).two_values)
+
+  pub few_values : (values : ℕ) → values ≡ slice_index (sizes network) asked.target.variable → values ≤ max_values
+  few_values values sized = omega (arith, sized, few_values_at network open_for.legal asked.target.variable answered.can_ask.in_range.target.variable)
+
+  module _ (hit miss : ℕ) (hit_units : IsUnits hit) (miss_units : IsUnits miss) where
+    -- a ratio has the home of its question
+    pub home_of_ratio : is_some (home tree (ratio_pairs (ratio_in network asked hit miss))) ≡ true
+    home_of_ratio =
+        ap is_some (same_home tree asked.condition (record { variable = asked.target.variable; value = 0 }) asked.target refl) ∙ answered.home
+
+    module _ (user : ℕ) (few : length (trades H) < max_market_trades) where
+      few_after : length (trades (H ++ Trade user (ratio_in network asked hit miss) ∷ [])) ≤ max_market_trades
+      few_after =
+          let one = ap (λ (ts : List UserTrade). length ts) (trades_more H user (ratio_in network asked hit miss)) in
+          let more = length_push (trades H) (record { user = user; ratio = ratio_in network asked hit miss }) in
+          omega (arith, one, more, few)
+
+      pub can_multiply : {E : Type 0} (stands_for : E → Meaning → Type 0) (engine : E) → stands_for engine (weights_of network tree H)
+          → CanMultiply stands_for engine (ratio_in network asked hit miss)
+      can_multiply stands_for engine stands = record {
+        meaning = weights_of network tree H;
+        stands = stands;
+        in_range = ratio_fits network asked hit miss answered.can_ask.in_range hit_units.positive miss_units.positive;
+        room = room;
+      }
+        where
+          room : length (weights_of network tree H).factors < max_factors
+          room =
+              let all = (factors_are_few network tree (H ++ Trade user (ratio_in network asked hit miss) ∷ []) user open_for.legal few_after).0 in
+              let same = ap (λ (m : Meaning). length m.factors) (weights_grow network tree H (Trade user (ratio_in network asked hit miss))) in
+              let one = length_push (weights_of network tree H).factors (RatioOf (ratio_in network asked hit miss)) in
+              omega (arith, all, same, one)
+
+      pub can_trade : {E Plan : Type 0} (stands_for : E → Meaning → Type 0) (assets : Assets E Plan) → Owns stands_for assets (holding_of network tree H user)
+          → CanTrade stands_for assets (ratio_in network asked hit miss)
+      can_trade stands_for assets owns = record {
+        holding = holding_of network tree H user;
+        owns = owns;
+        in_range = ratio_fits network asked hit miss answered.can_ask.in_range hit_units.positive miss_units.positive;
+        room = room;
+      }
+        where
+          part : {X : Type 0} (p : X → Bool) (xs : List X) → length (filter p xs) ≤ length xs
+          part p [] = omega arith
+          part {X} p (x ∷ xs) = at (p x) (part p xs)
+            where
+              at : (b : Bool) → length (filter p xs) ≤ length xs → length (cond b (x ∷ filter p xs) (filter p xs)) ≤ length (x ∷ xs)
+              at true l = omega arith
+              at false l = omega arith
+
+          room : length (holding_of network tree H user).meaning.factors < max_market_trades
+          room =
+              let same = length-map (trades_of H user) (λ (t : UserTrade). RatioOf t.ratio) in
+              let own = part (λ (t : UserTrade). t.user == user) (trades H) in
+              omega (arith, same, own, few)
+
+-- what users hold after a trade
+module _ (network : List Variable) (tree : GivenTree) (H : List Entry) (user : ℕ) (ratio : TradeRatio) where
+  pub trader_holding : holding_of network tree (H ++ Trade user ratio ∷ []) user ≡ with_trade ratio (holding_of network tree H user)
+  trader_holding =
+      holding_grows network tree H (Trade user ratio) user
+      ∙ rw (eq-eqb user user refl) (
+      ap₂ (λ (d w : ℕ). record { meaning = with_factor (RatioOf ratio) (gains_of network tree H user); deposited = d; withdrawn = w }) (add-zero (deposited H user)) (add-zero (withdrawn H user))
+      )
+
+  pub others_holding : (u : ℕ) → (u ≡ user → ⊥) → holding_of network tree (H ++ Trade user ratio ∷ []) u ≡ holding_of network tree H u
+  others_holding u other = holding_same network tree H (Trade user ratio) u (rw (ne_eqb user u (λ same. other (sym same))) refl) refl refl

@@ -1,0 +1,152 @@
+-- Bits are taken out.
+use Rattle.std.specs.Prelude.{◌≡◌, ℕ, ◌+◌, ◌*◌, ◌<◌, ◌≤◌, List, [], ◌∷◌, ◌++◌, map, length, Option, Some, None, option_map, IsSomeAnd, slice_get, slice_set}
+use Rattle.std.proofs.Common.{refl, sym, ap, ap₂, inl, inr, ◌∙◌, subst, arith}
+use Rattle.std.proofs.Math.Nat.{mul-le-mul}
+use Rattle.std.proofs.lemmas.List.{length_push}
+use Rattle.mk_net.specs.Network.{Variable}
+use Rattle.mk_net.specs.Bounds.{number_limit}
+use Rattle.mk_exact.specs.History.{Entry, Withdraw as Withdraws, users, withdrawn, revision, is_settlement}
+use Rattle.mk_tree.specs.Given.{GivenTree}
+use Rattle.mk_file.specs.declared.opened.MarketFile.{MarketFile}
+use Rattle.mk_file.specs.MarketOf.{market_of}
+use Rattle.mk_exact.specs.Accepted.{Covers, IsMost}
+use Rattle.mk_exact.specs.Events.{always}
+use Rattle.mk_exact.specs.Existing.{HasLeast}
+use Rattle.mk_exact.specs.Factors.{Fraction, IsAtLeastOne, factor_with, least_gain}
+use Rattle.mk_exact.specs.Weight.{IsSmall}
+use Rattle.mk_exact.proofs.ExistMarkets.{least_gain_exists}
+use Rattle.mk_enclose.specs.declared.factor.Factor.{Factor}
+use Rattle.mk_reply.specs.declared.refusal.Refusal.TheVariants.{Short}
+use Rattle.mk_rules.specs.Answers.{IsShort, IsWithdrawal}
+use Rattle.mk_answers.specs.Open.{IsOpen, IsFactorFor, holding_of}
+use Rattle.mk_engine.specs.Meaning.{Meaning}
+use Rattle.mk_assets.specs.declared.assets.Assets.{Assets}
+use Rattle.mk_assets.specs.Holdings.{Holding, Owns, CanWithdraw, max_bits, with_withdrawal}
+use Rattle.mk_cash.specs.declared.ledger.Account.{Account}
+use Rattle.mk_cash.specs.Accounts.{account_of}
+use Rattle.mk_quote.specs.declared.quote.Quote.{Quote}
+use Rattle.mk_command.specs.declared.command.Command.TheVariants.{Withdraw}
+use Rattle.mk_reply.specs.declared.payments.Payment.{Payment}
+use Rattle.mk_reply.specs.declared.reply.Reply.{Reply}
+use Rattle.mk_reply.specs.declared.reply.Reply.TheVariants.{Withdrawn, Refused}
+use Rattle.mk_rules.specs.Refusals.{first_refusal, user_number}
+use Rattle.mk_rules.specs.Transcript.{OfCommand, IsAllowedFor, after}
+use Rattle.mk_market.specs.declared.users.Member.{Member}
+use Rattle.mk_market.specs.Journals.{JournalOf}
+use Rattle.mk_market.specs.Members.{assets_of, quotes_of, with_assets}
+use Rattle.mk_market.specs.Points.{IsAccount}
+use Rattle.mk_market.specs.Refused.{IsUser, HasRoomForTransfer}
+use Rattle.mk_market.specs.inner.Keeping.{quoted, standing_of, IsKept}
+use Rattle.mk_market.proofs.Appends.{not_there, not_found}
+use Rattle.mk_market.proofs.Growing.{is_open, kept_grown}
+use Rattle.mk_market.proofs.Answers.{can_find, worst_kept}
+use Rattle.mk_market.proofs.Owned.{names_same, quotes_same, owned_one, withdrawal_holding, withdrawal_others, few_moved}
+use Rattle.mk_market.proofs.Accounted.{accounts_withdrawn}
+use Rattle.mk_market.proofs.Replies.{answer_allowed, none_appended}
+
+module _ {P A Plan : Type 0} (weights_stand : P → Meaning → Type 0) (gains_stand : A → Meaning → Type 0) (plan_for : Plan → List Variable → GivenTree → Type 0)
+    (file : MarketFile) (prices : P) (plan : Plan) (members : List (Member A Plan)) (accounts : List Account) (journal : JournalOf) (payments : Option (List Payment))
+    (kept : IsKept weights_stand gains_stand plan_for file prices plan members accounts journal payments)
+    (name : List ℕ) (user bits : ℕ) (is_user : IsUser journal.history name user) (room : HasRoomForTransfer journal.history bits) where
+  bits_fit : withdrawn journal.history user + bits ≤ max_bits
+  bits_fit = let most = few_moved (length (users journal.history)) user journal.history kept.bounded.transfers_fit in omega (arith, most.1, room.most, room.few)
+
+  pub points_fit : (account_of accounts user).withdrawn + file.points_per_bit * bits < number_limit
+  points_fit =
+      let account : IsAccount file.points_per_bit journal.history user (account_of accounts user) = kept.accounts_kept.each user (omega (arith, is_user.within, kept.accounts_kept.one_each)) in
+      let most : file.points_per_bit * (withdrawn journal.history user + bits) ≤ 1000000 * 65536000 = mul-le-mul file.points_most bits_fit in
+      omega (arith, account.taken_out, most)
+
+  module _ (before mid : Assets A Plan) (there : slice_get (assets_of members) user ≡ Some before) (still : (h : Holding) → Owns gains_stand before h → Owns gains_stand mid h) where
+    pub can_withdraw : CanWithdraw gains_stand mid bits
+    can_withdraw = record { holding = holding_of file.net file.tree journal.history user; owns = still (holding_of file.net file.tree journal.history user) (kept.owns user before there); room = bits_fit }
+
+    module _ (factor : Factor) (most : ℕ) (none : None ≡ first_refusal (market_of file) journal.history (Withdraw name bits))
+        (found : (network : List Variable) (tree : GivenTree) (H : List Entry) (u g : ℕ) → Owns gains_stand before (holding_of network tree H u) → IsOpen network tree H
+        → least_gain network H u always ≡ Some g → IsFactorFor factor (IsSmall network H) (factor_with H u g)) where
+      has_least : HasLeast file.net journal.history user
+      has_least = least_gain_exists file.net journal.history user kept.legal kept.ready.stands.proper kept.ready.stands.sound
+
+      -- the factor of the least gain
+      worth : Fraction
+      worth = factor_with journal.history user has_least.least
+
+      worth_for : IsFactorFor factor (IsSmall file.net journal.history) worth
+      unfolding worth
+      worth_for = found file.net file.tree journal.history user has_least.least (kept.owns user before there)
+          (is_open weights_stand gains_stand plan_for file prices plan members accounts journal payments kept) has_least.is_least
+
+      answered : (reply : Reply) → IsWithdrawal (IsSmall file.net journal.history) worth name bits (revision journal.history + 1) reply
+          → IsAllowedFor (market_of file) (standing_of journal members) (OfCommand (Withdraw name bits)) reply
+      unfolding worth
+      answered reply withdrawal =
+          let H = journal.history in
+          answer_allowed (market_of file) (standing_of journal members) (Withdraw name bits) reply none
+          (subst (λ (n : ℕ). IsSomeAnd (least_gain file.net H n always) (λ g. IsWithdrawal (IsSmall file.net H) (factor_with H n g) name bits (revision H + 1) reply)) is_user.number
+          (subst (λ (o : Option ℕ). IsSomeAnd o (λ g. IsWithdrawal (IsSmall file.net H) (factor_with H user g) name bits (revision H + 1) reply)) (sym has_least.is_least) withdrawal))
+
+      -- bits beyond the most are refused
+      pub short_allowed : most < bits → ((network : List Variable) (H : List Entry) (q : Fraction) → IsFactorFor factor (IsSmall network H) q → IsAtLeastOne q → IsMost (IsSmall network H) q most)
+          → IsAllowedFor (market_of file) (standing_of journal members) (OfCommand (Withdraw name bits)) (Refused (Short most))
+      unfolding worth
+      short_allowed less is_most =
+          let short : IsShort (IsSmall file.net journal.history) worth bits (Refused (Short most))
+          = record { most = most; less = less; is_most = is_most file.net journal.history worth worth_for has_least.safe.at_least_one; printed = refl } in
+          answered (Refused (Short most)) (inr short)
+
+      -- and others are covered
+      module _ (now : Assets A Plan) (new_accounts : List Account) (new_journal : JournalOf) (history : new_journal.history ≡ journal.history ++ Withdraws user bits ∷ [])
+          (enough : bits ≤ most)
+          (covered : (network : List Variable) (H : List Entry) (q : Fraction) (bits : ℕ) → IsFactorFor factor (IsSmall network H) q → IsAtLeastOne q → bits ≤ most → Covers q bits) where
+        same_quotes : quotes_of (with_assets members user now) ≡ quotes_of members
+        same_quotes = quotes_same members user before now there
+
+        reply : Reply
+        reply = Withdrawn name bits (revision journal.history + 1)
+
+        allowed : IsAllowedFor (market_of file) (standing_of journal members) (OfCommand (Withdraw name bits)) reply
+        unfolding reply worth
+        allowed = answered (Withdrawn name bits (revision journal.history + 1)) (inl (covered file.net journal.history worth bits worth_for has_least.safe.at_least_one enough, refl))
+
+        next : standing_of new_journal (with_assets members user now) ≡ after (market_of file) (standing_of journal members) (OfCommand (Withdraw name bits)) reply
+        unfolding reply
+        next = ap₂ (λ (H : List Entry) (qs : List (Option Quote)). record { history = H; quotes = map (option_map quoted) qs })
+            (history ∙ ap (λ (v : ℕ). journal.history ++ Withdraws v bits ∷ []) is_user.number) same_quotes
+
+        -- the market is kept
+        pub withdrawal_kept : new_journal.max_trades ≡ journal.max_trades
+            → ((h : Holding) → Owns gains_stand mid h → h.withdrawn + bits ≤ max_bits → Owns gains_stand now (with_withdrawal bits h))
+            → new_accounts ≡ slice_set accounts user (let account = account_of accounts user in record account { withdrawn = account.withdrawn + file.points_per_bit * bits })
+            → IsKept weights_stand gains_stand plan_for file prices plan (with_assets members user now) new_accounts new_journal payments
+        withdrawal_kept limit withdraws paid =
+            let H = journal.history in
+            kept_grown weights_stand gains_stand plan_for file prices prices plan members (with_assets members user now) accounts new_accounts journal new_journal payments payments
+            (Withdraws user bits) (Withdraw name bits) reply tt kept allowed next
+            (record {
+              history = history;
+              limit = limit;
+              prices_grown = λ m stands. stands;
+              names = names_same members user before now there ∙ kept.named ∙ sym (not_found H (Withdraws user bits) Rattle.mk_exact.specs.History.join_in refl);
+              owned = owned_one file.net file.tree H gains_stand members user before now (Withdraws user bits) there kept.owns
+                  (subst (Owns gains_stand now) (sym (withdrawal_holding file.net file.tree H user bits))
+                  (withdraws (holding_of file.net file.tree H user) (still (holding_of file.net file.tree H user) (kept.owns user before there)) bits_fit))
+                  (withdrawal_others file.net file.tree H user bits);
+              none_quoted = λ u quote at. subst (λ (qs : List (Option Quote)). slice_get qs u ≡ Some (Some quote)) same_quotes at;
+              accounts = rw paid (accounts_withdrawn file.points_per_bit H accounts user bits (file.points_per_bit * bits) is_user.within refl kept.accounts_kept);
+              room = λ unsettled. kept.room (sym (not_there H (Withdraws user bits) is_settlement refl) ∙ unsettled);
+            })
+
+        pub withdrawal_allowed : (at : ℕ) → at ≡ revision new_journal.history → IsAllowedFor (market_of file) (standing_of journal members) (OfCommand (Withdraw name bits)) (Withdrawn name bits at)
+        unfolding reply
+        withdrawal_allowed at e =
+            subst (λ (n : ℕ). IsAllowedFor (market_of file) (standing_of journal members) (OfCommand (Withdraw name bits)) (Withdrawn name bits n))
+            (sym (e ∙ ap (λ (H : List Entry). length H) history ∙ length_push journal.history (Withdraws user bits))) allowed
+
+        pub withdrawal_next : (at : ℕ) → standing_of new_journal (with_assets members user now) ≡ after (market_of file) (standing_of journal members) (OfCommand (Withdraw name bits)) (Withdrawn name bits at)
+        unfolding reply
+        withdrawal_next at = next
+
+    pub short_next : (now : Assets A Plan) (most : ℕ) → standing_of journal (with_assets members user now) ≡ after (market_of file) (standing_of journal members) (OfCommand (Withdraw name bits)) (Refused (Short most))
+    short_next now most =
+        ap (λ (qs : List (Option Quote)). record { history = journal.history; quotes = map (option_map quoted) qs }) (quotes_same members user before now there)
+        ∙ none_appended (market_of file) (standing_of journal members) (Withdraw name bits) (Refused (Short most)) refl refl

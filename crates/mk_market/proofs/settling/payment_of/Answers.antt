@@ -1,0 +1,36 @@
+use Rattle.std.proofs.Common.{List, ℕ, slice_get, refl, sym, ap, ◌∙◌}
+use Rattle.mk_market.proofs.Lent.{names_stay, quotes_stay, owned_still}
+use Rattle.mk_market.proofs.Paid.{some_is, covers_factor}
+use Rattle.mk_market.proofs.settling.payment_of.Goals as goal
+
+pub least_of-factor-requires : goal.least_of-factor-requires
+least_of-factor-requires g c = record {
+  network = c.args.file.now.net;
+  tree = c.args.file.now.tree;
+  history = c.args.journal.now.history;
+  user = c.args.user;
+  owns = c.requires.owns c.args.user c.assets.result.now c.assets.ensures.value;
+  is_open = c.requires.is_open;
+}
+
+pub returns-clause-assets : goal.returns-clause-assets
+returns-clause-assets g c =
+    owned_still c.args.users.now c.args.user g.A.Engine.stands_for c.requires.user c.assets.result.now c.least_of-factor.new.assets c.assets.ensures.value c.least_of-factor.ensures.kept
+
+pub returns-clause-names : goal.returns-clause-names
+returns-clause-names g c = names_stay c.args.users.now c.args.user c.least_of-factor.new.assets
+
+pub returns-clause-quotes : goal.returns-clause-quotes
+returns-clause-quotes g c = quotes_stay c.args.users.now c.args.user c.least_of-factor.new.assets
+
+pub returns-clause-payment : goal.returns-clause-payment
+returns-clause-payment g c = λ state name one at.
+    let net = c.args.file.now.net in let tree = c.args.file.now.tree in let H = c.args.journal.now.history in
+    record {
+      name = some_is c.name.result name
+          (sym c.name.ensures ∙ ap (λ (names : List (List ℕ)). slice_get names c.args.user) (names_stay c.args.users.now c.args.user c.least_of-factor.new.assets) ∙ at);
+      covers = covers_factor net tree H c.requires.is_open c.args.user state one c.least_of-factor.result c.args.file.now.points_per_bit (c.cash-low.result.0) (c.cash-low.result.1)
+          (λ gain is_least. c.least_of-factor.ensures.least net tree H c.args.user gain (c.requires.owns c.args.user c.assets.result.now c.assets.ensures.value) c.requires.is_open is_least)
+          c.cash-low.ensures.covers;
+      low_end = refl;
+    }

@@ -1,0 +1,92 @@
+//! The quotes by which edits are judged.
+
+ghost use Rattle.std.specs.Prelude.{◌≡◌, ◌<◌, ℕ, length, Some, slice_get, IfSome, IfNone};
+ghost use Rattle.mk_exact.specs.History.{revision};
+ghost use Rattle.mk_engine.specs.Meaning.{Meaning};
+ghost use Rattle.mk_assets.specs.Holdings.{Holding};
+ghost use Rattle.mk_quote.specs.declared.quote.Quote.{Quote as Held};
+ghost use Rattle.mk_quote.specs.Quotes.{IsFor};
+ghost use Rattle.mk_answers.specs.Open.{CanBeAnswered};
+ghost use Rattle.mk_market.specs.Members.{names_of, quotes_of};
+ghost use Rattle.mk_market.specs.inner.Keeping.{IsKeptQuote};
+ghost use Rattle.mk_market.specs.inner.Quoting.{OwnsAt, AreInUse, IsQuoteOf};
+
+use crate::journal::Journal;
+use crate::users::Users;
+use mk_answers::bounds_of;
+use mk_engine::Engine;
+use mk_file::MarketFile;
+use mk_net::Question;
+use mk_quote::Quote;
+use mk_semiring::{MinProd, SumProd};
+
+/// A quote of a question for a user at the present revision, made anew. The engine and the assets stand for what they
+/// stood for.
+pub(crate) fn fresh_quote<P: Engine<SumProd>, A: Engine<MinProd>>(
+    file: &MarketFile,
+    prices: &mut P,
+    users: &mut Users<A>,
+    journal: &Journal,
+    user: u32,
+    asked: &Question,
+) -> Quote
+    requires in_use { AreInUse P.stands_for A.stands_for file.now.net file.now.tree journal.now.history prices.old users.old }
+    requires user { user < length users.old }
+    requires answered { CanBeAnswered file.now.net file.now.tree journal.now.history asked.now }
+    ensures prices { (m : Meaning) → P.stands_for prices.old m → P.stands_for prices.new m }
+    ensures assets { (u : ℕ) (h : Holding) → OwnsAt A.stands_for users.old u h → OwnsAt A.stands_for users.new u h }
+    ensures names { names_of users.new ≡ names_of users.old }
+    ensures quotes { quotes_of users.new ≡ quotes_of users.old }
+    ensures quote { IsQuoteOf file.now.net file.now.tree journal.now.history user asked.now result }
+{
+    let values = file.net.values(asked.target().variable);
+    let bounds = bounds_of(prices, users.assets(user), asked, values);
+    Quote::make(user, *asked, journal.revision(), &bounds)
+}
+
+/// A user's last quote, where it was made for a question at a revision.
+pub(crate) fn last_quote<A: Engine<MinProd>>(
+    users: &Users<A>,
+    user: u32,
+    asked: &Question,
+    revision: u64,
+) -> Option<Quote>
+    requires { user < length users.now }
+    ensures some { IfSome result (λ quote. slice_get (quotes_of users.now) user ≡ Some (Some quote)) }
+    ensures its { IfSome result (λ quote. IsFor quote asked.now revision) }
+    ensures none { IfNone result ((quote : Held) → slice_get (quotes_of users.now) user ≡ Some (Some quote) → ¬ IsFor quote asked.now revision) }
+{
+    let quote = users.quote(user)?;
+    if quote.is_for(asked, revision) {
+        Some(*quote)
+    } else {
+        None
+    }
+}
+
+/// A quote of a question for a user at the present revision: the user's last one where it is, or one made anew. The
+/// engine and the assets stand for what they stood for.
+pub(crate) fn present_quote<P: Engine<SumProd>, A: Engine<MinProd>>(
+    file: &MarketFile,
+    prices: &mut P,
+    users: &mut Users<A>,
+    journal: &Journal,
+    user: u32,
+    asked: &Question,
+) -> Quote
+    requires in_use { AreInUse P.stands_for A.stands_for file.now.net file.now.tree journal.now.history prices.old users.old }
+    requires quotes { (u : ℕ) (quote : Held) → slice_get (quotes_of users.old) u ≡ Some (Some quote) → IsKeptQuote file.now.net file.now.tree journal.now.history u quote }
+    requires user { user < length users.old }
+    requires answered { CanBeAnswered file.now.net file.now.tree journal.now.history asked.now }
+    ensures prices { (m : Meaning) → P.stands_for prices.old m → P.stands_for prices.new m }
+    ensures assets { (u : ℕ) (h : Holding) → OwnsAt A.stands_for users.old u h → OwnsAt A.stands_for users.new u h }
+    ensures names { names_of users.new ≡ names_of users.old }
+    ensures quotes { quotes_of users.new ≡ quotes_of users.old }
+    ensures quote { IsQuoteOf file.now.net file.now.tree journal.now.history user asked.now result }
+    ensures last { (quote : Held) → slice_get (quotes_of users.old) user ≡ Some (Some quote) → IsFor quote asked.now (revision journal.now.history) → result ≡ quote }
+{
+    match last_quote(users, user, asked, journal.revision()) {
+        Some(quote) => quote,
+        None => fresh_quote(file, prices, users, journal, user, asked),
+    }
+}
