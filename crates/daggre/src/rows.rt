@@ -20,6 +20,14 @@ const FAIR: &str = "values = [\"heads\", \"tails\"]\nparents = []\nrows = [[5000
 
 pub const COIN: &[&str] = &[HEAD, COIN_CLIQUE, COIN_NAME, FAIR];
 
+/// A coin whose market takes one trade.
+const ONE_TRADE: &[&str] = &[
+    "points_per_bit = 100\nmax_trades = 1\n",
+    COIN_CLIQUE,
+    COIN_NAME,
+    FAIR,
+];
+
 const DIE: &[&str] = &[
     HEAD,
     "cliques = [[\"die\"]]\nlinks = []\n\n[[variable]]\nname = \"die\"\n",
@@ -167,7 +175,7 @@ const LATE_PARENT: &[&str] = &[
 ];
 
 /// Markets that are served.
-pub const SERVED: [Row; 14] = [
+pub const SERVED: [Row; 20] = [
     Row {
         market: COIN,
         commands: "",
@@ -236,8 +244,8 @@ pub const SERVED: [Row; 14] = [
     },
     Row {
         market: CHAIN,
-        commands: "price c=up | b=up, c=down\nprice c=up|b=up\nsettle\n",
-        output: "ready 3 100\nrefused twice c\nrefused syntax\nrefused syntax\n",
+        commands: "price c=up | b=up, c=down\nprice c=up|b=up\nsettle\nedit zed c=up | a=up to 500000\n",
+        output: "ready 3 100\nrefused twice c\nrefused syntax\nrefused open a\nrefused user zed\n",
         status: Status::Done,
     },
     Row {
@@ -250,6 +258,42 @@ pub const SERVED: [Row; 14] = [
         market: COIN,
         commands: "user alice\ndeposit alice 1\ndeposit alice 1001\nuser alice\ndeposit alice 0\ndeposit bob 1\nuser bob\ndeposit bob 1000\nworst bob\nworst alice\n",
         output: "ready 1 100\nuser alice at 1\ndeposit alice 1 at 2\nrefused range 1001\nrefused exists alice\nrefused range 0\nrefused user bob\nuser bob at 3\ndeposit bob 1000 at 4\nworst 100000..100000\nworst 100..100\n",
+        status: Status::Done,
+    },
+    Row {
+        market: COIN,
+        commands: "user alice\nlimits alice coin=heads\ndeposit alice 1\nlimits alice coin=heads\nedit alice coin=heads to 600000\nprice coin=heads\nprice coin=tails\nlimits alice coin=heads\nedit alice coin=heads to 750000\nlimits alice coin=heads\nworst alice\nwithdraw alice 1\nuser bob\nlimits bob coin=heads\nedit bob coin=heads to 600000 at 3\nedit bob coin=heads to 600000\nresolve coin=heads\nprice coin=heads\nsettle\nprice coin=heads\n",
+        output: "ready 1 100\nuser alice at 1\nlimits 500000..500000 at 1\ndeposit alice 1 at 2\nlimits 250000..750000 at 2\ntrade 1319413953331 879609302220 at 3\nprice 0.6000000000..0.6000000001\nprice 0.3999999999..0.4000000000\nlimits 250001..749999 at 3\nrefused beyond 250001..749999\nlimits 250001..749999 at 3\nworst 67..67\nrefused short 0\nuser bob at 4\nlimits none at 4\nrefused stale 3 4\nrefused beyond none\nresolve coin=heads at 5\nrefused resolved coin\nsettle at 6, alice 126..126 paid 126, bob 0..0 paid 0\nrefused settled\n",
+        status: Status::Done,
+    },
+    Row {
+        market: COIN,
+        commands: "user alice\nlimits alice coin=heads\ndeposit alice 1\nlimits alice coin=heads\nwithdraw alice 1\nlimits alice coin=heads\n",
+        output: "ready 1 100\nuser alice at 1\nlimits 500000..500000 at 1\ndeposit alice 1 at 2\nlimits 250000..750000 at 2\nwithdraw alice 1 at 3\nlimits 500000..500000 at 3\n",
+        status: Status::Done,
+    },
+    Row {
+        market: COIN,
+        commands: "user alice\nlimits alice coin=heads\ndeposit alice 1\nlimits alice coin=heads\nedit alice coin=heads to 600000\nprice coin=heads\nprice coin=tails\nlimits alice coin=heads\nedit alice coin=heads to 750000\nlimits alice coin=heads\nworst alice\nwithdraw alice 1\nedit alice coin=heads to 749999\n",
+        output: "ready 1 100\nuser alice at 1\nlimits 500000..500000 at 1\ndeposit alice 1 at 2\nlimits 250000..750000 at 2\ntrade 1319413953331 879609302220 at 3\nprice 0.6000000000..0.6000000001\nprice 0.3999999999..0.4000000000\nlimits 250001..749999 at 3\nrefused beyond 250001..749999\nlimits 250001..749999 at 3\nworst 67..67\nrefused short 0\ntrade 1374387702200 687197516139 at 4\n",
+        status: Status::Done,
+    },
+    Row {
+        market: WEATHER,
+        commands: "price season=wet\nprice rain=yes\nuser ann\ndeposit ann 1\nedit ann rain=yes | season=wet to 800000\nprice rain=yes | season=wet\nprice rain=yes | season=dry\nprice season=wet\nresolve season=dry\nprice rain=yes | season=wet\nprice season=wet\nsettle\n",
+        output: "ready 2 100\nprice 0.4000000000..0.4000000000\nprice 0.3400000000..0.3400000000\nuser ann at 1\ndeposit ann 1 at 2\ntrade 1256584717458 733007751850 at 3\nprice 0.8000000000..0.8000000001\nprice 0.0999999999..0.1000000001\nprice 0.3999999999..0.4000000000\nresolve season=dry at 4\nrefused impossible season=wet\nrefused resolved season\nrefused open rain\n",
+        status: Status::Done,
+    },
+    Row {
+        market: ONE_TRADE,
+        commands: "user alice\ndeposit alice 1\nedit alice coin=heads to 600000\nedit alice coin=heads to 500000\nprice coin=heads\n",
+        output: "ready 1 100\nuser alice at 1\ndeposit alice 1 at 2\ntrade 1319413953331 879609302220 at 3\nrefused full 1\nprice 0.6000000000..0.6000000001\n",
+        status: Status::Done,
+    },
+    Row {
+        market: COIN,
+        commands: "user alice\nlimits alice coin=heads\ndeposit alice 1\nlimits alice coin=heads\nedit alice coin=heads to 0\nedit alice coin=heads to 1000000\n",
+        output: "ready 1 100\nuser alice at 1\nlimits 500000..500000 at 1\ndeposit alice 1 at 2\nlimits 250000..750000 at 2\nrefused range 0\nrefused range 1000000\n",
         status: Status::Done,
     },
 ];
