@@ -1,3 +1,4 @@
 pub mod Shapes
 pub mod Placings
 pub mod Flows
+pub mod inner
