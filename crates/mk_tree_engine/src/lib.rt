@@ -1,0 +1,8 @@
+//! The engine over a junction tree: beliefs by messages, of which only the stale ones are made anew.
+#![tactic(auto)]
+
+mod engine;
+mod laws;
+mod marks;
+
+pub use engine::TreeEngine;
