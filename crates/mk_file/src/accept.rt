@@ -17,7 +17,7 @@ use crate::cliques::{read_cliques, read_links};
 use crate::counts::check_counts;
 use crate::fault::FileFault;
 use crate::large::is_large;
-use crate::opened::MarketFile;
+use crate::market_file::MarketFile;
 use crate::walk::MarketDraft;
 use mk_net::Network;
 use mk_tree::Tree;

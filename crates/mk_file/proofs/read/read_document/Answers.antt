@@ -2,7 +2,7 @@ use Rattle.std.proofs.Common.{refl, rules}
 use Rattle.toml.specs.Errors.{IsMemory}
 use Rattle.toml.specs.View.{table_view}
 use Rattle.mk_file.proofs.Documents.{document_read, document_refused}
-use Rattle.mk_file.proofs.market_file.read_document.Goals as goal
+use Rattle.mk_file.proofs.read.read_document.Goals as goal
 
 pub returns-in-Ok-clause-document : goal.returns-in-Ok-clause-document
 returns-in-Ok-clause-document c =
