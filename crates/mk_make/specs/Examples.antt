@@ -1,0 +1,11 @@
+-- The edits of the smallest sample, as they are written.
+use Rattle.std.specs.Prelude.{◌≡◌, codes}
+use Rattle.mk_make.specs.Sample.{edits_of, edit_line}
+
+pub record HasFiveEdits : Type 0 where
+  pub five : edits_of 2 ≡ 5
+  pub first : edit_line 2 1 ≡ codes "edit u1 v2=yes | v1=yes to 237123\n"
+  pub second : edit_line 2 2 ≡ codes "edit u2 v1=yes to 274246\n"
+  pub third : edit_line 2 3 ≡ codes "edit u3 v2=yes | v1=yes to 311369\n"
+  pub fourth : edit_line 2 4 ≡ codes "edit u4 v1=yes to 348492\n"
+  pub fifth : edit_line 2 5 ≡ codes "edit u5 v2=yes | v1=yes to 385615\n"

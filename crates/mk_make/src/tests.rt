@@ -1,0 +1,1 @@
+//! The bytes of samples, against what an independent generator gave.
