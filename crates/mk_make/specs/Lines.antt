@@ -1,5 +1,5 @@
 -- Lines of words, and lists of items in brackets.
-use Rattle.std.specs.Prelude.{ℕ, List, [], ◌∷◌, ◌++◌, codes}
+use Rattle.std.specs.Prelude.{ℕ, List, [], ◌∷◌, ◌++◌, codes, if◌then◌else◌, ◌==◌}
 use Rattle.std.specs.List.{range_with_len}
 use Rattle.mk_text.specs.Joined.{◌&◌, items_text}
 
@@ -27,3 +27,7 @@ key_line key value = line (key ∷ codes "=" ∷ value ∷ [])
 -- the numbers from 1 to n
 abbrev pub numbers_to : ℕ → List ℕ
 numbers_to n = range_with_len 1 n
+
+-- a comma and a space before each item but the first
+abbrev pub comma_before : ℕ → List ℕ
+comma_before number = if number == 1 then [] else codes ", "

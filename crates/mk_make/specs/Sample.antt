@@ -29,28 +29,35 @@ file_head n =
     & links_line n
 
 -- a row of shares of a million
-abbrev pub row : ℕ → ℕ → List ℕ
-row no yes = listed (decimal no ∷ decimal yes ∷ [])
+abbrev pub row : List ℕ → List ℕ → List ℕ
+row of_no of_yes = listed (of_no ∷ of_yes ∷ [])
 
--- the first variable has no parents, and each other has the one before it
-unfoldable pub parents_of : ℕ → List ℕ
-parents_of i = if i == 1 then listed [] else listed (quoted_name (i - 1) ∷ [])
+-- on what a variable depends, and how: the first has no parents, and each other has the one before it
+unfoldable pub dependence_lines : ℕ → List ℕ
+dependence_lines i =
+    if i == 1 then
+    key_line (codes "parents") (listed [])
+    & key_line (codes "rows") (listed (row (codes "400000") (codes "600000") ∷ []))
+    else
+    key_line (codes "parents") (listed (quoted_name (i - 1) ∷ []))
+    & key_line (codes "rows") (listed (row (codes "700000") (codes "300000") ∷ row (codes "200000") (codes "800000") ∷ []))
 
-unfoldable pub rows_of : ℕ → List ℕ
-rows_of i = if i == 1 then listed (row 400000 600000 ∷ []) else listed (row 700000 300000 ∷ row 200000 800000 ∷ [])
-
+-- the table of a variable, behind an empty line
 unfoldable pub variable_part : ℕ → List ℕ
 variable_part i =
     line []
     & line (codes "[[variable]]" ∷ [])
     & key_line (codes "name") (quoted_name i)
     & key_line (codes "values") (listed (quoted (codes "no") ∷ quoted (codes "yes") ∷ []))
-    & key_line (codes "parents") (parents_of i)
-    & key_line (codes "rows") (rows_of i)
+    & dependence_lines i
 
 -- the bytes of the market file
 unfoldable pub sample_file : ℕ → List ℕ
 sample_file n = file_head n & flat_map variable_part (numbers_to n)
+
+-- how many users there are
+abbrev pub users : ℕ
+users = 8
 
 abbrev pub user_name : ℕ → List ℕ
 user_name k = codes "u" & decimal k
@@ -74,7 +81,7 @@ edits_of n = (5 * n) / 2
 
 -- the user, the variable and the price of edit j
 abbrev pub user_of : ℕ → ℕ
-user_of j = (j - 1) % 8 + 1
+user_of j = (j - 1) % users + 1
 
 abbrev pub variable_of : ℕ → ℕ → ℕ
 variable_of n j = (7 * j) % n + 1
@@ -101,8 +108,8 @@ settle_line = line (codes "settle" ∷ [])
 -- the bytes of the commands
 unfoldable pub sample_commands : ℕ → List ℕ
 sample_commands n =
-    flat_map join_line (numbers_to 8)
-    & flat_map deposit_line (numbers_to 8)
+    flat_map join_line (numbers_to users)
+    & flat_map deposit_line (numbers_to users)
     & flat_map (edit_line n) (numbers_to (edits_of n))
     & flat_map resolve_line (numbers_to n)
     & settle_line

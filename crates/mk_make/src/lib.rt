@@ -4,10 +4,12 @@
 mod commands;
 mod examples;
 mod file;
-mod sample;
+mod make;
 #[cfg(test)]
 mod tests;
+mod texts;
 mod words;
 
 pub use examples::five_edits;
-pub use sample::{Bytes, Sample, sample};
+pub use make::sample;
+pub use texts::{Bytes, Sample};

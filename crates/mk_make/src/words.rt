@@ -1,7 +1,7 @@
 //! The words of which the lines of the sample consist, each written at the end of a text.
 
 ghost use Rattle.std.specs.Prelude.{◌≡◌, ◌++◌, decimal, OnOk};
-ghost use Rattle.mk_make.specs.Lines.{quoted};
+ghost use Rattle.mk_make.specs.Lines.{comma_before};
 ghost use Rattle.mk_make.specs.Sample.{variable_name, quoted_name, user_name, pair_of, value_at};
 
 use itoa::Buffer;
@@ -20,6 +20,17 @@ pub fn put_number(out: &mut Vec<u8>, number: u32) -> Result<(), NoMemory>
     ensures { OnOk result (out.new.items ≡ out.old.items ++ decimal number) }
 {
     put_text(out, Buffer::new().format(number))
+}
+
+/// Writes what stands before item `number` of a list, counted from 1.
+pub fn put_comma(out: &mut Vec<u8>, number: u32) -> Result<(), NoMemory>
+    ensures { OnOk result (out.new.items ≡ out.old.items ++ comma_before number) }
+{
+    if number == 1 {
+        Ok(())
+    } else {
+        put_text(out, ", ")
+    }
 }
 
 /// Writes the name of a variable.
@@ -57,7 +68,8 @@ pub fn put_pair(out: &mut Vec<u8>, variable: u32, value: &str) -> Result<(), NoM
 }
 
 /// The value that stands at an odd number, or at an even one.
-pub fn value_of(number: u32) -> &'static str
+#[tactic(auto, unfolding(crate::specs::Sample::value_at))]
+pub fn value_at(number: u32) -> &'static str
     ensures { result.now ≡ value_at number }
 {
     if number % 2 == 1 { "yes" } else { "no" }

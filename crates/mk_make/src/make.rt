@@ -5,39 +5,9 @@ ghost use Rattle.mk_make.specs.Sample.{sample_file, sample_commands};
 
 use crate::commands::put_commands;
 use crate::file::put_file;
+use crate::texts::{Bytes, Sample};
 use mk_net::NoMemory;
 use std::alloc::Global;
-use std::marker::Model;
-
-/// Bytes of a text, each line of which ends with LF.
-#[derive(Drop)]
-pub struct Bytes {
-    text: Vec<u8>,
-}
-
-impl Model for Bytes {
-    ghost use Rattle.std.specs.Prelude.{ℕ, List};
-
-    ghost Value = { List ℕ };
-
-    ghost view = { λ b. b.text.items };
-}
-
-impl Bytes {
-    /// All of them, in order.
-    pub fn bytes(&self) -> &[u8]
-        ensures { result.now ≡ self.now }
-    {
-        self.text.as_slice()
-    }
-}
-
-/// A market file, and commands for a market that is started from it.
-#[derive(Drop)]
-pub struct Sample {
-    pub file: Bytes,
-    pub commands: Bytes,
-}
 
 /// The sample market of `n` variables, from 2 to 256: a chain in which each variable after the first has the one before it
 /// as its parent, and commands by which eight users join, pay in, make `5n/2` edits (rounded down) and settle.
@@ -53,7 +23,7 @@ pub fn sample(alloc: Global, n: u32) -> Result<Sample, NoMemory>
     let mut commands = Vec::new(alloc);
     put_commands(&mut commands, n)?;
     Ok(Sample {
-        file: Bytes { text: file },
-        commands: Bytes { text: commands },
+        file: Bytes::of(file),
+        commands: Bytes::of(commands),
     })
 }
