@@ -1,11 +1,10 @@
 -- How lines and listed items grow by one.
-use Rattle.std.proofs.Common.{◌≡◌, refl, sym, ap, ◌∙◌, ℕ, zero, suc, ◌+◌, ◌-◌, ◌≤◌, List, [], ◌∷◌, ◌++◌, map, codes, arith, append_assoc}
+use Rattle.std.proofs.Common.{◌≡◌, sym, ap, ◌∙◌, ℕ, zero, suc, ◌+◌, ◌-◌, ◌≤◌, List, [], ◌∷◌, ◌++◌, map, codes, arith, append_assoc}
 use Rattle.std.specs.List.{flat_map, range_with_len}
 use Rattle.std.proofs.lemmas.List.{append-nil, map-append}
 use Rattle.std.proofs.Math.Dec.{eqb-suc-suc, eqb-suc-zero}
 use Rattle.std.proofs.lemmas.Grind.{flat_map-append}
-use Rattle.std.proofs.lemmas.List.Concat.{flat_map-cons}
-use Rattle.mk_text.specs.Joined.{◌&◌, items_text}
+use Rattle.mk_text.specs.Joined.{items_text}
 use Rattle.mk_make.specs.Lines.{joined, comma_before, numbers_to}
 
 range_more : (a n : ℕ) → range_with_len a (suc n) ≡ range_with_len a n ++ (a + n) ∷ []
@@ -34,10 +33,6 @@ lines_more f (suc m) out h =
     ∙ ap (λ (t : List ℕ). out ++ t) (lines_after f m)
     ∙ sym (append_assoc out (flat_map f (numbers_to m)) (f (suc m)))
     ∙ ap (λ (j : ℕ). (out ++ flat_map f (numbers_to j)) ++ f (suc m)) here
-
--- all lines, where as many numbers as there are to be have been
-pub lines_all : (f : ℕ → List ℕ) (k n : ℕ) → k ≡ n + 1 → flat_map f (numbers_to (k - 1)) ≡ flat_map f (numbers_to n)
-lines_all f k n h = let e : k - 1 ≡ n = omega arith in ap (λ (j : ℕ). flat_map f (numbers_to j)) e
 
 items_after : (separator : List ℕ) (xs : List (List ℕ)) (y : List ℕ) →
     items_text separator (λ (t : List ℕ). t) (xs ++ y ∷ []) ≡ items_text separator (λ (t : List ℕ). t) xs ++ (separator ++ y)
@@ -81,8 +76,3 @@ items_more f (suc m) out h =
     ∙ sym (append_assoc out (items f m ++ comma_before (suc m)) (f (suc m)))
     ∙ ap (λ (t : List ℕ). t ++ f (suc m)) (sym (append_assoc out (items f m) (comma_before (suc m))))
     ∙ ap (λ (j : ℕ). ((out ++ items f j) ++ comma_before (suc m)) ++ f (suc m)) here
-
--- all items, where as many numbers as there are to be have been
-pub items_all : (f : ℕ → List ℕ) (k n : ℕ) → k ≡ n + 1 →
-    joined (codes ", ") (map f (numbers_to (k - 1))) ≡ joined (codes ", ") (map f (numbers_to n))
-items_all f k n h = let e : k - 1 ≡ n = omega arith in ap (items f) e

@@ -1,5 +1,5 @@
 -- The pieces in which the parts of the market file are written.
-use Rattle.std.proofs.Common.{◌≡◌, refl, sym, ap, ◌∙◌, ℕ, ◌-◌, List, [], ◌∷◌, ◌++◌, map, codes, decimal, append_assoc}
+use Rattle.std.proofs.Common.{◌≡◌, ap, ◌∙◌, ℕ, ◌-◌, List, [], ◌++◌, map, codes, decimal, append_assoc}
 use Rattle.std.proofs.lemmas.List.{append-nil}
 use Rattle.std.proofs.lemmas.Bool.{ne_eqb}
 use Rattle.mk_make.specs.Lines.{joined, numbers_to}

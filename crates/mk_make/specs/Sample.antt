@@ -1,5 +1,5 @@
 -- The sample market: n variables in a chain, each with its neighbours in a clique, and the commands that are given to it.
-use Rattle.std.specs.Prelude.{ℕ, ◌+◌, ◌-◌, ◌*◌, ◌/◌, ◌%◌, List, [], ◌∷◌, ◌++◌, map, codes, decimal, if◌then◌else◌, ◌==◌}
+use Rattle.std.specs.Prelude.{ℕ, ◌+◌, ◌-◌, ◌*◌, ◌/◌, ◌%◌, List, [], ◌∷◌, map, codes, decimal, if◌then◌else◌, ◌==◌}
 use Rattle.std.specs.List.{flat_map}
 use Rattle.mk_text.specs.Joined.{◌&◌}
 use Rattle.mk_make.specs.Lines.{line, quoted, listed, key_line, numbers_to}

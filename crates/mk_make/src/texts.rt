@@ -20,7 +20,7 @@ impl Model for Bytes {
 
 impl Bytes {
     /// The bytes of a text.
-    pub fn of(text: Vec<u8>) -> Bytes
+    pub(crate) fn of(text: Vec<u8>) -> Bytes
         ensures { result ≡ text.items }
     {
         Bytes { text }
