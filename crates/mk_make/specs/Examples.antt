@@ -1,6 +1,11 @@
--- The edits of the smallest sample, as they are written.
+-- Lines of the smallest sample, as they are written.
 use Rattle.std.specs.Prelude.{◌≡◌, codes}
-use Rattle.mk_make.specs.Sample.{edits_of, edit_line}
+use Rattle.mk_make.specs.Sample.{cliques_line, links_line, edits_of, edit_line}
+
+-- two variables have one clique together, which is linked to none
+pub record HasOneClique : Type 0 where
+  pub cliques : cliques_line 2 ≡ codes "cliques = [[\"v1\", \"v2\"]]\n"
+  pub links : links_line 2 ≡ codes "links = []\n"
 
 pub record HasFiveEdits : Type 0 where
   pub five : edits_of 2 ≡ 5

@@ -28,19 +28,18 @@ file_head n =
     & cliques_line n
     & links_line n
 
--- a row of shares of a million
+-- the shares of a million that the values no and yes have
 abbrev pub row : List ℕ → List ℕ → List ℕ
 row of_no of_yes = listed (of_no ∷ of_yes ∷ [])
+
+abbrev pub depends : List (List ℕ) → List (List ℕ) → List ℕ
+depends parents rows = key_line (codes "parents") (listed parents) & key_line (codes "rows") (listed rows)
 
 -- on what a variable depends, and how: the first has no parents, and each other has the one before it
 unfoldable pub dependence_lines : ℕ → List ℕ
 dependence_lines i =
-    if i == 1 then
-    key_line (codes "parents") (listed [])
-    & key_line (codes "rows") (listed (row (codes "400000") (codes "600000") ∷ []))
-    else
-    key_line (codes "parents") (listed (quoted_name (i - 1) ∷ []))
-    & key_line (codes "rows") (listed (row (codes "700000") (codes "300000") ∷ row (codes "200000") (codes "800000") ∷ []))
+    if i == 1 then depends [] (row (codes "400000") (codes "600000") ∷ [])
+    else depends (quoted_name (i - 1) ∷ []) (row (codes "700000") (codes "300000") ∷ row (codes "200000") (codes "800000") ∷ [])
 
 -- the table of a variable, behind an empty line
 unfoldable pub variable_part : ℕ → List ℕ
@@ -68,7 +67,7 @@ join_line k = line (codes "user" ∷ user_name k ∷ [])
 unfoldable pub deposit_line : ℕ → List ℕ
 deposit_line k = line (codes "deposit" ∷ user_name k ∷ codes "200" ∷ [])
 
--- a value that alternates, beginning with yes at 1
+-- yes where the number is odd, and no where it is even
 unfoldable pub value_at : ℕ → List ℕ
 value_at j = if j % 2 == 1 then codes "yes" else codes "no"
 
@@ -79,17 +78,19 @@ pair_of i value = variable_name i & codes "=" & value
 abbrev pub edits_of : ℕ → ℕ
 edits_of n = (5 * n) / 2
 
--- the user, the variable and the price of edit j
+-- edit j is made by each user in turn
 abbrev pub user_of : ℕ → ℕ
 user_of j = (j - 1) % users + 1
 
+-- the variable that edit j is about
 abbrev pub variable_of : ℕ → ℕ → ℕ
 variable_of n j = (7 * j) % n + 1
 
+-- the price that edit j asks for, in parts per million
 abbrev pub price_of : ℕ → ℕ
 price_of j = 200000 + (37123 * j) % 600001
 
--- whether a variable is yes, given the value of the variable before it where there is one
+-- what edit j asks of variable i: that it is yes, given a value of the variable before it, where there is one
 unfoldable pub question_of : ℕ → ℕ → List ℕ
 question_of i j =
     if i == 1 then pair_of i (codes "yes")

@@ -1,6 +1,11 @@
-//! The edits of the smallest sample.
+//! Lines of the smallest sample.
 
-ghost use Rattle.mk_make.specs.Examples.{HasFiveEdits};
+ghost use Rattle.mk_make.specs.Examples.{HasOneClique, HasFiveEdits};
+
+/// The sample of two variables has one clique, and these are the lines of its cliques and links.
+pub fn one_clique()
+    ensures { HasOneClique }
+{}
 
 /// The sample of two variables has five edits, and these are their lines.
 pub fn five_edits()

@@ -10,6 +10,6 @@ mod tests;
 mod texts;
 mod words;
 
-pub use examples::five_edits;
+pub use examples::{five_edits, one_clique};
 pub use make::sample;
 pub use texts::{Bytes, Sample};
