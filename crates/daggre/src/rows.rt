@@ -175,7 +175,13 @@ const LATE_PARENT: &[&str] = &[
 ];
 
 /// Markets that are served.
-pub const SERVED: [Row; 20] = [
+pub const SERVED: [Row; 21] = [
+    Row {
+        market: THIRTEEN_COINS,
+        commands: "price a=heads\n",
+        output: "ready 13 100\nprice 0.5000000000..0.5000000000\n",
+        status: Status::Done,
+    },
     Row {
         market: COIN,
         commands: "",
@@ -299,13 +305,7 @@ pub const SERVED: [Row; 20] = [
 ];
 
 /// Markets that are refused, and not asked anything.
-pub const REFUSED: [Row; 9] = [
-    Row {
-        market: THIRTEEN_COINS,
-        commands: "price a=heads\n",
-        output: "refused market large\n",
-        status: Status::MarketRefused,
-    },
+pub const REFUSED: [Row; 8] = [
     Row {
         market: &[
             HEAD,

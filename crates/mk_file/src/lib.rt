@@ -6,7 +6,6 @@ mod cliques;
 mod counts;
 mod fault;
 mod kinds;
-mod large;
 mod market_file;
 mod print;
 mod read;

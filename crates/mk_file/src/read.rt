@@ -4,7 +4,6 @@ ghost use Rattle.std.specs.Prelude.{◌≡◌, ◌≢◌, ℕ, ◌<◌, length, 
 ghost use Rattle.toml.specs.View.{table_view};
 ghost use Rattle.mk_tree.specs.Checked.{IsTreeOf};
 ghost use Rattle.mk_file.specs.File.{file_of, of_document, document_of, max_file_bytes};
-ghost use Rattle.mk_file.specs.Few.{HasFewStates};
 ghost use Rattle.mk_file.specs.inner.Views.{Gives};
 ghost use Rattle.mk_file.specs.MarketOf.{market_of};
 
@@ -33,7 +32,6 @@ fn read_document(alloc: Global, bytes: &[u8]) -> Result<Table, FileFault>
 /// The market of a document.
 fn read_market_in(alloc: Global, document: &Table) -> Result<MarketFile, FileFault>
     ensures market { Gives market_of result (of_document (Some (table_view document.now))) }
-    ensures few { IfOk result (λ file. HasFewStates file.net) }
     ensures tree { IfOk result (λ file. IsTreeOf file.net file.tree) }
 {
     let draft = read_draft(alloc, document)?;
@@ -46,7 +44,6 @@ pub fn read_market(alloc: Global, bytes: &[u8]) -> Result<MarketFile, FileFault>
     ensures accepted { IfOk result (λ file. file_of bytes.now ≡ Ok (market_of file)) }
     ensures refused { IfErr result (λ fault. fault ≢ FileFault.Memory → file_of bytes.now ≡ Err fault) }
     ensures too_long { max_file_bytes < length bytes.now → result ≡ Err FileFault.TooLong }
-    ensures few { IfOk result (λ file. HasFewStates file.net) }
     ensures tree { IfOk result (λ file. IsTreeOf file.net file.tree) }
 {
     if bytes.len() > MAX_FILE_BYTES {

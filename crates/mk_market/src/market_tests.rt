@@ -6,14 +6,14 @@ use crate::Market;
 use arrayvec::ArrayString;
 use mk_command::read_command;
 use mk_file::read_market;
-use mk_joint::JointEngine;
 use mk_reply::print_reply;
 use mk_semiring::{MinProd, SumProd};
+use mk_tree_engine::TreeEngine;
 use std::alloc::Global;
 use std::process::Abort;
 use std::test::Fail;
 
-type JointMarket = Market<JointEngine<SumProd>, JointEngine<MinProd>>;
+type TreeMarket = Market<TreeEngine<SumProd>, TreeEngine<MinProd>>;
 
 const COIN: &str = "points_per_bit = 100
 max_trades = 1000
@@ -146,7 +146,7 @@ const CHAIN_LINES: [(&str, &str); 8] = [
 fn expect_reply(
     rt: &impl Abort,
     alloc: Global,
-    market: &mut JointMarket,
+    market: &mut TreeMarket,
     line: &str,
     expected: &str,
 ) {
@@ -166,9 +166,9 @@ fn expect_replies(
     alloc: Global,
     file: &str,
     lines: &[(&str, &str)],
-) -> Result<JointMarket, Fail> {
+) -> Result<TreeMarket, Fail> {
     let file = read_market(alloc, file.as_bytes())?;
-    let mut market = JointMarket::start(alloc, file)?;
+    let mut market = TreeMarket::start(alloc, file)?;
     for (line, expected) in lines {
         expect_reply(rt, alloc, &mut market, line, expected);
     }
