@@ -1,2 +1,5 @@
 pub mod Within
 pub mod Margins
+pub mod Inputs
+pub mod Grading
+pub mod Readings
