@@ -1,3 +1,4 @@
 -- What only proofs and private contracts cite.
 pub mod Kept
 pub mod Gathered
+pub mod Shaped
