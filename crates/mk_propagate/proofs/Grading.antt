@@ -20,7 +20,7 @@ use Rattle.mk_propagate.specs.Shapes.{ShapeOf, IsShapeFor, IsClique, clique_cell
 use Rattle.mk_propagate.specs.Placings.{Placing, PlacedFactor, IsPlacing, factors_in}
 use Rattle.mk_propagate.specs.Flows.{exact_message_grade, all_cells, reading_grade}
 use Rattle.mk_propagate.specs.inner.Gathered.{is_taken, is_input, gathered_steps, gathered_factors}
-use Rattle.mk_propagate.proofs.Within.{cells_within}
+use Rattle.mk_propagate.proofs.Scopes.{clique_counted}
 use Rattle.mk_propagate.proofs.Inputs.{sum_inputs}
 
 -- sums over cliques
@@ -92,21 +92,6 @@ factors_at_most m (f ∷ fs) =
     let o = one_at_most f.clique m in
     omega (arith, ih, e, s, o)
 
--- the cells of a clique's scope are those that its tree counts
-kept_filtered : (set : ℕ → Bool) (xs : List ℕ) → keep set xs ≡ filter set xs
-kept_filtered set [] = refl
-kept_filtered set (x ∷ xs) = ap (λ (ys : List ℕ). cond (set x) (x ∷ ys) ys) (kept_filtered set xs)
-
-cells_chosen : (values xs : List ℕ) → cells (slice_index values) xs ≡ choices values xs
-cells_chosen values [] = refl
-cells_chosen values (x ∷ xs) = ap (λ n. slice_index values x * n) (cells_chosen values xs)
-
-pub clique_cells_are : (network : List Variable) (tree : GivenTree) (k : ℕ) → clique_cells network tree k ≡ cells_of network (clique_at tree k)
-clique_cells_are network tree k =
-    cells_within network (holds tree k)
-    ∙ cells_chosen (sizes network) (keep (holds tree k) (variables (sizes network)))
-    ∙ ap (choices (sizes network)) (kept_filtered (holds tree k) (variables (sizes network)) ∙ ap (λ n. filter (holds tree k) (numbers_below n)) (as_many network))
-
 module _ (shape : ShapeOf) (p : Placing) (is : IsShapeFor shape p.network) (placing : IsPlacing shape.tree p) where
   abbrev tree : GivenTree
   tree = shape.tree
@@ -117,7 +102,7 @@ module _ (shape : ShapeOf) (p : Placing) (is : IsShapeFor shape p.network) (plac
 
   few_cells : all_cells tree p ≤ 32768
   few_cells =
-      let e = sum_of_same (length tree.cliques) (clique_cells p.network tree) (λ j. cells_of p.network (clique_at tree j)) (λ j _ _. clique_cells_are p.network tree j) in
+      let e = sum_of_same (length tree.cliques) (clique_cells p.network tree) (λ j. cells_of p.network (clique_at tree j)) (λ j _ _. clique_counted p.network tree j) in
       let f = sum_of_first (cells_of p.network) tree.cliques no_variables (length tree.cliques) (omega arith) in
       let g = ap (sum_by (cells_of p.network)) (take-length tree.cliques) in
       let h = is.tree_is.few_cells in

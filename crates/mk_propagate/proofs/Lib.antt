@@ -1,6 +1,5 @@
-pub mod Within
+pub mod Scopes
 pub mod Margins
 pub mod Inputs
 pub mod Grading
 pub mod Readings
-pub mod Scopes

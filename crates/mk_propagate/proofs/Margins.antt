@@ -2,7 +2,7 @@
 use Rattle.std.proofs.Common.{◌≡◌, ℕ, suc, zero, ◌+◌, ◌*◌, ◌<◌, ◌≤◌, Bool, true, false, cond, not, ◌&&◌, ◌||◌, ◌⊎◌, inl, inr, eqb, List, [], ◌∷◌, filter, length, slice_index, refl, sym, ap, ◌∙◌, arith, one-mul, zero-mul, eq-eqb, ne_eqb}
 use Rattle.std.proofs.Math.Path.{fun_ext}
 use Rattle.std.specs.List.{list_all}
-use Rattle.std.proofs.lemmas.Bool.{cases_eq, both_ways}
+use Rattle.std.proofs.lemmas.Bool.{cases_eq, cases_Bool, both_ways, or_left, or_right}
 use Rattle.mk_net.specs.declared.words.Pair.{Pair}
 use Rattle.mk_net.specs.Network.{Variable, sizes}
 use Rattle.mk_exact.specs.States.{plus_over, numbers_below}
@@ -17,8 +17,21 @@ use Rattle.mk_sums.proofs.States.{is_plus, plus_below_numbers}
 use Rattle.mk_sums.proofs.Tables.{cells_nest, cell_of_place, place_cell_of}
 use Rattle.mk_table.specs.Scopes.{ScopeOf, size_in, cells_in, has_variable}
 use Rattle.mk_table.specs.Cells.{values_at, cell_in, cells_onto, cells_where}
+use Rattle.mk_table.proofs.Members.{keep_rising, rising_apart}
+use Rattle.mk_table.proofs.Places.{cells_same}
+use Rattle.mk_table.proofs.Kept.{value_in}
 use Rattle.mk_propagate.specs.Shapes.{scope_within}
-use Rattle.mk_propagate.proofs.Within.{listed_keep, held_variables, held_apart, size_within, cells_within, values_within, has_within, in_range_within, cell_same}
+use Rattle.mk_propagate.proofs.Scopes.{has_within, within_network, within_set, size_within, cells_within, values_within, part_lies_in}
+
+-- two sizes that agree on the variables count the same cell
+cell_same : (f g : ℕ → ℕ) (xs : List ℕ) → ((x : ℕ) → listed xs x ≡ true → f x ≡ g x) → (a : ℕ → ℕ) → cell_of f xs a ≡ cell_of g xs a
+cell_same f g [] h a = refl
+cell_same f g (x ∷ xs) h a =
+    let rest : (y : ℕ) → listed xs y ≡ true → f y ≡ g y = λ y p. h y (or_right (eqb y x) (listed xs y) p) in
+    ap (λ n. a x * n + cell_of f xs a) (cells_same f g xs rest) ∙ ap (λ n. a x * cells g xs + n) (cell_same f g xs rest a)
+
+abbrev held_variables : List Variable → (ℕ → Bool) → List ℕ
+held_variables network set = keep set (variables (sizes network))
 
 cond_times : (b : Bool) (n : ℕ) → cond b n 0 ≡ cond b 1 0 * n
 cond_times true n = sym (one-mul n)
@@ -109,14 +122,11 @@ module _ (plus : ℕ → ℕ → ℕ) (law : Lawful plus) where
               ∙ ap (λ n. a y * cells size ys + n) (ih (sym k ∙ h))
 
       cell_blind : (d : ℕ) → Blind beside (has_cell d)
-      cell_blind d a x v h =
-          ap (λ n. cond (eqb n d) 1 0)
-          (cell_reads (held_variables network part) a x v (listed_keep part (variables (sizes network)) x ∙ at (part x) (whole x) (listed (variables (sizes network)) x) h))
+      cell_blind d a x v h = ap (λ n. cond (eqb n d) 1 0) (cell_reads (held_variables network part) a x v (at (cases_Bool (has_variable (scope_within network part) x))))
         where
-          at : (p w l : Bool) → (w && not p) ≡ true → (p && l) ≡ false
-          at true true l q = absurd (both_ways false refl q)
-          at true false l q = absurd (both_ways false refl q)
-          at false w l q = refl
+          at : ((has_variable (scope_within network part) x ≡ true) ⊎ (has_variable (scope_within network part) x ≡ false)) → has_variable (scope_within network part) x ≡ false
+          at (inl q) = absurd (both_ways (beside x) (apart x (within_set network part x q)) h)
+          at (inr q) = q
 
       -- the plus over the cells that have the values of a part's cell is the nested plus over what the whole has beside the part
       pub margin_over : (f : (ℕ → ℕ) → ℕ) (d : ℕ) → d < cells_in (scope_within network part)
@@ -136,7 +146,7 @@ module _ (plus : ℕ → ℕ → ℕ) (law : Lawful plus) where
           ∙ ap (λ (g : (ℕ → ℕ) → ℕ). over plus size part vars g (λ x. 0)) (fun_ext (λ t. over-times plus law size beside vars (has_cell d) f t (cell_blind d)))
           ∙ cells_nest plus law size part vars (λ t. has_cell d t * rest t) (λ x. 0)
           ∙ below_same (cells size xs) (λ c. has_cell d (place size xs c (λ x. 0)) * rest (place size xs c (λ x. 0))) (λ c. cond (eqb c d) (rest (place size xs c (λ x. 0))) 0)
-          (λ c k. ap (λ n. cond (eqb n d) 1 0 * rest (place size xs c (λ x. 0))) (cell_of_place size xs (held_apart network part) c (λ x. 0) k) ∙ sym (cond_times (eqb c d) (rest (place size xs c (λ x. 0)))))
+          (λ c k. ap (λ n. cond (eqb n d) 1 0 * rest (place size xs c (λ x. 0))) (cell_of_place size xs (rising_apart xs (keep_rising part 0 (length (sizes network)))) c (λ x. 0) k) ∙ sym (cond_times (eqb c d) (rest (place size xs c (λ x. 0)))))
           ∙ below_one (cells size xs) d (λ c. rest (place size xs c (λ x. 0))) below
           ∙ ap rest (sym (values_within network part d))
 
@@ -145,19 +155,7 @@ module _ (plus : ℕ → ℕ → ℕ) (law : Lawful plus) where
           → values_at (scope_within network part) (cell_in (scope_within network part) (scope_within network whole) c) x ≡ values_at (scope_within network whole) c x
       values_of_part c l x h =
           let scope : ScopeOf = scope_within network part in
-          let there : InRange (size_in scope) scope.variables (values_at (scope_within network whole) c) = λ y p. in_part y p in
+          let there : InRange (size_in scope) scope.variables (values_at (scope_within network whole) c) =
+          λ y p. value_in scope (scope_within network whole) (part_lies_in network part whole inside) c l y p in
           place_cell_of (size_in scope) scope.variables (values_at (scope_within network whole) c) there (λ y. 0) x
           ∙ ap (λ b. cond b (values_at (scope_within network whole) c x) 0) h
-        where
-          in_part : (y : ℕ) → has_variable (scope_within network part) y ≡ true → values_at (scope_within network whole) c y < size_in (scope_within network part) y
-          in_part y p =
-              let s = size_within network part y p in
-              let r = in_range_within network whole c l y (held_too y p) in
-              omega (arith, s, r)
-            where
-              held_too : (y : ℕ) → has_variable (scope_within network part) y ≡ true → has_variable (scope_within network whole) y ≡ true
-              held_too y p = has_within network whole y ∙ at (part y) (whole y) (listed (variables (sizes network)) y) (inside y) (sym (has_within network part y) ∙ p)
-                where
-                  at : (p w l : Bool) → (p ≡ true → w ≡ true) → (p && l) ≡ true → (w && l) ≡ true
-                  at true w l h q = ap (λ b. b && l) (h refl) ∙ q
-                  at false w l h q = absurd (both_ways false refl q)

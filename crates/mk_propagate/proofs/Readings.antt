@@ -33,24 +33,8 @@ use Rattle.mk_engine.specs.Meaning.{Meaning, Factor, RowsOf, RatioOf, factor_the
 use Rattle.mk_propagate.specs.Shapes.{ShapeOf, IsShapeFor, IsClique, scope_within}
 use Rattle.mk_propagate.specs.Placings.{Placing, PlacedFactor, PlacedPair, IsFactorIn, IsPlacedFactor, IsPlacedPair, IsPlacing, factor_item, pair_item, items_of, placed_there, meaning_of}
 use Rattle.mk_propagate.specs.Flows.{exact_message}
+use Rattle.mk_propagate.proofs.Scopes.{listed_variable, variable_of_network}
 use Rattle.mk_propagate.proofs.Margins.{total_over}
-
--- numbers of a range are listed
-pub listed_range : (a n x : ℕ) → a ≤ x → x < a + n → listed (range_with_len a n) x ≡ true
-listed_range a zero x p q = absurd (omega arith)
-listed_range a (suc n) x p q = at (cases_eq x a) (λ r. listed_range (a + 1) n x r (omega arith))
-  where
-    at : ((x ≡ a) ⊎ (x ≡ a → ⊥)) → (a + 1 ≤ x → listed (range_with_len (a + 1) n) x ≡ true) → (eqb x a || listed (range_with_len (a + 1) n) x) ≡ true
-    at (inl e) ih = or_left (eqb x a) (listed (range_with_len (a + 1) n) x) (eq-eqb x a e)
-    at (inr d) ih = or_right (eqb x a) (listed (range_with_len (a + 1) n) x) (ih (omega (arith, d)))
-
-listed_below : (a n x : ℕ) → listed (range_with_len a n) x ≡ true → x < a + n
-listed_below a zero x h = absurd (both_ways false refl h)
-listed_below a (suc n) x h = at (or_cases (eqb x a) (listed (range_with_len (a + 1) n) x) h) (listed_below (a + 1) n x)
-  where
-    at : ((eqb x a ≡ true) ⊎ (listed (range_with_len (a + 1) n) x ≡ true)) → (listed (range_with_len (a + 1) n) x ≡ true → x < a + 1 + n) → x < a + suc n
-    at (inl e) ih = let f : x ≡ a = eqb-true x a e in omega (arith, f)
-    at (inr q) ih = let l = ih q in omega (arith, l)
 
 -- what a factor reads
 module _ (set : ℕ → Bool) (a b : ℕ → ℕ) (same : (x : ℕ) → set x ≡ true → a x ≡ b x) where
@@ -111,13 +95,11 @@ module _ (shape : ShapeOf) (p : Placing) (is : IsShapeFor shape p.network) (plac
 
   -- a clique holds variables of the network alone, and each variable lies in a clique
   pub held_listed : (k x : ℕ) → 1 ≤ k → k ≤ count → clique_holds tree k x ≡ true → listed (variables (sizes p.network)) x ≡ true
-  held_listed k x first last h =
-      let l : x < length p.network = is.tree_is.of_network (k - 1) no_variables (omega arith) x h in
-      listed_range 0 (length (sizes p.network)) x (omega arith) (omega (arith, l, as_many p.network))
+  held_listed k x first last h = listed_variable p.network x (is.tree_is.of_network (k - 1) no_variables (omega arith) x h)
 
   covers : Covers count (clique_holds tree) (variables (sizes p.network))
   covers x h =
-      let l : x < length p.network = let b = listed_below 0 (length (sizes p.network)) x h in omega (arith, b, as_many p.network) in
+      let l : x < length p.network = variable_of_network p.network x h in
       let c = any_at (holds_family p.network x) tree.cliques no_variables (is.tree_is.covers x l) in
       let q = and_parts (is_member (slice_index_or tree.cliques c.0 no_variables) x) (list_all (is_member (slice_index_or tree.cliques c.0 no_variables)) (variable_at p.network x).parents) c.2 in
       let e : suc c.0 - 1 ≡ c.0 = omega arith in
