@@ -3,3 +3,4 @@ pub mod Margins
 pub mod Inputs
 pub mod Grading
 pub mod Readings
+pub mod Messages
