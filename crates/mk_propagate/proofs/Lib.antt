@@ -4,3 +4,4 @@ pub mod Inputs
 pub mod Grading
 pub mod Readings
 pub mod Messages
+pub mod Shaped
