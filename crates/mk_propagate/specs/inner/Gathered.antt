@@ -1,11 +1,11 @@
 -- What a clique gathers: what is placed in it, times the messages of its neighbours, or of all but one.
-use Rattle.std.specs.Prelude.{◌≡◌, ℕ, ◌+◌, ◌-◌, ◌*◌, ◌<◌, Bool, true, not, ◌&&◌, ◌==◌, nat_lt, if◌then◌else◌, List, length, sum_by, Option, Some, None, slice_index_or}
+use Rattle.std.specs.Prelude.{◌≡◌, ℕ, ◌+◌, ◌-◌, ◌*◌, ◌<◌, Bool, true, not, ◌&&◌, ◌==◌, nat_lt, if◌then◌else◌, List, length, take, sum_by, Option, Some, None, slice_index_or}
 use Rattle.mk_exact.specs.States.{product_by}
 use Rattle.mk_sums.specs.Trees.{linked_to}
 use Rattle.mk_table.specs.Scopes.{cells_in}
 use Rattle.mk_table.specs.Tables.{TableOf}
 use Rattle.mk_tree.specs.Given.{GivenTree, link_of}
-use Rattle.mk_propagate.specs.Shapes.{ShapeOf, IsShapeFor, IsClique, clique_scope, separator_between}
+use Rattle.mk_propagate.specs.Shapes.{ShapeOf, IsShapeFor, IsClique, clique_scope, separator_between, neighbours}
 use Rattle.mk_propagate.specs.Placings.{Placing, IsPlacing, placed_there, factors_in}
 use Rattle.mk_propagate.specs.Flows.{HasCells, exact_message, exact_message_grade, no_table}
 
@@ -59,3 +59,8 @@ pub record HasGathered (plus : ℕ → ℕ → ℕ) (shape : ShapeOf) (k : ℕ) 
   pub cells : HasCells table (clique_scope shape k) (gathered plus shape.tree p k receiver listed)
       (gathered_steps shape.tree p k receiver listed) (gathered_factors shape.tree p k receiver listed)
   pub full : length table.digits ≡ cells_in table.scope
+
+-- a table has it for the first so many neighbours, at each placing
+pub record IsGathering (plus : ℕ → ℕ → ℕ) (shape : ShapeOf) (table : TableOf) (upward downward : List TableOf) (k : ℕ) (receiver : Option ℕ) (passed : ℕ) (t : TableOf) : Type 0 where
+  pub scope : t.scope ≡ table.scope
+  pub has : (p : Placing) → CanGather plus shape table upward downward k receiver p → HasGathered plus shape k receiver (take passed (neighbours shape.tree k)) t p
