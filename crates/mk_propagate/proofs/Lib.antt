@@ -5,3 +5,4 @@ pub mod Grading
 pub mod Readings
 pub mod Messages
 pub mod Shaped
+pub mod Sending

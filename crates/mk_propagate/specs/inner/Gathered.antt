@@ -1,9 +1,10 @@
 -- What a clique gathers: what is placed in it, times the messages of its neighbours, or of all but one.
 use Rattle.std.specs.Prelude.{◌≡◌, ℕ, ◌+◌, ◌-◌, ◌*◌, ◌<◌, Bool, true, not, ◌&&◌, ◌==◌, nat_lt, if◌then◌else◌, List, length, take, sum_by, Option, Some, None, slice_index_or}
-use Rattle.mk_exact.specs.States.{product_by}
+use Rattle.mk_exact.specs.States.{plus_over, product_by}
 use Rattle.mk_sums.specs.Trees.{linked_to}
 use Rattle.mk_table.specs.Scopes.{cells_in}
-use Rattle.mk_table.specs.Tables.{TableOf}
+use Rattle.mk_table.specs.Cells.{cells_onto}
+use Rattle.mk_table.specs.Tables.{TableOf, HasNumbers}
 use Rattle.mk_tree.specs.Given.{GivenTree, link_of}
 use Rattle.mk_propagate.specs.Shapes.{ShapeOf, IsShapeFor, IsClique, clique_scope, separator_between, neighbours}
 use Rattle.mk_propagate.specs.Placings.{Placing, IsPlacing, placed_there, factors_in}
@@ -64,3 +65,11 @@ pub record HasGathered (plus : ℕ → ℕ → ℕ) (shape : ShapeOf) (k : ℕ) 
 pub record IsGathering (plus : ℕ → ℕ → ℕ) (shape : ShapeOf) (table : TableOf) (upward downward : List TableOf) (k : ℕ) (receiver : Option ℕ) (passed : ℕ) (t : TableOf) : Type 0 where
   pub scope : t.scope ≡ table.scope
   pub has : (p : Placing) → CanGather plus shape table upward downward k receiver p → HasGathered plus shape k receiver (take passed (neighbours shape.tree k)) t p
+
+-- a table that was over some of the variables of another has in each cell the plus of the other's cells with its values
+pub record IsMargin (plus : ℕ → ℕ → ℕ) (whole before after : TableOf) : Type 0 where
+  pub scope : after.scope ≡ before.scope
+  pub shift : after.shift ≡ whole.shift
+  pub full : length after.digits ≡ cells_in after.scope
+  pub numbers : (f : ℕ → ℕ) (n : ℕ) → HasNumbers whole f n
+      → HasNumbers after (λ d. plus_over plus 0 f (cells_onto before.scope whole.scope d)) (n + 2 * cells_in whole.scope)
