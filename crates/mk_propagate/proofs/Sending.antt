@@ -10,7 +10,7 @@ use Rattle.mk_table.specs.Tables.{TableOf, HasRoom}
 use Rattle.mk_tree.specs.Given.{GivenTree, link_of}
 use Rattle.mk_propagate.specs.Shapes.{ShapeOf, IsShapeFor, IsClique, are_linked as is_linked, clique_scope, separator_scope, separator_between, neighbours}
 use Rattle.mk_propagate.specs.Placings.{Placing, IsPlacing}
-use Rattle.mk_propagate.specs.Flows.{FlowOf, HasPlaced, HasCells, IsRight, no_table, table_at, message_at}
+use Rattle.mk_propagate.specs.Flows.{FlowOf, HasPlaced, HasCells, IsRight, AreRightBut, no_table, table_at, message_at}
 use Rattle.mk_propagate.specs.inner.Kept.{IsKept}
 use Rattle.mk_propagate.specs.inner.Gathered.{is_input, message_in, AreMessages, IsRightIn, CanGather, HasGathered, IsMargin}
 use Rattle.mk_propagate.proofs.Messages.{are_ends, separator_lies_in, whole_room, message_sent}
@@ -108,6 +108,15 @@ can_gather plus flow p k receiver has clique right shape table upward downward s
     (subst (λ (x : List TableOf). CanGather plus flow.shape (table_at flow k) flow.upward x k receiver p) (sym d)
     (record { shape_is = has.shape_is; placing = has.placing; placed = has.tables k clique; right = λ i h. (right i h).cells }))))
 
+pub has_gathered : (plus : ℕ → ℕ → ℕ) (flow : FlowOf) (p : Placing) (k : ℕ) (receiver : Option ℕ) → HasPlaced flow p → IsClique flow.shape.tree k
+    → ((i : ℕ) → is_input flow.shape.tree k receiver i ≡ true → IsRight plus flow p i k)
+    → (shape : ShapeOf) (table : TableOf) (upward downward : List TableOf) → shape ≡ flow.shape → table ≡ table_at flow k → upward ≡ flow.upward → downward ≡ flow.downward
+    → (gathered : TableOf) → ((q : Placing) → CanGather plus shape table upward downward k receiver q → HasGathered plus shape k receiver (neighbours shape.tree k) gathered q)
+    → HasGathered plus flow.shape k receiver (neighbours flow.shape.tree k) gathered p
+has_gathered plus flow p k receiver has clique right shape table upward downward s t u d gathered h =
+    subst (λ (x : ShapeOf). HasGathered plus x k receiver (neighbours x.tree k) gathered p) s
+    (h p (can_gather plus flow p k receiver has clique right shape table upward downward s t u d))
+
 -- a message from a to b, upward or downward
 module _ (old : FlowOf) (p : Placing) (has : HasPlaced old p) (a b : ℕ) (linked_too : is_linked old.shape.tree a b ≡ true) where
   -- the end that is linked to the other
@@ -199,3 +208,51 @@ module _ (old : FlowOf) (p : Placing) (has : HasPlaced old p) (a b : ℕ) (linke
           ap (λ (x : TableOf). cond (ltb d c) (slice_index_or old.upward (c - 2) no_table) x)
           (get_or-set_other old.downward (b - 2) (d - 2) t no_table (λ e.
           let q = same_child d c b a (downward_child old p has c d h m) (downward_child old p has a b linked_too l) e in apart (q.1, q.0)))
+
+-- what clique a gathered for b from the parts of a kept flow
+module _ (plus : ℕ → ℕ → ℕ) (law : Lawful plus) (old : FlowOf) (scratch : List TableOf) (cells : ℕ) (kept : IsKept old scratch cells) (a b : ℕ)
+    (shape : ShapeOf) (table : TableOf) (upward downward : List TableOf) (s : shape ≡ old.shape) (t : table ≡ slice_index_or old.tables (a - 1) table) (u : upward ≡ old.upward) (d : downward ≡ old.downward)
+    (gathered : TableOf) (h : (q : Placing) → CanGather plus shape table upward downward a (Some b) q → HasGathered plus shape a (Some b) (neighbours shape.tree a) gathered q) where
+  module _ (p : Placing) (has : HasPlaced old p) (linked_too : is_linked old.shape.tree a b ≡ true) (right : AreRightBut plus old p a b) where
+    gathered_there : HasGathered plus old.shape a (Some b) (neighbours old.shape.tree a) gathered p
+    gathered_there =
+        let clique = sender old p has a b linked_too in
+        has_gathered plus old p a (Some b) has clique right shape table upward downward s (read_there old.tables (a - 1) table (table_within old scratch cells kept a clique) t) u d gathered h
+
+    pub room_there : HasRoom gathered (2 * cells_in gathered.scope)
+    room_there = send_room old p has a b linked_too plus law gathered gathered_there
+
+    module _ (before : TableOf) where
+      pub lies_up : b < a → before ≡ slice_index_or old.upward (a - 2) before → LiesIn before.scope gathered.scope
+      lies_up l e = send_lies_in old p has a b linked_too plus law gathered gathered_there before (separator_up old scratch cells kept a b (upward_child old p has a b linked_too l) l before e)
+
+      pub lies_down : a ≤ b → before ≡ slice_index_or old.downward (b - 2) before → LiesIn before.scope gathered.scope
+      lies_down l e = send_lies_in old p has a b linked_too plus law gathered gathered_there before (separator_down old scratch cells kept a b (downward_child old p has a b linked_too l) l before e)
+
+      module _ (after : TableOf) (computed : ℕ) (margin : IsMargin plus gathered before after) where
+        pub right_up : b < a → before ≡ slice_index_or old.upward (a - 2) before → IsRight plus (with_upward old (a - 2) after computed) p a b
+        right_up l e =
+            let c = upward_child old p has a b linked_too l in
+            sent_right old p has a b linked_too plus law gathered gathered_there before after (separator_up old scratch cells kept a b c l before e) margin (with_upward old (a - 2) after computed) refl
+            (message_up old a b computed after l (omega (arith, kept.one_less_up, c.later, c.within)))
+
+        pub right_down : a ≤ b → before ≡ slice_index_or old.downward (b - 2) before → IsRight plus (with_downward old (b - 2) after computed) p a b
+        right_down l e =
+            let c = downward_child old p has a b linked_too l in
+            sent_right old p has a b linked_too plus law gathered gathered_there before after (separator_down old scratch cells kept a b c l before e) margin (with_downward old (b - 2) after computed) refl
+            (message_down old a b computed after l (omega (arith, kept.one_less_down, c.later, c.within)))
+
+-- the flow is kept after both
+module _ (old : FlowOf) (scratch : List TableOf) (cells computed : ℕ) (kept : IsKept old scratch cells) (p : Placing) (has : HasPlaced old p) (a b : ℕ) (linked_too : is_linked old.shape.tree a b ≡ true)
+    (was gathered : TableOf) (e : was ≡ slice_index_or scratch (a - 1) was) (same : gathered.scope ≡ was.scope) (before after : TableOf) (over : after.scope ≡ before.scope) where
+  pub all_kept_up : b < a → before ≡ slice_index_or old.upward (a - 2) before → IsKept (with_upward old (a - 2) after computed) (slice_set scratch (a - 1) gathered) cells
+  all_kept_up l f =
+      let c = upward_child old p has a b linked_too l in
+      kept_upward old (slice_set scratch (a - 1) gathered) cells computed (scratch_kept old scratch cells kept a (sender old p has a b linked_too) was gathered e same) (a - 2) before after
+      (omega (arith, kept.one_less_up, c.later, c.within)) f over
+
+  pub all_kept_down : a ≤ b → before ≡ slice_index_or old.downward (b - 2) before → IsKept (with_downward old (b - 2) after computed) (slice_set scratch (a - 1) gathered) cells
+  all_kept_down l f =
+      let c = downward_child old p has a b linked_too l in
+      kept_downward old (slice_set scratch (a - 1) gathered) cells computed (scratch_kept old scratch cells kept a (sender old p has a b linked_too) was gathered e same) (b - 2) before after
+      (omega (arith, kept.one_less_down, c.later, c.within)) f over
