@@ -1,12 +1,13 @@
 -- The scopes of cliques and separators.
-use Rattle.std.proofs.Common.{◌≡◌, ℕ, suc, zero, ◌+◌, ◌*◌, ◌<◌, ◌≤◌, Bool, true, false, cond, ◌&&◌, ◌||◌, ◌⊎◌, inl, inr, eqb, List, [], ◌∷◌, map, filter, length, slice_index, slice_index_or, All, refl, sym, ap, subst, ◌∙◌, arith, eq-eqb}
+use Rattle.std.proofs.Common.{◌≡◌, ℕ, suc, zero, ◌+◌, ◌*◌, ◌<◌, ◌≤◌, Bool, true, false, cond, ◌&&◌, ◌||◌, ◌⊎◌, inl, inr, eqb, ◌-◌, List, [], ◌∷◌, map, filter, length, slice_index, slice_index_or, All, refl, sym, ap, subst, ◌∙◌, arith, eq-eqb}
 use Rattle.std.proofs.Math.Path.{fun_ext}
 use Rattle.std.proofs.Math.Nat.{mul-le-mul}
 use Rattle.std.proofs.lemmas.Bool.{cases_Bool, cases_eq, both_ways, or_left, or_right, or_cases, and_parts, and_from, eqb-true, cond-true, cond-false}
 use Rattle.std.proofs.lemmas.List.{length-map}
 use Rattle.std.specs.List.{range_with_len}
 use Rattle.mk_net.specs.declared.sets.VarSet.{VarSet}
-use Rattle.mk_net.specs.Sets.{is_member}
+use Rattle.mk_net.specs.Bounds.{max_clique_cells}
+use Rattle.mk_net.specs.Sets.{is_member, no_variables}
 use Rattle.mk_net.specs.Network.{Variable, IsNetwork, sizes, choices}
 use Rattle.mk_net.specs.Named.{nobody}
 use Rattle.mk_exact.specs.States.{numbers_below}
@@ -20,7 +21,8 @@ use Rattle.mk_table.proofs.Members.{size_of_map}
 use Rattle.mk_table.proofs.Places.{cells_same, place_same, place_below, place_other}
 use Rattle.mk_tree.specs.Given.{GivenTree, clique_at, holds, link_of}
 use Rattle.mk_tree.specs.Tests.{cells_of, members}
-use Rattle.mk_propagate.specs.Shapes.{scope_within, shares, clique_cells}
+use Rattle.mk_tree.specs.Checked.{IsTreeOf}
+use Rattle.mk_propagate.specs.Shapes.{IsClique, scope_within, shares, clique_cells}
 
 -- ---- what a list keeps
 
@@ -183,3 +185,27 @@ shared_lies_in network tree k = part_lies_in network (shares tree k) (holds tree
 
 pub shared_lies_in_link : (network : List Variable) (tree : GivenTree) (k : ℕ) → LiesIn (scope_within network (shares tree k)) (scope_within network (holds tree (link_of tree k)))
 shared_lies_in_link network tree k = part_lies_in network (shares tree k) (holds tree (link_of tree k)) (λ x h. (and_parts (holds tree k x) (holds tree (link_of tree k) x) h).1)
+
+-- ---- the scopes of a tree of the network
+
+clique_small : (network : List Variable) (tree : GivenTree) → IsTreeOf network tree → (k : ℕ) → 1 ≤ k → k ≤ length tree.cliques → clique_cells network tree k ≤ max_clique_cells
+clique_small network tree h k p q =
+    let l = h.small_cliques (k - 1) no_variables (omega arith) in
+    omega (arith, l, clique_counted network tree k)
+
+-- no clique has too many cells, and no separator
+pub clique_fits : (network : List Variable) (tree : GivenTree) → IsTreeOf network tree → (k : ℕ) → IsClique tree k → (set : VarSet) → set ≡ clique_at tree k → cells_in (scope_of network set) ≤ max_clique_cells
+clique_fits network tree h k is set e =
+    subst (λ (s : VarSet). cells_in (scope_of network s) ≤ max_clique_cells) (sym e) (clique_small network tree h k is.first is.last)
+
+-- the scope of what two cliques have in common, of which the one is the other's link
+pub shared_scope : (network : List Variable) (tree : GivenTree) (k link : ℕ) (a b set : VarSet) → a ≡ clique_at tree k → b ≡ clique_at tree link → link ≡ link_of tree k
+    → ((x : ℕ) → is_member set x ≡ (is_member a x && is_member b x)) → scope_of network set ≡ scope_within network (shares tree k)
+shared_scope network tree k link a b set e f g made =
+    ap (scope_within network) (fun_ext (λ x. made x ∙ ap (λ (s : VarSet). is_member s x && is_member b x) e ∙ ap (λ (s : VarSet). is_member (clique_at tree k) x && is_member s x) (f ∙ ap (clique_at tree) g)))
+
+pub shared_fits : (network : List Variable) (tree : GivenTree) → IsNetwork network → IsTreeOf network tree → (k : ℕ) → IsClique tree k → (set : VarSet) → scope_of network set ≡ scope_within network (shares tree k)
+    → cells_in (scope_of network set) ≤ max_clique_cells
+shared_fits network tree legal h k is set e =
+    let l = part_has_fewer network legal (shares tree k) (holds tree k) (λ x p. (and_parts (holds tree k x) (holds tree (link_of tree k) x) p).0) in
+    omega (arith, l, clique_small network tree h k is.first is.last, ap cells_in e)

@@ -134,6 +134,7 @@ fn separator_scopes(alloc: Global, net: &Network, tree: &Tree) -> Result<Vec<Rc<
     requires { IsTreeOf net.now tree.now }
     ensures { IfOk result (λ scopes. map (λ scope. scope.value) scopes.items ≡ scopes_of_separators net.now tree.now (length tree.now.cliques - 1)) }
 {
+    let _ = net.variables();
     let mut scopes = Vec::new(alloc);
     for passed in 0..tree.cliques() - 1 {
         let link = link(tree, passed + 2);
