@@ -1,2 +1,3 @@
 pub mod Scopes
 pub mod Shaped
+pub mod Placed
