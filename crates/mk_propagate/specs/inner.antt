@@ -2,3 +2,5 @@
 pub mod Kept
 pub mod Gathered
 pub mod Shaped
+pub mod Passes
+pub mod Ones

@@ -1,14 +1,16 @@
 //! What is placed in a flow.
 
-ghost use Rattle.std.specs.Prelude.{◌≡◌, ℕ, ◌+◌, ◌<◌, ◌≤◌, List, map, length, true, IfOk};
+ghost use Rattle.std.specs.Prelude.{◌≡◌, ℕ, ◌+◌, ◌-◌, ◌<◌, ◌≤◌, List, map, length, true, IfOk};
 ghost use Rattle.mk_net.specs.Trades.{trade_ratio};
 ghost use Rattle.mk_net.specs.Network.{Variable};
+ghost use Rattle.mk_sums.specs.Trees.{sum_of};
 ghost use Rattle.mk_table.specs.Scopes.{cells_in};
 ghost use Rattle.mk_tree.specs.Given.{AreLinked};
 ghost use Rattle.mk_engine.specs.Meaning.{RowsOf, RatioOf};
 ghost use Rattle.mk_propagate.specs.Shapes.{IsShapeFor, IsClique, clique_scope, separator_scope};
 ghost use Rattle.mk_propagate.specs.Placings.{Placing, nothing_placed, with_factor_in, with_pair_in, IsPlacedFactor, IsPlacedPair};
 ghost use Rattle.mk_propagate.specs.Flows.{HasPlaced, CanPlace, Places, KeepsMessages};
+ghost use Rattle.mk_propagate.specs.inner.Ones.{AreOnes};
 
 use crate::shape::Shape;
 use mk_net::{Network, NoMemory, Pair, Ratio};
@@ -61,6 +63,30 @@ impl<R: Semiring> Model for Flow<R> {
 }
 
 impl<R: Semiring> Flow<R> {
+    /// Nothing is placed.
+    pub fn start(alloc: Global, shape: &Rc<Shape>) -> Result<Flow<R>, NoMemory>
+        ensures shape { IfOk result (λ flow. flow.shape ≡ shape.now.value) }
+        ensures computed { IfOk result (λ flow. flow.computed ≡ 0) }
+        ensures placed { IfOk result (λ flow. (network : List Variable) → IsShapeFor shape.now.value network → HasPlaced flow (nothing_placed network)) }
+    {
+        let of: &Shape = shape;
+        let _ = of.cliques();
+        let tables = tables_of_cliques(alloc, of)?;
+        let upward = tables_of_separators(alloc, of)?;
+        let downward = tables_of_separators(alloc, of)?;
+        let scratch = tables_of_cliques(alloc, of)?;
+        Ok(Flow {
+            shape: shape.clone()?,
+            tables,
+            upward,
+            downward,
+            scratch,
+            cells: count_cells(of),
+            factors: 0,
+            computed: 0,
+        })
+    }
+
     /// The shape.
     pub fn shape(&self) -> &Shape
         ensures { result.now ≡ self.now.shape }
@@ -74,4 +100,69 @@ impl<R: Semiring> Flow<R> {
     {
         self.computed
     }
+    /// Places the rows of a variable in a clique that holds it and its parents.
+    pub fn times_rows(&mut self, clique: u32, net: &Network, variable: u32)
+        requires { (p : Placing) × CanPlace self.old p × (p.network ≡ net.now)
+            × IsPlacedFactor net.now self.old.shape.tree (record { clique = clique; factor = RowsOf variable }) }
+        ensures places { (p : Placing) → HasPlaced self.old p → p.network ≡ net.now
+            → Places R.plus_of self.old self.new clique p (with_factor_in clique (RowsOf variable) p) }
+        ensures kept { KeepsMessages self.old self.new }
+    {
+        self.tables[clique as usize - 1].times_rows(net, variable);
+        self.factors += 1;
+    }
+
+    /// Places the ratio of a trade in a clique that holds its variables.
+    pub fn times_ratio(&mut self, clique: u32, ratio: &Ratio)
+        requires { (p : Placing) × CanPlace self.old p
+            × IsPlacedFactor p.network self.old.shape.tree (record { clique = clique; factor = RatioOf (trade_ratio ratio.now) }) }
+        ensures places { (p : Placing) → HasPlaced self.old p
+            → Places R.plus_of self.old self.new clique p (with_factor_in clique (RatioOf (trade_ratio ratio.now)) p) }
+        ensures kept { KeepsMessages self.old self.new }
+    {
+        self.tables[clique as usize - 1].times_ratio(ratio);
+        self.factors += 1;
+    }
+
+    /// Places a known pair in a clique that holds its variable.
+    pub fn restrict(&mut self, clique: u32, pair: Pair)
+        requires { (p : Placing) × HasPlaced self.old p × IsPlacedPair p.network self.old.shape.tree (record { clique = clique; pair = pair }) }
+        ensures places { (p : Placing) → HasPlaced self.old p → Places R.plus_of self.old self.new clique p (with_pair_in clique pair p) }
+        ensures kept { KeepsMessages self.old self.new }
+    {
+        self.tables[clique as usize - 1].restrict(pair);
+    }
+}
+
+/// A table of ones over the scope of each clique.
+fn tables_of_cliques<R: Semiring>(alloc: Global, shape: &Shape) -> Result<Vec<Table<R>>, NoMemory>
+    ensures { IfOk result (λ tables. AreOnes (clique_scope shape.now) 1 (length shape.now.tree.cliques) tables.items) }
+{
+    let mut tables = Vec::new(alloc);
+    for passed in 0..shape.cliques() {
+        tables.push(Table::ones(alloc, shape.clique(passed + 1))?)?;
+    }
+    Ok(tables)
+}
+
+/// A table of ones over the scope of each separator.
+fn tables_of_separators<R: Semiring>(alloc: Global, shape: &Shape) -> Result<Vec<Table<R>>, NoMemory>
+    ensures { IfOk result (λ tables. AreOnes (separator_scope shape.now) 2 (length shape.now.tree.cliques - 1) tables.items) }
+{
+    let mut tables = Vec::new(alloc);
+    for passed in 0..shape.cliques() - 1 {
+        tables.push(Table::ones(alloc, shape.separator(passed + 2))?)?;
+    }
+    Ok(tables)
+}
+
+/// How many cells all cliques have.
+fn count_cells(shape: &Shape) -> u32
+    ensures { result ≡ sum_of (λ k. true) (length shape.now.tree.cliques) (λ k. cells_in (clique_scope shape.now k)) }
+{
+    let mut cells = 0;
+    for passed in 0..shape.cliques() {
+        cells += shape.clique(passed + 1).cells() as u32;
+    }
+    cells
 }
