@@ -9,3 +9,4 @@ pub mod Grading
 pub mod Readings
 pub mod Messages
 pub mod Sending
+pub mod Believing

@@ -3,6 +3,7 @@
 
 mod flow;
 mod message;
+mod read;
 mod shape;
 
 pub use flow::Flow;
