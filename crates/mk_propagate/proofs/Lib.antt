@@ -3,3 +3,6 @@ pub mod Shaped
 pub mod Placed
 pub mod Required
 pub mod Calls
+pub mod Order
+pub mod Passed
+pub mod Passes
