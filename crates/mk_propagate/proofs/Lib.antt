@@ -6,3 +6,9 @@ pub mod Calls
 pub mod Order
 pub mod Passed
 pub mod Passes
+pub mod Margins
+pub mod Inputs
+pub mod Grading
+pub mod Readings
+pub mod Messages
+pub mod Sending
