@@ -8,3 +8,6 @@ mod shape;
 
 pub use flow::Flow;
 pub use shape::Shape;
+
+#[cfg(test)]
+mod tests;
