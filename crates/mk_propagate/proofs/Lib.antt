@@ -12,3 +12,4 @@ pub mod Grading
 pub mod Readings
 pub mod Messages
 pub mod Sending
+pub mod Believing

@@ -80,7 +80,7 @@ any_at test (x ∷ xs) d h = at (or_cases (test x) (list_any test xs) h) (any_at
     at (inl p) ih = (0, omega arith, p)
     at (inr q) ih = let r = ih q in (suc r.0, omega (arith, r.1), r.2)
 
-pairs_all : (set : VarSet) (event : List Pair) → holds_event event set ≡ true → All (λ (p : Pair). is_member set p.variable ≡ true) event
+pub pairs_all : (set : VarSet) (event : List Pair) → holds_event event set ≡ true → All (λ (p : Pair). is_member set p.variable ≡ true) event
 pairs_all set [] h = All-nil (λ (p : Pair). is_member set p.variable ≡ true)
 pairs_all set (p ∷ ps) h =
     let q = and_parts (is_member set p.variable) (holds_event ps set) h in

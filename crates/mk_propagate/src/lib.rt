@@ -4,6 +4,7 @@
 mod collect;
 mod flow;
 mod message;
+mod read;
 mod shape;
 
 pub use flow::Flow;
