@@ -3,6 +3,9 @@ pub mod Shaped
 pub mod Placed
 pub mod Required
 pub mod Calls
+pub mod Order
+pub mod Passed
+pub mod Passes
 pub mod Margins
 pub mod Inputs
 pub mod Grading

@@ -146,7 +146,10 @@ fn tables_of_cliques<R: Semiring>(alloc: Global, shape: &Shape) -> Result<Vec<Ta
 }
 
 /// A table of ones over the scope of each separator.
-fn tables_of_separators<R: Semiring>(alloc: Global, shape: &Shape) -> Result<Vec<Table<R>>, NoMemory>
+fn tables_of_separators<R: Semiring>(
+    alloc: Global,
+    shape: &Shape,
+) -> Result<Vec<Table<R>>, NoMemory>
     ensures { IfOk result (λ tables. AreOnes (separator_scope shape.now) 2 (length shape.now.tree.cliques - 1) tables.items) }
 {
     let mut tables = Vec::new(alloc);

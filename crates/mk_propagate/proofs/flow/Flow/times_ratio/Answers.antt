@@ -26,7 +26,7 @@ pub times_ratio-requires-clause-room : goal.times_ratio-requires-clause-room
 times_ratio-requires-clause-room g c =
     let inside = c.self.inside in
     let old : FlowOf = record { shape = inside.shape.value; tables = inside.tables.items; upward = inside.upward.items; downward = inside.downward.items; factors = inside.factors; computed = inside.computed } in
-    room old c.args.self.now c.self.view_is inside.scratch.items inside.cells c.self.invariant c.requires.0 c.requires.1.has c.args.clique c.requires.2.clique_is c.index_mut.result.now c.index_mut.ensures.value 
+    room old c.args.self.now c.self.view_is inside.scratch.items inside.cells c.self.invariant c.requires.0 c.requires.1.has c.args.clique c.requires.2.clique_is c.index_mut.result.now c.index_mut.ensures.value
 
 pub returns-clause-places : goal.returns-clause-places
 returns-clause-places g c = λ p h.
