@@ -9,3 +9,6 @@ mod shape;
 
 pub use flow::Flow;
 pub use shape::Shape;
+
+#[cfg(test)]
+mod tests;
