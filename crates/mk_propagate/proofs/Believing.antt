@@ -8,13 +8,14 @@ use Rattle.mk_net.specs.Bounds.{number_limit}
 use Rattle.mk_net.specs.Sets.{is_member, no_variables}
 use Rattle.mk_exact.specs.States.{plus_over}
 use Rattle.mk_exact.specs.Lawful.{Lawful}
-use Rattle.mk_cell.specs.Cell.{StandsAt}
+use Rattle.mk_cell.specs.Cell.{StandsAt, IsOwnAt}
 use Rattle.mk_cell.specs.inner.Laws.{stands_with_more}
 use Rattle.mk_sums.specs.Trees.{times_of, linked_to, sum_of}
 use Rattle.mk_sums.proofs.Sets.{times_agree}
 use Rattle.mk_table.specs.Scopes.{ScopeOf, cells_in, has_variable, HasEvent}
 use Rattle.mk_table.specs.Cells.{values_at, cells_where}
 use Rattle.mk_table.specs.Tables.{TableOf, HasNumbers, HasRoom}
+use Rattle.mk_table.proofs.Owned.{own_more}
 use Rattle.mk_tree.proofs.Cells.{cells_positive}
 use Rattle.mk_tree.specs.Given.{GivenTree, clique_at, holds, link_of, holds_event}
 use Rattle.mk_engine.specs.Meaning.{exact_belief, whole_sum}
@@ -103,6 +104,14 @@ module _ (plus : ℕ → ℕ → ℕ) (law : Lawful plus) (flow : FlowOf) (scrat
       → StandsAt table.shift digits exponent totalled (3 * grade)
   total_stands grade digits exponent is total =
       stands_with_more table.shift digits exponent totalled (gathered_steps tree p k None (neighbours tree k) + 2 * cells_in table.scope) (3 * grade)
+      (let l = reading_steps flow.shape p has.shape_is has.placing k clique None in let e = grade_is in let s = ap cells_in scope_is in omega (arith, l, e, s, is))
+      (total (λ c. gathered plus tree p k None (neighbours tree k) (values_at table.scope c)) (gathered_steps tree p k None (neighbours tree k)) g.cells.numbers)
+
+  pub total_own : (grade digits exponent : ℕ) → grade ≡ counted_grade
+      → ((f : ℕ → ℕ) (n : ℕ) → HasNumbers table f n → IsOwnAt table.shift digits exponent (plus_over plus 0 f (cells_where table.scope event)) (n + 2 * cells_in table.scope))
+      → IsOwnAt table.shift digits exponent totalled (3 * grade)
+  total_own grade digits exponent is total =
+      own_more table.shift digits exponent totalled (gathered_steps tree p k None (neighbours tree k) + 2 * cells_in table.scope) (3 * grade)
       (let l = reading_steps flow.shape p has.shape_is has.placing k clique None in let e = grade_is in let s = ap cells_in scope_is in omega (arith, l, e, s, is))
       (total (λ c. gathered plus tree p k None (neighbours tree k) (values_at table.scope c)) (gathered_steps tree p k None (neighbours tree k)) g.cells.numbers)
 

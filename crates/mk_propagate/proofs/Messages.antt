@@ -10,7 +10,7 @@ use Rattle.mk_net.specs.Sets.{no_variables}
 use Rattle.mk_exact.specs.States.{plus_over, product_by}
 use Rattle.mk_exact.specs.Lawful.{Lawful}
 use Rattle.mk_exact.proofs.Sums.{product_by_push}
-use Rattle.mk_cell.specs.Cell.{StandsAt}
+use Rattle.mk_cell.specs.Cell.{StandsAt, IsOwnAt}
 use Rattle.mk_cell.specs.inner.Laws.{stands_with_more}
 use Rattle.mk_sums.specs.Sums.{over}
 use Rattle.mk_sums.specs.Trees.{times_of, linked, linked_to, linked_but}
@@ -27,6 +27,7 @@ use Rattle.mk_propagate.specs.Placings.{Placing, IsPlacing, placed_there, factor
 use Rattle.mk_propagate.specs.Flows.{HasCells, exact_message, exact_message_grade}
 use Rattle.mk_propagate.specs.inner.Gathered.{is_taken, is_input, IsRightIn, gathered, gathered_steps, gathered_factors, HasGathered}
 use Rattle.mk_propagate.proofs.Scopes.{has_within, part_lies_in, variable_of_network}
+use Rattle.mk_table.proofs.Owned.{own_more}
 use Rattle.mk_propagate.proofs.Margins.{margin_over, values_of_part}
 use Rattle.mk_propagate.proofs.Inputs.{times_inputs}
 use Rattle.mk_propagate.proofs.Grading.{few_steps, few_factors, message_steps, message_factors}
@@ -38,6 +39,7 @@ numbers_again t f g n more l same h = record {
   stand = record {
     each = λ c k. subst (λ v. StandsAt t.shift (slice_index t.digits c) (slice_index t.exponents c) v more) (same c k) (stands_with_more t.shift (slice_index t.digits c) (slice_index t.exponents c) (f c) n more l (h.stand.each c k));
   };
+  own = λ c k untouched. subst (λ v. IsOwnAt t.shift (slice_index t.digits c) (slice_index t.exponents c) v more) (same c k) (own_more t.shift (slice_index t.digits c) (slice_index t.exponents c) (f c) n more l (h.own c k untouched));
 }
 
 -- one factor more of a product over a list

@@ -15,7 +15,7 @@ ghost use Rattle.mk_propagate.specs.inner.Ones.{AreOnes};
 use crate::shape::Shape;
 use mk_net::{Network, NoMemory, Pair, Ratio};
 use mk_semiring::Semiring;
-use mk_table::Table;
+use mk_table::{CellList, Table};
 use std::alloc::Global;
 use std::marker::Model;
 use std::rc::Rc;
@@ -29,8 +29,9 @@ pub struct Flow<R: Semiring> {
     pub(crate) tables: Vec<Table<R>>,
     pub(crate) upward: Vec<Table<R>>,
     pub(crate) downward: Vec<Table<R>>,
-    // Where a message or a belief is worked out: one table for each clique.
+    // Where a message or a belief is worked out: one table for each clique, and the cells of an event.
     pub(crate) scratch: Vec<Table<R>>,
+    pub(crate) chosen: CellList,
     // Of all cliques.
     pub(crate) cells: u32,
     pub(crate) factors: u32,
@@ -81,6 +82,7 @@ impl<R: Semiring> Flow<R> {
             upward,
             downward,
             scratch,
+            chosen: CellList::new(),
             cells: count_cells(of),
             factors: 0,
             computed: 0,
@@ -100,6 +102,7 @@ impl<R: Semiring> Flow<R> {
     {
         self.computed
     }
+
     /// Places the rows of a variable in a clique that holds it and its parents.
     pub fn times_rows(&mut self, clique: u32, net: &Network, variable: u32)
         requires { (p : Placing) × CanPlace self.old p × (p.network ≡ net.now)

@@ -31,7 +31,8 @@ impl<R: Semiring> Flow<R> {
         );
         let separators = self.shape.cliques() - 1;
         let grade = self.factors + self.cells + 2 * separators + gathered.cells() as u32;
-        let total = gathered.total(event);
-        R::of_cell(total, gathered.shift(), grade)
+        let total = gathered.total(event, &mut self.chosen);
+        let untouched = gathered.is_untouched(event);
+        R::of_cell(total, gathered.shift(), untouched, grade)
     }
 }

@@ -1,10 +1,11 @@
-use Rattle.std.proofs.Common.{◌≡◌, ℕ, ◌+◌, ◌-◌, ◌*◌, ◌<◌, ◌≤◌, List, length, None, refl, sym, ap, subst, ◌∙◌, arith}
+use Rattle.std.proofs.Common.{◌≡◌, ℕ, ◌+◌, ◌-◌, ◌*◌, ◌<◌, ◌≤◌, List, length, None, IsTrue, refl, sym, ap, subst, ◌∙◌, arith}
+use Rattle.mk_cell.specs.Cell.{IsOwnAt}
 use Rattle.mk_table.specs.Scopes.{cells_in}
 use Rattle.mk_propagate.specs.Shapes.{ShapeOf}
 use Rattle.mk_propagate.specs.Placings.{Placing}
 use Rattle.mk_propagate.specs.Flows.{FlowOf, HasPlaced, AreRightInto, CanRead, IsReading}
 use Rattle.mk_propagate.proofs.Sending.{read_there, table_within, can_gather}
-use Rattle.mk_propagate.proofs.Believing.{all_inputs, gathered_all, event_there, total_room, some_cells, few_before, totalled, total_stands, reading_of}
+use Rattle.mk_propagate.proofs.Believing.{all_inputs, gathered_all, event_there, total_room, some_cells, few_before, totalled, total_stands, total_own, reading_of}
 use Rattle.mk_propagate.proofs.flow.Flow.read.Goals as goal
 
 pub gather-requires-clause-right : goal.gather-requires-clause-right
@@ -76,7 +77,7 @@ of_cell-requires-clause-stands g c =
     let count = c.cliques-separators.ensures.count ∙ ap (λ (s : ShapeOf). length s.tree.cliques) c.deref-4.ensures in
     let grade = c.self.inside.factors + c.self.inside.cells + 2 * (c.cliques-separators.result - 1) + c.cells.result in
     let is : grade ≡ c.self.inside.factors + c.self.inside.cells + 2 * (length c.self.inside.shape.value.tree.cliques - 1) + cells_in c.gather.new.gathered.scope = omega (arith, count, c.cells.ensures.cells) in
-    (totalled plus law _ _ _ c.self.invariant k event c.gather.new.gathered can.placing can.has can.clique_is can.holds_it there, rw c.shift.ensures (total_stands plus law _ _ _ c.self.invariant k event c.gather.new.gathered can.placing can.has can.clique_is can.holds_it there grade c.total-total.result.digits c.total-total.result.exponent is c.total-total.ensures))
+    (totalled plus law _ _ _ c.self.invariant k event c.gather.new.gathered can.placing can.has can.clique_is can.holds_it there, rw c.shift.ensures (total_stands plus law _ _ _ c.self.invariant k event c.gather.new.gathered can.placing can.has can.clique_is can.holds_it there grade c.total-total.result.digits c.total-total.result.exponent is c.total-total.ensures.stands))
 
 pub returns-clause-reading : goal.returns-clause-reading
 returns-clause-reading g c = λ p h r.
@@ -90,7 +91,20 @@ returns-clause-reading g c = λ p h r.
     let grade = c.self.inside.factors + c.self.inside.cells + 2 * (c.cliques-separators.result - 1) + c.cells.result in
     let is : grade ≡ c.self.inside.factors + c.self.inside.cells + 2 * (length c.self.inside.shape.value.tree.cliques - 1) + cells_in c.gather.new.gathered.scope = omega (arith, count, c.cells.ensures.cells) in
     let v = totalled plus law _ _ _ c.self.invariant k event c.gather.new.gathered p has can.clique_is can.holds_it there in
-    let stands = rw (sym c.shift.ensures) at (total_stands plus law _ _ _ c.self.invariant k event c.gather.new.gathered p has can.clique_is can.holds_it there grade c.total-total.result.digits c.total-total.result.exponent is c.total-total.ensures) in
+    let stands = rw (sym c.shift.ensures) at (total_stands plus law _ _ _ c.self.invariant k event c.gather.new.gathered p has can.clique_is can.holds_it there grade c.total-total.result.digits c.total-total.result.exponent is c.total-total.ensures.stands) in
+    let own : IsTrue c.is_untouched-untouched.result → IsOwnAt c.shift.result c.total-total.result.digits c.total-total.result.exponent v (3 * grade) =
+    λ t. rw (sym c.shift.ensures) at (total_own plus law _ _ _ c.self.invariant k event c.gather.new.gathered p has can.clique_is can.holds_it there grade c.total-total.result.digits c.total-total.result.exponent is (c.total-total.ensures.own (sym c.is_untouched-untouched.ensures ∙ t))) in
     subst (λ (f : FlowOf). IsReading R.encloses R.has_grade R.is_exact plus f.shape.tree p k event c.of_cell.result) c.self.view_is
     (reading_of plus law _ _ _ c.self.invariant k event c.gather.new.gathered p has can.clique_is can.holds_it there R.encloses R.has_grade R.is_exact c.of_cell.result grade is
-    (c.of_cell.ensures.value v stands) c.of_cell.ensures.grade (c.of_cell.ensures.exact v stands))
+    (c.of_cell.ensures.value v stands own) c.of_cell.ensures.grade (c.of_cell.ensures.exact v stands))
+
+pub of_cell-requires-clause-own : goal.of_cell-requires-clause-own
+of_cell-requires-clause-own g c = λ t.
+    let plus = g.R.Semiring.plus_of in let law = g.met.R.Semiring.lawful in let k = c.args.clique in let event = c.args.event.now in
+    let can = subst (λ (f : FlowOf). CanRead plus f k event) (sym c.self.view_is) c.requires in
+    let there = gathered_all plus _ _ _ c.self.invariant k can.placing can.has can.clique_is can.right c.deref.result.now c.index.result.now c.deref-2.result.now c.deref-3.result.now c.deref.ensures c.index.ensures c.deref-2.ensures.value c.deref-3.ensures.value c.gather.new.gathered c.gather.ensures.gathered in
+    let count = c.cliques-separators.ensures.count ∙ ap (λ (s : ShapeOf). length s.tree.cliques) c.deref-4.ensures in
+    let grade = c.self.inside.factors + c.self.inside.cells + 2 * (c.cliques-separators.result - 1) + c.cells.result in
+    let is : grade ≡ c.self.inside.factors + c.self.inside.cells + 2 * (length c.self.inside.shape.value.tree.cliques - 1) + cells_in c.gather.new.gathered.scope = omega (arith, count, c.cells.ensures.cells) in
+    let own = total_own plus law _ _ _ c.self.invariant k event c.gather.new.gathered can.placing can.has can.clique_is can.holds_it there grade c.total-total.result.digits c.total-total.result.exponent is (c.total-total.ensures.own (sym c.is_untouched-untouched.ensures ∙ t)) in
+    (own.own, own.stands)
