@@ -152,7 +152,7 @@ module _ (shape : ShapeOf) (p : Placing) (is : IsShapeFor shape p.network) (plac
         cells = record {
           scope_is = h.scope_is;
           numbers = numbers_again table (λ c. placed_there p k (values_at table.scope c)) (λ c. gathered plus tree p k receiver [] (values_at table.scope c)) (factors_in p k) (gathered_steps tree p k receiver []) (omega arith)
-          (λ c _. sym (mul-one (placed_there p k (values_at table.scope c)))) h.numbers;
+              (λ c _. sym (mul-one (placed_there p k (values_at table.scope c)))) h.numbers;
           small_shift = omega (arith, h.small_shift);
         };
         full = full;
@@ -182,7 +182,7 @@ module _ (shape : ShapeOf) (p : Placing) (is : IsShapeFor shape p.network) (plac
           cells = record {
             scope_is = g.cells.scope_is;
             numbers = numbers_again table (λ c. gathered plus tree p k receiver before (values_at table.scope c)) (λ c. gathered plus tree p k receiver after (values_at table.scope c)) (gathered_steps tree p k receiver before) (gathered_steps tree p k receiver after)
-            (let s = steps_more in omega (arith, s)) (λ c _. same (values_at table.scope c)) g.cells.numbers;
+                (let s = steps_more in omega (arith, s)) (λ c _. same (values_at table.scope c)) g.cells.numbers;
             small_shift = let s = factors_more in let b = g.cells.small_shift in omega (arith, s, b);
           };
           full = g.full;
@@ -200,12 +200,12 @@ module _ (shape : ShapeOf) (p : Placing) (is : IsShapeFor shape p.network) (plac
           cells = record {
             scope_is = scope ∙ g.cells.scope_is;
             numbers = numbers_again new (λ c. gathered plus tree p k receiver before (values_at old.scope c) * exact_message plus tree p i k (values_at message.scope (cell_in message.scope old.scope c)))
-            (λ c. gathered plus tree p k receiver after (values_at new.scope c)) (gathered_steps tree p k receiver before + 3 * exact_message_grade tree p i k + 1) (gathered_steps tree p k receiver after)
-            (let s = steps_more in let w = ap {B = ℕ} (λ t. cond t (3 * exact_message_grade tree p i k + 1) 0) h in omega (arith, s, w)) same
-            (numbers (λ c. gathered plus tree p k receiver before (values_at old.scope c)) (λ c. exact_message plus tree p i k (values_at message.scope c)) (gathered_steps tree p k receiver before) (3 * exact_message_grade tree p i k) g.cells.numbers right.numbers);
+                (λ c. gathered plus tree p k receiver after (values_at new.scope c)) (gathered_steps tree p k receiver before + 3 * exact_message_grade tree p i k + 1) (gathered_steps tree p k receiver after)
+                (let s = steps_more in let w = ap {B = ℕ} (λ t. cond t (3 * exact_message_grade tree p i k + 1) 0) h in omega (arith, s, w)) same
+                (numbers (λ c. gathered plus tree p k receiver before (values_at old.scope c)) (λ c. exact_message plus tree p i k (values_at message.scope c)) (gathered_steps tree p k receiver before) (3 * exact_message_grade tree p i k) g.cells.numbers right.numbers);
             small_shift =
-            let s = factors_more in let w = ap {B = ℕ} (λ t. cond t (exact_message_grade tree p i k) 0) h in let b = g.cells.small_shift in let c = right.small_shift in
-            omega (arith, s, w, b, c, shift);
+                let s = factors_more in let w = ap {B = ℕ} (λ t. cond t (exact_message_grade tree p i k) 0) h in let b = g.cells.small_shift in let c = right.small_shift in
+                omega (arith, s, w, b, c, shift);
           };
           full = full;
         }
@@ -236,11 +236,11 @@ module _ (shape : ShapeOf) (p : Placing) (is : IsShapeFor shape p.network) (plac
           steps = 3 * exact_message_grade tree p i k;
           has = right.numbers;
           few_steps =
-          let a = sum_by_more_le steps_of (neighbours tree k) j 0 l in let b = few_steps shape p is placing k clique receiver in let w = ap {B = ℕ} (λ t. cond t (3 * exact_message_grade tree p i k + 1) 0) h in let q = ap steps_of e in
-          omega (arith, a, b, w, q);
+              let a = sum_by_more_le steps_of (neighbours tree k) j 0 l in let b = few_steps shape p is placing k clique receiver in let w = ap {B = ℕ} (λ t. cond t (3 * exact_message_grade tree p i k + 1) 0) h in let q = ap steps_of e in
+              omega (arith, a, b, w, q);
           small_shift =
-          let a = sum_by_more_le factors_of (neighbours tree k) j 0 l in let b = few_factors shape p is placing k clique receiver in let w = ap {B = ℕ} (λ t. cond t (exact_message_grade tree p i k) 0) h in let q = ap factors_of e in
-          let s = right.small_shift in omega (arith, a, b, w, q, s);
+              let a = sum_by_more_le factors_of (neighbours tree k) j 0 l in let b = few_factors shape p is placing k clique receiver in let w = ap {B = ℕ} (λ t. cond t (exact_message_grade tree p i k) 0) h in let q = ap factors_of e in
+              let s = right.small_shift in omega (arith, a, b, w, q, s);
         }
 
       -- room for the plus over cells, after the last
@@ -284,11 +284,11 @@ module _ (shape : ShapeOf) (p : Placing) (is : IsShapeFor shape p.network) (plac
     message_sent a b h old before after g e scope shift full numbers = record {
       scope_is = scope ∙ e;
       numbers = numbers_again after (λ d. plus_over plus 0 (λ c. gathered plus tree p a (Some b) (neighbours tree a) (values_at old.scope c)) (cells_onto before.scope old.scope d)) (λ d. exact_message plus tree p a b (values_at after.scope d))
-      (gathered_steps tree p a (Some b) (neighbours tree a) + 2 * cells_in old.scope) (3 * exact_message_grade tree p a b)
-      (let s = message_steps shape p is placing a b h (are_ends a b h).0 in let z = ap cells_in (g.cells.scope_is ∙ is.clique_scopes a (are_ends a b h).0) in omega (arith, s, z))
-      (λ d l.
-      let inside : d < cells_in before.scope = let z = ap cells_in scope in omega (arith, l, full, z) in
-      margin_is a b h before.scope old.scope e g.cells.scope_is d inside ∙ ap (λ (s : ScopeOf). exact_message plus tree p a b (values_at s d)) (sym scope))
-      (numbers (λ c. gathered plus tree p a (Some b) (neighbours tree a) (values_at old.scope c)) (gathered_steps tree p a (Some b) (neighbours tree a)) g.cells.numbers);
+          (gathered_steps tree p a (Some b) (neighbours tree a) + 2 * cells_in old.scope) (3 * exact_message_grade tree p a b)
+          (let s = message_steps shape p is placing a b h (are_ends a b h).0 in let z = ap cells_in (g.cells.scope_is ∙ is.clique_scopes a (are_ends a b h).0) in omega (arith, s, z))
+          (λ d l.
+          let inside : d < cells_in before.scope = let z = ap cells_in scope in omega (arith, l, full, z) in
+          margin_is a b h before.scope old.scope e g.cells.scope_is d inside ∙ ap (λ (s : ScopeOf). exact_message plus tree p a b (values_at s d)) (sym scope))
+          (numbers (λ c. gathered plus tree p a (Some b) (neighbours tree a) (values_at old.scope c)) (gathered_steps tree p a (Some b) (neighbours tree a)) g.cells.numbers);
       small_shift = let f = message_factors shape p is placing a b h (are_ends a b h).0 in let s = g.cells.small_shift in omega (arith, f, s, shift);
     }

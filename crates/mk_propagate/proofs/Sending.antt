@@ -52,7 +52,7 @@ module _ (old : FlowOf) (scratch : List TableOf) (cells : ℕ) (kept : IsKept ol
     one_less_down = kept.one_less_down;
     table_scopes = kept.table_scopes;
     scratch_scopes =
-    λ i c. same_scopes scratch (k - 1) (i - 1) t scratch_within (s ∙ ap (λ (u : TableOf). u.scope) (read_there scratch (k - 1) was scratch_within e)) ∙ kept.scratch_scopes i c;
+        λ i c. same_scopes scratch (k - 1) (i - 1) t scratch_within (s ∙ ap (λ (u : TableOf). u.scope) (read_there scratch (k - 1) was scratch_within e)) ∙ kept.scratch_scopes i c;
     upward_scopes = kept.upward_scopes;
     downward_scopes = kept.downward_scopes;
     cells_are = kept.cells_are;
@@ -153,9 +153,9 @@ module _ (old : FlowOf) (p : Placing) (has : HasPlaced old p) (a b : ℕ) (linke
     pub sent_right : (before after : TableOf) → before.scope ≡ separator_between old.shape a b → IsMargin plus gathered before after → (new : FlowOf) → new.shape ≡ old.shape → message_at new a b ≡ after → IsRight plus new p a b
     sent_right before after e m new s t = record {
       cells =
-      subst (λ (x : ShapeOf). IsRightIn plus x p a b (message_at new a b)) (sym s)
-      (subst (λ (x : TableOf). IsRightIn plus old.shape p a b x) (sym t)
-      (message_sent old.shape p has.shape_is has.placing plus law a b linked_too gathered before after g e m.scope m.shift m.full m.numbers));
+          subst (λ (x : ShapeOf). IsRightIn plus x p a b (message_at new a b)) (sym s)
+          (subst (λ (x : TableOf). IsRightIn plus old.shape p a b x) (sym t)
+          (message_sent old.shape p has.shape_is has.placing plus law a b linked_too gathered before after g e m.scope m.shift m.full m.numbers));
     }
 
 -- where the message stands

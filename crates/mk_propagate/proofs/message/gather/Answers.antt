@@ -30,9 +30,9 @@ loop-neighbour-init g c =
     let law = g.met.R.Semiring.lawful in let e = c.copy_into.ensures in record {
       scope = ap (λ (t : TableOf). t.scope) e;
       has = λ p h.
-      subst (λ (t : TableOf). HasGathered g.R.Semiring.plus_of c.args.shape.now c.args.clique c.args.receiver (take 0 (neighbours c.args.shape.now.tree c.args.clique)) t p) (sym e)
-      (begins c.args.shape.now p h.shape_is h.placing g.R.Semiring.plus_of law c.args.clique c.requires.clique c.args.receiver c.args.table.now h.placed
-      (subst (λ (t : TableOf). length t.digits ≡ cells_in t.scope) e c.cells.ensures.full));
+          subst (λ (t : TableOf). HasGathered g.R.Semiring.plus_of c.args.shape.now c.args.clique c.args.receiver (take 0 (neighbours c.args.shape.now.tree c.args.clique)) t p) (sym e)
+          (begins c.args.shape.now p h.shape_is h.placing g.R.Semiring.plus_of law c.args.clique c.requires.clique c.args.receiver c.args.table.now h.placed
+          (subst (λ (t : TableOf). length t.digits ≡ cells_in t.scope) e c.cells.ensures.full));
     }
 
 pub message_of-requires-clause-first : goal.message_of-requires-clause-first
@@ -104,8 +104,8 @@ module _ (plus : ℕ → ℕ → ℕ) (law : Lawful plus) (shape : ShapeOf) (tab
   taken_step old new message took same h scope shift full numbers = record {
     scope = scope ∙ h.scope;
     has = λ p can.
-    taken_too shape p can.shape_is can.placing plus law k clique receiver j i at.within at.is old new message (sym is ∙ took) (h.has p can)
-    (right_there plus shape table upward downward k j i receiver p taken message can at is took same) scope shift full numbers;
+        taken_too shape p can.shape_is can.placing plus law k clique receiver j i at.within at.is old new message (sym is ∙ took) (h.has p can)
+        (right_there plus shape table upward downward k j i receiver p taken message can at is took same) scope shift full numbers;
   }
 
   passed_step : (old new : TableOf) → taken ≡ false → IsGathering plus shape table upward downward k receiver j old → new ≡ old → IsGathering plus shape table upward downward k receiver (j + 1) new
@@ -121,13 +121,13 @@ loop-neighbour-preserved g c =
     let j = c.loop-neighbour.neighbour-index in let items = c.neighbours-neighbour-items.result.now in
     let at = at_place shape k j items c.neighbours-neighbour-items.ensures c.loop-neighbour-test.true in
     elim c.if-is_taken.branch [
-      then-is_taken w ↦
-      subst (IsGathering plus shape table upward downward k receiver (j + 1)) (sym w.gathered-is)
-      (taken_step plus law shape table upward downward k j (slice_index_or items j 0) c.requires.clique receiver at c.is_taken.result c.is_taken.ensures c.loop-neighbour.gathered w.times_message.new.self w.message_of.result.now
-      w.if-is_taken.true w.message_of.ensures c.loop-neighbour.invariant w.times_message.ensures.scope w.times_message.ensures.shift w.cells-then-is_taken.ensures.full w.times_message.ensures.numbers)
-    | else-is_taken w ↦
-      passed_step plus law shape table upward downward k j (slice_index_or items j 0) c.requires.clique receiver at c.is_taken.result c.is_taken.ensures c.loop-neighbour.gathered c.if-is_taken.gathered
-      w.if-is_taken.false c.loop-neighbour.invariant w.gathered-is
+      | then-is_taken w ↦
+          subst (IsGathering plus shape table upward downward k receiver (j + 1)) (sym w.gathered-is)
+          (taken_step plus law shape table upward downward k j (slice_index_or items j 0) c.requires.clique receiver at c.is_taken.result c.is_taken.ensures c.loop-neighbour.gathered w.times_message.new.self w.message_of.result.now
+          w.if-is_taken.true w.message_of.ensures c.loop-neighbour.invariant w.times_message.ensures.scope w.times_message.ensures.shift w.cells-then-is_taken.ensures.full w.times_message.ensures.numbers)
+      | else-is_taken w ↦
+          passed_step plus law shape table upward downward k j (slice_index_or items j 0) c.requires.clique receiver at c.is_taken.result c.is_taken.ensures c.loop-neighbour.gathered c.if-is_taken.gathered
+          w.if-is_taken.false c.loop-neighbour.invariant w.gathered-is
     ]
 
 pub returns-clause-scope : goal.returns-clause-scope

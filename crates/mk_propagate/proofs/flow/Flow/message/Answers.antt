@@ -15,9 +15,11 @@ pub gather-requires-clause-right : goal.gather-requires-clause-right
 gather-requires-clause-right g c =
     let plus = g.R.Semiring.plus_of in
     let can = subst (λ (f : FlowOf). CanSend plus f c.args.from c.args.to) (sym c.self.view_is) c.requires in
-    let clique = sender _ can.placing can.has c.args.from c.args.to can.linked_too in
-    (can.placing, can_gather plus _ can.placing c.args.from (Some c.args.to) can.has clique can.right c.deref.result.now c.index.result.now c.deref-2.result.now c.deref-3.result.now
-    c.deref.ensures (read_there _ _ c.index.result.now (table_within _ _ _ c.self.invariant c.args.from clique) c.index.ensures) c.deref-2.ensures.value c.deref-3.ensures.value)
+    let clique = sender _ can.placing can.has c.args.from c.args.to can.linked_too in (
+      can.placing,
+      can_gather plus _ can.placing c.args.from (Some c.args.to) can.has clique can.right c.deref.result.now c.index.result.now c.deref-2.result.now c.deref-3.result.now
+          c.deref.ensures (read_there _ _ c.index.result.now (table_within _ _ _ c.self.invariant c.args.from clique) c.index.ensures) c.deref-2.ensures.value c.deref-3.ensures.value,
+    )
 
 pub send-requires-clause-lies_in : goal.send-requires-clause-lies_in
 send-requires-clause-lies_in g c =

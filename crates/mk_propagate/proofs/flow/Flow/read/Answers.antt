@@ -10,9 +10,11 @@ use Rattle.mk_propagate.proofs.flow.Flow.read.Goals as goal
 pub gather-requires-clause-right : goal.gather-requires-clause-right
 gather-requires-clause-right g c =
     let plus = g.R.Semiring.plus_of in let law = g.met.R.Semiring.lawful in let k = c.args.clique in let event = c.args.event.now in
-    let can = subst (λ (f : FlowOf). CanRead plus f k event) (sym c.self.view_is) c.requires in
-    (can.placing, can_gather plus _ can.placing k None can.has can.clique_is (all_inputs plus _ can.placing k can.right) c.deref.result.now c.index.result.now c.deref-2.result.now c.deref-3.result.now
-    c.deref.ensures (read_there _ _ c.index.result.now (table_within _ _ _ c.self.invariant k can.clique_is) c.index.ensures) c.deref-2.ensures.value c.deref-3.ensures.value)
+    let can = subst (λ (f : FlowOf). CanRead plus f k event) (sym c.self.view_is) c.requires in (
+      can.placing,
+      can_gather plus _ can.placing k None can.has can.clique_is (all_inputs plus _ can.placing k can.right) c.deref.result.now c.index.result.now c.deref-2.result.now c.deref-3.result.now
+          c.deref.ensures (read_there _ _ c.index.result.now (table_within _ _ _ c.self.invariant k can.clique_is) c.index.ensures) c.deref-2.ensures.value c.deref-3.ensures.value,
+    )
 
 pub overflow_add-grade : goal.overflow_add-grade
 overflow_add-grade g c =
