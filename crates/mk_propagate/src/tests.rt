@@ -116,12 +116,11 @@ fn tree(rt: &impl Abort, alloc: Global, net: &Network) -> Result<Tree, Fail>
     let both = VarSet::empty().with(0).with(1);
     let next = VarSet::empty().with(1).with(2);
     let last = VarSet::empty().with(2);
-    let cliques = [both, next, last].as_slice();
-    let links = [1, 2].as_slice();
-    assert!(rt; cliques.len() == 3 && links.len() == 2);
-    expect_links(rt, links);
-    expect_of_network(rt, net, cliques);
-    Ok(Tree::from_cliques(alloc, net, cliques, links)?)
+    let cliques = [both, next, last];
+    let links = [1, 2];
+    expect_links(rt, &links);
+    expect_of_network(rt, net, &cliques);
+    Ok(Tree::from_cliques(alloc, net, &cliques, &links)?)
 }
 
 fn make_chain(rt: &impl Abort, alloc: Global) -> Result<Chain, Fail> {
@@ -204,12 +203,7 @@ fn make<R: Semiring>(rt: &impl Abort, flow: &mut Flow<R>, root: u32, collected: 
 }
 
 /// The belief in an event, read in a clique.
-fn belief<R: Semiring>(
-    rt: &impl Abort,
-    flow: &mut Flow<R>,
-    clique: u32,
-    event: &Event,
-) -> R::Value
+fn belief<R: Semiring>(rt: &impl Abort, flow: &mut Flow<R>, clique: u32, event: &Event) -> R::Value
     requires { IsMade R.plus_of flow.old }
     ensures { IsMade R.plus_of flow.new }
 {
@@ -295,7 +289,10 @@ fn shape_of_a_chain(rt: HostRuntime) -> Result<(), Fail> {
     assert_eq!(rt; (shape.next(1, 3), shape.next(3, 1)), (2, 2));
     assert_eq!(rt; (shape.next(2, 3), shape.next(2, 1)), (3, 1));
     assert_eq!(rt; (shape.clique(1).cells(), shape.clique(3).cells()), (4, 2));
-    assert_eq!(rt; (shape.separator(2).cells(), shape.separator(3).cells()), (2, 2));
+    assert_eq!(rt;
+        (shape.separator(2).cells(), shape.separator(3).cells()),
+        (2, 2)
+    );
     Ok(())
 }
 
