@@ -1,5 +1,5 @@
 -- The total of what a clique gathered from all its neighbours is the exact belief, within the grade of a reading.
-use Rattle.std.proofs.Common.{◌≡◌, ℕ, suc, zero, ◌+◌, ◌-◌, ◌*◌, ◌^◌, ◌<◌, ◌≤◌, Bool, true, false, cond, ◌&&◌, List, [], ◌∷◌, length, slice_index_or, All, Option, None, refl, sym, ap, subst, ◌∙◌, arith}
+use Rattle.std.proofs.Common.{◌≡◌, ℕ, ◌+◌, ◌-◌, ◌*◌, ◌<◌, ◌≤◌, Bool, true, false, ◌&&◌, List, length, slice_index_or, None, refl, sym, ap, subst, ◌∙◌, arith}
 use Rattle.std.proofs.Math.Path.{fun_ext}
 use Rattle.std.proofs.lemmas.Bool.{and_parts}
 use Rattle.std.proofs.lemmas.List.Elements.{All-weaker}
@@ -10,25 +10,27 @@ use Rattle.mk_exact.specs.States.{plus_over}
 use Rattle.mk_exact.specs.Lawful.{Lawful}
 use Rattle.mk_cell.specs.Cell.{StandsAt}
 use Rattle.mk_cell.specs.inner.Laws.{stands_with_more}
-use Rattle.mk_sums.specs.Trees.{times_of, linked_to, sum_of}
+use Rattle.mk_sums.specs.Trees.{linked_to}
 use Rattle.mk_sums.proofs.Sets.{times_agree}
 use Rattle.mk_table.specs.Scopes.{ScopeOf, cells_in, has_variable, HasEvent}
 use Rattle.mk_table.specs.Cells.{values_at, cells_where}
 use Rattle.mk_table.specs.Tables.{TableOf, HasNumbers, HasRoom}
 use Rattle.mk_tree.proofs.Cells.{cells_positive}
 use Rattle.mk_tree.specs.Given.{GivenTree, clique_at, holds, link_of, holds_event}
-use Rattle.mk_engine.specs.Meaning.{exact_belief, whole_sum}
+use Rattle.mk_engine.specs.Meaning.{exact_belief}
 use Rattle.mk_propagate.specs.Shapes.{ShapeOf, IsClique, clique_scope, clique_cells, scope_within, neighbours}
 use Rattle.mk_propagate.specs.Placings.{Placing, placed_there, meaning_of}
-use Rattle.mk_propagate.specs.Flows.{FlowOf, HasPlaced, AreRightInto, IsRight, IsReading, exact_message, all_cells, reading_grade, table_at}
+use Rattle.mk_propagate.specs.Flows.{FlowOf, HasPlaced, AreRightInto, IsRight, IsReading, exact_message, all_cells, reading_grade}
 use Rattle.mk_propagate.specs.inner.Kept.{IsKept}
-use Rattle.mk_propagate.specs.inner.Gathered.{is_taken, is_input, gathered, gathered_steps, CanGather, HasGathered}
+use Rattle.mk_propagate.specs.inner.Gathered.{is_input, gathered, gathered_steps, CanGather, HasGathered}
 use Rattle.mk_propagate.proofs.Scopes.{has_within, clique_counted}
 use Rattle.mk_propagate.proofs.Inputs.{times_inputs}
-use Rattle.mk_propagate.proofs.Grading.{sum_of_same, whole_parts, few_grades, reading_steps}
-use Rattle.mk_propagate.proofs.Readings.{read_there, belief_is_read, belief_at_most, pairs_all}
+use Rattle.mk_propagate.proofs.Grading.{few_grades, reading_steps}
+use Rattle.mk_propagate.proofs.Readings.{read_there, belief_is_read, belief_at_most}
 use Rattle.mk_propagate.proofs.Messages.{whole_room}
-use Rattle.mk_propagate.proofs.Sending.{read_there as read_table, table_within, has_gathered}
+use Rattle.mk_propagate.proofs.Placed.{sum_same, table_read}
+use Rattle.mk_propagate.proofs.Required.{all_pass}
+use Rattle.mk_propagate.proofs.Sending.{table_within, has_gathered}
 
 -- all messages into a clique are its inputs
 pub all_inputs : (plus : ℕ → ℕ → ℕ) (flow : FlowOf) (p : Placing) (k : ℕ) → AreRightInto plus flow p k → (i : ℕ) → is_input flow.shape.tree k None i ≡ true → IsRight plus flow p i k
@@ -40,7 +42,7 @@ pub gathered_all : (plus : ℕ → ℕ → ℕ) (flow : FlowOf) (scratch : List 
     → (t : TableOf) → ((q : Placing) → CanGather plus shape table upward downward k None q → HasGathered plus shape k None (neighbours shape.tree k) t q)
     → HasGathered plus flow.shape k None (neighbours flow.shape.tree k) t p
 gathered_all plus flow scratch cells kept k p has clique right shape table upward downward s e u d t h =
-    has_gathered plus flow p k None has clique (all_inputs plus flow p k right) shape table upward downward s (read_table flow.tables (k - 1) table (table_within flow scratch cells kept k clique) e) u d t h
+    has_gathered plus flow p k None has clique (all_inputs plus flow p k right) shape table upward downward s (sym (table_read flow.tables (k - 1) table (table_within flow scratch cells kept k clique) e)) u d t h
 
 module _ (plus : ℕ → ℕ → ℕ) (law : Lawful plus) (flow : FlowOf) (scratch : List TableOf) (cells : ℕ) (kept : IsKept flow scratch cells) (k : ℕ) (event : List Pair) (table : TableOf)
     (p : Placing) (has : HasPlaced flow p) (clique : IsClique flow.shape.tree k) (inside : holds_event event (clique_at flow.shape.tree k) ≡ true)
@@ -57,7 +59,7 @@ module _ (plus : ℕ → ℕ → ℕ) (law : Lawful plus) (flow : FlowOf) (scrat
       subst (λ (s : ScopeOf). HasEvent s event) (sym scope_is)
       (All-weaker (λ (q : Pair). is_member (clique_at tree k) q.variable ≡ true) (λ (q : Pair). has_variable (scope_within p.network (holds tree k)) q.variable ≡ true)
       (λ q h. has_within p.network (holds tree k) q.variable (has.shape_is.tree_is.of_network (k - 1) no_variables (omega (arith, clique.first, clique.last)) q.variable h) h)
-      event (pairs_all (clique_at tree k) event inside))
+      event (all_pass (λ (q : Pair). is_member (clique_at tree k) q.variable) event inside))
 
   pub total_room : HasRoom table (2 * cells_in table.scope)
   total_room = whole_room flow.shape p has.shape_is has.placing plus law k clique None table g
@@ -67,7 +69,7 @@ module _ (plus : ℕ → ℕ → ℕ) (law : Lawful plus) (flow : FlowOf) (scrat
   counted_grade = flow.factors + cells + 2 * (length tree.cliques - 1) + cells_in table.scope
 
   all_cells_are : cells ≡ all_cells tree p
-  all_cells_are = kept.cells_are ∙ sum_of_same (length tree.cliques) (λ j. cells_in (clique_scope flow.shape j)) (clique_cells p.network tree) (λ j q r. ap cells_in (has.shape_is.clique_scopes j (record { first = q; last = r })))
+  all_cells_are = kept.cells_are ∙ sum_same (λ j. true) (length tree.cliques) (λ j. cells_in (clique_scope flow.shape j)) (clique_cells p.network tree) (λ j q r _. ap cells_in (has.shape_is.clique_scopes j (record { first = q; last = r })))
 
   pub grade_is : counted_grade ≡ reading_grade tree p k
   grade_is = let a = all_cells_are in let s = ap cells_in scope_is in let n = has.counted in omega (arith, a, s, n)

@@ -1,26 +1,19 @@
 -- Steps and grades of what a clique gathers: at most three steps for each grade, and few enough.
-use Rattle.std.proofs.Common.{◌≡◌, ℕ, suc, zero, ◌+◌, ◌-◌, ◌*◌, ◌<◌, ◌≤◌, Bool, true, false, cond, not, ◌&&◌, ◌⊎◌, inl, inr, eqb, List, [], ◌∷◌, take, get_or, slice_index, slice_index_or, length, map, filter, sum_by, count_by, All, Option, Some, None, refl, sym, ap, ◌∙◌, arith, eq-eqb, ne_eqb}
-use Rattle.std.specs.List.{range_with_len}
-use Rattle.std.proofs.lemmas.Bool.{cases_eq, cases_Bool, and_parts}
+use Rattle.std.proofs.Common.{◌≡◌, ℕ, suc, zero, ◌+◌, ◌-◌, ◌*◌, ◌<◌, ◌≤◌, Bool, true, false, cond, ◌⊎◌, inl, inr, eqb, List, [], ◌∷◌, take, slice_index_or, length, sum_by, count_by, Option, Some, refl, sym, ap, ◌∙◌, arith, eq-eqb, ne_eqb}
+use Rattle.std.proofs.lemmas.Bool.{cases_eq, and_parts}
 use Rattle.std.proofs.Math.Seq.{take-length}
 use Rattle.std.proofs.lemmas.List.Sums.{sum_by_more, sum_by-cons}
-use Rattle.mk_net.specs.declared.sets.VarSet.{VarSet}
-use Rattle.mk_net.specs.Sets.{is_member, no_variables}
-use Rattle.mk_net.specs.Network.{Variable, sizes, choices}
-use Rattle.mk_exact.specs.States.{numbers_below}
-use Rattle.mk_exact.proofs.Listed.{as_many}
-use Rattle.mk_sums.specs.Trees.{sum_of, linked_to, linked_but, linked, message_grade}
-use Rattle.mk_sums.specs.Cells.{keep, cells}
-use Rattle.mk_sums.specs.Joint.{variables}
+use Rattle.mk_net.specs.Sets.{no_variables}
+use Rattle.mk_sums.specs.Trees.{sum_of, linked_to, linked}
 use Rattle.mk_sums.proofs.Grades.{grades_add, read_grades_add}
-use Rattle.mk_table.specs.Scopes.{cells_in}
-use Rattle.mk_tree.specs.Given.{GivenTree, clique_at, holds, link_of}
+use Rattle.mk_tree.specs.Given.{GivenTree, clique_at, link_of}
 use Rattle.mk_tree.specs.Tests.{cells_of}
-use Rattle.mk_propagate.specs.Shapes.{ShapeOf, IsShapeFor, IsClique, clique_cells, scope_within, neighbours}
+use Rattle.mk_propagate.specs.Shapes.{ShapeOf, IsShapeFor, IsClique, clique_cells, neighbours}
 use Rattle.mk_propagate.specs.Placings.{Placing, PlacedFactor, IsPlacing, factors_in}
 use Rattle.mk_propagate.specs.Flows.{exact_message_grade, all_cells, reading_grade}
 use Rattle.mk_propagate.specs.inner.Gathered.{is_taken, is_input, gathered_steps, gathered_factors}
 use Rattle.mk_propagate.proofs.Scopes.{clique_counted}
+use Rattle.mk_propagate.proofs.Placed.{sum_same}
 use Rattle.mk_propagate.proofs.Inputs.{sum_inputs}
 
 -- sums over cliques
@@ -42,10 +35,6 @@ sum_of_at_most s t (suc n) f g h k = let ih = sum_of_at_most s t n f g h k in le
     at true false h ih l = absurd (let e = h refl in cc)
     at false true h ih l = omega (arith, ih)
     at false false h ih l = omega (arith, ih)
-
-pub sum_of_same : (m : ℕ) (f g : ℕ → ℕ) → ((j : ℕ) → 1 ≤ j → j ≤ m → f j ≡ g j) → sum_of (λ j. true) m f ≡ sum_of (λ j. true) m g
-sum_of_same zero f g h = refl
-sum_of_same (suc k) f g h = let ih = sum_of_same k f g (λ j p q. h j p (omega arith)) in let e = h (suc k) (omega arith) (omega arith) in omega (arith, ih, e)
 
 sum_of_twos : (m : ℕ) → sum_of (λ j. true) m (λ j. 2) ≡ 2 * m
 sum_of_twos zero = refl
@@ -87,7 +76,7 @@ factors_at_most m [] = at m
     at (suc n) = let ih = at n in omega (arith, ih)
 factors_at_most m (f ∷ fs) =
     let ih = factors_at_most m fs in
-    let e = sum_of_same m (λ j. count_by (λ (g : PlacedFactor). eqb g.clique j) (f ∷ fs)) (λ j. cond (eqb f.clique j) 1 0 + count_by (λ (g : PlacedFactor). eqb g.clique j) fs) (λ j p q. counted_first (λ (g : PlacedFactor). eqb g.clique j) f fs) in
+    let e = sum_same (λ j. true) m (λ j. count_by (λ (g : PlacedFactor). eqb g.clique j) (f ∷ fs)) (λ j. cond (eqb f.clique j) 1 0 + count_by (λ (g : PlacedFactor). eqb g.clique j) fs) (λ j _ _ _. counted_first (λ (g : PlacedFactor). eqb g.clique j) f fs) in
     let s = sum_of-plus (λ j. true) m (λ j. cond (eqb f.clique j) 1 0) (λ j. count_by (λ (g : PlacedFactor). eqb g.clique j) fs) in
     let o = one_at_most f.clique m in
     omega (arith, ih, e, s, o)
@@ -102,7 +91,7 @@ module _ (shape : ShapeOf) (p : Placing) (is : IsShapeFor shape p.network) (plac
 
   few_cells : all_cells tree p ≤ 32768
   few_cells =
-      let e = sum_of_same (length tree.cliques) (clique_cells p.network tree) (λ j. cells_of p.network (clique_at tree j)) (λ j _ _. clique_counted p.network tree j) in
+      let e = sum_same (λ j. true) (length tree.cliques) (clique_cells p.network tree) (λ j. cells_of p.network (clique_at tree j)) (λ j _ _ _. clique_counted p.network tree j) in
       let f = sum_of_first (cells_of p.network) tree.cliques no_variables (length tree.cliques) (omega arith) in
       let g = ap (sum_by (cells_of p.network)) (take-length tree.cliques) in
       let h = is.tree_is.few_cells in

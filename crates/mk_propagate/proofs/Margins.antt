@@ -1,15 +1,14 @@
 -- Sums over the cells of a scope are nested sums: of the cells that have the values of a part's cell, and of those where an event holds.
 use Rattle.std.proofs.Common.{◌≡◌, ℕ, suc, zero, ◌+◌, ◌*◌, ◌<◌, ◌≤◌, Bool, true, false, cond, not, ◌&&◌, ◌||◌, ◌⊎◌, inl, inr, eqb, List, [], ◌∷◌, filter, length, slice_index, refl, sym, ap, ◌∙◌, arith, one-mul, zero-mul, eq-eqb, ne_eqb}
 use Rattle.std.proofs.Math.Path.{fun_ext}
-use Rattle.std.specs.List.{list_all}
-use Rattle.std.proofs.lemmas.Bool.{cases_eq, cases_Bool, both_ways, or_left, or_right}
+use Rattle.std.proofs.lemmas.Bool.{cases_eq, cases_Bool, both_ways, or_right}
 use Rattle.mk_net.specs.declared.words.Pair.{Pair}
 use Rattle.mk_net.specs.Network.{Variable, sizes}
 use Rattle.mk_exact.specs.States.{plus_over, numbers_below}
 use Rattle.mk_exact.specs.Lawful.{Lawful}
 use Rattle.mk_exact.proofs.Sums.{plus_over-filter}
-use Rattle.mk_sums.specs.Sums.{upd, plus_below, over, Within, Blind, listed}
-use Rattle.mk_sums.specs.Cells.{keep, cells, cell_of, place, Apart, InRange}
+use Rattle.mk_sums.specs.Sums.{upd, plus_below, over, Blind, listed}
+use Rattle.mk_sums.specs.Cells.{keep, cells, cell_of, place, InRange}
 use Rattle.mk_sums.specs.Joint.{variables, where_holds}
 use Rattle.mk_sums.specs.There.{holds_there}
 use Rattle.mk_sums.proofs.Sums.{over-times, over-union, over_agree}
@@ -21,7 +20,7 @@ use Rattle.mk_table.proofs.Members.{keep_rising, rising_apart}
 use Rattle.mk_table.proofs.Places.{cells_same}
 use Rattle.mk_table.proofs.Kept.{value_in}
 use Rattle.mk_propagate.specs.Shapes.{scope_within}
-use Rattle.mk_propagate.proofs.Scopes.{has_within, within_network, within_set, size_within, cells_within, values_within, part_lies_in}
+use Rattle.mk_propagate.proofs.Scopes.{within_set, size_within, cells_within, values_within, part_lies_in}
 
 -- two sizes that agree on the variables count the same cell
 cell_same : (f g : ℕ → ℕ) (xs : List ℕ) → ((x : ℕ) → listed xs x ≡ true → f x ≡ g x) → (a : ℕ → ℕ) → cell_of f xs a ≡ cell_of g xs a

@@ -1,31 +1,30 @@
 -- What a clique gathers, message by message, and what it sends.
-use Rattle.std.proofs.Common.{◌≡◌, ℕ, suc, zero, ◌+◌, ◌-◌, ◌*◌, ◌<◌, ◌≤◌, Bool, true, false, cond, not, ◌&&◌, ◌⊎◌, inl, inr, eqb, List, [], ◌∷◌, ◌++◌, take, get_or, slice_index, filter, length, sum_by, max, All, Option, Some, None, refl, sym, ap, subst, ◌∙◌, arith, mul-one, mul_assoc}
+use Rattle.std.proofs.Common.{◌≡◌, ℕ, suc, zero, ◌+◌, ◌*◌, ◌<◌, ◌≤◌, Bool, true, false, cond, not, ◌&&◌, ◌⊎◌, inl, inr, List, [], ◌∷◌, take, get_or, slice_index, filter, length, max, Option, Some, refl, sym, ap, subst, ◌∙◌, arith, mul-one, mul_assoc}
 use Rattle.std.proofs.Math.Path.{fun_ext}
 use Rattle.std.specs.List.{range_with_len}
-use Rattle.std.proofs.lemmas.Bool.{cases_Bool, and_parts, and_from}
+use Rattle.std.proofs.lemmas.Bool.{and_parts}
 use Rattle.std.proofs.lemmas.List.{take_more}
 use Rattle.std.proofs.lemmas.List.Sums.{sum_by_more, sum_by-take-le, sum_by_more_le}
-use Rattle.mk_net.specs.Network.{Variable, sizes}
-use Rattle.mk_net.specs.Sets.{no_variables}
+use Rattle.mk_net.specs.Network.{sizes}
 use Rattle.mk_exact.specs.States.{plus_over, product_by}
 use Rattle.mk_exact.specs.Lawful.{Lawful}
 use Rattle.mk_exact.proofs.Sums.{product_by_push}
 use Rattle.mk_cell.specs.Cell.{StandsAt}
 use Rattle.mk_cell.specs.inner.Laws.{stands_with_more}
 use Rattle.mk_sums.specs.Sums.{over}
-use Rattle.mk_sums.specs.Trees.{times_of, linked, linked_to, linked_but}
+use Rattle.mk_sums.specs.Trees.{linked, linked_to}
 use Rattle.mk_sums.specs.Joint.{variables}
 use Rattle.mk_sums.proofs.Groups.{message_law}
-use Rattle.mk_sums.proofs.Hops.{AreLinked, IsChild, are_linked, ends}
+use Rattle.mk_sums.proofs.Hops.{AreLinked, are_linked, ends}
 use Rattle.mk_sums.proofs.Unread.{message_reads}
 use Rattle.mk_table.specs.Scopes.{ScopeOf, LiesIn, cells_in}
 use Rattle.mk_table.specs.Cells.{values_at, cell_in, cells_onto}
 use Rattle.mk_table.specs.Tables.{TableOf, HasNumbers, HasRoom}
 use Rattle.mk_tree.specs.Given.{GivenTree, holds, link_of}
-use Rattle.mk_propagate.specs.Shapes.{ShapeOf, IsShapeFor, IsClique, clique_scope, separator_scope, separator_between, clique_cells, scope_within, shares, neighbours}
+use Rattle.mk_propagate.specs.Shapes.{ShapeOf, IsShapeFor, IsClique, clique_scope, separator_scope, separator_between, scope_within, neighbours}
 use Rattle.mk_propagate.specs.Placings.{Placing, IsPlacing, placed_there, factors_in}
 use Rattle.mk_propagate.specs.Flows.{HasCells, exact_message, exact_message_grade}
-use Rattle.mk_propagate.specs.inner.Gathered.{is_taken, is_input, IsRightIn, gathered, gathered_steps, gathered_factors, HasGathered}
+use Rattle.mk_propagate.specs.inner.Gathered.{is_taken, IsRightIn, gathered, gathered_steps, gathered_factors, HasGathered}
 use Rattle.mk_propagate.proofs.Scopes.{has_within, part_lies_in, variable_of_network}
 use Rattle.mk_propagate.proofs.Margins.{margin_over, values_of_part}
 use Rattle.mk_propagate.proofs.Inputs.{times_inputs}

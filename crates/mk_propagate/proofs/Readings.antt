@@ -1,39 +1,37 @@
 -- What is read in a clique is the exact belief, which is at most the whole sum.
-use Rattle.std.proofs.Common.{◌≡◌, ℕ, suc, zero, ◌+◌, ◌-◌, ◌*◌, ◌^◌, ◌<◌, ◌≤◌, Bool, true, false, cond, ◌&&◌, ◌||◌, ◌⊎◌, inl, inr, eqb, List, [], ◌∷◌, ◌++◌, map, filter, length, fold, slice_index, slice_index_or, All, refl, sym, ap, subst, ◌∙◌, arith, le_refl, eq-eqb, ne_eqb}
+use Rattle.std.proofs.Common.{◌≡◌, ℕ, suc, ◌+◌, ◌-◌, ◌*◌, ◌^◌, ◌<◌, ◌≤◌, Bool, true, false, cond, ◌&&◌, ◌⊎◌, inl, inr, eqb, List, [], ◌∷◌, ◌++◌, map, filter, length, fold, slice_index, slice_index_or, All, refl, sym, ap, ◌∙◌, arith}
 use Rattle.std.proofs.Math.Path.{fun_ext}
-use Rattle.std.specs.List.{range_with_len, list_all, list_any}
-use Rattle.std.proofs.lemmas.Bool.{cases_eq, cases_Bool, both_ways, and_parts, or_cases, or_left, or_right, eqb-true}
+use Rattle.std.specs.List.{list_all, list_any}
+use Rattle.std.proofs.lemmas.Bool.{both_ways, and_parts, or_cases}
 use Rattle.std.proofs.lemmas.List.{map-append}
-use Rattle.std.proofs.lemmas.List.Elements.{recursion_from_All, All-nil, All-cons, All-map, All-append, All-weaker}
+use Rattle.std.proofs.lemmas.List.Elements.{recursion_from_All, All-map, All-append, All-weaker}
 use Rattle.std.proofs.lemmas.List.Folds.{list_all-append}
 use Rattle.std.proofs.lemmas.Simd.{map-map}
 use Rattle.mk_net.specs.declared.words.Pair.{Pair}
-use Rattle.mk_net.specs.declared.sets.VarSet.{VarSet}
 use Rattle.mk_net.specs.Sets.{is_member, no_variables}
 use Rattle.mk_net.specs.Asked.{TradeRatio, ratio_pairs}
 use Rattle.mk_net.specs.Network.{Variable, sizes}
 use Rattle.mk_net.specs.Named.{variable_at}
-use Rattle.mk_exact.specs.States.{states, numbers_below, plus_over, product_by}
+use Rattle.mk_exact.specs.States.{plus_over, product_by}
 use Rattle.mk_exact.specs.InitialWeight.{all_states, value_at}
 use Rattle.mk_exact.specs.Events.{holds}
 use Rattle.mk_exact.specs.Lawful.{Lawful}
 use Rattle.mk_exact.proofs.Sums.{plus_over-map, sum_by_is}
-use Rattle.mk_exact.proofs.Listed.{as_many}
-use Rattle.mk_sums.specs.Sums.{over, Within, listed}
+use Rattle.mk_sums.specs.Sums.{Within, listed}
 use Rattle.mk_sums.specs.There.{row_there, share_there, holds_there, ratio_there}
-use Rattle.mk_sums.specs.Trees.{times_of, held, Covers, linked_to, linked, IsTree, right_message}
-use Rattle.mk_sums.specs.Joint.{joint, where_has, where_holds, Item, placed_in, IsItem, variables}
+use Rattle.mk_sums.specs.Trees.{times_of, Covers, linked_to, IsTree}
+use Rattle.mk_sums.specs.Joint.{joint, where_has, Item, IsItem, variables}
 use Rattle.mk_sums.proofs.Sides.{held_by}
 use Rattle.mk_sums.proofs.Items.{joint_is_read, known_are_factors, items_fit}
-use Rattle.mk_table.specs.Scopes.{ScopeOf}
 use Rattle.mk_table.specs.Cells.{values_at, cells_where}
-use Rattle.mk_tree.specs.Given.{holds as clique_holds, GivenTree, clique_at, link_of, holds_event, AreOfNetwork}
-use Rattle.mk_tree.specs.Tests.{holds_family, is_covered}
+use Rattle.mk_tree.specs.Given.{holds as clique_holds, GivenTree, clique_at, link_of, holds_event}
+use Rattle.mk_tree.specs.Tests.{holds_family}
 use Rattle.mk_engine.specs.Meaning.{Meaning, Factor, RowsOf, RatioOf, factor_there, exact_belief, whole_sum}
 use Rattle.mk_propagate.specs.Shapes.{ShapeOf, IsShapeFor, IsClique, scope_within}
 use Rattle.mk_propagate.specs.Placings.{Placing, PlacedFactor, PlacedPair, IsFactorIn, IsPlacedFactor, IsPlacedPair, IsPlacing, factor_item, pair_item, items_of, placed_there, meaning_of}
 use Rattle.mk_propagate.specs.Flows.{exact_message}
 use Rattle.mk_propagate.proofs.Scopes.{listed_variable, variable_of_network}
+use Rattle.mk_propagate.proofs.Required.{all_pass}
 use Rattle.mk_propagate.proofs.Margins.{total_over}
 
 -- what a factor reads
@@ -79,12 +77,6 @@ any_at test (x ∷ xs) d h = at (or_cases (test x) (list_any test xs) h) (any_at
         → (j : ℕ) × (j < length (x ∷ xs)) × (test (slice_index_or (x ∷ xs) j d) ≡ true)
     at (inl p) ih = (0, omega arith, p)
     at (inr q) ih = let r = ih q in (suc r.0, omega (arith, r.1), r.2)
-
-pub pairs_all : (set : VarSet) (event : List Pair) → holds_event event set ≡ true → All (λ (p : Pair). is_member set p.variable ≡ true) event
-pairs_all set [] h = All-nil (λ (p : Pair). is_member set p.variable ≡ true)
-pairs_all set (p ∷ ps) h =
-    let q = and_parts (is_member set p.variable) (holds_event ps set) h in
-    All-cons (λ (r : Pair). is_member set r.variable ≡ true) p ps q.0 (pairs_all set ps q.1)
 
 module _ (shape : ShapeOf) (p : Placing) (is : IsShapeFor shape p.network) (placing : IsPlacing shape.tree p) where
   abbrev tree : GivenTree
@@ -145,7 +137,7 @@ module _ (shape : ShapeOf) (p : Placing) (is : IsShapeFor shape p.network) (plac
         → plus_over plus 0 (λ c. read_there k (values_at (scope_within p.network (clique_holds tree k)) c)) (cells_where (scope_within p.network (clique_holds tree k)) event) ≡ exact_belief plus (meaning_of tree p) event
     belief_is_read k clique inside =
         total_over plus law p.network (clique_holds tree k) event (read_there k)
-        ∙ sym (joint_is_read plus (sizes p.network) (clique_holds tree) (items_of p) (link_of tree) count law is.tree_is.linked.earlier is.tree_is.running covers fits k clique.first clique.last event (pairs_all (clique_at tree k) event inside))
+        ∙ sym (joint_is_read plus (sizes p.network) (clique_holds tree) (items_of p) (link_of tree) count law is.tree_is.linked.earlier is.tree_is.running covers fits k clique.first clique.last event (all_pass (λ (q : Pair). is_member (clique_at tree k) q.variable) event inside))
         ∙ ap (λ (fs : List ((ℕ → ℕ) → ℕ)). joint plus (sizes p.network) fs [] event) all_items
         ∙ sym (known_are_factors plus law (sizes p.network) (map (factor_there p.network) (map (λ (f : PlacedFactor). f.factor) p.factors)) (map (λ (q : PlacedPair). q.pair) p.known) event)
 

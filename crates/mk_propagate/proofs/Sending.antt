@@ -1,23 +1,19 @@
 -- One message of a flow is made anew: it is right, and all else stays as it was.
-use Rattle.std.proofs.Common.{◌≡◌, ℕ, suc, zero, ◌+◌, ◌-◌, ◌*◌, ◌<◌, ◌≤◌, Bool, true, false, cond, not, ◌&&◌, ◌⊎◌, inl, inr, eqb, ltb, List, length, get_or, slice_index_or, slice_set, max, Option, Some, None, refl, sym, ap, subst, ◌∙◌, arith, lt-ltb, le-ltb}
+use Rattle.std.proofs.Common.{◌≡◌, ℕ, ◌+◌, ◌-◌, ◌*◌, ◌<◌, ◌≤◌, Bool, true, cond, ◌⊎◌, inl, inr, ltb, List, length, slice_index_or, slice_set, max, Option, Some, refl, sym, ap, subst, ◌∙◌, arith, lt-ltb, le-ltb}
 use Rattle.std.proofs.lemmas.Bool.{cases_eq, cases_lt}
-use Rattle.std.proofs.lemmas.List.{get_or_default, get_or-set_same, get_or-set_other, length-set}
+use Rattle.std.proofs.lemmas.List.{get_or-set_same, get_or-set_other, length-set}
 use Rattle.mk_exact.specs.Lawful.{Lawful}
-use Rattle.mk_sums.specs.Trees.{linked}
 use Rattle.mk_sums.proofs.Hops.{AreLinked, IsChild, are_linked}
 use Rattle.mk_table.specs.Scopes.{ScopeOf, LiesIn, cells_in}
 use Rattle.mk_table.specs.Tables.{TableOf, HasRoom}
-use Rattle.mk_tree.specs.Given.{GivenTree, link_of}
-use Rattle.mk_propagate.specs.Shapes.{ShapeOf, IsShapeFor, IsClique, are_linked as is_linked, clique_scope, separator_scope, separator_between, neighbours}
-use Rattle.mk_propagate.specs.Placings.{Placing, IsPlacing}
-use Rattle.mk_propagate.specs.Flows.{FlowOf, HasPlaced, HasCells, IsRight, AreRightBut, no_table, table_at, message_at}
+use Rattle.mk_tree.specs.Given.{link_of}
+use Rattle.mk_propagate.specs.Shapes.{ShapeOf, IsClique, are_linked as is_linked, separator_scope, separator_between, neighbours}
+use Rattle.mk_propagate.specs.Placings.{Placing}
+use Rattle.mk_propagate.specs.Flows.{FlowOf, HasPlaced, IsRight, AreRightBut, no_table, table_at, message_at}
 use Rattle.mk_propagate.specs.inner.Kept.{IsKept}
-use Rattle.mk_propagate.specs.inner.Gathered.{is_input, message_in, AreMessages, IsRightIn, CanGather, HasGathered, IsMargin}
+use Rattle.mk_propagate.specs.inner.Gathered.{is_input, IsRightIn, CanGather, HasGathered, IsMargin}
+use Rattle.mk_propagate.proofs.Placed.{table_read}
 use Rattle.mk_propagate.proofs.Messages.{are_ends, separator_lies_in, whole_room, message_sent}
-
--- what is read in range does not depend on what is read past the end
-pub read_there : (ts : List TableOf) (i : ℕ) (t : TableOf) → i < length ts → t ≡ slice_index_or ts i t → t ≡ slice_index_or ts i no_table
-read_there ts i t l e = e ∙ get_or_default ts i t no_table l
 
 -- a list of tables, one of which is put anew over the same scope
 pub same_scopes : (ts : List TableOf) (i j : ℕ) (t : TableOf) → i < length ts → t.scope ≡ (slice_index_or ts i no_table).scope → (slice_index_or (slice_set ts i t) j no_table).scope ≡ (slice_index_or ts j no_table).scope
@@ -39,8 +35,8 @@ module _ (old : FlowOf) (scratch : List TableOf) (cells : ℕ) (kept : IsKept ol
 
   pub scratch_fits : (t table : TableOf) → t ≡ slice_index_or scratch (k - 1) t → table ≡ slice_index_or old.tables (k - 1) table → t.scope ≡ table.scope
   scratch_fits t table e f =
-      ap (λ (s : TableOf). s.scope) (read_there scratch (k - 1) t scratch_within e) ∙ kept.scratch_scopes k clique
-      ∙ sym (ap (λ (s : TableOf). s.scope) (read_there old.tables (k - 1) table table_within f) ∙ kept.table_scopes k clique)
+      ap (λ (s : TableOf). s.scope) (sym (table_read scratch (k - 1) t scratch_within e)) ∙ kept.scratch_scopes k clique
+      ∙ sym (ap (λ (s : TableOf). s.scope) (sym (table_read old.tables (k - 1) table table_within f)) ∙ kept.table_scopes k clique)
 
   -- it stays kept
   pub scratch_kept : (was t : TableOf) → was ≡ slice_index_or scratch (k - 1) was → t.scope ≡ was.scope → IsKept old (slice_set scratch (k - 1) t) cells
@@ -52,7 +48,7 @@ module _ (old : FlowOf) (scratch : List TableOf) (cells : ℕ) (kept : IsKept ol
     one_less_down = kept.one_less_down;
     table_scopes = kept.table_scopes;
     scratch_scopes =
-        λ i c. same_scopes scratch (k - 1) (i - 1) t scratch_within (s ∙ ap (λ (u : TableOf). u.scope) (read_there scratch (k - 1) was scratch_within e)) ∙ kept.scratch_scopes i c;
+        λ i c. same_scopes scratch (k - 1) (i - 1) t scratch_within (s ∙ ap (λ (u : TableOf). u.scope) (sym (table_read scratch (k - 1) was scratch_within e))) ∙ kept.scratch_scopes i c;
     upward_scopes = kept.upward_scopes;
     downward_scopes = kept.downward_scopes;
     cells_are = kept.cells_are;
@@ -77,7 +73,7 @@ module _ (old : FlowOf) (scratch : List TableOf) (cells computed : ℕ) (kept : 
     one_less_down = kept.one_less_down;
     table_scopes = kept.table_scopes;
     scratch_scopes = kept.scratch_scopes;
-    upward_scopes = λ k c later. same_scopes old.upward place (k - 2) t l (s ∙ ap (λ (u : TableOf). u.scope) (read_there old.upward place was l e)) ∙ kept.upward_scopes k c later;
+    upward_scopes = λ k c later. same_scopes old.upward place (k - 2) t l (s ∙ ap (λ (u : TableOf). u.scope) (sym (table_read old.upward place was l e))) ∙ kept.upward_scopes k c later;
     downward_scopes = kept.downward_scopes;
     cells_are = kept.cells_are;
   }
@@ -92,7 +88,7 @@ module _ (old : FlowOf) (scratch : List TableOf) (cells computed : ℕ) (kept : 
     table_scopes = kept.table_scopes;
     scratch_scopes = kept.scratch_scopes;
     upward_scopes = kept.upward_scopes;
-    downward_scopes = λ k c later. same_scopes old.downward place (k - 2) t l (s ∙ ap (λ (u : TableOf). u.scope) (read_there old.downward place was l e)) ∙ kept.downward_scopes k c later;
+    downward_scopes = λ k c later. same_scopes old.downward place (k - 2) t l (s ∙ ap (λ (u : TableOf). u.scope) (sym (table_read old.downward place was l e))) ∙ kept.downward_scopes k c later;
     cells_are = kept.cells_are;
   }
 
@@ -164,14 +160,14 @@ pub separator_up : (flow : FlowOf) (scratch : List TableOf) (cells : ℕ) → Is
 separator_up flow scratch cells kept a b c l t e =
     let m : max a b ≡ a = omega arith in
     let within : a - 2 < length flow.upward = omega (arith, kept.one_less_up, c.later, c.within) in
-    ap (λ (s : TableOf). s.scope) (read_there flow.upward (a - 2) t within e) ∙ kept.upward_scopes a (record { first = omega (arith, c.later); last = c.within }) c.later ∙ ap (separator_scope flow.shape) (sym m)
+    ap (λ (s : TableOf). s.scope) (sym (table_read flow.upward (a - 2) t within e)) ∙ kept.upward_scopes a (record { first = omega (arith, c.later); last = c.within }) c.later ∙ ap (separator_scope flow.shape) (sym m)
 
 pub separator_down : (flow : FlowOf) (scratch : List TableOf) (cells : ℕ) → IsKept flow scratch cells → (a b : ℕ) → IsChild (link_of flow.shape.tree) (length flow.shape.tree.cliques) b a → a ≤ b
     → (t : TableOf) → t ≡ slice_index_or flow.downward (b - 2) t → t.scope ≡ separator_between flow.shape a b
 separator_down flow scratch cells kept a b c l t e =
     let m : max a b ≡ b = omega arith in
     let within : b - 2 < length flow.downward = omega (arith, kept.one_less_down, c.later, c.within) in
-    ap (λ (s : TableOf). s.scope) (read_there flow.downward (b - 2) t within e) ∙ kept.downward_scopes b (record { first = omega (arith, c.later); last = c.within }) c.later ∙ ap (separator_scope flow.shape) (sym m)
+    ap (λ (s : TableOf). s.scope) (sym (table_read flow.downward (b - 2) t within e)) ∙ kept.downward_scopes b (record { first = omega (arith, c.later); last = c.within }) c.later ∙ ap (separator_scope flow.shape) (sym m)
 
 -- the new message is read there, and each other one is as it was
 pub message_up : (old : FlowOf) (a b computed : ℕ) (t : TableOf) → b < a → a - 2 < length old.upward → message_at (with_upward old (a - 2) t computed) a b ≡ t
@@ -217,7 +213,7 @@ module _ (plus : ℕ → ℕ → ℕ) (law : Lawful plus) (old : FlowOf) (scratc
     gathered_there : HasGathered plus old.shape a (Some b) (neighbours old.shape.tree a) gathered p
     gathered_there =
         let clique = sender old p has a b linked_too in
-        has_gathered plus old p a (Some b) has clique right shape table upward downward s (read_there old.tables (a - 1) table (table_within old scratch cells kept a clique) t) u d gathered h
+        has_gathered plus old p a (Some b) has clique right shape table upward downward s (sym (table_read old.tables (a - 1) table (table_within old scratch cells kept a clique) t)) u d gathered h
 
     pub room_there : HasRoom gathered (2 * cells_in gathered.scope)
     room_there = send_room old p has a b linked_too plus law gathered gathered_there

@@ -50,6 +50,7 @@ fn send<R: Semiring>(gathered: &Table<R>, message: &mut Table<R>)
     ensures { IsMargin R.plus_of gathered.now message.old message.new }
 {
     gathered.margin_into(message);
+    // The proof learns here that the table has a place for each cell of its scope, and no more.
     let _ = message.cells();
 }
 
@@ -72,6 +73,7 @@ pub(crate) fn gather<R: Semiring>(
         → HasGathered R.plus_of shape.now clique receiver (neighbours shape.now.tree clique) gathered.new p }
 {
     table.copy_into(gathered);
+    // As in `send`, for the clique's table.
     let _ = gathered.cells();
     for neighbour in shape.neighbours(clique) {
         if is_taken(receiver, *neighbour) {

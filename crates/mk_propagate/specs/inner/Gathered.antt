@@ -1,12 +1,12 @@
 -- What a clique gathers: what is placed in it, times the messages of its neighbours, or of all but one.
-use Rattle.std.specs.Prelude.{◌≡◌, ℕ, ◌+◌, ◌-◌, ◌*◌, ◌<◌, Bool, true, not, ◌&&◌, ◌==◌, nat_lt, if◌then◌else◌, List, length, take, sum_by, Option, Some, None, slice_index_or}
+use Rattle.std.specs.Prelude.{◌≡◌, ℕ, ◌+◌, ◌-◌, ◌*◌, Bool, true, not, ◌&&◌, ◌==◌, nat_lt, if◌then◌else◌, List, length, take, sum_by, Option, Some, None, slice_index_or}
 use Rattle.mk_exact.specs.States.{plus_over, product_by}
 use Rattle.mk_sums.specs.Trees.{linked_to}
 use Rattle.mk_table.specs.Scopes.{cells_in}
 use Rattle.mk_table.specs.Cells.{cells_onto}
 use Rattle.mk_table.specs.Tables.{TableOf, HasNumbers}
 use Rattle.mk_tree.specs.Given.{GivenTree, link_of}
-use Rattle.mk_propagate.specs.Shapes.{ShapeOf, IsShapeFor, IsClique, clique_scope, separator_between, neighbours}
+use Rattle.mk_propagate.specs.Shapes.{ShapeOf, IsShapeFor, clique_scope, separator_between, neighbours}
 use Rattle.mk_propagate.specs.Placings.{Placing, IsPlacing, placed_there, factors_in}
 use Rattle.mk_propagate.specs.Flows.{HasCells, exact_message, exact_message_grade, no_table}
 

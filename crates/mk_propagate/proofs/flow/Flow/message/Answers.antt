@@ -1,9 +1,8 @@
-use Rattle.std.proofs.Common.{◌≡◌, ℕ, ◌-◌, ◌<◌, ◌≤◌, true, Some, List, slice_set, refl, sym, ap, subst, ◌∙◌, arith}
-use Rattle.mk_table.specs.Tables.{TableOf}
-use Rattle.mk_propagate.specs.Shapes.{IsClique, are_linked}
-use Rattle.mk_propagate.specs.Placings.{Placing}
+use Rattle.std.proofs.Common.{◌≡◌, true, Some, sym, ap, subst, ◌∙◌}
+use Rattle.mk_propagate.specs.Shapes.{are_linked}
 use Rattle.mk_propagate.specs.Flows.{FlowOf, HasPlaced, AreRightBut, CanSend, message_at}
-use Rattle.mk_propagate.proofs.Sending.{read_there, scratch_fits, table_within, can_gather, sender, lies_up, lies_down, room_there, right_up, right_down, all_kept_up, all_kept_down, others_up, others_down}
+use Rattle.mk_propagate.proofs.Placed.{table_read}
+use Rattle.mk_propagate.proofs.Sending.{scratch_fits, table_within, can_gather, sender, lies_up, lies_down, room_there, right_up, right_down, all_kept_up, all_kept_down, others_up, others_down}
 use Rattle.mk_propagate.proofs.flow.Flow.message.Goals as goal
 
 pub gather-requires-clause-scope : goal.gather-requires-clause-scope
@@ -18,7 +17,7 @@ gather-requires-clause-right g c =
     let clique = sender _ can.placing can.has c.args.from c.args.to can.linked_too in (
       can.placing,
       can_gather plus _ can.placing c.args.from (Some c.args.to) can.has clique can.right c.deref.result.now c.index.result.now c.deref-2.result.now c.deref-3.result.now
-          c.deref.ensures (read_there _ _ c.index.result.now (table_within _ _ _ c.self.invariant c.args.from clique) c.index.ensures) c.deref-2.ensures.value c.deref-3.ensures.value,
+          c.deref.ensures (sym (table_read _ _ c.index.result.now (table_within _ _ _ c.self.invariant c.args.from clique) c.index.ensures)) c.deref-2.ensures.value c.deref-3.ensures.value,
     )
 
 pub send-requires-clause-lies_in : goal.send-requires-clause-lies_in

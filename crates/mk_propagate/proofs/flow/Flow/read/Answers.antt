@@ -1,9 +1,9 @@
-use Rattle.std.proofs.Common.{◌≡◌, ℕ, ◌+◌, ◌-◌, ◌*◌, ◌<◌, ◌≤◌, List, length, None, refl, sym, ap, subst, ◌∙◌, arith}
+use Rattle.std.proofs.Common.{◌≡◌, ◌+◌, ◌-◌, ◌*◌, length, None, sym, ap, subst, ◌∙◌, arith}
 use Rattle.mk_table.specs.Scopes.{cells_in}
 use Rattle.mk_propagate.specs.Shapes.{ShapeOf}
-use Rattle.mk_propagate.specs.Placings.{Placing}
 use Rattle.mk_propagate.specs.Flows.{FlowOf, HasPlaced, AreRightInto, CanRead, IsReading}
-use Rattle.mk_propagate.proofs.Sending.{read_there, table_within, can_gather}
+use Rattle.mk_propagate.proofs.Placed.{table_read}
+use Rattle.mk_propagate.proofs.Sending.{table_within, can_gather}
 use Rattle.mk_propagate.proofs.Believing.{all_inputs, gathered_all, event_there, total_room, some_cells, few_before, totalled, total_stands, reading_of}
 use Rattle.mk_propagate.proofs.flow.Flow.read.Goals as goal
 
@@ -13,7 +13,7 @@ gather-requires-clause-right g c =
     let can = subst (λ (f : FlowOf). CanRead plus f k event) (sym c.self.view_is) c.requires in (
       can.placing,
       can_gather plus _ can.placing k None can.has can.clique_is (all_inputs plus _ can.placing k can.right) c.deref.result.now c.index.result.now c.deref-2.result.now c.deref-3.result.now
-          c.deref.ensures (read_there _ _ c.index.result.now (table_within _ _ _ c.self.invariant k can.clique_is) c.index.ensures) c.deref-2.ensures.value c.deref-3.ensures.value,
+          c.deref.ensures (sym (table_read _ _ c.index.result.now (table_within _ _ _ c.self.invariant k can.clique_is) c.index.ensures)) c.deref-2.ensures.value c.deref-3.ensures.value,
     )
 
 pub overflow_add-grade : goal.overflow_add-grade
