@@ -40,7 +40,8 @@ module _ (old now : FlowOf) (view : old ≡ now) (scratch : List TableOf) (cells
 
   pub room : HasRoom read 1
   room =
-      placed.has_room read _ p clique (subst (λ (u : TableOf). HasCells u (clique_scope old.shape clique) (placed_there p clique) (factors_in p clique) (factors_in p clique)) reads (placed_old.tables clique clique_old)) h.placing.few
+      placed.has_room read _ p clique (subst (λ (u : TableOf). HasCells u (clique_scope old.shape clique) (placed_there p clique) (factors_in p clique)
+      (factors_in p clique)) reads (placed_old.tables clique clique_old)) h.placing.few
 
   pub rows_family : (network : List Variable) → p.network ≡ network → (x : ℕ) → IsPlacedFactor network now.shape.tree (record { clique = clique; factor = RowsOf x }) → HasSized network read.scope x
   rows_family network e x f = required.has_family network now.shape.tree clique read.scope (scope_of_read network (subst (IsShapeFor now.shape) e h.shape_is)) x f.fits.0 f.fits.1
@@ -88,8 +89,10 @@ module _ (now : FlowOf) (p q : Placing) (h : HasPlaced now p) (other : HasPlaced
   sized_alike : sizes p.network ≡ sizes q.network
   sized_alike = required.same_sizes now.shape p.network q.network h.shape_is other.shape_is
 
-  pub ratio_fits_each : (clique : ℕ) (ratio : TradeRatio) → IsPlacedFactor p.network now.shape.tree (record { clique = clique; factor = RatioOf ratio }) → IsPlacedFactor q.network now.shape.tree (record { clique = clique; factor = RatioOf ratio })
+  pub ratio_fits_each : (clique : ℕ) (ratio : TradeRatio) → IsPlacedFactor p.network now.shape.tree (record { clique = clique; factor = RatioOf ratio })
+      → IsPlacedFactor q.network now.shape.tree (record { clique = clique; factor = RatioOf ratio })
   ratio_fits_each clique ratio f = record { clique_is = f.clique_is; fits = (required.ratio_same p.network q.network sized_alike ratio f.fits.0, f.fits.1) }
 
-  pub pair_fits_each : (clique : ℕ) (pair : Pair) → IsPlacedPair p.network now.shape.tree (record { clique = clique; pair = pair }) → IsPlacedPair q.network now.shape.tree (record { clique = clique; pair = pair })
+  pub pair_fits_each : (clique : ℕ) (pair : Pair) → IsPlacedPair p.network now.shape.tree (record { clique = clique; pair = pair })
+      → IsPlacedPair q.network now.shape.tree (record { clique = clique; pair = pair })
   pair_fits_each clique pair f = record { clique_is = f.clique_is; in_range = required.pair_same p.network q.network sized_alike pair f.in_range; holds_it = f.holds_it }

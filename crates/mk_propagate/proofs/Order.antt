@@ -129,7 +129,8 @@ module _ (tree : GivenTree) (tied : given.AreLinked tree) (root : ℕ) (at_root 
           inl (clique_is, λ f. n.4 (f ∙ sym e), near ∙ sym e)
       at (inr f) (inl e) = inr (f, e)
       at (inr f) (inr g) =
-          let but = and_from (linked (link_of tree) (length tree.cliques) i (next k)) (not (eqb i (next (next k)))) (linked_from (link_of tree) (length tree.cliques) i (next k) l) (not_from_false (eqb i (next (next k))) (ne_eqb i (next (next k)) g)) in
+          let but = and_from (linked (link_of tree) (length tree.cliques) i (next k)) (not (eqb i (next (next k)))) (linked_from (link_of tree)
+          (length tree.cliques) i (next k) l) (not_from_false (eqb i (next (next k))) (ne_eqb i (next (next k)) g)) in
           let o = input (next k) (next_is k is d) f i but in
           inl (o.clique_is, o.below, o.leads)
 

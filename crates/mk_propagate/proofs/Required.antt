@@ -43,7 +43,8 @@ module _ (shape : ShapeOf) (a b : List Variable) (of_a : IsShapeFor shape a) (of
   in_clique x l =
       let q = found_in (holds_family a x) shape.tree.cliques (of_a.tree_is.covers x l) in
       let e : q.0 + 1 - 1 ≡ q.0 = omega arith in
-      let m : is_member (get_or shape.tree.cliques q.0 no_variables) x ≡ true = (and_parts (is_member (get_or shape.tree.cliques q.0 no_variables) x) (list_all (is_member (get_or shape.tree.cliques q.0 no_variables)) (variable_at a x).parents) (q.2 no_variables)).0 in (
+      let m : is_member (get_or shape.tree.cliques q.0 no_variables) x ≡ true = (and_parts (is_member (get_or shape.tree.cliques q.0 no_variables) x)
+      (list_all (is_member (get_or shape.tree.cliques q.0 no_variables)) (variable_at a x).parents) (q.2 no_variables)).0 in (
         q.0 + 1,
         record { first = omega arith; last = omega (arith, q.1) },
         ap (λ (i : ℕ). is_member (get_or shape.tree.cliques i no_variables) x) e ∙ m,

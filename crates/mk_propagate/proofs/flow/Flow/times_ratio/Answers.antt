@@ -34,4 +34,5 @@ returns-clause-places g c = λ p h.
     let old : FlowOf = record { shape = inside.shape.value; tables = inside.tables.items; upward = inside.upward.items; downward = inside.downward.items; factors = inside.factors; computed = inside.computed } in
     let fits = ratio_fits_each c.args.self.now c.requires.0 p c.requires.1.has h c.args.clique (trade_ratio c.args.ratio.now) c.requires.2 in
     places_factor old c.args.self.now c.self.view_is inside.scratch.items inside.cells c.self.invariant p h c.args.clique fits.clique_is c.index_mut.result.now c.index_mut.ensures.value c.times_ratio.new.self c.times_ratio.ensures.scope
-    g.R.Semiring.plus_of (RatioOf (trade_ratio c.args.ratio.now)) fits (omega (arith, c.requires.1.has.counted, c.requires.1.room)) (omega (arith, c.times_ratio.ensures.shift)) c.times_ratio.ensures.numbers
+    g.R.Semiring.plus_of (RatioOf (trade_ratio c.args.ratio.now)) fits (omega (arith, c.requires.1.has.counted, c.requires.1.room)) (omega
+    (arith, c.times_ratio.ensures.shift)) c.times_ratio.ensures.numbers
