@@ -1,18 +1,17 @@
 -- A call that changes the table of one clique: `old` is the flow as its parts give it, and `now` as contracts see it.
 use Rattle.std.proofs.Common.{◌≡◌, ℕ, ◌+◌, ◌-◌, ◌*◌, ◌<◌, ◌≤◌, true, ◌==◌, if◌then◌else◌, List, length, All, get_or, slice_index_or, sym, ap, subst, ◌∙◌, arith}
 use Rattle.mk_net.specs.declared.words.Pair.{Pair}
-use Rattle.mk_net.specs.Network.{Variable, IsNetwork, sizes}
+use Rattle.mk_net.specs.Network.{Variable, sizes}
 use Rattle.mk_net.specs.Named.{variable_at}
 use Rattle.mk_net.specs.Asked.{TradeRatio, ratio_pairs}
-use Rattle.mk_sums.specs.There.{share_there, ratio_there}
-use Rattle.mk_table.specs.Scopes.{ScopeOf, has_variable, HasEvent, HasOneEach, HasSized}
+use Rattle.mk_table.specs.Scopes.{has_variable, HasEvent, HasOneEach, HasSized}
 use Rattle.mk_table.specs.Cells.{values_at}
 use Rattle.mk_table.specs.Tables.{TableOf, HasNumbers, HasRoom}
 use Rattle.mk_tree.specs.Given.{holds}
 use Rattle.mk_engine.specs.Meaning.{Factor, RowsOf, RatioOf, max_factors, factor_there}
-use Rattle.mk_propagate.specs.Shapes.{ShapeOf, IsShapeFor, IsClique, clique_scope, scope_within, no_scope}
+use Rattle.mk_propagate.specs.Shapes.{IsShapeFor, IsClique, clique_scope, scope_within, no_scope}
 use Rattle.mk_propagate.specs.Placings.{Placing, with_factor_in, with_pair_in, placed_there, factors_in, IsPlacedFactor, IsPlacedPair}
-use Rattle.mk_propagate.specs.Flows.{FlowOf, table_at, HasCells, HasPlaced, CanPlace, Places}
+use Rattle.mk_propagate.specs.Flows.{FlowOf, table_at, HasCells, HasPlaced, Places}
 use Rattle.mk_propagate.specs.inner.Kept.{IsKept}
 use Rattle.mk_propagate.proofs.Placed.{with_table, table_read, factor_placed, pair_placed, kept_with}
 use Rattle.mk_propagate.proofs.Placed as placed

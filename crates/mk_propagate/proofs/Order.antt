@@ -1,8 +1,8 @@
 -- The order in which messages are made: what each message needs is made before it.
 use Rattle.std.proofs.Common.{◌≡◌, ◌≢◌, ℕ, suc, zero, ◌+◌, ◌-◌, ◌<◌, ◌≤◌, Bool, true, false, cond, not, ◌&&◌, ◌⊎◌, inl, inr, eqb, ltb, leb, length, refl, sym, ap, subst, ◌∙◌, arith, eq-eqb, ne_eqb}
 use Rattle.std.proofs.lemmas.Bool.{cases_eq, cases_lt, cases_Bool, both_ways, and_parts, and_from, lt-ltb, ltb-true, le-leb, lt-leb, not_from_false}
-use Rattle.mk_sums.specs.Trees.{Links, linked, linked_but, hop, behind, towards, sum_of}
-use Rattle.mk_sums.proofs.Hops.{AreLinked, IsChild, are_linked, linked_from, linked_back, ends, hop_linked, hop_near, behind_from, behind_parts}
+use Rattle.mk_sums.specs.Trees.{Links, linked, linked_but, behind}
+use Rattle.mk_sums.proofs.Hops.{AreLinked, are_linked, linked_from, linked_back, ends, hop_linked, hop_near, behind_from, behind_parts}
 use Rattle.mk_sums.proofs.Stale.{leads_towards, collects_in_order}
 use Rattle.mk_tree.specs.Given.{GivenTree, link_of}
 use Rattle.mk_tree.specs.Given as given

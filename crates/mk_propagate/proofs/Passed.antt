@@ -1,5 +1,5 @@
 -- What the messages that were made so far leave, and one message more.
-use Rattle.std.proofs.Common.{◌≡◌, ◌≢◌, ℕ, suc, zero, ◌+◌, ◌-◌, ◌*◌, ◌<◌, ◌≤◌, Bool, true, false, ◌⊎◌, inl, inr, List, length, slice_index_or, refl, sym, ap, subst, ◌∙◌, arith}
+use Rattle.std.proofs.Common.{◌≡◌, ◌≢◌, ℕ, ◌+◌, ◌-◌, ◌<◌, true, ◌⊎◌, inl, inr, List, length, slice_index_or, refl, sym, ap, subst, ◌∙◌, arith}
 use Rattle.std.proofs.lemmas.Bool.{cases_eq}
 use Rattle.mk_sums.specs.Trees.{linked_but}
 use Rattle.mk_table.specs.Tables.{TableOf}
@@ -9,7 +9,7 @@ use Rattle.mk_propagate.specs.Shapes.{ShapeOf, IsShapeFor, IsClique, are_linked,
 use Rattle.mk_propagate.specs.Placings.{Placing, IsPlacing, placed_there, factors_in}
 use Rattle.mk_propagate.specs.Flows.{FlowOf, no_table, message_at, HasCells, HasPlaced, IsRight, AreRightBut, CanSend, KeepsTables, counted_on}
 use Rattle.mk_propagate.proofs.Placed.{right_kept}
-use Rattle.mk_propagate.proofs.Order.{next, next_is, next_apart, towards_linked, away_linked, no_return, IsInput, input, away_input}
+use Rattle.mk_propagate.proofs.Order.{next_is, towards_linked, away_linked, no_return, IsInput, input, away_input}
 
 -- what a call of `message` ensures
 pub record IsSent (plus : ℕ → ℕ → ℕ) (old new : FlowOf) (from to : ℕ) : Type 0 where

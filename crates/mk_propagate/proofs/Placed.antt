@@ -1,6 +1,6 @@
 -- One factor or one known pair more in a clique.
-use Rattle.std.proofs.Common.{◌≡◌, ◌≢◌, ℕ, suc, zero, ◌+◌, ◌-◌, ◌*◌, ◌<◌, ◌≤◌, Bool, true, false, cond, ◌==◌, if◌then◌else◌, nat_lt, ◌⊎◌, inl, inr, List, [], ◌∷◌, ◌++◌, map, length, All, slice_index, slice_index_or, get_or, refl, sym, ap, subst, ◌∙◌, arith, mul_assoc, mul_comm, mul-one, eq-eqb, ne_eqb}
-use Rattle.std.specs.Prelude.{slice_set, count_by}
+use Rattle.std.proofs.Common.{◌≡◌, ◌≢◌, ℕ, suc, zero, ◌+◌, ◌-◌, ◌*◌, ◌<◌, ◌≤◌, Bool, true, false, cond, ◌==◌, if◌then◌else◌, ◌⊎◌, inl, inr, List, [], ◌∷◌, ◌++◌, map, length, slice_index, slice_index_or, get_or, refl, sym, ap, subst, ◌∙◌, arith, mul_assoc, mul_comm, mul-one, eq-eqb, ne_eqb}
+use Rattle.std.specs.Prelude.{slice_set}
 use Rattle.std.proofs.Math.Path.{fun_ext}
 use Rattle.std.proofs.lemmas.Bool.{cases_eq, both_ways}
 use Rattle.std.proofs.lemmas.List.{length_push, map-append, length-set, get_or-set_same, get_or-set_other, get_or_default, get_or_push}
@@ -19,7 +19,7 @@ use Rattle.mk_table.specs.Cells.{values_at}
 use Rattle.mk_table.specs.Tables.{TableOf, HasNumbers, HasRoom}
 use Rattle.mk_tree.specs.Given.{GivenTree, holds, link_of}
 use Rattle.mk_engine.specs.Meaning.{Factor, factor_there, max_factors}
-use Rattle.mk_propagate.specs.Shapes.{ShapeOf, IsShapeFor, IsClique, is_behind, are_linked, clique_scope, separator_between, clique_cells}
+use Rattle.mk_propagate.specs.Shapes.{ShapeOf, IsShapeFor, IsClique, is_behind, clique_scope, separator_between, clique_cells}
 use Rattle.mk_propagate.specs.Placings.{Placing, PlacedFactor, PlacedPair, with_factor_in, with_pair_in, nothing_placed, factor_item, pair_item, placed_there, factors_in, IsPlacedFactor, IsPlacedPair, IsPlacing}
 use Rattle.mk_propagate.specs.Flows.{FlowOf, no_table, table_at, message_at, HasCells, HasPlaced, IsRight, Places, exact_message, exact_message_grade}
 use Rattle.mk_propagate.specs.inner.Kept.{IsKept}

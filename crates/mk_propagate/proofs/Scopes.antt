@@ -1,8 +1,8 @@
 -- The scopes of cliques and separators.
-use Rattle.std.proofs.Common.{◌≡◌, ℕ, suc, zero, ◌+◌, ◌*◌, ◌<◌, ◌≤◌, Bool, true, false, cond, ◌&&◌, ◌||◌, ◌⊎◌, inl, inr, eqb, ◌-◌, List, [], ◌∷◌, map, filter, length, slice_index, slice_index_or, All, refl, sym, ap, subst, ◌∙◌, arith, eq-eqb}
+use Rattle.std.proofs.Common.{◌≡◌, ℕ, suc, zero, ◌+◌, ◌*◌, ◌<◌, ◌≤◌, Bool, true, false, cond, ◌&&◌, ◌||◌, ◌⊎◌, inl, inr, eqb, ◌-◌, List, [], ◌∷◌, filter, length, slice_index, refl, sym, ap, subst, ◌∙◌, arith, eq-eqb}
 use Rattle.std.proofs.Math.Path.{fun_ext}
 use Rattle.std.proofs.Math.Nat.{mul-le-mul}
-use Rattle.std.proofs.lemmas.Bool.{cases_Bool, cases_eq, both_ways, or_left, or_right, or_cases, and_parts, and_from, eqb-true, cond-true, cond-false}
+use Rattle.std.proofs.lemmas.Bool.{cases_Bool, cases_eq, both_ways, or_left, or_right, or_cases, and_parts, eqb-true, cond-true, cond-false}
 use Rattle.std.proofs.lemmas.List.{length-map}
 use Rattle.std.specs.List.{range_with_len}
 use Rattle.mk_net.specs.declared.sets.VarSet.{VarSet}
@@ -15,7 +15,7 @@ use Rattle.mk_exact.proofs.Positive.{size_at}
 use Rattle.mk_sums.specs.Sums.{listed}
 use Rattle.mk_sums.specs.Cells.{keep, cells, place, InRange}
 use Rattle.mk_sums.specs.Joint.{variables}
-use Rattle.mk_table.specs.Scopes.{ScopeOf, size_in, cells_in, has_variable, scope_of, LiesIn, HasSized}
+use Rattle.mk_table.specs.Scopes.{size_in, cells_in, has_variable, scope_of, LiesIn, HasSized}
 use Rattle.mk_table.specs.Cells.{values_at}
 use Rattle.mk_table.proofs.Members.{size_of_map}
 use Rattle.mk_table.proofs.Places.{cells_same, place_same, place_below, place_other}

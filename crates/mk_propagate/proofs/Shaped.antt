@@ -1,12 +1,11 @@
 -- One clique more of what a shape keeps, and the next cliques on the ways.
-use Rattle.std.proofs.Common.{◌≡◌, ◌≢◌, ℕ, suc, zero, ◌+◌, ◌-◌, ◌<◌, ◌≤◌, Bool, true, false, cond, ◌⊎◌, inl, inr, List, [], ◌∷◌, ◌++◌, map, filter, length, slice_index, slice_index_or, get_or, refl, sym, ap, subst, ◌∙◌, arith}
+use Rattle.std.proofs.Common.{◌≡◌, ◌≢◌, ℕ, suc, ◌+◌, ◌-◌, ◌<◌, ◌≤◌, Bool, true, false, cond, ◌⊎◌, inl, inr, List, [], ◌∷◌, ◌++◌, map, filter, length, slice_index, slice_index_or, get_or, refl, sym, ap, subst, ◌∙◌, arith}
 use Rattle.std.specs.List.{range_with_len}
-use Rattle.std.proofs.lemmas.Bool.{cases_eq, cases_lt, cond-true, cond-false}
+use Rattle.std.proofs.lemmas.Bool.{cases_eq}
 use Rattle.std.proofs.lemmas.List.{length-map, length_push, get_or_push, get_or_default}
-use Rattle.std.proofs.lemmas.List.FromFn.{map-range_with_len_more, get_or-map-range_with_len, length-map-range_with_len, length-range_with_len}
+use Rattle.std.proofs.lemmas.List.FromFn.{map-range_with_len_more, get_or-map-range_with_len, length-map-range_with_len}
 use Rattle.std.proofs.Math.ListN.{get_or-map, get_or-append}
-use Rattle.mk_sums.specs.Trees.{Links, hop, linked_to}
-use Rattle.mk_sums.proofs.Hops.{IsChild, AreLinked, ends, hop_linked, hop_near, hop_up, hop_step}
+use Rattle.mk_sums.proofs.Hops.{IsChild, ends, hop_linked, hop_near, hop_up, hop_step}
 use Rattle.mk_table.proofs.Members.{range_more}
 use Rattle.mk_tree.specs.Given.{GivenTree, link_of, holds}
 use Rattle.mk_tree.specs.Given as given

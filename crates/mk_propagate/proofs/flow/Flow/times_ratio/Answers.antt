@@ -1,11 +1,6 @@
-use Rattle.std.proofs.Common.{◌+◌, ◌*◌, List, sym, subst, arith}
-use Rattle.mk_net.specs.Network.{Variable}
-use Rattle.mk_sums.specs.There.{share_there}
-use Rattle.mk_table.specs.Cells.{values_at}
-use Rattle.mk_table.specs.Tables.{HasNumbers}
-use Rattle.mk_engine.specs.Meaning.{RowsOf, RatioOf}
+use Rattle.std.proofs.Common.{arith}
+use Rattle.mk_engine.specs.Meaning.{RatioOf}
 use Rattle.mk_net.specs.Trades.{trade_ratio}
-use Rattle.mk_propagate.specs.Placings.{IsPlacedFactor}
 use Rattle.mk_propagate.specs.Flows.{FlowOf}
 use Rattle.mk_propagate.proofs.Calls.{ratio_event, ratio_one_each, room, places_factor, ratio_fits_each}
 use Rattle.mk_propagate.proofs.flow.Flow.times_ratio.Goals as goal
