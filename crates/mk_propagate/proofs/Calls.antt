@@ -1,18 +1,17 @@
 -- A call that changes the table of one clique: `old` is the flow as its parts give it, and `now` as contracts see it.
 use Rattle.std.proofs.Common.{◌≡◌, ℕ, ◌+◌, ◌-◌, ◌*◌, ◌<◌, ◌≤◌, true, ◌==◌, if◌then◌else◌, List, length, All, get_or, slice_index_or, sym, ap, subst, ◌∙◌, arith}
 use Rattle.mk_net.specs.declared.words.Pair.{Pair}
-use Rattle.mk_net.specs.Network.{Variable, IsNetwork, sizes}
+use Rattle.mk_net.specs.Network.{Variable, sizes}
 use Rattle.mk_net.specs.Named.{variable_at}
 use Rattle.mk_net.specs.Asked.{TradeRatio, ratio_pairs}
-use Rattle.mk_sums.specs.There.{share_there, ratio_there}
-use Rattle.mk_table.specs.Scopes.{ScopeOf, has_variable, HasEvent, HasOneEach, HasSized}
+use Rattle.mk_table.specs.Scopes.{has_variable, HasEvent, HasOneEach, HasSized}
 use Rattle.mk_table.specs.Cells.{values_at}
 use Rattle.mk_table.specs.Tables.{TableOf, HasNumbers, HasRoom}
 use Rattle.mk_tree.specs.Given.{holds}
 use Rattle.mk_engine.specs.Meaning.{Factor, RowsOf, RatioOf, max_factors, factor_there}
-use Rattle.mk_propagate.specs.Shapes.{ShapeOf, IsShapeFor, IsClique, clique_scope, scope_within, no_scope}
+use Rattle.mk_propagate.specs.Shapes.{IsShapeFor, IsClique, clique_scope, scope_within, no_scope}
 use Rattle.mk_propagate.specs.Placings.{Placing, with_factor_in, with_pair_in, placed_there, factors_in, IsPlacedFactor, IsPlacedPair}
-use Rattle.mk_propagate.specs.Flows.{FlowOf, table_at, HasCells, HasPlaced, CanPlace, Places}
+use Rattle.mk_propagate.specs.Flows.{FlowOf, table_at, HasCells, HasPlaced, Places}
 use Rattle.mk_propagate.specs.inner.Kept.{IsKept}
 use Rattle.mk_propagate.proofs.Placed.{with_table, table_read, factor_placed, pair_placed, kept_with}
 use Rattle.mk_propagate.proofs.Placed as placed
@@ -40,7 +39,8 @@ module _ (old now : FlowOf) (view : old ≡ now) (scratch : List TableOf) (cells
 
   pub room : HasRoom read 1
   room =
-      placed.has_room read _ p clique (subst (λ (u : TableOf). HasCells u (clique_scope old.shape clique) (placed_there p clique) (factors_in p clique) (factors_in p clique)) reads (placed_old.tables clique clique_old)) h.placing.few
+      placed.has_room read _ p clique (subst (λ (u : TableOf). HasCells u (clique_scope old.shape clique) (placed_there p clique) (factors_in p clique)
+      (factors_in p clique)) reads (placed_old.tables clique clique_old)) h.placing.few
 
   pub rows_family : (network : List Variable) → p.network ≡ network → (x : ℕ) → IsPlacedFactor network now.shape.tree (record { clique = clique; factor = RowsOf x }) → HasSized network read.scope x
   rows_family network e x f = required.has_family network now.shape.tree clique read.scope (scope_of_read network (subst (IsShapeFor now.shape) e h.shape_is)) x f.fits.0 f.fits.1
@@ -88,8 +88,10 @@ module _ (now : FlowOf) (p q : Placing) (h : HasPlaced now p) (other : HasPlaced
   sized_alike : sizes p.network ≡ sizes q.network
   sized_alike = required.same_sizes now.shape p.network q.network h.shape_is other.shape_is
 
-  pub ratio_fits_each : (clique : ℕ) (ratio : TradeRatio) → IsPlacedFactor p.network now.shape.tree (record { clique = clique; factor = RatioOf ratio }) → IsPlacedFactor q.network now.shape.tree (record { clique = clique; factor = RatioOf ratio })
+  pub ratio_fits_each : (clique : ℕ) (ratio : TradeRatio) → IsPlacedFactor p.network now.shape.tree (record { clique = clique; factor = RatioOf ratio })
+      → IsPlacedFactor q.network now.shape.tree (record { clique = clique; factor = RatioOf ratio })
   ratio_fits_each clique ratio f = record { clique_is = f.clique_is; fits = (required.ratio_same p.network q.network sized_alike ratio f.fits.0, f.fits.1) }
 
-  pub pair_fits_each : (clique : ℕ) (pair : Pair) → IsPlacedPair p.network now.shape.tree (record { clique = clique; pair = pair }) → IsPlacedPair q.network now.shape.tree (record { clique = clique; pair = pair })
+  pub pair_fits_each : (clique : ℕ) (pair : Pair) → IsPlacedPair p.network now.shape.tree (record { clique = clique; pair = pair })
+      → IsPlacedPair q.network now.shape.tree (record { clique = clique; pair = pair })
   pair_fits_each clique pair f = record { clique_is = f.clique_is; in_range = required.pair_same p.network q.network sized_alike pair f.in_range; holds_it = f.holds_it }

@@ -1,8 +1,8 @@
 -- The order in which messages are made: what each message needs is made before it.
 use Rattle.std.proofs.Common.{◌≡◌, ◌≢◌, ℕ, suc, zero, ◌+◌, ◌-◌, ◌<◌, ◌≤◌, Bool, true, false, cond, not, ◌&&◌, ◌⊎◌, inl, inr, eqb, ltb, leb, length, refl, sym, ap, subst, ◌∙◌, arith, eq-eqb, ne_eqb}
 use Rattle.std.proofs.lemmas.Bool.{cases_eq, cases_lt, cases_Bool, both_ways, and_parts, and_from, lt-ltb, ltb-true, le-leb, lt-leb, not_from_false}
-use Rattle.mk_sums.specs.Trees.{Links, linked, linked_but, hop, behind, towards, sum_of}
-use Rattle.mk_sums.proofs.Hops.{AreLinked, IsChild, are_linked, linked_from, linked_back, ends, hop_linked, hop_near, behind_from, behind_parts}
+use Rattle.mk_sums.specs.Trees.{Links, linked, linked_but, behind}
+use Rattle.mk_sums.proofs.Hops.{AreLinked, are_linked, linked_from, linked_back, ends, hop_linked, hop_near, behind_from, behind_parts}
 use Rattle.mk_sums.proofs.Stale.{leads_towards, collects_in_order}
 use Rattle.mk_tree.specs.Given.{GivenTree, link_of}
 use Rattle.mk_tree.specs.Given as given
@@ -129,7 +129,8 @@ module _ (tree : GivenTree) (tied : given.AreLinked tree) (root : ℕ) (at_root 
           inl (clique_is, λ f. n.4 (f ∙ sym e), near ∙ sym e)
       at (inr f) (inl e) = inr (f, e)
       at (inr f) (inr g) =
-          let but = and_from (linked (link_of tree) (length tree.cliques) i (next k)) (not (eqb i (next (next k)))) (linked_from (link_of tree) (length tree.cliques) i (next k) l) (not_from_false (eqb i (next (next k))) (ne_eqb i (next (next k)) g)) in
+          let but = and_from (linked (link_of tree) (length tree.cliques) i (next k)) (not (eqb i (next (next k)))) (linked_from (link_of tree)
+          (length tree.cliques) i (next k) l) (not_from_false (eqb i (next (next k))) (ne_eqb i (next (next k)) g)) in
           let o = input (next k) (next_is k is d) f i but in
           inl (o.clique_is, o.below, o.leads)
 

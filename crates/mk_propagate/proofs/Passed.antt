@@ -1,5 +1,5 @@
 -- What the messages that were made so far leave, and one message more.
-use Rattle.std.proofs.Common.{◌≡◌, ◌≢◌, ℕ, suc, zero, ◌+◌, ◌-◌, ◌*◌, ◌<◌, ◌≤◌, Bool, true, false, ◌⊎◌, inl, inr, List, length, slice_index_or, refl, sym, ap, subst, ◌∙◌, arith}
+use Rattle.std.proofs.Common.{◌≡◌, ◌≢◌, ℕ, ◌+◌, ◌-◌, ◌<◌, true, ◌⊎◌, inl, inr, List, length, slice_index_or, refl, sym, ap, subst, ◌∙◌, arith}
 use Rattle.std.proofs.lemmas.Bool.{cases_eq}
 use Rattle.mk_sums.specs.Trees.{linked_but}
 use Rattle.mk_table.specs.Tables.{TableOf}
@@ -9,7 +9,7 @@ use Rattle.mk_propagate.specs.Shapes.{ShapeOf, IsShapeFor, IsClique, are_linked,
 use Rattle.mk_propagate.specs.Placings.{Placing, IsPlacing, placed_there, factors_in}
 use Rattle.mk_propagate.specs.Flows.{FlowOf, no_table, message_at, HasCells, HasPlaced, IsRight, AreRightBut, CanSend, KeepsTables, counted_on}
 use Rattle.mk_propagate.proofs.Placed.{right_kept}
-use Rattle.mk_propagate.proofs.Order.{next, next_is, next_apart, towards_linked, away_linked, no_return, IsInput, input, away_input}
+use Rattle.mk_propagate.proofs.Order.{next_is, towards_linked, away_linked, no_return, IsInput, input, away_input}
 
 -- what a call of `message` ensures
 pub record IsSent (plus : ℕ → ℕ → ℕ) (old new : FlowOf) (from to : ℕ) : Type 0 where
@@ -42,8 +42,11 @@ still_placed old new kept p h = record {
   placing = subst (λ (s : ShapeOf). IsPlacing s.tree p) (sym kept.same_shape) h.placing;
   counted = h.counted ∙ sym kept.same_factors;
   tables =
-      subst (λ (s : ShapeOf). (k : ℕ) → IsClique s.tree k → HasCells (slice_index_or new.tables (k - 1) no_table) (clique_scope s k) (placed_there p k) (factors_in p k) (factors_in p k)) (sym kept.same_shape)
-      (subst (λ (ts : List TableOf). (k : ℕ) → IsClique old.shape.tree k → HasCells (slice_index_or ts (k - 1) no_table) (clique_scope old.shape k) (placed_there p k) (factors_in p k) (factors_in p k)) (sym kept.same_tables) h.tables);
+      subst (λ (s : ShapeOf). (k : ℕ) → IsClique s.tree k → HasCells (slice_index_or new.tables (k - 1) no_table) (clique_scope s k) (placed_there p k)
+      (factors_in p k) (factors_in p k)) (sym kept.same_shape)
+      (subst (λ (ts : List TableOf). (k : ℕ) → IsClique old.shape.tree k
+      → HasCells (slice_index_or ts (k - 1) no_table) (clique_scope old.shape k) (placed_there p k) (factors_in p k) (factors_in p k))
+      (sym kept.same_tables) h.tables);
 }
 
 pub counted_more : (computed mid new made : ℕ) → mid ≡ counted_on computed made → new ≡ counted_on mid 1 → new ≡ counted_on computed (made + 1)
@@ -93,22 +96,26 @@ module _ (plus : ℕ → ℕ → ℕ) (start now : FlowOf) (before : Placing →
       subst (λ (t : ℕ). IsRight plus now p i t) o.leads (h.right p has b i o.clique_is (inputs i o))
 
   pub can_collect : (p : Placing) → HasPlaced start p → before p → CanSend plus now k to
-  can_collect p has b = can_send plus start now h.kept k to p has (subst (λ (t : ℕ). are_linked start.shape.tree k t ≡ true) (sym to_is) (towards_linked start.shape.tree tied root at_root k is d)) (collected p has b)
+  can_collect p has b = can_send plus start now h.kept k to p has (subst (λ (t : ℕ). are_linked start.shape.tree k t ≡ true) (sym to_is)
+      (towards_linked start.shape.tree tied root at_root k is d)) (collected p has b)
 
-  pub collecting_more : (new : FlowOf) → IsSent plus now new k to → (more : ℕ → Type 0) → ((j : ℕ) → more j → (j ≡ k) ⊎ ((j ≢ root) × these j)) → IsCollecting plus start new before root more (made + 1)
+  pub collecting_more : (new : FlowOf) → IsSent plus now new k to → (more : ℕ → Type 0) → ((j : ℕ) → more j → (j ≡ k) ⊎ ((j ≢ root) × these j))
+      → IsCollecting plus start new before root more (made + 1)
   collecting_more new sent more cases = record {
     kept = kept_twice start now new h.kept sent.kept;
     right = λ p has b j at m. from p has b j at (cases_eq j k) (cases j m);
     counted = counted_more start.computed now.computed new.computed made h.counted sent.counted;
   }
     where
-      from : (p : Placing) → HasPlaced start p → before p → (j : ℕ) → IsClique start.shape.tree j → ((j ≡ k) ⊎ (j ≡ k → ⊥)) → ((j ≡ k) ⊎ ((j ≢ root) × these j)) → IsRight plus new p j (next_on_way start.shape.tree j root)
+      from : (p : Placing) → HasPlaced start p → before p → (j : ℕ) → IsClique start.shape.tree j → ((j ≡ k) ⊎ (j ≡ k → ⊥))
+          → ((j ≡ k) ⊎ ((j ≢ root) × these j)) → IsRight plus new p j (next_on_way start.shape.tree j root)
       from p has b j at (inl e) _ =
           subst (λ (i : ℕ). IsRight plus new p i (next_on_way start.shape.tree i root)) (sym e)
           (subst (λ (t : ℕ). IsRight plus new p k t) to_is (sent_right plus start now h.kept k to new sent p has (collected p has b)))
       from p has b j at (inr f) (inl e) = absurd (f e)
       from p has b j at (inr f) (inr o) =
-          sent_still plus start now h.kept k to new sent p j (next_on_way start.shape.tree j root) (towards_linked start.shape.tree tied root at_root j at o.0) (λ (q : (j ≡ k) × (next_on_way start.shape.tree j root ≡ to)). f q.0)
+          sent_still plus start now h.kept k to new sent p j (next_on_way start.shape.tree j root)
+          (towards_linked start.shape.tree tied root at_root j at o.0) (λ (q : (j ≡ k) × (next_on_way start.shape.tree j root ≡ to)). f q.0)
           (h.right p has b j at o.1)
 
 -- ---- messages away from it
@@ -139,9 +146,11 @@ module _ (plus : ℕ → ℕ → ℕ) (start now : FlowOf) (before : Placing →
           (h.right p has b (next_on_way start.shape.tree k root) (next_is start.shape.tree tied root at_root k is d) (inputs o.0))
 
   pub can_distribute : (p : Placing) → HasPlaced start p → before p → CanSend plus now from k
-  can_distribute p has b = can_send plus start now h.kept from k p has (subst (λ (t : ℕ). are_linked start.shape.tree t k ≡ true) (sym from_is) (away_linked start.shape.tree tied root at_root k is d)) (gathered p has b)
+  can_distribute p has b = can_send plus start now h.kept from k p has (subst (λ (t : ℕ). are_linked start.shape.tree t k ≡ true) (sym from_is)
+      (away_linked start.shape.tree tied root at_root k is d)) (gathered p has b)
 
-  pub distributing_more : (new : FlowOf) → IsSent plus now new from k → (more : ℕ → Type 0) → ((j : ℕ) → more j → (j ≡ k) ⊎ ((j ≢ root) × these j)) → IsDistributing plus start new before root more (made + 1)
+  pub distributing_more : (new : FlowOf) → IsSent plus now new from k → (more : ℕ → Type 0) → ((j : ℕ) → more j → (j ≡ k) ⊎ ((j ≢ root) × these j))
+      → IsDistributing plus start new before root more (made + 1)
   distributing_more new sent more cases = record {
     kept = kept_twice start now new h.kept sent.kept;
     towards = λ p has b j at m.
@@ -155,11 +164,13 @@ module _ (plus : ℕ → ℕ → ℕ) (start now : FlowOf) (before : Placing →
       back j at m e f =
           no_return start.shape.tree tied root at_root k is d (λ g. m (e ∙ from_is ∙ g)) (ap (λ (i : ℕ). next_on_way start.shape.tree i root) (sym (e ∙ from_is)) ∙ f)
 
-      of : (p : Placing) → HasPlaced start p → before p → (j : ℕ) → IsClique start.shape.tree j → ((j ≡ k) ⊎ (j ≡ k → ⊥)) → ((j ≡ k) ⊎ ((j ≢ root) × these j)) → IsRight plus new p (next_on_way start.shape.tree j root) j
+      of : (p : Placing) → HasPlaced start p → before p → (j : ℕ) → IsClique start.shape.tree j → ((j ≡ k) ⊎ (j ≡ k → ⊥))
+          → ((j ≡ k) ⊎ ((j ≢ root) × these j)) → IsRight plus new p (next_on_way start.shape.tree j root) j
       of p has b j at (inl e) _ =
           subst (λ (i : ℕ). IsRight plus new p (next_on_way start.shape.tree i root) i) (sym e)
           (subst (λ (t : ℕ). IsRight plus new p t k) from_is (sent_right plus start now h.kept from k new sent p has (gathered p has b)))
       of p has b j at (inr f) (inl e) = absurd (f e)
       of p has b j at (inr f) (inr o) =
-          sent_still plus start now h.kept from k new sent p (next_on_way start.shape.tree j root) j (away_linked start.shape.tree tied root at_root j at o.0) (λ (q : (next_on_way start.shape.tree j root ≡ from) × (j ≡ k)). f q.1)
+          sent_still plus start now h.kept from k new sent p (next_on_way start.shape.tree j root) j (away_linked start.shape.tree tied root at_root j at o.0)
+          (λ (q : (next_on_way start.shape.tree j root ≡ from) × (j ≡ k)). f q.1)
           (h.right p has b j at o.1)

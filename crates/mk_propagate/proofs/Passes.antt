@@ -1,5 +1,5 @@
 -- The four passes, clique by clique.
-use Rattle.std.proofs.Common.{◌≡◌, ◌≢◌, ℕ, suc, zero, ◌+◌, ◌-◌, ◌<◌, ◌≤◌, Bool, true, false, ◌⊎◌, inl, inr, length, refl, sym, ap, subst, ◌∙◌, arith}
+use Rattle.std.proofs.Common.{◌≡◌, ◌≢◌, ℕ, ◌+◌, ◌-◌, ◌<◌, ◌≤◌, Bool, true, false, ◌⊎◌, inl, inr, length, refl, sym, ap, subst, ◌∙◌, arith}
 use Rattle.std.proofs.lemmas.Bool.{cases_eq, both_ways}
 use Rattle.mk_tree.specs.Given.{GivenTree}
 use Rattle.mk_tree.specs.Given as given
@@ -88,12 +88,6 @@ DistributesOn plus start now root passed =
     (up_to (leads_down start.shape.tree root) (leads_up start.shape.tree root) passed) (count_of (leads_up start.shape.tree root) passed)
 
 module _ (plus : ℕ → ℕ → ℕ) (start : FlowOf) (tied : given.AreLinked start.shape.tree) (root : ℕ) (at_root : IsClique start.shape.tree root) where
-  up : ℕ → Bool
-  up = leads_up start.shape.tree root
-
-  down : ℕ → Bool
-  down = leads_down start.shape.tree root
-
   up_apart : (j : ℕ) → leads_up start.shape.tree root j ≡ true → j ≢ root
   up_apart j h = (up_parts start.shape.tree tied root at_root j h).0
 
@@ -114,33 +108,35 @@ module _ (plus : ℕ → ℕ → ℕ) (start : FlowOf) (tied : given.AreLinked s
     collect_back_skips fails_here = record {
       made = h.made;
       counts = same_left (leads_up start.shape.tree root) left h.made (count_of (leads_up start.shape.tree root) (length start.shape.tree.cliques)) is.first fails_here h.counts;
-      so_far = record { kept = h.so_far.kept; right = λ p has b j at m. h.so_far.right p has b j at (none_fewer (leads_up start.shape.tree root) left is.first fails_here j m); counted = h.so_far.counted };
+      so_far = record {
+        kept = h.so_far.kept;
+        right = λ p has b j at m. h.so_far.right p has b j at (none_fewer
+            (leads_up start.shape.tree root) left is.first fails_here j m);
+        counted = h.so_far.counted;
+      };
     }
 
     module _ (holds_here : leads_up start.shape.tree root left ≡ true) (to : ℕ) (to_is : to ≡ next_on_way start.shape.tree left root) where
       pub collect_back_can : (p : Placing) → HasPlaced start p → CanSend plus now left to
       collect_back_can p has =
-          can_collect plus start now Always root (after (leads_up start.shape.tree root) left) h.made h.so_far tied at_root left is (up_apart left holds_here) (λ i o. input_up start.shape.tree tied root at_root left i is holds_here o) to to_is p has tt
+          can_collect plus start now Always root (after (leads_up start.shape.tree root) left) h.made h.so_far tied at_root left is (up_apart left holds_here)
+          (λ i o. input_up start.shape.tree tied root at_root left i is holds_here o) to to_is p has tt
 
       pub collect_back_sent : (new : FlowOf) → IsSent plus now new left to → CollectsBack plus start new root (left - 1)
       collect_back_sent new sent = record {
         made = h.made + 1;
         counts = fewer_left (leads_up start.shape.tree root) left h.made (count_of (leads_up start.shape.tree root) (length start.shape.tree.cliques)) is.first holds_here h.counts;
         so_far =
-            collecting_more plus start now Always root (after (leads_up start.shape.tree root) left) h.made h.so_far tied at_root left is (up_apart left holds_here) (λ i o. input_up start.shape.tree tied root at_root left i is holds_here o) to to_is new sent
+            collecting_more plus start now Always root (after (leads_up start.shape.tree root) left) h.made h.so_far tied at_root left is
+            (up_apart left holds_here) (λ i o. input_up start.shape.tree tied root at_root left i is holds_here o) to to_is new sent
             (after (leads_up start.shape.tree root) (left - 1)) (one_fewer (leads_up start.shape.tree root) root left is.first up_apart);
       }
 
-  pub collect_back_right : (now : FlowOf) (left : ℕ) → left ≡ 0 → CollectsBack plus start now root left → (p : Placing) → HasPlaced start p → AreRightFrom plus now p root (λ k. leads_up start.shape.tree root k ≡ true)
+  pub collect_back_right : (now : FlowOf) (left : ℕ) → left ≡ 0 → CollectsBack plus start now root left → (p : Placing) → HasPlaced start p
+      → AreRightFrom plus now p root (λ k. leads_up start.shape.tree root k ≡ true)
   collect_back_right now left e h p has =
       subst (λ (t : GivenTree). (k : ℕ) → IsClique t k → leads_up start.shape.tree root k ≡ true → IsRight plus now p k (next_on_way t k root)) (sym (tree_kept start now h.so_far.kept))
       (λ k at u. h.so_far.right p has tt k at (omega (arith, e, at.first), u))
-
-  pub collect_back_counted : (now : FlowOf) (left : ℕ) → left ≡ 0 → CollectsBack plus start now root left → now.computed ≡ counted_on start.computed (count_of (leads_up start.shape.tree root) (length start.shape.tree.cliques))
-  collect_back_counted now left e h =
-      let f = ap (count_of (leads_up start.shape.tree root)) e in
-      let n : h.made ≡ count_of (leads_up start.shape.tree root) (length start.shape.tree.cliques) = let c = h.counts in omega (arith, c, f) in
-      h.so_far.counted ∙ ap (counted_on start.computed) n
 
   -- ---- its second
 
@@ -164,20 +160,24 @@ module _ (plus : ℕ → ℕ → ℕ) (start : FlowOf) (tied : given.AreLinked s
       inputs_on : (i : ℕ) → IsInput start.shape.tree tied root at_root (passed + 1) i → up_to (leads_up start.shape.tree root) (leads_down start.shape.tree root) passed i
       inputs_on i o = at (input_down start.shape.tree tied root at_root (passed + 1) i o)
         where
-          at : ((leads_up start.shape.tree root i ≡ true) ⊎ ((i < passed + 1) × (leads_down start.shape.tree root i ≡ true))) → up_to (leads_up start.shape.tree root) (leads_down start.shape.tree root) passed i
+          at : ((leads_up start.shape.tree root i ≡ true) ⊎ ((i < passed + 1) × (leads_down start.shape.tree root i ≡ true)))
+              → up_to (leads_up start.shape.tree root) (leads_down start.shape.tree root) passed i
           at (inl u) = inl u
           at (inr v) = inr (omega (arith, v.0), v.1)
 
       pub collect_on_can : (p : Placing) → HasPlaced start p → AreRightFrom plus start p root (λ k. leads_up start.shape.tree root k ≡ true) → CanSend plus now (passed + 1) to
       collect_on_can p has b =
-          can_collect plus start now (λ p. AreRightFrom plus start p root (λ k. leads_up start.shape.tree root k ≡ true)) root (up_to (leads_up start.shape.tree root) (leads_down start.shape.tree root) passed) (count_of (leads_down start.shape.tree root) passed) h
+          can_collect plus start now (λ p. AreRightFrom plus start p root (λ k. leads_up start.shape.tree root k ≡ true)) root (up_to
+          (leads_up start.shape.tree root) (leads_down start.shape.tree root) passed) (count_of (leads_down start.shape.tree root) passed) h
           tied at_root (passed + 1) is (down_apart (passed + 1) holds_here) inputs_on to to_is p has b
 
       pub collect_on_sent : (new : FlowOf) → IsSent plus now new (passed + 1) to → CollectsOn plus start new root (passed + 1)
       collect_on_sent new sent =
-          subst (IsCollecting plus start new (λ p. AreRightFrom plus start p root (λ k. leads_up start.shape.tree root k ≡ true)) root (up_to (leads_up start.shape.tree root) (leads_down start.shape.tree root) (passed + 1)))
+          subst (IsCollecting plus start new (λ p. AreRightFrom plus start p root (λ k. leads_up start.shape.tree root k ≡ true)) root (up_to
+          (leads_up start.shape.tree root) (leads_down start.shape.tree root) (passed + 1)))
           (sym (count_more (leads_down start.shape.tree root) passed holds_here))
-          (collecting_more plus start now (λ p. AreRightFrom plus start p root (λ k. leads_up start.shape.tree root k ≡ true)) root (up_to (leads_up start.shape.tree root) (leads_down start.shape.tree root) passed) (count_of (leads_down start.shape.tree root) passed) h
+          (collecting_more plus start now (λ p. AreRightFrom plus start p root (λ k. leads_up start.shape.tree root k ≡ true)) root (up_to
+          (leads_up start.shape.tree root) (leads_down start.shape.tree root) passed) (count_of (leads_down start.shape.tree root) passed) h
           tied at_root (passed + 1) is (down_apart (passed + 1) holds_here) inputs_on to to_is new sent (up_to (leads_up start.shape.tree root) (leads_down start.shape.tree root) (passed + 1))
           (one_further (leads_up start.shape.tree root) (leads_down start.shape.tree root) root passed up_apart down_apart))
 
@@ -187,7 +187,8 @@ module _ (plus : ℕ → ℕ → ℕ) (start : FlowOf) (tied : given.AreLinked s
       subst (λ (t : GivenTree). (k : ℕ) → IsClique t k → k ≢ root → IsRight plus now p k (next_on_way t k root)) (sym (tree_kept start now h.kept))
       (λ k at d. h.right p has b k at (either k at (up_or_down start.shape.tree tied root at_root k at d)))
     where
-      either : (k : ℕ) → IsClique start.shape.tree k → ((leads_up start.shape.tree root k ≡ true) ⊎ (leads_down start.shape.tree root k ≡ true)) → up_to (leads_up start.shape.tree root) (leads_down start.shape.tree root) passed k
+      either : (k : ℕ) → IsClique start.shape.tree k → ((leads_up start.shape.tree root k ≡ true) ⊎ (leads_down start.shape.tree root k ≡ true))
+          → up_to (leads_up start.shape.tree root) (leads_down start.shape.tree root) passed k
       either k at (inl u) = inl u
       either k at (inr v) = inr (omega (arith, at.last, all), v)
 
@@ -205,7 +206,13 @@ module _ (plus : ℕ → ℕ → ℕ) (start : FlowOf) (tied : given.AreLinked s
     distribute_back_skips fails_here = record {
       made = h.made;
       counts = same_left (leads_down start.shape.tree root) left h.made (count_of (leads_down start.shape.tree root) (length start.shape.tree.cliques)) is.first fails_here h.counts;
-      so_far = record { kept = h.so_far.kept; towards = h.so_far.towards; right = λ p has b j at m. h.so_far.right p has b j at (none_fewer (leads_down start.shape.tree root) left is.first fails_here j m); counted = h.so_far.counted };
+      so_far = record {
+        kept = h.so_far.kept;
+        towards = h.so_far.towards;
+        right = λ p has b j at m. h.so_far.right p has b j at (none_fewer
+            (leads_down start.shape.tree root) left is.first fails_here j m);
+        counted = h.so_far.counted;
+      };
     }
 
     module _ (holds_here : leads_down start.shape.tree root left ≡ true) (from : ℕ) (from_is : from ≡ next_on_way start.shape.tree left root) where
@@ -219,8 +226,10 @@ module _ (plus : ℕ → ℕ → ℕ) (start : FlowOf) (tied : given.AreLinked s
         made = h.made + 1;
         counts = fewer_left (leads_down start.shape.tree root) left h.made (count_of (leads_down start.shape.tree root) (length start.shape.tree.cliques)) is.first holds_here h.counts;
         so_far =
-            distributing_more plus start now (λ p. AreRightTowards plus start p root) root (after (leads_down start.shape.tree root) left) h.made h.so_far tied at_root left is (down_apart left holds_here)
-            (away_down start.shape.tree tied root at_root left is holds_here) from from_is new sent (after (leads_down start.shape.tree root) (left - 1)) (one_fewer (leads_down start.shape.tree root) root left is.first down_apart);
+            distributing_more plus start now (λ p. AreRightTowards plus start p root) root (after
+            (leads_down start.shape.tree root) left) h.made h.so_far tied at_root left is (down_apart left holds_here)
+            (away_down start.shape.tree tied root at_root left is holds_here) from from_is new sent (after (leads_down start.shape.tree root) (left - 1))
+            (one_fewer (leads_down start.shape.tree root) root left is.first down_apart);
       }
 
   pub distribute_back_right : (now : FlowOf) (left : ℕ) → left ≡ 0 → DistributesBack plus start now root left → (p : Placing) → HasPlaced start p → AreRightTowards plus start p root
@@ -232,12 +241,6 @@ module _ (plus : ℕ → ℕ → ℕ) (start : FlowOf) (tied : given.AreLinked s
   pub still_towards : (now : FlowOf) (left : ℕ) → DistributesBack plus start now root left → (p : Placing) → HasPlaced start p → AreRightTowards plus start p root → AreRightTowards plus now p root
   still_towards now left h p has b =
       subst (λ (t : GivenTree). (k : ℕ) → IsClique t k → k ≢ root → IsRight plus now p k (next_on_way t k root)) (sym (tree_kept start now h.so_far.kept)) (h.so_far.towards p has b)
-
-  pub distribute_back_counted : (now : FlowOf) (left : ℕ) → left ≡ 0 → DistributesBack plus start now root left → now.computed ≡ counted_on start.computed (count_of (leads_down start.shape.tree root) (length start.shape.tree.cliques))
-  distribute_back_counted now left e h =
-      let f = ap (count_of (leads_down start.shape.tree root)) e in
-      let n : h.made ≡ count_of (leads_down start.shape.tree root) (length start.shape.tree.cliques) = let c = h.counts in omega (arith, c, f) in
-      h.so_far.counted ∙ ap (counted_on start.computed) n
 
   -- ---- its second
 
@@ -262,10 +265,12 @@ module _ (plus : ℕ → ℕ → ℕ) (start : FlowOf) (tied : given.AreLinked s
     }
 
     module _ (holds_here : leads_up start.shape.tree root (passed + 1) ≡ true) (from : ℕ) (from_is : from ≡ next_on_way start.shape.tree (passed + 1) root) where
-      sender_done : next_on_way start.shape.tree (passed + 1) root ≢ root → up_to (leads_down start.shape.tree root) (leads_up start.shape.tree root) passed (next_on_way start.shape.tree (passed + 1) root)
+      sender_done : next_on_way start.shape.tree (passed + 1) root ≢ root
+          → up_to (leads_down start.shape.tree root) (leads_up start.shape.tree root) passed (next_on_way start.shape.tree (passed + 1) root)
       sender_done f = at (away_up start.shape.tree tied root at_root (passed + 1) is holds_here f)
         where
-          at : ((leads_down start.shape.tree root (next_on_way start.shape.tree (passed + 1) root) ≡ true) ⊎ ((next_on_way start.shape.tree (passed + 1) root < passed + 1) × (leads_up start.shape.tree root (next_on_way start.shape.tree (passed + 1) root) ≡ true)))
+          at : ((leads_down start.shape.tree root (next_on_way start.shape.tree (passed + 1) root) ≡ true) ⊎ ((next_on_way start.shape.tree
+              (passed + 1) root < passed + 1) × (leads_up start.shape.tree root (next_on_way start.shape.tree (passed + 1) root) ≡ true)))
               → up_to (leads_down start.shape.tree root) (leads_up start.shape.tree root) passed (next_on_way start.shape.tree (passed + 1) root)
           at (inl u) = inl u
           at (inr v) = inr (omega (arith, v.0), v.1)
@@ -277,7 +282,8 @@ module _ (plus : ℕ → ℕ → ℕ) (start : FlowOf) (tied : given.AreLinked s
 
       pub distribute_on_sent : (new : FlowOf) → IsSent plus now new from (passed + 1) → DistributesOn plus start new root (passed + 1)
       distribute_on_sent new sent =
-          subst (IsDistributing plus start new Distributed root (up_to (leads_down start.shape.tree root) (leads_up start.shape.tree root) (passed + 1))) (sym (count_more (leads_up start.shape.tree root) passed holds_here))
+          subst (IsDistributing plus start new Distributed root (up_to (leads_down start.shape.tree root) (leads_up start.shape.tree root) (passed + 1))) (sym
+          (count_more (leads_up start.shape.tree root) passed holds_here))
           (distributing_more plus start now Distributed root (up_to (leads_down start.shape.tree root) (leads_up start.shape.tree root) passed) (count_of (leads_up start.shape.tree root) passed) h
           tied at_root (passed + 1) is (up_apart (passed + 1) holds_here) sender_done from from_is new sent (up_to (leads_down start.shape.tree root) (leads_up start.shape.tree root) (passed + 1))
           (one_further (leads_down start.shape.tree root) (leads_up start.shape.tree root) root passed down_apart up_apart))
@@ -287,11 +293,13 @@ module _ (plus : ℕ → ℕ → ℕ) (start : FlowOf) (tied : given.AreLinked s
   distribute_on_right now passed all h p has b b2 =
       subst (λ (t : GivenTree). (i j : ℕ) → are_linked t i j ≡ true → IsRight plus now p i j) (sym (tree_kept start now h.kept)) (λ i j l. way i j (one_way start.shape.tree tied root at_root i j l))
     where
-      either : (k : ℕ) → IsClique start.shape.tree k → ((leads_up start.shape.tree root k ≡ true) ⊎ (leads_down start.shape.tree root k ≡ true)) → up_to (leads_down start.shape.tree root) (leads_up start.shape.tree root) passed k
+      either : (k : ℕ) → IsClique start.shape.tree k → ((leads_up start.shape.tree root k ≡ true) ⊎ (leads_down start.shape.tree root k ≡ true))
+          → up_to (leads_down start.shape.tree root) (leads_up start.shape.tree root) passed k
       either k at (inl u) = inr (omega (arith, at.last, all), u)
       either k at (inr v) = inl v
 
-      way : (i j : ℕ) → (IsClique start.shape.tree i × (i ≢ root) × (j ≡ next_on_way start.shape.tree i root)) ⊎ (IsClique start.shape.tree j × (j ≢ root) × (i ≡ next_on_way start.shape.tree j root)) → IsRight plus now p i j
+      way : (i j : ℕ) → (IsClique start.shape.tree i × (i ≢ root) × (j ≡ next_on_way start.shape.tree i root)) ⊎ (IsClique start.shape.tree j × (j ≢ root) ×
+          (i ≡ next_on_way start.shape.tree j root)) → IsRight plus now p i j
       way i j (inl o) = subst (λ (t : ℕ). IsRight plus now p i t) (sym o.2) (h.towards p has (b, b2) i o.0 o.1)
       way i j (inr o) = subst (λ (t : ℕ). IsRight plus now p t j) (sym o.2) (h.right p has (b, b2) j o.0 (either j o.0 (up_or_down start.shape.tree tied root at_root j o.0 o.1)))
 
@@ -314,7 +322,8 @@ module _ (old mid : FlowOf) (kept : KeepsTables old mid) (tied : given.AreLinked
   pub counted_up_down : mid.computed ≡ counted_on old.computed (count_of (leads_up old.shape.tree root) (length old.shape.tree.cliques))
       → computed ≡ counted_on mid.computed (count_of (leads_down mid.shape.tree root) (length mid.shape.tree.cliques)) → computed ≡ counted_on old.computed (separators_of old.shape.tree)
   counted_up_down e f =
-      counted_both old.computed mid.computed computed (count_of (leads_up old.shape.tree root) (length old.shape.tree.cliques)) (count_of (leads_down old.shape.tree root) (length old.shape.tree.cliques)) e
+      counted_both old.computed mid.computed computed (count_of (leads_up old.shape.tree root) (length old.shape.tree.cliques)) (count_of
+      (leads_down old.shape.tree root) (length old.shape.tree.cliques)) e
       (f ∙ ap (λ (t : GivenTree). counted_on mid.computed (count_of (leads_down t root) (length t.cliques))) (tree_kept old mid kept))
       ∙ ap (counted_on old.computed) (one_less old.shape.tree tied root at_root)
 
@@ -322,7 +331,9 @@ module _ (old mid : FlowOf) (kept : KeepsTables old mid) (tied : given.AreLinked
       → computed ≡ counted_on mid.computed (count_of (leads_up mid.shape.tree root) (length mid.shape.tree.cliques)) → computed ≡ counted_on old.computed (separators_of old.shape.tree)
   counted_down_up e f =
       let n = one_less old.shape.tree tied root at_root in
-      let m : count_of (leads_down old.shape.tree root) (length old.shape.tree.cliques) + count_of (leads_up old.shape.tree root) (length old.shape.tree.cliques) ≡ length old.shape.tree.cliques - 1 = omega (arith, n) in
-      counted_both old.computed mid.computed computed (count_of (leads_down old.shape.tree root) (length old.shape.tree.cliques)) (count_of (leads_up old.shape.tree root) (length old.shape.tree.cliques)) e
+      let m : count_of (leads_down old.shape.tree root) (length old.shape.tree.cliques) + count_of (leads_up old.shape.tree root)
+      (length old.shape.tree.cliques) ≡ length old.shape.tree.cliques - 1 = omega (arith, n) in
+      counted_both old.computed mid.computed computed (count_of (leads_down old.shape.tree root) (length old.shape.tree.cliques)) (count_of
+      (leads_up old.shape.tree root) (length old.shape.tree.cliques)) e
       (f ∙ ap (λ (t : GivenTree). counted_on mid.computed (count_of (leads_up t root) (length t.cliques))) (tree_kept old mid kept))
       ∙ ap (counted_on old.computed) m

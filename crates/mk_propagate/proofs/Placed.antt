@@ -1,6 +1,6 @@
 -- One factor or one known pair more in a clique.
-use Rattle.std.proofs.Common.{◌≡◌, ◌≢◌, ℕ, suc, zero, ◌+◌, ◌-◌, ◌*◌, ◌<◌, ◌≤◌, Bool, true, false, cond, ◌==◌, if◌then◌else◌, nat_lt, ◌⊎◌, inl, inr, List, [], ◌∷◌, ◌++◌, map, length, All, slice_index, slice_index_or, get_or, refl, sym, ap, subst, ◌∙◌, arith, mul_assoc, mul_comm, mul-one, eq-eqb, ne_eqb}
-use Rattle.std.specs.Prelude.{slice_set, count_by}
+use Rattle.std.proofs.Common.{◌≡◌, ◌≢◌, ℕ, suc, zero, ◌+◌, ◌-◌, ◌*◌, ◌<◌, ◌≤◌, Bool, true, false, cond, ◌==◌, if◌then◌else◌, ◌⊎◌, inl, inr, List, [], ◌∷◌, ◌++◌, map, length, slice_index, slice_index_or, get_or, refl, sym, ap, subst, ◌∙◌, arith, mul_assoc, mul_comm, mul-one, eq-eqb, ne_eqb}
+use Rattle.std.specs.Prelude.{slice_set}
 use Rattle.std.proofs.Math.Path.{fun_ext}
 use Rattle.std.proofs.lemmas.Bool.{cases_eq, both_ways}
 use Rattle.std.proofs.lemmas.List.{length_push, map-append, length-set, get_or-set_same, get_or-set_other, get_or_default, get_or_push}
@@ -19,7 +19,7 @@ use Rattle.mk_table.specs.Cells.{values_at}
 use Rattle.mk_table.specs.Tables.{TableOf, HasNumbers, HasRoom}
 use Rattle.mk_tree.specs.Given.{GivenTree, holds, link_of}
 use Rattle.mk_engine.specs.Meaning.{Factor, factor_there, max_factors}
-use Rattle.mk_propagate.specs.Shapes.{ShapeOf, IsShapeFor, IsClique, is_behind, are_linked, clique_scope, separator_between, clique_cells}
+use Rattle.mk_propagate.specs.Shapes.{ShapeOf, IsShapeFor, IsClique, is_behind, clique_scope, separator_between, clique_cells}
 use Rattle.mk_propagate.specs.Placings.{Placing, PlacedFactor, PlacedPair, with_factor_in, with_pair_in, nothing_placed, factor_item, pair_item, placed_there, factors_in, IsPlacedFactor, IsPlacedPair, IsPlacing}
 use Rattle.mk_propagate.specs.Flows.{FlowOf, no_table, table_at, message_at, HasCells, HasPlaced, IsRight, Places, exact_message, exact_message_grade}
 use Rattle.mk_propagate.specs.inner.Kept.{IsKept}
@@ -102,10 +102,13 @@ pub right_kept : (plus : ℕ → ℕ → ℕ) (old new : FlowOf) (p q : Placing)
     → IsRight plus old p a b → IsRight plus new q a b
 right_kept plus old new p q a b shape message exact grade r = record {
   cells =
-      subst (λ (t : TableOf). HasCells t (separator_between new.shape a b) (exact_message plus new.shape.tree q a b) (3 * exact_message_grade new.shape.tree q a b) (exact_message_grade new.shape.tree q a b)) (sym message)
-      (subst (λ (s : ShapeOf). HasCells (message_at old a b) (separator_between s a b) (exact_message plus s.tree q a b) (3 * exact_message_grade s.tree q a b) (exact_message_grade s.tree q a b)) (sym shape)
+      subst (λ (t : TableOf). HasCells t (separator_between new.shape a b) (exact_message plus new.shape.tree q a b)
+      (3 * exact_message_grade new.shape.tree q a b) (exact_message_grade new.shape.tree q a b)) (sym message)
+      (subst (λ (s : ShapeOf). HasCells (message_at old a b) (separator_between s a b) (exact_message plus s.tree q a b)
+      (3 * exact_message_grade s.tree q a b) (exact_message_grade s.tree q a b)) (sym shape)
       (subst (λ (n : ℕ). HasCells (message_at old a b) (separator_between old.shape a b) (exact_message plus old.shape.tree q a b) (3 * n) n) grade
-      (subst (λ (f : (ℕ → ℕ) → ℕ). HasCells (message_at old a b) (separator_between old.shape a b) f (3 * exact_message_grade old.shape.tree p a b) (exact_message_grade old.shape.tree p a b)) exact r.cells)));
+      (subst (λ (f : (ℕ → ℕ) → ℕ). HasCells (message_at old a b) (separator_between old.shape a b) f (3 * exact_message_grade old.shape.tree p a b)
+      (exact_message_grade old.shape.tree p a b)) exact r.cells)));
 }
 
 -- other things are placed in the same network
@@ -122,13 +125,15 @@ module _ (tree : GivenTree) (p : Placing) (fs : List PlacedFactor) (ks : List Pl
     (counts : (k : ℕ) → k ≢ clique → factors_in p k ≡ factors_in (changed p fs ks) k) (a b : ℕ) (apart : is_behind tree a b clique ≡ false) where
   exact_kept : (plus : ℕ → ℕ → ℕ) → exact_message plus tree p a b ≡ exact_message plus tree (changed p fs ks) a b
   exact_kept plus =
-      fun_ext (λ s. change_leaves plus (slice_index (sizes p.network)) (variables (sizes p.network)) (holds tree) (placed_there p) (placed_there (changed p fs ks)) (link_of tree) (length tree.cliques) clique
+      fun_ext (λ s. change_leaves plus (slice_index (sizes p.network)) (variables (sizes p.network)) (holds tree) (placed_there p) (placed_there
+      (changed p fs ks)) (link_of tree) (length tree.cliques) clique
       (λ j l n d t. same j d t) a b apart s)
 
   grade_kept : exact_message_grade tree p a b ≡ exact_message_grade tree (changed p fs ks) a b
   grade_kept =
       ap (λ (n : ℕ). n - 2)
-      (sum_same (behind (link_of tree) (length tree.cliques) a b) (length tree.cliques) (λ j. factors_in p j + clique_cells p.network tree j + 2) (λ j. factors_in (changed p fs ks) j + clique_cells p.network tree j + 2)
+      (sum_same (behind (link_of tree) (length tree.cliques) a b) (length tree.cliques) (λ j. factors_in p j + clique_cells p.network tree j + 2)
+      (λ j. factors_in (changed p fs ks) j + clique_cells p.network tree j + 2)
       (λ j l n e. ap (λ (i : ℕ). i + clique_cells p.network tree j + 2) (counts j (λ f. both_ways (is_behind tree a b j) (ap (is_behind tree a b) f ∙ apart) e))))
 
 module _ (plus : ℕ → ℕ → ℕ) (old : FlowOf) (p : Placing) (fs : List PlacedFactor) (ks : List PlacedPair) (clique : ℕ) (t : TableOf) (count : ℕ)
@@ -143,9 +148,11 @@ module _ (plus : ℕ → ℕ → ℕ) (old : FlowOf) (p : Placing) (fs : List Pl
       → HasCells (table_at (with_table old clique t count) k) (clique_scope old.shape k) (placed_there (changed p fs ks) k) (factors_in (changed p fs ks) k) (factors_in (changed p fs ks) k)
   tables_more k at = from (cases_eq k clique)
     where
-      from : ((k ≡ clique) ⊎ (k ≡ clique → ⊥)) → HasCells (table_at (with_table old clique t count) k) (clique_scope old.shape k) (placed_there (changed p fs ks) k) (factors_in (changed p fs ks) k) (factors_in (changed p fs ks) k)
+      from : ((k ≡ clique) ⊎ (k ≡ clique → ⊥)) → HasCells (table_at (with_table old clique t count) k) (clique_scope old.shape k) (placed_there
+          (changed p fs ks) k) (factors_in (changed p fs ks) k) (factors_in (changed p fs ks) k)
       from (inl e) =
-          subst (λ (j : ℕ). HasCells (table_at (with_table old clique t count) j) (clique_scope old.shape j) (placed_there (changed p fs ks) j) (factors_in (changed p fs ks) j) (factors_in (changed p fs ks) j)) (sym e)
+          subst (λ (j : ℕ). HasCells (table_at (with_table old clique t count) j) (clique_scope old.shape j) (placed_there (changed p fs ks) j) (factors_in
+          (changed p fs ks) j) (factors_in (changed p fs ks) j)) (sym e)
           (subst (λ (u : TableOf). HasCells u (clique_scope old.shape clique) (placed_there (changed p fs ks) clique) (factors_in (changed p fs ks) clique) (factors_in (changed p fs ks) clique))
           (sym (get_or-set_same old.tables (clique - 1) t no_table within)) here)
       from (inr d) =
@@ -157,7 +164,8 @@ module _ (plus : ℕ → ℕ → ℕ) (old : FlowOf) (p : Placing) (fs : List Pl
   places_more placing counted = record {
     placed = record { shape_is = h.shape_is; placing = placing; counted = counted; tables = tables_more };
     right = λ a b linked apart r.
-        right_kept plus old (with_table old clique t count) p (changed p fs ks) a b refl refl (exact_kept old.shape.tree p fs ks clique same counts a b apart plus) (grade_kept old.shape.tree p fs ks clique same counts a b apart) r;
+        right_kept plus old (with_table old clique t count) p (changed p fs ks) a b refl refl
+        (exact_kept old.shape.tree p fs ks clique same counts a b apart plus) (grade_kept old.shape.tree p fs ks clique same counts a b apart) r;
   }
 
 -- ---- the calls
@@ -253,7 +261,8 @@ kept_with old scratch cells clique count read t h first within reads scope = rec
 
 -- ---- a start
 
-pub ones_more : (scope : ℕ → ScopeOf) (first count : ℕ) (ts new : List TableOf) (t : TableOf) → AreOnes scope first count ts → new ≡ ts ++ t ∷ [] → IsOnes (scope (first + count)) t → AreOnes scope first (count + 1) new
+pub ones_more : (scope : ℕ → ScopeOf) (first count : ℕ) (ts new : List TableOf) (t : TableOf) → AreOnes scope first count ts → new ≡ ts ++ t ∷ []
+    → IsOnes (scope (first + count)) t → AreOnes scope first (count + 1) new
 ones_more scope first count ts new t h pushed last = record {
   long = ap length pushed ∙ length_push ts t ∙ ap (λ (n : ℕ). n + 1) h.long;
   each = λ i l. from i l (cases_eq i count);
@@ -265,17 +274,20 @@ ones_more scope first count ts new t h pushed last = record {
         subst (IsOnes (scope (first + i))) (sym r) (subst (λ (n : ℕ). IsOnes (scope (first + n)) t) (sym e) last)
     from i l (inr d) =
         let m : i < count = omega (arith, d) in
-        let r : slice_index_or new i no_table ≡ slice_index_or ts i no_table = ap (λ (us : List TableOf). slice_index_or us i no_table) pushed ∙ get_or-append ts (t ∷ []) no_table i (omega (arith, m, h.long)) in
+        let r : slice_index_or new i no_table ≡ slice_index_or ts i no_table = ap (λ (us : List TableOf). slice_index_or us i no_table) pushed
+        ∙ get_or-append ts (t ∷ []) no_table i (omega (arith, m, h.long)) in
         subst (IsOnes (scope (first + i))) (sym r) (h.each i m)
 
 -- the table of a clique, or of a separator
-pub one_of : (scope : ℕ → ScopeOf) (first count : ℕ) (ts : List TableOf) → AreOnes scope first count ts → (k : ℕ) → first ≤ k → k < first + count → IsOnes (scope k) (slice_index_or ts (k - first) no_table)
+pub one_of : (scope : ℕ → ScopeOf) (first count : ℕ) (ts : List TableOf) → AreOnes scope first count ts → (k : ℕ) → first ≤ k → k < first + count
+    → IsOnes (scope k) (slice_index_or ts (k - first) no_table)
 one_of scope first count ts h k p q =
     let e : first + (k - first) ≡ k = omega arith in
     subst (λ (n : ℕ). IsOnes (scope n) (slice_index_or ts (k - first) no_table)) e (h.each (k - first) (omega arith))
 
 -- a flow of ones has nothing placed
-pub starts : (flow : FlowOf) → AreOnes (clique_scope flow.shape) 1 (length flow.shape.tree.cliques) flow.tables → flow.factors ≡ 0 → (network : List Variable) → IsShapeFor flow.shape network → HasPlaced flow (nothing_placed network)
+pub starts : (flow : FlowOf) → AreOnes (clique_scope flow.shape) 1 (length flow.shape.tree.cliques) flow.tables → flow.factors ≡ 0
+    → (network : List Variable) → IsShapeFor flow.shape network → HasPlaced flow (nothing_placed network)
 starts flow ones none network shape = record {
   shape_is = shape;
   placing = record { factors_fit = All-nil (IsPlacedFactor network flow.shape.tree); known_fit = All-nil (IsPlacedPair network flow.shape.tree); few = omega arith };

@@ -1,11 +1,10 @@
 -- What the tables of cliques need to take a factor or a known pair.
-use Rattle.std.proofs.Common.{◌≡◌, ◌≢◌, ℕ, suc, zero, ◌+◌, ◌-◌, ◌<◌, ◌≤◌, Bool, true, false, ◌&&◌, ◌||◌, ◌⊎◌, inl, inr, List, [], ◌∷◌, ◌++◌, length, All, slice_index, slice_index_or, get_or, refl, sym, ap, subst, ◌∙◌, arith}
+use Rattle.std.proofs.Common.{◌≡◌, ℕ, suc, ◌+◌, ◌-◌, ◌<◌, ◌≤◌, Bool, true, false, ◌⊎◌, inl, inr, List, [], ◌∷◌, ◌++◌, length, All, slice_index, get_or, refl, sym, ap, subst, ◌∙◌, arith}
 use Rattle.std.specs.List.{list_all, list_any}
 use Rattle.std.proofs.lemmas.Bool.{or_cases, and_parts, both_ways, cases_lt}
 use Rattle.std.proofs.lemmas.List.{ext_get_or}
 use Rattle.std.proofs.lemmas.List.Elements.{All-nil, All-cons, All-push, All-from_recursion}
 use Rattle.mk_net.specs.declared.words.Pair.{Pair}
-use Rattle.mk_net.specs.declared.sets.VarSet.{VarSet}
 use Rattle.mk_net.specs.Sets.{is_member, no_variables}
 use Rattle.mk_net.specs.Network.{Variable, IsNetwork, sizes}
 use Rattle.mk_net.specs.Named.{variable_at, nobody}
@@ -17,8 +16,8 @@ use Rattle.mk_exact.proofs.Positive.{size_at, parents_within}
 use Rattle.mk_table.specs.Scopes.{ScopeOf, size_in, has_variable, HasEvent, HasOneEach, HasSized}
 use Rattle.mk_tree.specs.Given.{GivenTree, clique_at, holds, holds_event}
 use Rattle.mk_tree.specs.Tests.{holds_family}
-use Rattle.mk_propagate.specs.Shapes.{ShapeOf, IsShapeFor, IsClique, clique_scope, scope_within}
-use Rattle.mk_propagate.proofs.Scopes.{has_within, within_network, size_within, sized_within}
+use Rattle.mk_propagate.specs.Shapes.{ShapeOf, IsShapeFor, IsClique, scope_within}
+use Rattle.mk_propagate.proofs.Scopes.{has_within, size_within, sized_within}
 
 -- ---- lists that pass a test
 
@@ -43,7 +42,8 @@ module _ (shape : ShapeOf) (a b : List Variable) (of_a : IsShapeFor shape a) (of
   in_clique x l =
       let q = found_in (holds_family a x) shape.tree.cliques (of_a.tree_is.covers x l) in
       let e : q.0 + 1 - 1 ≡ q.0 = omega arith in
-      let m : is_member (get_or shape.tree.cliques q.0 no_variables) x ≡ true = (and_parts (is_member (get_or shape.tree.cliques q.0 no_variables) x) (list_all (is_member (get_or shape.tree.cliques q.0 no_variables)) (variable_at a x).parents) (q.2 no_variables)).0 in (
+      let m : is_member (get_or shape.tree.cliques q.0 no_variables) x ≡ true = (and_parts (is_member (get_or shape.tree.cliques q.0 no_variables) x)
+      (list_all (is_member (get_or shape.tree.cliques q.0 no_variables)) (variable_at a x).parents) (q.2 no_variables)).0 in (
         q.0 + 1,
         record { first = omega arith; last = omega (arith, q.1) },
         ap (λ (i : ℕ). is_member (get_or shape.tree.cliques i no_variables) x) e ∙ m,

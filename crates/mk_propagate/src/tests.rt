@@ -1,7 +1,8 @@
 //! Messages and beliefs on a chain of three variables, by numbers worked out by hand.
 
 ghost use Rattle.std.specs.Prelude.{◌≡◌, ℕ, ◌+◌, ◌<◌, ◌≤◌, [], ◌∷◌, List, length, slice_index, true, IfOk};
-ghost use Rattle.mk_net.specs.Network.{Variable, sizes};
+ghost use Rattle.std.specs.List.{list_all};
+ghost use Rattle.mk_net.specs.Network.{Variable};
 ghost use Rattle.mk_net.specs.Sets.{is_member};
 ghost use Rattle.mk_net.specs.Trades.{trade_ratio};
 ghost use Rattle.mk_tree.specs.Given.{AreOfNetwork, clique_at, holds_event};
@@ -28,15 +29,6 @@ const C_UP: Pair = Pair {
     variable: 2,
     value: 0,
 };
-
-/// Three variables of two values each, every one the parent of the next, and the shape of a tree of the cliques {a, b}, {b, c}
-/// and {c}.
-#[derive(Drop)]
-struct Chain {
-    net: Network,
-    shape: Rc<Shape>,
-    ghost shape_is: { IsShapeFor shape.value net },
-}
 
 fn texts(alloc: Global, given: &[&str]) -> Result<Vec<String>, Fail> {
     let mut texts = Vec::new(alloc);
@@ -123,14 +115,20 @@ fn tree(rt: &impl Abort, alloc: Global, net: &Network) -> Result<Tree, Fail>
     Ok(Tree::from_cliques(alloc, net, &cliques, &links)?)
 }
 
-fn make_chain(rt: &impl Abort, alloc: Global) -> Result<Chain, Fail> {
-    let net = network(alloc)?;
-    let tree = tree(rt, alloc, &net)?;
-    let shape = Shape::of(alloc, &net, &tree)?;
-    Ok(Chain {
-        net,
-        shape: Rc::new(alloc, shape)?,
-    })
+/// The shape of a tree of the cliques {a, b}, {b, c} and {c}.
+fn shape_of(rt: &impl Abort, alloc: Global, net: &Network) -> Result<Rc<Shape>, Fail>
+    ensures { IfOk result (λ shape. IsShapeFor shape.value net.now) }
+{
+    let tree = tree(rt, alloc, net)?;
+    let shape = Shape::of(alloc, net, &tree)?;
+    Ok(Rc::new(alloc, shape)?)
+}
+
+/// Whether a set has each of some variables.
+fn has_all(set: &VarSet, variables: &[u32]) -> bool
+    ensures { result ≡ list_all (is_member set.now) variables.now }
+{
+    variables.iter().all(|variable| set.has(*variable))
 }
 
 /// Whether a clique holds a variable and its parents.
@@ -140,7 +138,7 @@ fn holds_family(net: &Network, tree: &Tree, clique: u32, variable: u32) -> bool
     ensures { result ≡ holds_family net.now variable (clique_at tree.now clique) }
 {
     let set = tree.clique(clique);
-    set.has(variable) && net.parents(variable).iter().all(|parent| set.has(*parent))
+    set.has(variable) && has_all(&set, net.parents(variable))
 }
 
 /// Whether a clique holds each variable of an event.
@@ -180,13 +178,19 @@ fn place<R: Semiring>(
 }
 
 /// A flow in which the rows of all variables are placed.
-fn placed<R: Semiring>(rt: &impl Abort, alloc: Global, chain: &Chain) -> Result<Flow<R>, Fail>
-    ensures { IfOk result (λ flow. HasSome flow chain.now.net 3) }
+fn placed<R: Semiring>(
+    rt: &impl Abort,
+    alloc: Global,
+    net: &Network,
+    shape: &Rc<Shape>,
+) -> Result<Flow<R>, Fail>
+    requires { IsShapeFor shape.now.value net.now }
+    ensures { IfOk result (λ flow. HasSome flow net.now 3) }
 {
-    let mut flow = Flow::start(alloc, &chain.shape)?;
-    place(rt, &mut flow, 1, &chain.net, 0, 0);
-    place(rt, &mut flow, 1, &chain.net, 1, 1);
-    place(rt, &mut flow, 2, &chain.net, 2, 2);
+    let mut flow = Flow::start(alloc, shape)?;
+    place(rt, &mut flow, 1, net, 0, 0);
+    place(rt, &mut flow, 1, net, 1, 1);
+    place(rt, &mut flow, 2, net, 2, 2);
     Ok(flow)
 }
 
@@ -218,8 +222,9 @@ fn only(rt: &impl Abort, pair: Pair) -> Event {
 
 /// The beliefs that b is up, in the two cliques that hold it.
 fn in_b<R: Semiring>(rt: &impl Abort, alloc: Global) -> Result<(R::Value, R::Value), Fail> {
-    let chain = make_chain(rt, alloc)?;
-    let mut flow = placed::<R>(rt, alloc, &chain)?;
+    let net = network(alloc)?;
+    let shape = shape_of(rt, alloc, &net)?;
+    let mut flow = placed::<R>(rt, alloc, &net, &shape)?;
     make(rt, &mut flow, 3, 2, 4);
     let up = only(rt, B_UP);
     let first = belief(rt, &mut flow, 1, &up);
@@ -234,27 +239,37 @@ fn trade(rt: &impl Abort) -> Ratio
     Ratio::of_question(&question, 2, 2, 3)
 }
 
-/// Places the trade in the second clique, and in the third one that c is up.
-fn place_news<R: Semiring>(rt: &impl Abort, flow: &mut Flow<R>, net: &Network)
+/// Places the trade in the second clique, after three factors.
+fn multiply<R: Semiring>(rt: &impl Abort, flow: &mut Flow<R>, net: &Network)
     requires { HasSome flow.old net.now 3 }
     ensures { HasSome flow.new net.now 4 }
 {
     assert!(rt; net.variables() == 3);
     assert!(rt; net.values(1) == 2);
-    assert!(rt; net.values(2) == 2);
     expect_clique(rt, flow.shape(), 2);
-    expect_clique(rt, flow.shape(), 3);
     assert!(rt; flow.shape().tree().clique(2).has(1));
-    assert!(rt; flow.shape().tree().clique(3).has(2));
     flow.times_ratio(2, &trade(rt));
-    flow.restrict(3, C_UP);
+}
+
+/// Places a known pair, after four factors.
+fn know<R: Semiring>(rt: &impl Abort, flow: &mut Flow<R>, clique: u32, net: &Network, pair: Pair)
+    requires { HasSome flow.old net.now 4 }
+    ensures { HasSome flow.new net.now 4 }
+{
+    expect_clique(rt, flow.shape(), clique);
+    assert!(rt; pair.variable < net.variables());
+    assert!(rt; pair.value < net.values(pair.variable));
+    assert!(rt; flow.shape().tree().clique(clique).has(pair.variable));
+    flow.restrict(clique, pair);
 }
 
 /// The beliefs that b is up, and in all states, after the trade and once c is known to be up.
 fn after_news<R: Semiring>(rt: &impl Abort, alloc: Global) -> Result<(R::Value, R::Value), Fail> {
-    let chain = make_chain(rt, alloc)?;
-    let mut flow = placed::<R>(rt, alloc, &chain)?;
-    place_news(rt, &mut flow, &chain.net);
+    let net = network(alloc)?;
+    let shape = shape_of(rt, alloc, &net)?;
+    let mut flow = placed::<R>(rt, alloc, &net, &shape)?;
+    multiply(rt, &mut flow, &net);
+    know(rt, &mut flow, 3, &net, C_UP);
     make(rt, &mut flow, 2, 2, 4);
     let up = belief(rt, &mut flow, 1, &only(rt, B_UP));
     Ok((up, belief(rt, &mut flow, 3, &Event::empty())))
@@ -280,8 +295,8 @@ fn check(rt: &impl Abort, held: &Held, n: u64) {
 #[test]
 fn shape_of_a_chain(rt: HostRuntime) -> Result<(), Fail> {
     let alloc = rt.alloc();
-    let chain = make_chain(&rt, alloc)?;
-    let shape: &Shape = &chain.shape;
+    let net = network(alloc)?;
+    let shape = shape_of(&rt, alloc, &net)?;
     assert_eq!(rt; shape.cliques(), 3);
     assert_eq!(rt; shape.tree().link(3), Some(2));
     assert_eq!(rt; shape.neighbours(2), [1, 3].as_slice());

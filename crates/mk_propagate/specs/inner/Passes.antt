@@ -1,5 +1,5 @@
 -- The passes in which messages are made: those from a clique to its link, or from it to its child, on the way to a clique.
-use Rattle.std.specs.Prelude.{◌≡◌, ℕ, Bool, true, ◌&&◌, not, ◌==◌, nat_lt, length}
+use Rattle.std.specs.Prelude.{◌≡◌, ℕ, Bool, true, ◌&&◌, not, ◌==◌, nat_lt}
 use Rattle.mk_sums.specs.Trees.{sum_of}
 use Rattle.mk_tree.specs.Given.{GivenTree}
 use Rattle.mk_propagate.specs.Shapes.{IsClique, next_on_way}

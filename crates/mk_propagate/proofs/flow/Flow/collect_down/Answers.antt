@@ -1,4 +1,4 @@
-use Rattle.std.proofs.Common.{◌≡◌, ℕ, ◌+◌, ◌-◌, ◌<◌, length, true, false, sym, ap, subst, ◌∙◌, arith}
+use Rattle.std.proofs.Common.{◌≡◌, ◌+◌, length, true, false, sym, ap, subst, ◌∙◌, arith}
 use Rattle.mk_tree.specs.Given.{AreLinked}
 use Rattle.mk_propagate.specs.Shapes.{ShapeOf, IsClique}
 use Rattle.mk_propagate.specs.Flows.{FlowOf}

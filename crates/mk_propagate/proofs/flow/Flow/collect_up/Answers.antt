@@ -1,4 +1,4 @@
-use Rattle.std.proofs.Common.{◌≡◌, ℕ, ◌+◌, ◌-◌, ◌<◌, length, true, false, sym, ap, subst, ◌∙◌, arith}
+use Rattle.std.proofs.Common.{◌≡◌, ℕ, ◌+◌, ◌-◌, length, true, false, sym, ap, subst, ◌∙◌, arith}
 use Rattle.mk_tree.specs.Given.{AreLinked}
 use Rattle.mk_propagate.specs.Shapes.{ShapeOf, IsClique}
 use Rattle.mk_propagate.specs.Flows.{FlowOf}
@@ -80,4 +80,5 @@ returns-clause-right g c = λ p has.
     let start = c.args.self.now in
     let tied = subst (λ (s : ShapeOf). AreLinked s.tree) c.shape.ensures c.cliques-count.ensures.linked in
     let many : c.cliques-count.result ≡ length start.shape.tree.cliques = c.cliques-count.ensures.count ∙ ap (λ (s : ShapeOf). length s.tree.cliques) c.shape.ensures in
-    collect_back_right plus start tied c.args.root c.requires.clique_is c.loop-passed.self (c.cliques-count.result - c.loop-passed.passed) (omega (arith, c.loop-passed-test.false)) c.loop-passed.invariant p has
+    collect_back_right plus start tied c.args.root c.requires.clique_is c.loop-passed.self (c.cliques-count.result - c.loop-passed.passed) (omega
+    (arith, c.loop-passed-test.false)) c.loop-passed.invariant p has

@@ -1,11 +1,3 @@
-use Rattle.std.proofs.Common.{◌+◌, ◌*◌, List, sym, subst, arith}
-use Rattle.mk_net.specs.Network.{Variable}
-use Rattle.mk_sums.specs.There.{share_there}
-use Rattle.mk_table.specs.Cells.{values_at}
-use Rattle.mk_table.specs.Tables.{HasNumbers}
-use Rattle.mk_engine.specs.Meaning.{RowsOf, RatioOf}
-use Rattle.mk_net.specs.Trades.{trade_ratio}
-use Rattle.mk_propagate.specs.Placings.{IsPlacedFactor}
 use Rattle.mk_propagate.specs.Flows.{FlowOf}
 use Rattle.mk_propagate.proofs.Calls.{pair_variable, still_kept, places_pair, pair_fits_each}
 use Rattle.mk_propagate.proofs.flow.Flow.restrict.Goals as goal

@@ -3,8 +3,7 @@ use Rattle.mk_net.specs.Network.{Variable}
 use Rattle.mk_sums.specs.There.{share_there}
 use Rattle.mk_table.specs.Cells.{values_at}
 use Rattle.mk_table.specs.Tables.{HasNumbers}
-use Rattle.mk_engine.specs.Meaning.{RowsOf, RatioOf}
-use Rattle.mk_net.specs.Trades.{trade_ratio}
+use Rattle.mk_engine.specs.Meaning.{RowsOf}
 use Rattle.mk_propagate.specs.Placings.{IsPlacedFactor}
 use Rattle.mk_propagate.specs.Flows.{FlowOf}
 use Rattle.mk_propagate.proofs.Calls.{rows_family, rows_parents, room, still_kept, places_factor}
