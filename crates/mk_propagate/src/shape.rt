@@ -1,9 +1,12 @@
 //! The shape of a flow.
 
-ghost use Rattle.std.specs.Prelude.{◌≡◌, ◌≢◌, ◌<◌, ◌≤◌, length, IfOk};
-ghost use Rattle.mk_tree.specs.Given.{AreLinked};
+ghost use Rattle.std.specs.Prelude.{◌≡◌, ◌≢◌, ℕ, ◌+◌, ◌-◌, ◌<◌, ◌≤◌, ◌&&◌, ◌==◌, nat_lt, nat_le, length, map, filter, IfOk};
+ghost use Rattle.std.specs.List.{range_with_len};
+ghost use Rattle.mk_sums.specs.Trees.{linked_to};
+ghost use Rattle.mk_tree.specs.Given.{AreLinked, link_of};
 ghost use Rattle.mk_tree.specs.Checked.{IsTreeOf};
-ghost use Rattle.mk_propagate.specs.Shapes.{IsShapeFor, IsClique, clique_scope, separator_scope, neighbours, next_on_way};
+ghost use Rattle.mk_propagate.specs.Shapes.{IsShapeFor, IsClique, clique_scope, separator_scope, are_linked, neighbours, next_on_way};
+ghost use Rattle.mk_propagate.specs.inner.Shaped.{scopes_of_cliques, scopes_of_separators, lists_of_neighbours, IsRowFrom, AreRows};
 
 use mk_net::{Network, NoMemory};
 use mk_table::Scope;
@@ -24,9 +27,23 @@ pub struct Shape {
 }
 
 impl Model for Shape {
+    ghost use Rattle.std.specs.Prelude.{map};
     ghost use Rattle.mk_propagate.specs.Shapes.{ShapeOf};
-    // view: the tree, and the scopes; invariant: a private record in specs/inner
+    ghost use Rattle.mk_propagate.specs.inner.Shaped.{IsShaped};
 
+    ghost Value = { ShapeOf };
+
+    ghost view = { λ s. record {
+      tree = s.tree;
+      cliques = map (λ scope. scope.value) s.cliques.items;
+      separators = map (λ scope. scope.value) s.separators.items;
+    } };
+
+    ghost invariant = { λ s. IsShaped (record {
+      tree = s.tree;
+      cliques = map (λ scope. scope.value) s.cliques.items;
+      separators = map (λ scope. scope.value) s.separators.items;
+    }) (map (λ list. list.items) s.neighbours.items) (map (λ row. row.items) s.next.items) };
 }
 
 impl Shape {
@@ -34,32 +51,57 @@ impl Shape {
     pub fn of(alloc: Global, net: &Network, tree: &Tree) -> Result<Shape, NoMemory>
         requires { IsTreeOf net.now tree.now }
         ensures tree { IfOk result (λ shape. shape.tree ≡ tree.now) }
-        ensures shape { IfOk result (λ shape. IsShapeFor shape net.now) };
+        ensures shape { IfOk result (λ shape. IsShapeFor shape net.now) }
+    {
+        let _ = (net.variables(), tree.cliques());
+        Ok(Shape {
+            tree: tree.copy(alloc)?,
+            cliques: clique_scopes(alloc, net, tree)?,
+            separators: separator_scopes(alloc, net, tree)?,
+            neighbours: neighbour_lists(alloc, tree)?,
+            next: next_rows(alloc, tree)?,
+        })
+    }
 
     /// The copy of the tree.
     pub fn tree(&self) -> &Tree
-        ensures { result.now ≡ self.now.tree };
+        ensures { result.now ≡ self.now.tree }
+    {
+        &self.tree
+    }
 
     /// How many cliques there are.
     pub fn cliques(&self) -> u32
         ensures count { result ≡ length self.now.tree.cliques }
-        ensures linked { AreLinked self.now.tree };
+        ensures linked { AreLinked self.now.tree }
+    {
+        self.tree.cliques()
+    }
 
     /// The scope of a clique.
     pub fn clique(&self, k: u32) -> &Rc<Scope>
         requires { IsClique self.now.tree k }
-        ensures { result.now.value ≡ clique_scope self.now k };
+        ensures { result.now.value ≡ clique_scope self.now k }
+    {
+        &self.cliques[k as usize - 1]
+    }
 
     /// The scope of the separator between a clique, from 2 on, and its link.
     pub fn separator(&self, k: u32) -> &Rc<Scope>
         requires clique { IsClique self.now.tree k }
         requires linked { 1 < k }
-        ensures { result.now.value ≡ separator_scope self.now k };
+        ensures { result.now.value ≡ separator_scope self.now k }
+    {
+        &self.separators[k as usize - 2]
+    }
 
     /// The cliques that are linked to a clique, in rising order.
     pub fn neighbours(&self, k: u32) -> &[u32]
         requires { IsClique self.now.tree k }
-        ensures { result.now ≡ neighbours self.now.tree k };
+        ensures { result.now ≡ neighbours self.now.tree k }
+    {
+        &self.neighbours[k as usize - 1]
+    }
 
     /// The first clique on the way from one clique to another.
     pub fn next(&self, from: u32, to: u32) -> u32
@@ -67,5 +109,147 @@ impl Shape {
         requires to { IsClique self.now.tree to }
         requires apart { from ≢ to }
         ensures next { result ≡ next_on_way self.now.tree from to }
-        ensures clique { IsClique self.now.tree result };
+        ensures clique { IsClique self.now.tree result }
+    {
+        self.next[from as usize - 1][to as usize - 1]
+    }
+}
+
+/// The scope of each clique, in order.
+fn clique_scopes(alloc: Global, net: &Network, tree: &Tree) -> Result<Vec<Rc<Scope>>, NoMemory>
+    requires { IsTreeOf net.now tree.now }
+    ensures { IfOk result (λ scopes. map (λ scope. scope.value) scopes.items ≡ scopes_of_cliques net.now tree.now (length tree.now.cliques)) }
+{
+    let mut scopes = Vec::new(alloc);
+    for passed in 0..tree.cliques() {
+        let clique = tree.clique(passed + 1);
+        let scope = Scope::of(alloc, net, &clique)?;
+        scopes.push(Rc::new(alloc, scope)?)?;
+    }
+    Ok(scopes)
+}
+
+/// The scope of what each clique, from 2 on, shares with its link.
+fn separator_scopes(alloc: Global, net: &Network, tree: &Tree) -> Result<Vec<Rc<Scope>>, NoMemory>
+    requires { IsTreeOf net.now tree.now }
+    ensures { IfOk result (λ scopes. map (λ scope. scope.value) scopes.items ≡ scopes_of_separators net.now tree.now (length tree.now.cliques - 1)) }
+{
+    let _ = net.variables();
+    let mut scopes = Vec::new(alloc);
+    for passed in 0..tree.cliques() - 1 {
+        let link = link(tree, passed + 2);
+        let shared = tree.clique(passed + 2).common(&tree.clique(link));
+        let scope = Scope::of(alloc, net, &shared)?;
+        scopes.push(Rc::new(alloc, scope)?)?;
+    }
+    Ok(scopes)
+}
+
+/// The link of a clique, from 2 on.
+fn link(tree: &Tree, k: u32) -> u32
+    requires clique { IsClique tree.now k }
+    requires linked { 1 < k }
+    ensures link { result ≡ link_of tree.now k }
+    ensures clique { IsClique tree.now result }
+    ensures earlier { result < k }
+{
+    let _ = tree.cliques();
+    match tree.link(k) {
+        Some(link) => link,
+        None => unreachable!(),
+    }
+}
+
+/// Whether two cliques are linked.
+fn are_linked(tree: &Tree, a: u32, b: u32) -> bool
+    requires a { IsClique tree.now a }
+    requires b { IsClique tree.now b }
+    ensures { result ≡ are_linked tree.now a b }
+{
+    is_link(tree, a, b) || is_link(tree, b, a)
+}
+
+/// Whether a clique has a link, and this is it.
+fn is_link(tree: &Tree, k: u32, other: u32) -> bool
+    requires { IsClique tree.now k }
+    ensures { result ≡ (nat_lt 1 k && nat_le k (length tree.now.cliques) && (link_of tree.now k == other)) }
+{
+    if k == 1 {
+        false
+    } else {
+        link(tree, k) == other
+    }
+}
+
+/// The neighbours of each clique.
+fn neighbour_lists(alloc: Global, tree: &Tree) -> Result<Vec<Vec<u32>>, NoMemory>
+    ensures { IfOk result (λ lists. map (λ list. list.items) lists.items ≡ lists_of_neighbours tree.now (length tree.now.cliques)) }
+{
+    let mut lists = Vec::new(alloc);
+    for passed in 0..tree.cliques() {
+        lists.push(neighbours_of(alloc, tree, passed + 1)?)?;
+    }
+    Ok(lists)
+}
+
+/// The cliques that are linked to a clique.
+fn neighbours_of(alloc: Global, tree: &Tree, k: u32) -> Result<Vec<u32>, NoMemory>
+    requires { IsClique tree.now k }
+    ensures { IfOk result (λ list. list.items ≡ neighbours tree.now k) }
+{
+    let mut list = Vec::new(alloc);
+    for passed in 0..tree.cliques() {
+        if are_linked(tree, passed + 1, k) {
+            list.push(passed + 1)?;
+        }
+    }
+    Ok(list)
+}
+
+/// The next cliques on the ways from each clique.
+fn next_rows(alloc: Global, tree: &Tree) -> Result<Vec<Vec<u32>>, NoMemory>
+    ensures { IfOk result (λ rows. AreRows tree.now (length tree.now.cliques) (map (λ row. row.items) rows.items)) }
+{
+    let mut rows = Vec::new(alloc);
+    for passed in 0..tree.cliques() {
+        rows.push(next_row(alloc, tree, passed + 1)?)?;
+    }
+    Ok(rows)
+}
+
+/// The next cliques on the ways from a clique.
+fn next_row(alloc: Global, tree: &Tree, from: u32) -> Result<Vec<u32>, NoMemory>
+    requires { IsClique tree.now from }
+    ensures { IfOk result (λ row. IsRowFrom tree.now from (length tree.now.cliques) row.items) }
+{
+    let mut row = Vec::new(alloc);
+    for passed in 0..tree.cliques() {
+        let next = next_after(tree, &row, from, passed + 1);
+        row.push(next)?;
+    }
+    Ok(row)
+}
+
+/// The next clique on the way from one clique to another, from those on the ways to the cliques before that other.
+///
+/// To an earlier clique the way goes up. To a later one it goes as to its link, but from the link itself.
+fn next_after(tree: &Tree, row: &[u32], from: u32, to: u32) -> u32
+    requires from { IsClique tree.now from }
+    requires to { IsClique tree.now to }
+    requires row { IsRowFrom tree.now from (to - 1) row.now }
+    ensures { from ≢ to → result ≡ next_on_way tree.now from to }
+{
+    let _ = tree.cliques();
+    if from == to {
+        return from;
+    }
+    if to < from {
+        return link(tree, from);
+    }
+    let above = link(tree, to);
+    if above == from {
+        to
+    } else {
+        row[above as usize - 1]
+    }
 }

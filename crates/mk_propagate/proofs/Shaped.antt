@@ -1,0 +1,171 @@
+-- One clique more of what a shape keeps, and the next cliques on the ways.
+use Rattle.std.proofs.Common.{◌≡◌, ◌≢◌, ℕ, suc, zero, ◌+◌, ◌-◌, ◌<◌, ◌≤◌, Bool, true, false, cond, ◌⊎◌, inl, inr, List, [], ◌∷◌, ◌++◌, map, filter, length, slice_index, slice_index_or, get_or, refl, sym, ap, subst, ◌∙◌, arith}
+use Rattle.std.specs.List.{range_with_len}
+use Rattle.std.proofs.lemmas.Bool.{cases_eq, cases_lt, cond-true, cond-false}
+use Rattle.std.proofs.lemmas.List.{length-map, length_push, get_or_push, get_or_default}
+use Rattle.std.proofs.lemmas.List.FromFn.{map-range_with_len_more, get_or-map-range_with_len, length-map-range_with_len, length-range_with_len}
+use Rattle.std.proofs.Math.ListN.{get_or-map, get_or-append}
+use Rattle.mk_sums.specs.Trees.{Links, hop, linked_to}
+use Rattle.mk_sums.proofs.Hops.{IsChild, AreLinked, ends, hop_linked, hop_near, hop_up, hop_step}
+use Rattle.mk_table.proofs.Members.{range_more}
+use Rattle.mk_tree.specs.Given.{GivenTree, link_of, holds}
+use Rattle.mk_tree.specs.Given as given
+use Rattle.mk_tree.specs.Checked.{IsTreeOf}
+use Rattle.mk_net.specs.Network.{Variable, IsNetwork}
+use Rattle.mk_table.specs.Scopes.{ScopeOf}
+use Rattle.mk_propagate.specs.Shapes.{ShapeOf, IsClique, IsShapeFor, next_on_way, scope_within, shares, no_scope}
+use Rattle.mk_propagate.specs.inner.Shaped.{IsRowFrom, AreRows, IsShaped, scopes_of_cliques, scopes_of_separators, lists_of_neighbours}
+
+map_push : {A B : Type 0} (f : A → B) (xs : List A) (y : A) → map f (xs ++ y ∷ []) ≡ map f xs ++ f y ∷ []
+map_push f [] y = refl
+map_push f (x ∷ xs) y = ap (λ ys. f x ∷ ys) (map_push f xs y)
+
+-- one item more of a list that is a function of the numbers from a on
+pub one_more : {A B : Type 0} (f : A → B) (g : ℕ → B) (xs ys : List A) (y : A) (a n j : ℕ) → map f xs ≡ map g (range_with_len a n) → ys ≡ xs ++ y ∷ [] → f y ≡ g j → a + n ≡ j
+    → map f ys ≡ map g (range_with_len a (n + 1))
+one_more f g xs ys y a n j h pushed e at =
+    ap (map f) pushed ∙ map_push f xs y ∙ ap (λ zs. zs ++ f y ∷ []) h ∙ ap (λ z. map g (range_with_len a n) ++ z ∷ []) e ∙ sym (map-range_with_len_more g a n j at)
+
+filter_push : (p : ℕ → Bool) (xs : List ℕ) (y : ℕ) → filter p (xs ++ y ∷ []) ≡ filter p xs ++ cond (p y) (y ∷ []) []
+filter_push p [] y = refl
+filter_push p (x ∷ xs) y = at (p x) (filter_push p xs y)
+  where
+    at : (b : Bool) → filter p (xs ++ y ∷ []) ≡ filter p xs ++ cond (p y) (y ∷ []) []
+        → cond b (x ∷ filter p (xs ++ y ∷ [])) (filter p (xs ++ y ∷ [])) ≡ cond b (x ∷ filter p xs) (filter p xs) ++ cond (p y) (y ∷ []) []
+    at true ih = ap (λ ys. x ∷ ys) ih
+    at false ih = ih
+
+append_none : (xs : List ℕ) → xs ++ [] ≡ xs
+append_none [] = refl
+append_none (x ∷ xs) = ap (λ ys. x ∷ ys) (append_none xs)
+
+filter_range : (p : ℕ → Bool) (a n j : ℕ) → a + n ≡ j → filter p (range_with_len a (n + 1)) ≡ filter p (range_with_len a n) ++ cond (p j) (j ∷ []) []
+filter_range p a n j at =
+    let e : n + 1 ≡ suc n = omega arith in
+    ap (λ k. filter p (range_with_len a k)) e ∙ ap (filter p) (range_more a n ∙ ap (λ x. range_with_len a n ++ x ∷ []) at) ∙ filter_push p (range_with_len a n) j
+
+pub filter_in : (p : ℕ → Bool) (a n j : ℕ) → a + n ≡ j → p j ≡ true → filter p (range_with_len a (n + 1)) ≡ filter p (range_with_len a n) ++ j ∷ []
+filter_in p a n j at h = filter_range p a n j at ∙ ap (λ b. filter p (range_with_len a n) ++ cond b (j ∷ []) []) h
+
+pub filter_out : (p : ℕ → Bool) (a n j : ℕ) → a + n ≡ j → p j ≡ false → filter p (range_with_len a (n + 1)) ≡ filter p (range_with_len a n)
+filter_out p a n j at h = filter_range p a n j at ∙ ap (λ b. filter p (range_with_len a n) ++ cond b (j ∷ []) []) h ∙ append_none (filter p (range_with_len a n))
+
+-- an item of a list that is a function of the numbers from a on
+pub item_of : {A B : Type 0} (f : A → B) (g : ℕ → B) (xs : List A) (a n i j : ℕ) (d : A) (e : B) → map f xs ≡ map g (range_with_len a n) → i < n → a + i ≡ j → f (get_or xs i d) ≡ g j
+item_of f g xs a n i j d e h l at =
+    let long = ap length h in
+    let m : i < length xs = omega (arith, long, length-map xs f, length-map-range_with_len g a n) in
+    sym (get_or-map f xs i d) ∙ ap (λ ys. get_or ys i (f d)) h ∙ get_or-map-range_with_len g a n i j (f d) l at
+
+pub long_of : {A B : Type 0} (f : A → B) (g : ℕ → B) (xs : List A) (a n : ℕ) → map f xs ≡ map g (range_with_len a n) → length xs ≡ n
+long_of f g xs a n h = sym (length-map xs f) ∙ ap length h ∙ length-map-range_with_len g a n
+
+-- ---- ways
+
+module _ (tree : GivenTree) (linked : given.AreLinked tree) (from : ℕ) (is : IsClique tree from) where
+  -- to an earlier clique the way goes up
+  pub next_up : (to : ℕ) → to < from → link_of tree from ≡ next_on_way tree from to
+  next_up to l = sym (hop_up (link_of tree) (length tree.cliques) from to l is.last)
+
+  child : (to : ℕ) → 1 < to → to ≤ length tree.cliques → IsChild (link_of tree) (length tree.cliques) to (link_of tree to)
+  child to p q = record { later = p; within = q; link_is = refl }
+
+  -- from the link of a clique it goes there
+  pub next_near : (to : ℕ) → 1 < to → to ≤ length tree.cliques → link_of tree to ≡ from → to ≡ next_on_way tree from to
+  next_near to p q e = sym (hop_near (link_of tree) (length tree.cliques) to from linked.earlier (inl (record { later = p; within = q; link_is = e })))
+
+  -- to a later clique it goes as to its link
+  pub next_down : (to : ℕ) → 1 < to → to ≤ length tree.cliques → from < to → link_of tree to ≢ from → next_on_way tree from (link_of tree to) ≡ next_on_way tree from to
+  next_down to p q l d =
+      sym (hop_step (link_of tree) (length tree.cliques) from to (link_of tree to) linked.earlier (inl (child to p q)) is.first is.last (λ e. omega arith) (λ e. d (sym e)))
+
+  -- one clique more of a row
+  pub row_more : (count next : ℕ) (row new : List ℕ) → IsRowFrom tree from count row → new ≡ row ++ next ∷ [] → (from ≢ count + 1 → next ≡ next_on_way tree from (count + 1)) → IsRowFrom tree from (count + 1) new
+  row_more count next row new h pushed last = record {
+    long = ap length pushed ∙ length_push row next ∙ ap (λ n. n + 1) h.long;
+    next_is = λ to p q d. at to p q d (cases_eq to (count + 1));
+  }
+    where
+      at : (to : ℕ) → 1 ≤ to → to ≤ count + 1 → from ≢ to → ((to ≡ count + 1) ⊎ (to ≡ count + 1 → ⊥)) → slice_index new (to - 1) ≡ next_on_way tree from to
+      at to p q d (inl e) =
+          let i : to - 1 ≡ count = omega arith in
+          ap (λ ns. slice_index ns (to - 1)) pushed ∙ ap (slice_index (row ++ next ∷ [])) i ∙ get_or_push row next 0 count h.long ∙ last (λ f. d (f ∙ sym e)) ∙ ap (next_on_way tree from) (sym e)
+      at to p q d (inr f) =
+          let l : to - 1 < length row = omega (arith, h.long) in
+          ap (λ ns. slice_index ns (to - 1)) pushed ∙ get_or-append row (next ∷ []) 0 (to - 1) l ∙ h.next_is to p (omega arith) d
+
+  -- the next clique is a clique
+  pub next_is_clique : (to : ℕ) → IsClique tree to → from ≢ to → IsClique tree (next_on_way tree from to)
+  next_is_clique to at d =
+      let l = hop_linked (link_of tree) (length tree.cliques) from to linked.earlier is.first is.last at.first at.last (λ e. d (sym e)) in
+      let n = ends (link_of tree) (length tree.cliques) (next_on_way tree from to) from linked.earlier l in
+      record { first = n.0; last = n.1 }
+
+-- one row more
+pub rows_more : (tree : GivenTree) (count : ℕ) (rows new : List (List ℕ)) (row : List ℕ) → AreRows tree count rows → new ≡ rows ++ row ∷ [] → IsRowFrom tree (count + 1) (length tree.cliques) row → AreRows tree (count + 1) new
+rows_more tree count rows new row h pushed last = record {
+  long = ap length pushed ∙ length_push rows row ∙ ap (λ n. n + 1) h.long;
+  row_is = λ from p q. at from p q (cases_eq from (count + 1));
+}
+  where
+    at : (from : ℕ) → 1 ≤ from → from ≤ count + 1 → ((from ≡ count + 1) ⊎ (from ≡ count + 1 → ⊥)) → IsRowFrom tree from (length tree.cliques) (slice_index_or new (from - 1) [])
+    at from p q (inl e) =
+        let i : from - 1 ≡ count = omega arith in
+        let r : slice_index_or new (from - 1) [] ≡ row = ap (λ (ns : List (List ℕ)). slice_index_or ns (from - 1) []) pushed ∙ ap (λ (k : ℕ). slice_index_or (rows ++ row ∷ []) k []) i ∙ get_or_push rows row [] count h.long in
+        subst (λ (ns : List ℕ). IsRowFrom tree from (length tree.cliques) ns) (sym r) (subst (λ (k : ℕ). IsRowFrom tree k (length tree.cliques) row) (sym e) last)
+    at from p q (inr f) =
+        let l : from - 1 < length rows = omega (arith, h.long) in
+        let r : slice_index_or new (from - 1) [] ≡ slice_index_or rows (from - 1) [] = ap (λ (ns : List (List ℕ)). slice_index_or ns (from - 1) []) pushed ∙ get_or-append rows (row ∷ []) [] (from - 1) l in
+        subst (λ (ns : List ℕ). IsRowFrom tree from (length tree.cliques) ns) (sym r) (h.row_is from p (omega arith))
+
+-- rows as they are kept: a list of vectors
+pub rows_push : {A : Type 0} (f : A → List ℕ) (tree : GivenTree) (count : ℕ) (rows new : List A) (row : A) → AreRows tree count (map f rows) → new ≡ rows ++ row ∷ [] → IsRowFrom tree (count + 1) (length tree.cliques) (f row)
+    → AreRows tree (count + 1) (map f new)
+rows_push f tree count rows new row h pushed last = rows_more tree count (map f rows) (map f new) (f row) h (ap (map f) pushed ∙ map_push f rows row) last
+
+-- what is read of them
+pub next_read : {A : Type 0} (f : A → List ℕ) (tree : GivenTree) (rows : List A) → AreRows tree (length tree.cliques) (map f rows) → (from to : ℕ) → IsClique tree from → IsClique tree to → from ≢ to
+    → (row : A) (next : ℕ) → row ≡ get_or rows (from - 1) row → next ≡ get_or (f row) (to - 1) next → next ≡ next_on_way tree from to
+next_read f tree rows h from to is at d row next e g =
+    let long : length rows ≡ length tree.cliques = sym (length-map rows f) ∙ h.long in
+    let r : get_or (map f rows) (from - 1) [] ≡ f row =
+    get_or_default (map f rows) (from - 1) [] (f row) (omega (arith, h.long, is.first, is.last)) ∙ get_or-map f rows (from - 1) row ∙ ap f (sym e) in
+    let w = h.row_is from is.first is.last in
+    let n : length (f row) ≡ length tree.cliques = ap length (sym r) ∙ w.long in
+    g ∙ get_or_default (f row) (to - 1) next 0 (omega (arith, n, at.first, at.last)) ∙ ap (λ (ns : List ℕ). get_or ns (to - 1) 0) (sym r) ∙ w.next_is to at.first at.last d
+
+-- ---- a shape
+
+module _ (shape : ShapeOf) (network : List Variable) (tree : GivenTree) (tree_is : shape.tree ≡ tree)
+    (cliques : shape.cliques ≡ scopes_of_cliques network tree (length tree.cliques)) (separators : shape.separators ≡ scopes_of_separators network tree (length tree.cliques - 1)) where
+  counts : length shape.tree.cliques ≡ length tree.cliques
+  counts = ap (λ (t : GivenTree). length t.cliques) tree_is
+
+  pub shaped : given.AreLinked tree → (lists next : List (List ℕ)) → lists ≡ lists_of_neighbours tree (length tree.cliques) → AreRows tree (length tree.cliques) next → IsShaped shape lists next
+  shaped linked lists next l r = record {
+    linked = subst given.AreLinked (sym tree_is) linked;
+    one_each = ap length cliques ∙ length-map-range_with_len (λ k. scope_within network (holds tree k)) 1 (length tree.cliques) ∙ sym counts;
+    one_less =
+        let n = ap length separators ∙ length-map-range_with_len (λ k. scope_within network (shares tree k)) 2 (length tree.cliques - 1) in
+        omega (arith, n, counts, linked.some);
+    neighbours_are = subst (λ (t : GivenTree). lists ≡ lists_of_neighbours t (length t.cliques)) (sym tree_is) l;
+    rows = subst (λ (t : GivenTree). AreRows t (length t.cliques) next) (sym tree_is) r;
+  }
+
+  pub shape_for : IsNetwork network → IsTreeOf network tree → IsShapeFor shape network
+  shape_for legal is = record {
+    legal = legal;
+    tree_is = subst (IsTreeOf network) (sym tree_is) is;
+    one_each = ap length cliques ∙ length-map-range_with_len (λ k. scope_within network (holds tree k)) 1 (length tree.cliques) ∙ sym counts;
+    one_less =
+        let n = ap length separators ∙ length-map-range_with_len (λ k. scope_within network (shares tree k)) 2 (length tree.cliques - 1) in
+        omega (arith, n, counts, is.linked.some);
+    clique_scopes = λ k at.
+        ap (λ (ss : List ScopeOf). slice_index_or ss (k - 1) no_scope) cliques
+        ∙ get_or-map-range_with_len (λ i. scope_within network (holds tree i)) 1 (length tree.cliques) (k - 1) k no_scope (omega (arith, at.first, at.last, counts)) (omega (arith, at.first))
+        ∙ ap (λ (t : GivenTree). scope_within network (holds t k)) (sym tree_is);
+    separator_scopes = λ k at more.
+        ap (λ (ss : List ScopeOf). slice_index_or ss (k - 2) no_scope) separators
+        ∙ get_or-map-range_with_len (λ i. scope_within network (shares tree i)) 2 (length tree.cliques - 1) (k - 2) k no_scope (omega (arith, at.first, at.last, counts)) (omega arith)
+        ∙ ap (λ (t : GivenTree). scope_within network (shares t k)) (sym tree_is);
+  }

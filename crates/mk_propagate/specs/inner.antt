@@ -1,0 +1,5 @@
+-- What only proofs and private contracts cite.
+pub mod Kept
+pub mod Shaped
+pub mod Passes
+pub mod Ones
