@@ -3,3 +3,8 @@ pub mod Shaped
 pub mod Placed
 pub mod Required
 pub mod Calls
+pub mod Margins
+pub mod Inputs
+pub mod Grading
+pub mod Readings
+pub mod Messages

@@ -2,6 +2,7 @@
 #![tactic(auto)]
 
 mod flow;
+mod message;
 mod shape;
 
 pub use flow::Flow;

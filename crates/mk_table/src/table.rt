@@ -67,6 +67,7 @@ impl<R: Semiring> Table<R> {
     pub fn cells(&self) -> usize
         ensures cells { result ≡ cells_in self.now.scope }
         ensures few { result ≤ max_clique_cells }
+        ensures full { length self.now.digits ≡ cells_in self.now.scope }
     {
         self.scope.cells()
     }
