@@ -11,3 +11,4 @@ pub mod LeastCells
 pub mod LeastProducts
 pub mod Each
 pub mod Ends
+pub mod Own

@@ -42,6 +42,15 @@ pub record StandsAt (shift digits exponent exact steps : ℕ) : Type 0 where
 abbrev pub Stands : ℕ → Cell → ℕ → ℕ → Type 0
 Stands shift cell exact steps = StandsAt shift cell.digits cell.exponent exact steps
 
+-- Under no shift a cell stands for a number of its own, and the number is 2 ^ shift times that.
+pub record IsOwnAt (shift digits exponent number steps : ℕ) : Type 0 where
+  pub own : ℕ
+  pub scaled : number ≡ own * 2 ^ shift
+  pub stands : StandsAt 0 digits exponent own steps
+
+abbrev pub IsOwnOf : ℕ → Cell → ℕ → ℕ → Type 0
+IsOwnOf shift cell number steps = IsOwnAt shift cell.digits cell.exponent number steps
+
 -- each cell of two arrays stands for its value of f
 pub record AllStand (shift : ℕ) (digits exponents : List ℕ) (f : ℕ → ℕ) (steps : ℕ) : Type 0 where
   pub each : (c : ℕ) → c < length digits → StandsAt shift (slice_index digits c) (slice_index exponents c) (f c) steps

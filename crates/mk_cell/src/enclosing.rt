@@ -35,6 +35,25 @@ impl Cell {
         }
         Some(above(self.digits, exponent - BIAS as u64, grade))
     }
+
+    /// As `enclosure`, of a cell that stands, under no shift, for its number divided by `2^shift`: exact where that
+    /// quotient is below `2^63`, however great the number is.
+    pub fn own_enclosure(self, shift: u32, grade: u32) -> Option<Enclosure>
+        requires grade_at_least { 1 ≤ grade }
+        requires grade_at_most { grade ≤ 2 ^ 17 }
+        requires shifted { (v : ℕ) × Stands shift self v (3 * grade) }
+        requires stands { (w : ℕ) × Stands 0 self w (3 * grade) }
+        ensures absent { (w : ℕ) → Stands 0 self w (3 * grade) → (IsNone result ↔ (w ≡ 0)) }
+        ensures encloses { (w : ℕ) → Stands 0 self w (3 * grade) → IfSome result (λ e. Encloses e (w * 2 ^ shift)) }
+        ensures grade { IfSome result (λ e. HasGrade e grade) }
+        ensures bounded { IfSome result (λ e. upper_of e ≤ two_to (192 * (grade + 1))) }
+        ensures exact { (w : ℕ) → Stands 0 self w (3 * grade) → w < 2 ^ 63 → IfSome result IsExact }
+    {
+        match self.enclosure(0, grade) {
+            Some(own) => Some(multiple(&own, shift)),
+            None => None,
+        }
+    }
 }
 
 /// From `digits * 2^exponent` to six places for each of the grade, and one, above it; where that leaves
@@ -50,4 +69,15 @@ fn above(digits: u64, exponent: u64, grade: u32) -> Enclosure
     let lo = Scaled::of_whole(digits).shift(exponent);
     let places = Scaled::of_whole(6 * grade as u64 + 1).shift(exponent);
     Enclosure::between(lo, lo.add_up(&places))
+}
+
+/// The numbers that are enclosed, times `2^shift`.
+fn multiple(enclosure: &Enclosure, shift: u32) -> Enclosure
+    requires { upper_of enclosure.now ≤ two_to (2 ^ 49) }
+    ensures lower { lower_of result ≡ lower_of enclosure.now * 2 ^ shift }
+    ensures upper { upper_of result ≡ upper_of enclosure.now * 2 ^ shift }
+{
+    let lo = enclosure.lo().shift(shift as u64);
+    let hi = enclosure.hi().shift(shift as u64);
+    Enclosure::between(lo, hi)
 }

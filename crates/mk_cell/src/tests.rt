@@ -388,6 +388,11 @@ fn enclosed_product(a: u64, b: u64) -> Option<Enclosure> {
     left.times(right).enclosure(0, 1)
 }
 
+/// The enclosure of `2^40` times a number, by the number's cell.
+fn enclosed_own(n: u64) -> Option<Enclosure> {
+    Cell::of_whole(n, 0).own_enclosure(40, 1)
+}
+
 /// Mantissas and exponents of both ends; (0, 0) for none.
 fn ends(enclosure: Option<Enclosure>) -> ((u64, u64), (u64, u64)) {
     match enclosure {
@@ -474,6 +479,24 @@ fn enclosures_of_sums(rt: HostRuntime) {
     assert_eq!(rt;
         ends(enclosed_sum(u64::MAX, u64::MAX)),
         ((18446744073709551615, 1), (9223372036854775811, 2))
+    );
+}
+
+#[test]
+fn enclosures_of_own_numbers(rt: HostRuntime) {
+    assert_eq!(rt; ends(enclosed_own(0)), ((0, 0), (0, 0)));
+    assert_eq!(rt;
+        ends(enclosed_own(5)),
+        ((5497558138880, 0), (5497558138880, 0))
+    );
+    // Below 2^63 the number is exact, though 2^40 times it is not below 2^63.
+    assert_eq!(rt;
+        ends(enclosed_own(9223372036854775807)),
+        ((18446744073709551614, 39), (18446744073709551614, 39))
+    );
+    assert_eq!(rt;
+        ends(enclosed_own(9223372036854775808)),
+        ((9223372036854775808, 40), (9223372036854775815, 40))
     );
 }
 

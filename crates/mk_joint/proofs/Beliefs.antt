@@ -8,7 +8,7 @@ use Rattle.mk_exact.specs.InitialWeight.{all_states, value_at}
 use Rattle.mk_exact.specs.Events.{holds}
 use Rattle.mk_exact.specs.Lawful.{Lawful}
 use Rattle.mk_exact.proofs.Sums.{plus_over-filter, plus_over-map}
-use Rattle.mk_cell.specs.Cell.{StandsAt}
+use Rattle.mk_cell.specs.Cell.{StandsAt, IsOwnAt}
 use Rattle.mk_cell.specs.inner.Laws.{stands_with_more}
 use Rattle.mk_sums.specs.Sums.{plus_below}
 use Rattle.mk_sums.specs.There.{holds_there}
@@ -18,6 +18,7 @@ use Rattle.mk_sums.proofs.Grades.{sums_lawful}
 use Rattle.mk_table.specs.Scopes.{ScopeOf, cells_in}
 use Rattle.mk_table.specs.Cells.{values_at, cells_where}
 use Rattle.mk_table.specs.Tables.{TableOf, HasNumbers}
+use Rattle.mk_table.proofs.Owned.{own_more}
 use Rattle.mk_engine.specs.Meaning.{Meaning, factor_there, exact_belief, whole_sum, max_grade}
 use Rattle.mk_engine.specs.Beliefs.{IsBelief}
 use Rattle.mk_joint.specs.inner.Joints.{whole_scope, joint_there, HasJoint}
@@ -95,6 +96,14 @@ module _ (plus : ℕ → ℕ → ℕ) (table : TableOf) (count : ℕ) (m : Meani
       → StandsAt table.shift digits exponent totalled (3 * (count + max_clique_cells))
   total_stands digits exponent total =
       stands_with_more table.shift digits exponent totalled (length m.factors + 2 * cells_in table.scope) (3 * (count + max_clique_cells)) (omega (arith, h.counted, h.few_cells))
+      (total (λ c. joint_there m (values_at table.scope c)) (length m.factors) h.numbers)
+
+  -- a total of cells that no ratio touched
+  pub total_own : (digits exponent : ℕ)
+      → ((f : ℕ → ℕ) (n : ℕ) → HasNumbers table f n → IsOwnAt table.shift digits exponent (plus_over plus 0 f (cells_where table.scope event)) (n + 2 * cells_in table.scope))
+      → IsOwnAt table.shift digits exponent totalled (3 * (count + max_clique_cells))
+  total_own digits exponent total =
+      own_more table.shift digits exponent totalled (length m.factors + 2 * cells_in table.scope) (3 * (count + max_clique_cells)) (omega (arith, h.counted, h.few_cells))
       (total (λ c. joint_there m (values_at table.scope c)) (length m.factors) h.numbers)
 
   module _ {V : Type 0} (encloses : V → ℕ → Type 0) (has_grade : V → ℕ → Type 0) (is_exact : V → Type 0)

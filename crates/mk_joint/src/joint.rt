@@ -11,7 +11,7 @@ ghost use Rattle.mk_joint.specs.inner.Joints.{HasJoint, IsPlanFor, joint_states}
 use mk_engine::Engine;
 use mk_net::{Event, Network, NoMemory, Pair, Ratio, VarSet};
 use mk_semiring::Semiring;
-use mk_table::{Scope, Table};
+use mk_table::{CellList, Scope, Table};
 use mk_tree::Tree;
 use std::alloc::Global;
 use std::rc::Rc;
@@ -22,11 +22,13 @@ const MAX_CELLS: u32 = 4_096;
 /// An engine with one cell for each joint state of a network. It suits networks of no more joint states than a
 /// clique may have cells, 4,096, and can answer each event.
 ///
-/// It counts its factors, since each costs its table a step, and a belief's grade is made of that count.
+/// It counts its factors, since each costs its table a step, and a belief's grade is made of that count. It keeps the list
+/// in which the cells of an event are numbered, so that no belief has to clear one.
 #[derive(Drop)]
 pub struct JointEngine<R: Semiring> {
     table: Table<R>,
     factors: u32,
+    chosen: CellList,
 }
 
 impl<R: Semiring> Engine<R> for JointEngine<R> {
@@ -51,7 +53,11 @@ impl<R: Semiring> Engine<R> for JointEngine<R> {
 
     fn start(alloc: Global, plan: &Rc<Scope>) -> Result<JointEngine<R>, NoMemory> {
         let table = Table::ones(alloc, plan)?;
-        Ok(JointEngine { table, factors: 0 })
+        Ok(JointEngine {
+            table,
+            factors: 0,
+            chosen: CellList::new(),
+        })
     }
 
     fn weigh(&mut self, net: &Network, variable: u32) {
@@ -76,13 +82,19 @@ impl<R: Semiring> Engine<R> for JointEngine<R> {
 
     fn belief(&mut self, event: &Event) -> R::Value
         requires { CanBelieve ⟦<JointEngine<R> as Engine<R>>⟧.stands_for self.old event.now }
-        ensures kept { self.new ≡ self.old }
+        ensures kept { (m : Meaning) → ⟦<JointEngine<R> as Engine<R>>⟧.stands_for self.old m → ⟦<JointEngine<R> as Engine<R>>⟧.stands_for self.new m }
         ensures belief { (m : Meaning) → ⟦<JointEngine<R> as Engine<R>>⟧.stands_for self.old m
             → IsBelief R.encloses R.has_grade R.is_exact R.plus_of m event.now result }
         ensures grade { (m : Meaning) → ⟦<JointEngine<R> as Engine<R>>⟧.stands_for self.old m → R.has_grade result (length m.factors + max_clique_cells) }
     {
-        let total = self.table.total(event);
-        R::of_cell(total, self.table.shift(), self.factors + MAX_CELLS)
+        let total = self.table.total(event, &mut self.chosen);
+        let untouched = self.table.is_untouched(event);
+        R::of_cell(
+            total,
+            self.table.shift(),
+            untouched,
+            self.factors + MAX_CELLS,
+        )
     }
 
     ghost home_fits = { λ engine m event stands home. refl };

@@ -19,6 +19,11 @@ const WET: Pair = Pair {
     value: 0,
 };
 
+const DRY: Pair = Pair {
+    variable: 0,
+    value: 1,
+};
+
 const RAIN: Pair = Pair {
     variable: 1,
     value: 0,
@@ -92,6 +97,12 @@ fn only(rt: &impl Abort, pair: Pair) -> Event
     Event::empty().with(pair).expect(rt, "a pair")
 }
 
+fn both(rt: &impl Abort, season: Pair, rain: Pair) -> Event
+    ensures { result ≡ season ∷ rain ∷ [] }
+{
+    only(rt, season).with(rain).expect(rt, "two pairs")
+}
+
 /// A trade on rain in a wet season.
 fn trade(rt: &impl Abort) -> Ratio
     ensures { trade_ratio result ≡ record { variable = 1; condition = WET ∷ []; factors = 2 ∷ 3 ∷ [] } }
@@ -137,6 +148,30 @@ fn when_traded<R: Semiring>(
     Ok(engine.belief(&Event::empty()))
 }
 
+/// A trade on rain in a wet season, by a ratio of no round numbers.
+fn real_trade(rt: &impl Abort) -> Ratio
+    ensures { trade_ratio result ≡ record { variable = 1; condition = WET ∷ []; factors = 1256584717458 ∷ 733007751850 ∷ [] } }
+{
+    let question = Question::make(RAIN, only(rt, WET)).expect(rt, "a question");
+    Ratio::of_question(&question, 2, 1256584717458, 733007751850)
+}
+
+/// The beliefs in dry rain, in a dry season and in wet rain after that trade, and in rain once the season is known to be dry.
+fn after_trade<R: Semiring>(
+    rt: &impl Abort,
+    alloc: Global,
+    weather: &Weather,
+) -> Result<(R::Value, R::Value, R::Value, R::Value), Fail> {
+    let mut engine = weighed::<R>(alloc, weather)?;
+    engine.multiply(&real_trade(rt));
+    let dry_rain = engine.belief(&both(rt, DRY, RAIN));
+    let dry = engine.belief(&only(rt, DRY));
+    let wet_rain = engine.belief(&both(rt, WET, RAIN));
+    engine.know(DRY);
+    let known = engine.belief(&only(rt, RAIN));
+    Ok((dry_rain, dry, wet_rain, known))
+}
+
 /// Whether the season is wet.
 fn wet(rt: &impl Abort) -> Question
     ensures { result ≡ record { target = WET; condition = [] } }
@@ -154,6 +189,22 @@ fn other_season<R: Semiring>(
     let asked = wet(rt);
     assert!(rt; weather.tree.home(&asked.event()).is_some());
     Ok(belief_of_others::<R, JointEngine<R>>(&mut engine, &asked, 2))
+}
+
+/// Both ends of a value, each a mantissa and an exponent; zeros for Absent.
+fn ends(held: &Held) -> ((u64, u64), (u64, u64)) {
+    match held {
+        Held::Absent => ((0, 0), (0, 0)),
+        Held::Present(enclosure) => (
+            (enclosure.lo().mantissa(), enclosure.lo().exponent()),
+            (enclosure.hi().mantissa(), enclosure.hi().exponent()),
+        ),
+    }
+}
+
+/// Stops unless the value is this mantissa and exponent, exactly.
+fn check_unit(rt: &impl Abort, held: &Held, mantissa: u64, exponent: u64) {
+    assert_eq!(rt; ends(held), ((mantissa, exponent), (mantissa, exponent)));
 }
 
 /// Stops unless the value is this number, exactly.
@@ -204,5 +255,25 @@ fn minima(rt: HostRuntime) -> Result<(), Fail> {
     check(&rt, &traded, 360_000_000_000);
     let dry = other_season::<MinProd>(&rt, alloc, &weather)?;
     check(&rt, &dry, 60_000_000_000);
+    Ok(())
+}
+
+#[test]
+fn beliefs_where_nothing_was_traded(rt: HostRuntime) -> Result<(), Fail> {
+    let alloc = rt.alloc();
+    let weather = make_weather(&rt, alloc)?;
+    let (dry_rain, dry, wet_rain, known) = after_trade::<SumProd>(&rt, alloc, &weather)?;
+    // 60,000,000,000 and 600,000,000,000 times 2^40.
+    check_unit(&rt, &dry_rain, 16106127360000000000, 12);
+    check_unit(&rt, &dry, 10066329600000000000, 16);
+    check_unit(&rt, &known, 16106127360000000000, 12);
+    let (lower, upper) = ends(&wet_rain);
+    assert!(rt; lower != upper);
+    let (dry_rain, dry, wet_rain, known) = after_trade::<MinProd>(&rt, alloc, &weather)?;
+    check_unit(&rt, &dry_rain, 16106127360000000000, 12);
+    check_unit(&rt, &dry, 16106127360000000000, 12);
+    check_unit(&rt, &known, 16106127360000000000, 12);
+    let (lower, upper) = ends(&wet_rain);
+    assert!(rt; lower != upper);
     Ok(())
 }

@@ -1,7 +1,7 @@
 //! The value that the semirings share.
-ghost use Rattle.std.specs.Prelude.{◌≡◌, ℕ, ◌+◌, ◌*◌, ◌^◌, ◌<◌, ◌≤◌};
+ghost use Rattle.std.specs.Prelude.{◌≡◌, ℕ, ◌+◌, ◌*◌, ◌^◌, ◌<◌, ◌≤◌, IsTrue};
 ghost use Rattle.mk_net.specs.Bounds.{number_limit};
-ghost use Rattle.mk_cell.specs.Cell.{Stands};
+ghost use Rattle.mk_cell.specs.Cell.{Stands, IsOwnOf};
 ghost use Rattle.mk_semiring.specs.Held.{HeldEncloses, HasHeldGrade, IsHeldExact, CanTimes};
 
 use mk_cell::Cell;
@@ -43,17 +43,27 @@ pub fn product(a: &Held, b: &Held) -> Held
     }
 }
 
-/// What a cell stands for in at most three steps for each of the grade.
-pub fn of_cell(cell: Cell, shift: u32, grade: u32) -> Held
+/// What a cell stands for in at most three steps for each of the grade. An untouched cell also stands, under no shift, for a
+/// number of its own.
+pub fn of_cell(cell: Cell, shift: u32, untouched: bool, grade: u32) -> Held
     requires grade_at_least { 1 ≤ grade }
     requires grade_at_most { grade ≤ 2 ^ 17 }
     requires stands { (v : ℕ) × Stands shift cell v (3 * grade) }
-    ensures value { (v : ℕ) → Stands shift cell v (3 * grade) → HeldEncloses result v }
+    requires own { IsTrue untouched → (w : ℕ) × Stands 0 cell w (3 * grade) }
+    ensures value { (v : ℕ) → Stands shift cell v (3 * grade) → (IsTrue untouched → IsOwnOf shift cell v (3 * grade)) → HeldEncloses result v }
     ensures grade { HasHeldGrade result grade }
     ensures exact { (v : ℕ) → Stands shift cell v (3 * grade) → v < number_limit → IsHeldExact result }
+    ensures own_exact { (w : ℕ) → IsTrue untouched → Stands 0 cell w (3 * grade) → w < number_limit → IsHeldExact result }
 {
-    match cell.enclosure(shift, grade) {
-        Some(enclosure) => Held::Present(enclosure),
-        None => Held::Absent,
+    if untouched {
+        match cell.own_enclosure(shift, grade) {
+            Some(enclosure) => Held::Present(enclosure),
+            None => Held::Absent,
+        }
+    } else {
+        match cell.enclosure(shift, grade) {
+            Some(enclosure) => Held::Present(enclosure),
+            None => Held::Absent,
+        }
     }
 }

@@ -75,7 +75,7 @@ impl Semiring for MinProd {
         mk_cell::least_of_products(left_digits, left_exponents, right_digits, right_exponents)
     }
 
-    fn of_cell(cell: Cell, shift: u32, grade: u32) -> Held {
-        held::of_cell(cell, shift, grade)
+    fn of_cell(cell: Cell, shift: u32, untouched: bool, grade: u32) -> Held {
+        held::of_cell(cell, shift, untouched, grade)
     }
 }

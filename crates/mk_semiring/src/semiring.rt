@@ -1,8 +1,8 @@
 //! The trait.
-ghost use Rattle.std.specs.Prelude.{◌≡◌, ℕ, ◌+◌, ◌*◌, ◌^◌, ◌<◌, ◌≤◌, length};
+ghost use Rattle.std.specs.Prelude.{◌≡◌, ℕ, ◌+◌, ◌*◌, ◌^◌, ◌<◌, ◌≤◌, length, IsTrue};
 ghost use Rattle.mk_net.specs.Bounds.{number_limit};
 ghost use Rattle.mk_exact.specs.Lawful.{Lawful};
-ghost use Rattle.mk_cell.specs.Cell.{AllStand, AreCells, Stands};
+ghost use Rattle.mk_cell.specs.Cell.{AllStand, AreCells, Stands, IsOwnOf};
 ghost use Rattle.mk_cell.specs.Passes.{plus_below};
 
 use mk_cell::Cell;
@@ -86,14 +86,18 @@ pub trait Semiring {
             → AllStand k right_digits.now right_exponents.now g p
             → Stands (j + k) result (plus_below plus_of (length left_digits.now) (λ c. f c * g c)) (n + p + 2 * length left_digits.now + 1) };
 
-    /// The value of a cell that stands for its number in at most three steps for each of the grade.
-    fn of_cell(cell: Cell, shift: u32, grade: u32) -> Self::Value
+    /// The value of a cell that stands for its number in at most three steps for each of the grade. An untouched cell also
+    /// stands, under no shift, for a number of its own: where that is below `2^63` the value is exact, and it encloses the
+    /// cell's number where this is the own one times `2^shift`.
+    fn of_cell(cell: Cell, shift: u32, untouched: bool, grade: u32) -> Self::Value
         requires grade_at_least { 1 ≤ grade }
         requires grade_at_most { grade ≤ 2 ^ 17 }
         requires stands { (v : ℕ) × Stands shift cell v (3 * grade) }
-        ensures value { (v : ℕ) → Stands shift cell v (3 * grade) → encloses result v }
+        requires own { IsTrue untouched → (w : ℕ) × Stands 0 cell w (3 * grade) }
+        ensures value { (v : ℕ) → Stands shift cell v (3 * grade) → (IsTrue untouched → IsOwnOf shift cell v (3 * grade)) → encloses result v }
         ensures grade { has_grade result grade }
-        ensures exact { (v : ℕ) → Stands shift cell v (3 * grade) → v < number_limit → is_exact result };
+        ensures exact { (v : ℕ) → Stands shift cell v (3 * grade) → v < number_limit → is_exact result }
+        ensures own_exact { (w : ℕ) → IsTrue untouched → Stands 0 cell w (3 * grade) → w < number_limit → is_exact result };
 
     ghost lawful: { Lawful plus_of };
 

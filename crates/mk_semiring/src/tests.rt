@@ -304,7 +304,12 @@ fn value_over<R: Semiring>(a: u64, b: u64) -> R::Value {
     let right = Cell::of_whole(b, 40);
     let digits = [left.digits, right.digits];
     let exponents = [left.exponent, right.exponent];
-    R::of_cell(R::over(&digits, &exponents), 40, 1)
+    R::of_cell(R::over(&digits, &exponents), 40, false, 1)
+}
+
+/// The value of `2^40` times a number, as an untouched cell of the number.
+fn untouched_value<R: Semiring>(n: u64) -> R::Value {
+    R::of_cell(Cell::of_whole(n, 0), 40, true, 1)
 }
 
 /// The ends of a value; (0, 0) for Absent.
@@ -334,4 +339,13 @@ fn values_of_cells(rt: HostRuntime) {
         let least = value_over::<MinProd>(numbers.left, numbers.right);
         assert_eq!(rt; ends(&least), numbers.least);
     }
+}
+
+#[test]
+fn values_of_untouched_cells(rt: HostRuntime) {
+    let greatest: Ends = ((18446744073709551614, 39), (18446744073709551614, 39));
+    let sum = untouched_value::<SumProd>(9223372036854775807);
+    assert_eq!(rt; ends(&sum), greatest);
+    let least = untouched_value::<MinProd>(9223372036854775807);
+    assert_eq!(rt; ends(&least), greatest);
 }

@@ -4,13 +4,13 @@ use Rattle.std.proofs.Math.Nat.{suc-mul}
 use Rattle.std.proofs.Math.Seq.{take-add}
 use Rattle.std.proofs.lemmas.List.{take_more, take_all, get_or-take, length-take}
 use Rattle.std.proofs.lemmas.Bool.{cases_eq, cases_lt}
-use Rattle.std.proofs.lemmas.List.Elements.{All-take, All-drop}
+use Rattle.std.proofs.lemmas.List.Elements.{All-take, All-drop, All-weaker}
 use Rattle.mk_exact.specs.Lawful.{Lawful}
 use Rattle.mk_exact.specs.States.{plus_over}
 use Rattle.mk_exact.proofs.Sums.{IsPlus, plus_over-append}
 use Rattle.mk_cell.specs.Passes.{plus_below}
 use Rattle.mk_cell.specs.Cell.{AllStand, AreCells, IsCell, StandsAt}
-use Rattle.mk_table.specs.inner.Parts.{block_of}
+use Rattle.mk_table.specs.inner.Parts.{StandListed, block_of}
 
 module _ (plus : ℕ → ℕ → ℕ) (law : Lawful plus) where
   is_plus : IsPlus plus 0
@@ -42,6 +42,9 @@ module _ (plus : ℕ → ℕ → ℕ) (law : Lawful plus) where
 
 -- ---- cells that are gathered
 
+pub block_within : (P : ℕ → Type 0) (xs : List ℕ) (b : ℕ) → All P xs → All P (block_of xs b)
+block_within P xs b h = All-take P 64 (drop (b * 64) xs) (All-drop P (b * 64) xs h)
+
 -- the first cells of two arrays are those at some places of two others
 pub record AreGathered (at : ℕ → ℕ) (count : ℕ) (digits exponents gathered_digits gathered_exponents : List ℕ) : Type 0 where
   pub long : length gathered_digits ≡ count
@@ -61,12 +64,24 @@ gathered_first at count d e gd ge l m within are are_too = record {
   exponents_are = λ k p. get_or-take count ge k 0 p ∙ are_too k p;
 }
 
-pub gathered_stand : (at : ℕ → ℕ) (count : ℕ) (d e gd ge : List ℕ) → AreGathered at count d e gd ge → (k : ℕ) (f : ℕ → ℕ) (n : ℕ) → AllStand k d e f n → AllStand k gd ge (λ i. f (at i)) n
+pub gathered_stand : (at : ℕ → ℕ) (count : ℕ) (d e gd ge : List ℕ) → AreGathered at count d e gd ge → (k : ℕ) (f : ℕ → ℕ) (n : ℕ)
+    → ((i : ℕ) → i < count → StandsAt k (slice_index d (at i)) (slice_index e (at i)) (f (at i)) n) → AllStand k gd ge (λ i. f (at i)) n
 gathered_stand at count d e gd ge h k f n a = record {
   each = λ i l.
       let p : i < count = omega (arith, h.long) in
       subst (λ y. StandsAt k y (slice_index ge i) (f (at i)) n) (sym (h.digits_are i p))
-      (subst (λ y. StandsAt k (slice_index d (at i)) y (f (at i)) n) (sym (h.exponents_are i p)) (a.each (at i) (h.within i p)));
+      (subst (λ y. StandsAt k (slice_index d (at i)) y (f (at i)) n) (sym (h.exponents_are i p)) (a i p));
+}
+
+-- where all cells stand, those that are listed do
+pub all_listed : (k : ℕ) (d e : List ℕ) (f : ℕ → ℕ) (n base : ℕ) (offsets : List ℕ) → All (λ c. base + c < length d) offsets → AllStand k d e f n → StandListed k d e f n base offsets
+all_listed k d e f n base offsets within a = record {
+  listed = All-weaker (λ c. base + c < length d) (λ c. StandsAt k (slice_index d (base + c)) (slice_index e (base + c)) (f (base + c)) n) (λ c l. a.each (base + c) l) offsets within;
+}
+
+pub block_listed : (k : ℕ) (d e : List ℕ) (f : ℕ → ℕ) (n base : ℕ) (offsets : List ℕ) (b : ℕ) → StandListed k d e f n base offsets → StandListed k d e f n base (block_of offsets b)
+block_listed k d e f n base offsets b a = record {
+  listed = block_within (λ c. StandsAt k (slice_index d (base + c)) (slice_index e (base + c)) (f (base + c)) n) offsets b a.listed;
 }
 
 pub gathered_cells : (at : ℕ → ℕ) (count : ℕ) (d e gd ge : List ℕ) → AreGathered at count d e gd ge → AreCells d e → AreCells gd ge
@@ -85,9 +100,6 @@ first_stand k d e f n count l h = record {
       subst (λ y. StandsAt k y (slice_index (take count e) i) (f i) n) (sym (get_or-take count d i 0 p))
       (subst (λ y. StandsAt k (slice_index d i) y (f i) n) (sym (get_or-take count e i 0 p)) (h i p));
 }
-
-pub block_within : (P : ℕ → Type 0) (xs : List ℕ) (b : ℕ) → All P xs → All P (block_of xs b)
-block_within P xs b h = All-take P 64 (drop (b * 64) xs) (All-drop P (b * 64) xs h)
 
 -- one more cell of two arrays that are made one after the other
 pub written_next : (S : ℕ → ℕ → ℕ → Type 0) (n q x : ℕ) (d e : List ℕ) → n < length d → n < length e → ((b : ℕ) → b < n → S b (slice_index d b) (slice_index e b)) → S n q x

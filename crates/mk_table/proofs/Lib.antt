@@ -14,3 +14,5 @@ pub mod Pinned
 pub mod Listed
 pub mod Onto
 pub mod Whole
+pub mod Untouched
+pub mod Owned

@@ -1,24 +1,30 @@
 -- What the calls of a table do to the numbers that its cells stand for.
-use Rattle.std.proofs.Common.{◌≡◌, ℕ, ◌+◌, ◌*◌, ◌<◌, ◌≤◌, Bool, true, cond, ◌==◌, List, map, length, slice_index, All, sym, ap, subst, ◌∙◌, arith, zero-add}
+use Rattle.std.proofs.Common.{◌≡◌, ℕ, ◌+◌, ◌*◌, ◌/◌, ◌^◌, ◌<◌, ◌≤◌, Bool, true, false, cond, ◌==◌, List, map, length, slice_index, All, sym, ap, subst, ◌∙◌, arith, zero-add}
 use Rattle.std.proofs.Math.ListN.{get_or-map}
 use Rattle.std.proofs.Math.Path.{fun_ext}
-use Rattle.std.specs.Prelude.{Vec}
+use Rattle.std.specs.Prelude.{Vec, Option, Some, None}
 use Rattle.std.specs.Vec.{with_items}
+use Rattle.std.proofs.lemmas.Bool.{eqb-true}
 use Rattle.std.proofs.lemmas.List.{length-map, with_items_is}
 use Rattle.std.proofs.lemmas.List.Elements.{All-weaker}
 use Rattle.mk_net.specs.declared.words.Pair.{Pair}
 use Rattle.mk_net.specs.Asked.{TradeRatio}
+use Rattle.mk_exact.specs.Lawful.{Lawful}
 use Rattle.mk_exact.specs.States.{plus_over}
 use Rattle.mk_exact.specs.Ratios.{units_of}
 use Rattle.mk_exact.proofs.Sums.{plus_over-map}
 use Rattle.mk_sums.specs.There.{holds_there, ratio_there}
-use Rattle.mk_cell.specs.Cell.{AllStand, StandsAt}
+use Rattle.mk_cell.specs.Cell.{AllStand, StandsAt, IsOwnAt}
 use Rattle.mk_cell.specs.inner.Laws.{stands_with_more}
-use Rattle.mk_table.specs.Scopes.{ScopeOf, cells_in}
+use Rattle.mk_table.specs.Scopes.{ScopeOf, LiesIn, cells_in}
 use Rattle.mk_table.specs.Cells.{values_at, cell_in, cells_onto, cells_where}
-use Rattle.mk_table.specs.Tables.{TableOf, HasNumbers}
-use Rattle.mk_table.specs.inner.Parts.{IsFull, IsTimes, IsChanged, IsAmong, IsRestricted}
-use Rattle.mk_table.proofs.Changes.{times_all, times_whole, times_some, kept_all}
+use Rattle.mk_table.specs.Tables.{TableOf, HasNumbers, touches, is_untouched_by}
+use Rattle.mk_table.specs.inner.Parts.{IsFull, IsTable, IsTimes, IsTimesCell, IsChanged, IsAmong, IsRestricted, StandListed, AreNumbers}
+use Rattle.mk_table.specs.inner.Touched.{HasTouched, IsEither, IsBeside, IsWithin}
+use Rattle.mk_table.proofs.Kept.{cell_within}
+use Rattle.mk_table.proofs.Blocked.{all_listed}
+use Rattle.mk_table.proofs.Untouched.{touched_in, untouched_there, false_before}
+use Rattle.mk_table.proofs.Owned.{rows_are, some_are, cells_are, kept_are, own_over, own_more}
 use Rattle.mk_table.proofs.Chosen.{among_chosen, none_among, chosen_pass}
 
 -- a table's parts, as a call takes them
@@ -28,57 +34,104 @@ pub record AreParts (t : TableOf) (scope : ScopeOf) (shift : ℕ) (digits expone
   pub digits_are : digits ≡ t.digits
   pub exponents_are : exponents ≡ t.exponents
   pub full : IsFull t.scope t.digits t.exponents
+  pub there : HasTouched t.scope t.touched
+
+-- the parts of a table whose view is v, as its code reads them
+pub parts_of : (v t : TableOf) (scope : ScopeOf) (digits exponents : List ℕ) → v ≡ t → IsTable v.scope v.digits v.exponents v.touched
+    → scope ≡ v.scope → digits ≡ v.digits → exponents ≡ v.exponents → AreParts t scope v.shift digits exponents
+parts_of v t scope digits exponents e kept s d x = record {
+  scope_is = s ∙ ap (λ (u : TableOf). u.scope) e;
+  shift_is = ap (λ (u : TableOf). u.shift) e;
+  digits_are = d ∙ ap (λ (u : TableOf). u.digits) e;
+  exponents_are = x ∙ ap (λ (u : TableOf). u.exponents) e;
+  full = subst (λ (u : TableOf). IsFull u.scope u.digits u.exponents) e kept.full;
+  there = subst (λ (u : TableOf). HasTouched u.scope u.touched) e kept.there;
+}
+
+-- what ratios may have touched, cell by cell
+abbrev pub touched_cells : Option (List Pair) → ScopeOf → ℕ → Bool
+touched_cells touched scope c = touches touched (values_at scope c)
 
 module _ (t : TableOf) (scope : ScopeOf) (shift : ℕ) (od oe : List ℕ) (are : AreParts t scope shift od oe) where
-  pub parts_stand : (f : ℕ → ℕ) (n : ℕ) → HasNumbers t f n → AllStand shift od oe f n
-  parts_stand f n h =
-      subst (λ k. AllStand k od oe f n) (sym are.shift_is) (subst (λ (ys : List ℕ). AllStand t.shift ys oe f n) (sym are.digits_are) (subst (λ (ys : List ℕ). AllStand t.shift t.digits ys f n) (sym are.exponents_are) h.stand))
+  pub parts_numbers : (f : ℕ → ℕ) (n : ℕ) → HasNumbers t f n → AreNumbers (touched_cells t.touched scope) shift od oe f n
+  parts_numbers f n h =
+      subst (λ (s : ScopeOf). AreNumbers (touched_cells t.touched s) shift od oe f n) (sym are.scope_is)
+      (subst (λ k. AreNumbers (touched_cells t.touched t.scope) k od oe f n) (sym are.shift_is)
+      (subst (λ (ys : List ℕ). AreNumbers (touched_cells t.touched t.scope) t.shift ys oe f n) (sym are.digits_are)
+      (subst (λ (ys : List ℕ). AreNumbers (touched_cells t.touched t.scope) t.shift t.digits ys f n) (sym are.exponents_are) (record { stand = h.stand; own = h.own }))))
 
   pub parts_full : IsFull scope od oe
   parts_full =
       subst (λ (s : ScopeOf). IsFull s od oe) (sym are.scope_is) (subst (λ (ys : List ℕ). IsFull t.scope ys oe) (sym are.digits_are) (subst (λ (ys : List ℕ). IsFull t.scope t.digits ys) (sym are.exponents_are) are.full))
 
+  pub parts_there : HasTouched scope t.touched
+  parts_there = subst (λ (s : ScopeOf). HasTouched s t.touched) (sym are.scope_is) are.there
+
   pub rows_numbers : (share : ScopeOf → ℕ → ℕ) (nd ne : List ℕ) → IsChanged (λ c d e x y. IsTimes d e 0 (share scope c) 0 x y) (λ c. c < cells_in scope) od oe nd ne
-      → (f : ℕ → ℕ) (n : ℕ) → HasNumbers t f n → AllStand shift nd ne (λ c. f c * share t.scope c) (n + 1)
+      → (f : ℕ → ℕ) (n : ℕ) → HasNumbers t f n → AreNumbers (touched_cells t.touched t.scope) shift nd ne (λ c. f c * share t.scope c) (n + 1)
   rows_numbers share nd ne h f n has =
       let z : shift + 0 ≡ shift = omega arith in
       let full = parts_full in
-      subst (λ (s : ScopeOf). AllStand shift nd ne (λ c. f c * share s c) (n + 1)) are.scope_is
-      (subst (λ k. AllStand k nd ne (λ c. f c * share scope c) (n + 1)) z (times_whole (share scope) 0 od oe nd ne (cells_in scope) full.as_many_digits h shift f n (parts_stand f n has)))
+      subst (λ (s : ScopeOf). AreNumbers (touched_cells t.touched s) shift nd ne (λ c. f c * share s c) (n + 1)) are.scope_is
+      (subst (λ k. AreNumbers (touched_cells t.touched scope) k nd ne (λ c. f c * share scope c) (n + 1)) z
+      (rows_are (touched_cells t.touched scope) (share scope) od oe nd ne (cells_in scope) full.as_many_digits h shift f n (parts_numbers f n has)))
 
-  pub ratio_numbers : (ratio : TradeRatio) (chosen nd ne : List ℕ) → chosen ≡ cells_where scope ratio.condition
+  pub ratio_numbers : (ratio : TradeRatio) (chosen nd ne : List ℕ) (touched : Option (List Pair)) → chosen ≡ cells_where scope ratio.condition
       → IsChanged (λ c d e x y. IsTimes d e 40 (units_of ratio (values_at scope c ratio.variable)) 0 x y) (IsAmong chosen (length chosen)) od oe nd ne
-      → (f : ℕ → ℕ) (n : ℕ) → HasNumbers t f n → AllStand (shift + 40) nd ne (λ c. f c * ratio_there ratio (values_at t.scope c)) (n + 1)
-  ratio_numbers ratio chosen nd ne e h f n has =
+      → IsEither t.touched (Some ratio.condition) touched
+      → (f : ℕ → ℕ) (n : ℕ) → HasNumbers t f n → AreNumbers (touched_cells touched t.scope) (shift + 40) nd ne (λ c. f c * ratio_there ratio (values_at t.scope c)) (n + 1)
+  ratio_numbers ratio chosen nd ne touched e h either f n has =
       let full = parts_full in
-      subst (λ (s : ScopeOf). AllStand (shift + 40) nd ne (λ c. f c * ratio_there ratio (values_at s c)) (n + 1)) are.scope_is
-      (times_some passes (λ c. units_of ratio (values_at scope c ratio.variable)) (IsAmong chosen (length chosen)) od oe nd ne
+      subst (λ (s : ScopeOf). AreNumbers (touched_cells touched s) (shift + 40) nd ne (λ c. f c * ratio_there ratio (values_at s c)) (n + 1)) are.scope_is
+      (some_are (touched_cells t.touched scope) (touched_cells touched scope) passes (λ c. units_of ratio (values_at scope c ratio.variable)) (IsAmong chosen (length chosen)) od oe nd ne
+      (λ c l o. (false_before (touched_cells t.touched scope c) (touched_cells touched scope c) (either.of_first (values_at scope c)) o, false_before (passes c) (touched_cells touched scope c) (either.of_second (values_at scope c)) o))
       (λ c l p. subst (λ (ys : List ℕ). IsAmong ys (length ys) c) (sym e) (among_chosen passes (cells_in scope) c (omega (arith, l, full.as_many_digits)) p))
       (λ c p k. none_among passes (cells_in scope) c p (subst (λ (ys : List ℕ). IsAmong ys (length ys) c) e k))
-      h shift f n (parts_stand f n has))
+      h shift f n (parts_numbers f n has))
     where
       passes : ℕ → Bool
       passes c = holds_there ratio.condition (values_at scope c)
 
-  pub kept_numbers : (pair : Pair) (nd ne : List ℕ) → IsChanged (λ c d e x y. IsRestricted (values_at scope c pair.variable == pair.value) d e x y) (λ c. c < cells_in scope) od oe nd ne
-      → (f : ℕ → ℕ) (n : ℕ) → HasNumbers t f n → AllStand shift nd ne (λ c. cond (values_at t.scope c pair.variable == pair.value) (f c) 0) n
-  kept_numbers pair nd ne h f n has =
+  pub kept_numbers : (pair : Pair) (nd ne : List ℕ) (touched : Option (List Pair)) → IsChanged (λ c d e x y. IsRestricted (values_at scope c pair.variable == pair.value) d e x y) (λ c. c < cells_in scope) od oe nd ne
+      → IsBeside pair t.touched touched
+      → (f : ℕ → ℕ) (n : ℕ) → HasNumbers t f n → AreNumbers (touched_cells touched t.scope) shift nd ne (λ c. cond (values_at t.scope c pair.variable == pair.value) (f c) 0) n
+  kept_numbers pair nd ne touched h beside f n has =
       let full = parts_full in
-      subst (λ (s : ScopeOf). AllStand shift nd ne (λ c. cond (values_at s c pair.variable == pair.value) (f c) 0) n) are.scope_is
-      (kept_all (λ c. values_at scope c pair.variable == pair.value) od oe nd ne (cells_in scope) full.as_many_digits h shift f n (parts_stand f n has))
+      subst (λ (s : ScopeOf). AreNumbers (touched_cells touched s) shift nd ne (λ c. cond (values_at s c pair.variable == pair.value) (f c) 0) n) are.scope_is
+      (kept_are (touched_cells t.touched scope) (touched_cells touched scope) (λ c. values_at scope c pair.variable == pair.value) od oe nd ne (cells_in scope) full.as_many_digits
+      (λ c l k o. false_before (touched_cells t.touched scope c) (touched_cells touched scope c) (beside.holds (values_at scope c) (eqb-true (values_at scope c pair.variable) pair.value k)) o)
+      h shift f n (parts_numbers f n has))
 
-  pub message_numbers : (m : TableOf) (part : ScopeOf) (k : ℕ) (md me : List ℕ) → AreParts m part k md me → (nd ne : List ℕ)
-      → ((j : ℕ) (g : ℕ → ℕ) (p : ℕ) → AllStand j md me g p → IsChanged (λ c d e x y. IsTimes d e j (g (cell_in part scope c)) p x y) (λ c. c < cells_in scope) od oe nd ne)
-      → (f g : ℕ → ℕ) (n p : ℕ) → HasNumbers t f n → HasNumbers m g p → AllStand (shift + k) nd ne (λ c. f c * g (cell_in m.scope t.scope c)) (n + p + 1)
-  message_numbers m part k md me others nd ne h f g n p has other =
+  pub message_numbers : (m : TableOf) (part : ScopeOf) (k : ℕ) (md me : List ℕ) → AreParts m part k md me → (nd ne : List ℕ) (touched : Option (List Pair)) → LiesIn m.scope t.scope
+      → IsChanged (λ c d e x y. IsTimesCell d e (slice_index md (cell_in part scope c)) (slice_index me (cell_in part scope c)) x y) (λ c. c < cells_in scope) od oe nd ne
+      → IsEither t.touched m.touched touched
+      → (f g : ℕ → ℕ) (n p : ℕ) → HasNumbers t f n → HasNumbers m g p → AreNumbers (touched_cells touched t.scope) (shift + k) nd ne (λ c. f c * g (cell_in m.scope t.scope c)) (n + p + 1)
+  message_numbers m part k md me others nd ne touched lies h either f g n p has other =
       let full = parts_full in
-      subst (λ (s : ScopeOf). AllStand (shift + k) nd ne (λ c. f c * g (cell_in m.scope s c)) (n + p + 1)) are.scope_is
-      (subst (λ (s : ScopeOf). AllStand (shift + k) nd ne (λ c. f c * g (cell_in s scope c)) (n + p + 1)) others.scope_is
-      (times_all (λ c. g (cell_in part scope c)) k p od oe nd ne (cells_in scope) full.as_many_digits (h k g p (message_stand f g n p other)) shift f n (parts_stand f n has)))
+      subst (λ (s : ScopeOf). AreNumbers (touched_cells touched s) (shift + k) nd ne (λ c. f c * g (cell_in m.scope s c)) (n + p + 1)) are.scope_is
+      (subst (λ (s : ScopeOf). AreNumbers (touched_cells touched scope) (shift + k) nd ne (λ c. f c * g (cell_in s scope c)) (n + p + 1)) others.scope_is
+      (cells_are (touched_cells t.touched scope) (touched_cells touched scope) (touched_cells m.touched part) (λ c. cell_in part scope c) md me od oe nd ne (cells_in scope) full.as_many_digits
+      (λ c l. omega (arith, other_full.as_many_digits, cell_within part scope lies_too c l))
+      (λ c l o. (false_before (touched_cells t.touched scope c) (touched_cells touched scope c) (either.of_first (values_at scope c)) o,
+      touched_in part scope m.touched lies_too other_there c l ∙ false_before (touched_cells m.touched scope c) (touched_cells touched scope c) (either.of_second (values_at scope c)) o))
+      h shift k f g n p (parts_numbers f n has) message))
     where
-      message_stand : (f g : ℕ → ℕ) (n p : ℕ) → HasNumbers m g p → AllStand k md me g p
-      message_stand f g n p other =
-          subst (λ j. AllStand j md me g p) (sym others.shift_is) (subst (λ (ys : List ℕ). AllStand m.shift ys me g p) (sym others.digits_are) (subst (λ (ys : List ℕ). AllStand m.shift m.digits ys g p) (sym others.exponents_are) other.stand))
+      lies_too : LiesIn part scope
+      lies_too = subst (λ (s : ScopeOf). LiesIn s scope) (sym others.scope_is) (subst (λ (s : ScopeOf). LiesIn m.scope s) (sym are.scope_is) lies)
+
+      other_there : HasTouched part m.touched
+      other_there = subst (λ (s : ScopeOf). HasTouched s m.touched) (sym others.scope_is) others.there
+
+      other_full : IsFull part md me
+      other_full =
+          subst (λ (s : ScopeOf). IsFull s md me) (sym others.scope_is) (subst (λ (ys : List ℕ). IsFull m.scope ys me) (sym others.digits_are) (subst (λ (ys : List ℕ). IsFull m.scope m.digits ys) (sym others.exponents_are) others.full))
+
+      message : AreNumbers (touched_cells m.touched part) k md me g p
+      message =
+          subst (λ (s : ScopeOf). AreNumbers (touched_cells m.touched s) k md me g p) (sym others.scope_is)
+          (subst (λ j. AreNumbers (touched_cells m.touched m.scope) j md me g p) (sym others.shift_is)
+          (subst (λ (ys : List ℕ). AreNumbers (touched_cells m.touched m.scope) m.shift ys me g p) (sym others.digits_are)
+          (subst (λ (ys : List ℕ). AreNumbers (touched_cells m.touched m.scope) m.shift m.digits ys g p) (sym others.exponents_are) (record { stand = other.stand; own = other.own }))))
 
 -- ---- sums
 
@@ -97,16 +150,73 @@ where_within scope event =
     All-weaker (λ c. (holds_there event (values_at scope c) ≡ true) × (c < cells_in scope)) (λ c. 0 + c < cells_in scope) (λ c h. omega (arith, h.1)) (cells_where scope event)
     (chosen_pass (λ c. holds_there event (values_at scope c)) (cells_in scope))
 
-pub onto_stand : (plus : ℕ → ℕ → ℕ) (k : ℕ) (part whole : ScopeOf) (bases offsets nd ne : List ℕ) (f : ℕ → ℕ) (n : ℕ) → length nd ≡ cells_in part → length offsets ≤ cells_in whole
-    → ((d : ℕ) → d < cells_in part → map (λ c. slice_index bases d + c) offsets ≡ cells_onto part whole d)
-    → AllStand k nd ne (λ b. plus_over plus 0 (λ c. f (slice_index bases b + c)) offsets) (n + 2 * length offsets)
-    → AllStand k nd ne (λ d. plus_over plus 0 f (cells_onto part whole d)) (n + 2 * cells_in whole)
-onto_stand plus k part whole bases offsets nd ne f n long few onto h = record {
-  each = λ d l.
-      stands_with_more k (slice_index nd d) (slice_index ne d) (plus_over plus 0 f (cells_onto part whole d)) (n + 2 * length offsets) (n + 2 * cells_in whole) (omega arith)
-      (subst (λ v. StandsAt k (slice_index nd d) (slice_index ne d) v (n + 2 * length offsets))
-      (sym (plus_over-map plus 0 f (λ c. slice_index bases d + c) offsets) ∙ ap (plus_over plus 0 f) (onto d (omega (arith, long)))) (h.each d l));
-}
+-- each of two arrays' cells is the plus of the cells that lie so far from its base
+abbrev pub ArePluses : (ℕ → ℕ → ℕ) → List ℕ → List ℕ → List ℕ → List ℕ → List ℕ → List ℕ → Type 0
+ArePluses plus bases offsets od oe nd ne =
+    (b : ℕ) → b < length bases → (k : ℕ) (f : ℕ → ℕ) (n : ℕ) → StandListed k od oe f n (slice_index bases b) offsets
+    → StandsAt k (slice_index nd b) (slice_index ne b) (plus_over plus 0 (λ c. f (slice_index bases b + c)) offsets) (n + 2 * length offsets)
+
+module _ (plus : ℕ → ℕ → ℕ) (law : Lawful plus) where
+  module _ (part whole : ScopeOf) (lies : LiesIn part whole) (bases offsets od oe nd ne : List ℕ) (full : IsFull whole od oe) (few : length offsets ≤ cells_in whole)
+      (bases_long : length bases ≡ cells_in part) (onto : (d : ℕ) → d < cells_in part → map (λ c. slice_index bases d + c) offsets ≡ cells_onto part whole d)
+      (long : length nd ≡ cells_in part) (pluses : ArePluses plus bases offsets od oe nd ne) where
+    sum_is : (f : ℕ → ℕ) (d : ℕ) → d < cells_in part → plus_over plus 0 (λ c. f (slice_index bases d + c)) offsets ≡ plus_over plus 0 f (cells_onto part whole d)
+    sum_is f d l = sym (plus_over-map plus 0 f (λ c. slice_index bases d + c) offsets) ∙ ap (plus_over plus 0 f) (onto d l)
+
+    stand_onto : (k : ℕ) (f : ℕ → ℕ) (n : ℕ) → AllStand k od oe f n → (d : ℕ) → d < cells_in part
+        → StandsAt k (slice_index nd d) (slice_index ne d) (plus_over plus 0 f (cells_onto part whole d)) (n + 2 * cells_in whole)
+    stand_onto k f n a d l =
+        let within : All (λ c. slice_index bases d + c < length od) offsets = rw full.as_many_digits (onto_within part whole (slice_index bases d) offsets d (onto d l)) in
+        stands_with_more k (slice_index nd d) (slice_index ne d) (plus_over plus 0 f (cells_onto part whole d)) (n + 2 * length offsets) (n + 2 * cells_in whole) (omega arith)
+        (subst (λ v. StandsAt k (slice_index nd d) (slice_index ne d) v (n + 2 * length offsets)) (sum_is f d l)
+        (pluses d (omega arith) k f n (all_listed k od oe f n (slice_index bases d) offsets within a)))
+
+    own_onto : (before after : Option (List Pair)) → IsWithin part before after → (k : ℕ) (f : ℕ → ℕ) (n : ℕ) → AreNumbers (touched_cells before whole) k od oe f n → (d : ℕ) → d < cells_in part
+        → touched_cells after part d ≡ false → IsOwnAt k (slice_index nd d) (slice_index ne d) (plus_over plus 0 f (cells_onto part whole d)) (n + 2 * cells_in whole)
+    own_onto before after within k f n a d l t =
+        own_more k (slice_index nd d) (slice_index ne d) (plus_over plus 0 f (cells_onto part whole d)) (n + 2 * length offsets) (n + 2 * cells_in whole) (omega arith)
+        (subst (λ v. IsOwnAt k (slice_index nd d) (slice_index ne d) v (n + 2 * length offsets)) (sum_is f d l)
+        (own_over plus law k od oe f n (slice_index bases d) offsets (slice_index nd d) (slice_index ne d) (n + 2 * length offsets) listed (pluses d (omega arith) 0 (λ c. f c / 2 ^ k) n)))
+      where
+        cell_own : (c : ℕ) → (cell_in part whole c == d) ≡ true → c < cells_in whole → IsOwnAt k (slice_index od c) (slice_index oe c) (f c) n
+        cell_own c e m =
+            let out : touched_cells after whole c ≡ false =
+            sym (touched_in part whole after lies within.there c m) ∙ ap (touched_cells after part) (eqb-true (cell_in part whole c) d e) ∙ t in
+            a.own c (omega (arith, m, full.as_many_digits)) (false_before (touched_cells before whole c) (touched_cells after whole c) (within.holds (values_at whole c)) out)
+
+        listed : All (λ c. IsOwnAt k (slice_index od (slice_index bases d + c)) (slice_index oe (slice_index bases d + c)) (f (slice_index bases d + c)) n) offsets
+        listed =
+            All_unmap (λ c. IsOwnAt k (slice_index od c) (slice_index oe c) (f c) n) (λ c. slice_index bases d + c) offsets
+            (subst (λ (ys : List ℕ). All (λ c. IsOwnAt k (slice_index od c) (slice_index oe c) (f c) n) ys) (sym (onto d l))
+            (All-weaker (λ c. ((cell_in part whole c == d) ≡ true) × (c < cells_in whole)) (λ c. IsOwnAt k (slice_index od c) (slice_index oe c) (f c) n) (λ c h. cell_own c h.0 h.1)
+            (cells_onto part whole d) (chosen_pass (λ c. cell_in part whole c == d) (cells_in whole))))
+
+    pub margin_numbers : (before after : Option (List Pair)) → IsWithin part before after → (k : ℕ) (f : ℕ → ℕ) (n : ℕ) → AreNumbers (touched_cells before whole) k od oe f n
+        → AreNumbers (touched_cells after part) k nd ne (λ d. plus_over plus 0 f (cells_onto part whole d)) (n + 2 * cells_in whole)
+    margin_numbers before after within k f n a = record {
+      stand = record { each = λ d l. stand_onto k f n a.stand d (omega (arith, l, long)) };
+      own = λ d l t. own_onto before after within k f n a d (omega (arith, l, long)) t;
+    }
+
+  -- the cells of an event that no ratio touched
+  pub total_own : (scope : ScopeOf) (event : List Pair) (touched : Option (List Pair)) (od oe : List ℕ) → IsFull scope od oe → is_untouched_by touched event ≡ true
+      → (k : ℕ) (f : ℕ → ℕ) (n : ℕ) → AreNumbers (touched_cells touched scope) k od oe f n → (q x count : ℕ) → length (cells_where scope event) ≤ count
+      → ((j : ℕ) (g : ℕ → ℕ) → StandListed j od oe g n 0 (cells_where scope event) → StandsAt j q x (plus_over plus 0 (λ c. g (0 + c)) (cells_where scope event)) (n + 2 * length (cells_where scope event)))
+      → IsOwnAt k q x (plus_over plus 0 f (cells_where scope event)) (n + 2 * count)
+  total_own scope event touched od oe full untouched k f n a q x count few made =
+      own_more k q x (plus_over plus 0 f (cells_where scope event)) (n + 2 * length (cells_where scope event)) (n + 2 * count) (omega arith)
+      (subst (λ (g : ℕ → ℕ). IsOwnAt k q x (plus_over plus 0 g (cells_where scope event)) (n + 2 * length (cells_where scope event))) (fun_ext (λ c. ap f (zero-add c)))
+      (own_over plus law k od oe f n 0 (cells_where scope event) q x (n + 2 * length (cells_where scope event)) listed (made 0 (λ c. f c / 2 ^ k))))
+    where
+      cell_own : (c : ℕ) → holds_there event (values_at scope c) ≡ true → c < cells_in scope → IsOwnAt k (slice_index od (0 + c)) (slice_index oe (0 + c)) (f (0 + c)) n
+      cell_own c h l =
+          subst (λ i. IsOwnAt k (slice_index od i) (slice_index oe i) (f i) n) (sym (zero-add c))
+          (a.own c (omega (arith, l, full.as_many_digits)) (untouched_there touched event (values_at scope c) untouched h))
+
+      listed : All (λ c. IsOwnAt k (slice_index od (0 + c)) (slice_index oe (0 + c)) (f (0 + c)) n) (cells_where scope event)
+      listed =
+          All-weaker (λ c. (holds_there event (values_at scope c) ≡ true) × (c < cells_in scope)) (λ c. IsOwnAt k (slice_index od (0 + c)) (slice_index oe (0 + c)) (f (0 + c)) n) (λ c h. cell_own c h.0 h.1)
+          (cells_where scope event) (chosen_pass (λ c. holds_there event (values_at scope c)) (cells_in scope))
 
 pub total_stands : (plus : ℕ → ℕ → ℕ) (k q x : ℕ) (chosen : List ℕ) (count : ℕ) (f : ℕ → ℕ) (n : ℕ) → length chosen ≤ count
     → StandsAt k q x (plus_over plus 0 (λ c. f (0 + c)) chosen) (n + 2 * length chosen) → StandsAt k q x (plus_over plus 0 f chosen) (n + 2 * count)
@@ -115,7 +225,34 @@ total_stands plus k q x chosen count f n few h =
     (subst (λ (g : ℕ → ℕ). StandsAt k q x (plus_over plus 0 g chosen) (n + 2 * length chosen)) (fun_ext (λ c. ap f (zero-add c))) h)
 
 -- the arrays as their vectors keep them
-pub stand_items : {Y Z : Type 0} (v : Vec ℕ Y) (w : Vec ℕ Z) (nd ne : List ℕ) → length nd ≡ v.len → length ne ≡ w.len → (k : ℕ) (f : ℕ → ℕ) (n : ℕ) → AllStand k nd ne f n
-    → AllStand k (with_items v nd).items (with_items w ne).items f n
-stand_items v w nd ne l m k f n h =
-    subst (λ (ys : List ℕ). AllStand k ys (with_items w ne).items f n) (sym (with_items_is v nd l)) (subst (λ (ys : List ℕ). AllStand k nd ys f n) (sym (with_items_is w ne m)) h)
+numbers_items : {Y Z : Type 0} (v : Vec ℕ Y) (w : Vec ℕ Z) (nd ne : List ℕ) → length nd ≡ v.len → length ne ≡ w.len → (touched : ℕ → Bool) (k : ℕ) (f : ℕ → ℕ) (n : ℕ) → AreNumbers touched k nd ne f n
+    → AreNumbers touched k (with_items v nd).items (with_items w ne).items f n
+numbers_items v w nd ne l m touched k f n h =
+    subst (λ (ys : List ℕ). AreNumbers touched k ys (with_items w ne).items f n) (sym (with_items_is v nd l)) (subst (λ (ys : List ℕ). AreNumbers touched k nd ys f n) (sym (with_items_is w ne m)) h)
+
+-- so has the table that keeps them
+pub has_after : {Y Z : Type 0} (v t : TableOf) → v ≡ t → (a : Vec ℕ Y) (b : Vec ℕ Z) (nd ne : List ℕ) → length nd ≡ a.len → length ne ≡ b.len → (touched : Option (List Pair)) (k : ℕ) (f : ℕ → ℕ) (n : ℕ)
+    → AreNumbers (touched_cells touched t.scope) k nd ne f n
+    → HasNumbers (record { scope = v.scope; shift = k; digits = (with_items a nd).items; exponents = (with_items b ne).items; touched = touched }) f n
+has_after v t e a b nd ne l m touched k f n h =
+    let i = subst (λ (s : ScopeOf). AreNumbers (touched_cells touched s) k (with_items a nd).items (with_items b ne).items f n) (sym (ap (λ (u : TableOf). u.scope) e))
+    (numbers_items a b nd ne l m (touched_cells touched t.scope) k f n h) in
+    record { stand = i.stand; own = i.own }
+
+-- and one whose touched cells are as they were
+pub has_kept : {Y Z : Type 0} (v t : TableOf) → v ≡ t → (a : Vec ℕ Y) (b : Vec ℕ Z) (nd ne : List ℕ) → length nd ≡ a.len → length ne ≡ b.len → (k : ℕ) (f : ℕ → ℕ) (n : ℕ)
+    → AreNumbers (touched_cells t.touched t.scope) k nd ne f n
+    → HasNumbers (record { scope = v.scope; shift = k; digits = (with_items a nd).items; exponents = (with_items b ne).items; touched = v.touched }) f n
+has_kept v t e a b nd ne l m k f n h =
+    has_after v t e a b nd ne l m v.touched k f n (subst (λ (o : Option (List Pair)). AreNumbers (touched_cells o t.scope) k nd ne f n) (sym (ap (λ (u : TableOf). u.touched) e)) h)
+
+-- the table that keeps the arrays that a call wrote
+pub table_after : {Y Z : Type 0} (scope : ScopeOf) (a : Vec ℕ Y) (b : Vec ℕ Z) (nd ne : List ℕ) (before after : Option (List Pair)) → IsTable scope a.items b.items before
+    → length nd ≡ a.len → length ne ≡ b.len → HasTouched scope after → IsTable scope (with_items a nd).items (with_items b ne).items after
+table_after scope a b nd ne before after h l m t = record {
+  full = record {
+    as_many_digits = ap length (with_items_is a nd l) ∙ omega (arith, l, a.ok.0, h.full.as_many_digits);
+    as_many_exponents = ap length (with_items_is b ne m) ∙ omega (arith, m, b.ok.0, h.full.as_many_exponents);
+  };
+  there = t;
+}

@@ -3,3 +3,4 @@ pub mod Columns
 pub mod Walks
 pub mod Strides
 pub mod Parts
+pub mod Touched

@@ -3,8 +3,8 @@
 ghost use Rattle.std.specs.Prelude.{◌≡◌, ℕ, ◌+◌, ◌*◌, ◌<◌, ◌≤◌, List, All, map, length, slice_index};
 ghost use Rattle.mk_net.specs.Bounds.{max_clique_cells};
 ghost use Rattle.mk_exact.specs.States.{plus_over};
-ghost use Rattle.mk_cell.specs.Cell.{AllStand, AreCells, Stands};
-ghost use Rattle.mk_table.specs.inner.Parts.{HaveRoom, block_of};
+ghost use Rattle.mk_cell.specs.Cell.{AreCells, Stands, StandsAt};
+ghost use Rattle.mk_table.specs.inner.Parts.{HaveRoom, StandListed, block_of};
 
 use mk_cell::Cell;
 use mk_semiring::Semiring;
@@ -26,8 +26,10 @@ pub(crate) fn plus_at_each<R: Semiring>(
     requires room { (k : ℕ) × HaveRoom k digits.now exponents.now (2 * length offsets.now) }
     requires digits { length out_digits.old ≡ length bases.now }
     requires exponents { length out_exponents.old ≡ length bases.now }
-    ensures stand { (k : ℕ) (f : ℕ → ℕ) (n : ℕ) → AllStand k digits.now exponents.now f n
-        → AllStand k out_digits.new out_exponents.new (λ b. plus_over R.plus_of 0 (λ c. f (slice_index bases.now b + c)) offsets.now) (n + 2 * length offsets.now) }
+    ensures stand { (b : ℕ) → b < length bases.now → (k : ℕ) (f : ℕ → ℕ) (n : ℕ)
+        → StandListed k digits.now exponents.now f n (slice_index bases.now b) offsets.now
+        → StandsAt k (slice_index out_digits.new b) (slice_index out_exponents.new b)
+        (plus_over R.plus_of 0 (λ c. f (slice_index bases.now b + c)) offsets.now) (n + 2 * length offsets.now) }
     ensures same_digits { length out_digits.new ≡ length out_digits.old }
     ensures same_exponents { length out_exponents.new ≡ length out_exponents.old }
 {
@@ -48,7 +50,7 @@ pub(crate) fn plus_at<R: Semiring>(
     requires few { length offsets.now ≤ max_clique_cells }
     requires within { All (λ c. base + c < length digits.now) offsets.now }
     requires room { (k : ℕ) × HaveRoom k digits.now exponents.now (2 * length offsets.now) }
-    ensures { (k : ℕ) (f : ℕ → ℕ) (n : ℕ) → AllStand k digits.now exponents.now f n
+    ensures { (k : ℕ) (f : ℕ → ℕ) (n : ℕ) → StandListed k digits.now exponents.now f n base offsets.now
         → Stands k result (plus_over R.plus_of 0 (λ c. f (base + c)) offsets.now) (n + 2 * length offsets.now) }
 {
     let blocks = offsets.len().div_ceil(BLOCK);
@@ -82,7 +84,7 @@ fn plus_of_block<R: Semiring>(
     requires few { length offsets.now ≤ 64 }
     requires within { All (λ c. base + c < length digits.now) offsets.now }
     requires cells { AreCells digits.now exponents.now }
-    ensures { (k : ℕ) (f : ℕ → ℕ) (n : ℕ) → AllStand k digits.now exponents.now f n
+    ensures { (k : ℕ) (f : ℕ → ℕ) (n : ℕ) → StandListed k digits.now exponents.now f n base offsets.now
         → Stands k result (plus_over R.plus_of 0 (λ c. f (base + c)) offsets.now) (n + length offsets.now) }
 {
     let count = offsets.len();

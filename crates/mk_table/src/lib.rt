@@ -7,6 +7,7 @@ mod scope;
 mod strides;
 mod table;
 mod times;
+mod touched;
 mod walk;
 
 pub use scope::Scope;

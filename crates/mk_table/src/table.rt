@@ -7,15 +7,16 @@ ghost use Rattle.mk_net.specs.Bounds.{max_clique_cells};
 ghost use Rattle.mk_net.specs.Trades.{trade_ratio};
 ghost use Rattle.mk_exact.specs.States.{plus_over};
 ghost use Rattle.mk_sums.specs.There.{share_there, ratio_there};
-ghost use Rattle.mk_cell.specs.Cell.{Stands};
+ghost use Rattle.mk_cell.specs.Cell.{Stands, IsOwnOf};
 ghost use Rattle.mk_table.specs.Scopes.{LiesIn, HasEvent, HasOneEach, HasSized, cells_in, has_variable};
 ghost use Rattle.mk_table.specs.Cells.{values_at, cell_in, cells_onto, cells_where};
-ghost use Rattle.mk_table.specs.Tables.{HasNumbers, HasRoom};
+ghost use Rattle.mk_table.specs.Tables.{HasNumbers, HasRoom, is_untouched};
 
 use crate::blocks::{plus_at, plus_at_each};
 use crate::scope::Scope;
 use crate::strides::CellList;
 use crate::times::{RATIO_SHIFT, keep_value, times_cells, times_shares, times_units};
+use crate::touched::{beside, either, is_untouched_by, within};
 use mk_cell::Cell;
 use mk_net::{Event, Network, NoMemory, Pair, Ratio};
 use mk_semiring::Semiring;
@@ -25,24 +26,29 @@ use std::rc::Rc;
 
 /// A scope, and a cell for each list of values of its variables. Each cell stands for a whole number, all of them under one
 /// shift, in a number of steps that each lose at most one part in `2^63`.
+///
+/// A ratio multiplies the cells that it does not touch by 2^40, for which the shift alone grows. So such a cell also stands,
+/// under no shift, for a number of its own, of which its number is a multiple. The table keeps one event for all its ratios:
+/// no ratio touched a cell where this event does not hold, nor any cell where there is none.
 #[derive(Drop)]
 pub struct Table<R: Semiring> {
     scope: Rc<Scope>,
     shift: u32,
     digits: Vec<u64>,
     exponents: Vec<u32>,
+    touched: Option<Event>,
     semiring: PhantomData<R>,
 }
 
 impl<R: Semiring> Model for Table<R> {
     ghost use Rattle.mk_table.specs.Tables.{TableOf};
-    ghost use Rattle.mk_table.specs.inner.Parts.{IsFull};
+    ghost use Rattle.mk_table.specs.inner.Parts.{IsTable};
 
     ghost Value = { TableOf };
 
-    ghost view = { λ t. record { scope = t.scope.value; shift = t.shift; digits = t.digits.items; exponents = t.exponents.items } };
+    ghost view = { λ t. record { scope = t.scope.value; shift = t.shift; digits = t.digits.items; exponents = t.exponents.items; touched = t.touched } };
 
-    ghost invariant = { λ t. IsFull t.scope.value t.digits.items t.exponents.items };
+    ghost invariant = { λ t. IsTable t.scope.value t.digits.items t.exponents.items t.touched };
 }
 
 impl<R: Semiring> Table<R> {
@@ -59,6 +65,7 @@ impl<R: Semiring> Table<R> {
             shift: 0,
             digits: vec![in alloc; one.digits; cells]?,
             exponents: vec![in alloc; one.exponent; cells]?,
+            touched: None,
             semiring: PhantomData,
         })
     }
@@ -131,6 +138,7 @@ impl<R: Semiring> Table<R> {
             &chosen,
         );
         self.shift += RATIO_SHIFT;
+        self.touched = either(&self.touched, &Some(ratio.condition));
     }
 
     /// Multiplies each cell by the message's cell that has its values.
@@ -152,6 +160,7 @@ impl<R: Semiring> Table<R> {
             &message.scope,
         );
         self.shift += message.shift;
+        self.touched = either(&self.touched, &message.touched);
     }
 
     /// Makes absent each cell that gives the pair's variable another value.
@@ -163,6 +172,7 @@ impl<R: Semiring> Table<R> {
             → HasNumbers self.new (λ c. if values_at self.old.scope c pair.variable == pair.value then f c else 0) n }
     {
         keep_value(&mut self.digits, &mut self.exponents, &self.scope, pair);
+        self.touched = beside(&self.touched, pair);
     }
 
     /// Puts each cell into a table over an equal scope.
@@ -171,6 +181,7 @@ impl<R: Semiring> Table<R> {
         ensures { out.new ≡ self.now }
     {
         out.shift = self.shift;
+        out.touched = self.touched;
         out.digits.copy_from_slice(&self.digits);
         out.exponents.copy_from_slice(&self.exponents);
     }
@@ -196,17 +207,28 @@ impl<R: Semiring> Table<R> {
             &mut out.exponents,
         );
         out.shift = self.shift;
+        out.touched = within(&self.touched, &out.scope);
     }
 
-    /// The plus of the cells where an event holds; absent where none is.
-    pub fn total(&self, event: &Event) -> Cell
+    /// The plus of the cells where an event holds; absent where none is. The list is where their numbers are written. Where
+    /// no ratio touched a cell of the event, the plus also has a number of its own.
+    pub fn total(&self, event: &Event, chosen: &mut CellList) -> Cell
         requires event { HasEvent self.now.scope event.now }
         requires room { HasRoom self.now (2 * cells_in self.now.scope) }
-        ensures { (f : ℕ → ℕ) (n : ℕ) → HasNumbers self.now f n
+        ensures stands { (f : ℕ → ℕ) (n : ℕ) → HasNumbers self.now f n
             → Stands self.now.shift result (plus_over R.plus_of 0 f (cells_where self.now.scope event.now)) (n + 2 * cells_in self.now.scope) }
+        ensures own { is_untouched self.now event.now ≡ true → (f : ℕ → ℕ) (n : ℕ) → HasNumbers self.now f n
+            → IsOwnOf self.now.shift result (plus_over R.plus_of 0 f (cells_where self.now.scope event.now)) (n + 2 * cells_in self.now.scope) }
     {
-        let mut chosen = CellList::new();
-        self.scope.cells_where(event, &mut chosen);
-        plus_at::<R>(&self.digits, &self.exponents, 0, &chosen)
+        self.scope.cells_where(event, chosen);
+        plus_at::<R>(&self.digits, &self.exponents, 0, chosen)
+    }
+
+    /// Whether no ratio touched a cell where an event holds, as the table knows: it keeps no event of touched cells, or that
+    /// event contradicts this one. Such cells have numbers of their own.
+    pub fn is_untouched(&self, event: &Event) -> bool
+        ensures { result ≡ is_untouched self.now event.now }
+    {
+        is_untouched_by(&self.touched, event)
     }
 }

@@ -8,7 +8,7 @@ ghost use Rattle.mk_net.specs.Trades.{trade_ratio};
 ghost use Rattle.mk_table.specs.Scopes.{ScopeOf, HasEvent, HasOneEach};
 ghost use Rattle.mk_table.specs.Tables.{HasRoom};
 
-use crate::{Scope, Table};
+use crate::{CellList, Scope, Table};
 use arrayvec::ArrayVec;
 use mk_cell::Cell;
 use mk_net::{Draft, Event, Network, NoMemory, Pair, Ratio, VarSet, VariableDraft};
@@ -23,6 +23,11 @@ const UNIT: u64 = 1 << 40;
 const RAIN: Pair = Pair {
     variable: 0,
     value: 1,
+};
+
+const DRY: Pair = Pair {
+    variable: 0,
+    value: 0,
 };
 
 const MIDDLE: Pair = Pair {
@@ -175,9 +180,10 @@ fn totals<R: Semiring>(table: &mut Table<R>) -> (Cell, Cell)
         Some(event) => event,
         None => Event::empty(),
     };
-    let before = table.total(&event);
+    let mut chosen = CellList::new();
+    let before = table.total(&event, &mut chosen);
     table.restrict(MIDDLE);
-    (before, table.total(&Event::empty()))
+    (before, table.total(&Event::empty(), &mut chosen))
 }
 
 /// The cell of a number under a shift; what is exact has one form.
@@ -364,5 +370,38 @@ fn ratios_in_a_row(rt: HostRuntime) -> Result<(), Fail> {
     check(&rt, table.get(8), 3, 40);
     check(&rt, table.get(9), 45, 80);
     check(&rt, table.get(10), 0, 80);
+    Ok(())
+}
+
+#[test]
+fn untouched(rt: HostRuntime) -> Result<(), Fail> {
+    let net = network(&rt, rt.alloc())?;
+    let mut table = ones::<SumProd>(rt.alloc(), &net)?;
+    let dry = only(&rt, DRY);
+    let rain = only(&rt, RAIN);
+    assert!(rt; table.is_untouched(&Event::empty()));
+    trade(&mut table, &each_heat(&rt, rain));
+    assert!(rt; table.is_untouched(&dry));
+    assert!(rt; !table.is_untouched(&rain));
+    assert!(rt; !table.is_untouched(&only(&rt, WARM)));
+    // The pair that both conditions have is kept alone.
+    table.times_ratio(&each_heat(&rt, rain.with(HIGH).expect(&rt, "two pairs")));
+    assert!(rt; table.is_untouched(&dry));
+    assert!(rt; !table.is_untouched(&only(&rt, MIDDLE)));
+    // Where it is known to be dry, no cell that is left was touched.
+    table.restrict(DRY);
+    assert!(rt; table.is_untouched(&Event::empty()));
+    Ok(())
+}
+
+#[test]
+fn untouched_after_two_conditions(rt: HostRuntime) -> Result<(), Fail> {
+    let net = network(&rt, rt.alloc())?;
+    let mut table = ones::<SumProd>(rt.alloc(), &net)?;
+    trade(&mut table, &each_heat(&rt, only(&rt, RAIN)));
+    trade(&mut table, &each_rain(&rt));
+    assert!(rt; !table.is_untouched(&only(&rt, DRY)));
+    table.restrict(RAIN);
+    assert!(rt; !table.is_untouched(&only(&rt, DRY)));
     Ok(())
 }

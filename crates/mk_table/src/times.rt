@@ -7,10 +7,10 @@ ghost use Rattle.mk_net.specs.Asked.{ratio_pairs};
 ghost use Rattle.mk_net.specs.Trades.{trade_ratio};
 ghost use Rattle.mk_exact.specs.Ratios.{units_of};
 ghost use Rattle.mk_sums.specs.There.{share_there};
-ghost use Rattle.mk_cell.specs.Cell.{AllStand, IsCell, Stands};
+ghost use Rattle.mk_cell.specs.Cell.{IsCell, Stands};
 ghost use Rattle.mk_table.specs.Scopes.{LiesIn, HasEvent, HasOneEach, HasSized, cells_in, has_variable};
 ghost use Rattle.mk_table.specs.Cells.{values_at, cell_in, cells_where};
-ghost use Rattle.mk_table.specs.inner.Parts.{IsFull, HaveRoom, IsTimes, IsChanged, IsAmong, IsRestricted};
+ghost use Rattle.mk_table.specs.inner.Parts.{IsFull, HaveRoom, IsTimes, IsTimesCell, IsChanged, IsAmong, IsRestricted};
 
 use crate::picked::{share_of, units_for};
 use crate::scope::Scope;
@@ -101,8 +101,8 @@ pub(crate) fn times_cells(
     requires other_full { IsFull other_scope.now other_digits.now other_exponents.now }
     requires room { (k : ℕ) × HaveRoom k digits.old exponents.old 1 }
     requires other_room { (k : ℕ) × HaveRoom k other_digits.now other_exponents.now 1 }
-    ensures { (k : ℕ) (g : ℕ → ℕ) (p : ℕ) → AllStand k other_digits.now other_exponents.now g p
-        → IsChanged (λ c d e x y. IsTimes d e k (g (cell_in other_scope.now scope.now c)) p x y)
+    ensures { IsChanged (λ c d e x y. IsTimesCell d e (slice_index other_digits.now (cell_in other_scope.now scope.now c))
+        (slice_index other_exponents.now (cell_in other_scope.now scope.now c)) x y)
         (λ c. c < cells_in scope.now) digits.old exponents.old digits.new exponents.new }
 {
     let mut walk = Walk::begin(other_scope, scope);

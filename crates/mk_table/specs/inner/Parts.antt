@@ -1,13 +1,29 @@
 -- Tables by their parts: two arrays, and what is done to their cells.
-use Rattle.std.specs.Prelude.{◌≡◌, ℕ, ◌+◌, ◌*◌, ◌<◌, Bool, true, false, List, length, slice_index, take, drop}
-use Rattle.mk_cell.specs.Cell.{AllStand, StandsAt}
+use Rattle.std.specs.Prelude.{◌≡◌, ℕ, ◌+◌, ◌*◌, ◌<◌, Bool, true, false, List, All, Option, length, slice_index, take, drop}
+use Rattle.mk_net.specs.declared.words.Pair.{Pair}
+use Rattle.mk_cell.specs.Cell.{AllStand, StandsAt, IsOwnAt}
 use Rattle.mk_table.specs.Scopes.{ScopeOf, cells_in}
 use Rattle.mk_table.specs.Tables.{max_steps, max_shift}
+use Rattle.mk_table.specs.inner.Touched.{HasTouched}
 
 -- both arrays have a place for each cell of the scope
 pub record IsFull (scope : ScopeOf) (digits exponents : List ℕ) : Type 0 where
   pub as_many_digits : length digits ≡ cells_in scope
   pub as_many_exponents : length exponents ≡ cells_in scope
+
+-- a table as it is kept: its arrays are full, and its scope has the variables of the event that ratios may have touched
+pub record IsTable (scope : ScopeOf) (digits exponents : List ℕ) (touched : Option (List Pair)) : Type 0 where
+  pub full : IsFull scope digits exponents
+  pub there : HasTouched scope touched
+
+-- each cell of two arrays stands for its number of f, and each that no ratio touched for one of its own
+pub record AreNumbers (touched : ℕ → Bool) (shift : ℕ) (digits exponents : List ℕ) (f : ℕ → ℕ) (steps : ℕ) : Type 0 where
+  pub stand : AllStand shift digits exponents f steps
+  pub own : (c : ℕ) → c < length digits → touched c ≡ false → IsOwnAt shift (slice_index digits c) (slice_index exponents c) (f c) steps
+
+-- the cells that lie so far from a base stand for their numbers of f
+pub record StandListed (shift : ℕ) (digits exponents : List ℕ) (f : ℕ → ℕ) (steps base : ℕ) (offsets : List ℕ) : Type 0 where
+  pub listed : All (λ c. StandsAt shift (slice_index digits (base + c)) (slice_index exponents (base + c)) (f (base + c)) steps) offsets
 
 -- two arrays whose cells stand under a shift, with room for so many steps more
 pub record HaveRoom (shift : ℕ) (digits exponents : List ℕ) (more : ℕ) : Type 0 where
@@ -21,6 +37,10 @@ pub record HaveRoom (shift : ℕ) (digits exponents : List ℕ) (more : ℕ) : T
 -- A cell becomes another, which stands for the product by a number under a shift, in one step more than both.
 pub record IsTimes (digits exponent shift number steps new_digits new_exponent : ℕ) : Type 0 where
   pub stands : (j v n : ℕ) → StandsAt j digits exponent v n → StandsAt (j + shift) new_digits new_exponent (v * number) (n + steps + 1)
+
+-- A cell becomes another, which stands for the product by whatever a third cell stands for.
+pub record IsTimesCell (digits exponent other_digits other_exponent new_digits new_exponent : ℕ) : Type 0 where
+  pub times : (k w p : ℕ) → StandsAt k other_digits other_exponent w p → IsTimes digits exponent k w p new_digits new_exponent
 
 -- Of two arrays the cells that are reached are changed as R says, and the others are as they were.
 pub record IsChanged (R : ℕ → ℕ → ℕ → ℕ → ℕ → Type 0) (reached : ℕ → Type 0) (old_digits old_exponents digits exponents : List ℕ) : Type 0 where

@@ -21,8 +21,9 @@ pub belief-all-requires : goal.belief-all-requires
 belief-all-requires g c =
     let w = c.args.weather.now in
     let m = with_factor (RowsOf 1) (with_factor (RowsOf 0) (opening w.net w.tree)) in
-    rw c.belief-rain.ensures.kept (record {
-      meaning = with_known (record { variable = 0; value = 0 }) m;
-      stands = c.know.ensures m c.in_ok-engine.ensures;
+    let wet = with_known (record { variable = 0; value = 0 }) m in
+    record {
+      meaning = wet;
+      stands = c.belief-rain.ensures.kept wet (c.know.ensures m c.in_ok-engine.ensures);
       in_range = rw c.empty.ensures (All-nil (IsPairOf w.net));
-    })
+    }

@@ -2,11 +2,11 @@ use Rattle.std.proofs.Common.{◌+◌, ◌*◌, ◌<◌, ◌≤◌, ℕ, List, l
 use Rattle.std.proofs.Math.ListN.{length-set}
 use Rattle.std.proofs.lemmas.Grind.{div_ceil_times}
 use Rattle.mk_exact.specs.States.{plus_over}
-use Rattle.mk_cell.specs.Cell.{AllStand, AreCells, StandsAt}
+use Rattle.mk_cell.specs.Cell.{AreCells, StandsAt}
 use Rattle.mk_cell.specs.Passes.{plus_below}
 use Rattle.mk_cell.specs.inner.Laws.{all_have_room, stands_with_more}
-use Rattle.mk_table.specs.inner.Parts.{HaveRoom, block_of}
-use Rattle.mk_table.proofs.Blocked.{first_stand, blocks_all, block_within, block_few, block_at_most, written_next}
+use Rattle.mk_table.specs.inner.Parts.{HaveRoom, StandListed, block_of}
+use Rattle.mk_table.proofs.Blocked.{first_stand, blocks_all, block_within, block_listed, all_listed, block_few, block_at_most, written_next}
 use Rattle.mk_table.proofs.blocks.plus_at.Goals as goal
 
 cells_of_room : (k more : ℕ) (d e : List ℕ) → HaveRoom k d e more → AreCells d e
@@ -39,12 +39,12 @@ loop-block-preserved g c =
       long = length-set c.loop-block.block_digits b c.plus_of_block-cell.result.digits ∙ c.loop-block.invariant.long;
       long_too = length-set c.loop-block.block_exponents b c.plus_of_block-cell.result.exponent ∙ c.loop-block.invariant.long_too;
       stand = written_next
-          (λ i q x. (k : ℕ) (f : ℕ → ℕ) (n : ℕ) → AllStand k c.args.digits.now c.args.exponents.now f n → StandsAt k q x (plus_over R.plus_of 0 (λ j. f (c.args.base + j)) (block_of xs i)) (n + length xs))
+          (λ i q x. (k : ℕ) (f : ℕ → ℕ) (n : ℕ) → StandListed k c.args.digits.now c.args.exponents.now f n c.args.base xs → StandsAt k q x (plus_over R.plus_of 0 (λ j. f (c.args.base + j)) (block_of xs i)) (n + length xs))
           b c.plus_of_block-cell.result.digits c.plus_of_block-cell.result.exponent c.loop-block.block_digits c.loop-block.block_exponents
           (omega (arith, few, l, c.loop-block.invariant.long)) (omega (arith, few, l, c.loop-block.invariant.long_too)) c.loop-block.invariant.stand
           (λ k f n a.
           let made : StandsAt k c.plus_of_block-cell.result.digits c.plus_of_block-cell.result.exponent (plus_over R.plus_of 0 (λ j. f (c.args.base + j)) (block_of xs b)) (n + length (block_of xs b)) =
-          subst (λ (ys : List ℕ). StandsAt k c.plus_of_block-cell.result.digits c.plus_of_block-cell.result.exponent (plus_over R.plus_of 0 (λ j. f (c.args.base + j)) ys) (n + length ys)) c.block_of.ensures (c.plus_of_block-cell.ensures k f n a) in
+          subst (λ (ys : List ℕ). StandsAt k c.plus_of_block-cell.result.digits c.plus_of_block-cell.result.exponent (plus_over R.plus_of 0 (λ j. f (c.args.base + j)) ys) (n + length ys)) c.block_of.ensures (c.plus_of_block-cell.ensures k f n (rw c.block_of.ensures (block_listed k c.args.digits.now c.args.exponents.now f n c.args.base xs b a))) in
           let few_more = block_few xs b in
           stands_with_more k _ _ _ (n + length (block_of xs b)) (n + length xs) (omega arith) made);
     }
@@ -61,7 +61,8 @@ over-requires g c =
     (λ b. plus_over R.plus_of 0 (λ j. room.numbers (c.args.base + j)) (block_of xs b)) (room.steps + length xs) room.small_shift (omega arith)
     (length-take-le blocks c.loop-block.block_exponents m ∙ sym (length-take-le blocks c.loop-block.block_digits l))
     (first_stand c.requires.room.0 c.loop-block.block_digits c.loop-block.block_exponents (λ b. plus_over R.plus_of 0 (λ j. room.numbers (c.args.base + j)) (block_of xs b)) (room.steps + length xs) blocks l
-    (λ b p. c.loop-block.invariant.stand b (omega (arith, c.loop-block-test.false)) c.requires.room.0 room.numbers room.steps room.stand))
+    (λ b p. c.loop-block.invariant.stand b (omega (arith, c.loop-block-test.false)) c.requires.room.0 room.numbers room.steps
+    (all_listed c.requires.room.0 c.args.digits.now c.args.exponents.now room.numbers room.steps c.args.base xs c.requires.within room.stand)))
 
 pub returns : goal.returns
 returns g c = λ k f n a.

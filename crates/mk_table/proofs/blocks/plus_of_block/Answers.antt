@@ -21,6 +21,6 @@ returns g c = λ k f n a.
     let are : AreGathered at count c.args.digits.now c.args.exponents.now (take count c.loop-place.block_digits) (take count c.loop-place.block_exponents) =
     gathered_first at count c.args.digits.now c.args.exponents.now c.loop-place.block_digits c.loop-place.block_exponents (omega (arith, c.requires.few, c.loop-place.invariant.long)) (omega (arith, c.requires.few, c.loop-place.invariant.long_too))
     (λ i l. c.requires.within i 0 l) (λ i l. c.loop-place.invariant.digits i (omega (arith, c.loop-place-test.false))) (λ i l. c.loop-place.invariant.exponents i (omega (arith, c.loop-place-test.false))) in
-    let made = c.over.ensures k (λ i. f (at i)) n (gathered_stand at count c.args.digits.now c.args.exponents.now _ _ are k f n a) in
+    let made = c.over.ensures k (λ i. f (at i)) n (gathered_stand at count c.args.digits.now c.args.exponents.now _ _ are k f n (λ i l. a.listed i 0 l)) in
     let same = subst (λ m. StandsAt k c.over.result.digits c.over.result.exponent (plus_below R.plus_of m (λ i. f (at i))) (n + m)) are.long made in
     subst (λ v. StandsAt k c.over.result.digits c.over.result.exponent v (n + count)) (gathered_all R.plus_of g.met.R.Semiring.lawful (λ i. f (c.args.base + i)) c.args.offsets.now) same

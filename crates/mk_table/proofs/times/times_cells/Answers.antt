@@ -1,16 +1,14 @@
 use Rattle.std.proofs.Common.{◌≡◌, ◌<◌, ℕ, length, slice_index, subst, arith}
-use Rattle.mk_cell.specs.Cell.{StandsAt}
 use Rattle.mk_table.specs.Scopes.{cells_in}
 use Rattle.mk_table.specs.Cells.{cell_in}
-use Rattle.mk_table.specs.inner.Parts.{IsTimes, IsChanged}
+use Rattle.mk_table.specs.inner.Parts.{IsTimesCell, IsChanged}
 use Rattle.mk_table.proofs.Changes.{left_cell, room_cell, written_below}
 use Rattle.mk_table.proofs.times.times_cells.Goals as goal
 
 pub times_at-requires-clause-cell : goal.times_at-requires-clause-cell
 times_at-requires-clause-cell c =
-    let other = c.requires.other_room.1 in
     left_cell _ _ c.args.digits.now c.args.exponents.now c.loop-cell.digits c.loop-cell.exponents c.requires.room.0 1 c.loop-cell.cell c.requires.room.1
-    (c.loop-cell.invariant.some c.requires.other_room.0 other.numbers other.steps other.stand) (λ p. omega arith) (omega (arith, c.loop-cell-test.true))
+    c.loop-cell.invariant.changed (λ p. omega arith) (omega (arith, c.loop-cell-test.true))
 
 pub times_at-requires-clause-other : goal.times_at-requires-clause-other
 times_at-requires-clause-other c =
@@ -18,22 +16,23 @@ times_at-requires-clause-other c =
     (omega (arith, c.requires.other_full.as_many_digits, c.next-place.ensures.within))
 
 pub loop-cell-preserved : goal.loop-cell-preserved
-loop-cell-preserved c = record {
-  walk = c.next-place.ensures.at;
-  some = λ k g p h.
-      let goes : ℕ → ℕ = λ i. cell_in c.args.other_scope.now c.args.scope.now i in
-      let n = c.loop-cell.cell in
-      let l : n < length c.args.digits.now = omega (arith, c.loop-cell-test.true) in
-      let m : c.next-place.result < length c.args.other_digits.now = omega (arith, c.requires.other_full.as_many_digits, c.next-place.ensures.within) in
-      written_below (λ i d e x y. IsTimes d e k (g (goes i)) p x y) c.args.digits.now c.args.exponents.now c.loop-cell.digits c.loop-cell.exponents c.times_at.new.digits c.times_at.new.exponents n
-      l (omega (arith, l, c.requires.full.as_many_digits, c.requires.full.as_many_exponents)) (c.loop-cell.invariant.some k g p h) c.times_at.ensures.digits c.times_at.ensures.exponents
-      (c.times_at.ensures.times k (g (goes n)) p
-      (subst (λ i. StandsAt k (slice_index c.args.other_digits.now c.next-place.result) (slice_index c.args.other_exponents.now c.next-place.result) (g i) p) c.next-place.ensures.cell (h.each c.next-place.result m)));
-}
+loop-cell-preserved c =
+    let goes : ℕ → ℕ = λ i. cell_in c.args.other_scope.now c.args.scope.now i in
+    let m = c.args.other_digits.now in let x' = c.args.other_exponents.now in
+    let n = c.loop-cell.cell in
+    let l : n < length c.args.digits.now = omega (arith, c.loop-cell-test.true) in
+    record {
+      walk = c.next-place.ensures.at;
+      changed = written_below (λ i d e x y. IsTimesCell d e (slice_index m (goes i)) (slice_index x' (goes i)) x y) c.args.digits.now c.args.exponents.now c.loop-cell.digits c.loop-cell.exponents c.times_at.new.digits c.times_at.new.exponents n
+          l (omega (arith, l, c.requires.full.as_many_digits, c.requires.full.as_many_exponents)) c.loop-cell.invariant.changed c.times_at.ensures.digits c.times_at.ensures.exponents
+          (subst (λ i. IsTimesCell (slice_index c.loop-cell.digits n) (slice_index c.loop-cell.exponents n) (slice_index m i) (slice_index x' i) (slice_index c.times_at.new.digits n) (slice_index c.times_at.new.exponents n))
+          c.next-place.ensures.cell (record { times = c.times_at.ensures.times }));
+    }
 
 pub returns : goal.returns
-returns c = λ k g p h.
+returns c =
     let goes : ℕ → ℕ = λ i. cell_in c.args.other_scope.now c.args.scope.now i in
+    let m = c.args.other_digits.now in let x' = c.args.other_exponents.now in
     let e : c.loop-cell.cell ≡ cells_in c.args.scope.now = omega (arith, c.requires.full.as_many_digits, c.loop-cell-test.false) in
-    subst (λ n. IsChanged (λ i d e x y. IsTimes d e k (g (goes i)) p x y) (λ i. i < n) c.args.digits.now c.args.exponents.now c.loop-cell.digits c.loop-cell.exponents) e
-    (c.loop-cell.invariant.some k g p h)
+    subst (λ n. IsChanged (λ i d e x y. IsTimesCell d e (slice_index m (goes i)) (slice_index x' (goes i)) x y) (λ i. i < n) c.args.digits.now c.args.exponents.now c.loop-cell.digits c.loop-cell.exponents) e
+    c.loop-cell.invariant.changed

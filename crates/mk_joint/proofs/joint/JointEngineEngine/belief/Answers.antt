@@ -1,6 +1,7 @@
-use Rattle.std.proofs.Common.{arith, sym}
+use Rattle.std.proofs.Common.{◌+◌, ◌*◌, IsTrue, arith, sym, ◌∙◌}
+use Rattle.mk_cell.specs.Cell.{IsOwnAt}
 use Rattle.mk_joint.proofs.Tables.{has_event, has_room}
-use Rattle.mk_joint.proofs.Beliefs.{totalled, total_stands, belief_of}
+use Rattle.mk_joint.proofs.Beliefs.{totalled, total_stands, total_own, belief_of}
 use Rattle.mk_joint.proofs.joint.JointEngineEngine.belief.Goals as goal
 
 pub total-total-requires-clause-event : goal.total-total-requires-clause-event
@@ -17,13 +18,21 @@ pub of_cell-requires-clause-stands : goal.of_cell-requires-clause-stands
 of_cell-requires-clause-stands g c =
     let plus = g.R.Semiring.plus_of in let table = c.args.self.now.table in let factors = c.args.self.now.factors in let a = c.requires in let event = c.args.event.now in (
       totalled plus table factors a.meaning event a.stands,
-      rw c.shift.ensures (total_stands plus table factors a.meaning event a.stands c.total-total.result.digits c.total-total.result.exponent c.total-total.ensures),
+      rw c.shift.ensures (total_stands plus table factors a.meaning event a.stands c.total-total.result.digits c.total-total.result.exponent c.total-total.ensures.stands),
     )
 
 pub returns-clause-belief : goal.returns-clause-belief
 returns-clause-belief g c = λ m h.
     let R = g.R.Semiring in let law = g.met.R.Semiring in let table = c.args.self.now.table in let factors = c.args.self.now.factors in let event = c.args.event.now in
-    let stands = rw (sym c.shift.ensures) at (total_stands R.plus_of table factors m event h c.total-total.result.digits c.total-total.result.exponent c.total-total.ensures) in
+    let stands = rw (sym c.shift.ensures) at (total_stands R.plus_of table factors m event h c.total-total.result.digits c.total-total.result.exponent c.total-total.ensures.stands) in
     let v = totalled R.plus_of table factors m event h in
+    let own : IsTrue c.is_untouched-untouched.result → IsOwnAt c.shift.result c.total-total.result.digits c.total-total.result.exponent v (3 * (factors + 4096)) =
+    λ t. rw c.shift.ensures (total_own R.plus_of table factors m event h c.total-total.result.digits c.total-total.result.exponent (c.total-total.ensures.own (sym c.is_untouched-untouched.ensures ∙ t))) in
     belief_of R.plus_of table factors m event h R.encloses R.has_grade R.is_exact law.grade_more law.lawful c.of_cell.result
-    (c.of_cell.ensures.value v stands) c.of_cell.ensures.grade (c.of_cell.ensures.exact v stands)
+    (c.of_cell.ensures.value v stands own) c.of_cell.ensures.grade (c.of_cell.ensures.exact v stands)
+
+pub of_cell-requires-clause-own : goal.of_cell-requires-clause-own
+of_cell-requires-clause-own g c = λ t.
+    let plus = g.R.Semiring.plus_of in let table = c.args.self.now.table in let factors = c.args.self.now.factors in let a = c.requires in let event = c.args.event.now in
+    let own = total_own plus table factors a.meaning event a.stands c.total-total.result.digits c.total-total.result.exponent (c.total-total.ensures.own (sym c.is_untouched-untouched.ensures ∙ t)) in
+    (own.own, own.stands)

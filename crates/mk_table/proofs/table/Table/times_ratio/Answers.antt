@@ -1,11 +1,13 @@
 use Rattle.std.proofs.Common.{◌≡◌, arith, ap, subst, sym, ◌∙◌}
-use Rattle.mk_table.specs.Scopes.{ScopeOf}
-use Rattle.mk_table.specs.Tables.{TableOf}
-use Rattle.mk_table.specs.inner.Parts.{IsFull}
+use Rattle.std.specs.Prelude.{List, Option, Some}
+use Rattle.mk_net.specs.declared.words.Pair.{Pair}
+use Rattle.mk_table.specs.inner.Touched.{IsEither}
 use Rattle.mk_net.specs.Trades.{trade_ratio}
+use Rattle.mk_table.specs.Scopes.{ScopeOf, HasEvent}
+use Rattle.mk_table.specs.Tables.{TableOf}
 use Rattle.mk_table.specs.Cells.{cells_where}
 use Rattle.mk_table.proofs.Kept.{event_first}
-use Rattle.mk_table.proofs.Whole.{AreParts, stand_items, ratio_numbers}
+use Rattle.mk_table.proofs.Whole.{parts_of, ratio_numbers, has_after, table_after}
 use Rattle.mk_table.proofs.table.Table.times_ratio.Goals as goal
 
 pub cells_where-requires : goal.cells_where-requires
@@ -15,16 +17,17 @@ cells_where-requires g c =
 
 pub returns-clause-numbers : goal.returns-clause-numbers
 returns-clause-numbers g c = λ f n h.
-    let parts : AreParts c.args.self.now c.deref-2.result.now c.self.inside.shift c.deref_mut.result.now c.deref_mut-2.result.now = record {
-      scope_is = c.deref-2.ensures ∙ ap (λ (t : TableOf). t.scope) c.self.view_is;
-      shift_is = ap (λ (t : TableOf). t.shift) c.self.view_is;
-      digits_are = c.deref_mut.ensures.value ∙ ap (λ (t : TableOf). t.digits) c.self.view_is;
-      exponents_are = c.deref_mut-2.ensures.value ∙ ap (λ (t : TableOf). t.exponents) c.self.view_is;
-      full = subst (λ (t : TableOf). IsFull t.scope t.digits t.exponents) c.self.view_is c.self.invariant;
-    } in
+    let parts = parts_of _ c.args.self.now c.deref-2.result.now c.deref_mut.result.now c.deref_mut-2.result.now c.self.view_is c.self.invariant c.deref-2.ensures c.deref_mut.ensures.value c.deref_mut-2.ensures.value in
     let chosen : c.deref-3.result.now ≡ cells_where c.deref-2.result.now c.args.ratio.now.condition =
     c.deref-3.ensures.0 ∙ c.cells_where.ensures.cells ∙ ap (λ (s : ScopeOf). cells_where s c.args.ratio.now.condition) (c.deref.ensures ∙ sym c.deref-2.ensures) in
-    record {
-      stand = stand_items c.self.inside.digits c.self.inside.exponents c.times_units.new.digits c.times_units.new.exponents (omega (arith, c.times_units.auto.digits, c.deref_mut.ensures.len)) (omega (arith, c.times_units.auto.exponents, c.deref_mut-2.ensures.len)) _ _ _
-          (ratio_numbers c.args.self.now _ _ _ _ parts (trade_ratio c.args.ratio.now) c.deref-3.result.now c.times_units.new.digits c.times_units.new.exponents chosen c.times_units.ensures f n h);
-    }
+    has_after _ c.args.self.now c.self.view_is c.self.inside.digits c.self.inside.exponents c.times_units.new.digits c.times_units.new.exponents
+    (omega (arith, c.times_units.auto.digits, c.deref_mut.ensures.len)) (omega (arith, c.times_units.auto.exponents, c.deref_mut-2.ensures.len)) _ _ _ _
+    (ratio_numbers c.args.self.now _ _ _ _ parts (trade_ratio c.args.ratio.now) c.deref-3.result.now c.times_units.new.digits c.times_units.new.exponents c.either-self-inside.result chosen c.times_units.ensures (subst (λ (o : Option (List Pair)). IsEither o (Some c.args.ratio.now.condition) c.either-self-inside.result) (ap (λ (u : TableOf). u.touched) c.self.view_is) c.either-self-inside.ensures) f n h)
+
+pub invariant_of-self : goal.invariant_of-self
+invariant_of-self g c =
+    let there : HasEvent c.self.inside.scope.value c.args.ratio.now.condition =
+    subst (λ (s : ScopeOf). HasEvent s c.args.ratio.now.condition) (sym (ap (λ (t : TableOf). t.scope) c.self.view_is)) (event_first c.args.self.now.scope c.args.ratio.now.condition _ c.requires.event) in
+    table_after c.self.inside.scope.value c.self.inside.digits c.self.inside.exponents c.times_units.new.digits c.times_units.new.exponents _ _ c.self.invariant
+    (omega (arith, c.times_units.auto.digits, c.deref_mut.ensures.len)) (omega (arith, c.times_units.auto.exponents, c.deref_mut-2.ensures.len))
+    (c.either-self-inside.ensures.variables c.self.inside.scope.value c.self.invariant.there there)

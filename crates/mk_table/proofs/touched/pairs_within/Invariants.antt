@@ -1,0 +1,9 @@
+use Rattle.mk_table.specs.Scopes.{HasEvent}
+use Rattle.mk_table.specs.inner.Touched.{IsPart}
+use Rattle.mk_table.proofs.touched.pairs_within.Given as goal
+
+abbrev pub invariant-loop-pair : goal.invariant-loop-pair
+invariant-loop-pair l = record {
+  of_event : IsPart l.kept l.event;
+  there : HasEvent l.scope l.kept;
+}

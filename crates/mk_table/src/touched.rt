@@ -1,0 +1,122 @@
+//! The event that ratios may have touched: no ratio touched a cell where it does not hold. Leaving a pair out is always right,
+//! since more cells count as touched then.
+
+ghost use Rattle.std.specs.Prelude.{◌≡◌, ◌⊎◌, [], ◌∷◌, ◌++◌, List, Option};
+ghost use Rattle.mk_table.specs.Scopes.{HasEvent};
+ghost use Rattle.mk_table.specs.Tables.{contradicts, contradicts_pair, is_untouched_by};
+ghost use Rattle.mk_table.specs.inner.Touched.{has_pair, IsPart, IsEither, IsBeside, IsWithin};
+
+use crate::scope::Scope;
+use mk_net::{Event, Pair};
+
+/// Whether no ratio touched a cell where an event holds.
+pub(crate) fn is_untouched_by(touched: &Option<Event>, event: &Event) -> bool
+    ensures { result ≡ is_untouched_by touched.now event.now }
+{
+    match touched {
+        Some(pairs) => contradicts(pairs.pairs(), event.pairs()),
+        None => true,
+    }
+}
+
+/// An event that holds wherever one of two does: the pairs that both have, or the one that there is.
+pub(crate) fn either(first: &Option<Event>, second: &Option<Event>) -> Option<Event>
+    ensures { IsEither first.now second.now result }
+{
+    match first {
+        Some(event) => match second {
+            Some(other) => Some(common(event, other.pairs())),
+            None => Some(*event),
+        },
+        None => *second,
+    }
+}
+
+/// An event that holds wherever another does beside a pair: none where the pair contradicts it.
+pub(crate) fn beside(touched: &Option<Event>, pair: Pair) -> Option<Event>
+    ensures { IsBeside pair touched.now result }
+{
+    match touched {
+        Some(event) => {
+            if contradicts_pair(event.pairs(), pair) {
+                None
+            } else {
+                Some(*event)
+            }
+        }
+        None => None,
+    }
+}
+
+/// An event that holds wherever another does: the pairs whose variables a scope has.
+pub(crate) fn within(touched: &Option<Event>, scope: &Scope) -> Option<Event>
+    ensures { IsWithin scope.now touched.now result }
+{
+    match touched {
+        Some(event) => Some(pairs_within(event, scope)),
+        None => None,
+    }
+}
+
+/// Whether one of the pairs gives the pair's variable another value.
+fn contradicts_pair(pairs: &[Pair], pair: Pair) -> bool
+    ensures { result ≡ contradicts_pair pairs.now pair }
+{
+    pairs
+        .iter()
+        .any(|p| p.variable == pair.variable && p.value != pair.value)
+}
+
+/// Whether a pair of the first gives a variable another value than one of the second does.
+fn contradicts(first: &[Pair], second: &[Pair]) -> bool
+    ensures { result ≡ contradicts first.now second.now }
+{
+    second.iter().any(|pair| contradicts_pair(first, *pair))
+}
+
+/// Whether a pair is one of some.
+fn has_pair(pairs: &[Pair], pair: Pair) -> bool
+    ensures { result ≡ has_pair pairs.now pair }
+{
+    pairs
+        .iter()
+        .any(|p| p.variable == pair.variable && p.value == pair.value)
+}
+
+/// The pairs of an event that are some of others.
+fn common(event: &Event, others: &[Pair]) -> Event
+    ensures first { IsPart result event.now }
+    ensures second { IsPart result others.now }
+{
+    let mut shared = Event::empty();
+    for pair in event.pairs() {
+        if has_pair(others, *pair) {
+            shared = with_pair(&shared, *pair);
+        }
+    }
+    shared
+}
+
+/// The pairs of an event whose variables a scope has.
+fn pairs_within(event: &Event, scope: &Scope) -> Event
+    ensures part { IsPart result event.now }
+    ensures there { HasEvent scope.now result }
+{
+    let mut kept = Event::empty();
+    for pair in event.pairs() {
+        if scope.has(pair.variable) {
+            kept = with_pair(&kept, *pair);
+        }
+    }
+    kept
+}
+
+/// The event with one pair more, where it has room for it and does not speak of its variable.
+fn with_pair(event: &Event, pair: Pair) -> Event
+    ensures { (result ≡ event.now ++ pair ∷ []) ⊎ (result ≡ event.now) }
+{
+    match event.with(pair) {
+        Some(longer) => longer,
+        None => *event,
+    }
+}
