@@ -1,10 +1,2 @@
 pub mod Scopes
 pub mod Shaped
-pub mod Placed
-pub mod Required
-pub mod Calls
-pub mod Margins
-pub mod Inputs
-pub mod Grading
-pub mod Readings
-pub mod Messages

@@ -1,5 +1,5 @@
 -- Flows: a table for each clique, and a message each way between linked cliques.
-use Rattle.std.specs.Prelude.{◌≡◌, ◌≢◌, ℕ, ◌+◌, ◌-◌, ◌*◌, ◌<◌, ◌≤◌, List, [], length, All, true, false, min, nat_lt, if◌then◌else◌, slice_index, slice_index_or}
+use Rattle.std.specs.Prelude.{◌≡◌, ◌≢◌, ℕ, ◌+◌, ◌-◌, ◌*◌, ◌<◌, ◌≤◌, None, List, [], length, All, true, false, min, nat_lt, if◌then◌else◌, slice_index, slice_index_or}
 use Rattle.mk_net.specs.declared.words.Pair.{Pair}
 use Rattle.mk_net.specs.Bounds.{number_limit}
 use Rattle.mk_net.specs.Network.{sizes}
@@ -24,7 +24,7 @@ pub record FlowOf : Type 0 where
   pub computed : ℕ
 
 abbrev pub no_table : TableOf
-no_table = record { scope = no_scope; shift = 0; digits = []; exponents = [] }
+no_table = record { scope = no_scope; shift = 0; digits = []; exponents = []; touched = None }
 
 abbrev pub table_at : FlowOf → ℕ → TableOf
 table_at flow k = slice_index_or flow.tables (k - 1) no_table

@@ -2,7 +2,6 @@
 #![tactic(auto)]
 
 mod flow;
-mod message;
 mod shape;
 
 pub use flow::Flow;
