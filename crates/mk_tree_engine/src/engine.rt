@@ -3,14 +3,14 @@
 ghost use Rattle.std.specs.Prelude.{◌≡◌, ℕ, ◌<◌, ◌≤◌, length, true, is_some, IfOk, ⊤};
 ghost use Rattle.mk_net.specs.Asked.{ratio_pairs};
 ghost use Rattle.mk_net.specs.Trades.{trade_ratio};
-ghost use Rattle.mk_tree.specs.Given.{home};
+ghost use Rattle.std.proofs.Common.{sym, subst};
+ghost use Rattle.mk_tree.specs.Given.{GivenTree, home};
 ghost use Rattle.mk_tree.specs.Checked.{IsTreeOf};
 ghost use Rattle.mk_engine.specs.Meaning.{Meaning, RowsOf, RatioOf, with_factor, with_known};
 ghost use Rattle.mk_engine.specs.Beliefs.{CanWeigh, CanMultiply, CanKnow, CanBelieve, IsBelief};
 ghost use Rattle.mk_propagate.specs.Shapes.{IsClique};
 ghost use Rattle.mk_propagate.specs.Flows.{counted_on, reading_grade};
 ghost use Rattle.mk_tree_engine.specs.Engines.{HasTree, IsPlanFor, MarksAway, ClearsTowards, KeepsCount, factor_home, pair_home, placing_of, reading_clique, stale_number};
-ghost use Rattle.mk_tree_engine.proofs.Homes.{home_fits};
 
 use crate::homes::{event_home, family_home};
 use crate::marks::Marks;
@@ -150,5 +150,5 @@ impl<R: Semiring> Engine<R> for TreeEngine<R> {
         self.flow.read(clique, event)
     }
 
-    ghost home_fits = { λ engine m event stands home. home_fits R.plus_of engine m event stands home };
+    ghost home_fits = { λ engine m event stands has. subst (λ (t : GivenTree). is_some (home t event) ≡ true) (sym stands.tree_is) has };
 }
