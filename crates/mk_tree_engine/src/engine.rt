@@ -145,6 +145,7 @@ impl<R: Semiring> Engine<R> for TreeEngine<R> {
             → R.has_grade result (reading_grade m.tree (placing_of m) (reading_clique m.tree event.now)) }
     {
         let clique = event_home(self.flow.shape().tree(), event);
+        let _ = self.flow.computed();
         collect_up(&mut self.flow, &mut self.marks, clique);
         collect_down(&mut self.flow, &mut self.marks, clique);
         self.flow.read(clique, event)

@@ -1,5 +1,5 @@
 -- The two passes of a belief: the messages towards a clique that go to a link, and then those that come from one.
-use Rattle.std.specs.Prelude.{◌≡◌, ℕ, ◌+◌, length, Bool, true, false, not, ◌&&◌, ◌||◌, ◌==◌, nat_lt, if◌then◌else◌}
+use Rattle.std.specs.Prelude.{◌≡◌, ℕ, ◌+◌, ◌≤◌, length, Bool, true, false, not, ◌&&◌, ◌||◌, ◌==◌, nat_lt, if◌then◌else◌}
 use Rattle.mk_sums.specs.Trees.{sum_of}
 use Rattle.mk_tree.specs.Given.{GivenTree}
 use Rattle.mk_propagate.specs.Shapes.{IsClique, are_linked, next_on_way}
@@ -24,6 +24,10 @@ passed_up tree c left k = nat_lt left k && goes_up tree c k
 abbrev pub passed_down : GivenTree → ℕ → ℕ → ℕ → Bool
 passed_down tree c passed k = goes_up tree c k || (nat_lt k (passed + 1) && goes_down tree c k)
 
+-- a number of 64 digits
+abbrev pub IsCount : ℕ → Type 0
+IsCount n = n ≤ 18446744073709551615
+
 -- each message that is not stale is right
 abbrev pub AreCurrent : (ℕ → ℕ → ℕ) → MarkedFlow → Placing → Type 0
 AreCurrent plus e p = (a b : ℕ) → are_linked e.flow.shape.tree a b ≡ true → is_stale e a b ≡ false → IsRight plus e.flow p a b
@@ -40,7 +44,7 @@ pub record AreCollected (plus : ℕ → ℕ → ℕ) (c : ℕ) (done : ℕ → B
   pub marks : (a b : ℕ) → are_linked old.flow.shape.tree a b ≡ true
       → is_stale new a b ≡ (is_stale old a b && not (leads_towards old.flow.shape.tree c a b && done a))
   pub right : (p : Placing) → HasPlaced old.flow p → AreCurrent plus old p → AreCurrent plus new p
-  pub counted : new.flow.computed ≡ counted_on old.flow.computed (stale_of old c done)
+  pub counted : IsCount old.flow.computed → new.flow.computed ≡ counted_on old.flow.computed (stale_of old c done)
 
 -- something is placed, and each message that is not stale is right
 pub record CanCollect (plus : ℕ → ℕ → ℕ) (e : MarkedFlow) (c : ℕ) : Type 0 where
@@ -62,4 +66,4 @@ pub record IsMade (plus : ℕ → ℕ → ℕ) (a b : ℕ) (old new : MarkedFlow
   pub marks_of : AreMarksOf new.flow.shape.tree new.stale_up new.stale_down
   pub marks : (i j : ℕ) → are_linked old.flow.shape.tree i j ≡ true → is_stale new i j ≡ (is_stale old i j && not ((i == a) && (j == b)))
   pub right : (p : Placing) → HasPlaced old.flow p → AreRightBut plus old.flow p a b → AreCurrent plus old p → AreCurrent plus new p
-  pub counted : new.flow.computed ≡ counted_on old.flow.computed (if is_stale old a b then 1 else 0)
+  pub counted : IsCount old.flow.computed → new.flow.computed ≡ counted_on old.flow.computed (if is_stale old a b then 1 else 0)
