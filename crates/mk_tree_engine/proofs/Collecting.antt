@@ -1,6 +1,6 @@
 -- What a pass has done so far, clique by clique.
 use Rattle.std.proofs.Common.{◌≡◌, ℕ, ◌+◌, ◌-◌, ◌<◌, ◌≤◌, Bool, true, false, cond, not, ◌&&◌, ◌||◌, ◌⊎◌, inl, inr, eqb, ltb, List, length, min, refl, sym, ap, subst, ◌∙◌, arith, eq-eqb, ne_eqb}
-use Rattle.std.proofs.Math.Bool.{and-true, or-false}
+use Rattle.std.proofs.Math.Bool.{and-true, or-true, or-false}
 use Rattle.std.proofs.lemmas.Bool.{cases_eq, cases_lt, cases_order, cases_Bool, lt-ltb, le-ltb, and_parts, and_from, both_ways, eqb-true, ltb-true, ltb-false, or_left, or_right, not_from_false, false_from_ne_true, not-true}
 use Rattle.mk_sums.specs.Trees.{sum_of, linked_but, linked}
 use Rattle.mk_sums.proofs.Hops as hops
@@ -148,12 +148,12 @@ module _ (plus : ℕ → ℕ → ℕ) (c : ℕ) (old : MarkedFlow) where
 -- ---- the order of the passes
 
 module _ (tree : GivenTree) (links : given.AreLinked tree) (c : ℕ) (clique : IsClique tree c) where
-  up_parts : (k : ℕ) → goes_up tree c k ≡ true → (k ≡ c → ⊥) × (next_on_way tree k c < k)
+  pub up_parts : (k : ℕ) → goes_up tree c k ≡ true → (k ≡ c → ⊥) × (next_on_way tree k c < k)
   up_parts k h =
       let p = and_parts (not (eqb k c)) (ltb (next_on_way tree k c) k) h in
       (λ e. both_ways (eqb k c) (not-true (eqb k c) p.0) (eq-eqb k c e), ltb-true (next_on_way tree k c) k p.1)
 
-  down_parts : (k : ℕ) → goes_down tree c k ≡ true → (k ≡ c → ⊥) × (k < next_on_way tree k c)
+  pub down_parts : (k : ℕ) → goes_down tree c k ≡ true → (k ≡ c → ⊥) × (k < next_on_way tree k c)
   down_parts k h =
       let p = and_parts (not (eqb k c)) (ltb k (next_on_way tree k c)) h in
       (λ e. both_ways (eqb k c) (not-true (eqb k c) p.0) (eq-eqb k c e), ltb-true k (next_on_way tree k c) p.1)
@@ -218,7 +218,7 @@ module _ (tree : GivenTree) (links : given.AreLinked tree) (c : ℕ) (clique : I
 
   -- one clique more of a set that it is in, or is not in
   one_more : (t s u : Bool) → (s ≡ true → u ≡ true) → ((t || s) && u) ≡ ((t && u) || s)
-  one_more true true u h = h refl
+  one_more true true u h = h refl ∙ sym (or-true u)
   one_more true false u h = sym (or-false u)
   one_more false true u h = h refl
   one_more false false u h = refl

@@ -1,3 +1,4 @@
 pub mod Making
 pub mod Sums
 pub mod Collecting
+pub mod Steps
