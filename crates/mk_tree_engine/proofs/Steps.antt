@@ -12,7 +12,7 @@ use Rattle.mk_tree_engine.specs.Engines.{MarkedFlow, is_stale, leads_towards}
 use Rattle.mk_tree_engine.specs.inner.Marks.{AreMarksOf}
 use Rattle.mk_tree_engine.specs.inner.Passes.{IsMade, AreCollected, CanCollect, goes_up, goes_down, passed_up, passed_down}
 use Rattle.mk_tree_engine.proofs.Making.{placed_kept}
-use Rattle.mk_tree_engine.proofs.Collecting.{collected_none, collected_same, collected_more, inputs_right, inputs_up, inputs_down, up_parts, down_parts, up_more, up_same, down_more, down_same, not_up}
+use Rattle.mk_tree_engine.proofs.Collecting.{collected_none, collected_same, collected_more, inputs_right, inputs_up, inputs_down, up_parts, down_parts, up_more, up_same, down_more, down_same, down_begins, not_up}
 
 none_of : (b : Bool) → b ≡ false → (t : Bool) → (b && t) ≡ false
 none_of true e t = absurd (both_ways true e refl)
@@ -97,3 +97,51 @@ module _ (plus : ℕ → ℕ → ℕ) (c : ℕ) (old : MarkedFlow) (could : CanC
           let tree = old.flow.shape.tree in
           collected_same plus c old mid (passed_down tree c (k - 1)) (passed_down tree c k) is
           (λ j p q. down_same tree could.marks_of.linked c could.clique_is k j at_k.first (down_old false h))
+
+-- ---- the second pass, since the first
+
+module _ (plus : ℕ → ℕ → ℕ) (c : ℕ) (old first : MarkedFlow) (could : CanCollect plus old c) (upward : AreCollected plus c (passed_up first.flow.shape.tree c 0) old first) where
+  clique_first : IsClique first.flow.shape.tree c
+  clique_first = subst (λ (s : ShapeOf). IsClique s.tree c) (sym upward.kept.same_shape) could.clique_is
+
+  pub down_start : AreCollected plus c (passed_down first.flow.shape.tree c 0) old first
+  down_start =
+      collected_same plus c old first (passed_up first.flow.shape.tree c 0) (passed_down first.flow.shape.tree c 0) upward
+      (λ j p q. down_begins first.flow.shape.tree upward.marks_of.linked c clique_first j p)
+
+  module _ (mid : MarkedFlow) (passed : ℕ) (within : passed < length first.flow.shape.tree.cliques) (is : AreCollected plus c (passed_down first.flow.shape.tree c passed) old mid) where
+    at_k : IsClique old.flow.shape.tree (passed + 1)
+    at_k = let m = ap (λ (s : ShapeOf). length s.tree.cliques) upward.kept.same_shape in record { first = omega arith; last = omega (arith, m, within) }
+
+    -- in the words of the tree that it began with
+    so_far : AreCollected plus c (passed_down old.flow.shape.tree c (passed + 1 - 1)) old mid
+    so_far =
+        let e : passed ≡ passed + 1 - 1 = omega arith in
+        subst (λ (n : ℕ). AreCollected plus c (passed_down old.flow.shape.tree c n) old mid) e
+        (subst (λ (s : ShapeOf). AreCollected plus c (passed_down s.tree c passed) old mid) upward.kept.same_shape is)
+
+    then_first : (new : MarkedFlow) → AreCollected plus c (passed_down old.flow.shape.tree c (passed + 1)) old new → AreCollected plus c (passed_down first.flow.shape.tree c (passed + 1)) old new
+    then_first new h = subst (λ (s : ShapeOf). AreCollected plus c (passed_down s.tree c (passed + 1)) old new) (sym upward.kept.same_shape) h
+
+    pub turn_sends : goes_down mid.flow.shape.tree c (passed + 1) ≡ true → CanSend plus mid.flow (passed + 1) (next_on_way mid.flow.shape.tree (passed + 1) c)
+    turn_sends h = down_sends plus c old could mid (passed + 1) at_k so_far h
+
+    pub turn_step : goes_down mid.flow.shape.tree c (passed + 1) ≡ true → (new : MarkedFlow) → IsMade plus (passed + 1) (next_on_way mid.flow.shape.tree (passed + 1) c) mid new
+        → AreCollected plus c (passed_down first.flow.shape.tree c (passed + 1)) old new
+    turn_step h new made = then_first new (down_step plus c old could mid (passed + 1) at_k so_far h new made)
+
+    pub turn_stay : goes_down mid.flow.shape.tree c (passed + 1) ≡ false → AreCollected plus c (passed_down first.flow.shape.tree c (passed + 1)) old mid
+    turn_stay h = then_first mid (down_stay plus c old could mid (passed + 1) at_k so_far h)
+
+    -- the cliques of a turn
+    pub turn_marks : AreMarksOf mid.flow.shape.tree mid.stale_up mid.stale_down
+    turn_marks = is.marks_of
+
+    pub turn_same : mid.flow.shape ≡ first.flow.shape
+    turn_same = is.kept.same_shape ∙ sym upward.kept.same_shape
+
+    pub turn_clique : IsClique mid.flow.shape.tree c
+    turn_clique = subst (λ (s : ShapeOf). IsClique s.tree c) (sym turn_same) clique_first
+
+    pub turn_k : IsClique mid.flow.shape.tree (passed + 1)
+    turn_k = subst (λ (s : ShapeOf). IsClique s.tree (passed + 1)) (sym is.kept.same_shape) at_k

@@ -31,7 +31,8 @@ pub(crate) fn collect_up<R: Semiring>(flow: &mut Flow<R>, marks: &mut Marks, cli
 /// cliques.
 pub(crate) fn collect_down<R: Semiring>(flow: &mut Flow<R>, marks: &mut Marks, clique: u32)
     requires { CanCollectDown R.plus_of (marked flow.old marks.old.up.items marks.old.down.items) clique }
-    ensures { (old : MarkedFlow) → AreCollected R.plus_of clique (passed_up flow.old.shape.tree clique 0) old (marked flow.old marks.old.up.items marks.old.down.items)
+    ensures { (old : MarkedFlow) → CanCollect R.plus_of old clique
+        → AreCollected R.plus_of clique (passed_up flow.old.shape.tree clique 0) old (marked flow.old marks.old.up.items marks.old.down.items)
         → AreCollected R.plus_of clique (passed_down flow.old.shape.tree clique (length flow.old.shape.tree.cliques)) old (marked flow.new marks.new.up.items marks.new.down.items) }
 {
     let cliques = flow.shape().cliques();
