@@ -2,3 +2,5 @@ pub mod Making
 pub mod Sums
 pub mod Collecting
 pub mod Steps
+pub mod Families
+pub mod Marking

@@ -35,7 +35,13 @@ fn holds_family(set: VarSet, net: &Network, variable: u32) -> bool
     requires { variable < length net.now }
     ensures { result ≡ holds_family net.now variable set }
 {
-    set.has(variable) && net.parents(variable).iter().all(|parent| set.has(*parent))
+    set.has(variable) && holds_each(&set, net.parents(variable))
+}
+
+fn holds_each(set: &VarSet, variables: &[u32]) -> bool
+    ensures { result ≡ list_all (is_member set.now) variables.now }
+{
+    variables.iter().all(|variable| set.has(*variable))
 }
 
 /// The first clique that holds each variable of an event.

@@ -4,7 +4,7 @@ ghost use Rattle.std.specs.Prelude.{◌≡◌, ◌≢◌, ℕ, ◌+◌, ◌<◌,
 ghost use Rattle.mk_propagate.specs.Shapes.{IsClique, next_on_way};
 ghost use Rattle.mk_propagate.specs.Flows.{CanSend};
 ghost use Rattle.mk_tree_engine.specs.Engines.{MarkedFlow};
-ghost use Rattle.mk_tree_engine.specs.inner.Marks.{marked, marked_stale, AreMarks, AreMarksOf, stale_marks};
+ghost use Rattle.mk_tree_engine.specs.inner.Marks.{marked, marked_stale, AreMarksOf, stale_marks};
 ghost use Rattle.mk_tree_engine.specs.inner.Passes.{goes_up, goes_down, passed_up, passed_down, AreCollected, CanCollect, CanCollectDown, IsMade};
 
 use crate::marks::Marks;
@@ -82,7 +82,7 @@ fn goes_down(shape: &Shape, clique: u32, k: u32) -> bool
 /// How many of the messages that lead towards a clique are stale.
 pub(crate) fn count_stale(shape: &Shape, marks: &Marks, clique: u32) -> u64
     requires clique { IsClique shape.now.tree clique }
-    requires marks { AreMarks (length shape.now.tree.cliques) marks.now.up.items marks.now.down.items }
+    requires marks { AreMarksOf shape.now.tree marks.now.up.items marks.now.down.items }
     ensures { result ≡ stale_marks shape.now.tree marks.now.up.items marks.now.down.items clique (length shape.now.tree.cliques) }
 {
     let mut count = 0;
@@ -98,7 +98,7 @@ pub(crate) fn count_stale(shape: &Shape, marks: &Marks, clique: u32) -> u64
 fn is_stale_towards(shape: &Shape, marks: &Marks, k: u32, clique: u32) -> bool
     requires k { IsClique shape.now.tree k }
     requires clique { IsClique shape.now.tree clique }
-    requires marks { AreMarks (length shape.now.tree.cliques) marks.now.up.items marks.now.down.items }
+    requires marks { AreMarksOf shape.now.tree marks.now.up.items marks.now.down.items }
     ensures { result ≡ (not (k == clique) && marked_stale marks.now.up.items marks.now.down.items k (next_on_way shape.now.tree k clique)) }
 {
     k != clique && marks.is_stale(k, shape.next(k, clique))
