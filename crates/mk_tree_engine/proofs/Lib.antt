@@ -4,3 +4,4 @@ pub mod Collecting
 pub mod Steps
 pub mod Families
 pub mod Marking
+pub mod Placed

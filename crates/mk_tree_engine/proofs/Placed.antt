@@ -1,0 +1,45 @@
+-- One thing more is placed, and what leads away from it is marked.
+use Rattle.std.proofs.Common.{◌≡◌, ℕ, ◌+◌, ◌<◌, ◌≤◌, Bool, true, false, ◌||◌, List, [], ◌∷◌, ◌++◌, map, length, refl, sym, ap, subst, ◌∙◌, arith}
+use Rattle.std.proofs.lemmas.Bool.{or_parts}
+use Rattle.std.proofs.lemmas.List.{map-append, length-map}
+use Rattle.mk_net.specs.declared.words.Pair.{Pair}
+use Rattle.mk_net.specs.Network.{Variable}
+use Rattle.mk_tree.specs.Given.{GivenTree}
+use Rattle.mk_engine.specs.Meaning.{Meaning, Factor, RowsOf, RatioOf, with_factor, with_known, max_factors}
+use Rattle.mk_propagate.specs.Shapes.{ShapeOf, IsClique, are_linked, is_behind}
+use Rattle.mk_propagate.specs.Placings.{Placing, PlacedFactor, PlacedPair, IsPlacedFactor, with_factor_in, with_pair_in}
+use Rattle.mk_propagate.specs.Flows.{FlowOf, HasPlaced, IsRight, CanPlace, Places}
+use Rattle.mk_tree_engine.specs.Engines.{MarkedFlow, HasTree, MarksAway, is_stale, placing_of, factor_home, pair_home}
+
+pub factor_placed : (m : Meaning) (f : Factor) (clique : ℕ) → clique ≡ factor_home m.network m.tree f → with_factor_in clique f (placing_of m) ≡ placing_of (with_factor f m)
+factor_placed m f clique e =
+    let g : Factor → PlacedFactor = λ h. record { clique = factor_home m.network m.tree h; factor = h } in
+    let make : List PlacedFactor → Placing = λ fs. record { network = m.network; factors = fs; known = map (λ q. record { clique = pair_home m.tree q; pair = q }) m.known } in
+    let at : ℕ → PlacedFactor = λ k. record { clique = k; factor = f } in
+    ap make (ap (λ (k : ℕ). map g m.factors ++ at k ∷ []) e ∙ sym (map-append g m.factors (f ∷ [])))
+
+pub pair_placed : (m : Meaning) (q : Pair) (clique : ℕ) → clique ≡ pair_home m.tree q → with_pair_in clique q (placing_of m) ≡ placing_of (with_known q m)
+pair_placed m q clique e =
+    let g : Pair → PlacedPair = λ r. record { clique = pair_home m.tree r; pair = r } in
+    let make : List PlacedPair → Placing = λ ps. record { network = m.network; factors = map (λ f. record { clique = factor_home m.network m.tree f; factor = f }) m.factors; known = ps } in
+    let at : ℕ → PlacedPair = λ k. record { clique = k; pair = q } in
+    ap make (ap (λ (k : ℕ). map g m.known ++ at k ∷ []) e ∙ sym (map-append g m.known (q ∷ [])))
+
+module _ (plus : ℕ → ℕ → ℕ) (e : MarkedFlow) (m : Meaning) (h : HasTree plus e m) where
+  pub can_place : length m.factors < max_factors → CanPlace e.flow (placing_of m)
+  can_place l =
+      let n : length (placing_of m).factors ≡ length m.factors = length-map m.factors (λ f. record { clique = factor_home m.network m.tree f; factor = f }) in
+      record { has = h.placed; room = omega (arith, n, l) }
+
+  -- what stands then
+  pub stands_after : (new : MarkedFlow) (after : Meaning) (clique : ℕ) (placed : Placing) → placed ≡ placing_of after → after.tree ≡ m.tree
+      → new.flow.shape ≡ e.flow.shape → Places plus e.flow new.flow clique (placing_of m) placed → MarksAway e new clique → HasTree plus new after
+  stands_after new after clique placed pe te se places away = record {
+    tree_is = ap (λ (s : ShapeOf). s.tree) se ∙ h.tree_is ∙ sym te;
+    placed = subst (HasPlaced new.flow) pe places.placed;
+    current = λ a b l fresh.
+        let linked : are_linked e.flow.shape.tree a b ≡ true = subst (λ (t : GivenTree). are_linked t a b ≡ true) (te ∙ sym h.tree_is) l in
+        let parts = or_parts (is_stale e a b) (is_behind e.flow.shape.tree a b clique) (sym (away a b linked) ∙ fresh) in
+        let was = h.current a b (subst (λ (t : GivenTree). are_linked t a b ≡ true) te l) parts.0 in
+        subst (λ (p : Placing). IsRight plus new.flow p a b) pe (places.right a b linked parts.1 was);
+  }
