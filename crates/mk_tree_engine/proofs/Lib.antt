@@ -5,3 +5,4 @@ pub mod Steps
 pub mod Families
 pub mod Marking
 pub mod Placed
+pub mod Believing
