@@ -6,3 +6,4 @@ pub mod Families
 pub mod Marking
 pub mod Placed
 pub mod Believing
+pub mod Numbers
