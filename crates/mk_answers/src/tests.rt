@@ -22,15 +22,11 @@ use std::process::Abort;
 use std::test::Fail;
 
 /// A question, its numbers, and the edit of it that follows, with its units.
-///
-/// The ends of the price may lie `slack` units outside of those given, and the limits as far inside: where the weights are
-/// not in the small case, an exact price or limit may lose its place to the next one.
 #[derive(Clone, Copy)]
 struct Step {
     target: Pair,
     given: Option<Pair>,
     price: (u64, u64),
-    slack: u64,
     limits: (u32, u32),
     cash: u64,
     most: u64,
@@ -52,7 +48,6 @@ const COIN: [Step; 4] = [
         target: HEADS,
         given: None,
         price: (5000000000, 5000000000),
-        slack: 0,
         limits: (250000, 750000),
         cash: 100,
         most: 1,
@@ -62,7 +57,6 @@ const COIN: [Step; 4] = [
         target: TAILS,
         given: None,
         price: (3999999999, 4000000000),
-        slack: 0,
         limits: (250001, 749999),
         cash: 67,
         most: 0,
@@ -72,7 +66,6 @@ const COIN: [Step; 4] = [
         target: HEADS,
         given: None,
         price: (6000000000, 6000000001),
-        slack: 0,
         limits: (250001, 749999),
         cash: 67,
         most: 0,
@@ -82,7 +75,6 @@ const COIN: [Step; 4] = [
         target: HEADS,
         given: None,
         price: (7499990000, 7499990001),
-        slack: 0,
         limits: (250001, 749999),
         cash: 0,
         most: 0,
@@ -105,7 +97,6 @@ const DIE: [Step; 3] = [
         target: MIDDLE,
         given: None,
         price: (3333330000, 3333330000),
-        slack: 0,
         limits: (41667, 916666),
         cash: 300,
         most: 3,
@@ -115,7 +106,6 @@ const DIE: [Step; 3] = [
         target: MIDDLE,
         given: None,
         price: (5000000000, 5000000001),
-        slack: 0,
         limits: (41667, 916666),
         cash: 258,
         most: 2,
@@ -125,7 +115,6 @@ const DIE: [Step; 3] = [
         target: HIGH,
         given: None,
         price: (2500003749, 2500003750),
-        slack: 0,
         limits: (41667, 874999),
         cash: 258,
         most: 2,
@@ -153,7 +142,6 @@ const WEATHER: [Step; 4] = [
         target: RAIN,
         given: Some(WET),
         price: (7000000000, 7000000000),
-        slack: 0,
         limits: (350000, 850000),
         cash: 100,
         most: 1,
@@ -163,7 +151,6 @@ const WEATHER: [Step; 4] = [
         target: RAIN,
         given: Some(WET),
         price: (8000000000, 8000000001),
-        slack: 0,
         limits: (350001, 849999),
         cash: 41,
         most: 0,
@@ -173,7 +160,6 @@ const WEATHER: [Step; 4] = [
         target: RAIN,
         given: Some(DRY),
         price: (1000000000, 1000000000),
-        slack: 1,
         limits: (50000, 550000),
         cash: 41,
         most: 0,
@@ -183,7 +169,6 @@ const WEATHER: [Step; 4] = [
         target: WET,
         given: None,
         price: (3999999999, 4000000000),
-        slack: 0,
         limits: (300001, 699999),
         cash: 41,
         most: 0,
@@ -278,27 +263,10 @@ fn question(rt: &impl Abort, example: &Example, step: &Step) -> (Question, u32)
     (asked, example.net.values(step.target.variable))
 }
 
-/// Stops unless the price has these ends, or ends that are so far outside of them.
-fn check_price(rt: &impl Abort, found: (u64, u64), wanted: (u64, u64), slack: u64) {
-    assert!(rt; found.0 <= wanted.0);
-    assert!(rt; wanted.0 - found.0 <= slack);
-    assert!(rt; wanted.1 <= found.1);
-    assert!(rt; found.1 - wanted.1 <= slack);
-}
-
-/// Stops unless the limits are these, or limits that are so far inside of them.
-fn check_limits(rt: &impl Abort, found: Option<(u32, u32)>, wanted: (u32, u32), slack: u64) {
-    let (low, high) = found.expect(rt, "limits");
-    assert!(rt; wanted.0 <= low);
-    assert!(rt; (low - wanted.0) as u64 <= slack);
-    assert!(rt; high <= wanted.1);
-    assert!(rt; (wanted.1 - high) as u64 <= slack);
-}
-
 /// Stops unless the numbers are those of the step.
 fn check(rt: &impl Abort, found: &Numbers, step: &Step) {
-    check_price(rt, found.price, step.price, step.slack);
-    check_limits(rt, found.limits, step.limits, step.slack);
+    assert_eq!(rt; found.price, step.price);
+    assert_eq!(rt; found.limits.expect(rt, "limits"), step.limits);
     assert_eq!(rt; found.cash, (step.cash, step.cash));
     assert_eq!(rt; found.most, step.most);
 }

@@ -1,9 +1,9 @@
 -- A cell that stands for its own number under no shift, and for a multiple of it under the table's.
 use Rattle.std.proofs.Common.{◌≡◌, ℕ, suc, ◌+◌, ◌-◌, ◌*◌, ◌^◌, ◌<◌, ◌≤◌, sym, ap, ◌∙◌, arith, le_trans, lt_of_le_of_lt}
 use Rattle.std.proofs.lemmas.Nat.{pow-add, pow_pos}
-use Rattle.std.proofs.Math.Nat.{mul-le-mul_left, mul-le-mul_right, mul-lt-mul_of_pos_right, mul_assoc, mul_comm, mul_right_comm, le_of_mul-le-mul_right, lt_of_mul-lt-mul_right}
+use Rattle.std.proofs.Math.Nat.{mul-le-mul_left, mul-le-mul_right, mul-lt-mul_of_pos_right, mul_assoc, mul_right_comm, le_of_mul-le-mul_right, lt_of_mul-lt-mul_right}
 use Rattle.mk_scaled.specs.Near.{IsNear, near_same, near-mul, near_width}
-use Rattle.mk_scaled.specs.Range.{IsInRange, two_to, two_to-mono, two_to-suc, two_to-add, two_to-small, two_to-lt, mul_at_most}
+use Rattle.mk_scaled.specs.Range.{IsInRange, two_to, two_to-mono, two_to-suc, two_to-small, two_to-lt, mul_at_most}
 use Rattle.mk_cell.specs.Cell.{bias, StandsAt}
 use Rattle.mk_cell.specs.inner.Close.{close_width}
 

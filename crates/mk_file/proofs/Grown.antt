@@ -25,7 +25,7 @@ use Rattle.mk_file.specs.Walk.{DraftOfMarket}
 use Rattle.mk_file.specs.Counts.{is_whole_within, whole_fault, items_fault, names_at, links_fault, counts_fault, variables_fault, of_net}
 use Rattle.mk_file.specs.Cliques.{is_known, clique_at, link_at, given_tree, of_tree}
 use Rattle.mk_file.specs.inner.Known.{number_in, is_known_in, clique_in, set_in, trees_fault}
-use Rattle.mk_file.specs.File.{large_fault, market_in, unless, of_draft}
+use Rattle.mk_file.specs.File.{market_in, unless, of_draft}
 
 none_of : {F : Type 0} (a b : Option F) → or_else a b ≡ None → (a ≡ None) × (b ≡ None)
 none_of None b h = (refl, h)
@@ -165,20 +165,10 @@ trees_are draft network tree fault net fine linked same is =
     ap (λ (n : List Variable). tree_fault n (given_tree draft)) (sym net) ∙ ap (λ (t : GivenTree). tree_fault network t) (sym same) ∙ is in
     cliques_are draft network None net fine ∙ ap (λ o. or_else o (tree_part draft)) linked ∙ ap (λ f. or_else (option_map of_tree f) None) there
 
-kept : {F : Type 0} (x y z w : Option F) (e : F) → or_else x (or_else y (or_else z None)) ≡ Some e → or_else x (or_else y (or_else z w)) ≡ Some e
-kept (Some a) y z w e h = h
-kept None (Some a) z w e h = h
-kept None None (Some a) w e h = h
-kept None None None w e h = cc
-
 -- the fault of a tree is the fault of the draft
 pub tree_refused : (draft : DraftOfMarket) (fault : FileFault) → counts_fault draft ≡ None → first_fault draft.variables ≡ None
     → trees_fault draft ≡ Some fault → of_draft (Ok draft) ≡ Err fault
 tree_refused draft fault counted checked bad =
     let fine : variables_fault draft ≡ None = ap (λ o. option_map of_net o) (none_of (count_fault draft.variables) (draft_later draft.variables) checked).1 in
-    let large = or_else (large_fault draft) None in
-    let rest = or_else (first_in (clique_at draft) 1 draft.cliques) (or_else (first_in link_at 2 draft.links)
-    (or_else (option_map of_tree (tree_fault (checked_network draft.variables) (given_tree draft))) large)) in
-    ap (λ o. unless o (market_in draft)) (ap (λ o. or_else o (or_else (variables_fault draft) rest)) counted ∙ ap (λ o. or_else o rest) fine
-    ∙ kept (first_in (clique_at draft) 1 draft.cliques) (first_in link_at 2 draft.links)
-    (option_map of_tree (tree_fault (checked_network draft.variables) (given_tree draft))) large fault bad)
+    let rest = or_else (first_in (clique_at draft) 1 draft.cliques) (or_else (first_in link_at 2 draft.links) (tree_part draft)) in
+    ap (λ o. unless o (market_in draft)) (ap (λ o. or_else o (or_else (variables_fault draft) rest)) counted ∙ ap (λ o. or_else o rest) fine ∙ bad)

@@ -5,7 +5,7 @@ use Rattle.mk_net.specs.Key.{key_text}
 use Rattle.mk_net.specs.declared.key.Key.{Key}
 use Rattle.mk_text.specs.Joined.{◌&◌}
 use Rattle.mk_file.specs.declared.fault.FileFault.{FileFault}
-use Rattle.mk_file.specs.declared.fault.FileFault.TheVariants.{TooLong, BadToml, Missing, WrongType, Count, BadName, Repeat, Parent, Rows, Width, Entry, Sum, Clique, Link, Cover, NotRunning, Cells, Large, Memory}
+use Rattle.mk_file.specs.declared.fault.FileFault.TheVariants.{TooLong, BadToml, Missing, WrongType, Count, BadName, Repeat, Parent, Rows, Width, Entry, Sum, Clique, Link, Cover, NotRunning, Cells, Memory}
 
 -- a number behind a space
 abbrev pub then_number : ℕ → List ℕ
@@ -38,7 +38,6 @@ cause_text (Link clique) = codes "link" & then_number clique
 cause_text (Cover variable) = codes "cover" & then_number variable
 cause_text (NotRunning variable) = codes "running" & then_number variable
 cause_text (Cells clique) = codes "cells" & then_number clique
-cause_text Large = codes "large"
 cause_text Memory = []
 
 abbrev pub fault_text : FileFault → List ℕ

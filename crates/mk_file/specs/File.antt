@@ -3,30 +3,19 @@ use Rattle.std.specs.Prelude.{ℕ, List, [], ◌∷◌, length, map, nat_abs, Bo
 use Rattle.std.specs.Str.{is_utf8}
 use Rattle.toml.specs.Data.{Members}
 use Rattle.toml.specs.Parse.{parse_document}
-use Rattle.mk_net.specs.Bounds.{max_clique_cells}
-use Rattle.mk_net.specs.Drafts.{DraftOfVariable}
-use Rattle.mk_net.specs.Firsts.{fault_if, first_of, first_in}
+use Rattle.mk_net.specs.Firsts.{first_of, first_in}
 use Rattle.mk_net.specs.Checked.{checked_network}
-use Rattle.mk_exact.specs.States.{product_by}
 use Rattle.mk_exact.specs.Market.{Market}
 use Rattle.mk_tree.specs.Tests.{members, tree_fault}
 use Rattle.mk_file.specs.Walk.{DraftOfMarket, draft_in}
 use Rattle.mk_file.specs.Counts.{counts_fault, variables_fault}
 use Rattle.mk_file.specs.Cliques.{clique_at, link_at, given_tree, of_tree}
 use Rattle.mk_file.specs.declared.fault.FileFault.{FileFault}
-use Rattle.mk_file.specs.declared.fault.FileFault.TheVariants.{TooLong, BadToml, Large}
+use Rattle.mk_file.specs.declared.fault.FileFault.TheVariants.{TooLong, BadToml}
 
 -- the most bytes of a market file
 abbrev pub max_file_bytes : ℕ
 max_file_bytes = 1048576
-
--- how many states the variables have together
-abbrev pub states_together : List DraftOfVariable → ℕ
-states_together variables = product_by (λ (v : DraftOfVariable). length v.values) variables
-
--- more states together than a clique may have cells
-abbrev pub large_fault : DraftOfMarket → Option FileFault
-large_fault draft = fault_if (nat_lt max_clique_cells (states_together draft.variables)) Large
 
 -- the first fault of a draft
 abbrev pub draft_fault : DraftOfMarket → Option FileFault
@@ -36,7 +25,6 @@ draft_fault draft = first_of (
     ∷ first_in (clique_at draft) 1 draft.cliques
     ∷ first_in link_at 2 draft.links
     ∷ option_map of_tree (tree_fault (checked_network draft.variables) (given_tree draft))
-    ∷ large_fault draft
     ∷ [])
 
 -- the market of a draft without a fault; both numbers are positive there

@@ -3,6 +3,5 @@ pub mod Counts
 pub mod Cliques
 pub mod File
 pub mod MarketOf
-pub mod Few
 pub mod Faults
 pub mod inner

@@ -2,7 +2,7 @@
 use Rattle.std.specs.Prelude.{map}
 use Rattle.mk_exact.specs.Market.{Market}
 use Rattle.mk_tree.specs.Tests.{members}
-use Rattle.mk_file.specs.declared.opened.MarketFile.{MarketFile}
+use Rattle.mk_file.specs.declared.market_file.MarketFile.{MarketFile}
 
 -- its cliques are lists of variables in rising order
 abbrev pub market_of : MarketFile → Market

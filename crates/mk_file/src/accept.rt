@@ -9,15 +9,13 @@ ghost use Rattle.mk_file.specs.Counts.{counts_fault};
 ghost use Rattle.mk_file.specs.Cliques.{given_tree};
 ghost use Rattle.mk_file.specs.inner.Known.{trees_fault};
 ghost use Rattle.mk_file.specs.File.{of_draft};
-ghost use Rattle.mk_file.specs.Few.{HasFewStates};
 ghost use Rattle.mk_file.specs.inner.Views.{Gives, draft_of};
 ghost use Rattle.mk_file.specs.MarketOf.{market_of};
 
 use crate::cliques::{read_cliques, read_links};
 use crate::counts::check_counts;
 use crate::fault::FileFault;
-use crate::large::is_large;
-use crate::opened::MarketFile;
+use crate::market_file::MarketFile;
 use crate::walk::MarketDraft;
 use mk_net::Network;
 use mk_tree::Tree;
@@ -42,15 +40,11 @@ fn read_tree(alloc: Global, net: &Network, draft: &MarketDraft) -> Result<Tree, 
 /// The market of a draft, or the draft's first fault.
 pub fn accept(alloc: Global, draft: &MarketDraft) -> Result<MarketFile, FileFault>
     ensures market { Gives market_of result (of_draft (Ok (draft_of draft.now))) }
-    ensures few { IfOk result (λ file. HasFewStates file.net) }
     ensures tree { IfOk result (λ file. IsTreeOf file.net file.tree) }
 {
     check_counts(draft)?;
     let net = Network::check(alloc, &draft.draft)?;
     let tree = read_tree(alloc, &net, draft)?;
-    if is_large(&draft.draft) {
-        return Err(FileFault::Large);
-    }
     Ok(MarketFile {
         net,
         tree,

@@ -106,9 +106,6 @@ pub enum FileFault {
     Cells {
         clique: u32,
     },
-    /// The variables have more than 4,096 states together.
-    #[error("the variables have more than 4096 states together")]
-    Large,
     /// Memory was wanting.
     #[error("out of memory")]
     Memory,

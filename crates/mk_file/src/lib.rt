@@ -6,17 +6,16 @@ mod cliques;
 mod counts;
 mod fault;
 mod kinds;
-mod large;
 mod market_file;
-mod opened;
 mod print;
+mod read;
 mod required;
 mod walk;
 
 pub use fault::FileFault;
-pub use market_file::read_market;
-pub use opened::MarketFile;
+pub use market_file::MarketFile;
 pub use print::print_fault;
+pub use read::read_market;
 
 #[cfg(test)]
 mod print_tests;

@@ -53,7 +53,6 @@ fn put_cause(out: &mut Line, fault: &FileFault)
         FileFault::Cover { variable } => put_at(out, "cover", *variable),
         FileFault::NotRunning { variable } => put_at(out, "running", *variable),
         FileFault::Cells { clique } => put_at(out, "cells", *clique),
-        FileFault::Large => out.push_str("large"),
         FileFault::Memory => unreachable!(),
     }
 }

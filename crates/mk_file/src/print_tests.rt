@@ -63,7 +63,6 @@ fn prints_each_fault(rt: HostRuntime) {
             "refused market running 2",
         ),
         (FileFault::Cells { clique }, "refused market cells 3"),
-        (FileFault::Large, "refused market large"),
     ] {
         let mut line = ArrayString::new();
         line.push_str("old");

@@ -1,5 +1,5 @@
 use super::*;
-use crate::fault::FileFault::{BadToml, Large};
+use crate::fault::FileFault::BadToml;
 use mk_net::Key::{Cliques, Links, MaxTrades, Name, Parents, PointsPerBit, Rows, Values, Variable};
 use mk_net::{Key, VarSet};
 use std::alloc::Global;
@@ -298,7 +298,7 @@ fn counts_cliques_and_cells(rt: HostRuntime) -> Result<(), Fail> {
         "'m', ], ]\nlinks = [] -> ], ['m']]\nlinks = [1]",
     )?;
     let answer = read_market(alloc, thirteen.as_bytes()).err();
-    assert_eq!(rt; answer, Some(Large));
+    assert_eq!(rt; answer, None);
     Ok(())
 }
 

@@ -13,7 +13,7 @@ use Rattle.mk_exact.specs.Cash.{CoversCash}
 use Rattle.mk_exact.specs.Existing.{HasLeast}
 use Rattle.mk_exact.proofs.ExistMarkets.{least_gain_exists}
 use Rattle.mk_tree.specs.Given.{GivenTree}
-use Rattle.mk_file.specs.declared.opened.MarketFile.{MarketFile}
+use Rattle.mk_file.specs.declared.market_file.MarketFile.{MarketFile}
 use Rattle.mk_file.specs.MarketOf.{market_of}
 use Rattle.mk_engine.specs.Meaning.{Meaning}
 use Rattle.mk_enclose.specs.declared.factor.Factor.{Factor}

@@ -7,7 +7,7 @@ use Rattle.mk_net.specs.Network.{Variable}
 use Rattle.mk_net.specs.Bounds.{number_limit}
 use Rattle.mk_exact.specs.History.{Entry, Deposit as Deposits, users, deposited, revision, is_settlement}
 use Rattle.mk_tree.specs.Given.{GivenTree}
-use Rattle.mk_file.specs.declared.opened.MarketFile.{MarketFile}
+use Rattle.mk_file.specs.declared.market_file.MarketFile.{MarketFile}
 use Rattle.mk_file.specs.MarketOf.{market_of}
 use Rattle.mk_engine.specs.Meaning.{Meaning}
 use Rattle.mk_assets.specs.declared.assets.Assets.{Assets}

@@ -5,7 +5,7 @@ use Rattle.std.proofs.lemmas.List.{length_push}
 use Rattle.mk_net.specs.Network.{Variable, IsNetwork}
 use Rattle.mk_exact.specs.History.{Entry, users, is_settled}
 use Rattle.mk_tree.specs.Given.{GivenTree}
-use Rattle.mk_file.specs.declared.opened.MarketFile.{MarketFile}
+use Rattle.mk_file.specs.declared.market_file.MarketFile.{MarketFile}
 use Rattle.mk_file.specs.MarketOf.{market_of}
 use Rattle.mk_engine.specs.Meaning.{Meaning}
 use Rattle.mk_beliefs.specs.Meanings.{weights_of, grown}

@@ -20,7 +20,7 @@ use Rattle.mk_exact.specs.History.{Entry}
 use Rattle.mk_exact.specs.Proper.{IsPairOf, IsQuestionOf}
 use Rattle.mk_tree.specs.Given.{GivenTree, home, holds_event}
 use Rattle.mk_tree.specs.Tests.{members}
-use Rattle.mk_file.specs.declared.opened.MarketFile.{MarketFile}
+use Rattle.mk_file.specs.declared.market_file.MarketFile.{MarketFile}
 use Rattle.mk_file.specs.MarketOf.{market_of}
 use Rattle.mk_command.specs.declared.command.Command.TheVariants.{Edit}
 use Rattle.mk_reply.specs.declared.refusal.Refusal.{Refusal}

@@ -11,7 +11,7 @@ use Rattle.mk_exact.specs.History.{Entry, Resolve as Resolves, join_in, users, r
 use Rattle.mk_exact.specs.Proper.{IsProper}
 use Rattle.mk_exact.proofs.After.{resolutions_more}
 use Rattle.mk_tree.specs.Given.{GivenTree}
-use Rattle.mk_file.specs.declared.opened.MarketFile.{MarketFile}
+use Rattle.mk_file.specs.declared.market_file.MarketFile.{MarketFile}
 use Rattle.mk_file.specs.MarketOf.{market_of}
 use Rattle.mk_engine.specs.Meaning.{Meaning, with_known}
 use Rattle.mk_beliefs.specs.Meanings.{gains_of}

@@ -11,7 +11,7 @@ use Rattle.mk_exact.specs.Weight.{possible_states}
 use Rattle.mk_exact.proofs.After.{deposited_kept, withdrawn_kept, users_kept}
 use Rattle.mk_exact.proofs.ExistOutcome.{outcome_exists}
 use Rattle.mk_tree.specs.Given.{GivenTree}
-use Rattle.mk_file.specs.declared.opened.MarketFile.{MarketFile}
+use Rattle.mk_file.specs.declared.market_file.MarketFile.{MarketFile}
 use Rattle.mk_file.specs.MarketOf.{market_of}
 use Rattle.mk_engine.specs.Meaning.{Meaning}
 use Rattle.mk_assets.specs.declared.assets.Assets.{Assets}

@@ -7,7 +7,7 @@ use Rattle.mk_net.specs.Network.{Variable}
 use Rattle.mk_net.specs.Bounds.{number_limit}
 use Rattle.mk_exact.specs.History.{Entry, Withdraw as Withdraws, users, withdrawn, revision, is_settlement}
 use Rattle.mk_tree.specs.Given.{GivenTree}
-use Rattle.mk_file.specs.declared.opened.MarketFile.{MarketFile}
+use Rattle.mk_file.specs.declared.market_file.MarketFile.{MarketFile}
 use Rattle.mk_file.specs.MarketOf.{market_of}
 use Rattle.mk_exact.specs.Accepted.{Covers, IsMost}
 use Rattle.mk_exact.specs.Events.{always}

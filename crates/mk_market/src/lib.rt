@@ -23,15 +23,9 @@ pub use asking::{ask, known};
 pub use entry::Entry;
 pub use journal::Journal;
 pub use market::Market;
-pub use refusals::{
-    refuse_edit, refuse_limits, refuse_price, refuse_resolve, refuse_settle, refuse_transfer,
-    refuse_user, refuse_worst,
-};
 pub use users::{Member, Users};
 
 #[cfg(test)]
 mod market_tests;
-#[cfg(test)]
-mod refusal_tests;
 #[cfg(test)]
 mod tests;

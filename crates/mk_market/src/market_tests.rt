@@ -1,17 +1,19 @@
-//! A market of a coin: commands, their replies, and what the market keeps of them.
+//! Markets from their files: commands, their replies, and what a market keeps of them.
+
+ghost use Rattle.std.specs.Prelude.{◌≡◌};
 
 use crate::Market;
 use arrayvec::ArrayString;
 use mk_command::read_command;
 use mk_file::read_market;
-use mk_joint::JointEngine;
 use mk_reply::print_reply;
 use mk_semiring::{MinProd, SumProd};
+use mk_tree_engine::TreeEngine;
 use std::alloc::Global;
 use std::process::Abort;
 use std::test::Fail;
 
-type JointMarket = Market<JointEngine<SumProd>, JointEngine<MinProd>>;
+type TreeMarket = Market<TreeEngine<SumProd>, TreeEngine<MinProd>>;
 
 const COIN: &str = "points_per_bit = 100
 max_trades = 1000
@@ -26,7 +28,7 @@ rows = [[500000, 500000]]
 ";
 
 /// Each command with its reply, in turn.
-const LINES: [(&str, &str); 10] = [
+const COIN_LINES: [(&str, &str); 10] = [
     ("user alice", "user alice at 1"),
     ("worst alice", "worst 0..0"),
     ("deposit alice 1", "deposit alice 1 at 2"),
@@ -39,11 +41,112 @@ const LINES: [(&str, &str); 10] = [
     ("price coin=edge", "refused name coin=edge"),
 ];
 
+/// It takes one trade.
+const ONE_TRADE: &str = "points_per_bit = 100
+max_trades = 1
+cliques = [['coin']]
+links = []
+
+[[variable]]
+name = 'coin'
+values = ['heads', 'tails']
+parents = []
+rows = [[500000, 500000]]
+";
+
+const ONE_TRADE_LINES: [(&str, &str); 18] = [
+    ("user alice", "user alice at 1"),
+    ("deposit alice 1", "deposit alice 1 at 2"),
+    ("edit alice coin=heads to 0", "refused range 0"),
+    ("edit alice coin=heads to 1000000", "refused range 1000000"),
+    ("deposit alice 1001", "refused range 1001"),
+    ("withdraw alice 0", "refused range 0"),
+    ("user alice", "refused exists alice"),
+    ("edit alice coin=heads to 600000", "trade 1319413953331 879609302220 at 3"),
+    ("edit alice coin=heads to 500000", "refused full 1"),
+    ("user bob", "user bob at 4"),
+    ("edit bob coin=heads to 600000 at 3", "refused stale 3 4"),
+    ("limits bobby coin=heads", "refused user bobby"),
+    ("resolve coin=heads", "resolve coin=heads at 5"),
+    ("price coin=heads", "refused resolved coin"),
+    ("resolve coin=tails", "refused resolved coin"),
+    ("settle", "settle at 6, alice 126..126 paid 126, bob 0..0 paid 0"),
+    ("price coin=heads", "refused settled"),
+    ("worst bobby", "refused settled"),
+];
+
+/// Its second clique holds the first variable alone.
+const WEATHER: &str = "points_per_bit = 100
+max_trades = 1000
+cliques = [['season', 'rain'], ['season']]
+links = [1]
+
+[[variable]]
+name = 'season'
+values = ['wet', 'dry']
+parents = []
+rows = [[400000, 600000]]
+
+[[variable]]
+name = 'rain'
+values = ['yes', 'no']
+parents = ['season']
+rows = [[700000, 300000], [100000, 900000]]
+";
+
+const WEATHER_LINES: [(&str, &str); 9] = [
+    ("user ann", "user ann at 1"),
+    ("deposit ann 1", "deposit ann 1 at 2"),
+    ("edit ann rain=yes | season=wet to 800000", "trade 1256584717458 733007751850 at 3"),
+    ("price rain=yes | season=dry", "price 0.1000000000..0.1000000000"),
+    ("resolve season=dry", "resolve season=dry at 4"),
+    ("price rain=yes | season=wet", "refused impossible season=wet"),
+    ("price season=wet", "refused resolved season"),
+    ("resolve rain=snow", "refused name rain=snow"),
+    ("settle", "refused open rain"),
+];
+
+/// Its cliques are linked in a row.
+const CHAIN: &str = "points_per_bit = 100
+max_trades = 1000
+cliques = [['a', 'b'], ['b', 'c'], ['c']]
+links = [1, 2]
+
+[[variable]]
+name = 'a'
+values = ['up', 'down']
+parents = []
+rows = [[500000, 500000]]
+
+[[variable]]
+name = 'b'
+values = ['up', 'down']
+parents = ['a']
+rows = [[600000, 400000], [300000, 700000]]
+
+[[variable]]
+name = 'c'
+values = ['up', 'down']
+parents = ['b']
+rows = [[800000, 200000], [100000, 900000]]
+";
+
+const CHAIN_LINES: [(&str, &str); 8] = [
+    ("price c=up | a=up", "refused wide"),
+    ("price c=left", "refused name c=left"),
+    ("price c=up | b=up, c=down", "refused twice c"),
+    ("edit zed c=up | a=up to 500000", "refused user zed"),
+    ("price a=up | a=down, b=left", "refused name b=left"),
+    ("price a=up | b=up, b=down, a=down", "refused twice b"),
+    ("price a=up | b=up, a=up, b=up", "refused twice a"),
+    ("price d=up | a=left", "refused name d=up"),
+];
+
 /// Applies a command, and stops unless this is its reply.
 fn expect_reply(
     rt: &impl Abort,
     alloc: Global,
-    market: &mut JointMarket,
+    market: &mut TreeMarket,
     line: &str,
     expected: &str,
 ) {
@@ -57,15 +160,47 @@ fn expect_reply(
     assert_eq!(rt; text.as_str(), expected);
 }
 
+/// Opens a market, and expects a reply to each line.
+fn expect_replies(
+    rt: &impl Abort,
+    alloc: Global,
+    file: &str,
+    lines: &[(&str, &str)],
+) -> Result<TreeMarket, Fail> {
+    let file = read_market(alloc, file.as_bytes())?;
+    let mut market = TreeMarket::start(alloc, file)?;
+    for (line, expected) in lines {
+        expect_reply(rt, alloc, &mut market, line, expected);
+    }
+    Ok(market)
+}
+
 #[test]
 fn coin_market(rt: HostRuntime) -> Result<(), Fail> {
-    let alloc = rt.alloc();
-    let file = read_market(alloc, COIN.as_bytes())?;
-    let mut market = JointMarket::start(alloc, file)?;
-    for (line, expected) in LINES {
-        expect_reply(&rt, alloc, &mut market, line, expected);
-    }
+    let market = expect_replies(&rt, rt.alloc(), COIN, &COIN_LINES)?;
     assert_eq!(rt; (market.variables(), market.points_per_bit()), (1, 100));
     assert_eq!(rt; market.history().len(), 3);
+    Ok(())
+}
+
+#[test]
+fn each_refusal_has_its_words(rt: HostRuntime) -> Result<(), Fail> {
+    let alloc = rt.alloc();
+    let _ = expect_replies(&rt, alloc, ONE_TRADE, &ONE_TRADE_LINES)?;
+    let _ = expect_replies(&rt, alloc, WEATHER, &WEATHER_LINES)?;
+    let _ = expect_replies(&rt, alloc, CHAIN, &CHAIN_LINES)?;
+    Ok(())
+}
+
+#[test]
+fn the_257th_user_is_refused(rt: HostRuntime) -> Result<(), Fail> {
+    let alloc = rt.alloc();
+    let mut market = expect_replies(&rt, alloc, COIN, &[])?;
+    for number in 1..257u32 {
+        let line = format!(in alloc; "user u{number}")?;
+        let reply = format!(in alloc; "user u{number} at {number}")?;
+        expect_reply(&rt, alloc, &mut market, &line, &reply);
+    }
+    expect_reply(&rt, alloc, &mut market, "user u257", "refused users 256");
     Ok(())
 }

@@ -38,7 +38,7 @@ const MAX_TRANSFER_BITS: u32 = 1_000;
 const MAX_SHARE: u32 = 999_999;
 
 /// What `user` is refused for: a settlement, a user of the name, and as many users as a market holds.
-pub fn refuse_user<A: Engine<MinProd>>(
+pub(crate) fn refuse_user<A: Engine<MinProd>>(
     journal: &Journal,
     users: &Users<A>,
     name: &Name,
@@ -54,7 +54,7 @@ pub fn refuse_user<A: Engine<MinProd>>(
 
 /// What `deposit` and `withdraw` are refused for: a settlement, an unknown user, no bits or too many, and as many
 /// transfers as a market takes.
-pub fn refuse_transfer<A: Engine<MinProd>>(
+pub(crate) fn refuse_transfer<A: Engine<MinProd>>(
     journal: &Journal,
     users: &Users<A>,
     name: &Name,
@@ -75,7 +75,7 @@ pub fn refuse_transfer<A: Engine<MinProd>>(
 
 /// What `price` is refused for: a settlement, a pair that is unknown, a variable that occurs twice, a target that is
 /// resolved, a condition that a resolution contradicts, and a question that no clique holds.
-pub fn refuse_price(
+pub(crate) fn refuse_price(
     file: &MarketFile,
     journal: &Journal,
     question: &QuestionText,
@@ -90,7 +90,7 @@ pub fn refuse_price(
 }
 
 /// What `limits` is refused for: as a price, and behind a settlement for an unknown user.
-pub fn refuse_limits<A: Engine<MinProd>>(
+pub(crate) fn refuse_limits<A: Engine<MinProd>>(
     file: &MarketFile,
     journal: &Journal,
     users: &Users<A>,
@@ -112,7 +112,7 @@ pub fn refuse_limits<A: Engine<MinProd>>(
 /// What `edit` is refused for before its limits are looked at: as `limits`, behind a variable that occurs twice for a
 /// revision that is not the present one, and at last for a share outside of 1 to 999,999, and for as many trades as the
 /// market takes.
-pub fn refuse_edit<A: Engine<MinProd>>(
+pub(crate) fn refuse_edit<A: Engine<MinProd>>(
     file: &MarketFile,
     journal: &Journal,
     users: &Users<A>,
@@ -139,7 +139,7 @@ pub fn refuse_edit<A: Engine<MinProd>>(
 }
 
 /// What `worst` is refused for: a settlement, and an unknown user.
-pub fn refuse_worst<A: Engine<MinProd>>(
+pub(crate) fn refuse_worst<A: Engine<MinProd>>(
     journal: &Journal,
     users: &Users<A>,
     name: &Name,
@@ -153,7 +153,7 @@ pub fn refuse_worst<A: Engine<MinProd>>(
 }
 
 /// What `resolve` is refused for: a settlement, a pair that is unknown, and a variable that is resolved.
-pub fn refuse_resolve(
+pub(crate) fn refuse_resolve(
     file: &MarketFile,
     journal: &Journal,
     words: &PairText,
@@ -169,7 +169,7 @@ pub fn refuse_resolve(
 }
 
 /// What `settle` is refused for: a settlement, and the first variable that is not resolved.
-pub fn refuse_settle(file: &MarketFile, journal: &Journal) -> Result<(), Refusal>
+pub(crate) fn refuse_settle(file: &MarketFile, journal: &Journal) -> Result<(), Refusal>
     ensures refusal { refusal_in result ≡ rules.first_refusal (market_of file.now) journal.now.history command.Settle }
     ensures resolved { IfOk result (λ _. CanBeSettled file.now.net journal.now.history) }
 {

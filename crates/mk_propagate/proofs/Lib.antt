@@ -1,2 +1,15 @@
 pub mod Scopes
 pub mod Shaped
+pub mod Placed
+pub mod Required
+pub mod Calls
+pub mod Order
+pub mod Passed
+pub mod Passes
+pub mod Margins
+pub mod Inputs
+pub mod Grading
+pub mod Readings
+pub mod Messages
+pub mod Sending
+pub mod Believing

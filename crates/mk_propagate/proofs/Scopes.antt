@@ -1,8 +1,8 @@
 -- The scopes of cliques and separators.
-use Rattle.std.proofs.Common.{◌≡◌, ℕ, suc, zero, ◌+◌, ◌*◌, ◌<◌, ◌≤◌, Bool, true, false, cond, ◌&&◌, ◌||◌, ◌⊎◌, inl, inr, eqb, ◌-◌, List, [], ◌∷◌, map, filter, length, slice_index, slice_index_or, All, refl, sym, ap, subst, ◌∙◌, arith, eq-eqb}
+use Rattle.std.proofs.Common.{◌≡◌, ℕ, suc, zero, ◌+◌, ◌*◌, ◌<◌, ◌≤◌, Bool, true, false, cond, ◌&&◌, ◌||◌, ◌⊎◌, inl, inr, eqb, ◌-◌, List, [], ◌∷◌, filter, length, slice_index, refl, sym, ap, subst, ◌∙◌, arith, eq-eqb}
 use Rattle.std.proofs.Math.Path.{fun_ext}
 use Rattle.std.proofs.Math.Nat.{mul-le-mul}
-use Rattle.std.proofs.lemmas.Bool.{cases_Bool, cases_eq, both_ways, or_left, or_right, or_cases, and_parts, and_from, eqb-true, cond-true, cond-false}
+use Rattle.std.proofs.lemmas.Bool.{cases_Bool, cases_eq, both_ways, or_left, or_right, or_cases, and_parts, eqb-true, cond-true, cond-false}
 use Rattle.std.proofs.lemmas.List.{length-map}
 use Rattle.std.specs.List.{range_with_len}
 use Rattle.mk_net.specs.declared.sets.VarSet.{VarSet}
@@ -15,7 +15,7 @@ use Rattle.mk_exact.proofs.Positive.{size_at}
 use Rattle.mk_sums.specs.Sums.{listed}
 use Rattle.mk_sums.specs.Cells.{keep, cells, place, InRange}
 use Rattle.mk_sums.specs.Joint.{variables}
-use Rattle.mk_table.specs.Scopes.{ScopeOf, size_in, cells_in, has_variable, scope_of, LiesIn, HasSized}
+use Rattle.mk_table.specs.Scopes.{size_in, cells_in, has_variable, scope_of, LiesIn, HasSized}
 use Rattle.mk_table.specs.Cells.{values_at}
 use Rattle.mk_table.proofs.Members.{size_of_map}
 use Rattle.mk_table.proofs.Places.{cells_same, place_same, place_below, place_other}
@@ -116,7 +116,8 @@ module _ (network : List Variable) where
     values_within c = fun_ext (λ x. place_same (size_in (scope_within network set)) (slice_index (sizes network)) (keep set (variables (sizes network))) size_within c (λ y. 0) x)
 
     -- are in range
-    pub values_below : IsNetwork network → (c : ℕ) → c < cells_in (scope_within network set) → InRange (slice_index (sizes network)) (variables (sizes network)) (values_at (scope_within network set) c)
+    pub values_below : IsNetwork network → (c : ℕ) → c < cells_in (scope_within network set)
+        → InRange (slice_index (sizes network)) (variables (sizes network)) (values_at (scope_within network set) c)
     values_below legal c l x p = at (cases_Bool (has_variable (scope_within network set) x))
       where
         at : ((has_variable (scope_within network set) x ≡ true) ⊎ (has_variable (scope_within network set) x ≡ false)) → values_at (scope_within network set) c x < slice_index (sizes network) x
@@ -161,7 +162,8 @@ clique_counted network tree k = cells_counted network (clique_at tree k)
 fewer_cells : (size : ℕ → ℕ) (part whole : ℕ → Bool) (xs : List ℕ) → ((x : ℕ) → listed xs x ≡ true → 1 ≤ size x) → ((x : ℕ) → part x ≡ true → whole x ≡ true)
     → cells size (keep part xs) ≤ cells size (keep whole xs)
 fewer_cells size part whole [] some h = omega arith
-fewer_cells size part whole (x ∷ xs) some h = at (part x) (whole x) (h x) (some x (or_left (eqb x x) (listed xs x) (eq-eqb x x refl))) (fewer_cells size part whole xs (λ y l. some y (or_right (eqb y x) (listed xs y) l)) h)
+fewer_cells size part whole (x ∷ xs) some h = at (part x) (whole x) (h x) (some x (or_left (eqb x x) (listed xs x) (eq-eqb x x refl)))
+    (fewer_cells size part whole xs (λ y l. some y (or_right (eqb y x) (listed xs y) l)) h)
   where
     at : (p w : Bool) → (p ≡ true → w ≡ true) → 1 ≤ size x → cells size (keep part xs) ≤ cells size (keep whole xs)
         → cells size (cond p (x ∷ keep part xs) (keep part xs)) ≤ cells size (cond w (x ∷ keep whole xs) (keep whole xs))
@@ -194,7 +196,8 @@ clique_small network tree h k p q =
     omega (arith, l, clique_counted network tree k)
 
 -- no clique has too many cells, and no separator
-pub clique_fits : (network : List Variable) (tree : GivenTree) → IsTreeOf network tree → (k : ℕ) → IsClique tree k → (set : VarSet) → set ≡ clique_at tree k → cells_in (scope_of network set) ≤ max_clique_cells
+pub clique_fits : (network : List Variable) (tree : GivenTree) → IsTreeOf network tree → (k : ℕ) → IsClique tree k → (set : VarSet) → set ≡ clique_at tree k
+    → cells_in (scope_of network set) ≤ max_clique_cells
 clique_fits network tree h k is set e =
     subst (λ (s : VarSet). cells_in (scope_of network s) ≤ max_clique_cells) (sym e) (clique_small network tree h k is.first is.last)
 
@@ -202,9 +205,11 @@ clique_fits network tree h k is set e =
 pub shared_scope : (network : List Variable) (tree : GivenTree) (k link : ℕ) (a b set : VarSet) → a ≡ clique_at tree k → b ≡ clique_at tree link → link ≡ link_of tree k
     → ((x : ℕ) → is_member set x ≡ (is_member a x && is_member b x)) → scope_of network set ≡ scope_within network (shares tree k)
 shared_scope network tree k link a b set e f g made =
-    ap (scope_within network) (fun_ext (λ x. made x ∙ ap (λ (s : VarSet). is_member s x && is_member b x) e ∙ ap (λ (s : VarSet). is_member (clique_at tree k) x && is_member s x) (f ∙ ap (clique_at tree) g)))
+    ap (scope_within network) (fun_ext (λ x. made x ∙ ap (λ (s : VarSet). is_member s x && is_member b x) e
+    ∙ ap (λ (s : VarSet). is_member (clique_at tree k) x && is_member s x) (f ∙ ap (clique_at tree) g)))
 
-pub shared_fits : (network : List Variable) (tree : GivenTree) → IsNetwork network → IsTreeOf network tree → (k : ℕ) → IsClique tree k → (set : VarSet) → scope_of network set ≡ scope_within network (shares tree k)
+pub shared_fits : (network : List Variable) (tree : GivenTree) → IsNetwork network → IsTreeOf network tree → (k : ℕ) → IsClique tree k → (set : VarSet)
+    → scope_of network set ≡ scope_within network (shares tree k)
     → cells_in (scope_of network set) ≤ max_clique_cells
 shared_fits network tree legal h k is set e =
     let l = part_has_fewer network legal (shares tree k) (holds tree k) (λ x p. (and_parts (holds tree k x) (holds tree (link_of tree k) x) p).0) in

@@ -1,12 +1,11 @@
 -- One clique more of what a shape keeps, and the next cliques on the ways.
-use Rattle.std.proofs.Common.{◌≡◌, ◌≢◌, ℕ, suc, zero, ◌+◌, ◌-◌, ◌<◌, ◌≤◌, Bool, true, false, cond, ◌⊎◌, inl, inr, List, [], ◌∷◌, ◌++◌, map, filter, length, slice_index, slice_index_or, get_or, refl, sym, ap, subst, ◌∙◌, arith}
+use Rattle.std.proofs.Common.{◌≡◌, ◌≢◌, ℕ, suc, ◌+◌, ◌-◌, ◌<◌, ◌≤◌, Bool, true, false, cond, ◌⊎◌, inl, inr, List, [], ◌∷◌, ◌++◌, map, filter, length, slice_index, slice_index_or, get_or, refl, sym, ap, subst, ◌∙◌, arith}
 use Rattle.std.specs.List.{range_with_len}
-use Rattle.std.proofs.lemmas.Bool.{cases_eq, cases_lt, cond-true, cond-false}
+use Rattle.std.proofs.lemmas.Bool.{cases_eq}
 use Rattle.std.proofs.lemmas.List.{length-map, length_push, get_or_push, get_or_default}
-use Rattle.std.proofs.lemmas.List.FromFn.{map-range_with_len_more, get_or-map-range_with_len, length-map-range_with_len, length-range_with_len}
+use Rattle.std.proofs.lemmas.List.FromFn.{map-range_with_len_more, get_or-map-range_with_len, length-map-range_with_len}
 use Rattle.std.proofs.Math.ListN.{get_or-map, get_or-append}
-use Rattle.mk_sums.specs.Trees.{Links, hop, linked_to}
-use Rattle.mk_sums.proofs.Hops.{IsChild, AreLinked, ends, hop_linked, hop_near, hop_up, hop_step}
+use Rattle.mk_sums.proofs.Hops.{IsChild, ends, hop_linked, hop_near, hop_up, hop_step}
 use Rattle.mk_table.proofs.Members.{range_more}
 use Rattle.mk_tree.specs.Given.{GivenTree, link_of, holds}
 use Rattle.mk_tree.specs.Given as given
@@ -80,7 +79,8 @@ module _ (tree : GivenTree) (linked : given.AreLinked tree) (from : ℕ) (is : I
       sym (hop_step (link_of tree) (length tree.cliques) from to (link_of tree to) linked.earlier (inl (child to p q)) is.first is.last (λ e. omega arith) (λ e. d (sym e)))
 
   -- one clique more of a row
-  pub row_more : (count next : ℕ) (row new : List ℕ) → IsRowFrom tree from count row → new ≡ row ++ next ∷ [] → (from ≢ count + 1 → next ≡ next_on_way tree from (count + 1)) → IsRowFrom tree from (count + 1) new
+  pub row_more : (count next : ℕ) (row new : List ℕ) → IsRowFrom tree from count row → new ≡ row ++ next ∷ [] → (from ≢ count + 1
+      → next ≡ next_on_way tree from (count + 1)) → IsRowFrom tree from (count + 1) new
   row_more count next row new h pushed last = record {
     long = ap length pushed ∙ length_push row next ∙ ap (λ n. n + 1) h.long;
     next_is = λ to p q d. at to p q d (cases_eq to (count + 1));
@@ -102,7 +102,8 @@ module _ (tree : GivenTree) (linked : given.AreLinked tree) (from : ℕ) (is : I
       record { first = n.0; last = n.1 }
 
 -- one row more
-pub rows_more : (tree : GivenTree) (count : ℕ) (rows new : List (List ℕ)) (row : List ℕ) → AreRows tree count rows → new ≡ rows ++ row ∷ [] → IsRowFrom tree (count + 1) (length tree.cliques) row → AreRows tree (count + 1) new
+pub rows_more : (tree : GivenTree) (count : ℕ) (rows new : List (List ℕ)) (row : List ℕ) → AreRows tree count rows → new ≡ rows ++ row ∷ []
+    → IsRowFrom tree (count + 1) (length tree.cliques) row → AreRows tree (count + 1) new
 rows_more tree count rows new row h pushed last = record {
   long = ap length pushed ∙ length_push rows row ∙ ap (λ n. n + 1) h.long;
   row_is = λ from p q. at from p q (cases_eq from (count + 1));
@@ -111,15 +112,18 @@ rows_more tree count rows new row h pushed last = record {
     at : (from : ℕ) → 1 ≤ from → from ≤ count + 1 → ((from ≡ count + 1) ⊎ (from ≡ count + 1 → ⊥)) → IsRowFrom tree from (length tree.cliques) (slice_index_or new (from - 1) [])
     at from p q (inl e) =
         let i : from - 1 ≡ count = omega arith in
-        let r : slice_index_or new (from - 1) [] ≡ row = ap (λ (ns : List (List ℕ)). slice_index_or ns (from - 1) []) pushed ∙ ap (λ (k : ℕ). slice_index_or (rows ++ row ∷ []) k []) i ∙ get_or_push rows row [] count h.long in
+        let r : slice_index_or new (from - 1) [] ≡ row = ap (λ (ns : List (List ℕ)). slice_index_or ns (from - 1) []) pushed
+        ∙ ap (λ (k : ℕ). slice_index_or (rows ++ row ∷ []) k []) i ∙ get_or_push rows row [] count h.long in
         subst (λ (ns : List ℕ). IsRowFrom tree from (length tree.cliques) ns) (sym r) (subst (λ (k : ℕ). IsRowFrom tree k (length tree.cliques) row) (sym e) last)
     at from p q (inr f) =
         let l : from - 1 < length rows = omega (arith, h.long) in
-        let r : slice_index_or new (from - 1) [] ≡ slice_index_or rows (from - 1) [] = ap (λ (ns : List (List ℕ)). slice_index_or ns (from - 1) []) pushed ∙ get_or-append rows (row ∷ []) [] (from - 1) l in
+        let r : slice_index_or new (from - 1) [] ≡ slice_index_or rows (from - 1) [] = ap (λ (ns : List (List ℕ)). slice_index_or ns (from - 1) []) pushed
+        ∙ get_or-append rows (row ∷ []) [] (from - 1) l in
         subst (λ (ns : List ℕ). IsRowFrom tree from (length tree.cliques) ns) (sym r) (h.row_is from p (omega arith))
 
 -- rows as they are kept: a list of vectors
-pub rows_push : {A : Type 0} (f : A → List ℕ) (tree : GivenTree) (count : ℕ) (rows new : List A) (row : A) → AreRows tree count (map f rows) → new ≡ rows ++ row ∷ [] → IsRowFrom tree (count + 1) (length tree.cliques) (f row)
+pub rows_push : {A : Type 0} (f : A → List ℕ) (tree : GivenTree) (count : ℕ) (rows new : List A) (row : A) → AreRows tree count (map f rows)
+    → new ≡ rows ++ row ∷ [] → IsRowFrom tree (count + 1) (length tree.cliques) (f row)
     → AreRows tree (count + 1) (map f new)
 rows_push f tree count rows new row h pushed last = rows_more tree count (map f rows) (map f new) (f row) h (ap (map f) pushed ∙ map_push f rows row) last
 

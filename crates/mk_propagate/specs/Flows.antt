@@ -1,5 +1,5 @@
 -- Flows: a table for each clique, and a message each way between linked cliques.
-use Rattle.std.specs.Prelude.{◌≡◌, ◌≢◌, ℕ, ◌+◌, ◌-◌, ◌*◌, ◌<◌, ◌≤◌, None, List, [], length, All, true, false, min, nat_lt, if◌then◌else◌, slice_index, slice_index_or}
+use Rattle.std.specs.Prelude.{◌≡◌, ◌≢◌, ℕ, ◌+◌, ◌-◌, ◌*◌, ◌<◌, ◌≤◌, List, [], length, true, false, min, None, nat_lt, if◌then◌else◌, slice_index, slice_index_or}
 use Rattle.mk_net.specs.declared.words.Pair.{Pair}
 use Rattle.mk_net.specs.Bounds.{number_limit}
 use Rattle.mk_net.specs.Network.{sizes}

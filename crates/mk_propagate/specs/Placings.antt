@@ -1,7 +1,7 @@
 -- What is placed in the cliques of a tree: factors, and known pairs.
-use Rattle.std.specs.Prelude.{◌≡◌, ℕ, ◌+◌, ◌<◌, ◌≤◌, ◌==◌, List, [], ◌∷◌, ◌++◌, map, length, All, true, count_by}
+use Rattle.std.specs.Prelude.{◌≡◌, ℕ, ◌<◌, ◌≤◌, ◌==◌, List, [], ◌∷◌, ◌++◌, map, length, All, true, count_by}
 use Rattle.mk_net.specs.declared.words.Pair.{Pair}
-use Rattle.mk_net.specs.Asked.{TradeRatio, ratio_pairs}
+use Rattle.mk_net.specs.Asked.{ratio_pairs}
 use Rattle.mk_net.specs.Network.{Variable}
 use Rattle.mk_exact.specs.Proper.{IsPairOf, IsRatioOf}
 use Rattle.mk_sums.specs.Joint.{Item, placed_in, where_has}

@@ -1,2 +1,7 @@
 -- What only proofs and private contracts cite.
+pub mod Kept
+pub mod Gathered
 pub mod Shaped
+pub mod Passes
+pub mod Ones
+pub mod Some

@@ -3,15 +3,19 @@
 ghost use Rattle.std.specs.Prelude.{◌≡◌, ℕ, ◌+◌, ◌-◌, ◌<◌, ◌≤◌, List, map, length, true, IfOk};
 ghost use Rattle.mk_net.specs.Trades.{trade_ratio};
 ghost use Rattle.mk_net.specs.Network.{Variable};
+ghost use Rattle.mk_sums.specs.Trees.{sum_of};
+ghost use Rattle.mk_table.specs.Scopes.{cells_in};
+ghost use Rattle.mk_tree.specs.Given.{AreLinked};
 ghost use Rattle.mk_engine.specs.Meaning.{RowsOf, RatioOf};
-ghost use Rattle.mk_propagate.specs.Shapes.{IsShapeFor, are_linked};
+ghost use Rattle.mk_propagate.specs.Shapes.{IsShapeFor, IsClique, clique_scope, separator_scope};
 ghost use Rattle.mk_propagate.specs.Placings.{Placing, nothing_placed, with_factor_in, with_pair_in, IsPlacedFactor, IsPlacedPair};
-ghost use Rattle.mk_propagate.specs.Flows.{HasPlaced, CanPlace, Places, KeepsMessages, KeepsTables, CanSend, CanRead, AreRightBut, AreRightInto, IsRight, IsReading, message_at, counted_on};
+ghost use Rattle.mk_propagate.specs.Flows.{HasPlaced, CanPlace, Places, KeepsMessages};
+ghost use Rattle.mk_propagate.specs.inner.Ones.{AreOnes};
 
 use crate::shape::Shape;
-use mk_net::{Event, Network, NoMemory, Pair, Ratio};
+use mk_net::{Network, NoMemory, Pair, Ratio};
 use mk_semiring::Semiring;
-use mk_table::Table;
+use mk_table::{CellList, Table};
 use std::alloc::Global;
 use std::marker::Model;
 use std::rc::Rc;
@@ -25,8 +29,9 @@ pub struct Flow<R: Semiring> {
     pub(crate) tables: Vec<Table<R>>,
     pub(crate) upward: Vec<Table<R>>,
     pub(crate) downward: Vec<Table<R>>,
-    // Where a message or a belief is worked out: one table for each clique.
+    // Where a message or a belief is worked out: one table for each clique, and the cells of an event.
     pub(crate) scratch: Vec<Table<R>>,
+    pub(crate) chosen: CellList,
     // Of all cliques.
     pub(crate) cells: u32,
     pub(crate) factors: u32,
@@ -35,6 +40,7 @@ pub struct Flow<R: Semiring> {
 
 impl<R: Semiring> Model for Flow<R> {
     ghost use Rattle.mk_propagate.specs.Flows.{FlowOf};
+    ghost use Rattle.mk_propagate.specs.inner.Kept.{IsKept};
 
     ghost Value = { FlowOf };
 
@@ -47,7 +53,14 @@ impl<R: Semiring> Model for Flow<R> {
       computed = f.computed;
     } };
 
-    ghost invariant = { λ f. ⊥ };
+    ghost invariant = { λ f. IsKept (record {
+      shape = f.shape.value;
+      tables = f.tables.items;
+      upward = f.upward.items;
+      downward = f.downward.items;
+      factors = f.factors;
+      computed = f.computed;
+    }) f.scratch.items f.cells };
 }
 
 impl<R: Semiring> Flow<R> {
@@ -57,9 +70,23 @@ impl<R: Semiring> Flow<R> {
         ensures computed { IfOk result (λ flow. flow.computed ≡ 0) }
         ensures placed { IfOk result (λ flow. (network : List Variable) → IsShapeFor shape.now.value network → HasPlaced flow (nothing_placed network)) }
     {
-        let _ = alloc;
-        let _ = shape;
-        Err(NoMemory)
+        let of: &Shape = shape;
+        let _ = of.cliques();
+        let tables = tables_of_cliques(alloc, of)?;
+        let upward = tables_of_separators(alloc, of)?;
+        let downward = tables_of_separators(alloc, of)?;
+        let scratch = tables_of_cliques(alloc, of)?;
+        Ok(Flow {
+            shape: shape.clone()?,
+            tables,
+            upward,
+            downward,
+            scratch,
+            chosen: CellList::new(),
+            cells: count_cells(of),
+            factors: 0,
+            computed: 0,
+        })
     }
 
     /// The shape.
@@ -75,6 +102,7 @@ impl<R: Semiring> Flow<R> {
     {
         self.computed
     }
+
     /// Places the rows of a variable in a clique that holds it and its parents.
     pub fn times_rows(&mut self, clique: u32, net: &Network, variable: u32)
         requires { (p : Placing) × CanPlace self.old p × (p.network ≡ net.now)
@@ -83,8 +111,8 @@ impl<R: Semiring> Flow<R> {
             → Places R.plus_of self.old self.new clique p (with_factor_in clique (RowsOf variable) p) }
         ensures kept { KeepsMessages self.old self.new }
     {
-        let _ = &self.factors;
-        unreachable!()
+        self.tables[clique as usize - 1].times_rows(net, variable);
+        self.factors += 1;
     }
 
     /// Places the ratio of a trade in a clique that holds its variables.
@@ -95,8 +123,8 @@ impl<R: Semiring> Flow<R> {
             → Places R.plus_of self.old self.new clique p (with_factor_in clique (RatioOf (trade_ratio ratio.now)) p) }
         ensures kept { KeepsMessages self.old self.new }
     {
-        let _ = &self.factors;
-        unreachable!()
+        self.tables[clique as usize - 1].times_ratio(ratio);
+        self.factors += 1;
     }
 
     /// Places a known pair in a clique that holds its variable.
@@ -105,34 +133,42 @@ impl<R: Semiring> Flow<R> {
         ensures places { (p : Placing) → HasPlaced self.old p → Places R.plus_of self.old self.new clique p (with_pair_in clique pair p) }
         ensures kept { KeepsMessages self.old self.new }
     {
-        let _ = &self.factors;
-        unreachable!()
+        self.tables[clique as usize - 1].restrict(pair);
     }
+}
 
-    /// Makes the message from a clique to one that is linked to it: the plus, over what the separator does not hold, of what is placed
-    /// in the clique times the messages from its other neighbours.
-    pub fn message(&mut self, from: u32, to: u32)
-        requires { CanSend R.plus_of self.old from to }
-        ensures right { (p : Placing) → HasPlaced self.old p → AreRightBut R.plus_of self.old p from to → IsRight R.plus_of self.new p from to }
-        ensures others { (a b : ℕ) → are_linked self.old.shape.tree a b ≡ true → ((a ≡ from) × (b ≡ to) → ⊥) → message_at self.new a b ≡ message_at self.old a b }
-        ensures kept { KeepsTables self.old self.new }
-        ensures counted { self.new.computed ≡ counted_on self.old.computed 1 }
-    {
-        let _ = (from, to);
-        let _ = &self.factors;
-        unreachable!()
+/// A table of ones over the scope of each clique.
+fn tables_of_cliques<R: Semiring>(alloc: Global, shape: &Shape) -> Result<Vec<Table<R>>, NoMemory>
+    ensures { IfOk result (λ tables. AreOnes (clique_scope shape.now) 1 (length shape.now.tree.cliques) tables.items) }
+{
+    let mut tables = Vec::new(alloc);
+    for passed in 0..shape.cliques() {
+        tables.push(Table::ones(alloc, shape.clique(passed + 1))?)?;
     }
+    Ok(tables)
+}
 
-    /// The belief in an event, read in a clique that holds it.
-    pub fn read(&mut self, clique: u32, event: &Event) -> R::Value
-        requires { CanRead R.plus_of self.old clique event.now }
-        ensures kept { self.new ≡ self.old }
-        ensures reading { (p : Placing) → HasPlaced self.old p → AreRightInto R.plus_of self.old p clique
-            → IsReading R.encloses R.has_grade R.is_exact R.plus_of self.old.shape.tree p clique event.now result }
-    {
-        let _ = clique;
-        let _ = event;
-        let _ = &self.factors;
-        unreachable!()
+/// A table of ones over the scope of each separator.
+fn tables_of_separators<R: Semiring>(
+    alloc: Global,
+    shape: &Shape,
+) -> Result<Vec<Table<R>>, NoMemory>
+    ensures { IfOk result (λ tables. AreOnes (separator_scope shape.now) 2 (length shape.now.tree.cliques - 1) tables.items) }
+{
+    let mut tables = Vec::new(alloc);
+    for passed in 0..shape.cliques() - 1 {
+        tables.push(Table::ones(alloc, shape.separator(passed + 2))?)?;
     }
+    Ok(tables)
+}
+
+/// How many cells all cliques have.
+fn count_cells(shape: &Shape) -> u32
+    ensures { result ≡ sum_of (λ k. true) (length shape.now.tree.cliques) (λ k. cells_in (clique_scope shape.now k)) }
+{
+    let mut cells = 0;
+    for passed in 0..shape.cliques() {
+        cells += shape.clique(passed + 1).cells() as u32;
+    }
+    cells
 }

@@ -1,8 +1,14 @@
 //! Messages in a tree of cliques: what is placed in the cliques, the messages between them, and what is read from both.
 #![tactic(auto)]
 
+mod collect;
 mod flow;
+mod message;
+mod read;
 mod shape;
 
 pub use flow::Flow;
 pub use shape::Shape;
+
+#[cfg(test)]
+mod tests;

@@ -14,14 +14,14 @@ ghost use Rattle.mk_session.specs.inner.Progress.{AreCutOff, IsSoFar, IsEnded};
 use crate::print::{LineBuffer, print_reply_line};
 use mk_command::read_command;
 use mk_io::{Inputs, Lines, Next, Sink, SinkFailed, Status, write_all};
-use mk_joint::JointEngine;
 use mk_market::Market;
 use mk_reply::{Refusal, Reply};
 use mk_semiring::{MinProd, SumProd};
+use mk_tree_engine::TreeEngine;
 use std::alloc::Global;
 
-/// A market over engines with one cell for each joint state.
-pub type JointMarket = Market<JointEngine<SumProd>, JointEngine<MinProd>>;
+/// A market whose prices and least factors come by messages along its tree.
+pub type TreeMarket = Market<TreeEngine<SumProd>, TreeEngine<MinProd>>;
 
 /// Whether a line holds no byte but spaces.
 fn is_blank(line: &[u8]) -> bool
@@ -31,7 +31,7 @@ fn is_blank(line: &[u8]) -> bool
 }
 
 /// The reply to a line that is not too long and not blank.
-fn reply_to(alloc: Global, market: &mut JointMarket, line: &[u8]) -> Reply
+fn reply_to(alloc: Global, market: &mut TreeMarket, line: &[u8]) -> Reply
     requires { list_all (λ b. b == 32) line.now ≡ false }
     ensures market { market.new.market ≡ market.old.market }
     ensures answered { AreAnswered market.old.market market.old.standing (text line.now ∷ []) market.new.standing (reply_line result) }
@@ -57,7 +57,7 @@ fn say<S: Sink>(reply: &Reply, buffer: &mut LineBuffer, out: &mut S) -> Result<(
 /// Answers a line that is not too long: nothing is written for a blank one.
 fn answer_text<S: Sink>(
     alloc: Global,
-    market: &mut JointMarket,
+    market: &mut TreeMarket,
     line: &[u8],
     buffer: &mut LineBuffer,
     out: &mut S,
@@ -78,7 +78,7 @@ fn answer_text<S: Sink>(
 
 /// Answers a line that is too long.
 fn answer_long<S: Sink>(
-    market: &mut JointMarket,
+    market: &mut TreeMarket,
     buffer: &mut LineBuffer,
     out: &mut S,
 ) -> Result<(), SinkFailed>
@@ -96,7 +96,7 @@ fn answer_long<S: Sink>(
 /// Takes the next line of the stream and answers it. None where the run goes on; else how it ends.
 fn take_turn<I: Inputs, S: Sink>(
     alloc: Global,
-    market: &mut JointMarket,
+    market: &mut TreeMarket,
     lines: &mut Lines,
     inputs: &mut I,
     buffer: &mut LineBuffer,
@@ -140,7 +140,7 @@ fn end_after(said: Result<(), SinkFailed>) -> Option<Status>
 /// Answers the commands to their end, or until reading or writing fails.
 pub fn answer_lines<I: Inputs, S: Sink>(
     alloc: Global,
-    market: &mut JointMarket,
+    market: &mut TreeMarket,
     inputs: &mut I,
     buffer: &mut LineBuffer,
     out: &mut S,

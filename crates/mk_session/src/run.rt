@@ -4,7 +4,6 @@ ghost use Rattle.std.specs.Prelude.{◌≡◌, ◌≢◌, ◌+◌, ◌<◌, ◌�
 ghost use Rattle.mk_io.specs.Outside.{Rose, IsAtEnd, CountsFault};
 ghost use Rattle.mk_file.specs.File.{file_of};
 ghost use Rattle.mk_tree.specs.Checked.{IsTreeOf};
-ghost use Rattle.mk_file.specs.Few.{HasFewStates};
 ghost use Rattle.mk_file.specs.MarketOf.{market_of};
 ghost use Rattle.mk_exact.specs.Market.{Market};
 ghost use Rattle.mk_file.specs.declared.fault.FileFault.{FileFault};
@@ -12,7 +11,7 @@ ghost use Rattle.mk_session.specs.Outcome.{Adds, Ends, Opened, Outcome, HasCause
 ghost use Rattle.mk_session.specs.Complete.{AreWithin};
 ghost use Rattle.mk_session.specs.inner.Loading.{opened_part, IsTaken, HasLoadCause};
 
-use crate::answer::{JointMarket, answer_lines};
+use crate::answer::{TreeMarket, answer_lines};
 use crate::print::{LineBuffer, print_fault_line, print_ready};
 use mk_file::{FileFault, MarketFile, read_market};
 use mk_io::{InputFailed, Inputs, Sink, Status, write_all};
@@ -95,14 +94,13 @@ fn answer_file<I: Inputs, S: Sink>(
     line: &mut LineBuffer,
     out: &mut S,
 ) -> Status
-    requires few { HasFewStates file.net }
     requires tree { IsTreeOf file.net file.tree }
     ensures outcome { (all : List ℕ) → I.commands inputs.old ≡ Some all →
         Opened result (Ok (market_of file)) all (I.commands inputs.new) (S.written out.old) (S.written out.new) }
     ensures causes { HasCauses result (I.faults inputs.old) (I.faults inputs.new) (S.faults out.old) (S.faults out.new) }
     ensures not_usage { result ≢ Status.Usage }
 {
-    let mut market = match JointMarket::start(alloc, file) {
+    let mut market = match TreeMarket::start(alloc, file) {
         Ok(market) => market,
         Err(_) => return Status::Memory,
     };

@@ -1,12 +1,12 @@
 -- Cells that no ratio touched, and the numbers of their own that they stand for.
-use Rattle.std.proofs.Common.{◌≡◌, ℕ, zero, suc, ◌+◌, ◌*◌, ◌/◌, ◌^◌, ◌<◌, ◌≤◌, Bool, true, false, cond, ◌⊎◌, inl, inr, List, [], ◌∷◌, length, slice_index, All, refl, sym, ap, subst, ◌∙◌, arith, zero-mul}
+use Rattle.std.proofs.Common.{◌≡◌, ℕ, ◌+◌, ◌*◌, ◌/◌, ◌^◌, ◌<◌, ◌≤◌, Bool, true, false, cond, ◌⊎◌, inl, inr, List, [], ◌∷◌, length, slice_index, All, refl, sym, ap, subst, ◌∙◌, arith, zero-mul}
 use Rattle.std.proofs.lemmas.Bool.{cases_Bool}
 use Rattle.std.proofs.lemmas.Nat.{pow-add, shl-shr}
 use Rattle.std.proofs.lemmas.List.Elements.{All-head, All-tail, All-weaker}
 use Rattle.std.proofs.Math.Nat.{mul_assoc, mul_comm, mul-mul-mul_comm}
 use Rattle.mk_exact.specs.Lawful.{Lawful}
 use Rattle.mk_exact.specs.States.{plus_over}
-use Rattle.mk_cell.specs.Cell.{StandsAt, AllStand, IsOwnAt}
+use Rattle.mk_cell.specs.Cell.{StandsAt, IsOwnAt}
 use Rattle.mk_cell.specs.inner.Laws.{stands_with_more}
 use Rattle.mk_cell.proofs.Standing.{absent_stands}
 use Rattle.mk_table.specs.inner.Parts.{IsTimes, IsTimesCell, IsChanged, IsRestricted, StandListed, AreNumbers}

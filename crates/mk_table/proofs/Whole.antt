@@ -2,7 +2,7 @@
 use Rattle.std.proofs.Common.{◌≡◌, ℕ, ◌+◌, ◌*◌, ◌/◌, ◌^◌, ◌<◌, ◌≤◌, Bool, true, false, cond, ◌==◌, List, map, length, slice_index, All, sym, ap, subst, ◌∙◌, arith, zero-add}
 use Rattle.std.proofs.Math.ListN.{get_or-map}
 use Rattle.std.proofs.Math.Path.{fun_ext}
-use Rattle.std.specs.Prelude.{Vec, Option, Some, None}
+use Rattle.std.specs.Prelude.{Vec, Option, Some}
 use Rattle.std.specs.Vec.{with_items}
 use Rattle.std.proofs.lemmas.Bool.{eqb-true}
 use Rattle.std.proofs.lemmas.List.{length-map, with_items_is}
@@ -112,8 +112,10 @@ module _ (t : TableOf) (scope : ScopeOf) (shift : ℕ) (od oe : List ℕ) (are :
       (subst (λ (s : ScopeOf). AreNumbers (touched_cells touched scope) (shift + k) nd ne (λ c. f c * g (cell_in s scope c)) (n + p + 1)) others.scope_is
       (cells_are (touched_cells t.touched scope) (touched_cells touched scope) (touched_cells m.touched part) (λ c. cell_in part scope c) md me od oe nd ne (cells_in scope) full.as_many_digits
       (λ c l. omega (arith, other_full.as_many_digits, cell_within part scope lies_too c l))
-      (λ c l o. (false_before (touched_cells t.touched scope c) (touched_cells touched scope c) (either.of_first (values_at scope c)) o,
-      touched_in part scope m.touched lies_too other_there c l ∙ false_before (touched_cells m.touched scope c) (touched_cells touched scope c) (either.of_second (values_at scope c)) o))
+      (λ c l o. (
+        false_before (touched_cells t.touched scope c) (touched_cells touched scope c) (either.of_first (values_at scope c)) o,
+        touched_in part scope m.touched lies_too other_there c l ∙ false_before (touched_cells m.touched scope c) (touched_cells touched scope c) (either.of_second (values_at scope c)) o,
+      ))
       h shift k f g n p (parts_numbers f n has) message))
     where
       lies_too : LiesIn part scope

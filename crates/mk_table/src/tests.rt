@@ -399,7 +399,7 @@ fn untouched_after_two_conditions(rt: HostRuntime) -> Result<(), Fail> {
     let net = network(&rt, rt.alloc())?;
     let mut table = ones::<SumProd>(rt.alloc(), &net)?;
     trade(&mut table, &each_heat(&rt, only(&rt, RAIN)));
-    trade(&mut table, &each_rain(&rt));
+    table.times_ratio(&each_rain(&rt));
     assert!(rt; !table.is_untouched(&only(&rt, DRY)));
     table.restrict(RAIN);
     assert!(rt; !table.is_untouched(&only(&rt, DRY)));

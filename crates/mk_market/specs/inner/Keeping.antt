@@ -7,7 +7,7 @@ use Rattle.mk_exact.specs.Weight.{IsSmall}
 use Rattle.mk_exact.specs.History.{Entry, users, revision, is_settled}
 use Rattle.mk_tree.specs.Given.{GivenTree}
 use Rattle.mk_tree.specs.Checked.{IsTreeOf}
-use Rattle.mk_file.specs.declared.opened.MarketFile.{MarketFile}
+use Rattle.mk_file.specs.declared.market_file.MarketFile.{MarketFile}
 use Rattle.mk_file.specs.MarketOf.{market_of}
 use Rattle.mk_engine.specs.Meaning.{Meaning}
 use Rattle.mk_beliefs.specs.Meanings.{weights_of}

@@ -1,10 +1,10 @@
 -- How a shape is kept: beside the scopes, the list of each clique's neighbours, and a row of next cliques for each clique.
-use Rattle.std.specs.Prelude.{◌≡◌, ◌≢◌, ℕ, ◌+◌, ◌-◌, ◌≤◌, List, [], map, length, slice_index, slice_index_or, Vec}
+use Rattle.std.specs.Prelude.{◌≡◌, ◌≢◌, ℕ, ◌+◌, ◌-◌, ◌≤◌, List, [], map, length, slice_index, slice_index_or}
 use Rattle.std.specs.List.{range_with_len}
 use Rattle.mk_net.specs.Network.{Variable}
 use Rattle.mk_table.specs.Scopes.{ScopeOf}
 use Rattle.mk_tree.specs.Given.{GivenTree, AreLinked, holds}
-use Rattle.mk_propagate.specs.Shapes.{ShapeOf, IsClique, next_on_way, neighbours, scope_within, shares}
+use Rattle.mk_propagate.specs.Shapes.{ShapeOf, next_on_way, neighbours, scope_within, shares}
 
 -- the scopes of the cliques from 1 on, so many of them
 abbrev pub scopes_of_cliques : List Variable → GivenTree → ℕ → List ScopeOf

@@ -1,8 +1,5 @@
-use Rattle.std.proofs.Common.{sym, ◌∙◌}
 use Rattle.std.proofs.lemmas.Result.{err_from_is_err_and}
-use Rattle.mk_net.specs.Drafts.{drafts_of}
 use Rattle.mk_file.specs.inner.Views.{draft_of}
-use Rattle.mk_file.proofs.Counted.{few_states}
 use Rattle.mk_file.proofs.Grown.{tree_refused}
 use Rattle.mk_file.proofs.accept.accept.Goals as goal
 
@@ -14,6 +11,3 @@ returns-in_err-tree-clause-market c =
 
 pub invariant_of-result-clause-tree_of_net : goal.invariant_of-result-clause-tree_of_net
 invariant_of-result-clause-tree_of_net c = ∣ c.in_ok-tree.ensures.tree ∣₁
-
-pub returns-clause-few : goal.returns-clause-few
-returns-clause-few c = rw c.in_ok-net.ensures.network (few_states (drafts_of c.args.draft.now.draft) (sym c.is_large.ensures ∙ c.if-is_large.false))

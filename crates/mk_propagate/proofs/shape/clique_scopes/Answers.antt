@@ -9,7 +9,11 @@ use Rattle.mk_propagate.proofs.shape.clique_scopes.Goals as goal
 pub of-requires-clause-few_cells : goal.of-requires-clause-few_cells
 of-requires-clause-few_cells c =
     let k = c.loop-passed.passed + 1 in
-    clique_fits c.args.net.now c.args.tree.now c.requires k (record { first = omega arith; last = omega (arith, c.loop-passed-test.true, c.cliques-passed-end.ensures.count) }) c.clique-clique.result c.clique-clique.ensures
+    clique_fits c.args.net.now c.args.tree.now c.requires k (record {
+      first = omega arith;
+      last = omega
+          (arith, c.loop-passed-test.true, c.cliques-passed-end.ensures.count);
+    }) c.clique-clique.result c.clique-clique.ensures
 
 pub loop-passed-preserved : goal.loop-passed-preserved
 loop-passed-preserved c =

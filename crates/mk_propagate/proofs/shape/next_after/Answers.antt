@@ -17,4 +17,5 @@ returns-else-above-from c = λ d.
     let up = c.link-above.ensures in let tree = c.args.tree.now in let from = c.args.from in let to = c.args.to in
     c.requires.row.next_is c.link-above.result up.clique.first (omega (arith, up.earlier)) (λ e. c.if-above-from.false (sym e))
     ∙ ap (next_on_way tree from) up.link
-    ∙ next_down tree c.cliques.ensures.linked from c.requires.from to (omega (arith, up.earlier, up.clique.first)) c.requires.to.last (omega (arith, c.if-to-from.false, c.if-from-to.false)) (λ e. c.if-above-from.false (up.link ∙ e))
+    ∙ next_down tree c.cliques.ensures.linked from c.requires.from to (omega (arith, up.earlier, up.clique.first)) c.requires.to.last (omega
+    (arith, c.if-to-from.false, c.if-from-to.false)) (λ e. c.if-above-from.false (up.link ∙ e))

@@ -7,7 +7,11 @@ use Rattle.mk_propagate.proofs.shape.separator_scopes.Goals as goal
 pub of-requires-clause-few_cells : goal.of-requires-clause-few_cells
 of-requires-clause-few_cells c =
     let net = c.args.net.now in let tree = c.args.tree.now in let k = c.loop-passed.passed + 2 in
-    shared_fits net tree c.variables.ensures.network c.requires k (record { first = omega arith; last = omega (arith, c.loop-passed-test.true, c.cliques-passed-end.ensures.count) }) c.common-shared.result
+    shared_fits net tree c.variables.ensures.network c.requires k (record {
+      first = omega arith;
+      last = omega
+          (arith, c.loop-passed-test.true, c.cliques-passed-end.ensures.count);
+    }) c.common-shared.result
     (shared_scope net tree k c.link-link.result c.clique.result c.clique-in-loop-passed.result c.common-shared.result c.clique.ensures c.clique-in-loop-passed.ensures c.link-link.ensures.link c.common-shared.ensures)
 
 pub loop-passed-preserved : goal.loop-passed-preserved

@@ -1,8 +1,8 @@
-use Rattle.std.proofs.Common.{◌≡◌, sym, subst}
-use Rattle.std.specs.Prelude.{List, Option, Some, None}
+use Rattle.std.proofs.Common.{sym, subst}
+use Rattle.std.specs.Prelude.{List, Option, None}
 use Rattle.mk_net.specs.declared.words.Pair.{Pair}
 use Rattle.mk_table.specs.inner.Touched.{IsBeside}
-use Rattle.mk_table.proofs.Untouched.{pair_contradicts, contradicted}
+use Rattle.mk_table.proofs.Untouched.{contradicted}
 use Rattle.mk_table.proofs.touched.beside.Goals as goal
 
 pub returns-then-contradicts_pair : goal.returns-then-contradicts_pair

@@ -13,12 +13,12 @@ loop-pair-preserved c =
     let l : i < length event = let e = ap (λ (ps : List Pair). length ps) c.pairs-pair-items.ensures.pairs in omega (arith, e, c.loop-pair-test.true) in
     let one : has_pair event pair ≡ true =
     subst (λ (ps : List Pair). has_pair event (get_or ps i (record { variable = 0; value = 0 })) ≡ true) (sym c.pairs-pair-items.ensures.pairs) (is_one event i (record { variable = 0; value = 0 }) l) in
-    elim c.if-has.branch
-    [ then-has w ↦ record {
-      of_event = subst (λ (ps : List Pair). IsPart ps event) (sym w.kept-is)
-          (all_push (λ (p : Pair). has_pair event p ≡ true) c.loop-pair.kept w.with_pair-kept.result pair w.with_pair-kept.ensures c.loop-pair.invariant.of_event one);
-      there = subst (λ (ps : List Pair). HasEvent scope ps) (sym w.kept-is)
-          (all_push (λ (p : Pair). has_variable scope p.variable ≡ true) c.loop-pair.kept w.with_pair-kept.result pair w.with_pair-kept.ensures c.loop-pair.invariant.there (sym c.has.ensures ∙ w.if-has.true));
-    }
-    | else-has w ↦ search rules
+    elim c.if-has.branch [
+      | then-has w ↦ record {
+        of_event = subst (λ (ps : List Pair). IsPart ps event) (sym w.kept-is)
+            (all_push (λ (p : Pair). has_pair event p ≡ true) c.loop-pair.kept w.with_pair-kept.result pair w.with_pair-kept.ensures c.loop-pair.invariant.of_event one);
+        there = subst (λ (ps : List Pair). HasEvent scope ps) (sym w.kept-is)
+            (all_push (λ (p : Pair). has_variable scope p.variable ≡ true) c.loop-pair.kept w.with_pair-kept.result pair w.with_pair-kept.ensures c.loop-pair.invariant.there (sym c.has.ensures ∙ w.if-has.true));
+      }
+      | else-has w ↦ search rules
     ]

@@ -1,6 +1,6 @@
-use Rattle.std.proofs.Common.{◌*◌, ◌^◌, ◌+◌, ◌≤◌, arith}
+use Rattle.std.proofs.Common.{◌*◌, ◌^◌, ◌≤◌, arith}
 use Rattle.std.proofs.Math.Nat.{mul-le-mul_left}
-use Rattle.mk_enclose.specs.Enclosure.{Encloses, HasGrade, lower_of, upper_of}
+use Rattle.mk_enclose.specs.Enclosure.{lower_of, upper_of}
 use Rattle.mk_cell.proofs.Own.{own_bounded, grade_in_range, near_multiple}
 use Rattle.mk_cell.proofs.cell.Cell.own_enclosure.Goals as goal
 

@@ -16,5 +16,6 @@ returns c =
     let m = ap (λ (s : ShapeOf). length s.tree.cliques) c.self.view_is in
     c.deref.ensures.value
     ∙ ap (λ v. v.items) c.index.ensures
-    ∙ item_of (λ v. v.items) (neighbours tree) c.self.inside.neighbours.items 1 (length tree.cliques) (k - 1) k c.index.result.now [] c.self.invariant.neighbours_are (omega (arith, m, c.requires.first, c.requires.last)) (omega (arith, c.requires.first))
+    ∙ item_of (λ v. v.items) (neighbours tree) c.self.inside.neighbours.items 1 (length tree.cliques)
+    (k - 1) k c.index.result.now [] c.self.invariant.neighbours_are (omega (arith, m, c.requires.first, c.requires.last)) (omega (arith, c.requires.first))
     ∙ ap (λ (s : ShapeOf). neighbours s.tree k) c.self.view_is

@@ -1,4 +1,4 @@
-use Rattle.std.proofs.Common.{◌∙◌, sym, ap, length, subst, arith}
+use Rattle.std.proofs.Common.{sym, ap, length, subst, arith}
 use Rattle.mk_propagate.specs.Shapes.{ShapeOf, IsClique}
 use Rattle.mk_propagate.proofs.Shaped.{next_read, next_is_clique}
 use Rattle.mk_propagate.proofs.shape.Shape.next.Goals as goal

@@ -1,4 +1,4 @@
-use Rattle.std.proofs.Common.{◌≡◌, ◌+◌, ◌*◌, ◌<◌, ◌≤◌, ℕ, List, All, length, arith, ap, subst, sym, ◌∙◌}
+use Rattle.std.proofs.Common.{◌≡◌, ◌+◌, ◌*◌, ◌<◌, ◌≤◌, ℕ, List, All, length, arith, ap, subst, ◌∙◌}
 use Rattle.mk_exact.specs.States.{plus_over}
 use Rattle.mk_cell.specs.Cell.{StandsAt, IsOwnAt}
 use Rattle.mk_table.specs.Scopes.{ScopeOf, cells_in}
@@ -42,7 +42,7 @@ returns-clause-own g c = λ untouched f n h.
     let few : length (cells_where scope c.args.event.now) ≤ cells_in now.scope =
     let e = ap (λ (ys : List ℕ). length ys) c.cells_where.ensures.cells in let s = ap (λ (s : ScopeOf). cells_in s) parts.scope_is in omega (arith, e, s, c.cells_where.ensures.few) in
     let made : (j : ℕ) (p : ℕ → ℕ) → StandListed j c.deref-2.result.now c.deref-3.result.now p n 0 (cells_where scope c.args.event.now)
-        → StandsAt j q x (plus_over R.plus_of 0 (λ k. p (0 + k)) (cells_where scope c.args.event.now)) (n + 2 * length (cells_where scope c.args.event.now)) =
+    → StandsAt j q x (plus_over R.plus_of 0 (λ k. p (0 + k)) (cells_where scope c.args.event.now)) (n + 2 * length (cells_where scope c.args.event.now)) =
     subst (λ (ys : List ℕ). (j : ℕ) (p : ℕ → ℕ) → StandListed j c.deref-2.result.now c.deref-3.result.now p n 0 ys → StandsAt j q x (plus_over R.plus_of 0 (λ k. p (0 + k)) ys) (n + 2 * length ys)) chosen
     (λ j p a. c.plus_at.ensures j p n a) in
     let own = total_own R.plus_of g.met.R.Semiring.lawful scope c.args.event.now now.touched c.deref-2.result.now c.deref-3.result.now (parts_full _ _ _ _ _ parts) untouched c.self.inside.shift f n (parts_numbers _ _ _ _ _ parts f n h)

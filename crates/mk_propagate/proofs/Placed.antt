@@ -1,0 +1,298 @@
+-- One factor or one known pair more in a clique.
+use Rattle.std.proofs.Common.{◌≡◌, ◌≢◌, ℕ, suc, zero, ◌+◌, ◌-◌, ◌*◌, ◌<◌, ◌≤◌, Bool, true, false, cond, ◌==◌, if◌then◌else◌, ◌⊎◌, inl, inr, List, [], ◌∷◌, ◌++◌, map, length, slice_index, slice_index_or, get_or, refl, sym, ap, subst, ◌∙◌, arith, mul_assoc, mul_comm, mul-one, eq-eqb, ne_eqb}
+use Rattle.std.specs.Prelude.{slice_set}
+use Rattle.std.proofs.Math.Path.{fun_ext}
+use Rattle.std.proofs.lemmas.Bool.{cases_eq, both_ways}
+use Rattle.std.proofs.lemmas.List.{length_push, map-append, length-set, get_or-set_same, get_or-set_other, get_or_default, get_or_push}
+use Rattle.std.proofs.Math.ListN.{get_or-append}
+use Rattle.std.proofs.lemmas.List.Elements.{All-push, All-nil}
+use Rattle.std.proofs.lemmas.List.Sums.{sum_by_push, count_by-le-length}
+use Rattle.mk_net.specs.declared.words.Pair.{Pair}
+use Rattle.mk_net.specs.Network.{Variable, sizes}
+use Rattle.mk_exact.specs.States.{product_by}
+use Rattle.mk_exact.proofs.Sums.{product_by-append, product_by_push}
+use Rattle.mk_sums.specs.Joint.{Item, variables, where_has}
+use Rattle.mk_sums.specs.Trees.{sum_of, behind}
+use Rattle.mk_sums.proofs.Stale.{change_leaves}
+use Rattle.mk_table.specs.Scopes.{ScopeOf}
+use Rattle.mk_table.specs.Cells.{values_at}
+use Rattle.mk_table.specs.Tables.{TableOf, HasNumbers, HasRoom}
+use Rattle.mk_tree.specs.Given.{GivenTree, holds, link_of}
+use Rattle.mk_engine.specs.Meaning.{Factor, factor_there, max_factors}
+use Rattle.mk_propagate.specs.Shapes.{ShapeOf, IsShapeFor, IsClique, is_behind, clique_scope, separator_between, clique_cells}
+use Rattle.mk_propagate.specs.Placings.{Placing, PlacedFactor, PlacedPair, with_factor_in, with_pair_in, nothing_placed, factor_item, pair_item, placed_there, factors_in, IsPlacedFactor, IsPlacedPair, IsPlacing}
+use Rattle.mk_propagate.specs.Flows.{FlowOf, no_table, table_at, message_at, HasCells, HasPlaced, IsRight, Places, exact_message, exact_message_grade}
+use Rattle.mk_propagate.specs.inner.Kept.{IsKept}
+use Rattle.mk_propagate.specs.inner.Ones.{IsOnes, AreOnes}
+
+-- ---- what is placed in each clique
+
+turned : (a b c : ℕ) → a * b * c ≡ a * c * b
+turned a b c = mul_assoc a b c ∙ ap (λ (n : ℕ). a * n) (mul_comm b c) ∙ sym (mul_assoc a c b)
+
+there_with_factor : (p : Placing) (clique : ℕ) (f : Factor) (k : ℕ) (s : ℕ → ℕ)
+    → placed_there (with_factor_in clique f p) k s ≡ placed_there p k s * cond (clique == k) (factor_there p.network f s) 1
+there_with_factor p clique f k s =
+    let g : Item → ℕ = λ i. cond (i.clique == k) (i.value s) 1 in
+    let placed : PlacedFactor = record { clique = clique; factor = f } in
+    let item : Item = factor_item p.network placed in
+    let fs = map (factor_item p.network) p.factors in
+    let ks = map pair_item p.known in
+    product_by-append g (map (factor_item p.network) (p.factors ++ placed ∷ [])) ks
+    ∙ ap (λ (xs : List Item). product_by g xs * product_by g ks) (map-append (factor_item p.network) p.factors (placed ∷ []))
+    ∙ ap (λ (n : ℕ). n * product_by g ks) (product_by_push g fs item)
+    ∙ turned (product_by g fs) (g item) (product_by g ks)
+    ∙ ap (λ (n : ℕ). n * g item) (sym (product_by-append g fs ks))
+
+there_with_pair : (p : Placing) (clique : ℕ) (q : Pair) (k : ℕ) (s : ℕ → ℕ) → placed_there (with_pair_in clique q p) k s ≡ placed_there p k s * cond (clique == k) (where_has q s) 1
+there_with_pair p clique q k s =
+    let g : Item → ℕ = λ i. cond (i.clique == k) (i.value s) 1 in
+    let placed : PlacedPair = record { clique = clique; pair = q } in
+    let item : Item = pair_item placed in
+    let fs = map (factor_item p.network) p.factors in
+    let ks = map pair_item p.known in
+    product_by-append g fs (map pair_item (p.known ++ placed ∷ []))
+    ∙ ap (λ (xs : List Item). product_by g fs * product_by g xs) (map-append pair_item p.known (placed ∷ []))
+    ∙ ap (λ (n : ℕ). product_by g fs * n) (product_by_push g ks item)
+    ∙ sym (mul_assoc (product_by g fs) (product_by g ks) (g item))
+    ∙ ap (λ (n : ℕ). n * g item) (sym (product_by-append g fs ks))
+
+module _ (p : Placing) (clique : ℕ) where
+  factor_here : (f : Factor) (s : ℕ → ℕ) → placed_there p clique s * factor_there p.network f s ≡ placed_there (with_factor_in clique f p) clique s
+  factor_here f s = sym (there_with_factor p clique f clique s ∙ ap (λ (b : Bool). placed_there p clique s * cond b (factor_there p.network f s) 1) (eq-eqb clique clique refl))
+
+  factor_elsewhere : (f : Factor) (k : ℕ) → k ≢ clique → (s : ℕ → ℕ) → placed_there p k s ≡ placed_there (with_factor_in clique f p) k s
+  factor_elsewhere f k d s =
+      sym (there_with_factor p clique f k s ∙ ap (λ (b : Bool). placed_there p k s * cond b (factor_there p.network f s) 1) (ne_eqb clique k (λ e. d (sym e))) ∙ mul-one (placed_there p k s))
+
+  pair_here : (q : Pair) (s : ℕ → ℕ) → cond (s q.variable == q.value) (placed_there p clique s) 0 ≡ placed_there (with_pair_in clique q p) clique s
+  pair_here q s =
+      at (s q.variable == q.value) ∙ sym (there_with_pair p clique q clique s ∙ ap (λ (b : Bool). placed_there p clique s * cond b (where_has q s) 1) (eq-eqb clique clique refl))
+    where
+      at : (b : Bool) → cond b (placed_there p clique s) 0 ≡ placed_there p clique s * cond b 1 0
+      at true = omega arith
+      at false = omega arith
+
+  pair_elsewhere : (q : Pair) (k : ℕ) → k ≢ clique → (s : ℕ → ℕ) → placed_there p k s ≡ placed_there (with_pair_in clique q p) k s
+  pair_elsewhere q k d s =
+      sym (there_with_pair p clique q k s ∙ ap (λ (b : Bool). placed_there p k s * cond b (where_has q s) 1) (ne_eqb clique k (λ e. d (sym e))) ∙ mul-one (placed_there p k s))
+
+  count_with : (f : Factor) (k : ℕ) → factors_in (with_factor_in clique f p) k ≡ factors_in p k + cond (clique == k) 1 0
+  count_with f k = sum_by_push (λ (x : PlacedFactor). cond (x.clique == k) 1 0) p.factors (record { clique = clique; factor = f })
+
+  counted_here : (f : Factor) → factors_in p clique + 1 ≡ factors_in (with_factor_in clique f p) clique
+  counted_here f = sym (count_with f clique ∙ ap (λ (b : Bool). factors_in p clique + cond b 1 0) (eq-eqb clique clique refl))
+
+  counted_elsewhere : (f : Factor) (k : ℕ) → k ≢ clique → factors_in p k ≡ factors_in (with_factor_in clique f p) k
+  counted_elsewhere f k d = let e = count_with f k ∙ ap (λ (b : Bool). factors_in p k + cond b 1 0) (ne_eqb clique k (λ e. d (sym e))) in omega (arith, e)
+
+-- ---- what a change leaves right
+
+pub sum_same : (set : ℕ → Bool) (m : ℕ) (f g : ℕ → ℕ) → ((j : ℕ) → 1 ≤ j → j ≤ m → set j ≡ true → f j ≡ g j) → sum_of set m f ≡ sum_of set m g
+sum_same set zero f g h = refl
+sum_same set (suc k) f g h = at (set (suc k)) (h (suc k) (omega arith) (omega arith)) (sum_same set k f g (λ j p q. h j p (omega arith)))
+  where
+    at : (b : Bool) → (b ≡ true → f (suc k) ≡ g (suc k)) → sum_of set k f ≡ sum_of set k g → sum_of set k f + cond b (f (suc k)) 0 ≡ sum_of set k g + cond b (g (suc k)) 0
+    at true e ih = let x = e refl in omega (arith, x, ih)
+    at false e ih = omega (arith, ih)
+
+-- a message is right as before, where the exact one and its grade are
+pub right_kept : (plus : ℕ → ℕ → ℕ) (old new : FlowOf) (p q : Placing) (a b : ℕ) → new.shape ≡ old.shape → message_at new a b ≡ message_at old a b
+    → exact_message plus old.shape.tree p a b ≡ exact_message plus old.shape.tree q a b → exact_message_grade old.shape.tree p a b ≡ exact_message_grade old.shape.tree q a b
+    → IsRight plus old p a b → IsRight plus new q a b
+right_kept plus old new p q a b shape message exact grade r = record {
+  cells =
+      subst (λ (t : TableOf). HasCells t (separator_between new.shape a b) (exact_message plus new.shape.tree q a b)
+      (3 * exact_message_grade new.shape.tree q a b) (exact_message_grade new.shape.tree q a b)) (sym message)
+      (subst (λ (s : ShapeOf). HasCells (message_at old a b) (separator_between s a b) (exact_message plus s.tree q a b)
+      (3 * exact_message_grade s.tree q a b) (exact_message_grade s.tree q a b)) (sym shape)
+      (subst (λ (n : ℕ). HasCells (message_at old a b) (separator_between old.shape a b) (exact_message plus old.shape.tree q a b) (3 * n) n) grade
+      (subst (λ (f : (ℕ → ℕ) → ℕ). HasCells (message_at old a b) (separator_between old.shape a b) f (3 * exact_message_grade old.shape.tree p a b)
+      (exact_message_grade old.shape.tree p a b)) exact r.cells)));
+}
+
+-- other things are placed in the same network
+abbrev pub changed : Placing → List PlacedFactor → List PlacedPair → Placing
+changed p fs ks = record { network = p.network; factors = fs; known = ks }
+
+-- a flow with another table for a clique
+abbrev pub with_table : FlowOf → ℕ → TableOf → ℕ → FlowOf
+with_table old clique t factors =
+    record { shape = old.shape; tables = slice_set old.tables (clique - 1) t; upward = old.upward; downward = old.downward; factors = factors; computed = old.computed }
+
+module _ (tree : GivenTree) (p : Placing) (fs : List PlacedFactor) (ks : List PlacedPair) (clique : ℕ)
+    (same : (k : ℕ) → k ≢ clique → (s : ℕ → ℕ) → placed_there p k s ≡ placed_there (changed p fs ks) k s)
+    (counts : (k : ℕ) → k ≢ clique → factors_in p k ≡ factors_in (changed p fs ks) k) (a b : ℕ) (apart : is_behind tree a b clique ≡ false) where
+  exact_kept : (plus : ℕ → ℕ → ℕ) → exact_message plus tree p a b ≡ exact_message plus tree (changed p fs ks) a b
+  exact_kept plus =
+      fun_ext (λ s. change_leaves plus (slice_index (sizes p.network)) (variables (sizes p.network)) (holds tree) (placed_there p) (placed_there
+      (changed p fs ks)) (link_of tree) (length tree.cliques) clique
+      (λ j l n d t. same j d t) a b apart s)
+
+  grade_kept : exact_message_grade tree p a b ≡ exact_message_grade tree (changed p fs ks) a b
+  grade_kept =
+      ap (λ (n : ℕ). n - 2)
+      (sum_same (behind (link_of tree) (length tree.cliques) a b) (length tree.cliques) (λ j. factors_in p j + clique_cells p.network tree j + 2)
+      (λ j. factors_in (changed p fs ks) j + clique_cells p.network tree j + 2)
+      (λ j l n e. ap (λ (i : ℕ). i + clique_cells p.network tree j + 2) (counts j (λ f. both_ways (is_behind tree a b j) (ap (is_behind tree a b) f ∙ apart) e))))
+
+module _ (plus : ℕ → ℕ → ℕ) (old : FlowOf) (p : Placing) (fs : List PlacedFactor) (ks : List PlacedPair) (clique : ℕ) (t : TableOf) (count : ℕ)
+    (h : HasPlaced old p) (is : IsClique old.shape.tree clique) (within : clique - 1 < length old.tables)
+    (same : (k : ℕ) → k ≢ clique → (s : ℕ → ℕ) → placed_there p k s ≡ placed_there (changed p fs ks) k s)
+    (counts : (k : ℕ) → k ≢ clique → factors_in p k ≡ factors_in (changed p fs ks) k)
+    (here : HasCells t (clique_scope old.shape clique) (placed_there (changed p fs ks) clique) (factors_in (changed p fs ks) clique) (factors_in (changed p fs ks) clique)) where
+  other_table : (k : ℕ) → IsClique old.shape.tree k → k ≢ clique → table_at (with_table old clique t count) k ≡ table_at old k
+  other_table k at d = get_or-set_other old.tables (clique - 1) (k - 1) t no_table (λ e. d (omega (arith, e, at.first, is.first)))
+
+  tables_more : (k : ℕ) → IsClique old.shape.tree k
+      → HasCells (table_at (with_table old clique t count) k) (clique_scope old.shape k) (placed_there (changed p fs ks) k) (factors_in (changed p fs ks) k) (factors_in (changed p fs ks) k)
+  tables_more k at = from (cases_eq k clique)
+    where
+      from : ((k ≡ clique) ⊎ (k ≡ clique → ⊥)) → HasCells (table_at (with_table old clique t count) k) (clique_scope old.shape k) (placed_there
+          (changed p fs ks) k) (factors_in (changed p fs ks) k) (factors_in (changed p fs ks) k)
+      from (inl e) =
+          subst (λ (j : ℕ). HasCells (table_at (with_table old clique t count) j) (clique_scope old.shape j) (placed_there (changed p fs ks) j) (factors_in
+          (changed p fs ks) j) (factors_in (changed p fs ks) j)) (sym e)
+          (subst (λ (u : TableOf). HasCells u (clique_scope old.shape clique) (placed_there (changed p fs ks) clique) (factors_in (changed p fs ks) clique) (factors_in (changed p fs ks) clique))
+          (sym (get_or-set_same old.tables (clique - 1) t no_table within)) here)
+      from (inr d) =
+          subst (λ (u : TableOf). HasCells u (clique_scope old.shape k) (placed_there (changed p fs ks) k) (factors_in (changed p fs ks) k) (factors_in (changed p fs ks) k)) (sym (other_table k at d))
+          (subst (λ (n : ℕ). HasCells (table_at old k) (clique_scope old.shape k) (placed_there (changed p fs ks) k) n n) (counts k d)
+          (subst (λ (f : (ℕ → ℕ) → ℕ). HasCells (table_at old k) (clique_scope old.shape k) f (factors_in p k) (factors_in p k)) (fun_ext (same k d)) (h.tables k at)))
+
+  pub places_more : IsPlacing old.shape.tree (changed p fs ks) → length fs ≡ count → Places plus old (with_table old clique t count) clique p (changed p fs ks)
+  places_more placing counted = record {
+    placed = record { shape_is = h.shape_is; placing = placing; counted = counted; tables = tables_more };
+    right = λ a b linked apart r.
+        right_kept plus old (with_table old clique t count) p (changed p fs ks) a b refl refl
+        (exact_kept old.shape.tree p fs ks clique same counts a b apart plus) (grade_kept old.shape.tree p fs ks clique same counts a b apart) r;
+  }
+
+-- ---- the calls
+
+-- the table that a call reads
+pub table_read : (ts : List TableOf) (i : ℕ) (t : TableOf) → i < length ts → t ≡ get_or ts i t → get_or ts i no_table ≡ t
+table_read ts i t l e = get_or_default ts i no_table t l ∙ sym e
+
+pub few_in : (p : Placing) (k : ℕ) → factors_in p k ≤ length p.factors
+few_in p k = count_by-le-length (λ (f : PlacedFactor). f.clique == k) p.factors
+
+-- it has room for a factor more
+pub has_room : (t : TableOf) (scope : ScopeOf) (p : Placing) (k : ℕ) → HasCells t scope (placed_there p k) (factors_in p k) (factors_in p k) → length p.factors ≤ max_factors → HasRoom t 1
+has_room t scope p k h few = record {
+  numbers = λ c. placed_there p k (values_at t.scope c);
+  steps = factors_in p k;
+  has = h.numbers;
+  few_steps = omega (arith, few_in p k);
+  small_shift = omega (arith, few_in p k, h.small_shift);
+}
+
+module _ (plus : ℕ → ℕ → ℕ) (old : FlowOf) (p : Placing) (clique : ℕ) (read t : TableOf) (h : HasPlaced old p) (is : IsClique old.shape.tree clique) (within : clique - 1 < length old.tables)
+    (reads : table_at old clique ≡ read) (scope : t.scope ≡ read.scope) where
+  had : HasCells read (clique_scope old.shape clique) (placed_there p clique) (factors_in p clique) (factors_in p clique)
+  had = subst (λ (u : TableOf). HasCells u (clique_scope old.shape clique) (placed_there p clique) (factors_in p clique) (factors_in p clique)) reads (h.tables clique is)
+
+  -- a factor more
+  pub factor_placed : (f : Factor) → IsPlacedFactor p.network old.shape.tree (record { clique = clique; factor = f }) → old.factors < max_factors → t.shift ≤ read.shift + 40
+      → ((g : ℕ → ℕ) (n : ℕ) → HasNumbers read g n → HasNumbers t (λ c. g c * factor_there p.network f (values_at read.scope c)) (n + 1))
+      → Places plus old (with_table old clique t (old.factors + 1)) clique p (with_factor_in clique f p)
+  factor_placed f fits few shift numbers =
+      places_more plus old p (p.factors ++ record { clique = clique; factor = f } ∷ []) p.known clique t (old.factors + 1) h is within (factor_elsewhere p clique f) (counted_elsewhere p clique f)
+      (record {
+        scope_is = scope ∙ had.scope_is;
+        numbers =
+            subst (λ (s : ScopeOf). HasNumbers t (λ c. placed_there (with_factor_in clique f p) clique (values_at s c)) (factors_in (with_factor_in clique f p) clique)) (sym scope)
+            (subst (λ (n : ℕ). HasNumbers t (λ c. placed_there (with_factor_in clique f p) clique (values_at read.scope c)) n) (counted_here p clique f)
+            (subst (λ (g : ℕ → ℕ). HasNumbers t g (factors_in p clique + 1)) (fun_ext (λ c. factor_here p clique f (values_at read.scope c)))
+            (numbers (λ c. placed_there p clique (values_at read.scope c)) (factors_in p clique) had.numbers)));
+        small_shift = omega (arith, shift, had.small_shift, counted_here p clique f);
+      })
+      (record {
+        factors_fit = All-push (IsPlacedFactor p.network old.shape.tree) p.factors (record { clique = clique; factor = f }) h.placing.factors_fit fits;
+        known_fit = h.placing.known_fit;
+        few = let l = length_push p.factors (record { clique = clique; factor = f }) in omega (arith, l, h.counted, few);
+      })
+      (length_push p.factors (record { clique = clique; factor = f }) ∙ ap (λ (n : ℕ). n + 1) h.counted)
+
+  -- a known pair more
+  pub pair_placed : (q : Pair) → IsPlacedPair p.network old.shape.tree (record { clique = clique; pair = q }) → t.shift ≡ read.shift
+      → ((g : ℕ → ℕ) (n : ℕ) → HasNumbers read g n → HasNumbers t (λ c. if values_at read.scope c q.variable == q.value then g c else 0) n)
+      → Places plus old (with_table old clique t old.factors) clique p (with_pair_in clique q p)
+  pair_placed q fits shift numbers =
+      places_more plus old p p.factors (p.known ++ record { clique = clique; pair = q } ∷ []) clique t old.factors h is within (pair_elsewhere p clique q) (λ k d. refl)
+      (record {
+        scope_is = scope ∙ had.scope_is;
+        numbers =
+            subst (λ (s : ScopeOf). HasNumbers t (λ c. placed_there (with_pair_in clique q p) clique (values_at s c)) (factors_in p clique)) (sym scope)
+            (subst (λ (g : ℕ → ℕ). HasNumbers t g (factors_in p clique)) (fun_ext (λ c. pair_here p clique q (values_at read.scope c)))
+            (numbers (λ c. placed_there p clique (values_at read.scope c)) (factors_in p clique) had.numbers));
+        small_shift = omega (arith, shift, had.small_shift);
+      })
+      (record {
+        factors_fit = h.placing.factors_fit;
+        known_fit = All-push (IsPlacedPair p.network old.shape.tree) p.known (record { clique = clique; pair = q }) h.placing.known_fit fits;
+        few = h.placing.few;
+      })
+      h.counted
+
+-- a flow stays as it is to be kept
+pub kept_with : (old : FlowOf) (scratch : List TableOf) (cells clique count : ℕ) (read t : TableOf) → IsKept old scratch cells → 1 ≤ clique → clique - 1 < length old.tables
+    → table_at old clique ≡ read → t.scope ≡ read.scope → IsKept (with_table old clique t count) scratch cells
+kept_with old scratch cells clique count read t h first within reads scope = record {
+  linked = h.linked;
+  one_each = length-set old.tables (clique - 1) t ∙ h.one_each;
+  one_scratch_each = h.one_scratch_each;
+  one_less_up = h.one_less_up;
+  one_less_down = h.one_less_down;
+  table_scopes = λ k at. from k at (cases_eq k clique);
+  scratch_scopes = h.scratch_scopes;
+  upward_scopes = h.upward_scopes;
+  downward_scopes = h.downward_scopes;
+  cells_are = h.cells_are;
+}
+  where
+    from : (k : ℕ) → IsClique old.shape.tree k → ((k ≡ clique) ⊎ (k ≡ clique → ⊥)) → (table_at (with_table old clique t count) k).scope ≡ clique_scope old.shape k
+    from k at (inl e) =
+        ap (λ (j : ℕ). (table_at (with_table old clique t count) j).scope) e
+        ∙ ap (λ (u : TableOf). u.scope) (get_or-set_same old.tables (clique - 1) t no_table within) ∙ scope ∙ ap (λ (u : TableOf). u.scope) (sym reads)
+        ∙ h.table_scopes clique (subst (IsClique old.shape.tree) e at) ∙ ap (clique_scope old.shape) (sym e)
+    from k at (inr d) =
+        ap (λ (u : TableOf). u.scope) (get_or-set_other old.tables (clique - 1) (k - 1) t no_table (λ e. d (omega (arith, e, at.first, first)))) ∙ h.table_scopes k at
+
+-- ---- a start
+
+pub ones_more : (scope : ℕ → ScopeOf) (first count : ℕ) (ts new : List TableOf) (t : TableOf) → AreOnes scope first count ts → new ≡ ts ++ t ∷ []
+    → IsOnes (scope (first + count)) t → AreOnes scope first (count + 1) new
+ones_more scope first count ts new t h pushed last = record {
+  long = ap length pushed ∙ length_push ts t ∙ ap (λ (n : ℕ). n + 1) h.long;
+  each = λ i l. from i l (cases_eq i count);
+}
+  where
+    from : (i : ℕ) → i < count + 1 → ((i ≡ count) ⊎ (i ≡ count → ⊥)) → IsOnes (scope (first + i)) (slice_index_or new i no_table)
+    from i l (inl e) =
+        let r : slice_index_or new i no_table ≡ t = ap (λ (us : List TableOf). slice_index_or us i no_table) pushed ∙ get_or_push ts t no_table i (h.long ∙ sym e) in
+        subst (IsOnes (scope (first + i))) (sym r) (subst (λ (n : ℕ). IsOnes (scope (first + n)) t) (sym e) last)
+    from i l (inr d) =
+        let m : i < count = omega (arith, d) in
+        let r : slice_index_or new i no_table ≡ slice_index_or ts i no_table = ap (λ (us : List TableOf). slice_index_or us i no_table) pushed
+        ∙ get_or-append ts (t ∷ []) no_table i (omega (arith, m, h.long)) in
+        subst (IsOnes (scope (first + i))) (sym r) (h.each i m)
+
+-- the table of a clique, or of a separator
+pub one_of : (scope : ℕ → ScopeOf) (first count : ℕ) (ts : List TableOf) → AreOnes scope first count ts → (k : ℕ) → first ≤ k → k < first + count
+    → IsOnes (scope k) (slice_index_or ts (k - first) no_table)
+one_of scope first count ts h k p q =
+    let e : first + (k - first) ≡ k = omega arith in
+    subst (λ (n : ℕ). IsOnes (scope n) (slice_index_or ts (k - first) no_table)) e (h.each (k - first) (omega arith))
+
+-- a flow of ones has nothing placed
+pub starts : (flow : FlowOf) → AreOnes (clique_scope flow.shape) 1 (length flow.shape.tree.cliques) flow.tables → flow.factors ≡ 0
+    → (network : List Variable) → IsShapeFor flow.shape network → HasPlaced flow (nothing_placed network)
+starts flow ones none network shape = record {
+  shape_is = shape;
+  placing = record { factors_fit = All-nil (IsPlacedFactor network flow.shape.tree); known_fit = All-nil (IsPlacedPair network flow.shape.tree); few = omega arith };
+  counted = sym none;
+  tables = λ k at.
+      let o = one_of (clique_scope flow.shape) 1 (length flow.shape.tree.cliques) flow.tables ones k at.first (omega (arith, at.last)) in
+      record { scope_is = o.scope_is; numbers = o.ones; small_shift = omega (arith, o.no_shift) };
+}

@@ -1,0 +1,254 @@
+-- One message of a flow is made anew: it is right, and all else stays as it was.
+use Rattle.std.proofs.Common.{◌≡◌, ℕ, ◌+◌, ◌-◌, ◌*◌, ◌<◌, ◌≤◌, Bool, true, cond, ◌⊎◌, inl, inr, ltb, List, length, slice_index_or, slice_set, max, Option, Some, refl, sym, ap, subst, ◌∙◌, arith, lt-ltb, le-ltb}
+use Rattle.std.proofs.lemmas.Bool.{cases_eq, cases_lt}
+use Rattle.std.proofs.lemmas.List.{get_or-set_same, get_or-set_other, length-set}
+use Rattle.mk_exact.specs.Lawful.{Lawful}
+use Rattle.mk_sums.proofs.Hops.{AreLinked, IsChild, are_linked}
+use Rattle.mk_table.specs.Scopes.{ScopeOf, LiesIn, cells_in}
+use Rattle.mk_table.specs.Tables.{TableOf, HasRoom}
+use Rattle.mk_tree.specs.Given.{link_of}
+use Rattle.mk_propagate.specs.Shapes.{ShapeOf, IsClique, are_linked as is_linked, separator_scope, separator_between, neighbours}
+use Rattle.mk_propagate.specs.Placings.{Placing}
+use Rattle.mk_propagate.specs.Flows.{FlowOf, HasPlaced, IsRight, AreRightBut, no_table, table_at, message_at}
+use Rattle.mk_propagate.specs.inner.Kept.{IsKept}
+use Rattle.mk_propagate.specs.inner.Gathered.{is_input, IsRightIn, CanGather, HasGathered, IsMargin}
+use Rattle.mk_propagate.proofs.Placed.{table_read}
+use Rattle.mk_propagate.proofs.Messages.{are_ends, separator_lies_in, whole_room, message_sent}
+
+-- a list of tables, one of which is put anew over the same scope
+pub same_scopes : (ts : List TableOf) (i j : ℕ) (t : TableOf) → i < length ts → t.scope ≡ (slice_index_or ts i no_table).scope → (slice_index_or (slice_set ts i t) j no_table).scope ≡ (slice_index_or ts j no_table).scope
+same_scopes ts i j t l e = at (cases_eq j i)
+  where
+    at : ((j ≡ i) ⊎ (j ≡ i → ⊥)) → (slice_index_or (slice_set ts i t) j no_table).scope ≡ (slice_index_or ts j no_table).scope
+    at (inl q) =
+        ap (λ n. (slice_index_or (slice_set ts i t) n no_table).scope) q
+        ∙ ap (λ (s : TableOf). s.scope) (get_or-set_same ts i t no_table l) ∙ e ∙ ap (λ n. (slice_index_or ts n no_table).scope) (sym q)
+    at (inr d) = ap (λ (s : TableOf). s.scope) (get_or-set_other ts i j t no_table d)
+
+-- a flow that is kept, of which a clique's scratch table was used
+module _ (old : FlowOf) (scratch : List TableOf) (cells : ℕ) (kept : IsKept old scratch cells) (k : ℕ) (clique : IsClique old.shape.tree k) where
+  pub scratch_within : k - 1 < length scratch
+  scratch_within = omega (arith, kept.one_scratch_each, clique.first, clique.last)
+
+  pub table_within : k - 1 < length old.tables
+  table_within = omega (arith, kept.one_each, clique.first, clique.last)
+
+  pub scratch_fits : (t table : TableOf) → t ≡ slice_index_or scratch (k - 1) t → table ≡ slice_index_or old.tables (k - 1) table → t.scope ≡ table.scope
+  scratch_fits t table e f =
+      ap (λ (s : TableOf). s.scope) (sym (table_read scratch (k - 1) t scratch_within e)) ∙ kept.scratch_scopes k clique
+      ∙ sym (ap (λ (s : TableOf). s.scope) (sym (table_read old.tables (k - 1) table table_within f)) ∙ kept.table_scopes k clique)
+
+  -- it stays kept
+  pub scratch_kept : (was t : TableOf) → was ≡ slice_index_or scratch (k - 1) was → t.scope ≡ was.scope → IsKept old (slice_set scratch (k - 1) t) cells
+  scratch_kept was t e s = record {
+    linked = kept.linked;
+    one_each = kept.one_each;
+    one_scratch_each = length-set scratch (k - 1) t ∙ kept.one_scratch_each;
+    one_less_up = kept.one_less_up;
+    one_less_down = kept.one_less_down;
+    table_scopes = kept.table_scopes;
+    scratch_scopes =
+        λ i c. same_scopes scratch (k - 1) (i - 1) t scratch_within (s ∙ ap (λ (u : TableOf). u.scope) (sym (table_read scratch (k - 1) was scratch_within e))) ∙ kept.scratch_scopes i c;
+    upward_scopes = kept.upward_scopes;
+    downward_scopes = kept.downward_scopes;
+    cells_are = kept.cells_are;
+  }
+
+-- a flow with one message put anew
+abbrev pub with_upward : FlowOf → ℕ → TableOf → ℕ → FlowOf
+with_upward old place t computed =
+    record { shape = old.shape; tables = old.tables; upward = slice_set old.upward place t; downward = old.downward; factors = old.factors; computed = computed }
+
+abbrev pub with_downward : FlowOf → ℕ → TableOf → ℕ → FlowOf
+with_downward old place t computed =
+    record { shape = old.shape; tables = old.tables; upward = old.upward; downward = slice_set old.downward place t; factors = old.factors; computed = computed }
+
+module _ (old : FlowOf) (scratch : List TableOf) (cells computed : ℕ) (kept : IsKept old scratch cells) where
+  pub kept_upward : (place : ℕ) (was t : TableOf) → place < length old.upward → was ≡ slice_index_or old.upward place was → t.scope ≡ was.scope → IsKept (with_upward old place t computed) scratch cells
+  kept_upward place was t l e s = record {
+    linked = kept.linked;
+    one_each = kept.one_each;
+    one_scratch_each = kept.one_scratch_each;
+    one_less_up = ap (λ n. n + 1) (length-set old.upward place t) ∙ kept.one_less_up;
+    one_less_down = kept.one_less_down;
+    table_scopes = kept.table_scopes;
+    scratch_scopes = kept.scratch_scopes;
+    upward_scopes = λ k c later. same_scopes old.upward place (k - 2) t l (s ∙ ap (λ (u : TableOf). u.scope) (sym (table_read old.upward place was l e))) ∙ kept.upward_scopes k c later;
+    downward_scopes = kept.downward_scopes;
+    cells_are = kept.cells_are;
+  }
+
+  pub kept_downward : (place : ℕ) (was t : TableOf) → place < length old.downward → was ≡ slice_index_or old.downward place was → t.scope ≡ was.scope → IsKept (with_downward old place t computed) scratch cells
+  kept_downward place was t l e s = record {
+    linked = kept.linked;
+    one_each = kept.one_each;
+    one_scratch_each = kept.one_scratch_each;
+    one_less_up = kept.one_less_up;
+    one_less_down = ap (λ n. n + 1) (length-set old.downward place t) ∙ kept.one_less_down;
+    table_scopes = kept.table_scopes;
+    scratch_scopes = kept.scratch_scopes;
+    upward_scopes = kept.upward_scopes;
+    downward_scopes = λ k c later. same_scopes old.downward place (k - 2) t l (s ∙ ap (λ (u : TableOf). u.scope) (sym (table_read old.downward place was l e))) ∙ kept.downward_scopes k c later;
+    cells_are = kept.cells_are;
+  }
+
+-- what a flow lets a clique gather
+pub can_gather : (plus : ℕ → ℕ → ℕ) (flow : FlowOf) (p : Placing) (k : ℕ) (receiver : Option ℕ) → HasPlaced flow p → IsClique flow.shape.tree k
+    → ((i : ℕ) → is_input flow.shape.tree k receiver i ≡ true → IsRight plus flow p i k)
+    → (shape : ShapeOf) (table : TableOf) (upward downward : List TableOf) → shape ≡ flow.shape → table ≡ table_at flow k → upward ≡ flow.upward → downward ≡ flow.downward
+    → CanGather plus shape table upward downward k receiver p
+can_gather plus flow p k receiver has clique right shape table upward downward s t u d =
+    subst (λ (x : ShapeOf). CanGather plus x table upward downward k receiver p) (sym s)
+    (subst (λ (x : TableOf). CanGather plus flow.shape x upward downward k receiver p) (sym t)
+    (subst (λ (x : List TableOf). CanGather plus flow.shape (table_at flow k) x downward k receiver p) (sym u)
+    (subst (λ (x : List TableOf). CanGather plus flow.shape (table_at flow k) flow.upward x k receiver p) (sym d)
+    (record { shape_is = has.shape_is; placing = has.placing; placed = has.tables k clique; right = λ i h. (right i h).cells }))))
+
+pub has_gathered : (plus : ℕ → ℕ → ℕ) (flow : FlowOf) (p : Placing) (k : ℕ) (receiver : Option ℕ) → HasPlaced flow p → IsClique flow.shape.tree k
+    → ((i : ℕ) → is_input flow.shape.tree k receiver i ≡ true → IsRight plus flow p i k)
+    → (shape : ShapeOf) (table : TableOf) (upward downward : List TableOf) → shape ≡ flow.shape → table ≡ table_at flow k → upward ≡ flow.upward → downward ≡ flow.downward
+    → (gathered : TableOf) → ((q : Placing) → CanGather plus shape table upward downward k receiver q → HasGathered plus shape k receiver (neighbours shape.tree k) gathered q)
+    → HasGathered plus flow.shape k receiver (neighbours flow.shape.tree k) gathered p
+has_gathered plus flow p k receiver has clique right shape table upward downward s t u d gathered h =
+    subst (λ (x : ShapeOf). HasGathered plus x k receiver (neighbours x.tree k) gathered p) s
+    (h p (can_gather plus flow p k receiver has clique right shape table upward downward s t u d))
+
+-- a message from a to b, upward or downward
+module _ (old : FlowOf) (p : Placing) (has : HasPlaced old p) (a b : ℕ) (linked_too : is_linked old.shape.tree a b ≡ true) where
+  -- the end that is linked to the other
+  child_up : b < a → AreLinked (link_of old.shape.tree) (length old.shape.tree.cliques) a b → IsChild (link_of old.shape.tree) (length old.shape.tree.cliques) a b
+  child_up l (inl c) = c
+  child_up l (inr c) = let k = has.shape_is.tree_is.linked.earlier b c.later c.within in absurd (omega (arith, l, k.1, c.link_is))
+
+  child_down : a ≤ b → AreLinked (link_of old.shape.tree) (length old.shape.tree.cliques) a b → IsChild (link_of old.shape.tree) (length old.shape.tree.cliques) b a
+  child_down l (inl c) = let k = has.shape_is.tree_is.linked.earlier a c.later c.within in absurd (omega (arith, l, k.1, c.link_is))
+  child_down l (inr c) = c
+
+  pub sender : IsClique old.shape.tree a
+  sender = (are_ends old.shape p has.shape_is has.placing a b linked_too).0
+
+  pub receiver_is : IsClique old.shape.tree b
+  receiver_is = (are_ends old.shape p has.shape_is has.placing a b linked_too).1
+
+  pub upward_child : b < a → IsChild (link_of old.shape.tree) (length old.shape.tree.cliques) a b
+  upward_child l = child_up l (are_linked (link_of old.shape.tree) (length old.shape.tree.cliques) a b linked_too)
+
+  pub downward_child : a ≤ b → IsChild (link_of old.shape.tree) (length old.shape.tree.cliques) b a
+  downward_child l = child_down l (are_linked (link_of old.shape.tree) (length old.shape.tree.cliques) a b linked_too)
+
+  module _ (plus : ℕ → ℕ → ℕ) (law : Lawful plus) (gathered : TableOf) (g : HasGathered plus old.shape a (Some b) (neighbours old.shape.tree a) gathered p) where
+    pub send_lies_in : (before : TableOf) → before.scope ≡ separator_between old.shape a b → LiesIn before.scope gathered.scope
+    send_lies_in before e =
+        subst (λ (s : ScopeOf). LiesIn s gathered.scope) (sym e)
+        (subst (λ (s : ScopeOf). LiesIn (separator_between old.shape a b) s) (sym g.cells.scope_is)
+        (separator_lies_in old.shape p has.shape_is has.placing a b a linked_too (inl refl)))
+
+    pub send_room : HasRoom gathered (2 * cells_in gathered.scope)
+    send_room = whole_room old.shape p has.shape_is has.placing plus law a sender (Some b) gathered g
+
+    pub sent_right : (before after : TableOf) → before.scope ≡ separator_between old.shape a b → IsMargin plus gathered before after → (new : FlowOf) → new.shape ≡ old.shape → message_at new a b ≡ after → IsRight plus new p a b
+    sent_right before after e m new s t = record {
+      cells =
+          subst (λ (x : ShapeOf). IsRightIn plus x p a b (message_at new a b)) (sym s)
+          (subst (λ (x : TableOf). IsRightIn plus old.shape p a b x) (sym t)
+          (message_sent old.shape p has.shape_is has.placing plus law a b linked_too gathered before after g e m.scope m.shift m.full m.numbers));
+    }
+
+-- where the message stands
+pub separator_up : (flow : FlowOf) (scratch : List TableOf) (cells : ℕ) → IsKept flow scratch cells → (a b : ℕ) → IsChild (link_of flow.shape.tree) (length flow.shape.tree.cliques) a b → b < a
+    → (t : TableOf) → t ≡ slice_index_or flow.upward (a - 2) t → t.scope ≡ separator_between flow.shape a b
+separator_up flow scratch cells kept a b c l t e =
+    let m : max a b ≡ a = omega arith in
+    let within : a - 2 < length flow.upward = omega (arith, kept.one_less_up, c.later, c.within) in
+    ap (λ (s : TableOf). s.scope) (sym (table_read flow.upward (a - 2) t within e)) ∙ kept.upward_scopes a (record { first = omega (arith, c.later); last = c.within }) c.later ∙ ap (separator_scope flow.shape) (sym m)
+
+pub separator_down : (flow : FlowOf) (scratch : List TableOf) (cells : ℕ) → IsKept flow scratch cells → (a b : ℕ) → IsChild (link_of flow.shape.tree) (length flow.shape.tree.cliques) b a → a ≤ b
+    → (t : TableOf) → t ≡ slice_index_or flow.downward (b - 2) t → t.scope ≡ separator_between flow.shape a b
+separator_down flow scratch cells kept a b c l t e =
+    let m : max a b ≡ b = omega arith in
+    let within : b - 2 < length flow.downward = omega (arith, kept.one_less_down, c.later, c.within) in
+    ap (λ (s : TableOf). s.scope) (sym (table_read flow.downward (b - 2) t within e)) ∙ kept.downward_scopes b (record { first = omega (arith, c.later); last = c.within }) c.later ∙ ap (separator_scope flow.shape) (sym m)
+
+-- the new message is read there, and each other one is as it was
+pub message_up : (old : FlowOf) (a b computed : ℕ) (t : TableOf) → b < a → a - 2 < length old.upward → message_at (with_upward old (a - 2) t computed) a b ≡ t
+message_up old a b computed t l w =
+    ap (λ (c : Bool). cond c (slice_index_or (slice_set old.upward (a - 2) t) (a - 2) no_table) (slice_index_or old.downward (b - 2) no_table)) (lt-ltb b a l) ∙ get_or-set_same old.upward (a - 2) t no_table w
+
+pub message_down : (old : FlowOf) (a b computed : ℕ) (t : TableOf) → a ≤ b → b - 2 < length old.downward → message_at (with_downward old (b - 2) t computed) a b ≡ t
+message_down old a b computed t l w =
+    ap (λ (c : Bool). cond c (slice_index_or old.upward (a - 2) no_table) (slice_index_or (slice_set old.downward (b - 2) t) (b - 2) no_table)) (le-ltb b a l) ∙ get_or-set_same old.downward (b - 2) t no_table w
+
+module _ (old : FlowOf) (p : Placing) (has : HasPlaced old p) (a b : ℕ) (linked_too : is_linked old.shape.tree a b ≡ true) (computed : ℕ) (t : TableOf) where
+  same_child : (c d e f : ℕ) → IsChild (link_of old.shape.tree) (length old.shape.tree.cliques) c d → IsChild (link_of old.shape.tree) (length old.shape.tree.cliques) e f → c - 2 ≡ e - 2 → (c ≡ e) × (d ≡ f)
+  same_child c d e f x y h =
+      let same : c ≡ e = omega (arith, x.later, y.later, h) in
+      (same, sym x.link_is ∙ ap (link_of old.shape.tree) same ∙ y.link_is)
+
+  pub others_up : b < a → (c d : ℕ) → is_linked old.shape.tree c d ≡ true → ((c ≡ a) × (d ≡ b) → ⊥) → message_at (with_upward old (a - 2) t computed) c d ≡ message_at old c d
+  others_up l c d h apart = at (cases_lt d c)
+    where
+      at : ((d < c) ⊎ (c ≤ d)) → cond (ltb d c) (slice_index_or (slice_set old.upward (a - 2) t) (c - 2) no_table) (slice_index_or old.downward (d - 2) no_table) ≡ cond (ltb d c) (slice_index_or old.upward (c - 2) no_table) (slice_index_or old.downward (d - 2) no_table)
+      at (inl m) =
+          ap (λ (x : TableOf). cond (ltb d c) x (slice_index_or old.downward (d - 2) no_table))
+          (get_or-set_other old.upward (a - 2) (c - 2) t no_table (λ e. apart (same_child c d a b (upward_child old p has c d h m) (upward_child old p has a b linked_too l) e)))
+      at (inr m) =
+          ap (λ (x : Bool). cond x (slice_index_or (slice_set old.upward (a - 2) t) (c - 2) no_table) (slice_index_or old.downward (d - 2) no_table)) (le-ltb d c m) ∙ sym (ap (λ (x : Bool). cond x (slice_index_or old.upward (c - 2) no_table) (slice_index_or old.downward (d - 2) no_table)) (le-ltb d c m))
+
+  pub others_down : a ≤ b → (c d : ℕ) → is_linked old.shape.tree c d ≡ true → ((c ≡ a) × (d ≡ b) → ⊥) → message_at (with_downward old (b - 2) t computed) c d ≡ message_at old c d
+  others_down l c d h apart = at (cases_lt d c)
+    where
+      at : ((d < c) ⊎ (c ≤ d)) → cond (ltb d c) (slice_index_or old.upward (c - 2) no_table) (slice_index_or (slice_set old.downward (b - 2) t) (d - 2) no_table) ≡ cond (ltb d c) (slice_index_or old.upward (c - 2) no_table) (slice_index_or old.downward (d - 2) no_table)
+      at (inl m) =
+          ap (λ (x : Bool). cond x (slice_index_or old.upward (c - 2) no_table) (slice_index_or (slice_set old.downward (b - 2) t) (d - 2) no_table)) (lt-ltb d c m) ∙ sym (ap (λ (x : Bool). cond x (slice_index_or old.upward (c - 2) no_table) (slice_index_or old.downward (d - 2) no_table)) (lt-ltb d c m))
+      at (inr m) =
+          ap (λ (x : TableOf). cond (ltb d c) (slice_index_or old.upward (c - 2) no_table) x)
+          (get_or-set_other old.downward (b - 2) (d - 2) t no_table (λ e.
+          let q = same_child d c b a (downward_child old p has c d h m) (downward_child old p has a b linked_too l) e in apart (q.1, q.0)))
+
+-- what clique a gathered for b from the parts of a kept flow
+module _ (plus : ℕ → ℕ → ℕ) (law : Lawful plus) (old : FlowOf) (scratch : List TableOf) (cells : ℕ) (kept : IsKept old scratch cells) (a b : ℕ)
+    (shape : ShapeOf) (table : TableOf) (upward downward : List TableOf) (s : shape ≡ old.shape) (t : table ≡ slice_index_or old.tables (a - 1) table) (u : upward ≡ old.upward) (d : downward ≡ old.downward)
+    (gathered : TableOf) (h : (q : Placing) → CanGather plus shape table upward downward a (Some b) q → HasGathered plus shape a (Some b) (neighbours shape.tree a) gathered q) where
+  module _ (p : Placing) (has : HasPlaced old p) (linked_too : is_linked old.shape.tree a b ≡ true) (right : AreRightBut plus old p a b) where
+    gathered_there : HasGathered plus old.shape a (Some b) (neighbours old.shape.tree a) gathered p
+    gathered_there =
+        let clique = sender old p has a b linked_too in
+        has_gathered plus old p a (Some b) has clique right shape table upward downward s (sym (table_read old.tables (a - 1) table (table_within old scratch cells kept a clique) t)) u d gathered h
+
+    pub room_there : HasRoom gathered (2 * cells_in gathered.scope)
+    room_there = send_room old p has a b linked_too plus law gathered gathered_there
+
+    module _ (before : TableOf) where
+      pub lies_up : b < a → before ≡ slice_index_or old.upward (a - 2) before → LiesIn before.scope gathered.scope
+      lies_up l e = send_lies_in old p has a b linked_too plus law gathered gathered_there before (separator_up old scratch cells kept a b (upward_child old p has a b linked_too l) l before e)
+
+      pub lies_down : a ≤ b → before ≡ slice_index_or old.downward (b - 2) before → LiesIn before.scope gathered.scope
+      lies_down l e = send_lies_in old p has a b linked_too plus law gathered gathered_there before (separator_down old scratch cells kept a b (downward_child old p has a b linked_too l) l before e)
+
+      module _ (after : TableOf) (computed : ℕ) (margin : IsMargin plus gathered before after) where
+        pub right_up : b < a → before ≡ slice_index_or old.upward (a - 2) before → IsRight plus (with_upward old (a - 2) after computed) p a b
+        right_up l e =
+            let c = upward_child old p has a b linked_too l in
+            sent_right old p has a b linked_too plus law gathered gathered_there before after (separator_up old scratch cells kept a b c l before e) margin (with_upward old (a - 2) after computed) refl
+            (message_up old a b computed after l (omega (arith, kept.one_less_up, c.later, c.within)))
+
+        pub right_down : a ≤ b → before ≡ slice_index_or old.downward (b - 2) before → IsRight plus (with_downward old (b - 2) after computed) p a b
+        right_down l e =
+            let c = downward_child old p has a b linked_too l in
+            sent_right old p has a b linked_too plus law gathered gathered_there before after (separator_down old scratch cells kept a b c l before e) margin (with_downward old (b - 2) after computed) refl
+            (message_down old a b computed after l (omega (arith, kept.one_less_down, c.later, c.within)))
+
+-- the flow is kept after both
+module _ (old : FlowOf) (scratch : List TableOf) (cells computed : ℕ) (kept : IsKept old scratch cells) (p : Placing) (has : HasPlaced old p) (a b : ℕ) (linked_too : is_linked old.shape.tree a b ≡ true)
+    (was gathered : TableOf) (e : was ≡ slice_index_or scratch (a - 1) was) (same : gathered.scope ≡ was.scope) (before after : TableOf) (over : after.scope ≡ before.scope) where
+  pub all_kept_up : b < a → before ≡ slice_index_or old.upward (a - 2) before → IsKept (with_upward old (a - 2) after computed) (slice_set scratch (a - 1) gathered) cells
+  all_kept_up l f =
+      let c = upward_child old p has a b linked_too l in
+      kept_upward old (slice_set scratch (a - 1) gathered) cells computed (scratch_kept old scratch cells kept a (sender old p has a b linked_too) was gathered e same) (a - 2) before after
+      (omega (arith, kept.one_less_up, c.later, c.within)) f over
+
+  pub all_kept_down : a ≤ b → before ≡ slice_index_or old.downward (b - 2) before → IsKept (with_downward old (b - 2) after computed) (slice_set scratch (a - 1) gathered) cells
+  all_kept_down l f =
+      let c = downward_child old p has a b linked_too l in
+      kept_downward old (slice_set scratch (a - 1) gathered) cells computed (scratch_kept old scratch cells kept a (sender old p has a b linked_too) was gathered e same) (b - 2) before after
+      (omega (arith, kept.one_less_down, c.later, c.within)) f over

@@ -1,0 +1,143 @@
+use Rattle.std.proofs.Common.{◌≡◌, ℕ, ◌+◌, ◌*◌, ◌<◌, Bool, true, false, inr, List, Option, length, take, get_or, slice_index_or, refl, sym, ap, subst, ◌∙◌, arith}
+use Rattle.std.proofs.Math.Seq.{take-length}
+use Rattle.std.proofs.lemmas.Bool.{and_from}
+use Rattle.mk_exact.specs.Lawful.{Lawful}
+use Rattle.mk_sums.specs.Trees.{linked}
+use Rattle.mk_table.specs.Scopes.{ScopeOf, LiesIn, cells_in}
+use Rattle.mk_table.specs.Cells.{cell_in}
+use Rattle.mk_table.specs.Tables.{TableOf, HasNumbers}
+use Rattle.mk_tree.specs.Given.{link_of}
+use Rattle.mk_propagate.specs.Shapes.{ShapeOf, IsClique, neighbours, separator_between}
+use Rattle.mk_propagate.specs.Placings.{Placing}
+use Rattle.mk_propagate.specs.inner.Gathered.{is_taken, message_in, CanGather, HasGathered, IsGathering, IsRightIn}
+use Rattle.mk_propagate.proofs.Messages.{neighbour_linked, are_ends, separator_lies_in, begins, passed_by, taken_too, taken_room, message_room}
+use Rattle.mk_propagate.proofs.message.gather.Goals as goal
+use Rattle.mk_propagate.proofs.message.gather.Goals.{then-is_taken, else-is_taken}
+
+-- the place of a neighbour in the list
+record IsAt (shape : ShapeOf) (k j i : ℕ) : Type 0 where
+  within : j < length (neighbours shape.tree k)
+  is : i ≡ get_or (neighbours shape.tree k) j 0
+
+at_place : (shape : ShapeOf) (k j : ℕ) (items : List ℕ) → items ≡ neighbours shape.tree k → j < length items → IsAt shape k j (slice_index_or items j 0)
+at_place shape k j items e l = record { within = subst (λ (xs : List ℕ). j < length xs) e l; is = ap (λ (xs : List ℕ). slice_index_or xs j 0) e }
+
+linked_there : (shape : ShapeOf) (k j i : ℕ) → IsAt shape k j i → linked (link_of shape.tree) (length shape.tree.cliques) i k ≡ true
+linked_there shape k j i at = neighbour_linked shape.tree k j i at.within at.is
+
+pub loop-neighbour-init : goal.loop-neighbour-init
+loop-neighbour-init g c =
+    let law = g.met.R.Semiring.lawful in let e = c.copy_into.ensures in record {
+      scope = ap (λ (t : TableOf). t.scope) e;
+      has = λ p h.
+          subst (λ (t : TableOf). HasGathered g.R.Semiring.plus_of c.args.shape.now c.args.clique c.args.receiver (take 0 (neighbours c.args.shape.now.tree c.args.clique)) t p) (sym e)
+          (begins c.args.shape.now p h.shape_is h.placing g.R.Semiring.plus_of law c.args.clique c.requires.clique c.args.receiver c.args.table.now h.placed
+          (subst (λ (t : TableOf). length t.digits ≡ cells_in t.scope) e c.cells.ensures.full));
+    }
+
+pub message_of-requires-clause-first : goal.message_of-requires-clause-first
+message_of-requires-clause-first g c =
+    let shape = c.args.shape.now in let k = c.args.clique in let h = c.requires.right.1 in
+    let at = at_place shape k c.loop-neighbour.neighbour-index c.neighbours-neighbour-items.result.now c.neighbours-neighbour-items.ensures c.loop-neighbour-test.true in
+    (are_ends shape c.requires.right.0 h.shape_is h.placing _ k (linked_there shape k _ _ at)).0.first
+
+pub message_of-requires-clause-last : goal.message_of-requires-clause-last
+message_of-requires-clause-last g c =
+    let shape = c.args.shape.now in let k = c.args.clique in let h = c.requires.right.1 in
+    let at = at_place shape k c.loop-neighbour.neighbour-index c.neighbours-neighbour-items.result.now c.neighbours-neighbour-items.ensures c.loop-neighbour-test.true in
+    let l = (are_ends shape c.requires.right.0 h.shape_is h.placing _ k (linked_there shape k _ _ at)).0.last in
+    omega (arith, l, c.requires.messages.one_less_up)
+
+pub message_of-requires-clause-apart : goal.message_of-requires-clause-apart
+message_of-requires-clause-apart g c =
+    let shape = c.args.shape.now in let k = c.args.clique in let h = c.requires.right.1 in
+    let at = at_place shape k c.loop-neighbour.neighbour-index c.neighbours-neighbour-items.result.now c.neighbours-neighbour-items.ensures c.loop-neighbour-test.true in
+    (are_ends shape c.requires.right.0 h.shape_is h.placing _ k (linked_there shape k _ _ at)).2
+
+-- the message that is taken is right
+right_there : (plus : ℕ → ℕ → ℕ) (shape : ShapeOf) (table : TableOf) (upward downward : List TableOf) (k j i : ℕ) (receiver : Option ℕ) (p : Placing) (taken : Bool) (message : TableOf)
+    → CanGather plus shape table upward downward k receiver p → IsAt shape k j i → taken ≡ is_taken receiver i → taken ≡ true → message ≡ message_in upward downward i k
+    → IsRightIn plus shape p i k message
+right_there plus shape table upward downward k j i receiver p taken message h at is took same =
+    subst (λ (t : TableOf). IsRightIn plus shape p i k t) (sym same)
+    (h.right i (and_from (linked (link_of shape.tree) (length shape.tree.cliques) i k) (is_taken receiver i) (linked_there shape k j i at) (sym is ∙ took)))
+
+-- and lies in what is gathered so far
+lies_there : (plus : ℕ → ℕ → ℕ) (shape : ShapeOf) (table : TableOf) (upward downward : List TableOf) (k j i : ℕ) (receiver : Option ℕ) (p : Placing) (old message : TableOf)
+    → CanGather plus shape table upward downward k receiver p → IsAt shape k j i → HasGathered plus shape k receiver (take j (neighbours shape.tree k)) old p → IsRightIn plus shape p i k message
+    → LiesIn message.scope old.scope
+lies_there plus shape table upward downward k j i receiver p old message h at gathered right =
+    subst (λ (s : ScopeOf). LiesIn s old.scope) (sym right.scope_is)
+    (subst (λ (s : ScopeOf). LiesIn (separator_between shape i k) s) (sym gathered.cells.scope_is)
+    (separator_lies_in shape p h.shape_is h.placing i k k (linked_there shape k j i at) (inr refl)))
+
+pub times_message-requires-clause-lies_in : goal.times_message-requires-clause-lies_in
+times_message-requires-clause-lies_in g c =
+    let plus = g.R.Semiring.plus_of in let shape = c.args.shape.now in let k = c.args.clique in let p = c.requires.right.0 in let h = c.requires.right.1 in
+    let j = c.loop-neighbour.neighbour-index in let items = c.neighbours-neighbour-items.result.now in
+    let at = at_place shape k j items c.neighbours-neighbour-items.ensures c.loop-neighbour-test.true in
+    let right = right_there plus shape c.args.table.now c.args.upward.now c.args.downward.now k j (slice_index_or items j 0) c.args.receiver p c.is_taken.result c.message_of.result.now h at c.is_taken.ensures c.if-is_taken.true c.message_of.ensures in
+    lies_there plus shape c.args.table.now c.args.upward.now c.args.downward.now k j (slice_index_or items j 0) c.args.receiver p c.loop-neighbour.gathered c.message_of.result.now h at (c.loop-neighbour.invariant.has p h) right
+
+pub times_message-requires-clause-room : goal.times_message-requires-clause-room
+times_message-requires-clause-room g c =
+    let plus = g.R.Semiring.plus_of in let shape = c.args.shape.now in let k = c.args.clique in let p = c.requires.right.0 in let h = c.requires.right.1 in
+    let j = c.loop-neighbour.neighbour-index in let items = c.neighbours-neighbour-items.result.now in
+    let at = at_place shape k j items c.neighbours-neighbour-items.ensures c.loop-neighbour-test.true in
+    taken_room shape p h.shape_is h.placing plus g.met.R.Semiring.lawful k c.requires.clique c.args.receiver j (slice_index_or items j 0) at.within at.is c.loop-neighbour.gathered (c.loop-neighbour.invariant.has p h)
+
+pub times_message-requires-clause-message_room : goal.times_message-requires-clause-message_room
+times_message-requires-clause-message_room g c =
+    let plus = g.R.Semiring.plus_of in let shape = c.args.shape.now in let k = c.args.clique in let p = c.requires.right.0 in let h = c.requires.right.1 in
+    let j = c.loop-neighbour.neighbour-index in let items = c.neighbours-neighbour-items.result.now in
+    let at = at_place shape k j items c.neighbours-neighbour-items.ensures c.loop-neighbour-test.true in
+    let right = right_there plus shape c.args.table.now c.args.upward.now c.args.downward.now k j (slice_index_or items j 0) c.args.receiver p c.is_taken.result c.message_of.result.now h at c.is_taken.ensures c.if-is_taken.true c.message_of.ensures in
+    message_room shape p h.shape_is h.placing plus g.met.R.Semiring.lawful k c.requires.clique c.args.receiver j (slice_index_or items j 0) at.within at.is c.message_of.result.now (sym c.is_taken.ensures ∙ c.if-is_taken.true) right
+
+-- one neighbour more, whose message is taken, or is not
+module _ (plus : ℕ → ℕ → ℕ) (law : Lawful plus) (shape : ShapeOf) (table : TableOf) (upward downward : List TableOf) (k j i : ℕ) (clique : IsClique shape.tree k) (receiver : Option ℕ) (at : IsAt shape k j i) (taken : Bool)
+    (is : taken ≡ is_taken receiver i) where
+  taken_step : (old new message : TableOf) → taken ≡ true → message ≡ message_in upward downward i k → IsGathering plus shape table upward downward k receiver j old
+      → new.scope ≡ old.scope → new.shift ≡ old.shift + message.shift → length new.digits ≡ cells_in new.scope
+      → ((f g : ℕ → ℕ) (n q : ℕ) → HasNumbers old f n → HasNumbers message g q → HasNumbers new (λ c. f c * g (cell_in message.scope old.scope c)) (n + q + 1))
+      → IsGathering plus shape table upward downward k receiver (j + 1) new
+  taken_step old new message took same h scope shift full numbers = record {
+    scope = scope ∙ h.scope;
+    has = λ p can.
+        taken_too shape p can.shape_is can.placing plus law k clique receiver j i at.within at.is old new message (sym is ∙ took) (h.has p can)
+        (right_there plus shape table upward downward k j i receiver p taken message can at is took same) scope shift full numbers;
+  }
+
+  passed_step : (old new : TableOf) → taken ≡ false → IsGathering plus shape table upward downward k receiver j old → new ≡ old → IsGathering plus shape table upward downward k receiver (j + 1) new
+  passed_step old new not_taken h e = subst (IsGathering plus shape table upward downward k receiver (j + 1)) (sym e) (record {
+    scope = h.scope;
+    has = λ p can. passed_by shape p can.shape_is can.placing plus law k clique receiver j i at.within at.is old (sym is ∙ not_taken) (h.has p can);
+  })
+
+pub loop-neighbour-preserved : goal.loop-neighbour-preserved
+loop-neighbour-preserved g c =
+    let plus = g.R.Semiring.plus_of in let law = g.met.R.Semiring.lawful in let shape = c.args.shape.now in let k = c.args.clique in
+    let table = c.args.table.now in let upward = c.args.upward.now in let downward = c.args.downward.now in let receiver = c.args.receiver in
+    let j = c.loop-neighbour.neighbour-index in let items = c.neighbours-neighbour-items.result.now in
+    let at = at_place shape k j items c.neighbours-neighbour-items.ensures c.loop-neighbour-test.true in
+    elim c.if-is_taken.branch [
+      | then-is_taken w ↦
+          subst (IsGathering plus shape table upward downward k receiver (j + 1)) (sym w.gathered-is)
+          (taken_step plus law shape table upward downward k j (slice_index_or items j 0) c.requires.clique receiver at c.is_taken.result c.is_taken.ensures c.loop-neighbour.gathered w.times_message.new.self w.message_of.result.now
+          w.if-is_taken.true w.message_of.ensures c.loop-neighbour.invariant w.times_message.ensures.scope w.times_message.ensures.shift w.cells-then-is_taken.ensures.full w.times_message.ensures.numbers)
+      | else-is_taken w ↦
+          passed_step plus law shape table upward downward k j (slice_index_or items j 0) c.requires.clique receiver at c.is_taken.result c.is_taken.ensures c.loop-neighbour.gathered c.if-is_taken.gathered
+          w.if-is_taken.false c.loop-neighbour.invariant w.gathered-is
+    ]
+
+pub returns-clause-scope : goal.returns-clause-scope
+returns-clause-scope g c = c.loop-neighbour.invariant.scope ∙ sym c.requires.scope
+
+-- after the last neighbour
+pub returns-clause-gathered : goal.returns-clause-gathered
+returns-clause-gathered g c = λ p h.
+    let shape = c.args.shape.now in let k = c.args.clique in let j = c.loop-neighbour.neighbour-index in
+    let long : j ≡ length (neighbours shape.tree k) =
+    let e = ap (λ (xs : List ℕ). length xs) c.neighbours-neighbour-items.ensures in omega (arith, e, c.loop-neighbour-test.false, c.loop-neighbour.auto.neighbour-index-end) in
+    subst (λ (xs : List ℕ). HasGathered g.R.Semiring.plus_of shape k c.args.receiver xs c.loop-neighbour.gathered p) (ap (λ n. take n (neighbours shape.tree k)) long ∙ take-length (neighbours shape.tree k))
+    (c.loop-neighbour.invariant.has p h)
