@@ -1,6 +1,6 @@
 -- An engine over a tree: a flow, in which each factor and each known pair is placed in the first clique that holds its variables,
 -- and a mark for each message that is stale.
-use Rattle.std.specs.Prelude.{◌≡◌, ℕ, ◌+◌, ◌-◌, ◌*◌, List, [], ◌∷◌, map, length, Bool, true, false, not, ◌&&◌, ◌||◌, ◌==◌, nat_lt, if◌then◌else◌, slice_index_or, option_map, unwrap_or, position}
+use Rattle.std.specs.Prelude.{◌≡◌, ℕ, ◌+◌, ◌-◌, List, [], ◌∷◌, map, length, Bool, true, false, not, ◌&&◌, ◌||◌, ◌==◌, nat_lt, if◌then◌else◌, slice_index_or, option_map, unwrap_or, position}
 use Rattle.mk_net.specs.declared.words.Pair.{Pair}
 use Rattle.mk_net.specs.Asked.{ratio_pairs}
 use Rattle.mk_net.specs.Network.{Variable}
@@ -71,3 +71,8 @@ ClearsTowards old new c =
 -- the clique in which the belief in an event is read
 abbrev pub reading_clique : GivenTree → List Pair → ℕ
 reading_clique tree event = unwrap_or (home tree event) 0
+
+-- the shape and the count of messages are as they were
+pub record KeepsCount (old new : MarkedFlow) : Type 0 where
+  pub same_shape : new.flow.shape ≡ old.flow.shape
+  pub same_count : new.flow.computed ≡ old.flow.computed

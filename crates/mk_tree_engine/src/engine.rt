@@ -1,41 +1,155 @@
 //! The engine.
 
+ghost use Rattle.std.specs.Prelude.{◌≡◌, ℕ, ◌<◌, ◌≤◌, length, true, is_some, IfOk, ⊤};
+ghost use Rattle.mk_net.specs.Asked.{ratio_pairs};
+ghost use Rattle.mk_net.specs.Trades.{trade_ratio};
+ghost use Rattle.std.proofs.Common.{sym, subst};
+ghost use Rattle.mk_tree.specs.Given.{GivenTree, home};
+ghost use Rattle.mk_tree.specs.Checked.{IsTreeOf};
+ghost use Rattle.mk_engine.specs.Meaning.{Meaning, RowsOf, RatioOf, with_factor, with_known};
+ghost use Rattle.mk_engine.specs.Beliefs.{CanWeigh, CanMultiply, CanKnow, CanBelieve, IsBelief};
+ghost use Rattle.mk_propagate.specs.Shapes.{IsClique};
+ghost use Rattle.mk_propagate.specs.Flows.{counted_on, reading_grade};
+ghost use Rattle.mk_tree_engine.specs.Engines.{HasTree, IsPlanFor, MarksAway, ClearsTowards, KeepsCount, factor_home, pair_home, placing_of, reading_clique, stale_number};
+
+use crate::homes::{event_home, family_home};
+use crate::marks::Marks;
+use crate::passes::{collect_down, collect_up, count_stale};
+use mk_engine::Engine;
+use mk_net::{Event, Network, NoMemory, Pair, Ratio};
+use mk_propagate::{Flow, Shape};
+use mk_semiring::Semiring;
+use mk_tree::Tree;
+use std::alloc::Global;
+use std::marker::Model;
+use std::rc::Rc;
+
 /// An engine over a tree of cliques: each factor and each known pair is placed in the first clique that holds its variables, and a
 /// belief is read in the first clique that holds its event, once the stale messages that lead towards it were made. It suits
 /// every network with a tree of it.
 #[derive(Drop)]
 pub struct TreeEngine<R: Semiring> {
     flow: Flow<R>,
-    stale_up: Vec<bool>,
-    stale_down: Vec<bool>,
+    marks: Marks,
 }
 
-impl<R: Semiring> Model for TreeEngine<R> { /* MarkedFlow; invariant: AreLinked, and one mark less than cliques in each list */ }
+impl<R: Semiring> Model for TreeEngine<R> {
+    ghost use Rattle.mk_tree_engine.specs.Engines.{MarkedFlow};
+    ghost use Rattle.mk_tree_engine.specs.inner.Marks.{AreMarksOf};
+
+    ghost Value = { MarkedFlow };
+
+    ghost view = { λ e. record { flow = e.flow; stale_up = e.marks.up.items; stale_down = e.marks.down.items } };
+
+    ghost invariant = { λ e. AreMarksOf e.flow.shape.tree e.marks.up.items e.marks.down.items };
+}
 
 impl<R: Semiring> TreeEngine<R> {
     /// How many messages were made since the start; the count stands at the last number of 64 digits.
     pub fn computed(&self) -> u64
-        ensures { result ≡ self.now.flow.computed };
+        ensures { result ≡ self.now.flow.computed }
+    {
+        self.flow.computed()
+    }
 
     /// How many of the messages that lead towards a clique are stale.
     pub fn stale_towards(&self, clique: u32) -> u64
         requires { IsClique self.now.flow.shape.tree clique }
-        ensures { result ≡ stale_number self.now clique };
+        ensures { result ≡ stale_number self.now clique }
+    {
+        count_stale(self.flow.shape(), &self.marks, clique)
+    }
 }
 
 impl<R: Semiring> Engine<R> for TreeEngine<R> {
     type Plan = Rc<Shape>;
-    ghost suits = { λ network tree. ⊤ };       // or what the language wants
+
+    ghost suits = { λ network tree. ⊤ };
+
     ghost plan_for = { λ plan network tree. IsPlanFor plan.value network tree };
+
     ghost stands_for = { λ engine m. HasTree R.plus_of engine m };
+
     ghost fitting = { λ engine event. is_some (home engine.flow.shape.tree event) };
-    // plan: Shape::of in an Rc. start: Flow::start, all marks stale.
 
-    // weigh: ensures (besides the trait's) marks { (m) → HasTree .. → MarksAway self.old self.new (factor_home net.now self.old.flow.shape.tree (RowsOf variable)) },
-    //   counted { same computed }. multiply, know likewise.
+    fn plan(alloc: Global, net: &Network, tree: &Tree) -> Result<Rc<Shape>, NoMemory>
+        requires { IsTreeOf net.now tree.now }
+        ensures { IfOk result (λ plan. IsPlanFor plan.value net.now tree.now) }
+    {
+        let shape = Shape::of(alloc, net, tree)?;
+        Ok(Rc::new(alloc, shape)?)
+    }
 
-    // belief: ensures (besides the trait's)
-    //   counted { self.new.flow.computed ≡ counted_on self.old.flow.computed (stale_number self.old (reading_clique self.old.flow.shape.tree event.now)) }
-    //   marks { ClearsTowards self.old self.new (reading_clique ..) }
-    //   sharp { (m : Meaning) → stands_for self.old m → R.has_grade result (reading_grade m.tree (placing_of m) (reading_clique m.tree event.now)) }
+    fn start(alloc: Global, plan: &Rc<Shape>) -> Result<TreeEngine<R>, NoMemory> {
+        let flow = Flow::start(alloc, plan)?;
+        let marks = Marks::all_stale(alloc, flow.shape().cliques())?;
+        Ok(TreeEngine { flow, marks })
+    }
+
+    fn weigh(&mut self, net: &Network, variable: u32)
+        requires { CanWeigh ⟦<TreeEngine<R> as Engine<R>>⟧.stands_for self.old net.now variable }
+        ensures stands { (m : Meaning) → ⟦<TreeEngine<R> as Engine<R>>⟧.stands_for self.old m → m.network ≡ net.now
+            → ⟦<TreeEngine<R> as Engine<R>>⟧.stands_for self.new (with_factor (RowsOf variable) m) }
+        ensures marks { MarksAway self.old self.new (factor_home net.now self.old.flow.shape.tree (RowsOf variable)) }
+        ensures kept { KeepsCount self.old self.new }
+    {
+        let clique = family_home(self.flow.shape().tree(), net, variable);
+        self.flow.times_rows(clique, net, variable);
+        self.marks.mark_away(self.flow.shape(), clique);
+    }
+
+    fn multiply(&mut self, ratio: &Ratio)
+        requires fits { is_some (home self.old.flow.shape.tree (ratio_pairs (trade_ratio ratio.now))) ≡ true }
+        requires range { CanMultiply ⟦<TreeEngine<R> as Engine<R>>⟧.stands_for self.old (trade_ratio ratio.now) }
+        ensures stands { (m : Meaning) → ⟦<TreeEngine<R> as Engine<R>>⟧.stands_for self.old m
+            → ⟦<TreeEngine<R> as Engine<R>>⟧.stands_for self.new (with_factor (RatioOf (trade_ratio ratio.now)) m) }
+        ensures marks { (m : Meaning) → ⟦<TreeEngine<R> as Engine<R>>⟧.stands_for self.old m
+            → MarksAway self.old self.new (factor_home m.network self.old.flow.shape.tree (RatioOf (trade_ratio ratio.now))) }
+        ensures kept { KeepsCount self.old self.new }
+    {
+        let clique = event_home(self.flow.shape().tree(), &ratio.event());
+        self.flow.times_ratio(clique, ratio);
+        self.marks.mark_away(self.flow.shape(), clique);
+    }
+
+    fn know(&mut self, pair: Pair)
+        requires { CanKnow ⟦<TreeEngine<R> as Engine<R>>⟧.stands_for self.old pair }
+        ensures stands { (m : Meaning) → ⟦<TreeEngine<R> as Engine<R>>⟧.stands_for self.old m
+            → ⟦<TreeEngine<R> as Engine<R>>⟧.stands_for self.new (with_known pair m) }
+        ensures marks { MarksAway self.old self.new (pair_home self.old.flow.shape.tree pair) }
+        ensures kept { KeepsCount self.old self.new }
+    {
+        let Some(event) = Event::empty().with(pair) else {
+            unreachable!()
+        };
+        let clique = event_home(self.flow.shape().tree(), &event);
+        self.flow.restrict(clique, pair);
+        self.marks.mark_away(self.flow.shape(), clique);
+    }
+
+    fn fits(&self, event: &Event) -> bool {
+        self.flow.shape().tree().home(event).is_some()
+    }
+
+    fn belief(&mut self, event: &Event) -> R::Value
+        requires fits { is_some (home self.old.flow.shape.tree event.now) ≡ true }
+        requires range { CanBelieve ⟦<TreeEngine<R> as Engine<R>>⟧.stands_for self.old event.now }
+        ensures kept { (m : Meaning) → ⟦<TreeEngine<R> as Engine<R>>⟧.stands_for self.old m → ⟦<TreeEngine<R> as Engine<R>>⟧.stands_for self.new m }
+        ensures belief { (m : Meaning) → ⟦<TreeEngine<R> as Engine<R>>⟧.stands_for self.old m
+            → IsBelief R.encloses R.has_grade R.is_exact R.plus_of m event.now result }
+        ensures shape { self.new.flow.shape ≡ self.old.flow.shape }
+        ensures counted { self.new.flow.computed
+            ≡ counted_on self.old.flow.computed (stale_number self.old (reading_clique self.old.flow.shape.tree event.now)) }
+        ensures marks { ClearsTowards self.old self.new (reading_clique self.old.flow.shape.tree event.now) }
+        ensures sharp { (m : Meaning) → ⟦<TreeEngine<R> as Engine<R>>⟧.stands_for self.old m
+            → R.has_grade result (reading_grade m.tree (placing_of m) (reading_clique m.tree event.now)) }
+    {
+        let clique = event_home(self.flow.shape().tree(), event);
+        let _ = self.flow.computed();
+        collect_up(&mut self.flow, &mut self.marks, clique);
+        collect_down(&mut self.flow, &mut self.marks, clique);
+        self.flow.read(clique, event)
+    }
+
+    ghost home_fits = { λ engine m event stands has. subst (λ (t : GivenTree). is_some (home t event) ≡ true) (sym stands.tree_is) has };
 }

@@ -2,7 +2,9 @@
 #![tactic(auto)]
 
 mod engine;
+mod homes;
 mod laws;
 mod marks;
+mod passes;
 
 pub use engine::TreeEngine;

@@ -1,0 +1,6 @@
+use Rattle.std.proofs.Common.{Some, sym, ◌∙◌}
+use Rattle.mk_tree_engine.proofs.Families.{home_holds}
+use Rattle.mk_tree_engine.proofs.homes.event_home.Goals as goal
+
+pub returns-clause-fits : goal.returns-clause-fits
+returns-clause-fits c = (home_holds c.args.tree.now c.args.event.now c.in-Some.clique (sym c.in-Some.ensures.home)).1

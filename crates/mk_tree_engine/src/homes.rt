@@ -1,0 +1,58 @@
+//! Where factors are placed.
+
+ghost use Rattle.std.specs.Prelude.{◌≡◌, ℕ, ◌+◌, ◌<◌, ◌≤◌, ◌&&◌, length, true, is_some, Some};
+ghost use Rattle.std.specs.List.{list_all};
+ghost use Rattle.mk_net.specs.Sets.{is_member};
+ghost use Rattle.mk_net.specs.Network.{IsNetwork};
+ghost use Rattle.mk_tree.specs.Given.{GivenTree, clique_at, home, holds_event};
+ghost use Rattle.mk_tree.specs.Tests.{holds_family};
+ghost use Rattle.mk_tree.specs.Checked.{IsTreeOf};
+ghost use Rattle.mk_engine.specs.Meaning.{RowsOf};
+ghost use Rattle.mk_propagate.specs.Shapes.{IsClique};
+ghost use Rattle.mk_tree_engine.specs.Engines.{factor_home, reading_clique};
+
+use mk_net::{Event, Network, VarSet};
+use mk_tree::Tree;
+
+/// The first clique that holds a variable and its parents.
+pub(crate) fn family_home(tree: &Tree, net: &Network, variable: u32) -> u32
+    requires tree { IsTreeOf net.now tree.now }
+    requires variable { variable < length net.now }
+    ensures home { result ≡ factor_home net.now tree.now (RowsOf variable) }
+    ensures clique { IsClique tree.now result }
+    ensures fits { holds_family net.now variable (clique_at tree.now result) ≡ true }
+{
+    for passed in 0..tree.cliques() {
+        if holds_family(tree.clique(passed + 1), net, variable) {
+            return passed + 1;
+        }
+    }
+    unreachable!()
+}
+
+/// Whether a set holds a variable and its parents.
+fn holds_family(set: VarSet, net: &Network, variable: u32) -> bool
+    requires { variable < length net.now }
+    ensures { result ≡ holds_family net.now variable set }
+{
+    set.has(variable) && holds_each(&set, net.parents(variable))
+}
+
+fn holds_each(set: &VarSet, variables: &[u32]) -> bool
+    ensures { result ≡ list_all (is_member set.now) variables.now }
+{
+    variables.iter().all(|variable| set.has(*variable))
+}
+
+/// The first clique that holds each variable of an event.
+pub(crate) fn event_home(tree: &Tree, event: &Event) -> u32
+    requires { is_some (home tree.now event.now) ≡ true }
+    ensures home { result ≡ reading_clique tree.now event.now }
+    ensures clique { IsClique tree.now result }
+    ensures fits { holds_event event.now (clique_at tree.now result) ≡ true }
+{
+    let Some(clique) = tree.home(event) else {
+        unreachable!()
+    };
+    clique
+}
