@@ -4,5 +4,7 @@
 mod answer;
 mod print;
 mod run;
+mod tally;
 
 pub use run::serve;
+pub use tally::{Tally, TallyFault, tally};

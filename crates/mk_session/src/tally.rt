@@ -1,20 +1,20 @@
 //! A run whose replies are counted.
 
-ghost use Rattle.std.specs.Prelude.{◌≡◌, ◌≢◌, ◌+◌, ◌<◌, ◌≤◌, ◌↔◌, IsTrue, ℕ, List, [], ◌∷◌, ◌++◌, Some, None, Ok, Err, Result, OnOk, IfNone, IfSome};
+ghost use Rattle.std.specs.Prelude.{◌≡◌, ◌≢◌, ◌+◌, ◌<◌, ◌≤◌, ◌↔◌, IsTrue, ℕ, List, [], ◌∷◌, ◌++◌, Some, None, Ok, Err, Result, OnOk, IfNone, IfSome, MatchResult};
 ghost use Rattle.mk_io.specs.Stream.{text, long, max_stream_lines};
 ghost use Rattle.mk_io.specs.Cutting.{GoesOn};
-ghost use Rattle.mk_exact.specs.Market.{Market as TheMarket};
 ghost use Rattle.mk_tree.specs.Checked.{IsTreeOf};
 ghost use Rattle.mk_file.specs.File.{file_of};
 ghost use Rattle.mk_file.specs.Few.{HasFewStates};
 ghost use Rattle.mk_file.specs.MarketOf.{market_of};
 ghost use Rattle.mk_rules.specs.Transcript.{opening};
-ghost use Rattle.mk_session.specs.Tally.{AreCounted, IsRemembered, TallyEnds};
-ghost use Rattle.mk_session.specs.inner.Counting.{HasRoom, CountsLine, IsCountedSoFar, uncounted};
+ghost use Rattle.mk_session.specs.Tally.{AreCounted, TallyEnds};
+ghost use Rattle.mk_session.specs.inner.Counting.{uncounted, IsWithin, HasRoom, CountsLine, IsCountedSoFar, EndsCount};
 
 use crate::answer::{JointMarket, is_blank, reply_to};
 use mk_file::{FileFault, MarketFile, read_market};
 use mk_io::{Lines, Next, QuietInputs};
+use mk_net::NoMemory;
 use mk_reply::{Refusal, Reply};
 use std::alloc::Global;
 
@@ -39,4 +39,168 @@ pub enum TallyFault {
     TooMany,
     /// Memory was wanting.
     Memory,
+}
+
+impl Tally {
+    /// No replies.
+    fn new() -> Tally
+        ensures { result ≡ uncounted }
+    {
+        Tally {
+            replies: 0,
+            trades: 0,
+            refused: 0,
+            last: None,
+        }
+    }
+
+    /// Counts a reply.
+    fn add(&mut self, reply: Reply)
+        requires room { HasRoom max_stream_lines self.old }
+        ensures counts { (earlier : List Reply) → AreCounted earlier self.old → AreCounted (earlier ++ reply ∷ []) self.new }
+        ensures fits { IsWithin (self.old.replies + 1) self.new }
+    {
+        match reply {
+            Reply::Traded { .. } => self.trades += 1,
+            Reply::Refused { .. } => self.refused += 1,
+            _ => {}
+        }
+        self.replies += 1;
+        self.last = Some(reply);
+    }
+}
+
+/// Counts the replies of the market of this file to these commands, as `serve` makes them: one for each line that is not
+/// blank.
+///
+/// `TallyFault::Market` and `TallyFault::TooMany` name what the file or the commands have. `TallyFault::Memory` comes where memory
+/// is wanting, also where the market would reply so.
+pub fn tally(alloc: Global, file: &[u8], commands: &[u8]) -> Result<Tally, TallyFault>
+    ensures { TallyEnds result (file_of file.now) commands.now }
+{
+    match read_market(alloc, file) {
+        Err(FileFault::Memory) => Err(TallyFault::Memory),
+        Err(fault) => Err(TallyFault::Market(fault)),
+        Ok(file) => tally_file(alloc, file, commands),
+    }
+}
+
+/// Opens the market of an accepted file, and counts its replies.
+fn tally_file(alloc: Global, file: MarketFile, commands: &[u8]) -> Result<Tally, TallyFault>
+    requires few { HasFewStates file.net }
+    requires tree { IsTreeOf file.net file.tree }
+    ensures { TallyEnds result (Ok (market_of file)) commands.now }
+{
+    let Ok(mut market) = JointMarket::start(alloc, file) else {
+        return Err(TallyFault::Memory);
+    };
+    let Ok(commands) = commands.to_vec(alloc) else {
+        return Err(TallyFault::Memory);
+    };
+    count_replies(alloc, &mut market, commands)
+}
+
+/// Counts the replies to all commands.
+fn count_replies(
+    alloc: Global,
+    market: &mut JointMarket,
+    commands: Vec<u8>,
+) -> Result<Tally, TallyFault>
+    requires { market.old.standing ≡ opening }
+    ensures { TallyEnds result (Ok market.old.market) commands.items }
+{
+    let mut inputs = QuietInputs::new(Vec::new(alloc), commands, PIECE);
+    let mut lines = Lines::new();
+    let mut tally = Tally::new();
+    loop {
+        if let Some(ended) = take_count(alloc, market, &mut lines, &mut inputs, &mut tally) {
+            return match ended {
+                Ok(()) => Ok(tally),
+                Err(fault) => Err(fault),
+            };
+        }
+    }
+}
+
+/// Takes the next line of the commands and counts its reply. None where the run goes on; else how it ends.
+fn take_count(
+    alloc: Global,
+    market: &mut JointMarket,
+    lines: &mut Lines,
+    inputs: &mut QuietInputs,
+    tally: &mut Tally,
+) -> Option<Result<(), TallyFault>>
+    requires goes_on { GoesOn lines.old.last }
+    requires fits { IsWithin lines.old.given tally.old }
+    ensures market { market.new.market ≡ market.old.market }
+    ensures goes_on { IfNone result (GoesOn lines.new.last) }
+    ensures counts { IfNone result (lines.new.given ≡ lines.old.given + 1) }
+    ensures within { lines.new.given ≤ max_stream_lines }
+    ensures fits { IfNone result (IsWithin lines.new.given tally.new) }
+    ensures so_far { IfNone result ((all : List ℕ) →
+        IsCountedSoFar market.old.market all lines.old inputs.old.commands market.old.standing tally.old →
+        IsCountedSoFar market.old.market all lines.new inputs.new.commands market.new.standing tally.new) }
+    ensures ended { IfSome result (λ end. (all : List ℕ) →
+        IsCountedSoFar market.old.market all lines.old inputs.old.commands market.old.standing tally.old →
+        EndsCount end market.old.market all tally.new) }
+{
+    match lines.next(inputs) {
+        Next::Line => end_where_short(count_text(alloc, market, lines.line(), tally)),
+        Next::Long => {
+            count_long(market, tally);
+            None
+        }
+        Next::End => Some(Ok(())),
+        // no read fails here, so a read fault ends nothing that could be counted
+        Next::ReadFault | Next::TooMany => Some(Err(TallyFault::TooMany)),
+    }
+}
+
+/// The run goes on where a line was counted, and ends where memory was wanting.
+fn end_where_short(counted: Result<(), NoMemory>) -> Option<Result<(), TallyFault>>
+    ensures { MatchResult counted (λ _. result ≡ None) (λ _. result ≡ Some (Err TallyFault.Memory)) }
+{
+    match counted {
+        Ok(()) => None,
+        Err(NoMemory) => Some(Err(TallyFault::Memory)),
+    }
+}
+
+/// Counts the reply to a line that is not too long; a blank one has none. Fails where the reply is want of memory.
+fn count_text(
+    alloc: Global,
+    market: &mut JointMarket,
+    line: &[u8],
+    tally: &mut Tally,
+) -> Result<(), NoMemory>
+    requires room { HasRoom max_stream_lines tally.old }
+    ensures market { market.new.market ≡ market.old.market }
+    ensures counted { OnOk result (CountsLine market.old.market market.old.standing (text line.now) market.new.standing tally.old tally.new) }
+{
+    if is_blank(line) {
+        return Ok(());
+    }
+    let reply = reply_to(alloc, market, line);
+    if is_want_of_memory(&reply) {
+        return Err(NoMemory);
+    }
+    tally.add(reply);
+    Ok(())
+}
+
+/// Counts the reply to a line that is too long.
+fn count_long(market: &mut JointMarket, tally: &mut Tally)
+    requires room { HasRoom max_stream_lines tally.old }
+    ensures market { market.new.market ≡ market.old.market }
+    ensures counted { CountsLine market.old.market market.old.standing long market.new.standing tally.old tally.new }
+{
+    let _ = market.variables();
+    tally.add(Reply::Refused { why: Refusal::Long });
+}
+
+/// Whether a reply says that memory was wanting.
+fn is_want_of_memory(reply: &Reply) -> bool
+    ensures { IsTrue result ↔ (reply.now ≡ Reply.Refused Refusal.Memory) }
+{
+    matches!(reply, Reply::Refused { why: Refusal::Memory })
 }
