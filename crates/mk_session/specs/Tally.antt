@@ -9,9 +9,9 @@ use Rattle.mk_reply.specs.declared.refusal.Refusal.TheVariants.{Memory as OutOfM
 use Rattle.mk_reply.specs.declared.reply.Reply.{Reply}
 use Rattle.mk_reply.specs.declared.reply.Reply.TheVariants.{Traded, Refused}
 use Rattle.mk_rules.specs.Transcript.{Standing}
-use Rattle.mk_session.specs.declared.tally.Tally.{Tally}
-use Rattle.mk_session.specs.declared.tally.TallyFault.{TallyFault}
-use Rattle.mk_session.specs.declared.tally.TallyFault.TheVariants.{Market as Refuses, TooMany, Memory}
+use Rattle.mk_session.specs.declared.counts.Tally.{Tally}
+use Rattle.mk_session.specs.declared.counts.TallyFault.{TallyFault}
+use Rattle.mk_session.specs.declared.counts.TallyFault.TheVariants.{Market as Refuses, TooMany, Memory}
 use Rattle.mk_session.specs.Transcript.{IsAllowedRun}
 use Rattle.mk_session.specs.Complete.{AreWithin}
 

@@ -2,9 +2,11 @@
 #![tactic(auto)]
 
 mod answer;
+mod counting;
+mod counts;
 mod print;
 mod run;
-mod tally;
 
+pub use counting::tally;
+pub use counts::{Tally, TallyFault};
 pub use run::serve;
-pub use tally::{Tally, TallyFault, tally};

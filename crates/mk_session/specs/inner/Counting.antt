@@ -5,8 +5,8 @@ use Rattle.mk_io.specs.Cutting.{Cutting}
 use Rattle.mk_exact.specs.Market.{Market}
 use Rattle.mk_reply.specs.declared.reply.Reply.{Reply}
 use Rattle.mk_rules.specs.Transcript.{Standing, opening}
-use Rattle.mk_session.specs.declared.tally.Tally.{Tally}
-use Rattle.mk_session.specs.declared.tally.TallyFault.{TallyFault}
+use Rattle.mk_session.specs.declared.counts.Tally.{Tally}
+use Rattle.mk_session.specs.declared.counts.TallyFault.{TallyFault}
 use Rattle.mk_session.specs.Transcript.{AreReplied}
 use Rattle.mk_session.specs.Tally.{IsRemembered, AreCounted, IsTally, TallyEnds}
 use Rattle.mk_session.specs.inner.Progress.{IsPlaced}

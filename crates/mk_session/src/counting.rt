@@ -8,10 +8,11 @@ ghost use Rattle.mk_file.specs.File.{file_of};
 ghost use Rattle.mk_file.specs.Few.{HasFewStates};
 ghost use Rattle.mk_file.specs.MarketOf.{market_of};
 ghost use Rattle.mk_rules.specs.Transcript.{opening};
-ghost use Rattle.mk_session.specs.Tally.{AreCounted, TallyEnds};
-ghost use Rattle.mk_session.specs.inner.Counting.{uncounted, IsWithin, HasRoom, CountsLine, IsCountedSoFar, EndsCount};
+ghost use Rattle.mk_session.specs.Tally.{TallyEnds};
+ghost use Rattle.mk_session.specs.inner.Counting.{IsWithin, HasRoom, CountsLine, IsCountedSoFar, EndsCount};
 
 use crate::answer::{JointMarket, is_blank, reply_to};
+use crate::counts::{Tally, TallyFault};
 use mk_file::{FileFault, MarketFile, read_market};
 use mk_io::{Lines, Next, QuietInputs};
 use mk_net::NoMemory;
@@ -20,55 +21,6 @@ use std::alloc::Global;
 
 /// How many bytes of the commands are read at once.
 const PIECE: usize = 4096;
-
-/// The counts of a run: its replies, how many of them are trades and how many refusals, and the last one.
-#[derive(Drop)]
-pub struct Tally {
-    pub replies: u32,
-    pub trades: u32,
-    pub refused: u32,
-    pub last: Option<Reply>,
-}
-
-/// Why a run was not counted.
-#[derive(Drop)]
-pub enum TallyFault {
-    /// The market file is refused.
-    Market(FileFault),
-    /// The commands have more lines or bytes than a stream may have.
-    TooMany,
-    /// Memory was wanting.
-    Memory,
-}
-
-impl Tally {
-    /// No replies.
-    fn new() -> Tally
-        ensures { result ≡ uncounted }
-    {
-        Tally {
-            replies: 0,
-            trades: 0,
-            refused: 0,
-            last: None,
-        }
-    }
-
-    /// Counts a reply.
-    fn add(&mut self, reply: Reply)
-        requires room { HasRoom max_stream_lines self.old }
-        ensures counts { (earlier : List Reply) → AreCounted earlier self.old → AreCounted (earlier ++ reply ∷ []) self.new }
-        ensures fits { IsWithin (self.old.replies + 1) self.new }
-    {
-        match reply {
-            Reply::Traded { .. } => self.trades += 1,
-            Reply::Refused { .. } => self.refused += 1,
-            _ => {}
-        }
-        self.replies += 1;
-        self.last = Some(reply);
-    }
-}
 
 /// Counts the replies of the market of this file to these commands, as `serve` makes them: one for each line that is not
 /// blank.
@@ -175,6 +127,7 @@ fn count_text(
 ) -> Result<(), NoMemory>
     requires room { HasRoom max_stream_lines tally.old }
     ensures market { market.new.market ≡ market.old.market }
+    ensures fits { IsWithin (tally.old.replies + 1) tally.new }
     ensures counted { OnOk result (CountsLine market.old.market market.old.standing (text line.now) market.new.standing tally.old tally.new) }
 {
     if is_blank(line) {
@@ -192,6 +145,7 @@ fn count_text(
 fn count_long(market: &mut JointMarket, tally: &mut Tally)
     requires room { HasRoom max_stream_lines tally.old }
     ensures market { market.new.market ≡ market.old.market }
+    ensures fits { IsWithin (tally.old.replies + 1) tally.new }
     ensures counted { CountsLine market.old.market market.old.standing long market.new.standing tally.old tally.new }
 {
     let _ = market.variables();
