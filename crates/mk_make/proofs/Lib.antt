@@ -1,0 +1,2 @@
+pub mod GrowingLemmas
+pub mod PartLemmas

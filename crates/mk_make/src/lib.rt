@@ -1,0 +1,15 @@
+//! The sample market: its file and the commands that are given to it, as bytes, for each number of variables.
+#![tactic(auto)]
+
+mod commands;
+mod examples;
+mod file;
+mod make;
+#[cfg(test)]
+mod tests;
+mod texts;
+mod words;
+
+pub use examples::{five_edits, one_clique};
+pub use make::sample;
+pub use texts::{Bytes, Sample};
