@@ -1,16 +1,33 @@
 -- What the words of a call ask of the program, and what it writes for other words.
-use Rattle.std.specs.Prelude.{◌≡◌, ℕ, List, [], ◌∷◌, ◌++◌, codes, if◌then◌else◌, Option, Some, None}
+use Rattle.std.specs.Prelude.{◌≡◌, ℕ, ◌+◌, List, [], ◌∷◌, ◌++◌, codes, decimal, nat_le, if◌then◌else◌, Option, Some, None, option_map, option_and_then}
 use Rattle.mk_io.specs.declared.status.Status.{Status}
 use Rattle.mk_io.specs.declared.status.Status.TheVariants.{Done, Usage, MarketRefused, ReadFault, WriteFault, Memory, TooMany}
 use Rattle.mk_net.specs.Texts.{same_text}
+use Rattle.mk_text.specs.Reading.{number_written}
 use Rattle.mk_session.specs.Outcome.{IsFrontOf}
 
--- the name of the market to run: the words are `run` and a name
-abbrev pub market_to_run : List (List ℕ) → Option (List ℕ)
-market_to_run [] = None
-market_to_run (word ∷ []) = None
-market_to_run (word ∷ name ∷ []) = if same_text word (codes "run") then Some name else None
-market_to_run (word ∷ name ∷ more ∷ rest) = None
+-- the greatest number of variables of a sample: as many as have a joint table
+abbrev pub max_sample : ℕ
+max_sample = 12
+
+-- to run the market of a name, or to run the sample market of so many variables
+pub data Asked : Type 0 where
+  Run : (name : List ℕ) → Asked
+  Sample : (n : ℕ) → Asked
+
+-- the number of variables that a word gives a sample: 2 to the greatest, without leading zeros
+abbrev pub size_of : List ℕ → Option ℕ
+size_of word = option_and_then (λ n. if nat_le 2 n then Some n else None) (number_written decimal (max_sample + 1) word)
+
+-- what the words ask: they are `run` and a name, or `sample` and a number
+abbrev pub asked_of : List (List ℕ) → Option Asked
+asked_of [] = None
+asked_of (word ∷ []) = None
+asked_of (word ∷ argument ∷ []) =
+    if same_text word (codes "run") then Some (Run argument)
+    else if same_text word (codes "sample") then option_map Sample (size_of argument)
+    else None
+asked_of (word ∷ argument ∷ more ∷ rest) = None
 
 -- the line that is written for other words
 abbrev pub usage_line : List ℕ

@@ -72,3 +72,7 @@ pub completes : (status : Status) (given : Result Market FileFault) (all : List 
 completes status given all source before written inputs inputs_now sink sink_now opened ok within causes steady_inputs steady_sink =
     ends_well status given all opened.rest opened.output.bytes opened.output.holds ok within
     (λ e. steady_inputs (read_cause status inputs inputs_now sink sink_now causes e)) (λ e. steady_sink (write_cause status inputs inputs_now sink sink_now causes e))
+
+-- a count that is never anything but 0 did not rise
+pub none_rose : Rose 0 0 → ⊥
+none_rose rose = omega (arith, rose)

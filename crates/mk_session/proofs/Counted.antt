@@ -1,7 +1,7 @@
 -- The count of the replies: none, one more, and all at the end.
-use Rattle.std.proofs.Common.{◌≡◌, ℕ, ◌+◌, ◌<◌, ◌≤◌, cond, List, [], ◌∷◌, ◌++◌, length, Option, Some, None, IfSome, IfNone, Result, Ok, Err, MatchResult, OnOk, inl, refl, sym, ap, subst, ◌∙◌, arith, length-append}
+use Rattle.std.proofs.Common.{◌≡◌, ℕ, ◌+◌, ◌<◌, ◌≤◌, cond, Bool, true, false, All, List, [], ◌∷◌, ◌++◌, length, Option, Some, None, IfSome, IfNone, Result, Ok, Err, MatchResult, OnOk, inl, refl, sym, ap, subst, ◌∙◌, arith, length-append}
 use Rattle.std.specs.List.{count_by}
-use Rattle.std.proofs.lemmas.List.Elements.{All-nil, All-append}
+use Rattle.std.proofs.lemmas.List.Elements.{All-nil, All-cons, All-append}
 use Rattle.std.proofs.lemmas.List.Sums.{sum_by_push}
 use Rattle.mk_io.specs.declared.lines.Next.{Next}
 use Rattle.mk_io.specs.declared.lines.Next.TheVariants.{End, ReadFault}
@@ -17,11 +17,11 @@ use Rattle.mk_session.specs.Transcript.{AreReplied}
 use Rattle.mk_session.specs.Complete.{AreWithin}
 use Rattle.mk_session.specs.Tally.{is_trade, is_refusal, last_reply, IsRemembered, AreCounted, IsTally}
 use Rattle.mk_session.specs.inner.Progress.{IsPlaced}
-use Rattle.mk_session.specs.inner.Counting.{uncounted, IsWithin, HasRoom, IsCounted, CountsLine, IsCountedSoFar}
+use Rattle.mk_session.specs.inner.Counting.{uncounted, is_want, IsWithin, IsCounted, CountsLine, IsCountedSoFar, IsCounting}
 use Rattle.mk_session.proofs.Answering.{no_more, none_replied, then_replied, allowed_run_of}
 use Rattle.mk_session.proofs.Underway.{rest_of, are_whole, placed_next}
 use Rattle.mk_session.proofs.Endings.{past_of, risen}
-use Rattle.mk_session.proofs.Completing.{past_limits}
+use Rattle.mk_session.proofs.Completing.{past_limits, none_rose}
 
 last_more : (replies : List Reply) (reply : Reply) → last_reply (replies ++ reply ∷ []) ≡ Some reply
 last_more [] reply = refl
@@ -46,6 +46,10 @@ counts_none earlier tally counts = subst (λ (replies : List Reply). AreCounted 
     nothing_more : (replies : List Reply) → replies ++ [] ≡ replies
     nothing_more replies = no_more replies
 
+-- a reply that is no want of memory
+pub remembered_one : (reply : Reply) → is_want reply ≡ false → All IsRemembered (reply ∷ [])
+remembered_one reply none = All-cons IsRemembered reply [] (λ e. let want : true ≡ false = sym (ap is_want e) ∙ none in cc) (All-nil IsRemembered)
+
 none_counted : (market : Market) (now : Standing) → now ≡ opening → IsCounted market [] now uncounted
 none_counted market now begins = record {
   replies = [];
@@ -63,7 +67,7 @@ counted_next market lines line now then before after more counted = record {
   counts = more.counts counted.replies counted.counts;
 }
 
-pub counted_at_start : (market : Market) (all source : List ℕ) (now : Standing) → source ≡ all → now ≡ opening
+counted_at_start : (market : Market) (all source : List ℕ) (now : Standing) → source ≡ all → now ≡ opening
     → IsCountedSoFar market all fresh source now uncounted
 counted_at_start market all source now told begins = record {
   done = [];
@@ -75,6 +79,20 @@ counted_at_start market all source now told begins = record {
   given = refl;
   spent = refl;
 }
+
+none_within : IsWithin fresh.given uncounted
+none_within = record { replies = omega arith; trades = omega arith; refused = omega arith }
+
+pub counting_at_start : (market : Market) (all : List ℕ) (lines : Cutting) (source : List ℕ) (now : Standing) (tally : Tally) → lines ≡ fresh → tally ≡ uncounted
+    → source ≡ all → now ≡ opening → IsCounting market market all lines source now tally
+counting_at_start market all lines source now tally unread none told begins =
+    subst (λ (l : Cutting). IsCounting market market all l source now tally) (sym unread)
+    (subst (λ (t : Tally). IsCounting market market all fresh source now t) (sym none) (record {
+      same = refl;
+      goes_on = inl refl;
+      fits = none_within;
+      far = counted_at_start market all source now told begins;
+    }))
 
 -- a line was given and counted
 pub counted_so_far_next : (market : Market) (all : List ℕ) (line : StreamLine) (old new : Cutting) (source rest : List ℕ) (now then : Standing)
@@ -132,4 +150,4 @@ counts_on {U = U} (Err x) ended market line old new source rest now then before 
 
 -- the inputs count no fault, so no read fails
 pub no_read_fault : (old : Cutting) → old.last ≡ None → HasReadCause ReadFault old 0 0 → ⊥
-no_read_fault old none cause = omega (arith, (risen old 0 0 none cause).rose)
+no_read_fault old none cause = none_rose (risen old 0 0 none cause).rose

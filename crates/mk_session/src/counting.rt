@@ -1,6 +1,6 @@
 //! A run whose replies are counted.
 
-ghost use Rattle.std.specs.Prelude.{◌≡◌, ◌≢◌, ◌+◌, ◌<◌, ◌≤◌, ◌↔◌, IsTrue, ℕ, List, [], ◌∷◌, ◌++◌, Some, None, Ok, Err, Result, OnOk, IfNone, IfSome, MatchResult};
+ghost use Rattle.std.specs.Prelude.{◌≡◌, ◌≢◌, ◌+◌, ◌<◌, ◌≤◌, ℕ, List, [], ◌∷◌, ◌++◌, Some, None, Ok, Err, Result, OnOk, IfNone, IfSome, MatchResult};
 ghost use Rattle.mk_io.specs.Stream.{text, long, max_stream_lines};
 ghost use Rattle.mk_io.specs.Cutting.{GoesOn};
 ghost use Rattle.mk_tree.specs.Checked.{IsTreeOf};
@@ -9,7 +9,7 @@ ghost use Rattle.mk_file.specs.Few.{HasFewStates};
 ghost use Rattle.mk_file.specs.MarketOf.{market_of};
 ghost use Rattle.mk_rules.specs.Transcript.{opening};
 ghost use Rattle.mk_session.specs.Tally.{TallyEnds};
-ghost use Rattle.mk_session.specs.inner.Counting.{IsWithin, HasRoom, CountsLine, IsCountedSoFar, EndsCount};
+ghost use Rattle.mk_session.specs.inner.Counting.{is_want, IsWithin, HasRoom, CountsLine, IsCountedSoFar, EndsCount};
 
 use crate::answer::{JointMarket, is_blank, reply_to};
 use crate::counts::{Tally, TallyFault};
@@ -103,8 +103,9 @@ fn take_count(
             None
         }
         Next::End => Some(Ok(())),
-        // no read fails here, so a read fault ends nothing that could be counted
-        Next::ReadFault | Next::TooMany => Some(Err(TallyFault::TooMany)),
+        Next::TooMany => Some(Err(TallyFault::TooMany)),
+        // These inputs count no fault, so no read of them fails.
+        Next::ReadFault => unreachable!(),
     }
 }
 
@@ -154,7 +155,7 @@ fn count_long(market: &mut JointMarket, tally: &mut Tally)
 
 /// Whether a reply says that memory was wanting.
 fn is_want_of_memory(reply: &Reply) -> bool
-    ensures { IsTrue result ↔ (reply.now ≡ Reply.Refused Refusal.Memory) }
+    ensures { result ≡ is_want reply.now }
 {
     matches!(reply, Reply::Refused { why: Refusal::Memory })
 }

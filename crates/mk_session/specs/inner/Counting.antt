@@ -1,9 +1,11 @@
 -- How far the count of a run's replies has come.
-use Rattle.std.specs.Prelude.{◌≡◌, ℕ, ◌<◌, ◌≤◌, List, [], ◌∷◌, ◌++◌, Option, Some, None, Result, Ok, Err, All, ⊤}
+use Rattle.std.specs.Prelude.{◌≡◌, ℕ, ◌<◌, ◌≤◌, List, [], ◌∷◌, ◌++◌, Option, Some, None, Result, Ok, Err, All, ⊤, Bool, true, false}
 use Rattle.mk_io.specs.Stream.{StreamLine}
-use Rattle.mk_io.specs.Cutting.{Cutting}
+use Rattle.mk_io.specs.Cutting.{Cutting, GoesOn}
 use Rattle.mk_exact.specs.Market.{Market}
+use Rattle.mk_reply.specs.declared.refusal.Refusal.TheVariants.{Memory as OutOfMemory}
 use Rattle.mk_reply.specs.declared.reply.Reply.{Reply}
+use Rattle.mk_reply.specs.declared.reply.Reply.TheVariants.{Refused}
 use Rattle.mk_rules.specs.Transcript.{Standing, opening}
 use Rattle.mk_session.specs.declared.counts.Tally.{Tally}
 use Rattle.mk_session.specs.declared.counts.TallyFault.{TallyFault}
@@ -47,3 +49,15 @@ IsCountedSoFar market all cutting source now tally = IsPlaced all cutting (Some 
 abbrev pub EndsCount : {T : Type 0} → Result T TallyFault → Market → List ℕ → Tally → Type 0
 EndsCount (Ok done) market all tally = IsTally market all tally
 EndsCount (Err fault) market all tally = TallyEnds (Err fault) (Ok market) all
+
+-- a reply that says that memory was wanting
+abbrev pub is_want : Reply → Bool
+is_want (Refused OutOfMemory) = true
+is_want _ = false
+
+-- between two lines: the market is the same, the lines go on, the counts are within the lines that were given, and the count is so far
+pub record IsCounting (start market : Market) (all : List ℕ) (lines : Cutting) (source : List ℕ) (now : Standing) (tally : Tally) : Type 0 where
+  pub same : market ≡ start
+  pub goes_on : GoesOn lines.last
+  pub fits : IsWithin lines.given tally
+  pub far : IsCountedSoFar start all lines source now tally

@@ -1,0 +1,56 @@
+//! What the words of a call ask for.
+
+ghost use Rattle.std.specs.Prelude.{◌≡◌, ◌≤◌, map, codes, None, Some, IfSome};
+ghost use Rattle.std.specs.Option.{option_copied};
+ghost use Rattle.mk_net.specs.Texts.{same_text};
+ghost use Rattle.daggre.specs.Words.{max_sample, asked_of, size_of};
+ghost use Rattle.daggre.specs.inner.Asking.{name_in, size_in};
+
+use mk_text::number_of;
+
+/// The greatest number of variables of a sample.
+const MAX_SAMPLE: u64 = 12;
+
+/// The name of the market that the words ask to run, if they do.
+pub fn market_name<'a>(words: &[&'a str]) -> Option<&'a str>
+    ensures { option_copied result ≡ name_in (asked_of (map (λ w. w.now) words.now)) }
+{
+    match words {
+        [word, name] => { if is_run(word) { Some(*name) } else { None } }
+        _ => None,
+    }
+}
+
+/// The number of variables of the sample that the words ask to run, if they do.
+pub fn sample_size(words: &[&str]) -> Option<u32>
+    ensures size { result ≡ size_in (asked_of (map (λ w. w.now) words.now)) }
+    ensures within { IfSome result (λ n. (2 ≤ n) × (n ≤ max_sample)) }
+{
+    match words {
+        [word, size] => { if is_sample(word) { size_named(size) } else { None } }
+        _ => None,
+    }
+}
+
+fn is_run(word: &str) -> bool
+    ensures { result ≡ same_text word.now (codes "run") }
+{
+    word == "run"
+}
+
+fn is_sample(word: &str) -> bool
+    ensures { result ≡ same_text word.now (codes "sample") }
+{
+    word == "sample"
+}
+
+/// The number of variables that a word names, without leading zeros. None where no sample has as many.
+fn size_named(word: &str) -> Option<u32>
+    ensures size { result ≡ size_of word.now }
+    ensures within { IfSome result (λ n. (2 ≤ n) × (n ≤ max_sample)) }
+{
+    match number_of(word.as_bytes(), MAX_SAMPLE + 1) {
+        Some(number) if number >= 2 => Some(number as u32),
+        _ => None,
+    }
+}
