@@ -1,5 +1,6 @@
 -- The count of the replies: none, one more, and all at the end.
 use Rattle.std.proofs.Common.{◌≡◌, ℕ, ◌+◌, ◌<◌, ◌≤◌, cond, Bool, true, false, All, List, [], ◌∷◌, ◌++◌, length, Option, Some, None, IfSome, IfNone, Result, Ok, Err, MatchResult, OnOk, inl, refl, sym, ap, subst, ◌∙◌, arith, length-append}
+use Rattle.std.specs.Int.{from_bool}
 use Rattle.std.specs.List.{count_by}
 use Rattle.std.proofs.lemmas.List.Elements.{All-nil, All-cons, All-append}
 use Rattle.std.proofs.lemmas.List.Sums.{sum_by_push}
@@ -15,7 +16,7 @@ use Rattle.mk_session.specs.declared.counts.TallyFault.{TallyFault}
 use Rattle.mk_session.specs.declared.counts.TallyFault.TheVariants.{Memory}
 use Rattle.mk_session.specs.Transcript.{AreReplied}
 use Rattle.mk_session.specs.Complete.{AreWithin}
-use Rattle.mk_session.specs.Tally.{is_trade, is_refusal, last_reply, IsRemembered, AreCounted, IsTally}
+use Rattle.mk_session.specs.Tally.{is_trade, is_refusal, last_reply, IsRemembered, AreCounted, IsTally, TallyEnds}
 use Rattle.mk_session.specs.inner.Progress.{IsPlaced}
 use Rattle.mk_session.specs.inner.Counting.{uncounted, is_want, IsWithin, IsCounted, CountsLine, IsCountedSoFar, IsCounting}
 use Rattle.mk_session.proofs.Answering.{no_more, none_replied, then_replied, allowed_run_of}
@@ -151,3 +152,19 @@ counts_on {U = U} (Err x) ended market line old new source rest now then before 
 -- the inputs count no fault, so no read fails
 pub no_read_fault : (old : Cutting) → old.last ≡ None → HasReadCause ReadFault old 0 0 → ⊥
 no_read_fault old none cause = none_rose (risen old 0 0 none cause).rose
+
+-- the end of the count, whose market is the same all along
+pub ends_count : (start market : Market) (all : List ℕ) (lines : Cutting) (source : List ℕ) (now : Standing) (tally : Tally) (ended result : Result Tally TallyFault)
+    → market ≡ start → result ≡ ended → ((all : List ℕ) → IsCountedSoFar market all lines source now tally → TallyEnds ended (Ok market) all)
+    → IsCountedSoFar start all lines source now tally → TallyEnds result (Ok start) all
+ends_count start market all lines source now tally ended result same is ends far =
+    subst (λ (r : Result Tally TallyFault). TallyEnds r (Ok start) all) (sym is)
+    (subst (λ (m : Market). (all : List ℕ) → IsCountedSoFar m all lines source now tally → TallyEnds ended (Ok m) all) same ends all far)
+
+-- a test as a number
+abbrev pub test_number : Bool → ℕ
+test_number test = cond test 1 0
+
+pub number_of_test : (test : Bool) → from_bool test ≡ test_number test
+number_of_test true = refl
+number_of_test false = refl

@@ -9,7 +9,7 @@ ghost use Rattle.mk_file.specs.Few.{HasFewStates};
 ghost use Rattle.mk_file.specs.MarketOf.{market_of};
 ghost use Rattle.mk_rules.specs.Transcript.{opening};
 ghost use Rattle.mk_session.specs.Tally.{TallyEnds};
-ghost use Rattle.mk_session.specs.inner.Counting.{is_want, IsWithin, HasRoom, CountsLine, IsCountedSoFar, EndsCount};
+ghost use Rattle.mk_session.specs.inner.Counting.{is_want, IsWithin, HasRoom, CountsLine, IsCountedSoFar, counted_as};
 
 use crate::answer::{JointMarket, is_blank, reply_to};
 use crate::counts::{Tally, TallyFault};
@@ -66,11 +66,18 @@ fn count_replies(
     let mut tally = Tally::new();
     loop {
         if let Some(ended) = take_count(alloc, market, &mut lines, &mut inputs, &mut tally) {
-            return match ended {
-                Ok(()) => Ok(tally),
-                Err(fault) => Err(fault),
-            };
+            return end_count(ended, tally);
         }
+    }
+}
+
+/// What was counted, unless a fault ends the count.
+fn end_count(ended: Result<(), TallyFault>, tally: Tally) -> Result<Tally, TallyFault>
+    ensures { result ≡ counted_as ended tally }
+{
+    match ended {
+        Ok(()) => Ok(tally),
+        Err(fault) => Err(fault),
     }
 }
 
@@ -94,7 +101,7 @@ fn take_count(
         IsCountedSoFar market.old.market all lines.new inputs.new.commands market.new.standing tally.new) }
     ensures ended { IfSome result (λ end. (all : List ℕ) →
         IsCountedSoFar market.old.market all lines.old inputs.old.commands market.old.standing tally.old →
-        EndsCount end market.old.market all tally.new) }
+        TallyEnds (counted_as end tally.new) (Ok market.old.market) all) }
 {
     match lines.next(inputs) {
         Next::Line => end_where_short(count_text(alloc, market, lines.line(), tally)),

@@ -20,7 +20,7 @@ pub fn serve_quiet(
     piece: usize,
 ) -> Status
     requires { 1 ≤ piece }
-    ensures complete { IsOk (file_of (file_or_empty (map named files.items) name.now)) → AreWithin commands.items →
+    ensures { IsOk (file_of (file_or_empty (map named files.items) name.now)) → AreWithin commands.items →
         (result ≡ Status.Done) ⊎ (result ≡ Status.Memory) }
 {
     let mut inputs = QuietInputs::new(files, commands, piece);

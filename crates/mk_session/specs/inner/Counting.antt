@@ -10,7 +10,7 @@ use Rattle.mk_rules.specs.Transcript.{Standing, opening}
 use Rattle.mk_session.specs.declared.counts.Tally.{Tally}
 use Rattle.mk_session.specs.declared.counts.TallyFault.{TallyFault}
 use Rattle.mk_session.specs.Transcript.{AreReplied}
-use Rattle.mk_session.specs.Tally.{IsRemembered, AreCounted, IsTally, TallyEnds}
+use Rattle.mk_session.specs.Tally.{IsRemembered, AreCounted}
 use Rattle.mk_session.specs.inner.Progress.{IsPlaced}
 
 abbrev pub uncounted : Tally
@@ -45,10 +45,10 @@ pub record CountsLine (market : Market) (old : Standing) (line : StreamLine) (ne
 abbrev pub IsCountedSoFar : Market → List ℕ → Cutting → List ℕ → Standing → Tally → Type 0
 IsCountedSoFar market all cutting source now tally = IsPlaced all cutting (Some source) (λ lines. IsCounted market lines now tally)
 
--- the count ends with what was counted, or with a fault
-abbrev pub EndsCount : {T : Type 0} → Result T TallyFault → Market → List ℕ → Tally → Type 0
-EndsCount (Ok done) market all tally = IsTally market all tally
-EndsCount (Err fault) market all tally = TallyEnds (Err fault) (Ok market) all
+-- what was counted, unless a fault ends the count
+abbrev pub counted_as : {T : Type 0} → Result T TallyFault → Tally → Result Tally TallyFault
+counted_as (Ok done) tally = Ok tally
+counted_as (Err fault) tally = Err fault
 
 -- a reply that says that memory was wanting
 abbrev pub is_want : Reply → Bool

@@ -1,8 +1,8 @@
 use Rattle.std.proofs.Common.{Some}
 use Rattle.mk_io.specs.Stream.{text, long}
-use Rattle.mk_io.specs.declared.lines.Next.TheVariants.{Line, Long, End, ReadFault, TooMany}
+use Rattle.mk_io.specs.declared.lines.Next.TheVariants.{Line, Long, TooMany}
 use Rattle.mk_session.proofs.Endings.{fresh_answer, none_stays, stays_at_end, none_left}
-use Rattle.mk_session.proofs.Counted.{counts_on, counted_so_far_next, tally_of, not_within, no_read_fault}
+use Rattle.mk_session.proofs.Counted.{counts_on, counted_so_far_next, tally_of, not_within}
 use Rattle.mk_session.proofs.counting.take_count.Goals as goal
 
 pub returns-in-Line-clause-so_far : goal.returns-in-Line-clause-so_far
@@ -33,8 +33,3 @@ returns-in-TooMany-clause-ended c = λ all far.
     let over = fresh_answer TooMany c.args.lines.now c.next.new.self (Some c.args.inputs.now.commands) (Some c.next.new.inputs.commands) none c.in-TooMany.ensures.answer in
     not_within c.args.market.now.market all c.args.lines.now c.next.new.self c.args.inputs.now.commands c.next.new.inputs.commands
     c.args.market.now.standing c.args.tally.now far none over
-
-pub in-ReadFault-unreachable : goal.in-ReadFault-unreachable
-in-ReadFault-unreachable c =
-    let none = none_stays ReadFault c.args.lines.now c.next.new.self (Some c.args.inputs.now.commands) (Some c.next.new.inputs.commands) (λ e. (cc)) c.requires.goes_on c.in-ReadFault.ensures.answer in
-    no_read_fault c.args.lines.now none c.in-ReadFault.ensures.cause
