@@ -3,7 +3,6 @@ use Rattle.std.proofs.Common.{◌≡◌, ◌≢◌, ℕ, List, [], ◌++◌, Opt
 use Rattle.mk_io.specs.declared.status.Status.TheVariants.{Done, MarketRefused, WriteFault, Memory}
 use Rattle.mk_io.specs.Outside.{append_known, AddsFront}
 use Rattle.mk_io.proofs.Told.{append_known_none, append_known_twice}
-use Rattle.mk_exact.specs.Market.{Market}
 use Rattle.mk_file.specs.declared.fault.FileFault.{FileFault}
 use Rattle.mk_file.specs.declared.fault.FileFault.TheVariants.{Memory as FileMemory}
 use Rattle.mk_file.specs.File.{file_of}
@@ -15,16 +14,11 @@ use Rattle.mk_session.specs.Tally.{TallyEnds}
 use Rattle.mk_session.specs.Outcome.{Adds}
 use Rattle.daggre.specs.Sampled.{sample_text, IsSampled, IsSampleRefused, EndsSample}
 
-sampled_by : (n : ℕ) (tally : Tally) (given : Result Market FileFault) → file_of (sample_file n) ≡ given
-    → TallyEnds (Ok tally) given (sample_commands n) → IsSampled n (sample_text n tally)
-sampled_by n tally (Ok market) is counted = record { market = market; accepted = is; tally = tally; counted = counted; printed = refl }
-sampled_by n tally (Err fault) is counted = absurd counted
-
 -- a count was made: the sample's file is accepted
 pub sampled : (n : ℕ) (tally : Tally) → TallyEnds (Ok tally) (file_of (sample_file n)) (sample_commands n) → IsSampled n (sample_text n tally)
-sampled n tally counted = sampled_by n tally (file_of (sample_file n)) refl counted
+sampled n tally counted = record { tally = tally; counted = counted; printed = refl }
 
-refused_by : (n : ℕ) (fault : FileFault) (given : Result Market FileFault) → file_of (sample_file n) ≡ given
+refused_by : (n : ℕ) (fault : FileFault) (given : Result _ FileFault) → file_of (sample_file n) ≡ given
     → TallyEnds (Err (Refuses fault)) given (sample_commands n) → IsSampleRefused n (fault_line fault)
 refused_by n fault (Ok market) is ends = absurd ends
 refused_by n fault (Err named) is ends =
@@ -36,7 +30,7 @@ pub refused : (n : ℕ) (fault : FileFault) → TallyEnds (Err (Refuses fault)) 
 refused n fault ends = refused_by n fault (file_of (sample_file n)) refl ends
 
 -- and not for want of memory
-pub has_line : (fault : FileFault) (given : Result Market FileFault) (all : List ℕ) → TallyEnds (Err (Refuses fault)) given all → fault ≢ FileMemory
+pub has_line : (fault : FileFault) (given : Result _ FileFault) (all : List ℕ) → TallyEnds (Err (Refuses fault)) given all → fault ≢ FileMemory
 has_line fault (Ok market) all ends = absurd ends
 has_line fault (Err named) all ends = λ e. ends.1 (sym ends.0 ∙ e)
 

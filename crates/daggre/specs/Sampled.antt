@@ -2,14 +2,13 @@
 use Rattle.std.specs.Prelude.{◌≡◌, ℕ, List, [], ◌++◌, codes, decimal, Option, Some, None, Result, Ok, Err, ◌⊎◌}
 use Rattle.mk_io.specs.declared.status.Status.{Status}
 use Rattle.mk_io.specs.declared.status.Status.TheVariants.{Done, Usage, MarketRefused, ReadFault, WriteFault, Memory, TooMany}
-use Rattle.mk_exact.specs.Market.{Market}
 use Rattle.mk_file.specs.declared.fault.FileFault.{FileFault}
 use Rattle.mk_file.specs.File.{file_of}
 use Rattle.mk_reply.specs.declared.reply.Reply.{Reply}
 use Rattle.mk_make.specs.Sample.{sample_file, sample_commands}
 use Rattle.mk_session.specs.declared.counts.Tally.{Tally}
 use Rattle.mk_session.specs.Texts.{as_line, reply_line, fault_line}
-use Rattle.mk_session.specs.Tally.{IsTally}
+use Rattle.mk_session.specs.Tally.{TallyEnds}
 use Rattle.mk_session.specs.Outcome.{IsFrontOf}
 
 -- the line that names the sample, and the line of the counts
@@ -28,10 +27,8 @@ sample_text n tally = count_lines n tally ++ last_line tally.last
 
 -- the sample's file is accepted, and what is written are the counts of a run of its commands
 pub record IsSampled (n : ℕ) (output : List ℕ) : Type 0 where
-  pub market : Market
-  pub accepted : file_of (sample_file n) ≡ Ok market
   pub tally : Tally
-  pub counted : IsTally market (sample_commands n) tally
+  pub counted : TallyEnds (Ok tally) (file_of (sample_file n)) (sample_commands n)
   pub printed : output ≡ sample_text n tally
 
 -- the sample's file is refused, and what is written is the line of its fault

@@ -1,9 +1,9 @@
 -- What the words of a call ask of the program, and what it writes for other words.
-use Rattle.std.specs.Prelude.{◌≡◌, ℕ, ◌+◌, List, [], ◌∷◌, ◌++◌, codes, decimal, nat_le, if◌then◌else◌, Option, Some, None, option_map, option_and_then}
+use Rattle.std.specs.Prelude.{◌≡◌, ℕ, ◌-◌, List, [], ◌∷◌, ◌++◌, codes, decimal, if◌then◌else◌, Option, Some, None, option_map}
+use Rattle.std.specs.List.{find, range_with_len}
 use Rattle.mk_io.specs.declared.status.Status.{Status}
 use Rattle.mk_io.specs.declared.status.Status.TheVariants.{Done, Usage, MarketRefused, ReadFault, WriteFault, Memory, TooMany}
 use Rattle.mk_net.specs.Texts.{same_text}
-use Rattle.mk_text.specs.Reading.{number_written}
 use Rattle.mk_session.specs.Outcome.{IsFrontOf}
 
 -- the greatest number of variables of a sample: as many as have a joint table
@@ -15,9 +15,13 @@ pub data Asked : Type 0 where
   Run : (name : List ℕ) → Asked
   Sample : (n : ℕ) → Asked
 
--- the number of variables that a word gives a sample: 2 to the greatest, without leading zeros
+-- the numbers of variables that a sample may have, from 2 on
+abbrev pub sample_sizes : List ℕ
+sample_sizes = range_with_len 2 (max_sample - 1)
+
+-- the one whose decimals a word is
 abbrev pub size_of : List ℕ → Option ℕ
-size_of word = option_and_then (λ n. if nat_le 2 n then Some n else None) (number_written decimal (max_sample + 1) word)
+size_of word = find (λ n. same_text (decimal n) word) sample_sizes
 
 -- what the words ask: they are `run` and a name, or `sample` and a number
 abbrev pub asked_of : List (List ℕ) → Option Asked
