@@ -4,10 +4,12 @@
 mod program;
 #[cfg(test)]
 mod rows;
+mod sample;
 #[cfg(test)]
 mod sizes;
 #[cfg(test)]
 mod tests;
+mod words;
 
 use mk_io::{StdInputs, StdSink};
 use program::program;

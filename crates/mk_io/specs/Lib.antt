@@ -3,4 +3,5 @@ pub mod Stream
 pub mod Cutting
 pub mod Status
 pub mod Memory
+pub mod Quiet
 pub mod inner

@@ -7,6 +7,7 @@ mod lines;
 mod memory;
 mod outside;
 mod pending;
+mod quiet;
 mod standard;
 mod status;
 #[cfg(test)]
@@ -16,5 +17,6 @@ mod text;
 pub use lines::{Lines, Next};
 pub use memory::{MemoryInputs, MemorySink, NamedFile};
 pub use outside::{InputFailed, Inputs, Sink, SinkFailed, write_all};
+pub use quiet::{QuietInputs, QuietSink};
 pub use standard::{StdInputs, StdSink};
 pub use status::Status;

@@ -177,7 +177,7 @@ impl Inputs for MemoryInputs {
 }
 
 // The index of the first file of a name.
-fn index_of(files: &[NamedFile], name: &str) -> Option<usize>
+pub(crate) fn index_of(files: &[NamedFile], name: &str) -> Option<usize>
     ensures { MatchOption result (file_bytes (map named files.now) name.now ≡ None) (λ index.
         (index < length files.now) × (file_bytes (map named files.now) name.now ≡ Some (bytes_at (map named files.now) (Some index)))) }
 {
@@ -190,7 +190,7 @@ fn index_of(files: &[NamedFile], name: &str) -> Option<usize>
 }
 
 // Copies the first bytes that are left, at most `piece`, and says how many.
-fn copy_piece(left: &[u8], piece: usize, buf: &mut [u8]) -> usize
+pub(crate) fn copy_piece(left: &[u8], piece: usize, buf: &mut [u8]) -> usize
     ensures count { result ≡ piece_of piece (length left.now) (length buf.old) }
     ensures bytes { take result buf.new ≡ take result left.now }
 {

@@ -6,6 +6,7 @@ pub mod Appended
 pub mod Keeps
 pub mod Cashed
 pub mod Paid
+pub mod Settling
 pub mod Judged
 pub mod Quoted
 pub mod Ready

@@ -82,32 +82,38 @@ edit_settles_not network H u asked X at payments (Some limits) (inl trade) = let
 edit_settles_not network H u asked X at payments (Some limits) (inr beyond) = let e = beyond.printed in cc
 
 module _ (market : Market) (H : List Entry) (quotes : Quotes) (at : ℕ) (payments : List Payment) where
-  other_settles_not : (command : Command) → (command ≡ Settle → ⊥) → IsAnswer market H quotes command (settling at payments) → ⊥
-  other_settles_not (User u) other (inl e) = cc
-  other_settles_not (User u) other (inr e) = cc
-  other_settles_not (Deposit u bits) other h = cc
-  other_settles_not (Withdraw u bits) other h =
+  settles_alone : (command : Command) → IsAnswer market H quotes command (settling at payments) → command ≡ Settle
+  settles_alone (User u) (inl e) = absurd (cc)
+  settles_alone (User u) (inr e) = absurd (cc)
+  settles_alone (Deposit u bits) h = absurd (cc)
+  settles_alone (Withdraw u bits) h =
       let least = value_of _ (least_gain (network_of market H) H (user_number H u) always) h in
-      withdrawal_settles_not (IsSmall (network_of market H) H) (factor_with H (user_number H u) least.0) u bits (revision H + 1) at payments least.2
-  other_settles_not (Price q) other h = let e = (value_of _ (question_named (network_of market H) q) h).2.printed in cc
-  other_settles_not (Limits u q) other h = let e = (value_of _ (question_named (network_of market H) q) h).2.printed in cc
-  other_settles_not (Edit u q X seen) other h =
+      absurd (withdrawal_settles_not (IsSmall (network_of market H) H) (factor_with H (user_number H u) least.0) u bits (revision H + 1) at payments least.2)
+  settles_alone (Price q) h = let e = (value_of _ (question_named (network_of market H) q) h).2.printed in absurd (cc)
+  settles_alone (Limits u q) h = let e = (value_of _ (question_named (network_of market H) q) h).2.printed in absurd (cc)
+  settles_alone (Edit u q X seen) h =
       let judged = value_of _ (question_named (network_of market H) q) h in
-      edit_settles_not (network_of market H) H (user_number H u) judged.0 X at payments (current_limits (last_quote quotes (user_number H u)) judged.0 (revision H)) judged.2
-  other_settles_not (Worst u) other h = let e = (value_of _ (least_gain (network_of market H) H (user_number H u) always) h).2.printed in cc
-  other_settles_not (Resolve p) other h = cc
-  other_settles_not Settle other h = other refl
+      absurd (edit_settles_not (network_of market H) H (user_number H u) judged.0 X at payments (current_limits (last_quote quotes (user_number H u)) judged.0 (revision H)) judged.2)
+  settles_alone (Worst u) h = let e = (value_of _ (least_gain (network_of market H) H (user_number H u) always) h).2.printed in absurd (cc)
+  settles_alone (Resolve p) h = absurd (cc)
+  settles_alone Settle h = refl
 
   answer_costs : (command : Command) → Stands market H → IsAnswer market H quotes command (settling at payments) → CostsAtMost market H payments
-  answer_costs Settle stands h = settlement_costs market H at payments stands h
-  answer_costs (User u) stands h = absurd (other_settles_not (User u) (λ e. cc) h)
-  answer_costs (Deposit u bits) stands h = absurd (other_settles_not (Deposit u bits) (λ e. cc) h)
-  answer_costs (Withdraw u bits) stands h = absurd (other_settles_not (Withdraw u bits) (λ e. cc) h)
-  answer_costs (Price q) stands h = absurd (other_settles_not (Price q) (λ e. cc) h)
-  answer_costs (Limits u q) stands h = absurd (other_settles_not (Limits u q) (λ e. cc) h)
-  answer_costs (Edit u q X seen) stands h = absurd (other_settles_not (Edit u q X seen) (λ e. cc) h)
-  answer_costs (Worst u) stands h = absurd (other_settles_not (Worst u) (λ e. cc) h)
-  answer_costs (Resolve p) stands h = absurd (other_settles_not (Resolve p) (λ e. cc) h)
+  answer_costs command stands h = settlement_costs market H at payments stands
+      (subst (λ (c : Command). IsAnswer market H quotes c (settling at payments)) (settles_alone command h) h)
+
+  -- a line that is answered by a settlement asks for one
+  command_settles : (command : Command) (o : Option Refusal)
+      → MatchOption o (IsAnswer market H quotes command (settling at payments)) (λ why. settling at payments ≡ Refused why) → command ≡ Settle
+  command_settles command None h = settles_alone command h
+  command_settles command (Some why) e = absurd (cc)
+
+pub line_settles : (market : Market) (now : Standing) (line : Line) (at : ℕ) (payments : List Payment)
+    → IsAllowedFor market now line (Settled at payments) → line ≡ OfCommand Settle
+line_settles market now (OfCommand command) at payments h =
+    ap (λ (c : Command). OfCommand c) (command_settles market now.history now.quotes at payments command (first_refusal market now.history command) h)
+line_settles market now NoCommand at payments h = absurd (cc)
+line_settles market now LongLine at payments h = absurd (cc)
 
 pub settlement_keeps : (market : Market) (now : Standing) (line : Line) (at : ℕ) (payments : List Payment) → Stands market now.history
     → IsAllowedFor market now line (Settled at payments) → CostsAtMost market now.history payments

@@ -124,6 +124,16 @@ abbrev pub SettlementKeeps : Type 0
 SettlementKeeps = (market : Market) (now : Standing) (line : Line) (at : ℕ) (payments : List Payment) → Stands market now.history
     → IsAllowedFor market now line (Settled at payments) → CostsAtMost market now.history payments
 
+-- what a reply pays costs the operator at most the bound, by the history that a run leaves; only a settlement pays
+abbrev pub PaysWithin : Market → List Entry → Reply → Type 0
+PaysWithin market H (Settled at payments) = CostsAtMost market H payments
+PaysWithin market H _ = ⊤
+
+-- in each run from the opening, so do the payments of each settlement
+abbrev pub RunSettles : Type 0
+RunSettles = (market : Market) (new : Standing) (lines : List Line) (replies : List Reply)
+    → Run market opening lines replies new → All (PaysWithin market new.history) replies
+
 -- the reply to an edit is a trade
 abbrev pub IsTraded : Reply → Type 0
 IsTraded (Traded hit miss at) = ⊤

@@ -1,5 +1,5 @@
 //! What allowed replies keep.
-ghost use Rattle.mk_rules.specs.Laws.{AllowedKeeps, RunKeeps, RunStands, UnquotedIsReady, ReadyKeeps, RunKeepsReady, RunIsReady, AlwaysAnswered, RunsExist, StateStaysPossible, BoundedKeeps, NamesKeepBounds, RunStaysBounded, RepliesHaveTexts, RunsJoin, RunIsBounded, SettlementKeeps, JudgedExactly, OneRefusal, OneKind};
+ghost use Rattle.mk_rules.specs.Laws.{AllowedKeeps, RunKeeps, RunStands, UnquotedIsReady, ReadyKeeps, RunKeepsReady, RunIsReady, AlwaysAnswered, RunsExist, StateStaysPossible, BoundedKeeps, NamesKeepBounds, RunStaysBounded, RepliesHaveTexts, RunsJoin, RunIsBounded, SettlementKeeps, RunSettles, JudgedExactly, OneRefusal, OneKind};
 
 /// An allowed reply leads from a sound history to a sound one, whatever the line, and users, pairs and units stay in range.
 pub fn allowed_keeps()
@@ -85,6 +85,12 @@ pub fn run_is_bounded()
 /// A settlement that is allowed costs the operator at most the bound.
 pub fn settlement_keeps()
     ensures { SettlementKeeps }
+{}
+
+/// In each run from the opening, the payments of each settlement cost the operator at most the bound, by the history that
+/// the run leaves.
+pub fn run_settles()
+    ensures { RunSettles }
 {}
 
 /// An edit under limits that were quoted is a trade exactly where its share is inside of them.

@@ -4,7 +4,7 @@ use Rattle.std.proofs.lemmas.List.{length-map}
 use Rattle.mk_io.specs.declared.status.Status.{Status}
 use Rattle.mk_io.specs.declared.status.Status.TheVariants.{Done, Usage, MarketRefused, ReadFault, WriteFault, Memory, TooMany}
 use Rattle.mk_io.specs.Outside.{Rose}
-use Rattle.mk_io.specs.Stream.{StreamLine, parts, line_of, stream_lines, max_stream_lines, max_stream_bytes}
+use Rattle.mk_io.specs.Stream.{StreamLine, parts, line_of, stream_lines, AreWholeLines, max_stream_lines, max_stream_bytes}
 use Rattle.mk_io.specs.Cutting.{first_size}
 use Rattle.mk_exact.specs.Market.{Market}
 use Rattle.mk_file.specs.declared.fault.FileFault.{FileFault}
@@ -23,20 +23,25 @@ first_size_within (b ∷ bytes) = elim (eqb b 10) as (λ test. cond test 1 (1 + 
     [ true ↦ omega arith | false ↦ omega (arith, first_size_within bytes) ]
 
 -- commands within the limits do not overrun them
-not_overrun : (market : Market) (all rest output : List ℕ) → IsOverrun market all rest output → AreWithin all → ⊥
-not_overrun market all rest output over within = at over.past
+pub past_limits : (all whole rest : List ℕ) → all ≡ whole ++ rest → AreWholeLines whole → 0 < length rest
+    → (length (stream_lines whole) ≡ max_stream_lines) ⊎ (max_stream_bytes < length whole + first_size rest) → AreWithin all → ⊥
+past_limits all whole rest bytes lines more past within = at past
   where
-    count : length (stream_lines all) ≡ length (stream_lines over.whole) + length (stream_lines (over.part ++ rest))
-    count = ap (λ (bytes : List ℕ). length (stream_lines bytes)) over.bytes
-        ∙ ap (λ (ls : List StreamLine). length ls) (whole_lines-append over.whole (over.part ++ rest) over.lines)
-        ∙ length-append (stream_lines over.whole) (stream_lines (over.part ++ rest))
+    count : length (stream_lines all) ≡ length (stream_lines whole) + length (stream_lines rest)
+    count = ap (λ (bytes : List ℕ). length (stream_lines bytes)) bytes
+        ∙ ap (λ (ls : List StreamLine). length ls) (whole_lines-append whole rest lines)
+        ∙ length-append (stream_lines whole) (stream_lines rest)
 
-    size : length all ≡ length over.whole + length (over.part ++ rest)
-    size = ap length over.bytes ∙ length-append over.whole (over.part ++ rest)
+    size : length all ≡ length whole + length rest
+    size = ap length bytes ∙ length-append whole rest
 
-    at : ((length (stream_lines over.whole) ≡ max_stream_lines) ⊎ (max_stream_bytes < length over.whole + first_size (over.part ++ rest))) → ⊥
-    at (inl e) = omega (arith, count, within.lines, some_line (over.part ++ rest) over.more)
-    at (inr p) = omega (arith, size, within.bytes, first_size_within (over.part ++ rest))
+    at : ((length (stream_lines whole) ≡ max_stream_lines) ⊎ (max_stream_bytes < length whole + first_size rest)) → ⊥
+    at (inl e) = omega (arith, count, within.lines, some_line rest more)
+    at (inr p) = omega (arith, size, within.bytes, first_size_within rest)
+
+not_overrun : (market : Market) (all rest output : List ℕ) → IsOverrun market all rest output → AreWithin all → ⊥
+not_overrun market all rest output over within =
+    past_limits all over.whole (over.part ++ rest) over.bytes over.lines over.more over.past within
 
 ends_well : (status : Status) (given : Result Market FileFault) (all rest output : List ℕ) → Ends status given all rest output → IsOk given → AreWithin all
     → (status ≡ ReadFault → ⊥) → (status ≡ WriteFault → ⊥) → (status ≡ Done) ⊎ (status ≡ Memory)
@@ -67,3 +72,7 @@ pub completes : (status : Status) (given : Result Market FileFault) (all : List 
 completes status given all source before written inputs inputs_now sink sink_now opened ok within causes steady_inputs steady_sink =
     ends_well status given all opened.rest opened.output.bytes opened.output.holds ok within
     (λ e. steady_inputs (read_cause status inputs inputs_now sink sink_now causes e)) (λ e. steady_sink (write_cause status inputs inputs_now sink sink_now causes e))
+
+-- a count that is never anything but 0 did not rise
+pub none_rose : Rose 0 0 → ⊥
+none_rose rose = omega (arith, rose)

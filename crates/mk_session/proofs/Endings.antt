@@ -23,7 +23,7 @@ transcript_so_far : (market : Market) (all : List ℕ) (cutting : Cutting) (sour
 transcript_so_far market all cutting source now before written far =
     transcript_of market (stream_lines far.done) now far.answers.bytes far.answers.holds
 
-second_empty : (xs ys : List ℕ) → xs ++ ys ≡ [] → ys ≡ []
+pub second_empty : (xs ys : List ℕ) → xs ++ ys ≡ [] → ys ≡ []
 second_empty [] ys e = e
 second_empty (x ∷ xs) ys e = absurd (cc)
 
@@ -73,7 +73,7 @@ ended_read_fault market all old new source rest now before written after far non
       };
     }
 
-past_of : (given lines spent bytes most_lines most_bytes size : ℕ) → given ≡ lines → spent ≡ bytes
+pub past_of : (given lines spent bytes most_lines most_bytes size : ℕ) → given ≡ lines → spent ≡ bytes
     → (given ≡ most_lines) ⊎ (most_bytes < spent + size) → (lines ≡ most_lines) ⊎ (most_bytes < bytes + size)
 past_of given lines spent bytes most_lines most_bytes size e f (inl full) = inl (sym e ∙ full)
 past_of given lines spent bytes most_lines most_bytes size e f (inr past) = inr (subst (λ (n : ℕ). most_bytes < n + size) f past)

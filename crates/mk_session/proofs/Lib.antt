@@ -4,3 +4,4 @@ pub mod Endings
 pub mod Going
 pub mod Serving
 pub mod Completing
+pub mod Counted

@@ -10,7 +10,7 @@ use Rattle.mk_exact.specs.Market.{Market}
 use Rattle.mk_rules.specs.Transcript.{Standing, opening}
 use Rattle.mk_session.specs.Transcript.{AreAnswered}
 use Rattle.mk_session.specs.Outcome.{Adds}
-use Rattle.mk_session.specs.inner.Progress.{IsBetween, IsSoFar}
+use Rattle.mk_session.specs.inner.Progress.{IsBetween, IsPlaced, IsSoFar}
 use Rattle.mk_session.proofs.Answering.{then_answered}
 
 -- what is left of a source behind some bytes of it that are known
@@ -70,12 +70,11 @@ behind all done left line old new source rest bytes known whole gives =
 pub are_whole : (last : Option Next) (done left : List ℕ) → last ≡ None → IsBetween last done left → AreWholeLines done
 are_whole last done left none between = subst (λ (o : Option Next). IsBetween o done left) none between
 
--- a line was given and answered: the run has come one line further
-pub so_far_next : (market : Market) (all : List ℕ) (line : StreamLine) (old new : Cutting) (source rest : Option (List ℕ)) (now then : Standing)
-    (before written after : Option (List ℕ)) → old.last ≡ None → GivesLine line old new (stream_left old source) (stream_left new rest)
-    → Adds written after (AreAnswered market now (line ∷ []) then) → IsSoFar market all old source now before written
-    → IsSoFar market all new rest then before after
-so_far_next market all line old new source rest now then before written after none gives said far =
+-- a line was given: the place is behind it
+pub placed_next : (all : List ℕ) (line : StreamLine) (old new : Cutting) (source rest : Option (List ℕ)) (P Q : List StreamLine → Type 0) → old.last ≡ None
+    → GivesLine line old new (stream_left old source) (stream_left new rest) → ((lines : List StreamLine) → P lines → Q (lines ++ line ∷ []))
+    → IsPlaced all old source P → IsPlaced all new rest Q
+placed_next all line old new source rest P Q none gives step far =
     let whole = are_whole old.last far.done far.left none far.between in
     let b = behind all far.done far.left line old new source rest far.bytes far.known whole gives in
     let count : length (stream_lines (far.done ++ gives.piece)) ≡ length (stream_lines far.done) + 1 =
@@ -86,13 +85,21 @@ so_far_next market all line old new source rest now then before written after no
       bytes = b.bytes;
       known = b.known;
       between = b.between;
-      answers = record {
-        bytes = far.answers.bytes ++ said.bytes;
-        added = said.added ∙ ap (λ (w : Option (List ℕ)). append_known w said.bytes) far.answers.added
-            ∙ append_known_twice before far.answers.bytes said.bytes;
-        holds = subst (λ (ls : List StreamLine). AreAnswered market opening ls then (far.answers.bytes ++ said.bytes)) (sym b.lines)
-            (then_answered market opening now then (stream_lines far.done) (line ∷ []) far.answers.bytes said.bytes far.answers.holds said.holds);
-      };
+      answers = subst Q (sym b.lines) (step (stream_lines far.done) far.answers);
       given = omega (arith, gives.given, far.given, count);
       spent = omega (arith, gives.spent, far.spent, length-append far.done gives.piece);
     }
+
+-- a line was given and answered: the run has come one line further
+pub so_far_next : (market : Market) (all : List ℕ) (line : StreamLine) (old new : Cutting) (source rest : Option (List ℕ)) (now then : Standing)
+    (before written after : Option (List ℕ)) → old.last ≡ None → GivesLine line old new (stream_left old source) (stream_left new rest)
+    → Adds written after (AreAnswered market now (line ∷ []) then) → IsSoFar market all old source now before written
+    → IsSoFar market all new rest then before after
+so_far_next market all line old new source rest now then before written after none gives said far =
+    placed_next all line old new source rest (λ lines. Adds before written (AreAnswered market opening lines now))
+    (λ lines. Adds before after (AreAnswered market opening lines then)) none gives
+    (λ lines answers. record {
+      bytes = answers.bytes ++ said.bytes;
+      added = said.added ∙ ap (λ (w : Option (List ℕ)). append_known w said.bytes) answers.added ∙ append_known_twice before answers.bytes said.bytes;
+      holds = then_answered market opening now then lines (line ∷ []) answers.bytes said.bytes answers.holds said.holds;
+    }) far

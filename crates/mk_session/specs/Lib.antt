@@ -2,4 +2,5 @@ pub mod Texts
 pub mod Transcript
 pub mod Outcome
 pub mod Complete
+pub mod Tally
 pub mod inner

@@ -11,6 +11,7 @@ use Rattle.mk_command.specs.Commands.{IsCommand, command_text}
 use Rattle.mk_reply.specs.declared.reply.Reply.{Reply}
 use Rattle.mk_rules.specs.Transcript.{Standing, opening, Line, OfCommand, NoCommand, LongLine, Run}
 use Rattle.mk_rules.specs.Standings.{Stands}
+use Rattle.mk_rules.specs.Laws.{PaysWithin}
 use Rattle.mk_session.specs.Texts.{ready_line, reply_line}
 
 -- what a line of the stream asks: a command, the text of none, or nothing since it is too long
@@ -22,22 +23,30 @@ Asks long LongLine = Unit {0}
 Asks long NoCommand = ⊥
 Asks long (OfCommand command) = ⊥
 
--- some lines of a stream are answered: the rules of the market allow these replies to what the lines that are not blank ask,
--- and each reply is one line of the output
-pub record AreAnswered (market : Market) (old : Standing) (lines : List StreamLine) (new : Standing) (output : List ℕ) : Type 0 where
+-- some lines of a stream are answered by these replies: the rules of the market allow them to what the lines that are not blank ask
+pub record AreReplied (market : Market) (old : Standing) (lines : List StreamLine) (new : Standing) (replies : List Reply) : Type 0 where
   pub asked : List Line
   pub asks : AllZip Asks (filter is_not_blank lines) asked
-  pub replies : List Reply
   pub run : Run market old asked replies new
+
+-- some lines are answered, and each reply is one line of the output
+pub record AreAnswered (market : Market) (old : Standing) (lines : List StreamLine) (new : Standing) (output : List ℕ) : Type 0 where
+  pub replies : List Reply
+  pub replied : AreReplied market old lines new replies
   pub printed : output ≡ flat_map reply_line replies
 
--- the ready line, and the answers to these lines from the opening on; nobody can be bankrupt then, and what all users
--- together have gained is bounded
-pub record Transcript (market : Market) (lines : List StreamLine) (output : List ℕ) : Type 0 where
-  pub after : Standing
-  pub answers : List ℕ
-  pub answered : AreAnswered market opening lines after answers
-  pub printed : output ≡ ready_line market ++ answers
+-- these lines are answered from the opening on; nobody can be bankrupt then, what all users together have gained is bounded,
+-- and so is what a settlement pays
+pub record IsAllowedRun (market : Market) (lines : List StreamLine) (after : Standing) (replies : List Reply) : Type 0 where
+  pub replied : AreReplied market opening lines after replies
   pub stands : Stands market after.history
   pub bounded : All (GainsAreBounded (network_of market after.history) after.history)
       (possible_states (network_of market after.history) after.history always)
+  pub settled : All (PaysWithin market after.history) replies
+
+-- the ready line, and one line for each reply of such a run
+pub record Transcript (market : Market) (lines : List StreamLine) (output : List ℕ) : Type 0 where
+  pub after : Standing
+  pub replies : List Reply
+  pub run : IsAllowedRun market lines after replies
+  pub printed : output ≡ ready_line market ++ flat_map reply_line replies

@@ -1,3 +1,4 @@
 -- What only proofs and private contracts cite.
 pub mod Loading
 pub mod Progress
+pub mod Counting

@@ -7,7 +7,7 @@ ghost use Rattle.mk_io.specs.Stream.{text, long, max_stream_lines};
 ghost use Rattle.mk_io.specs.Cutting.{GoesOn};
 ghost use Rattle.mk_session.specs.Texts.{reply_line};
 ghost use Rattle.mk_rules.specs.Transcript.{opening};
-ghost use Rattle.mk_session.specs.Transcript.{AreAnswered};
+ghost use Rattle.mk_session.specs.Transcript.{AreReplied, AreAnswered};
 ghost use Rattle.mk_session.specs.Outcome.{Adds, HasCauses, CountsNone};
 ghost use Rattle.mk_session.specs.inner.Progress.{AreCutOff, IsSoFar, IsEnded};
 
@@ -24,17 +24,17 @@ use std::alloc::Global;
 pub type TreeMarket = Market<TreeEngine<SumProd>, TreeEngine<MinProd>>;
 
 /// Whether a line holds no byte but spaces.
-fn is_blank(line: &[u8]) -> bool
+pub(crate) fn is_blank(line: &[u8]) -> bool
     ensures { result ≡ list_all (λ b. b == 32) line.now }
 {
     line.iter().all(|byte| *byte == b' ')
 }
 
 /// The reply to a line that is not too long and not blank.
-fn reply_to(alloc: Global, market: &mut TreeMarket, line: &[u8]) -> Reply
+pub(crate) fn reply_to(alloc: Global, market: &mut TreeMarket, line: &[u8]) -> Reply
     requires { list_all (λ b. b == 32) line.now ≡ false }
     ensures market { market.new.market ≡ market.old.market }
-    ensures answered { AreAnswered market.old.market market.old.standing (text line.now ∷ []) market.new.standing (reply_line result) }
+    ensures replied { AreReplied market.old.market market.old.standing (text line.now ∷ []) market.new.standing (result ∷ []) }
 {
     match read_command(line) {
         Err(_) => Reply::Refused {

@@ -2,7 +2,14 @@
 #![tactic(auto)]
 
 mod answer;
+mod counting;
+mod counts;
 mod print;
+mod quiet;
 mod run;
 
+pub use counting::tally;
+pub use counts::{Tally, TallyFault};
+pub use print::{LineBuffer, print_fault_line, print_reply_line};
+pub use quiet::serve_quiet;
 pub use run::serve;

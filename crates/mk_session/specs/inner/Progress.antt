@@ -22,16 +22,21 @@ abbrev pub IsBetween : Option Next → List ℕ → List ℕ → Type 0
 IsBetween None done left = AreWholeLines done
 IsBetween (Some last) done left = left ≡ []
 
--- between two lines: those of some bytes are answered, and the other bytes are left
-pub record IsSoFar (market : Market) (all : List ℕ) (cutting : Cutting) (source : Option (List ℕ)) (now : Standing) (before written : Option (List ℕ)) : Type 0 where
+-- between two lines: something holds of the lines of some bytes, and the other bytes are left
+pub record IsPlaced (all : List ℕ) (cutting : Cutting) (source : Option (List ℕ)) (P : List StreamLine → Type 0) : Type 0 where
   pub done : List ℕ
   pub left : List ℕ
   pub bytes : all ≡ done ++ left
   pub known : stream_left cutting source ≡ Some left
   pub between : IsBetween cutting.last done left
-  pub answers : Adds before written (AreAnswered market opening (stream_lines done) now)
+  pub answers : P (stream_lines done)
   pub given : cutting.given ≡ length (stream_lines done)
   pub spent : cutting.spent ≡ length done
+
+-- the lines before the place are answered, and the answers are written
+abbrev pub IsSoFar : Market → List ℕ → Cutting → Option (List ℕ) → Standing → Option (List ℕ) → Option (List ℕ) → Type 0
+IsSoFar market all cutting source now before written =
+    IsPlaced all cutting source (λ lines. Adds before written (AreAnswered market opening lines now))
 
 -- the end of a run whose ready line is written
 pub record IsEnded (status : Status) (market : Market) (all : List ℕ) (source before written : Option (List ℕ)) : Type 0 where

@@ -1,0 +1,118 @@
+//! The run of a sample market, and what is written of it.
+
+ghost use Rattle.std.specs.Prelude.{◌≡◌, ◌≢◌, ℕ, ◌≤◌, OnOk, OnErr, IfOk, Result};
+ghost use Rattle.mk_io.specs.Outside.{HasCause, AddsFront, append_known};
+ghost use Rattle.mk_make.specs.Sample.{sample_file, sample_commands};
+ghost use Rattle.mk_file.specs.File.{file_of};
+ghost use Rattle.mk_session.specs.Tally.{TallyEnds};
+ghost use Rattle.mk_session.specs.Outcome.{Adds, HasCauses};
+ghost use Rattle.daggre.specs.Words.{max_sample};
+ghost use Rattle.daggre.specs.Sampled.{count_lines, last_line, sample_text, EndsSample};
+
+use mk_io::{Sink, SinkFailed, Status, write_all};
+use mk_make::sample;
+use mk_net::NoMemory;
+use mk_reply::Reply;
+use mk_session::{LineBuffer, Tally, TallyFault, print_fault_line, print_reply_line, tally};
+use mk_text::put_number;
+use std::alloc::Global;
+
+/// Runs the sample market of `n` variables over its commands, and writes the counts of its replies and the last one.
+pub fn run_sample<S: Sink>(alloc: Global, n: u32, out: &mut S) -> Status
+    requires least { 2 ≤ n }
+    requires most { n ≤ max_sample }
+    ensures output { Adds (S.written out.old) (S.written out.new) (EndsSample result n) }
+    ensures causes { (inputs : ℕ) → HasCauses result inputs inputs (S.faults out.old) (S.faults out.new) }
+    ensures not_usage { result ≢ Status.Usage }
+{
+    match count_sample(alloc, n) {
+        Err(_) => Status::Memory,
+        Ok(counted) => write_sample(n, counted, out),
+    }
+}
+
+/// Counts the replies of the sample market of `n` variables.
+fn count_sample(alloc: Global, n: u32) -> Result<Result<Tally, TallyFault>, NoMemory>
+    requires least { 2 ≤ n }
+    requires most { n ≤ max_sample }
+    ensures { IfOk result (λ counted. TallyEnds counted (file_of (sample_file n)) (sample_commands n)) }
+{
+    let sample = sample(alloc, n)?;
+    Ok(tally(alloc, sample.file.bytes(), sample.commands.bytes()))
+}
+
+/// Writes what came of a sample.
+fn write_sample<S: Sink>(n: u32, counted: Result<Tally, TallyFault>, out: &mut S) -> Status
+    requires { TallyEnds counted (file_of (sample_file n)) (sample_commands n) }
+    ensures output { Adds (S.written out.old) (S.written out.new) (EndsSample result n) }
+    ensures causes { (inputs : ℕ) → HasCauses result inputs inputs (S.faults out.old) (S.faults out.new) }
+    ensures not_usage { result ≢ Status.Usage }
+{
+    let mut line = LineBuffer::new();
+    match counted {
+        Ok(tally) => match write_tally(n, &tally, &mut line, out) {
+            Ok(()) => Status::Done,
+            Err(SinkFailed) => Status::WriteFault,
+        },
+        Err(TallyFault::Market(fault)) => {
+            print_fault_line(&fault, &mut line);
+            match write_all(out, line.as_bytes()) {
+                Ok(()) => Status::MarketRefused,
+                Err(SinkFailed) => Status::WriteFault,
+            }
+        }
+        Err(TallyFault::TooMany) => Status::Memory,
+        Err(TallyFault::Memory) => Status::Memory,
+    }
+}
+
+/// Writes the lines of a tally.
+fn write_tally<S: Sink>(
+    n: u32,
+    tally: &Tally,
+    line: &mut LineBuffer,
+    out: &mut S,
+) -> Result<(), SinkFailed>
+    ensures cause { HasCause (S.faults out.old) (S.faults out.new) result }
+    ensures whole { OnOk result (S.written out.new ≡ append_known (S.written out.old) (sample_text n tally.now)) }
+    ensures front { OnErr result (AddsFront (S.written out.old) (S.written out.new) (sample_text n tally.now)) }
+{
+    print_counts(n, tally, line);
+    write_all(out, line.as_bytes())?;
+    write_last(&tally.last, line, out)
+}
+
+/// Writes the line of the last reply, where there is one.
+fn write_last<S: Sink>(
+    last: &Option<Reply>,
+    line: &mut LineBuffer,
+    out: &mut S,
+) -> Result<(), SinkFailed>
+    ensures cause { HasCause (S.faults out.old) (S.faults out.new) result }
+    ensures whole { OnOk result (S.written out.new ≡ append_known (S.written out.old) (last_line last.now)) }
+    ensures front { OnErr result (AddsFront (S.written out.old) (S.written out.new) (last_line last.now)) }
+{
+    match last {
+        None => Ok(()),
+        Some(reply) => {
+            print_reply_line(reply, line);
+            write_all(out, line.as_bytes())
+        }
+    }
+}
+
+/// Puts the lines of the counts into `line`, in place of what it held.
+fn print_counts(n: u32, tally: &Tally, line: &mut LineBuffer)
+    ensures { line.new.bytes ≡ count_lines n tally.now }
+{
+    line.clear();
+    line.push_str("sample ");
+    put_number(line, n as u64);
+    line.push_str("\nreplies ");
+    put_number(line, tally.replies as u64);
+    line.push_str(" trades ");
+    put_number(line, tally.trades as u64);
+    line.push_str(" refused ");
+    put_number(line, tally.refused as u64);
+    line.push_str("\n");
+}

@@ -1,0 +1,7 @@
+use Rattle.mk_rules.specs.Transcript.{opening}
+use Rattle.mk_rules.proofs.Keeps.{opening_stands}
+use Rattle.mk_rules.proofs.Settling.{run_settles}
+use Rattle.mk_rules.proofs.laws.run_settles.Goals as goal
+
+pub returns : goal.returns
+returns c = λ market new lines replies run. run_settles market opening new lines replies (opening_stands market) run

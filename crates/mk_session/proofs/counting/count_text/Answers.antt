@@ -1,0 +1,25 @@
+use Rattle.std.proofs.Common.{[], ◌∷◌, refl, sym, ◌∙◌}
+use Rattle.std.proofs.lemmas.List.Elements.{All-nil}
+use Rattle.mk_io.specs.Stream.{text}
+use Rattle.mk_session.specs.Tally.{IsRemembered}
+use Rattle.mk_session.proofs.Answering.{blank_replied}
+use Rattle.mk_session.proofs.Counted.{counts_none, remembered_one}
+use Rattle.mk_session.proofs.counting.count_text.Goals as goal
+
+pub returns-then-is_blank-clause-counted : goal.returns-then-is_blank-clause-counted
+returns-then-is_blank-clause-counted c =
+    let m = c.args.market.now in
+    record {
+      replies = [];
+      replied = blank_replied m.market m.standing (text c.args.line.now) (rw (sym c.is_blank.ensures ∙ c.if-is_blank.true) refl);
+      remembered = All-nil IsRemembered;
+      counts = λ earlier counts. counts_none earlier c.args.tally.now counts;
+    }
+
+pub returns-clause-counted : goal.returns-clause-counted
+returns-clause-counted c = record {
+  replies = c.reply_to-reply.result ∷ [];
+  replied = c.reply_to-reply.ensures.replied;
+  remembered = remembered_one c.reply_to-reply.result (sym c.is_want_of_memory.ensures ∙ c.if-is_want_of_memory.false);
+  counts = c.add.ensures.counts;
+}
