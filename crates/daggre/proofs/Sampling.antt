@@ -1,5 +1,5 @@
 -- What a count of a sample's replies says of what is written.
-use Rattle.std.proofs.Common.{◌≡◌, ◌≢◌, ℕ, List, [], ◌++◌, Option, Some, None, Result, Ok, Err, ◌⊎◌, inl, inr, refl, sym, ap, subst, ◌∙◌, append_assoc}
+use Rattle.std.proofs.Common.{◌≡◌, ◌≢◌, ℕ, List, [], ◌++◌, Option, Some, None, Result, Ok, Err, OnOk, OnErr, ◌⊎◌, inl, inr, refl, sym, ap, subst, ◌∙◌, append_assoc}
 use Rattle.mk_io.specs.declared.status.Status.TheVariants.{Done, MarketRefused, WriteFault, Memory}
 use Rattle.mk_io.specs.Outside.{append_known, AddsFront}
 use Rattle.mk_io.proofs.Told.{append_known_none, append_known_twice}
@@ -63,7 +63,7 @@ front_first first more before after f = record {
   added = f.added;
 }
 
-pub front_behind : (first more : List ℕ) (before between after : Option (List ℕ)) → between ≡ append_known before first → AddsFront between after more
+front_behind : (first more : List ℕ) (before between after : Option (List ℕ)) → between ≡ append_known before first → AddsFront between after more
     → AddsFront before after (first ++ more)
 front_behind first more before between after added f = record {
   front = first ++ f.front;
@@ -72,7 +72,18 @@ front_behind first more before between after added f = record {
   added = f.added ∙ ap (λ (w : Option (List ℕ)). append_known w f.front) added ∙ append_known_twice before first f.front;
 }
 
-pub whole_behind : (first more : List ℕ) (before between after : Option (List ℕ)) → between ≡ append_known before first
+whole_behind : (first more : List ℕ) (before between after : Option (List ℕ)) → between ≡ append_known before first
     → after ≡ append_known between more → after ≡ append_known before (first ++ more)
 whole_behind first more before between after added e =
     e ∙ ap (λ (w : Option (List ℕ)). append_known w more) added ∙ append_known_twice before first more
+
+-- the same of a write that may fail
+pub whole_when : {T E : Type 0} (said : Result T E) (first more : List ℕ) (before between after : Option (List ℕ)) → between ≡ append_known before first
+    → OnOk said (after ≡ append_known between more) → OnOk said (after ≡ append_known before (first ++ more))
+whole_when (Ok v) first more before between after added e = whole_behind first more before between after added e
+whole_when (Err x) first more before between after added e = tt
+
+pub front_when : {T E : Type 0} (said : Result T E) (first more : List ℕ) (before between after : Option (List ℕ)) → between ≡ append_known before first
+    → OnErr said (AddsFront between after more) → OnErr said (AddsFront before after (first ++ more))
+front_when (Ok v) first more before between after added f = tt
+front_when (Err x) first more before between after added f = front_behind first more before between after added f

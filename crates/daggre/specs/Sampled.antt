@@ -12,7 +12,7 @@ use Rattle.mk_session.specs.Tally.{TallyEnds}
 use Rattle.mk_session.specs.Outcome.{IsFrontOf}
 
 -- the line that names the sample, and the line of the counts
-abbrev pub count_lines : ℕ → Tally → List ℕ
+unfoldable pub count_lines : ℕ → Tally → List ℕ
 count_lines n tally =
     as_line (codes "sample " ++ decimal n)
     ++ as_line (codes "replies " ++ decimal tally.replies ++ codes " trades " ++ decimal tally.trades ++ codes " refused " ++ decimal tally.refused)

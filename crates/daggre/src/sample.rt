@@ -1,6 +1,6 @@
 //! The run of a sample market, and what is written of it.
 
-ghost use Rattle.std.specs.Prelude.{◌≡◌, ◌≢◌, ℕ, ◌≤◌, OnOk, OnErr, IfOk, Result};
+ghost use Rattle.std.specs.Prelude.{◌≡◌, ◌≢◌, ℕ, ◌≤◌, OnOk, OnErr, IfOk, Result, Ok, Err};
 ghost use Rattle.mk_io.specs.Outside.{HasCause, AddsFront, append_known};
 ghost use Rattle.mk_make.specs.Sample.{sample_file, sample_commands};
 ghost use Rattle.mk_file.specs.File.{file_of};
@@ -9,6 +9,7 @@ ghost use Rattle.mk_session.specs.Outcome.{Adds, HasCauses};
 ghost use Rattle.daggre.specs.Words.{max_sample};
 ghost use Rattle.daggre.specs.Sampled.{count_lines, last_line, sample_text, EndsSample};
 
+use mk_file::FileFault;
 use mk_io::{Sink, SinkFailed, Status, write_all};
 use mk_make::sample;
 use mk_net::NoMemory;
@@ -48,21 +49,40 @@ fn write_sample<S: Sink>(n: u32, counted: Result<Tally, TallyFault>, out: &mut S
     ensures causes { (inputs : ℕ) → HasCauses result inputs inputs (S.faults out.old) (S.faults out.new) }
     ensures not_usage { result ≢ Status.Usage }
 {
-    let mut line = LineBuffer::new();
     match counted {
-        Ok(tally) => match write_tally(n, &tally, &mut line, out) {
-            Ok(()) => Status::Done,
-            Err(SinkFailed) => Status::WriteFault,
-        },
-        Err(TallyFault::Market(fault)) => {
-            print_fault_line(&fault, &mut line);
-            match write_all(out, line.as_bytes()) {
-                Ok(()) => Status::MarketRefused,
-                Err(SinkFailed) => Status::WriteFault,
-            }
-        }
+        Ok(tally) => say_tally(n, &tally, out),
+        Err(TallyFault::Market(fault)) => say_fault(n, fault, out),
         Err(TallyFault::TooMany) => Status::Memory,
         Err(TallyFault::Memory) => Status::Memory,
+    }
+}
+
+/// Writes the counts of a sample whose file is accepted.
+fn say_tally<S: Sink>(n: u32, tally: &Tally, out: &mut S) -> Status
+    requires { TallyEnds (Ok tally.now) (file_of (sample_file n)) (sample_commands n) }
+    ensures output { Adds (S.written out.old) (S.written out.new) (EndsSample result n) }
+    ensures causes { (inputs : ℕ) → HasCauses result inputs inputs (S.faults out.old) (S.faults out.new) }
+    ensures not_usage { result ≢ Status.Usage }
+{
+    let mut line = LineBuffer::new();
+    match write_tally(n, tally, &mut line, out) {
+        Ok(()) => Status::Done,
+        Err(SinkFailed) => Status::WriteFault,
+    }
+}
+
+/// Writes the one line of a sample whose file is refused.
+fn say_fault<S: Sink>(n: u32, fault: FileFault, out: &mut S) -> Status
+    requires { TallyEnds (Err (TallyFault.Market fault)) (file_of (sample_file n)) (sample_commands n) }
+    ensures output { Adds (S.written out.old) (S.written out.new) (EndsSample result n) }
+    ensures causes { (inputs : ℕ) → HasCauses result inputs inputs (S.faults out.old) (S.faults out.new) }
+    ensures not_usage { result ≢ Status.Usage }
+{
+    let mut line = LineBuffer::new();
+    print_fault_line(&fault, &mut line);
+    match write_all(out, line.as_bytes()) {
+        Ok(()) => Status::MarketRefused,
+        Err(SinkFailed) => Status::WriteFault,
     }
 }
 
@@ -78,8 +98,10 @@ fn write_tally<S: Sink>(
     ensures front { OnErr result (AddsFront (S.written out.old) (S.written out.new) (sample_text n tally.now)) }
 {
     print_counts(n, tally, line);
-    write_all(out, line.as_bytes())?;
-    write_last(&tally.last, line, out)
+    match write_all(out, line.as_bytes()) {
+        Ok(()) => write_last(&tally.last, line, out),
+        Err(fault) => Err(fault),
+    }
 }
 
 /// Writes the line of the last reply, where there is one.
@@ -102,6 +124,7 @@ fn write_last<S: Sink>(
 }
 
 /// Puts the lines of the counts into `line`, in place of what it held.
+#[tactic(auto, unfolding(crate::specs::Sampled::count_lines))]
 fn print_counts(n: u32, tally: &Tally, line: &mut LineBuffer)
     ensures { line.new.bytes ≡ count_lines n tally.now }
 {

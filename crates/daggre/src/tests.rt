@@ -3,7 +3,7 @@
 ghost use Rattle.std.specs.Prelude.{◌≤◌};
 
 use crate::program::program;
-use crate::rows::{COIN, REFUSED, Row, SERVED};
+use crate::rows::{COIN, REFUSED, Row, SAMPLE_2, SAMPLE_12, SERVED};
 use crate::sizes::{many_cliques, many_parents, many_users, many_variables};
 use mk_io::{MemoryInputs, MemorySink, NamedFile, Status};
 use std::alloc::{AllocError, Global};
@@ -106,17 +106,34 @@ fn refused_markets(rt: HostRuntime) -> Result<(), Fail> {
 #[test]
 fn other_words(rt: HostRuntime) -> Result<(), Fail> {
     let usage = b"usage: daggre run NAME | daggre sample N\n";
-    let calls: [&[&str]; 5] = [
+    let calls: [&[&str]; 6] = [
         &[],
         &["run"],
         &["sample", "1"],
         &["sample", "02"],
+        &["sample", "13"],
         &["run", "m.toml", "m.toml"],
     ];
     let market = text_of(rt.alloc(), COIN)?;
     for words in calls {
         expect_run(&rt, rt.alloc(), words, &market, b"", usage, Status::Usage)?;
         let ended = run(rt.alloc(), words, &market, b"", 64, (&[], &[]))?;
+        assert_eq!(rt; ended.reads, 0);
+    }
+    Ok(())
+}
+
+/// The least sample and the greatest, with what each is worked out to write.
+#[test]
+fn samples(rt: HostRuntime) -> Result<(), Fail> {
+    let rows: [(&[&str], &[u8]); 2] = [
+        (&["sample", "2"], SAMPLE_2.as_bytes()),
+        (&["sample", "12"], SAMPLE_12.as_bytes()),
+    ];
+    for (words, output) in rows {
+        let ended = run(rt.alloc(), words, b"", b"", 4096, (&[], &[]))?;
+        assert!(rt; ended.out.written() == output);
+        assert!(rt; ended.status == Status::Done);
         assert_eq!(rt; ended.reads, 0);
     }
     Ok(())

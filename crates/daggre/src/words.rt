@@ -28,7 +28,15 @@ pub fn sample_size(words: &[&str]) -> Option<u32>
 {
     match words {
         // As in the definition, a run is looked for first.
-        [word, size] => { if is_run(word) { None } else if is_sample(word) { size_named(size) } else { None } }
+        [word, size] => {
+            if is_run(word) {
+                None
+            } else if is_sample(word) {
+                size_named(size)
+            } else {
+                None
+            }
+        }
         _ => None,
     }
 }

@@ -50,9 +50,9 @@ command_stays : (market : Market) (H : List Entry) (quotes : Quotes) (command : 
     → IsAllowed market H quotes command reply → next_history market H command reply ≡ H
 command_stays market H quotes command reply s h =
     let refused : reply ≡ Refused SettledBefore =
-        subst (λ (o : Option Refusal). MatchOption o (IsAnswer market H quotes command reply) (λ why. reply ≡ Refused why)) (refused_behind market H command s) h in
+    subst (λ (o : Option Refusal). MatchOption o (IsAnswer market H quotes command reply) (λ why. reply ≡ Refused why)) (refused_behind market H command s) h in
     let none : entry_of market H command reply ≡ None = none_there (entry_of market H command reply)
-        (subst (λ (r : Reply). IfSome (entry_of market H command r) (λ _. ⊥)) (sym refused) (refused_appends (λ _. ⊥) market H command SettledBefore)) in
+    (subst (λ (r : Reply). IfSome (entry_of market H command r) (λ _. ⊥)) (sym refused) (refused_appends (λ _. ⊥) market H command SettledBefore)) in
     ap (λ (o : Option Entry). H ++ option_to_list o) none ∙ append-nil H
 
 line_stays : (market : Market) (now : Standing) (line : Line) (reply : Reply) → is_settled now.history ≡ true
@@ -85,7 +85,7 @@ states_by market pairs = filter (λ s. holds pairs s && always s) (all_states ma
 abbrev bound_by : Market → List ℕ → List ℕ → List (List ℕ) → (ℕ → ℕ) → (ℕ → ℕ) → Type 0
 bound_by market s paid joined outs ins =
     2 ^ (sum paid + market.points_per_bit * sum_by outs (numbers_below (length joined))) * initial_weight market.network s ^ market.points_per_bit
-        ≤ 2 ^ (market.points_per_bit * sum_by ins (numbers_below (length joined))) * initial_total market.network ^ market.points_per_bit
+    ≤ 2 ^ (market.points_per_bit * sum_by ins (numbers_below (length joined))) * initial_total market.network ^ market.points_per_bit
 
 costs_behind : (market : Market) (H : List Entry) (payments : List Payment) → CostsAtMost market H payments → CostsAtMost market (H ++ Settles ∷ []) payments
 costs_behind market H payments costs =
@@ -107,9 +107,9 @@ settlement_pays : (market : Market) (old new : Standing) (line : Line) (at : ℕ
     → CostsAtMost market new.history payments
 settlement_pays market old new line at payments lines replies stands allowed run =
     let next : (after market old line (Settled at payments)).history ≡ old.history ++ Settles ∷ [] =
-        ap (λ (l : Line). (after market old l (Settled at payments)).history) (line_settles market old line at payments allowed) in
+    ap (λ (l : Line). (after market old l (Settled at payments)).history) (line_settles market old line at payments allowed) in
     let stays : new.history ≡ old.history ++ Settles ∷ [] =
-        run_stays market (after market old line (Settled at payments)) new lines replies (ap is_settled next ∙ settled_now old.history) run ∙ next in
+    run_stays market (after market old line (Settled at payments)) new lines replies (ap is_settled next ∙ settled_now old.history) run ∙ next in
     subst (λ (H : List Entry). CostsAtMost market H payments) (sym stays)
     (costs_behind market old.history payments (settlement_keeps market old line at payments stands allowed))
 

@@ -162,5 +162,10 @@ fn count_long(market: &mut TreeMarket, tally: &mut Tally)
 fn is_want_of_memory(reply: &Reply) -> bool
     ensures { result ≡ is_want reply.now }
 {
-    matches!(reply, Reply::Refused { why: Refusal::Memory })
+    matches!(
+        reply,
+        Reply::Refused {
+            why: Refusal::Memory
+        }
+    )
 }
