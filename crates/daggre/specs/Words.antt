@@ -6,9 +6,9 @@ use Rattle.mk_io.specs.declared.status.Status.TheVariants.{Done, Usage, MarketRe
 use Rattle.mk_net.specs.Texts.{same_text}
 use Rattle.mk_session.specs.Outcome.{IsFrontOf}
 
--- the greatest number of variables of a sample: as many as have a joint table
+-- the greatest number of variables of a sample: as many as a market may have
 abbrev pub max_sample : ℕ
-max_sample = 12
+max_sample = 256
 
 -- to run the market of a name, or to run the sample market of so many variables
 pub data Asked : Type 0 where

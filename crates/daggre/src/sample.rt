@@ -52,6 +52,7 @@ fn write_sample<S: Sink>(n: u32, counted: Result<Tally, TallyFault>, out: &mut S
     match counted {
         Ok(tally) => say_tally(n, &tally, out),
         Err(TallyFault::Market(fault)) => say_fault(n, fault, out),
+        // No sample has so many commands; were there one, it could not be kept.
         Err(TallyFault::TooMany) => Status::Memory,
         Err(TallyFault::Memory) => Status::Memory,
     }

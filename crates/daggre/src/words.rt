@@ -9,7 +9,7 @@ ghost use Rattle.daggre.specs.inner.Asking.{name_in, size_in};
 use itoa::Buffer;
 
 /// The greatest number of variables of a sample.
-const MAX_SAMPLE: u32 = 12;
+const MAX_SAMPLE: u32 = 256;
 
 /// The name of the market that the words ask to run, if they do.
 pub fn market_name<'a>(words: &[&'a str]) -> Option<&'a str>
