@@ -143,7 +143,15 @@ fn sample_of_two_hundred(rt: HostRuntime) -> Result<(), Fail> {
     assert!(rt; served.status == Status::Done);
     assert!(rt; served.out.written().starts_with(b"ready 200 100\n"));
     assert!(rt; served.out.written().ends_with(last));
-    assert_eq!(rt; served.out.written().iter().filter(|byte| **byte == b'\n').count(), 718);
+    assert_eq!(rt;
+        served
+            .out
+            .written()
+            .iter()
+            .filter(|byte| **byte == b'\n')
+            .count(),
+        718
+    );
     Ok(())
 }
 
@@ -153,7 +161,14 @@ fn each_sample_opens(rt: HostRuntime) -> Result<(), Fail> {
     let alloc = rt.alloc();
     for size in 2..257u32 {
         let bytes = sample(alloc, size)?;
-        let ended = run(alloc, &["run", "m.toml"], bytes.file.bytes(), b"", 4096, (&[], &[]))?;
+        let ended = run(
+            alloc,
+            &["run", "m.toml"],
+            bytes.file.bytes(),
+            b"",
+            4096,
+            (&[], &[]),
+        )?;
         assert!(rt; ended.status == Status::Done);
     }
     Ok(())
