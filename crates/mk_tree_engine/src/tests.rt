@@ -1,6 +1,6 @@
 //! Beliefs on a chain of three variables: their values, and how many messages each makes.
 
-ghost use Rattle.std.specs.Prelude.{◌≡◌, ℕ, ◌+◌, ◌<◌, ◌≤◌, [], ◌∷◌, length, slice_index, IfOk};
+ghost use Rattle.std.specs.Prelude.{◌≡◌, ℕ, ◌+◌, ◌<◌, ◌≤◌, [], ◌∷◌, length, slice_index, true, IfOk};
 ghost use Rattle.mk_net.specs.Sets.{is_member};
 ghost use Rattle.mk_net.specs.Trades.{trade_ratio};
 ghost use Rattle.mk_tree.specs.Given.{AreOfNetwork};
@@ -222,25 +222,20 @@ fn check(rt: &impl Abort, held: &Held, n: u64) {
     }
 }
 
-/// Stops unless the beliefs in both values of a variable are as a plain walk over all states finds them.
+/// Stops unless the belief in a pair is as a plain walk over all states finds it.
 fn compare(
     rt: &impl Abort,
     alloc: Global,
     engine: &mut TreeEngine<SumProd>,
     net: &Network,
-    variable: u32,
+    pair: Pair,
 ) -> Result<(), Fail>
     requires { HasSome ⟦<SumProd as Semiring>⟧.plus_of engine.old net.now 3 }
     ensures { HasSome ⟦<SumProd as Semiring>⟧.plus_of engine.new net.now 3 }
 {
-    let up = Pair { variable, value: 0 };
-    let down = Pair { variable, value: 1 };
-    let walked = total(alloc, net, &[], &[], &[up])?;
+    let walked = total(alloc, net, &[], &[], &[pair])?;
     assert!(rt; walked < 1_000_000_000_000_000_001);
-    check(rt, &belief(rt, engine, net, up), walked as u64);
-    let walked = total(alloc, net, &[], &[], &[down])?;
-    assert!(rt; walked < 1_000_000_000_000_000_001);
-    check(rt, &belief(rt, engine, net, down), walked as u64);
+    check(rt, &belief(rt, engine, net, pair), walked as u64);
     Ok(())
 }
 
@@ -268,9 +263,9 @@ fn beliefs_are_as_walked(rt: HostRuntime) -> Result<(), Fail> {
     let net = network(alloc)?;
     let tree = tree(&rt, alloc, &net)?;
     let mut engine = weighed::<SumProd>(&rt, alloc, &net, &tree)?;
-    compare(&rt, alloc, &mut engine, &net, 2)?;
-    compare(&rt, alloc, &mut engine, &net, 0)?;
-    compare(&rt, alloc, &mut engine, &net, 1)?;
+    compare(&rt, alloc, &mut engine, &net, C_UP)?;
+    compare(&rt, alloc, &mut engine, &net, A_UP)?;
+    compare(&rt, alloc, &mut engine, &net, B_UP)?;
     Ok(())
 }
 
