@@ -245,14 +245,30 @@ fn only_stale_messages_are_made(rt: HostRuntime) -> Result<(), Fail> {
     let net = network(alloc)?;
     let tree = tree(&rt, alloc, &net)?;
     let mut engine = weighed::<SumProd>(&rt, alloc, &net, &tree)?;
-    check(&rt, &belief(&rt, &mut engine, &net, C_UP), 415_000_000_000_000_000);
+    check(
+        &rt,
+        &belief(&rt, &mut engine, &net, C_UP),
+        415_000_000_000_000_000,
+    );
     assert_eq!(rt; engine.computed(), 2);
-    check(&rt, &belief(&rt, &mut engine, &net, C_UP), 415_000_000_000_000_000);
+    check(
+        &rt,
+        &belief(&rt, &mut engine, &net, C_UP),
+        415_000_000_000_000_000,
+    );
     assert_eq!(rt; engine.computed(), 2);
     multiply(&rt, &mut engine, &net);
-    check(&rt, &belief(&rt, &mut engine, &net, C_UP), 985_000_000_000_000_000);
+    check(
+        &rt,
+        &belief(&rt, &mut engine, &net, C_UP),
+        985_000_000_000_000_000,
+    );
     assert_eq!(rt; engine.computed(), 3);
-    check(&rt, &belief(&rt, &mut engine, &net, B_UP), 1_050_000_000_000_000_000);
+    check(
+        &rt,
+        &belief(&rt, &mut engine, &net, B_UP),
+        1_050_000_000_000_000_000,
+    );
     assert_eq!(rt; engine.computed(), 4);
     Ok(())
 }
@@ -275,9 +291,21 @@ fn minima_of_what_is_known(rt: HostRuntime) -> Result<(), Fail> {
     let net = network(alloc)?;
     let tree = tree(&rt, alloc, &net)?;
     let mut engine = weighed::<MinProd>(&rt, alloc, &net, &tree)?;
-    check(&rt, &belief(&rt, &mut engine, &net, B_UP), 30_000_000_000_000_000);
+    check(
+        &rt,
+        &belief(&rt, &mut engine, &net, B_UP),
+        30_000_000_000_000_000,
+    );
     know(&rt, &mut engine, &net, C_UP);
-    check(&rt, &belief(&rt, &mut engine, &net, B_UP), 120_000_000_000_000_000);
-    check(&rt, &belief(&rt, &mut engine, &net, A_UP), 20_000_000_000_000_000);
+    check(
+        &rt,
+        &belief(&rt, &mut engine, &net, B_UP),
+        120_000_000_000_000_000,
+    );
+    check(
+        &rt,
+        &belief(&rt, &mut engine, &net, A_UP),
+        20_000_000_000_000_000,
+    );
     Ok(())
 }
