@@ -155,7 +155,7 @@ module _ (plus : ℕ → ℕ → ℕ) (old : MarkedFlow) (marks_of : AreMarksOf 
       belief_of =
           let tree_is : IsTreeOf m.network m.tree = subst (λ (t : GivenTree). IsTreeOf m.network t) h.tree_is h.placed.shape_is.tree_is in
           let within = grade_within m.tree (placing_of m) tree_is c (length m.factors) (subst (λ (t : GivenTree). IsClique t c) h.tree_is at_c)
-              (length-map m.factors (λ f. record { clique = factor_home m.network m.tree f; factor = f })) in
+          (length-map m.factors (λ f. record { clique = factor_home m.network m.tree f; factor = f })) in
           record {
             value = subst (encloses r) (ap (λ (n : Meaning). exact_belief plus n event) (meaning_same m)) reading.enclosed;
             grade = grade_more r (reading_grade m.tree (placing_of m) c) (length m.factors + max_grade) reading.grade within;

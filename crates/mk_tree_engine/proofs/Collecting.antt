@@ -133,9 +133,10 @@ module _ (plus : ℕ → ℕ → ℕ) (c : ℕ) (old : MarkedFlow) where
 
           leads_k : (a b : ℕ) → eqb a k ≡ true → (done a ≡ false) × (leads_towards tree c a b ≡ eqb b n)
           leads_k a b t =
-              let f : a ≡ k = eqb-true a k t in
-              (ap done f ∙ undone,
-              ap (λ x. leads_towards tree c x b) f ∙ ap (λ x. not x && eqb (next_on_way tree k c) b) (ne_eqb k c apart) ∙ ap (λ x. eqb x b) (sym e) ∙ eqb_sym n b)
+              let f : a ≡ k = eqb-true a k t in (
+                ap done f ∙ undone,
+                ap (λ x. leads_towards tree c x b) f ∙ ap (λ x. not x && eqb (next_on_way tree k c) b) (ne_eqb k c apart) ∙ ap (λ x. eqb x b) (sym e) ∙ eqb_sym n b,
+              )
 
           left : (a b : ℕ) → are_linked tree a b ≡ true → is_stale new a b ≡ (is_stale old a b && not (leads_towards tree c a b && more a))
           left a b l =
@@ -172,8 +173,8 @@ module _ (tree : GivenTree) (links : given.AreLinked tree) (c : ℕ) (clique : I
         let parts = and_parts (linked (link_of tree) (length tree.cliques) i k) (not (eqb i (next_on_way tree k c))) but in
         let o = stale.collects_in_order (link_of tree) (length tree.cliques) links.earlier c k i clique.first clique.last at_k.first at_k.last q.0 but in
         let l : k < i = later (hops.are_linked (link_of tree) (length tree.cliques) i k parts.0)
-            (hops.hop_linked (link_of tree) (length tree.cliques) k c links.earlier at_k.first at_k.last clique.first clique.last (λ e. q.0 (sym e)))
-            q.1 (λ e. both_ways (eqb i (next_on_way tree k c)) (not-true (eqb i (next_on_way tree k c)) parts.1) (eq-eqb i (next_on_way tree k c) e)) in
+        (hops.hop_linked (link_of tree) (length tree.cliques) k c links.earlier at_k.first at_k.last clique.first clique.last (λ e. q.0 (sym e)))
+        q.1 (λ e. both_ways (eqb i (next_on_way tree k c)) (not-true (eqb i (next_on_way tree k c)) parts.1) (eq-eqb i (next_on_way tree k c) e)) in
         and_from (ltb k i) (goes_up tree c i) (lt-ltb k i l) (up_from i o.0 (let e = o.1 in omega (arith, e, l)))
       where
         later : hops.AreLinked (link_of tree) (length tree.cliques) i k → hops.AreLinked (link_of tree) (length tree.cliques) (next_on_way tree k c) k

@@ -54,9 +54,10 @@ module _ (tree : GivenTree) where
       at None e f = absurd (cc)
       at (Some i) e f =
           let g : i + 1 ≡ k = cc in
-          let p = position-Some (holds_event event) tree.cliques i no_variables e in
-          (record { first = omega arith; last = omega (arith, p.0) },
-          ap (λ n. holds_event event (clique_at tree n)) (sym g) ∙ ap (holds_event event) (at_place i) ∙ p.1)
+          let p = position-Some (holds_event event) tree.cliques i no_variables e in (
+            record { first = omega arith; last = omega (arith, p.0) },
+            ap (λ n. holds_event event (clique_at tree n)) (sym g) ∙ ap (holds_event event) (at_place i) ∙ p.1,
+          )
 
 -- where an item passes a test, one passes a weaker test
 weaker_passes : {X : Type 0} (p q : X → Bool) (xs : List X) → ((x : X) → q x ≡ true → p x ≡ true) → list_any q xs ≡ true → position_or_len p xs < length xs

@@ -1,3 +1,4 @@
 -- What only proofs and private contracts cite.
 pub mod Marks
 pub mod Passes
+pub mod Some

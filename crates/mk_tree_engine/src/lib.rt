@@ -6,5 +6,7 @@ mod homes;
 mod laws;
 mod marks;
 mod passes;
+#[cfg(test)]
+mod tests;
 
 pub use engine::TreeEngine;

@@ -12,7 +12,7 @@ loop-passed-preserved c =
     let within : passed < length old = omega (arith, c.loop-passed-test.true, c.cliques-passed-end.ensures.count, c.requires.one_less) in
     let behind : (b : Bool) → c.is_behind.result ≡ b → is_behind tree (c.link.result) (passed + 2) clique ≡ b = λ b t. sym c.is_behind.ensures ∙ t in
     elim c.if-is_behind.branch [
-      then-is_behind w ↦
+      | then-is_behind w ↦
           subst (λ (xs : List Bool). AreMarkedDown tree clique (passed + 1) old xs) (sym (ap (λ (v : Vec Bool Global). v.items) w.down-is))
           (down_marked tree clique passed old now c.loop-passed.invariant within (subst (λ (n : ℕ). is_behind tree n (passed + 2) clique ≡ true) c.link.ensures.link (behind true w.if-is_behind.true)))
       | else-is_behind w ↦

@@ -69,7 +69,7 @@ loop-passed-preserved g c = λ old could upward.
     let down : (b : Bool) → c.goes_down.result ≡ b → goes_down c.loop-passed.flow.shape.tree clique (passed + 1) ≡ b =
     λ b t. subst (λ (s : ShapeOf). goes_down s.tree clique (passed + 1) ≡ b) c.shape-in-loop-passed.ensures (sym c.goes_down.ensures ∙ t) in
     elim c.if-goes_down.branch [
-      then-goes_down w ↦
+      | then-goes_down w ↦
           subst (λ (m : Marks). AreCollected plus clique (passed_down tree clique (passed + 1)) old (marked c.if-goes_down.flow m.up.items m.down.items)) (sym w.marks-is)
           (subst (λ (f : FlowOf). AreCollected plus clique (passed_down tree clique (passed + 1)) old (marked f w.make_towards.new.marks.up.items w.make_towards.new.marks.down.items)) (sym w.flow-is)
           (turn_step plus clique old first could upward mid passed l (c.loop-passed.invariant old could upward) (down true w.if-goes_down.true)

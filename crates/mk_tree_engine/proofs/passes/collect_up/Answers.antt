@@ -34,7 +34,7 @@ loop-passed-preserved g c =
     let up : (b : Bool) → c.goes_up.result ≡ b → goes_up c.loop-passed.flow.shape.tree clique k ≡ b =
     λ b t. subst (λ (s : ShapeOf). goes_up s.tree clique k ≡ b) c.shape-in-loop-passed.ensures (sym c.goes_up.ensures ∙ t) in
     elim c.if-goes_up.branch [
-      then-goes_up w ↦
+      | then-goes_up w ↦
           subst (λ (m : Marks). AreCollected plus clique (passed_up tree clique left) old (marked c.if-goes_up.flow m.up.items m.down.items)) (sym w.marks-is)
           (subst (λ (f : FlowOf). AreCollected plus clique (passed_up tree clique left) old (marked f w.make_towards.new.marks.up.items w.make_towards.new.marks.down.items)) (sym w.flow-is)
           (subst (λ (n : ℕ). AreCollected plus clique (passed_up tree clique n) old (marked w.make_towards.new.flow w.make_towards.new.marks.up.items w.make_towards.new.marks.down.items)) e

@@ -58,7 +58,7 @@ returns-clause-stands g c = λ m stands.
     let at_home : clique ≡ pair_home m.tree pair =
     c.event_home-clique.ensures.home ∙ ap (λ (t : GivenTree). reading_clique t c.in-Some.event) t ∙ ap (reading_clique m.tree) one in
     let moved = away inside.flow c.restrict.new.self inside.marks.up.items inside.marks.down.items c.mark_away.new.self.up.items c.mark_away.new.self.down.items
-        clique c.shape-2.result.now c.self.invariant (c.shape-2.ensures ∙ c.restrict.ensures.kept.same_shape) c.mark_away.ensures.up c.mark_away.ensures.down in
+    clique c.shape-2.result.now c.self.invariant (c.shape-2.ensures ∙ c.restrict.ensures.kept.same_shape) c.mark_away.ensures.up c.mark_away.ensures.down in
     stands_after plus old m h new (with_known pair m) clique (with_pair_in clique pair (placing_of m))
     (pair_placed m pair clique at_home) refl c.restrict.ensures.kept.same_shape (c.restrict.ensures.places (placing_of m) h.placed) moved
 
@@ -71,6 +71,6 @@ returns-clause-marks g c =
     let clique = c.event_home-clique.result in
     let t : c.tree.result.now ≡ c.args.self.now.flow.shape.tree = c.tree.ensures ∙ ap (λ (s : ShapeOf). s.tree) c.shape.ensures ∙ ap (λ (e : MarkedFlow). e.flow.shape.tree) c.self.view_is in
     let moved = away inside.flow c.restrict.new.self inside.marks.up.items inside.marks.down.items c.mark_away.new.self.up.items c.mark_away.new.self.down.items
-        clique c.shape-2.result.now c.self.invariant (c.shape-2.ensures ∙ c.restrict.ensures.kept.same_shape) c.mark_away.ensures.up c.mark_away.ensures.down in
+    clique c.shape-2.result.now c.self.invariant (c.shape-2.ensures ∙ c.restrict.ensures.kept.same_shape) c.mark_away.ensures.up c.mark_away.ensures.down in
     away_now old c.args.self.now new clique (pair_home c.args.self.now.flow.shape.tree pair) c.self.view_is
     (c.event_home-clique.ensures.home ∙ ap (λ (t : GivenTree). reading_clique t c.in-Some.event) t ∙ ap (reading_clique c.args.self.now.flow.shape.tree) one) moved

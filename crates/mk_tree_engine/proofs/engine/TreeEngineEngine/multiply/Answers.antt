@@ -27,9 +27,11 @@ times_ratio-requires g c =
     let holds : holds_event (ratio_pairs ratio) (clique_at c.tree.result.now clique) ≡ true =
     subst (λ (ps : List Pair). holds_event ps (clique_at c.tree.result.now clique) ≡ true) c.event.ensures.pairs c.event_home-clique.ensures.fits in
     let placed : IsPlacedFactor a.meaning.network c.tree.result.now (record { clique = clique; factor = RatioOf ratio }) =
-    record { clique_is = c.event_home-clique.ensures.clique; fits = (a.in_range, holds) } in
-    (placing_of a.meaning, can_place g.R.Semiring.plus_of old a.meaning h a.room,
-    subst (λ (t : GivenTree). IsPlacedFactor a.meaning.network t (record { clique = clique; factor = RatioOf ratio })) e placed)
+    record { clique_is = c.event_home-clique.ensures.clique; fits = (a.in_range, holds) } in (
+      placing_of a.meaning,
+      can_place g.R.Semiring.plus_of old a.meaning h a.room,
+      subst (λ (t : GivenTree). IsPlacedFactor a.meaning.network t (record { clique = clique; factor = RatioOf ratio })) e placed,
+    )
 
 pub invariant_of-self : goal.invariant_of-self
 invariant_of-self g c =
@@ -49,7 +51,7 @@ returns-clause-stands g c = λ m stands.
     let at_home : clique ≡ factor_home m.network m.tree (RatioOf ratio) =
     c.event_home-clique.ensures.home ∙ ap (λ (t : GivenTree). reading_clique t c.event.result) t ∙ ap (reading_clique m.tree) c.event.ensures.pairs in
     let moved = away inside.flow c.times_ratio.new.self inside.marks.up.items inside.marks.down.items c.mark_away.new.self.up.items c.mark_away.new.self.down.items
-        clique c.shape-2.result.now c.self.invariant (c.shape-2.ensures ∙ c.times_ratio.ensures.kept.same_shape) c.mark_away.ensures.up c.mark_away.ensures.down in
+    clique c.shape-2.result.now c.self.invariant (c.shape-2.ensures ∙ c.times_ratio.ensures.kept.same_shape) c.mark_away.ensures.up c.mark_away.ensures.down in
     stands_after plus old m h new (with_factor (RatioOf ratio) m) clique (with_factor_in clique (RatioOf ratio) (placing_of m))
     (factor_placed m (RatioOf ratio) clique at_home) refl c.times_ratio.ensures.kept.same_shape (c.times_ratio.ensures.places (placing_of m) h.placed) moved
 
@@ -61,6 +63,6 @@ returns-clause-marks g c = λ m stands.
     let clique = c.event_home-clique.result in
     let t : c.tree.result.now ≡ c.args.self.now.flow.shape.tree = c.tree.ensures ∙ ap (λ (s : ShapeOf). s.tree) c.shape.ensures ∙ ap (λ (e : MarkedFlow). e.flow.shape.tree) c.self.view_is in
     let moved = away inside.flow c.times_ratio.new.self inside.marks.up.items inside.marks.down.items c.mark_away.new.self.up.items c.mark_away.new.self.down.items
-        clique c.shape-2.result.now c.self.invariant (c.shape-2.ensures ∙ c.times_ratio.ensures.kept.same_shape) c.mark_away.ensures.up c.mark_away.ensures.down in
+    clique c.shape-2.result.now c.self.invariant (c.shape-2.ensures ∙ c.times_ratio.ensures.kept.same_shape) c.mark_away.ensures.up c.mark_away.ensures.down in
     away_now old c.args.self.now new clique (factor_home m.network c.args.self.now.flow.shape.tree (RatioOf ratio)) c.self.view_is
     (c.event_home-clique.ensures.home ∙ ap (λ (t : GivenTree). reading_clique t c.event.result) t ∙ ap (reading_clique c.args.self.now.flow.shape.tree) c.event.ensures.pairs) moved

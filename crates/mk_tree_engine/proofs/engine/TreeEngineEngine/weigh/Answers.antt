@@ -25,9 +25,12 @@ times_rows-requires g c =
     let e : c.tree.result.now ≡ inside.flow.shape.tree = c.tree.ensures ∙ ap (λ (s : ShapeOf). s.tree) c.shape.ensures in
     let h = stands_old g.R.Semiring.plus_of old c.args.self.now a.meaning c.self.view_is a.stands in
     let placed : IsPlacedFactor c.args.net.now c.tree.result.now (record { clique = c.family_home-clique.result; factor = RowsOf c.args.variable }) =
-    record { clique_is = c.family_home-clique.ensures.clique; fits = (a.in_range, c.family_home-clique.ensures.fits) } in
-    (placing_of a.meaning, can_place g.R.Semiring.plus_of old a.meaning h a.room, a.of_network,
-    subst (λ (t : GivenTree). IsPlacedFactor c.args.net.now t (record { clique = c.family_home-clique.result; factor = RowsOf c.args.variable })) e placed)
+    record { clique_is = c.family_home-clique.ensures.clique; fits = (a.in_range, c.family_home-clique.ensures.fits) } in (
+      placing_of a.meaning,
+      can_place g.R.Semiring.plus_of old a.meaning h a.room,
+      a.of_network,
+      subst (λ (t : GivenTree). IsPlacedFactor c.args.net.now t (record { clique = c.family_home-clique.result; factor = RowsOf c.args.variable })) e placed,
+    )
 
 pub invariant_of-self : goal.invariant_of-self
 invariant_of-self g c =
@@ -48,7 +51,7 @@ returns-clause-stands g c = λ m stands e.
     c.family_home-clique.ensures.home ∙ ap (λ (t : GivenTree). factor_home c.args.net.now t (RowsOf c.args.variable)) t
     ∙ ap (λ (n : List Variable). factor_home n m.tree (RowsOf c.args.variable)) (sym e) in
     let moved = away inside.flow c.times_rows.new.self inside.marks.up.items inside.marks.down.items c.mark_away.new.self.up.items c.mark_away.new.self.down.items
-        clique c.shape-2.result.now c.self.invariant (c.shape-2.ensures ∙ c.times_rows.ensures.kept.same_shape) c.mark_away.ensures.up c.mark_away.ensures.down in
+    clique c.shape-2.result.now c.self.invariant (c.shape-2.ensures ∙ c.times_rows.ensures.kept.same_shape) c.mark_away.ensures.up c.mark_away.ensures.down in
     stands_after plus old m h new (with_factor (RowsOf c.args.variable) m) clique (with_factor_in clique (RowsOf c.args.variable) (placing_of m))
     (factor_placed m (RowsOf c.args.variable) clique home) refl c.times_rows.ensures.kept.same_shape (c.times_rows.ensures.places (placing_of m) h.placed e) moved
 
@@ -59,6 +62,6 @@ returns-clause-marks g c =
     let clique = c.family_home-clique.result in
     let t : c.tree.result.now ≡ c.args.self.now.flow.shape.tree = c.tree.ensures ∙ ap (λ (s : ShapeOf). s.tree) c.shape.ensures ∙ ap (λ (e : MarkedFlow). e.flow.shape.tree) c.self.view_is in
     let moved = away inside.flow c.times_rows.new.self inside.marks.up.items inside.marks.down.items c.mark_away.new.self.up.items c.mark_away.new.self.down.items
-        clique c.shape-2.result.now c.self.invariant (c.shape-2.ensures ∙ c.times_rows.ensures.kept.same_shape) c.mark_away.ensures.up c.mark_away.ensures.down in
+    clique c.shape-2.result.now c.self.invariant (c.shape-2.ensures ∙ c.times_rows.ensures.kept.same_shape) c.mark_away.ensures.up c.mark_away.ensures.down in
     away_now old c.args.self.now new clique (factor_home c.args.net.now c.args.self.now.flow.shape.tree (RowsOf c.args.variable)) c.self.view_is
     (c.family_home-clique.ensures.home ∙ ap (λ (t : GivenTree). factor_home c.args.net.now t (RowsOf c.args.variable)) t) moved

@@ -1,0 +1,12 @@
+-- What tests keep of an engine.
+use Rattle.std.specs.Prelude.{◌≡◌, ℕ, List, length}
+use Rattle.mk_net.specs.Network.{Variable}
+use Rattle.mk_engine.specs.Meaning.{Meaning}
+use Rattle.mk_tree_engine.specs.Engines.{MarkedFlow, HasTree}
+
+-- it stands for a meaning of a network with so many factors
+pub record HasSome (plus : ℕ → ℕ → ℕ) (e : MarkedFlow) (network : List Variable) (count : ℕ) : Type 0 where
+  pub meaning : Meaning
+  pub stands : HasTree plus e meaning
+  pub of_network : meaning.network ≡ network
+  pub counted : length meaning.factors ≡ count
