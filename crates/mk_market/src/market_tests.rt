@@ -62,7 +62,10 @@ const ONE_TRADE_LINES: [(&str, &str); 18] = [
     ("deposit alice 1001", "refused range 1001"),
     ("withdraw alice 0", "refused range 0"),
     ("user alice", "refused exists alice"),
-    ("edit alice coin=heads to 600000", "trade 1319413953331 879609302220 at 3"),
+    (
+        "edit alice coin=heads to 600000",
+        "trade 1319413953331 879609302220 at 3",
+    ),
     ("edit alice coin=heads to 500000", "refused full 1"),
     ("user bob", "user bob at 4"),
     ("edit bob coin=heads to 600000 at 3", "refused stale 3 4"),
@@ -70,7 +73,10 @@ const ONE_TRADE_LINES: [(&str, &str); 18] = [
     ("resolve coin=heads", "resolve coin=heads at 5"),
     ("price coin=heads", "refused resolved coin"),
     ("resolve coin=tails", "refused resolved coin"),
-    ("settle", "settle at 6, alice 126..126 paid 126, bob 0..0 paid 0"),
+    (
+        "settle",
+        "settle at 6, alice 126..126 paid 126, bob 0..0 paid 0",
+    ),
     ("price coin=heads", "refused settled"),
     ("worst bobby", "refused settled"),
 ];
@@ -97,10 +103,19 @@ rows = [[700000, 300000], [100000, 900000]]
 const WEATHER_LINES: [(&str, &str); 9] = [
     ("user ann", "user ann at 1"),
     ("deposit ann 1", "deposit ann 1 at 2"),
-    ("edit ann rain=yes | season=wet to 800000", "trade 1256584717458 733007751850 at 3"),
-    ("price rain=yes | season=dry", "price 0.1000000000..0.1000000000"),
+    (
+        "edit ann rain=yes | season=wet to 800000",
+        "trade 1256584717458 733007751850 at 3",
+    ),
+    (
+        "price rain=yes | season=dry",
+        "price 0.1000000000..0.1000000000",
+    ),
     ("resolve season=dry", "resolve season=dry at 4"),
-    ("price rain=yes | season=wet", "refused impossible season=wet"),
+    (
+        "price rain=yes | season=wet",
+        "refused impossible season=wet",
+    ),
     ("price season=wet", "refused resolved season"),
     ("resolve rain=snow", "refused name rain=snow"),
     ("settle", "refused open rain"),
