@@ -20,7 +20,7 @@ abbrev pub sample_sizes : List ℕ
 sample_sizes = range_with_len 2 (max_sample - 1)
 
 -- the one whose decimals a word is
-abbrev pub size_of : List ℕ → Option ℕ
+unfoldable pub size_of : List ℕ → Option ℕ
 size_of word = find (λ n. same_text (decimal n) word) sample_sizes
 
 -- what the words ask: they are `run` and a name, or `sample` and a number
