@@ -1,2 +1,2 @@
 pub mod Sampling
-pub mod Sizes
+pub mod SampleSizes

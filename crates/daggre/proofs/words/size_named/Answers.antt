@@ -1,5 +1,5 @@
 use Rattle.std.proofs.Common.{sym, arith, rules}
-use Rattle.daggre.proofs.Sizes.{no_size, size_is}
+use Rattle.daggre.proofs.SampleSizes.{no_size, size_is}
 use Rattle.daggre.proofs.words.size_named.Goals as goal
 
 pub returns-clause-size : goal.returns-clause-size
