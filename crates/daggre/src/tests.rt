@@ -6,13 +6,12 @@ use crate::program::program;
 use crate::rows::{COIN, REFUSED, Row, SAMPLE_2, SAMPLE_12, SERVED};
 use crate::sizes::{many_cliques, many_parents, many_users, many_variables};
 use mk_io::{MemoryInputs, MemorySink, NamedFile, Status};
-use mk_make::sample;
 use std::alloc::{AllocError, Global};
 use std::process::Abort;
 use std::test::Fail;
 
 /// How many bytes a run may write.
-const ROOM: usize = 65_536;
+const ROOM: usize = 8_192;
 
 /// The text of a market file that is given in pieces.
 fn text_of(alloc: Global, pieces: &[&str]) -> Result<Vec<u8>, AllocError> {
@@ -127,50 +126,13 @@ fn other_words(rt: HostRuntime) -> Result<(), Fail> {
     Ok(())
 }
 
-/// A market of 2^200 states: its sample is counted, and a run over the same bytes ends with the same line.
+/// A market of 2^200 states: its sample is counted.
 #[test]
 fn sample_of_two_hundred(rt: HostRuntime) -> Result<(), Fail> {
-    let alloc = rt.alloc();
-    let counts = b"sample 200\nreplies 717 trades 500 refused 0\n".as_slice();
-    let counted = run(alloc, &["sample", "200"], b"", b"", 4096, (&[], &[]))?;
-    assert!(rt; counted.status == Status::Done);
-    assert!(rt; counted.out.written().starts_with(counts));
-    let last = &counted.out.written()[counts.len()..];
-    assert!(rt; last.starts_with(b"settle at 717, u1 "));
-    let bytes = sample(alloc, 200)?;
-    let (file, commands) = (bytes.file.bytes(), bytes.commands.bytes());
-    let served = run(alloc, &["run", "m.toml"], file, commands, 4096, (&[], &[]))?;
-    assert!(rt; served.status == Status::Done);
-    assert!(rt; served.out.written().starts_with(b"ready 200 100\n"));
-    assert!(rt; served.out.written().ends_with(last));
-    assert_eq!(rt;
-        served
-            .out
-            .written()
-            .iter()
-            .filter(|byte| **byte == b'\n')
-            .count(),
-        718
-    );
-    Ok(())
-}
-
-/// The market of each sample is opened.
-#[test]
-fn each_sample_opens(rt: HostRuntime) -> Result<(), Fail> {
-    let alloc = rt.alloc();
-    for size in 2..257u32 {
-        let bytes = sample(alloc, size)?;
-        let ended = run(
-            alloc,
-            &["run", "m.toml"],
-            bytes.file.bytes(),
-            b"",
-            4096,
-            (&[], &[]),
-        )?;
-        assert!(rt; ended.status == Status::Done);
-    }
+    let ended = run(rt.alloc(), &["sample", "200"], b"", b"", 4096, (&[], &[]))?;
+    let front = b"sample 200\nreplies 717 trades 500 refused 0\nsettle at 717, u1 ".as_slice();
+    assert!(rt; ended.out.written().starts_with(front));
+    assert!(rt; ended.status == Status::Done);
     Ok(())
 }
 
