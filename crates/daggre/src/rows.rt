@@ -186,8 +186,8 @@ pub const SAMPLE_12: &str =
 pub const SERVED: [Row; 21] = [
     Row {
         market: THIRTEEN_COINS,
-        commands: "price a=heads\n",
-        output: "ready 13 100\nprice 0.5000000000..0.5000000000\n",
+        commands: "",
+        output: "ready 13 100\n",
         status: Status::Done,
     },
     Row {
