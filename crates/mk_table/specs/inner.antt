@@ -3,4 +3,5 @@ pub mod Columns
 pub mod Walks
 pub mod Strides
 pub mod Parts
+pub mod Blank
 pub mod Touched

@@ -12,10 +12,10 @@ ghost use Rattle.mk_table.specs.Scopes.{LiesIn, HasEvent, HasOneEach, HasSized, 
 ghost use Rattle.mk_table.specs.Cells.{values_at, cell_in, cells_onto, cells_where};
 ghost use Rattle.mk_table.specs.Tables.{HasNumbers, HasRoom, is_untouched};
 
-use crate::blocks::{plus_at, plus_at_each};
+use crate::blank::{copy_over, fill, one, plus_of_each, plus_of_listed, times_held};
 use crate::scope::Scope;
 use crate::strides::CellList;
-use crate::times::{RATIO_SHIFT, keep_value, times_cells, times_shares, times_units};
+use crate::times::{RATIO_SHIFT, keep_value, times_shares, times_units};
 use crate::touched::{beside, either, is_untouched_by, within};
 use mk_cell::Cell;
 use mk_net::{Event, Network, NoMemory, Pair, Ratio};
@@ -26,6 +26,8 @@ use std::rc::Rc;
 
 /// A scope, and a cell for each list of values of its variables. Each cell stands for a whole number, all of them under one
 /// shift, in a number of steps that each lose at most one part in `2^63`.
+///
+/// Memory for all cells is taken at the start, and none of it is written while each cell is 1 under no shift.
 ///
 /// A ratio multiplies the cells that it does not touch by 2^40, for which the shift alone grows. So such a cell also stands,
 /// under no shift, for a number of its own, of which its number is a multiple. The table keeps one event for all its ratios:
@@ -41,14 +43,23 @@ pub struct Table<R: Semiring> {
 }
 
 impl<R: Semiring> Model for Table<R> {
+    ghost use Rattle.std.specs.Prelude.{vec_capacity};
+    ghost use Rattle.mk_table.specs.Scopes.{cells_in};
     ghost use Rattle.mk_table.specs.Tables.{TableOf};
+    ghost use Rattle.mk_table.specs.inner.Blank.{one_digits, one_exponent, filled};
     ghost use Rattle.mk_table.specs.inner.Parts.{IsTable};
 
     ghost Value = { TableOf };
 
-    ghost view = { λ t. record { scope = t.scope.value; shift = t.shift; digits = t.digits.items; exponents = t.exponents.items; touched = t.touched } };
+    ghost view = { λ t. record {
+        scope = t.scope.value;
+        shift = t.shift;
+        digits = filled one_digits (cells_in t.scope.value) t.digits.items;
+        exponents = filled one_exponent (cells_in t.scope.value) t.exponents.items;
+        touched = t.touched;
+    } };
 
-    ghost invariant = { λ t. IsTable t.scope.value t.digits.items t.exponents.items t.touched };
+    ghost invariant = { λ t. IsTable t.scope.value t.digits.items t.exponents.items (vec_capacity t.digits) (vec_capacity t.exponents) t.touched };
 }
 
 impl<R: Semiring> Table<R> {
@@ -58,13 +69,12 @@ impl<R: Semiring> Table<R> {
         ensures shift { IfOk result (λ t. t.shift ≡ 0) }
         ensures ones { IfOk result (λ t. HasNumbers t (λ c. 1) 0) }
     {
-        let one = Cell::of_whole(1, 0);
         let cells = scope.cells();
         Ok(Table {
             scope: scope.clone()?,
             shift: 0,
-            digits: vec![in alloc; one.digits; cells]?,
-            exponents: vec![in alloc; one.exponent; cells]?,
+            digits: Vec::with_capacity(alloc, cells)?,
+            exponents: Vec::with_capacity(alloc, cells)?,
             touched: None,
             semiring: PhantomData,
         })
@@ -91,9 +101,13 @@ impl<R: Semiring> Table<R> {
         requires { cell < cells_in self.now.scope }
         ensures { (f : ℕ → ℕ) (n : ℕ) → HasNumbers self.now f n → Stands self.now.shift result (f cell) n }
     {
-        Cell {
-            digits: self.digits[cell],
-            exponent: self.exponents[cell],
+        if self.digits.is_empty() {
+            one()
+        } else {
+            Cell {
+                digits: self.digits[cell],
+                exponent: self.exponents[cell],
+            }
         }
     }
 
@@ -108,6 +122,7 @@ impl<R: Semiring> Table<R> {
         ensures numbers { (f : ℕ → ℕ) (n : ℕ) → HasNumbers self.old f n
             → HasNumbers self.new (λ c. f c * share_there net.now variable (values_at self.old.scope c)) (n + 1) }
     {
+        fill(&mut self.digits, &mut self.exponents, self.scope.cells());
         times_shares(
             &mut self.digits,
             &mut self.exponents,
@@ -130,6 +145,7 @@ impl<R: Semiring> Table<R> {
     {
         let mut chosen = CellList::new();
         self.scope.cells_where(&ratio.condition, &mut chosen);
+        fill(&mut self.digits, &mut self.exponents, self.scope.cells());
         times_units(
             &mut self.digits,
             &mut self.exponents,
@@ -151,7 +167,7 @@ impl<R: Semiring> Table<R> {
         ensures numbers { (f g : ℕ → ℕ) (n p : ℕ) → HasNumbers self.old f n → HasNumbers message.now g p
             → HasNumbers self.new (λ c. f c * g (cell_in message.now.scope self.old.scope c)) (n + p + 1) }
     {
-        times_cells(
+        times_held(
             &mut self.digits,
             &mut self.exponents,
             &self.scope,
@@ -171,6 +187,7 @@ impl<R: Semiring> Table<R> {
         ensures numbers { (f : ℕ → ℕ) (n : ℕ) → HasNumbers self.old f n
             → HasNumbers self.new (λ c. if values_at self.old.scope c pair.variable == pair.value then f c else 0) n }
     {
+        fill(&mut self.digits, &mut self.exponents, self.scope.cells());
         keep_value(&mut self.digits, &mut self.exponents, &self.scope, pair);
         self.touched = beside(&self.touched, pair);
     }
@@ -182,8 +199,8 @@ impl<R: Semiring> Table<R> {
     {
         out.shift = self.shift;
         out.touched = self.touched;
-        out.digits.copy_from_slice(&self.digits);
-        out.exponents.copy_from_slice(&self.exponents);
+        copy_over(&self.digits, &mut out.digits);
+        copy_over(&self.exponents, &mut out.exponents);
     }
 
     /// Puts into each cell of a table over some of the variables the plus of the cells that have its values.
@@ -198,9 +215,10 @@ impl<R: Semiring> Table<R> {
         let mut bases = CellList::new();
         let mut offsets = CellList::new();
         self.scope.cells_onto(&out.scope, &mut bases, &mut offsets);
-        plus_at_each::<R>(
+        plus_of_each::<R>(
             &self.digits,
             &self.exponents,
+            self.scope.cells(),
             &bases,
             &offsets,
             &mut out.digits,
@@ -221,7 +239,12 @@ impl<R: Semiring> Table<R> {
             → IsOwnOf self.now.shift result (plus_over R.plus_of 0 f (cells_where self.now.scope event.now)) (n + 2 * cells_in self.now.scope) }
     {
         self.scope.cells_where(event, chosen);
-        plus_at::<R>(&self.digits, &self.exponents, 0, chosen)
+        plus_of_listed::<R>(
+            &self.digits,
+            &self.exponents,
+            self.scope.cells(),
+            chosen,
+        )
     }
 
     /// Whether no ratio touched a cell where an event holds, as the table knows: it keeps no event of touched cells, or that

@@ -1,5 +1,5 @@
 -- Tables by their parts: two arrays, and what is done to their cells.
-use Rattle.std.specs.Prelude.{◌≡◌, ℕ, ◌+◌, ◌*◌, ◌<◌, Bool, true, false, List, All, Option, length, slice_index, take, drop}
+use Rattle.std.specs.Prelude.{◌≡◌, ℕ, ◌+◌, ◌*◌, ◌<◌, ◌≤◌, ◌⊎◌, Bool, true, false, List, All, Option, length, slice_index, take, drop}
 use Rattle.mk_net.specs.declared.words.Pair.{Pair}
 use Rattle.mk_cell.specs.Cell.{AllStand, StandsAt, IsOwnAt}
 use Rattle.mk_table.specs.Scopes.{ScopeOf, cells_in}
@@ -11,9 +11,20 @@ pub record IsFull (scope : ScopeOf) (digits exponents : List ℕ) : Type 0 where
   pub as_many_digits : length digits ≡ cells_in scope
   pub as_many_exponents : length exponents ≡ cells_in scope
 
--- a table as it is kept: its arrays are full, and its scope has the variables of the event that ratios may have touched
-pub record IsTable (scope : ScopeOf) (digits exponents : List ℕ) (touched : Option (List Pair)) : Type 0 where
-  pub full : IsFull scope digits exponents
+-- nothing is written of two arrays, or each cell of both
+pub record AreBlankOrFull (cells : ℕ) (digits exponents : List ℕ) : Type 0 where
+  pub either : ((length digits ≡ 0) × (length exponents ≡ 0)) ⊎ ((length digits ≡ cells) × (length exponents ≡ cells))
+
+-- the same of arrays that have room for all cells
+pub record AreHeld (cells : ℕ) (digits exponents : List ℕ) (digits_room exponents_room : ℕ) : Type 0 where
+  pub whole : AreBlankOrFull cells digits exponents
+  pub digits_fit : cells ≤ digits_room
+  pub exponents_fit : cells ≤ exponents_room
+
+-- a table as it is kept: its arrays are blank or full, and its scope has the variables of the event that ratios may have
+-- touched
+pub record IsTable (scope : ScopeOf) (digits exponents : List ℕ) (digits_room exponents_room : ℕ) (touched : Option (List Pair)) : Type 0 where
+  pub held : AreHeld (cells_in scope) digits exponents digits_room exponents_room
   pub there : HasTouched scope touched
 
 -- each cell of two arrays stands for its number of f, and each that no ratio touched for one of its own

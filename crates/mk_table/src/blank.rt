@@ -1,0 +1,198 @@
+//! Tables of which nothing is written while each of their cells is 1.
+
+ghost use Rattle.std.specs.Prelude.{◌≡◌, ℕ, ◌+◌, ◌*◌, ◌<◌, ◌≤◌, List, All, length, replicate, slice_index, vec_capacity};
+ghost use Rattle.mk_net.specs.Bounds.{max_clique_cells};
+ghost use Rattle.mk_exact.specs.States.{plus_over};
+ghost use Rattle.mk_cell.specs.Cell.{Stands, StandsAt};
+ghost use Rattle.mk_table.specs.Scopes.{LiesIn, cells_in};
+ghost use Rattle.mk_table.specs.Cells.{cell_in};
+ghost use Rattle.mk_table.specs.inner.Blank.{one_digits, one_exponent, filled};
+ghost use Rattle.mk_table.specs.inner.Parts.{AreBlankOrFull, AreHeld, HaveRoom, IsChanged, IsTimesCell, StandListed};
+
+use crate::blocks::{plus_at, plus_at_each};
+use crate::scope::Scope;
+use crate::times::times_cells;
+use mk_cell::Cell;
+use mk_semiring::Semiring;
+
+/// The ones that are added at a time.
+const BLOCK: usize = 64;
+
+/// The cell of 1 under no shift.
+#[inline]
+pub(crate) fn one() -> Cell
+    ensures digits { result.digits ≡ one_digits }
+    ensures exponent { result.exponent ≡ one_exponent }
+{
+    Cell {
+        digits: 1 << 63,
+        exponent: (1 << 28) - 63,
+    }
+}
+
+/// Writes a one into each cell of a blank table.
+pub(crate) fn fill(digits: &mut Vec<u64>, exponents: &mut Vec<u32>, cells: usize)
+    requires { AreHeld cells digits.old.items exponents.old.items (vec_capacity digits.old) (vec_capacity exponents.old) }
+    ensures digits { digits.new.items ≡ filled one_digits cells digits.old.items }
+    ensures exponents { exponents.new.items ≡ filled one_exponent cells exponents.old.items }
+    ensures digits_room { vec_capacity digits.new ≡ vec_capacity digits.old }
+    ensures exponents_room { vec_capacity exponents.new ≡ vec_capacity exponents.old }
+{
+    let one = one();
+    append_until(digits, one.digits, cells);
+    append_until(exponents, one.exponent, cells);
+}
+
+/// Appends one value until there are so many.
+fn append_until<T: Copy>(values: &mut Vec<T>, value: T, count: usize)
+    requires { count ≤ vec_capacity values.old }
+    ensures items { values.new.items ≡ filled value count values.old.items }
+    ensures room { vec_capacity values.new ≡ vec_capacity values.old }
+{
+    for _ in values.len()..count {
+        values.push_reserved(value);
+    }
+}
+
+/// Copies an array over another, into the memory that this has.
+pub(crate) fn copy_over<T: Copy>(from: &[T], to: &mut Vec<T>)
+    requires { length from.now ≤ vec_capacity to.old }
+    ensures items { to.new.items ≡ from.now }
+    ensures room { vec_capacity to.old ≤ vec_capacity to.new }
+{
+    to.clear();
+    let _ = to.extend_from_slice(from);
+}
+
+/// Puts one cell everywhere. Where it is 1, nothing is written.
+fn put_everywhere(digits: &mut Vec<u64>, exponents: &mut Vec<u32>, cell: Cell, cells: usize)
+    requires { AreHeld cells digits.old.items exponents.old.items (vec_capacity digits.old) (vec_capacity exponents.old) }
+    ensures digits { filled one_digits cells digits.new.items ≡ replicate cells cell.digits }
+    ensures exponents { filled one_exponent cells exponents.new.items ≡ replicate cells cell.exponent }
+    ensures held { AreHeld cells digits.new.items exponents.new.items (vec_capacity digits.new) (vec_capacity exponents.new) }
+{
+    let one = one();
+    digits.clear();
+    exponents.clear();
+    if cell.digits != one.digits || cell.exponent != one.exponent {
+        append_until(digits, cell.digits, cells);
+        append_until(exponents, cell.exponent, cells);
+    }
+}
+
+/// Multiplies each cell by the cell of a message that has its values. A blank message changes nothing.
+pub(crate) fn times_held(
+    digits: &mut Vec<u64>,
+    exponents: &mut Vec<u32>,
+    scope: &Scope,
+    other_digits: &[u64],
+    other_exponents: &[u32],
+    other_scope: &Scope,
+)
+    requires lies_in { LiesIn other_scope.now scope.now }
+    requires held { AreHeld (cells_in scope.now) digits.old.items exponents.old.items (vec_capacity digits.old) (vec_capacity exponents.old) }
+    requires other { AreBlankOrFull (cells_in other_scope.now) other_digits.now other_exponents.now }
+    requires room { (k : ℕ) × HaveRoom k (filled one_digits (cells_in scope.now) digits.old.items) (filled one_exponent (cells_in scope.now) exponents.old.items) 1 }
+    requires other_room { (k : ℕ) × HaveRoom k (filled one_digits (cells_in other_scope.now) other_digits.now) (filled one_exponent (cells_in other_scope.now) other_exponents.now) 1 }
+    ensures times { IsChanged (λ c d e x y. IsTimesCell d e (slice_index (filled one_digits (cells_in other_scope.now) other_digits.now) (cell_in other_scope.now scope.now c))
+        (slice_index (filled one_exponent (cells_in other_scope.now) other_exponents.now) (cell_in other_scope.now scope.now c)) x y)
+        (λ c. c < cells_in scope.now) (filled one_digits (cells_in scope.now) digits.old.items) (filled one_exponent (cells_in scope.now) exponents.old.items)
+        (filled one_digits (cells_in scope.now) digits.new.items) (filled one_exponent (cells_in scope.now) exponents.new.items) }
+    ensures held { AreHeld (cells_in scope.now) digits.new.items exponents.new.items (vec_capacity digits.new) (vec_capacity exponents.new) }
+{
+    if other_digits.len() < other_scope.cells() {
+        return;
+    }
+    fill(digits, exponents, scope.cells());
+    times_cells(
+        digits,
+        exponents,
+        scope,
+        other_digits,
+        other_exponents,
+        other_scope,
+    );
+}
+
+/// Puts into each cell of a table the plus of the cells that lie so far from the cell's base. Of a blank table the plus is
+/// made once, and the other table is blank where it is 1.
+pub(crate) fn plus_of_each<R: Semiring>(
+    digits: &[u64],
+    exponents: &[u32],
+    cells: usize,
+    bases: &[u16],
+    offsets: &[u16],
+    out_digits: &mut Vec<u64>,
+    out_exponents: &mut Vec<u32>,
+)
+    requires few { length offsets.now ≤ max_clique_cells }
+    requires whole { AreBlankOrFull cells digits.now exponents.now }
+    requires within { (b : ℕ) → b < length bases.now → All (λ c. slice_index bases.now b + c < cells) offsets.now }
+    requires room { (k : ℕ) × HaveRoom k (filled one_digits cells digits.now) (filled one_exponent cells exponents.now) (2 * length offsets.now) }
+    requires out { AreHeld (length bases.now) out_digits.old.items out_exponents.old.items (vec_capacity out_digits.old) (vec_capacity out_exponents.old) }
+    ensures stand { (b : ℕ) → b < length bases.now → (k : ℕ) (f : ℕ → ℕ) (n : ℕ)
+        → StandListed k (filled one_digits cells digits.now) (filled one_exponent cells exponents.now) f n (slice_index bases.now b) offsets.now
+        → StandsAt k (slice_index (filled one_digits (length bases.now) out_digits.new.items) b) (slice_index (filled one_exponent (length bases.now) out_exponents.new.items) b)
+        (plus_over R.plus_of 0 (λ c. f (slice_index bases.now b + c)) offsets.now) (n + 2 * length offsets.now) }
+    ensures held { AreHeld (length bases.now) out_digits.new.items out_exponents.new.items (vec_capacity out_digits.new) (vec_capacity out_exponents.new) }
+{
+    if digits.len() < cells {
+        let cell = plus_of_ones::<R>(offsets.len());
+        put_everywhere(out_digits, out_exponents, cell, bases.len());
+    } else {
+        fill(out_digits, out_exponents, bases.len());
+        plus_at_each::<R>(digits, exponents, bases, offsets, out_digits, out_exponents);
+    }
+}
+
+/// The plus of listed cells. Of a blank table no cell is read.
+pub(crate) fn plus_of_listed<R: Semiring>(
+    digits: &[u64],
+    exponents: &[u32],
+    cells: usize,
+    listed: &[u16],
+) -> Cell
+    requires few { length listed.now ≤ max_clique_cells }
+    requires whole { AreBlankOrFull cells digits.now exponents.now }
+    requires within { All (λ c. 0 + c < cells) listed.now }
+    requires room { (k : ℕ) × HaveRoom k (filled one_digits cells digits.now) (filled one_exponent cells exponents.now) (2 * length listed.now) }
+    ensures { (k : ℕ) (f : ℕ → ℕ) (n : ℕ) → StandListed k (filled one_digits cells digits.now) (filled one_exponent cells exponents.now) f n 0 listed.now
+        → Stands k result (plus_over R.plus_of 0 (λ c. f (0 + c)) listed.now) (n + 2 * length listed.now) }
+{
+    if digits.len() < cells {
+        plus_of_ones::<R>(listed.len())
+    } else {
+        plus_at::<R>(digits, exponents, 0, listed)
+    }
+}
+
+/// The plus of so many cells of 1, whatever numbers these stand for.
+fn plus_of_ones<R: Semiring>(count: usize) -> Cell
+    requires { count ≤ max_clique_cells }
+    ensures { (xs : List ℕ) → length xs ≡ count → (k : ℕ) (f : ℕ → ℕ) (n : ℕ) → All (λ c. StandsAt k one_digits one_exponent (f c) n) xs
+        → Stands k result (plus_over R.plus_of 0 f xs) (n + 2 * count) }
+{
+    if count <= BLOCK {
+        return plus_of_few::<R>(count);
+    }
+    let block = plus_of_few::<R>(BLOCK);
+    let rest = plus_of_few::<R>(count % BLOCK);
+    let blocks = count / BLOCK;
+    let mut digits = [block.digits; BLOCK + 1];
+    let mut exponents = [block.exponent; BLOCK + 1];
+    digits[blocks] = rest.digits;
+    exponents[blocks] = rest.exponent;
+    R::over(&digits[..blocks + 1], &exponents[..blocks + 1])
+}
+
+/// The plus of the ones of one block.
+fn plus_of_few<R: Semiring>(count: usize) -> Cell
+    requires { count ≤ 64 }
+    ensures { (xs : List ℕ) → length xs ≡ count → (k : ℕ) (f : ℕ → ℕ) (n : ℕ) → All (λ c. StandsAt k one_digits one_exponent (f c) n) xs
+        → Stands k result (plus_over R.plus_of 0 f xs) (n + count) }
+{
+    let one = one();
+    let digits = [one.digits; BLOCK];
+    let exponents = [one.exponent; BLOCK];
+    R::over(&digits[..count], &exponents[..count])
+}
