@@ -16,3 +16,5 @@ pub mod Onto
 pub mod Whole
 pub mod Untouched
 pub mod Owned
+pub mod Filled
+pub mod OnesSum

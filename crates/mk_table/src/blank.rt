@@ -1,9 +1,10 @@
 //! Tables of which nothing is written while each of their cells is 1.
 
-ghost use Rattle.std.specs.Prelude.{◌≡◌, ℕ, ◌+◌, ◌*◌, ◌<◌, ◌≤◌, List, All, length, replicate, slice_index, vec_capacity};
+ghost use Rattle.std.specs.Prelude.{◌≡◌, ◌==◌, ◌&&◌, ℕ, ◌+◌, ◌*◌, ◌<◌, ◌≤◌, List, All, length, replicate, slice_index, vec_len, vec_capacity};
 ghost use Rattle.mk_net.specs.Bounds.{max_clique_cells};
 ghost use Rattle.mk_exact.specs.States.{plus_over};
-ghost use Rattle.mk_cell.specs.Cell.{Stands, StandsAt};
+ghost use Rattle.mk_cell.specs.Cell.{IsCell, Stands, StandsAt};
+ghost use Rattle.mk_cell.specs.Passes.{plus_below};
 ghost use Rattle.mk_table.specs.Scopes.{LiesIn, cells_in};
 ghost use Rattle.mk_table.specs.Cells.{cell_in};
 ghost use Rattle.mk_table.specs.inner.Blank.{one_digits, one_exponent, filled};
@@ -35,6 +36,8 @@ pub(crate) fn fill(digits: &mut Vec<u64>, exponents: &mut Vec<u32>, cells: usize
     requires { AreHeld cells digits.old.items exponents.old.items (vec_capacity digits.old) (vec_capacity exponents.old) }
     ensures digits { digits.new.items ≡ filled one_digits cells digits.old.items }
     ensures exponents { exponents.new.items ≡ filled one_exponent cells exponents.old.items }
+    ensures all_digits { vec_len digits.new ≡ cells }
+    ensures all_exponents { vec_len exponents.new ≡ cells }
     ensures digits_room { vec_capacity digits.new ≡ vec_capacity digits.old }
     ensures exponents_room { vec_capacity exponents.new ≡ vec_capacity exponents.old }
 {
@@ -64,6 +67,14 @@ pub(crate) fn copy_over<T: Copy>(from: &[T], to: &mut Vec<T>)
     let _ = to.extend_from_slice(from);
 }
 
+/// Whether a cell is the cell of 1.
+fn is_one(cell: Cell) -> bool
+    ensures { result ≡ (cell.digits == one_digits && cell.exponent == one_exponent) }
+{
+    let one = one();
+    cell.digits == one.digits && cell.exponent == one.exponent
+}
+
 /// Puts one cell everywhere. Where it is 1, nothing is written.
 fn put_everywhere(digits: &mut Vec<u64>, exponents: &mut Vec<u32>, cell: Cell, cells: usize)
     requires { AreHeld cells digits.old.items exponents.old.items (vec_capacity digits.old) (vec_capacity exponents.old) }
@@ -71,13 +82,13 @@ fn put_everywhere(digits: &mut Vec<u64>, exponents: &mut Vec<u32>, cell: Cell, c
     ensures exponents { filled one_exponent cells exponents.new.items ≡ replicate cells cell.exponent }
     ensures held { AreHeld cells digits.new.items exponents.new.items (vec_capacity digits.new) (vec_capacity exponents.new) }
 {
-    let one = one();
     digits.clear();
     exponents.clear();
-    if cell.digits != one.digits || cell.exponent != one.exponent {
-        append_until(digits, cell.digits, cells);
-        append_until(exponents, cell.exponent, cells);
+    if is_one(cell) {
+        return;
     }
+    append_until(digits, cell.digits, cells);
+    append_until(exponents, cell.exponent, cells);
 }
 
 /// Multiplies each cell by the cell of a message that has its values. A blank message changes nothing.
@@ -177,7 +188,17 @@ fn plus_of_ones<R: Semiring>(count: usize) -> Cell
     }
     let block = plus_of_few::<R>(BLOCK);
     let rest = plus_of_few::<R>(count % BLOCK);
-    let blocks = count / BLOCK;
+    plus_of_blocks::<R>(block, count / BLOCK, rest)
+}
+
+/// The plus of so many equal blocks and of what is left.
+fn plus_of_blocks<R: Semiring>(block: Cell, blocks: usize, rest: Cell) -> Cell
+    requires blocks { blocks ≤ 64 }
+    requires block { IsCell block.digits block.exponent }
+    requires rest { IsCell rest.digits rest.exponent }
+    ensures { (k : ℕ) (f : ℕ → ℕ) (n : ℕ) → ((b : ℕ) → b < blocks → Stands k block (f b) n) → Stands k rest (f blocks) n
+        → Stands k result (plus_below R.plus_of (blocks + 1) f) (n + (blocks + 1)) }
+{
     let mut digits = [block.digits; BLOCK + 1];
     let mut exponents = [block.exponent; BLOCK + 1];
     digits[blocks] = rest.digits;
