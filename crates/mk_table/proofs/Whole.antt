@@ -2,10 +2,10 @@
 use Rattle.std.proofs.Common.{◌≡◌, ℕ, ◌+◌, ◌*◌, ◌/◌, ◌^◌, ◌<◌, ◌≤◌, Bool, true, false, cond, ◌==◌, List, map, length, slice_index, All, sym, ap, subst, ◌∙◌, arith, zero-add}
 use Rattle.std.proofs.Math.ListN.{get_or-map}
 use Rattle.std.proofs.Math.Path.{fun_ext}
-use Rattle.std.specs.Prelude.{Vec, Option, Some}
+use Rattle.std.specs.Prelude.{Vec, Option, Some, vec_len, vec_capacity}
 use Rattle.std.specs.Vec.{with_items}
 use Rattle.std.proofs.lemmas.Bool.{eqb-true}
-use Rattle.std.proofs.lemmas.List.{length-map, with_items_is}
+use Rattle.std.proofs.lemmas.List.{length-map}
 use Rattle.std.proofs.lemmas.List.Elements.{All-weaker}
 use Rattle.mk_net.specs.declared.words.Pair.{Pair}
 use Rattle.mk_net.specs.Asked.{TradeRatio}
@@ -20,9 +20,11 @@ use Rattle.mk_table.specs.Scopes.{ScopeOf, LiesIn, cells_in}
 use Rattle.mk_table.specs.Cells.{values_at, cell_in, cells_onto, cells_where}
 use Rattle.mk_table.specs.Tables.{TableOf, HasNumbers, touches, is_untouched_by}
 use Rattle.mk_table.specs.inner.Parts.{IsFull, IsTable, IsTimes, IsTimesCell, IsChanged, IsAmong, IsRestricted, StandListed, AreNumbers}
+use Rattle.mk_table.specs.inner.Blank.{one_digits, one_exponent, filled}
 use Rattle.mk_table.specs.inner.Touched.{HasTouched, IsEither, IsBeside, IsWithin}
 use Rattle.mk_table.proofs.Kept.{cell_within}
 use Rattle.mk_table.proofs.Blocked.{all_listed}
+use Rattle.mk_table.proofs.Filled.{at_most, filled_length, held_items, held_after}
 use Rattle.mk_table.proofs.Untouched.{touched_in, untouched_there, false_before}
 use Rattle.mk_table.proofs.Owned.{rows_are, some_are, cells_are, kept_are, own_over, own_more}
 use Rattle.mk_table.proofs.Chosen.{among_chosen, none_among, chosen_pass}
@@ -36,16 +38,22 @@ pub record AreParts (t : TableOf) (scope : ScopeOf) (shift : ℕ) (digits expone
   pub full : IsFull t.scope t.digits t.exponents
   pub there : HasTouched t.scope t.touched
 
+-- the arrays of a table, of which nothing may be written
+pub table_full : (scope : ScopeOf) (d e : List ℕ) (r s : ℕ) (touched : Option (List Pair)) → IsTable scope d e r s touched → IsFull scope (filled one_digits (cells_in scope) d) (filled one_exponent (cells_in scope) e)
+table_full scope d e r s touched h =
+    let few = at_most (cells_in scope) d e h.held.whole in
+    record { as_many_digits = filled_length one_digits (cells_in scope) d few.0; as_many_exponents = filled_length one_exponent (cells_in scope) e few.1 }
+
 -- the parts of a table whose view is v, as its code reads them
-pub parts_of : (v t : TableOf) (scope : ScopeOf) (digits exponents : List ℕ) → v ≡ t → IsTable v.scope v.digits v.exponents v.touched
+pub parts_of : (v t : TableOf) (scope : ScopeOf) (digits exponents : List ℕ) → v ≡ t → IsFull v.scope v.digits v.exponents → HasTouched v.scope v.touched
     → scope ≡ v.scope → digits ≡ v.digits → exponents ≡ v.exponents → AreParts t scope v.shift digits exponents
-parts_of v t scope digits exponents e kept s d x = record {
+parts_of v t scope digits exponents e full there s d x = record {
   scope_is = s ∙ ap (λ (u : TableOf). u.scope) e;
   shift_is = ap (λ (u : TableOf). u.shift) e;
   digits_are = d ∙ ap (λ (u : TableOf). u.digits) e;
   exponents_are = x ∙ ap (λ (u : TableOf). u.exponents) e;
-  full = subst (λ (u : TableOf). IsFull u.scope u.digits u.exponents) e kept.full;
-  there = subst (λ (u : TableOf). HasTouched u.scope u.touched) e kept.there;
+  full = subst (λ (u : TableOf). IsFull u.scope u.digits u.exponents) e full;
+  there = subst (λ (u : TableOf). HasTouched u.scope u.touched) e there;
 }
 
 -- what ratios may have touched, cell by cell
@@ -226,35 +234,53 @@ total_stands plus k q x chosen count f n few h =
     stands_with_more k q x (plus_over plus 0 f chosen) (n + 2 * length chosen) (n + 2 * count) (omega arith)
     (subst (λ (g : ℕ → ℕ). StandsAt k q x (plus_over plus 0 g chosen) (n + 2 * length chosen)) (fun_ext (λ c. ap f (zero-add c))) h)
 
--- the arrays as their vectors keep them
-numbers_items : {Y Z : Type 0} (v : Vec ℕ Y) (w : Vec ℕ Z) (nd ne : List ℕ) → length nd ≡ v.len → length ne ≡ w.len → (touched : ℕ → Bool) (k : ℕ) (f : ℕ → ℕ) (n : ℕ) → AreNumbers touched k nd ne f n
-    → AreNumbers touched k (with_items v nd).items (with_items w ne).items f n
-numbers_items v w nd ne l m touched k f n h =
-    subst (λ (ys : List ℕ). AreNumbers touched k ys (with_items w ne).items f n) (sym (with_items_is v nd l)) (subst (λ (ys : List ℕ). AreNumbers touched k nd ys f n) (sym (with_items_is w ne m)) h)
-
--- so has the table that keeps them
-pub has_after : {Y Z : Type 0} (v t : TableOf) → v ≡ t → (a : Vec ℕ Y) (b : Vec ℕ Z) (nd ne : List ℕ) → length nd ≡ a.len → length ne ≡ b.len → (touched : Option (List Pair)) (k : ℕ) (f : ℕ → ℕ) (n : ℕ)
-    → AreNumbers (touched_cells touched t.scope) k nd ne f n
-    → HasNumbers (record { scope = v.scope; shift = k; digits = (with_items a nd).items; exponents = (with_items b ne).items; touched = touched }) f n
-has_after v t e a b nd ne l m touched k f n h =
-    let i = subst (λ (s : ScopeOf). AreNumbers (touched_cells touched s) k (with_items a nd).items (with_items b ne).items f n) (sym (ap (λ (u : TableOf). u.scope) e))
-    (numbers_items a b nd ne l m (touched_cells touched t.scope) k f n h) in
+-- so has the table that has these arrays
+pub has_written : (v t : TableOf) → v ≡ t → (nd ne : List ℕ) (touched : Option (List Pair)) (k : ℕ) (f : ℕ → ℕ) (n : ℕ) → AreNumbers (touched_cells touched t.scope) k nd ne f n
+    → HasNumbers (record { scope = v.scope; shift = k; digits = nd; exponents = ne; touched = touched }) f n
+has_written v t e nd ne touched k f n h =
+    let i = subst (λ (s : ScopeOf). AreNumbers (touched_cells touched s) k nd ne f n) (sym (ap (λ (u : TableOf). u.scope) e)) h in
     record { stand = i.stand; own = i.own }
 
+-- two vectors that were filled, and then written by a call
+pub record AreWritten (cells digits_len exponents_len : ℕ) (nd ne : List ℕ) : Type 0 where
+  pub digits : length nd ≡ digits_len
+  pub exponents : length ne ≡ exponents_len
+  pub all_digits : digits_len ≡ cells
+  pub all_exponents : exponents_len ≡ cells
+
+-- and the table that keeps them
+pub has_after : {Y Z : Type 0} (v t : TableOf) → v ≡ t → (a : Vec ℕ Y) (b : Vec ℕ Z) (nd ne : List ℕ) → AreWritten (cells_in v.scope) (vec_len a) (vec_len b) nd ne → (touched : Option (List Pair)) (k : ℕ) (f : ℕ → ℕ) (n : ℕ)
+    → AreNumbers (touched_cells touched t.scope) k nd ne f n
+    → HasNumbers (record {
+        scope = v.scope;
+        shift = k;
+        digits = filled one_digits (cells_in v.scope) (with_items a nd).items;
+        exponents = filled one_exponent (cells_in v.scope) (with_items b ne).items;
+        touched = touched;
+      }) f n
+has_after v t e a b nd ne w touched k f n h =
+    has_written v t e (filled one_digits (cells_in v.scope) (with_items a nd).items) (filled one_exponent (cells_in v.scope) (with_items b ne).items) touched k f n
+    (subst (λ (ys : List ℕ). AreNumbers (touched_cells touched t.scope) k ys (filled one_exponent (cells_in v.scope) (with_items b ne).items) f n) (sym (held_items one_digits (cells_in v.scope) a nd w.digits w.all_digits))
+    (subst (λ (ys : List ℕ). AreNumbers (touched_cells touched t.scope) k nd ys f n) (sym (held_items one_exponent (cells_in v.scope) b ne w.exponents w.all_exponents)) h))
+
 -- and one whose touched cells are as they were
-pub has_kept : {Y Z : Type 0} (v t : TableOf) → v ≡ t → (a : Vec ℕ Y) (b : Vec ℕ Z) (nd ne : List ℕ) → length nd ≡ a.len → length ne ≡ b.len → (k : ℕ) (f : ℕ → ℕ) (n : ℕ)
+pub has_kept : {Y Z : Type 0} (v t : TableOf) → v ≡ t → (a : Vec ℕ Y) (b : Vec ℕ Z) (nd ne : List ℕ) → AreWritten (cells_in v.scope) (vec_len a) (vec_len b) nd ne → (k : ℕ) (f : ℕ → ℕ) (n : ℕ)
     → AreNumbers (touched_cells t.touched t.scope) k nd ne f n
-    → HasNumbers (record { scope = v.scope; shift = k; digits = (with_items a nd).items; exponents = (with_items b ne).items; touched = v.touched }) f n
-has_kept v t e a b nd ne l m k f n h =
-    has_after v t e a b nd ne l m v.touched k f n (subst (λ (o : Option (List Pair)). AreNumbers (touched_cells o t.scope) k nd ne f n) (sym (ap (λ (u : TableOf). u.touched) e)) h)
+    → HasNumbers (record {
+        scope = v.scope;
+        shift = k;
+        digits = filled one_digits (cells_in v.scope) (with_items a nd).items;
+        exponents = filled one_exponent (cells_in v.scope) (with_items b ne).items;
+        touched = v.touched;
+      }) f n
+has_kept v t e a b nd ne w k f n h =
+    has_after v t e a b nd ne w v.touched k f n (subst (λ (o : Option (List Pair)). AreNumbers (touched_cells o t.scope) k nd ne f n) (sym (ap (λ (u : TableOf). u.touched) e)) h)
 
 -- the table that keeps the arrays that a call wrote
-pub table_after : {Y Z : Type 0} (scope : ScopeOf) (a : Vec ℕ Y) (b : Vec ℕ Z) (nd ne : List ℕ) (before after : Option (List Pair)) → IsTable scope a.items b.items before
-    → length nd ≡ a.len → length ne ≡ b.len → HasTouched scope after → IsTable scope (with_items a nd).items (with_items b ne).items after
-table_after scope a b nd ne before after h l m t = record {
-  full = record {
-    as_many_digits = ap length (with_items_is a nd l) ∙ omega (arith, l, a.ok.0, h.full.as_many_digits);
-    as_many_exponents = ap length (with_items_is b ne m) ∙ omega (arith, m, b.ok.0, h.full.as_many_exponents);
-  };
+pub table_after : {Y Z : Type 0} (scope : ScopeOf) (a : Vec ℕ Y) (b : Vec ℕ Z) (nd ne : List ℕ) (d e : List ℕ) (r s : ℕ) (before after : Option (List Pair)) → IsTable scope d e r s before
+    → AreWritten (cells_in scope) (vec_len a) (vec_len b) nd ne → vec_capacity a ≡ r → vec_capacity b ≡ s → HasTouched scope after
+    → IsTable scope (with_items a nd).items (with_items b ne).items (vec_capacity a) (vec_capacity b) after
+table_after scope a b nd ne d e r s before after h w i j t = record {
+  held = held_after (cells_in scope) a b nd ne w.digits w.exponents w.all_digits w.all_exponents (omega (arith, i, h.held.digits_fit)) (omega (arith, j, h.held.exponents_fit));
   there = t;
 }
