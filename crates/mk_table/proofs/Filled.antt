@@ -57,6 +57,13 @@ all_blank n d e h l = at h.either
     at (inl b) = b
     at (inr b) = absurd (omega (arith, b.0, l))
 
+pub not_blank : (n : ℕ) (d e : List ℕ) → AreBlankOrFull n d e → (length d ≡ 0 → ⊥) → n ≤ length d
+not_blank n d e h l = at h.either
+  where
+    at : (((length d ≡ 0) × (length e ≡ 0)) ⊎ ((length d ≡ n) × (length e ≡ n))) → n ≤ length d
+    at (inl b) = absurd (l b.0)
+    at (inr b) = omega (arith, b.0)
+
 -- all of a blank array are ones
 pub one_at : (one n c : ℕ) (xs : List ℕ) → length xs ≡ 0 → c < n → slice_index (filled one n xs) c ≡ one
 one_at one n c xs h l = ap (λ ys. slice_index ys c) (filled_none one n xs h) ∙ get_or-replicate n c one 0 l

@@ -10,10 +10,13 @@ use Rattle.mk_exact.specs.States.{plus_over}
 use Rattle.mk_cell.specs.Cell.{bias, bias-is, IsForm, IsCell, IsCut, IsRounded, StandsAt, AllStand, AreCells}
 use Rattle.mk_cell.specs.Passes.{plus_below}
 use Rattle.mk_cell.proofs.Standing.{exact_stands, times_stands}
+use Rattle.std.specs.Prelude.{None}
+use Rattle.mk_table.specs.Scopes.{ScopeOf, cells_in}
+use Rattle.mk_table.specs.Tables.{HasNumbers}
 use Rattle.mk_table.specs.inner.Blank.{one_digits, one_exponent, one_digits-is, one_exponent-is, filled}
 use Rattle.mk_table.specs.inner.Parts.{IsTimes, IsTimesCell, StandListed, block_of}
 use Rattle.mk_table.proofs.Blocked.{gathered_all}
-use Rattle.mk_table.proofs.Filled.{one_at}
+use Rattle.mk_table.proofs.Filled.{filled_length, one_at}
 
 -- ---- the cell of 1
 
@@ -57,11 +60,11 @@ rounded_whole d e p v f h l i = record {
   form = f;
   none = λ z. none_from d p l (sym i ∙ z);
   cut = λ s. record {
-      full = f.full (some_from d p (subst (λ y. 0 < y) i s));
-      fits = f.fits;
-      lower = subst (λ y. d * y ≤ v) h (omega (arith, i));
-      upper = subst (λ y. v < (d + 1) * y) h (omega (arith, i, l));
-    };
+    full = f.full (some_from d p (subst (λ y. 0 < y) i s));
+    fits = f.fits;
+    lower = subst (λ y. d * y ≤ v) h (omega (arith, i));
+    upper = subst (λ y. v < (d + 1) * y) h (omega (arith, i, l));
+  };
 }
 
 one_rounded : (d e : ℕ) → IsForm d e → IsRounded d e ((d * one_digits) * 2 ^ (e + one_exponent))
@@ -140,6 +143,22 @@ ones_listed k cells d e h t f n base offsets within a = λ i z l.
     let c = base + get_or offsets i z in
     subst (λ y. StandsAt k y one_exponent (f c) n) (one_at one_digits cells c d h (within i z l))
     (subst (λ y. StandsAt k (slice_index (filled one_digits cells d) c) y (f c) n) (one_at one_exponent cells c e t (within i z l)) (a.listed i z l))
+
+-- a table of which nothing is written
+pub ones_numbers : (scope : ScopeOf) (d e : List ℕ) → length d ≡ 0 → length e ≡ 0
+    → HasNumbers (record { scope = scope; shift = 0; digits = filled one_digits (cells_in scope) d; exponents = filled one_exponent (cells_in scope) e; touched = None }) (λ c. 1) 0
+ones_numbers scope d e h t = record {
+  stand = record { each = λ c l. at c (omega (arith, l, long)) };
+  own = λ c l o. record { own = 1; scaled = omega arith; stands = at c (omega (arith, l, long)) };
+}
+  where
+    long : length (filled one_digits (cells_in scope) d) ≡ cells_in scope
+    long = filled_length one_digits (cells_in scope) d (omega (arith, h))
+
+    at : (c : ℕ) → c < cells_in scope → StandsAt 0 (slice_index (filled one_digits (cells_in scope) d) c) (slice_index (filled one_exponent (cells_in scope) e) c) 1 0
+    at c l =
+        subst (λ y. StandsAt 0 y (slice_index (filled one_exponent (cells_in scope) e) c) 1 0) (sym (one_at one_digits (cells_in scope) c d h l))
+        (subst (λ y. StandsAt 0 one_digits y 1 0) (sym (one_at one_exponent (cells_in scope) c e t l)) one_stands)
 
 pub few_ones : (plus : ℕ → ℕ → ℕ) → Lawful plus → (xs : List ℕ) (count long k q x : ℕ) (f : ℕ → ℕ) (n : ℕ) → long ≡ count → length xs ≡ count
     → StandsAt k q x (plus_below plus long (λ i. f (slice_index xs i))) (n + long) → StandsAt k q x (plus_over plus 0 f xs) (n + count)

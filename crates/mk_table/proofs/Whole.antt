@@ -18,8 +18,8 @@ use Rattle.mk_cell.specs.Cell.{AllStand, StandsAt, IsOwnAt}
 use Rattle.mk_cell.specs.inner.Laws.{stands_with_more}
 use Rattle.mk_table.specs.Scopes.{ScopeOf, LiesIn, cells_in}
 use Rattle.mk_table.specs.Cells.{values_at, cell_in, cells_onto, cells_where}
-use Rattle.mk_table.specs.Tables.{TableOf, HasNumbers, touches, is_untouched_by}
-use Rattle.mk_table.specs.inner.Parts.{IsFull, IsTable, IsTimes, IsTimesCell, IsChanged, IsAmong, IsRestricted, StandListed, AreNumbers}
+use Rattle.mk_table.specs.Tables.{TableOf, HasNumbers, HasRoom, touches, is_untouched_by}
+use Rattle.mk_table.specs.inner.Parts.{IsFull, IsTable, HaveRoom, IsTimes, IsTimesCell, IsChanged, IsAmong, IsRestricted, StandListed, AreNumbers}
 use Rattle.mk_table.specs.inner.Blank.{one_digits, one_exponent, filled}
 use Rattle.mk_table.specs.inner.Touched.{HasTouched, IsEither, IsBeside, IsWithin}
 use Rattle.mk_table.proofs.Kept.{cell_within}
@@ -71,6 +71,19 @@ module _ (t : TableOf) (scope : ScopeOf) (shift : ℕ) (od oe : List ℕ) (are :
   pub parts_full : IsFull scope od oe
   parts_full =
       subst (λ (s : ScopeOf). IsFull s od oe) (sym are.scope_is) (subst (λ (ys : List ℕ). IsFull t.scope ys oe) (sym are.digits_are) (subst (λ (ys : List ℕ). IsFull t.scope t.digits ys) (sym are.exponents_are) are.full))
+
+  pub parts_room : (most more : ℕ) → HasRoom t most → more ≤ most → (k : ℕ) × HaveRoom k od oe more
+  parts_room most more r l = (
+    t.shift,
+    record {
+      same_length = let f = parts_full in f.as_many_exponents ∙ sym f.as_many_digits;
+      numbers = r.numbers;
+      steps = r.steps;
+      stand = subst (λ (ys : List ℕ). AllStand t.shift ys oe r.numbers r.steps) (sym are.digits_are) (subst (λ (ys : List ℕ). AllStand t.shift t.digits ys r.numbers r.steps) (sym are.exponents_are) r.has.stand);
+      few_steps = let h = r.few_steps in omega (arith, h, l);
+      small_shift = r.small_shift;
+    },
+  )
 
   pub parts_there : HasTouched scope t.touched
   parts_there = subst (λ (s : ScopeOf). HasTouched s t.touched) (sym are.scope_is) are.there
@@ -252,12 +265,12 @@ pub record AreWritten (cells digits_len exponents_len : ℕ) (nd ne : List ℕ) 
 pub has_after : {Y Z : Type 0} (v t : TableOf) → v ≡ t → (a : Vec ℕ Y) (b : Vec ℕ Z) (nd ne : List ℕ) → AreWritten (cells_in v.scope) (vec_len a) (vec_len b) nd ne → (touched : Option (List Pair)) (k : ℕ) (f : ℕ → ℕ) (n : ℕ)
     → AreNumbers (touched_cells touched t.scope) k nd ne f n
     → HasNumbers (record {
-        scope = v.scope;
-        shift = k;
-        digits = filled one_digits (cells_in v.scope) (with_items a nd).items;
-        exponents = filled one_exponent (cells_in v.scope) (with_items b ne).items;
-        touched = touched;
-      }) f n
+      scope = v.scope;
+      shift = k;
+      digits = filled one_digits (cells_in v.scope) (with_items a nd).items;
+      exponents = filled one_exponent (cells_in v.scope) (with_items b ne).items;
+      touched = touched;
+    }) f n
 has_after v t e a b nd ne w touched k f n h =
     has_written v t e (filled one_digits (cells_in v.scope) (with_items a nd).items) (filled one_exponent (cells_in v.scope) (with_items b ne).items) touched k f n
     (subst (λ (ys : List ℕ). AreNumbers (touched_cells touched t.scope) k ys (filled one_exponent (cells_in v.scope) (with_items b ne).items) f n) (sym (held_items one_digits (cells_in v.scope) a nd w.digits w.all_digits))
@@ -267,12 +280,12 @@ has_after v t e a b nd ne w touched k f n h =
 pub has_kept : {Y Z : Type 0} (v t : TableOf) → v ≡ t → (a : Vec ℕ Y) (b : Vec ℕ Z) (nd ne : List ℕ) → AreWritten (cells_in v.scope) (vec_len a) (vec_len b) nd ne → (k : ℕ) (f : ℕ → ℕ) (n : ℕ)
     → AreNumbers (touched_cells t.touched t.scope) k nd ne f n
     → HasNumbers (record {
-        scope = v.scope;
-        shift = k;
-        digits = filled one_digits (cells_in v.scope) (with_items a nd).items;
-        exponents = filled one_exponent (cells_in v.scope) (with_items b ne).items;
-        touched = v.touched;
-      }) f n
+      scope = v.scope;
+      shift = k;
+      digits = filled one_digits (cells_in v.scope) (with_items a nd).items;
+      exponents = filled one_exponent (cells_in v.scope) (with_items b ne).items;
+      touched = v.touched;
+    }) f n
 has_kept v t e a b nd ne w k f n h =
     has_after v t e a b nd ne w v.touched k f n (subst (λ (o : Option (List Pair)). AreNumbers (touched_cells o t.scope) k nd ne f n) (sym (ap (λ (u : TableOf). u.touched) e)) h)
 

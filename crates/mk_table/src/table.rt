@@ -52,11 +52,11 @@ impl<R: Semiring> Model for Table<R> {
     ghost Value = { TableOf };
 
     ghost view = { λ t. record {
-        scope = t.scope.value;
-        shift = t.shift;
-        digits = filled one_digits (cells_in t.scope.value) t.digits.items;
-        exponents = filled one_exponent (cells_in t.scope.value) t.exponents.items;
-        touched = t.touched;
+      scope = t.scope.value;
+      shift = t.shift;
+      digits = filled one_digits (cells_in t.scope.value) t.digits.items;
+      exponents = filled one_exponent (cells_in t.scope.value) t.exponents.items;
+      touched = t.touched;
     } };
 
     ghost invariant = { λ t. IsTable t.scope.value t.digits.items t.exponents.items (vec_capacity t.digits) (vec_capacity t.exponents) t.touched };
@@ -239,12 +239,7 @@ impl<R: Semiring> Table<R> {
             → IsOwnOf self.now.shift result (plus_over R.plus_of 0 f (cells_where self.now.scope event.now)) (n + 2 * cells_in self.now.scope) }
     {
         self.scope.cells_where(event, chosen);
-        plus_of_listed::<R>(
-            &self.digits,
-            &self.exponents,
-            self.scope.cells(),
-            chosen,
-        )
+        plus_of_listed::<R>(&self.digits, &self.exponents, self.scope.cells(), chosen)
     }
 
     /// Whether no ratio touched a cell where an event holds, as the table knows: it keeps no event of touched cells, or that

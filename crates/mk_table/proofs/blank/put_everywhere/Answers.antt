@@ -48,8 +48,8 @@ pub returns-clause-held : goal.returns-clause-held
 returns-clause-held c = record {
   whole = record {
     either = inr (
-        long_with c.args.cell.digits c.args.cells c.append_until.new.values.items (filled_with c.args.cell.digits c.args.cells c.clear.new.self.items c.append_until.new.values.items c.append_until.ensures.items c.clear.ensures.items),
-        long_with c.args.cell.exponent c.args.cells c.append_until-2.new.values.items (filled_with c.args.cell.exponent c.args.cells c.clear-2.new.self.items c.append_until-2.new.values.items c.append_until-2.ensures.items c.clear-2.ensures.items),
+      long_with c.args.cell.digits c.args.cells c.append_until.new.values.items (filled_with c.args.cell.digits c.args.cells c.clear.new.self.items c.append_until.new.values.items c.append_until.ensures.items c.clear.ensures.items),
+      long_with c.args.cell.exponent c.args.cells c.append_until-2.new.values.items (filled_with c.args.cell.exponent c.args.cells c.clear-2.new.self.items c.append_until-2.new.values.items c.append_until-2.ensures.items c.clear-2.ensures.items),
     );
   };
   digits_fit = omega (arith, c.append_until.ensures.room, c.clear.ensures.capacity, c.requires.digits_fit);

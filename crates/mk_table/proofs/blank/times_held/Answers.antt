@@ -39,7 +39,7 @@ pub times_cells-requires-clause-other_room : goal.times_cells-requires-clause-ot
 times_cells-requires-clause-other_room c = (
   c.requires.other_room.0,
   full_room (cells_in c.args.other_scope.now) c.args.other_digits.now c.args.other_exponents.now c.requires.other (omega (arith, c.if-other_digits-cells.false, c.cells.ensures.cells)) c.requires.other_room.0 1
-  c.requires.other_room.1,
+      c.requires.other_room.1,
 )
 
 pub returns-clause-times : goal.returns-clause-times

@@ -8,7 +8,7 @@ use Rattle.std.specs.Prelude.{Option}
 use Rattle.mk_net.specs.declared.words.Pair.{Pair}
 use Rattle.mk_table.specs.inner.Touched.{IsWithin}
 use Rattle.mk_table.specs.inner.Blank.{one_digits, one_exponent, filled}
-use Rattle.mk_table.proofs.Whole.{table_full, parts_of, parts_numbers, parts_full, onto_within, touched_cells, margin_numbers, has_written}
+use Rattle.mk_table.proofs.Whole.{table_full, parts_of, parts_room, parts_numbers, parts_full, onto_within, touched_cells, margin_numbers, has_written}
 use Rattle.mk_table.proofs.Filled.{at_most, filled_length}
 use Rattle.mk_table.proofs.table.Table.margin_into.Goals as goal
 
@@ -20,6 +20,16 @@ plus_of_each-requires-clause-within g c = λ b l.
     rw (c.deref-6.ensures.0, c.deref-7.ensures.0) (c.cells_onto.ensures.onto b (omega (arith, long, c.cells_onto.ensures.bases))) in
     let count : c.cells.result ≡ cells_in whole = c.cells.ensures.cells ∙ ap cells_in (c.deref-5.ensures ∙ sym c.deref.ensures) in
     rw count (onto_within part whole (slice_index c.deref-6.result.now b) c.deref-7.result.now b e)
+
+pub plus_of_each-requires-clause-room : goal.plus_of_each-requires-clause-room
+plus_of_each-requires-clause-room g c =
+    let parts = parts_of _ c.args.self.now c.deref.result.now (filled one_digits c.cells.result c.deref-3.result.now) (filled one_exponent c.cells.result c.deref-4.result.now)
+    c.self.view_is (table_full _ _ _ _ _ _ c.self.invariant) c.self.invariant.there c.deref.ensures
+    (ap (λ k. filled one_digits k c.deref-3.result.now) (c.cells.ensures.cells ∙ ap cells_in c.deref-5.ensures) ∙ ap (filled one_digits (cells_in c.self.inside.scope.value)) c.deref-3.ensures.value)
+    (ap (λ k. filled one_exponent k c.deref-4.result.now) (c.cells.ensures.cells ∙ ap cells_in c.deref-5.ensures) ∙ ap (filled one_exponent (cells_in c.self.inside.scope.value)) c.deref-4.ensures.value) in
+    let few : length c.deref-7.result.now ≤ cells_in c.args.self.now.scope =
+    let e = ap (λ (ys : List ℕ). length ys) c.deref-7.ensures.0 in let s = ap (λ (s : ScopeOf). cells_in s) parts.scope_is in omega (arith, e, s, c.cells_onto.ensures.few) in
+    parts_room _ _ _ _ _ parts (2 * cells_in c.args.self.now.scope) (2 * length c.deref-7.result.now) c.requires.room (omega (arith, few))
 
 pub returns-clause-numbers : goal.returns-clause-numbers
 returns-clause-numbers g c = λ f n h.

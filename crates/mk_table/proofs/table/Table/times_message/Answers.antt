@@ -8,8 +8,21 @@ use Rattle.mk_table.specs.inner.Blank.{one_digits, one_exponent, filled}
 use Rattle.mk_table.specs.inner.Parts.{AreNumbers}
 use Rattle.mk_table.proofs.Untouched.{larger_touched}
 use Rattle.mk_table.specs.inner.Touched.{IsEither}
-use Rattle.mk_table.proofs.Whole.{table_full, parts_of, touched_cells, message_numbers, has_written}
+use Rattle.mk_table.proofs.Whole.{table_full, parts_of, parts_room, touched_cells, message_numbers, has_written}
 use Rattle.mk_table.proofs.table.Table.times_message.Goals as goal
+
+pub times_held-requires-clause-room : goal.times_held-requires-clause-room
+times_held-requires-clause-room g c =
+    let parts = parts_of _ c.args.self.now c.deref.result.now _ _ c.self.view_is (table_full _ _ _ _ _ _ c.self.invariant) c.self.invariant.there c.deref.ensures
+    (ap (λ (s : ScopeOf). filled one_digits (cells_in s) c.self.inside.digits.items) c.deref.ensures) (ap (λ (s : ScopeOf). filled one_exponent (cells_in s) c.self.inside.exponents.items) c.deref.ensures) in
+    parts_room _ _ _ _ _ parts 1 1 c.requires.room (omega arith)
+
+pub times_held-requires-clause-other_room : goal.times_held-requires-clause-other_room
+times_held-requires-clause-other_room g c =
+    let others = parts_of _ c.args.message.now c.deref-4.result.now _ _ c.message.view_is (table_full _ _ _ _ _ _ c.message.invariant) c.message.invariant.there c.deref-4.ensures
+    (ap (λ (s : ScopeOf). filled one_digits (cells_in s) c.deref-2.result.now) c.deref-4.ensures ∙ ap (filled one_digits (cells_in c.message.inside.scope.value)) c.deref-2.ensures.value)
+    (ap (λ (s : ScopeOf). filled one_exponent (cells_in s) c.deref-3.result.now) c.deref-4.ensures ∙ ap (filled one_exponent (cells_in c.message.inside.scope.value)) c.deref-3.ensures.value) in
+    parts_room _ _ _ _ _ others 1 1 c.requires.message_room (omega arith)
 
 pub returns-clause-numbers : goal.returns-clause-numbers
 returns-clause-numbers g c = λ f h n p has other.

@@ -6,7 +6,7 @@ use Rattle.mk_table.specs.Cells.{cells_where}
 use Rattle.mk_table.specs.inner.Parts.{StandListed}
 use Rattle.mk_table.specs.inner.Blank.{one_digits, one_exponent, filled}
 use Rattle.mk_table.proofs.Blocked.{all_listed}
-use Rattle.mk_table.proofs.Whole.{table_full, parts_of, parts_numbers, parts_full, where_within, total_stands, total_own}
+use Rattle.mk_table.proofs.Whole.{table_full, parts_of, parts_room, parts_numbers, parts_full, where_within, total_stands, total_own}
 use Rattle.mk_table.proofs.table.Table.total.Goals as goal
 
 pub plus_of_listed-requires-clause-within : goal.plus_of_listed-requires-clause-within
@@ -15,6 +15,16 @@ plus_of_listed-requires-clause-within g c =
     let chosen : c.deref-5.result.now ≡ cells_where scope c.args.event.now = c.deref-5.ensures.0 ∙ c.cells_where.ensures.cells in
     let count : c.cells.result ≡ cells_in scope = c.cells.ensures.cells ∙ ap cells_in (c.deref-4.ensures ∙ sym c.deref.ensures) in
     rw (chosen, count) (where_within scope c.args.event.now)
+
+pub plus_of_listed-requires-clause-room : goal.plus_of_listed-requires-clause-room
+plus_of_listed-requires-clause-room g c =
+    let parts = parts_of _ c.args.self.now c.deref.result.now (filled one_digits c.cells.result c.deref-2.result.now) (filled one_exponent c.cells.result c.deref-3.result.now)
+    c.self.view_is (table_full _ _ _ _ _ _ c.self.invariant) c.self.invariant.there c.deref.ensures
+    (ap (λ k. filled one_digits k c.deref-2.result.now) (c.cells.ensures.cells ∙ ap cells_in c.deref-4.ensures) ∙ ap (filled one_digits (cells_in c.self.inside.scope.value)) c.deref-2.ensures.value)
+    (ap (λ k. filled one_exponent k c.deref-3.result.now) (c.cells.ensures.cells ∙ ap cells_in c.deref-4.ensures) ∙ ap (filled one_exponent (cells_in c.self.inside.scope.value)) c.deref-3.ensures.value) in
+    let few : length c.deref-5.result.now ≤ cells_in c.args.self.now.scope =
+    let e = ap (λ (ys : List ℕ). length ys) c.deref-5.ensures.0 in let s = ap (λ (s : ScopeOf). cells_in s) parts.scope_is in omega (arith, e, s, c.cells_where.ensures.few) in
+    parts_room _ _ _ _ _ parts (2 * cells_in c.args.self.now.scope) (2 * length c.deref-5.result.now) c.requires.room (omega (arith, few))
 
 pub returns-clause-stands : goal.returns-clause-stands
 returns-clause-stands g c = λ f n h.
