@@ -2,14 +2,15 @@
 #![tactic(auto)]
 
 mod blocks;
+mod part;
 mod picked;
 mod scope;
 mod strides;
 mod table;
 mod times;
 mod touched;
-mod walk;
 
+pub use part::Places;
 pub use scope::Scope;
 pub use strides::CellList;
 pub use table::Table;
