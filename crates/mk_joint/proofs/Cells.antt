@@ -19,7 +19,7 @@ use Rattle.mk_sums.proofs.Tables.{cells_nest}
 use Rattle.mk_table.specs.Scopes.{ScopeOf, size_in, cells_in, scope_of, has_variable, HasSized}
 use Rattle.mk_table.specs.Cells.{values_at}
 use Rattle.mk_table.proofs.Members.{size_of_map}
-use Rattle.mk_table.proofs.Places.{cells_same, place_same}
+use Rattle.mk_table.proofs.Values.{cells_same, place_same}
 use Rattle.mk_joint.specs.inner.Joints.{whole_scope, joint_states}
 
 listed_range : (a n x : ℕ) → a ≤ x → x < a + n → listed (range_with_len a n) x ≡ true

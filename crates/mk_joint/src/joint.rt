@@ -66,7 +66,7 @@ impl<R: Semiring> Engine<R> for JointEngine<R> {
     }
 
     fn multiply(&mut self, ratio: &Ratio) {
-        self.table.times_ratio(ratio);
+        self.table.times_ratio(ratio, &mut self.chosen);
         self.factors += 1;
     }
 

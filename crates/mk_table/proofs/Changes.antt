@@ -87,16 +87,58 @@ module _ (R : ℕ → ℕ → ℕ → ℕ → ℕ → Type 0) where
           at (inl j) = inr (sym p.2 ∙ ap (slice_index chosen) j ∙ sym is)
           at (inr j) = inl (p.0, omega (arith, p.1, j), p.2)
 
+-- the same cells, changed as Q says where that is what R says
+pub changed_as : (Q R : ℕ → ℕ → ℕ → ℕ → ℕ → Type 0) (reached : ℕ → Type 0) (od oe d e : List ℕ) → ((c a b x y : ℕ) → reached c → Q c a b x y → R c a b x y) → IsChanged Q reached od oe d e → IsChanged R reached od oe d e
+changed_as Q R reached od oe d e f h = record {
+  as_many_digits = h.as_many_digits;
+  as_many_exponents = h.as_many_exponents;
+  done = λ c p. f c _ _ _ _ p (h.done c p);
+  digits_left = h.digits_left;
+  exponents_left = h.exponents_left;
+}
+
+-- where as many are reached
+pub changed_where : (R : ℕ → ℕ → ℕ → ℕ → ℕ → Type 0) (before after : ℕ → Type 0) (od oe d e : List ℕ) → ((c : ℕ) → after c → before c) → ((c : ℕ) → before c → after c) → IsChanged R before od oe d e → IsChanged R after od oe d e
+changed_where R before after od oe d e back forth h = record {
+  as_many_digits = h.as_many_digits;
+  as_many_exponents = h.as_many_exponents;
+  done = λ c p. h.done c (back c p);
+  digits_left = λ c p. h.digits_left c (λ b. p (forth c b));
+  exponents_left = λ c p. h.exponents_left c (λ b. p (forth c b));
+}
+
+-- some cells after others
+pub changed_then : (R : ℕ → ℕ → ℕ → ℕ → ℕ → Type 0) (before then after : ℕ → Type 0) (od oe d e nd ne : List ℕ) → ((c : ℕ) → after c → before c ⊎ then c) → ((c : ℕ) → before c → after c)
+    → ((c : ℕ) → then c → after c) → ((c : ℕ) → then c → before c → ⊥) → IsChanged R before od oe d e → IsChanged R then d e nd ne → IsChanged R after od oe nd ne
+changed_then R before then after od oe d e nd ne splits keeps adds apart h k = record {
+  as_many_digits = k.as_many_digits ∙ h.as_many_digits;
+  as_many_exponents = k.as_many_exponents ∙ h.as_many_exponents;
+  done = λ c p. at c (splits c p);
+  digits_left = λ c p. k.digits_left c (λ t. p (adds c t)) ∙ h.digits_left c (λ b. p (keeps c b));
+  exponents_left = λ c p. k.exponents_left c (λ t. p (adds c t)) ∙ h.exponents_left c (λ b. p (keeps c b));
+}
+  where
+    at : (c : ℕ) → before c ⊎ then c → R c (slice_index od c) (slice_index oe c) (slice_index nd c) (slice_index ne c)
+    at c (inl b) =
+        subst (λ y. R c (slice_index od c) (slice_index oe c) y (slice_index ne c)) (sym (k.digits_left c (λ t. apart c t b)))
+        (subst (λ y. R c (slice_index od c) (slice_index oe c) (slice_index d c) y) (sym (k.exponents_left c (λ t. apart c t b))) (h.done c b))
+    at c (inr t) =
+        subst (λ y. R c y (slice_index oe c) (slice_index nd c) (slice_index ne c)) (h.digits_left c (apart c t))
+        (subst (λ y. R c (slice_index d c) y (slice_index nd c) (slice_index ne c)) (h.exponents_left c (apart c t)) (k.done c t))
+
 -- ---- what leaves room for a product
 
 -- a cell that was not reached
+pub cell_left : (R : ℕ → ℕ → ℕ → ℕ → ℕ → Type 0) (reached : ℕ → Type 0) (od oe d e : List ℕ) (c : ℕ) → IsChanged R reached od oe d e → (reached c → ⊥)
+    → IsCell (slice_index od c) (slice_index oe c) → IsCell (slice_index d c) (slice_index e c)
+cell_left R reached od oe d e c h new made =
+    subst (λ y. IsCell y (slice_index e c)) (sym (h.digits_left c new)) (subst (λ y. IsCell (slice_index od c) y) (sym (h.exponents_left c new)) made)
+
 pub left_cell : (R : ℕ → ℕ → ℕ → ℕ → ℕ → Type 0) (reached : ℕ → Type 0) (od oe d e : List ℕ) (k more c : ℕ) → HaveRoom k od oe more → IsChanged R reached od oe d e
     → (reached c → ⊥) → c < length od → IsCell (slice_index d c) (slice_index e c)
 left_cell R reached od oe d e k more c room h new l =
     let f = room.few_steps in
-    subst (λ y. IsCell y (slice_index e c)) (sym (h.digits_left c new))
-    (subst (λ y. IsCell (slice_index od c) y) (sym (h.exponents_left c new))
-    (has_room k (slice_index od c) (slice_index oe c) (room.numbers c) room.steps room.small_shift (omega arith) (room.stand.each c l)))
+    cell_left R reached od oe d e c h new (has_room k (slice_index od c) (slice_index oe c) (room.numbers c) room.steps room.small_shift (omega arith) (room.stand.each c l))
 
 pub whole_cell : (shift digits exponent n : ℕ) → shift < 2 ^ 25 → StandsAt shift digits exponent n 0 → IsCell digits exponent
 whole_cell shift digits exponent n l s = has_room shift digits exponent n 0 l (omega arith) s

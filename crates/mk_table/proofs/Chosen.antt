@@ -57,11 +57,14 @@ chosen_below p n k l = (chosen_pass p n k 0 l).1
 pub none_among : (p : ℕ → Bool) (n c : ℕ) → p c ≡ false → IsAmong (filter p (numbers_below n)) (length (filter p (numbers_below n))) c → ⊥
 none_among p n c e k = both_ways (p c) e (subst (λ y. p y ≡ true) k.2 (chosen_pass p n k.0 0 k.1).0)
 
+-- each is below the next
+pub chosen_rising : (p : ℕ → Bool) (n : ℕ) → Rising (filter p (numbers_below n))
+chosen_rising p n = subst (λ (ys : List ℕ). Rising ys) (keep_is_filter p (numbers_below n)) (keep_rising p 0 n)
+
 -- no number comes twice
 pub chosen_apart : (p : ℕ → Bool) (n k i : ℕ) → k < i → i < length (filter p (numbers_below n)) → slice_index (filter p (numbers_below n)) k ≡ slice_index (filter p (numbers_below n)) i → ⊥
 chosen_apart p n k i l m e =
-    let r : Rising (filter p (numbers_below n)) = subst (λ (ys : List ℕ). Rising ys) (keep_is_filter p (numbers_below n)) (keep_rising p 0 n) in
-    let b = rising_at (filter p (numbers_below n)) r k i l m in
+    let b = rising_at (filter p (numbers_below n)) (chosen_rising p n) k i l m in
     omega (arith, b, e)
 
 pub chosen_few : (p : ℕ → Bool) (n : ℕ) → length (filter p (numbers_below n)) ≤ n

@@ -14,7 +14,7 @@ use Rattle.mk_sums.specs.Sums.{upd, listed}
 use Rattle.mk_sums.specs.Cells.{cells, place, Apart}
 use Rattle.mk_table.specs.inner.Strides.{repeated, cells_with}
 use Rattle.mk_table.proofs.Members.{range_more}
-use Rattle.mk_table.proofs.Places.{place_other}
+use Rattle.mk_table.proofs.Values.{place_other}
 
 -- ---- numbers in rows of k
 

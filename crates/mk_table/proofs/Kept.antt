@@ -1,23 +1,20 @@
 -- What a kept scope answers.
-use Rattle.std.proofs.Common.{◌≡◌, ℕ, ◌+◌, ◌*◌, ◌<◌, ◌≤◌, true, List, [], ◌∷◌, ◌++◌, length, get_or, drop, slice_index, All, refl, ap, ◌∙◌, subst, arith, length-append}
-use Rattle.std.proofs.lemmas.List.{get_or_read, drop_all, get_or_append_left, get_or_push, length_push}
+use Rattle.std.proofs.Common.{◌≡◌, ℕ, ◌+◌, ◌<◌, true, List, [], ◌∷◌, ◌++◌, length, get_or, slice_index, All, refl, ◌∙◌, subst, arith, length-append}
+use Rattle.std.proofs.lemmas.List.{get_or_read, get_or_append_left, get_or_push, length_push}
 use Rattle.std.proofs.lemmas.List.Elements.{All-weaker}
 use Rattle.mk_net.specs.declared.words.Pair.{Pair}
 use Rattle.mk_net.specs.Asked.{TradeRatio, ratio_pairs}
-use Rattle.mk_net.specs.Bounds.{max_clique_cells}
 use Rattle.mk_net.specs.Network.{Variable, sizes}
-use Rattle.mk_sums.specs.Cells.{cells, cell_of}
 use Rattle.mk_sums.proofs.Tables.{cell_below}
-use Rattle.mk_table.specs.Scopes.{ScopeOf, IsScope, LiesIn, HasEvent, HasOneEach, HasSized, has_variable, size_in, cells_in}
+use Rattle.mk_table.specs.Scopes.{ScopeOf, LiesIn, HasEvent, HasOneEach, HasSized, has_variable, size_in, cells_in}
 use Rattle.mk_table.specs.Cells.{values_at, cell_in}
 use Rattle.mk_table.specs.inner.Columns.{IsColumn, IsKept}
-use Rattle.mk_table.proofs.Places.{place_below, cell_step, cell_so_far, listed_at}
-use Rattle.mk_table.proofs.Members.{size_at, size_pos}
+use Rattle.mk_table.proofs.Values.{place_below}
 
 -- the column of a variable of the scope
-pub column_at : (kept scope : ScopeOf) (count run : ℕ) (starts columns : List ℕ) → IsKept kept count run starts columns → kept ≡ scope
+pub column_at : (kept scope : ScopeOf) (count : ℕ) (starts columns : List ℕ) → IsKept kept count starts columns → kept ≡ scope
     → (x c : ℕ) → has_variable scope x ≡ true → c < cells_in scope → IsColumn (size_in scope) scope.variables starts columns x c
-column_at kept scope count run starts columns h e x c =
+column_at kept scope count starts columns h e x c =
     subst (λ (s : ScopeOf). has_variable s x ≡ true → c < cells_in s → IsColumn (size_in s) s.variables starts columns x c) e (h.have x c)
 
 -- the value of a cell of another scope is one of the variable's
@@ -29,57 +26,6 @@ value_in part whole lies c h x p =
 
 pub cell_within : (part whole : ScopeOf) → LiesIn part whole → (c : ℕ) → c < cells_in whole → cell_in part whole c < cells_in part
 cell_within part whole lies c h = cell_below (size_in part) part.variables (values_at whole c) (value_in part whole lies c h)
-
--- the number of a cell so far
-abbrev pub IsSoFar : ScopeOf → ScopeOf → ℕ → ℕ → ℕ → Type 0
-IsSoFar part whole c i n =
-    n * cells (size_in part) (drop i part.variables) + cell_of (size_in part) (drop i part.variables) (values_at whole c) ≡ cell_in part whole c
-
--- what one variable more does to it
-pub record IsStep (kept part whole : ScopeOf) (c i n : ℕ) : Type 0 where
-  pub there : has_variable whole (get_or kept.variables i 0) ≡ true
-  pub small : n * get_or kept.sizes i 0 + values_at whole c (get_or kept.variables i 0) < max_clique_cells
-  pub next : IsSoFar part whole c (i + 1) (n * get_or kept.sizes i 0 + values_at whole c (get_or kept.variables i 0))
-
-module _ (part whole : ScopeOf) (is : IsScope part) (lies : LiesIn part whole) (c : ℕ) (h : c < cells_in whole) where
-  so_far_step : (i n : ℕ) → i < length part.variables → IsSoFar part whole c i n
-      → IsSoFar part whole c (i + 1) (n * get_or part.sizes i 0 + values_at whole c (get_or part.variables i 0))
-  so_far_step i n p e =
-      subst (λ k. IsSoFar part whole c (i + 1) (n * k + values_at whole c (get_or part.variables i 0))) (size_at part is i p)
-      (cell_step (size_in part) (values_at whole c) part.variables i 0 n (cell_in part whole c) p e)
-
-  so_far_small : (i n : ℕ) → IsSoFar part whole c i n → n < max_clique_cells
-  so_far_small i n e =
-      let l = cell_so_far (size_in part) (values_at whole c) (drop i part.variables) n (cell_in part whole c) (λ x p. size_pos part is x) e in
-      let b = cell_within part whole lies c h in
-      let f = is.few_cells in
-      omega (arith, l, b, f)
-
-  step : (i n : ℕ) → i < length part.variables → IsSoFar part whole c i n → IsStep part part whole c i n
-  step i n p e =
-      let k = so_far_step i n p e in
-      record { there = (lies (get_or part.variables i 0) (listed_at part.variables i 0 p)).0; small = so_far_small (i + 1) _ k; next = k }
-
-pub step_of : (kept part whole : ScopeOf) → IsScope kept → kept ≡ part → LiesIn part whole → (c : ℕ) → c < cells_in whole
-    → (i n : ℕ) → i < length kept.variables → IsSoFar part whole c i n → IsStep kept part whole c i n
-step_of kept part whole is e lies c h i n p =
-    subst (λ (s : ScopeOf). LiesIn s whole → IsSoFar s whole c i n → IsStep kept s whole c i n) e (λ l f. step kept whole is l c h i n p f) lies
-
--- with what the code read
-pub step_read : (kept part whole : ScopeOf) (c i n size x value : ℕ) → length kept.sizes ≡ length kept.variables → i < length kept.variables → IsStep kept part whole c i n
-    → size ≡ get_or kept.sizes i size → x ≡ get_or kept.variables i x → value ≡ values_at whole c x
-    → (n * size + value < max_clique_cells) × IsSoFar part whole c (i + 1) (n * size + value)
-step_read kept part whole c i n size x value same l s p q r =
-    let m : size ≡ get_or kept.sizes i 0 = get_or_read kept.sizes i size (omega arith) p 0 in
-    let y : x ≡ get_or kept.variables i 0 = get_or_read kept.variables i x l q 0 in
-    let v : value ≡ values_at whole c (get_or kept.variables i 0) = r ∙ ap (values_at whole c) y in
-    rw (m, v) (s.small, s.next)
-
-pub so_far_all : (kept part whole : ScopeOf) → kept ≡ part → (c i n : ℕ) → length kept.variables ≤ i → IsSoFar part whole c i n → n ≡ cell_in part whole c
-so_far_all kept part whole k c i n p e =
-    let f = subst (λ (ys : List ℕ). n * cells (size_in part) ys + cell_of (size_in part) ys (values_at whole c) ≡ cell_in part whole c)
-    (drop_all i part.variables (subst (λ (s : ScopeOf). length s.variables ≤ i) k p)) e in
-    omega (arith, f)
 
 -- what was read from a column
 pub column_read : (columns : List ℕ) (start at c value read : ℕ) → at ≡ start → start + c < length columns → get_or columns (start + c) 0 ≡ value

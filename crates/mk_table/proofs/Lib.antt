@@ -1,11 +1,10 @@
-pub mod Places
+pub mod Values
 pub mod Members
 pub mod Kept
 pub mod Writing
 pub mod Opened
 pub mod Rows
 pub mod Examples
-pub mod Runs
 pub mod Changes
 pub mod Chosen
 pub mod Blocked
@@ -13,6 +12,7 @@ pub mod Doubled
 pub mod Pinned
 pub mod Listed
 pub mod Onto
+pub mod Placed
 pub mod Whole
 pub mod Untouched
 pub mod Owned

@@ -13,7 +13,7 @@ use Rattle.mk_table.specs.Scopes.{ScopeOf, IsScope, HasEvent, size_in, cells_in}
 use Rattle.mk_table.specs.Cells.{values_at, cells_where}
 use Rattle.mk_table.specs.inner.Strides.{repeated, cells_with, lets, values_let, values_moved, is_moved}
 use Rattle.mk_table.proofs.Members.{size_at, size_pos, rising_apart}
-use Rattle.mk_table.proofs.Places.{cells_pos, cells_split}
+use Rattle.mk_table.proofs.Values.{cells_pos, cells_split}
 use Rattle.mk_table.proofs.Chosen.{chosen_few, chosen_pass}
 use Rattle.mk_table.proofs.Doubled.{AreValues, cells_with_below, cells_with_few, with_tests, filter_all}
 use Rattle.mk_table.proofs.Pinned.{holds_by_values}

@@ -17,7 +17,7 @@ use Rattle.mk_table.specs.Scopes.{ScopeOf, IsScope, Rising, LiesIn, size_in, cel
 use Rattle.mk_table.specs.Cells.{values_at, cell_in, cells_onto}
 use Rattle.mk_table.specs.inner.Strides.{repeated, cells_with, values_moved}
 use Rattle.mk_table.proofs.Members.{rising_apart}
-use Rattle.mk_table.proofs.Places.{place_below, some_cells, cells_same}
+use Rattle.mk_table.proofs.Values.{place_below, some_cells, cells_same}
 use Rattle.mk_table.proofs.Doubled.{below_rows, rows_filter, repeated_first, repeated_value, place_in_row, first_value, filter_all, filter_below}
 
 map_range : (f g : ℕ → ℕ) (a n : ℕ) → ((c : ℕ) → a ≤ c → c < a + n → f c ≡ g c) → map f (range_with_len a n) ≡ map g (range_with_len a n)

@@ -1,5 +1,5 @@
 -- The scope of a set of a network's variables.
-use Rattle.std.proofs.Common.{drop, ◌≡◌, ℕ, ◌+◌, ◌<◌, ◌≤◌, true, List, length, slice_index, All, sym, ◌∙◌, arith}
+use Rattle.std.proofs.Common.{◌≡◌, ℕ, ◌+◌, ◌<◌, ◌≤◌, true, List, length, slice_index, All, sym, ◌∙◌, arith}
 use Rattle.std.proofs.lemmas.List.{length-map}
 use Rattle.std.proofs.lemmas.List.Elements.{All-weaker, All-map}
 use Rattle.mk_net.specs.declared.sets.VarSet.{VarSet}
@@ -10,9 +10,9 @@ use Rattle.mk_sums.specs.Sums.{listed}
 use Rattle.mk_sums.specs.Cells.{keep, cells}
 use Rattle.mk_sums.specs.Joint.{variables}
 use Rattle.mk_table.specs.Scopes.{IsScope, Rising, scope_of, size_in, cells_in}
-use Rattle.mk_table.specs.inner.Columns.{HaveColumns, IsRun, IsKept}
+use Rattle.mk_table.specs.inner.Columns.{HaveColumns, IsKept}
 use Rattle.mk_table.proofs.Members.{keep_below, keep_rising, keep_few, size_of_map}
-use Rattle.mk_table.proofs.Places.{cells_same, place_same, listed_drop}
+use Rattle.mk_table.proofs.Values.{cells_same, place_same}
 use Rattle.mk_table.proofs.Writing.{two_values_at}
 
 module _ (network : List Variable) (net : IsNetwork network) (set : VarSet) where
@@ -45,12 +45,11 @@ module _ (network : List Variable) (net : IsNetwork network) (set : VarSet) wher
     few_cells = few;
   }
 
-  pub kept_of : cells_in (scope_of network set) ≤ max_clique_cells → (count run : ℕ) (starts columns : List ℕ) → count ≡ cells (slice_index (sizes network)) held
-      → IsRun (slice_index (sizes network)) held run → HaveColumns (slice_index (sizes network)) held held starts columns → IsKept (scope_of network set) count run starts columns
-  kept_of few count run starts columns e is_run have = record {
+  pub kept_of : cells_in (scope_of network set) ≤ max_clique_cells → (count : ℕ) (starts columns : List ℕ) → count ≡ cells (slice_index (sizes network)) held
+      → HaveColumns (slice_index (sizes network)) held held starts columns → IsKept (scope_of network set) count starts columns
+  kept_of few count starts columns e have = record {
     scope_is = scope_is few;
     counted = e ∙ sym cells_are;
-    runs = record { from = is_run.from; counted = is_run.counted ∙ sym (cells_same (size_in (scope_of network set)) (slice_index (sizes network)) (drop is_run.from held) (λ x p. same_size x (listed_drop held is_run.from x p))); some = is_run.some; few = is_run.few };
     have = at;
   }
     where

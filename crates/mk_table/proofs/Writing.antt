@@ -12,8 +12,8 @@ use Rattle.mk_exact.specs.States.{numbers_below}
 use Rattle.mk_exact.proofs.Positive.{size_at, few_values_at}
 use Rattle.mk_sums.specs.Sums.{listed}
 use Rattle.mk_sums.specs.Cells.{cells, Apart}
-use Rattle.mk_table.specs.inner.Columns.{IsColumn, HaveColumns, IsRun}
-use Rattle.mk_table.proofs.Places.{cells_pos, place_at, listed_at, listed_drop}
+use Rattle.mk_table.specs.inner.Columns.{IsColumn, HaveColumns}
+use Rattle.mk_table.proofs.Values.{cells_pos, place_at, listed_at, listed_drop}
 
 pub listed_all : (P : ℕ → Type 0) (xs : List ℕ) → All P xs → (x : ℕ) → listed xs x ≡ true → P x
 listed_all P [] h x p = absurd (both_ways false refl p)
@@ -146,9 +146,3 @@ column_more before f n = append_assoc before (map f (numbers_below n)) (f n ∷ 
 
 pub column_long : (before : List ℕ) (f : ℕ → ℕ) (n : ℕ) → length (before ++ map f (numbers_below n)) ≡ length before + n
 column_long before f n = length-append before (map f (numbers_below n)) ∙ ap (λ k. length before + k) (length-map-range_with_len f 0 n)
-
--- a run that begins at some place of the list
-pub run_at : (size : ℕ → ℕ) (xs : List ℕ) → ((x : ℕ) → listed xs x ≡ true → (2 ≤ size x) × (size x ≤ 16)) → (i run : ℕ) → run ≡ cells size (drop i xs) → run ≤ 64 → IsRun size xs run
-run_at size xs bounds i run e few =
-    let p = cells_pos size (drop i xs) (λ x q. let l = (bounds x (listed_drop xs i x q)).0 in omega arith) in
-    record { from = i; counted = e; some = omega (arith, p); few = few }

@@ -15,6 +15,11 @@ pub record ScopeOf : Type 0 where
   pub variables : List ℕ
   pub sizes : List ℕ
 
+-- a whole, and a part of it whose cells are looked for there
+pub record PlacesOf : Type 0 where
+  pub whole : ScopeOf
+  pub part : ScopeOf
+
 -- each variable is below the next
 abbrev pub Rising : List ℕ → Type 0
 Rising [] = ⊤

@@ -1,6 +1,5 @@
 -- What only proofs and private contracts cite.
 pub mod Columns
-pub mod Walks
 pub mod Strides
 pub mod Parts
 pub mod Blank

@@ -11,7 +11,7 @@ ghost use Rattle.mk_table.specs.inner.Blank.{one_digits, one_exponent, filled};
 ghost use Rattle.mk_table.specs.inner.Parts.{AreBlankOrFull, AreHeld, HaveRoom, IsChanged, IsTimesCell, StandListed};
 
 use crate::blocks::{plus_at, plus_at_each};
-use crate::scope::Scope;
+use crate::part::Places;
 use crate::times::times_cells;
 use mk_cell::Cell;
 use mk_semiring::Semiring;
@@ -95,34 +95,26 @@ fn put_everywhere(digits: &mut Vec<u64>, exponents: &mut Vec<u32>, cell: Cell, c
 pub(crate) fn times_held(
     digits: &mut Vec<u64>,
     exponents: &mut Vec<u32>,
-    scope: &Scope,
+    places: &Places,
     other_digits: &[u64],
     other_exponents: &[u32],
-    other_scope: &Scope,
 )
-    requires lies_in { LiesIn other_scope.now scope.now }
-    requires held { AreHeld (cells_in scope.now) digits.old.items exponents.old.items (vec_capacity digits.old) (vec_capacity exponents.old) }
-    requires other { AreBlankOrFull (cells_in other_scope.now) other_digits.now other_exponents.now }
-    requires room { (k : ℕ) × HaveRoom k (filled one_digits (cells_in scope.now) digits.old.items) (filled one_exponent (cells_in scope.now) exponents.old.items) 1 }
-    requires other_room { (k : ℕ) × HaveRoom k (filled one_digits (cells_in other_scope.now) other_digits.now) (filled one_exponent (cells_in other_scope.now) other_exponents.now) 1 }
-    ensures times { IsChanged (λ c d e x y. IsTimesCell d e (slice_index (filled one_digits (cells_in other_scope.now) other_digits.now) (cell_in other_scope.now scope.now c))
-        (slice_index (filled one_exponent (cells_in other_scope.now) other_exponents.now) (cell_in other_scope.now scope.now c)) x y)
-        (λ c. c < cells_in scope.now) (filled one_digits (cells_in scope.now) digits.old.items) (filled one_exponent (cells_in scope.now) exponents.old.items)
-        (filled one_digits (cells_in scope.now) digits.new.items) (filled one_exponent (cells_in scope.now) exponents.new.items) }
-    ensures held { AreHeld (cells_in scope.now) digits.new.items exponents.new.items (vec_capacity digits.new) (vec_capacity exponents.new) }
+    requires held { AreHeld (cells_in places.now.whole) digits.old.items exponents.old.items (vec_capacity digits.old) (vec_capacity exponents.old) }
+    requires other { AreBlankOrFull (cells_in places.now.part) other_digits.now other_exponents.now }
+    requires room { (k : ℕ) × HaveRoom k (filled one_digits (cells_in places.now.whole) digits.old.items) (filled one_exponent (cells_in places.now.whole) exponents.old.items) 1 }
+    requires other_room { (k : ℕ) × HaveRoom k (filled one_digits (cells_in places.now.part) other_digits.now) (filled one_exponent (cells_in places.now.part) other_exponents.now) 1 }
+    ensures changed { IsChanged (λ c d e x y. IsTimesCell d e (slice_index (filled one_digits (cells_in places.now.part) other_digits.now) (cell_in places.now.part places.now.whole c))
+        (slice_index (filled one_exponent (cells_in places.now.part) other_exponents.now) (cell_in places.now.part places.now.whole c)) x y)
+        (λ c. c < cells_in places.now.whole) (filled one_digits (cells_in places.now.whole) digits.old.items) (filled one_exponent (cells_in places.now.whole) exponents.old.items)
+        (filled one_digits (cells_in places.now.whole) digits.new.items) (filled one_exponent (cells_in places.now.whole) exponents.new.items) }
+    ensures held { AreHeld (cells_in places.now.whole) digits.new.items exponents.new.items (vec_capacity digits.new) (vec_capacity exponents.new) }
+    ensures lies_in { LiesIn places.now.part places.now.whole }
 {
-    if other_digits.len() < other_scope.cells() {
+    if other_digits.len() < places.part_cells() {
         return;
     }
-    fill(digits, exponents, scope.cells());
-    times_cells(
-        digits,
-        exponents,
-        scope,
-        other_digits,
-        other_exponents,
-        other_scope,
-    );
+    fill(digits, exponents, places.whole_cells());
+    times_cells(digits, exponents, places, other_digits, other_exponents);
 }
 
 /// Puts into each cell of a table the plus of the cells that lie so far from the cell's base. Of a blank table the plus is

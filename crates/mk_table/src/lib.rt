@@ -3,14 +3,15 @@
 
 mod blank;
 mod blocks;
+mod part;
 mod picked;
 mod scope;
 mod strides;
 mod table;
 mod times;
 mod touched;
-mod walk;
 
+pub use part::Places;
 pub use scope::Scope;
 pub use strides::CellList;
 pub use table::Table;

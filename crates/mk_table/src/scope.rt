@@ -8,17 +8,14 @@ ghost use Rattle.mk_sums.specs.Cells.{keep, cells};
 ghost use Rattle.mk_sums.specs.Joint.{variables};
 ghost use Rattle.mk_exact.specs.States.{numbers_below};
 ghost use Rattle.mk_table.specs.Scopes.{IsScope, LiesIn, Rising, scope_of, size_in, cells_in, has_variable, HasEvent};
-ghost use Rattle.mk_table.specs.Cells.{values_at, cell_in, cells_where, cells_onto};
-ghost use Rattle.mk_table.specs.inner.Columns.{HaveColumns, IsRun};
+ghost use Rattle.mk_table.specs.Cells.{values_at, cells_where, cells_onto};
+ghost use Rattle.mk_table.specs.inner.Columns.{HaveColumns};
 ghost use Rattle.mk_table.specs.inner.Strides.{cells_with, values_moved};
 
 use crate::strides::{CellList, begin, is_moved, take_moved, take_values};
 use mk_net::{Event, Network, NoMemory, VarSet};
 use std::alloc::Global;
 use std::marker::Model;
-
-/// The most cells of a run.
-pub(crate) const MAX_RUN: usize = 64;
 
 /// Some variables in rising order, with their numbers of values. A cell of a table over the scope is a value of each;
 /// cells are counted with the last variable's value changing fastest.
@@ -27,7 +24,6 @@ pub struct Scope {
     variables: Vec<u32>,
     sizes: Vec<u32>,
     cells: usize,
-    run: usize,
     starts: Vec<u32>,
     columns: Vec<u8>,
 }
@@ -40,7 +36,7 @@ impl Model for Scope {
 
     ghost view = { λ s. record { variables = s.variables.items; sizes = s.sizes.items } };
 
-    ghost invariant = { λ s. IsKept (record { variables = s.variables.items; sizes = s.sizes.items }) s.cells s.run s.starts.items s.columns.items };
+    ghost invariant = { λ s. IsKept (record { variables = s.variables.items; sizes = s.sizes.items }) s.cells s.starts.items s.columns.items };
 }
 
 impl Scope {
@@ -54,7 +50,6 @@ impl Scope {
         let variables = members(alloc, net, set)?;
         let sizes = sizes_of(alloc, net, &variables)?;
         let cells = cells_of(net, &variables);
-        let run = run_of(net, &variables, cells);
         let mut starts = vec![in alloc; 0; count as usize]?;
         let mut columns = Vec::new(alloc);
         lay_out(net, &variables, cells, &mut starts, &mut columns)?;
@@ -62,7 +57,6 @@ impl Scope {
             variables,
             sizes,
             cells,
-            run,
             starts,
             columns,
         })
@@ -126,14 +120,6 @@ impl Scope {
         }
     }
 
-    /// The cells of the last variables: as many as make at most `MAX_RUN`.
-    pub(crate) fn run(&self) -> usize
-        ensures run { IsRun (size_in self.now) self.now.variables result }
-        ensures scope { IsScope self.now }
-    {
-        self.run
-    }
-
     /// Whether the scope has a variable.
     pub(crate) fn has(&self, variable: u32) -> bool
         ensures { result ≡ has_variable self.now variable }
@@ -150,21 +136,6 @@ impl Scope {
     {
         let start = self.starts[variable as usize] as usize;
         self.columns[start + cell] as u32
-    }
-
-    /// The cell of this scope that has the values of a cell of another.
-    #[inline]
-    pub(crate) fn cell_in(&self, whole: &Scope, cell: usize) -> usize
-        requires lies_in { LiesIn self.now whole.now }
-        requires cell { cell < cells_in whole.now }
-        ensures cell { result ≡ cell_in self.now whole.now cell }
-        ensures within { result < cells_in self.now }
-    {
-        let mut place = 0;
-        for i in 0..self.variables.len() {
-            place = place * self.sizes[i] as usize + whole.value(cell, self.variables[i]) as usize;
-        }
-        place
     }
 }
 
@@ -205,23 +176,6 @@ fn cells_of(net: &Network, variables: &[u32]) -> usize
         cells *= net.values(*variable) as usize;
     }
     cells
-}
-
-/// The cells of the last variables: as many as make at most `MAX_RUN`.
-fn run_of(net: &Network, variables: &[u32], count: usize) -> usize
-    requires of_network { All (λ x. x < length net.now) variables.now }
-    requires cells { count ≡ cells (slice_index (sizes net.now)) variables.now }
-    ensures { IsRun (slice_index (sizes net.now)) variables.now result }
-{
-    let _ = net.variables();
-    let mut run = count;
-    for variable in variables {
-        if run <= MAX_RUN {
-            return run;
-        }
-        run /= net.values(*variable) as usize;
-    }
-    run
 }
 
 /// Writes the column of each variable, and where it starts.

@@ -8,11 +8,12 @@ ghost use Rattle.mk_net.specs.Trades.{trade_ratio};
 ghost use Rattle.mk_exact.specs.States.{plus_over};
 ghost use Rattle.mk_sums.specs.There.{share_there, ratio_there};
 ghost use Rattle.mk_cell.specs.Cell.{Stands, IsOwnOf};
-ghost use Rattle.mk_table.specs.Scopes.{LiesIn, HasEvent, HasOneEach, HasSized, cells_in, has_variable};
+ghost use Rattle.mk_table.specs.Scopes.{HasEvent, HasOneEach, HasSized, cells_in, has_variable};
 ghost use Rattle.mk_table.specs.Cells.{values_at, cell_in, cells_onto, cells_where};
 ghost use Rattle.mk_table.specs.Tables.{HasNumbers, HasRoom, is_untouched};
 
 use crate::blank::{copy_over, fill, one, plus_of_each, plus_of_listed, times_held};
+use crate::part::Places;
 use crate::scope::Scope;
 use crate::strides::CellList;
 use crate::times::{RATIO_SHIFT, keep_value, times_shares, times_units};
@@ -133,8 +134,9 @@ impl<R: Semiring> Table<R> {
     }
 
     /// Multiplies each cell by the units of a trade there: the number for the value of the ratio's variable where its
-    /// condition holds, and 2^40 elsewhere, for which the shift alone grows.
-    pub fn times_ratio(&mut self, ratio: &Ratio)
+    /// condition holds, and 2^40 elsewhere, for which the shift alone grows. The list is where the cells of the condition are
+    /// written.
+    pub fn times_ratio(&mut self, ratio: &Ratio, chosen: &mut CellList)
         requires event { HasEvent self.old.scope (ratio_pairs (trade_ratio ratio.now)) }
         requires one_each { HasOneEach self.old.scope (trade_ratio ratio.now) }
         requires room { HasRoom self.old 1 }
@@ -143,23 +145,22 @@ impl<R: Semiring> Table<R> {
         ensures numbers { (f : ℕ → ℕ) (n : ℕ) → HasNumbers self.old f n
             → HasNumbers self.new (λ c. f c * ratio_there (trade_ratio ratio.now) (values_at self.old.scope c)) (n + 1) }
     {
-        let mut chosen = CellList::new();
-        self.scope.cells_where(&ratio.condition, &mut chosen);
+        self.scope.cells_where(&ratio.condition, chosen);
         fill(&mut self.digits, &mut self.exponents, self.scope.cells());
         times_units(
             &mut self.digits,
             &mut self.exponents,
             &self.scope,
             ratio,
-            &chosen,
+            chosen,
         );
         self.shift += RATIO_SHIFT;
         self.touched = either(&self.touched, &Some(ratio.condition));
     }
 
     /// Multiplies each cell by the message's cell that has its values.
-    pub fn times_message(&mut self, message: &Table<R>)
-        requires lies_in { LiesIn message.now.scope self.old.scope }
+    pub fn times_message(&mut self, places: &Places, message: &Table<R>)
+        requires places { places.now ≡ record { whole = self.old.scope; part = message.now.scope } }
         requires room { HasRoom self.old 1 }
         requires message_room { HasRoom message.now 1 }
         ensures scope { self.new.scope ≡ self.old.scope }
@@ -170,10 +171,9 @@ impl<R: Semiring> Table<R> {
         times_held(
             &mut self.digits,
             &mut self.exponents,
-            &self.scope,
+            places,
             &message.digits,
             &message.exponents,
-            &message.scope,
         );
         self.shift += message.shift;
         self.touched = either(&self.touched, &message.touched);
@@ -204,23 +204,21 @@ impl<R: Semiring> Table<R> {
     }
 
     /// Puts into each cell of a table over some of the variables the plus of the cells that have its values.
-    pub fn margin_into(&self, out: &mut Table<R>)
-        requires lies_in { LiesIn out.old.scope self.now.scope }
+    pub fn margin_into(&self, places: &Places, out: &mut Table<R>)
+        requires places { places.now ≡ record { whole = self.now.scope; part = out.old.scope } }
         requires room { HasRoom self.now (2 * cells_in self.now.scope) }
         ensures scope { out.new.scope ≡ out.old.scope }
         ensures shift { out.new.shift ≡ self.now.shift }
         ensures numbers { (f : ℕ → ℕ) (n : ℕ) → HasNumbers self.now f n
             → HasNumbers out.new (λ d. plus_over R.plus_of 0 f (cells_onto out.old.scope self.now.scope d)) (n + 2 * cells_in self.now.scope) }
     {
-        let mut bases = CellList::new();
-        let mut offsets = CellList::new();
-        self.scope.cells_onto(&out.scope, &mut bases, &mut offsets);
+        let (bases, offsets) = places.lists();
         plus_of_each::<R>(
             &self.digits,
             &self.exponents,
             self.scope.cells(),
-            &bases,
-            &offsets,
+            bases,
+            offsets,
             &mut out.digits,
             &mut out.exponents,
         );

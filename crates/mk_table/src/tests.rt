@@ -8,7 +8,7 @@ ghost use Rattle.mk_net.specs.Trades.{trade_ratio};
 ghost use Rattle.mk_table.specs.Scopes.{ScopeOf, HasEvent, HasOneEach};
 ghost use Rattle.mk_table.specs.Tables.{HasRoom};
 
-use crate::{CellList, Scope, Table};
+use crate::{CellList, Places, Scope, Table};
 use arrayvec::ArrayVec;
 use mk_cell::Cell;
 use mk_net::{Draft, Event, Network, NoMemory, Pair, Ratio, VarSet, VariableDraft};
@@ -150,7 +150,7 @@ fn product<R: Semiring>(alloc: Global, net: &Network) -> Result<Table<R>, NoMemo
     message.times_rows(net, 0);
     let mut table = Table::<R>::ones(alloc, &both)?;
     table.times_rows(net, 1);
-    table.times_message(&message);
+    table.times_message(&Places::of(alloc, &both, &first)?, &message);
     let mut copy = Table::<R>::ones(alloc, &both)?;
     table.copy_into(&mut copy);
     Ok(copy)
@@ -159,14 +159,16 @@ fn product<R: Semiring>(alloc: Global, net: &Network) -> Result<Table<R>, NoMemo
 /// The margin of the second variable.
 fn margin<R: Semiring>(alloc: Global, net: &Network, table: &Table<R>) -> Result<Table<R>, NoMemory>
     requires three { length net.now ≡ 3 }
+    requires first { slice_index (sizes net.now) 0 ≡ 2 }
     requires second { slice_index (sizes net.now) 1 ≡ 3 }
     requires scope { table.now.scope ≡ record { variables = 0 ∷ 1 ∷ []; sizes = 2 ∷ 3 ∷ [] } }
     requires room { HasRoom table.now 12 }
     ensures { IfOk result (λ t. t.scope ≡ record { variables = 1 ∷ []; sizes = 3 ∷ [] }) }
 {
+    let both = both(alloc, net)?;
     let second = second(alloc, net)?;
     let mut margin = Table::<R>::ones(alloc, &second)?;
-    table.margin_into(&mut margin);
+    table.margin_into(&Places::of(alloc, &both, &second)?, &mut margin);
     Ok(margin)
 }
 
@@ -292,7 +294,7 @@ fn trade<R: Semiring>(table: &mut Table<R>, ratio: &Ratio)
     ensures shift { table.new.shift ≡ table.old.shift + 40 }
     ensures room { HasRoom table.new 2 }
 {
-    table.times_ratio(ratio);
+    table.times_ratio(ratio, &mut CellList::new());
 }
 
 fn check_table<R: Semiring>(rt: &impl Abort, table: &Table<R>, numbers: &[u64; 12], shift: u32)
@@ -347,9 +349,10 @@ fn traded<R: Semiring>(rt: &impl Abort, alloc: Global, net: &Network) -> Result<
     ensures { IfOk result (λ t. t.scope ≡ record { variables = 0 ∷ 1 ∷ 2 ∷ []; sizes = 2 ∷ 3 ∷ 2 ∷ [] }) }
 {
     let mut table = ones::<R>(alloc, net)?;
-    table.times_ratio(&each_rain(rt));
+    let mut chosen = CellList::new();
+    table.times_ratio(&each_rain(rt), &mut chosen);
     table.restrict(MIDDLE);
-    table.times_ratio(&each_heat(rt, only(rt, RAIN)));
+    table.times_ratio(&each_heat(rt, only(rt, RAIN)), &mut chosen);
     assert_eq!(rt; table.shift(), 80);
     Ok(table)
 }
@@ -385,7 +388,8 @@ fn untouched(rt: HostRuntime) -> Result<(), Fail> {
     assert!(rt; !table.is_untouched(&rain));
     assert!(rt; !table.is_untouched(&only(&rt, WARM)));
     // The pair that both conditions have is kept alone.
-    table.times_ratio(&each_heat(&rt, rain.with(HIGH).expect(&rt, "two pairs")));
+    let both = rain.with(HIGH).expect(&rt, "two pairs");
+    table.times_ratio(&each_heat(&rt, both), &mut CellList::new());
     assert!(rt; table.is_untouched(&dry));
     assert!(rt; !table.is_untouched(&only(&rt, MIDDLE)));
     // Where it is known to be dry, no cell that is left was touched.
@@ -399,7 +403,7 @@ fn untouched_after_two_conditions(rt: HostRuntime) -> Result<(), Fail> {
     let net = network(&rt, rt.alloc())?;
     let mut table = ones::<SumProd>(rt.alloc(), &net)?;
     trade(&mut table, &each_heat(&rt, only(&rt, RAIN)));
-    table.times_ratio(&each_rain(&rt));
+    table.times_ratio(&each_rain(&rt), &mut CellList::new());
     assert!(rt; !table.is_untouched(&only(&rt, DRY)));
     table.restrict(RAIN);
     assert!(rt; !table.is_untouched(&only(&rt, DRY)));

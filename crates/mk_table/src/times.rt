@@ -1,6 +1,6 @@
 //! What multiplies the cells of a table, by its two arrays.
 
-ghost use Rattle.std.specs.Prelude.{◌≡◌, ℕ, ◌+◌, ◌*◌, ◌<◌, ◌≤◌, ◌==◌, true, false, List, All, length, slice_index, slice_set};
+ghost use Rattle.std.specs.Prelude.{◌≡◌, ℕ, ◌+◌, ◌*◌, ◌<◌, ◌≤◌, ◌==◌, true, false, List, All, map, length, slice_index, slice_set};
 ghost use Rattle.mk_net.specs.Network.{sizes};
 ghost use Rattle.mk_net.specs.Named.{variable_at};
 ghost use Rattle.mk_net.specs.Asked.{ratio_pairs};
@@ -8,13 +8,13 @@ ghost use Rattle.mk_net.specs.Trades.{trade_ratio};
 ghost use Rattle.mk_exact.specs.Ratios.{units_of};
 ghost use Rattle.mk_sums.specs.There.{share_there};
 ghost use Rattle.mk_cell.specs.Cell.{IsCell, Stands};
-ghost use Rattle.mk_table.specs.Scopes.{LiesIn, HasEvent, HasOneEach, HasSized, cells_in, has_variable};
+ghost use Rattle.mk_table.specs.Scopes.{LiesIn, HasEvent, HasOneEach, HasSized, Rising, cells_in, has_variable};
 ghost use Rattle.mk_table.specs.Cells.{values_at, cell_in, cells_where};
-ghost use Rattle.mk_table.specs.inner.Parts.{IsFull, HaveRoom, IsTimes, IsTimesCell, IsChanged, IsAmong, IsRestricted};
+ghost use Rattle.mk_table.specs.inner.Parts.{IsFull, HaveRoom, IsTimes, IsTimesCell, IsChanged, IsAmong, IsRestricted, cells_at};
 
+use crate::part::Places;
 use crate::picked::{share_of, units_for};
 use crate::scope::Scope;
-use crate::walk::Walk;
 use mk_cell::Cell;
 use mk_net::{Network, Pair, Ratio};
 
@@ -91,27 +91,47 @@ pub(crate) fn times_units(
 pub(crate) fn times_cells(
     digits: &mut [u64],
     exponents: &mut [u32],
-    scope: &Scope,
+    places: &Places,
     other_digits: &[u64],
     other_exponents: &[u32],
-    other_scope: &Scope,
 )
-    requires lies_in { LiesIn other_scope.now scope.now }
-    requires full { IsFull scope.now digits.old exponents.old }
-    requires other_full { IsFull other_scope.now other_digits.now other_exponents.now }
+    requires full { IsFull places.now.whole digits.old exponents.old }
+    requires other_full { IsFull places.now.part other_digits.now other_exponents.now }
     requires room { (k : ℕ) × HaveRoom k digits.old exponents.old 1 }
     requires other_room { (k : ℕ) × HaveRoom k other_digits.now other_exponents.now 1 }
-    ensures { IsChanged (λ c d e x y. IsTimesCell d e (slice_index other_digits.now (cell_in other_scope.now scope.now c))
-        (slice_index other_exponents.now (cell_in other_scope.now scope.now c)) x y)
-        (λ c. c < cells_in scope.now) digits.old exponents.old digits.new exponents.new }
+    ensures changed { IsChanged (λ c d e x y. IsTimesCell d e (slice_index other_digits.now (cell_in places.now.part places.now.whole c))
+        (slice_index other_exponents.now (cell_in places.now.part places.now.whole c)) x y)
+        (λ c. c < cells_in places.now.whole) digits.old exponents.old digits.new exponents.new }
+    ensures lies_in { LiesIn places.now.part places.now.whole }
 {
-    let mut walk = Walk::begin(other_scope, scope);
-    for cell in 0..digits.len() {
-        let place = walk.next(other_scope, scope, cell);
+    let (bases, offsets) = places.lists();
+    for place in 0..bases.len() {
         let other = Cell {
             digits: other_digits[place],
             exponent: other_exponents[place],
         };
+        times_listed(digits, exponents, bases[place] as usize, offsets, other);
+    }
+}
+
+/// Multiplies the cells that lie so far from a base.
+fn times_listed(
+    digits: &mut [u64],
+    exponents: &mut [u32],
+    base: usize,
+    offsets: &[u16],
+    other: Cell,
+)
+    requires within { All (λ c. c < length digits.old) (cells_at base offsets.now) }
+    requires within_exponents { All (λ c. c < length exponents.old) (cells_at base offsets.now) }
+    requires rising { Rising (cells_at base offsets.now) }
+    requires cells { All (λ c. IsCell (slice_index digits.old c) (slice_index exponents.old c)) (cells_at base offsets.now) }
+    requires other { IsCell other.digits other.exponent }
+    ensures { IsChanged (λ c d e x y. IsTimesCell d e other.digits other.exponent x y)
+        (IsAmong (cells_at base offsets.now) (length offsets.now)) digits.old exponents.old digits.new exponents.new }
+{
+    for place in 0..offsets.len() {
+        let cell = base + offsets[place] as usize;
         times_at(digits, exponents, cell, other);
     }
 }

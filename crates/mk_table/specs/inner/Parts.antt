@@ -1,8 +1,9 @@
 -- Tables by their parts: two arrays, and what is done to their cells.
-use Rattle.std.specs.Prelude.{◌≡◌, ℕ, ◌+◌, ◌*◌, ◌<◌, ◌≤◌, ◌⊎◌, Bool, true, false, List, All, Option, length, slice_index, take, drop}
+use Rattle.std.specs.Prelude.{◌≡◌, ℕ, ◌+◌, ◌*◌, ◌<◌, ◌≤◌, ◌⊎◌, Bool, true, false, List, All, Option, map, length, slice_index, take, drop}
 use Rattle.mk_net.specs.declared.words.Pair.{Pair}
 use Rattle.mk_cell.specs.Cell.{AllStand, StandsAt, IsOwnAt}
-use Rattle.mk_table.specs.Scopes.{ScopeOf, cells_in}
+use Rattle.mk_table.specs.Scopes.{ScopeOf, IsScope, LiesIn, cells_in}
+use Rattle.mk_table.specs.Cells.{cells_onto}
 use Rattle.mk_table.specs.Tables.{max_steps, max_shift}
 use Rattle.mk_table.specs.inner.Touched.{HasTouched}
 
@@ -71,6 +72,18 @@ pub record IsRestricted (kept : Bool) (digits exponent new_digits new_exponent :
   pub same_exponent : kept ≡ true → new_exponent ≡ exponent
   pub no_digits : kept ≡ false → new_digits ≡ 0
   pub no_exponent : kept ≡ false → new_exponent ≡ 0
+
+-- the cells that lie so far from a base
+abbrev pub cells_at : ℕ → List ℕ → List ℕ
+cells_at base offsets = map (λ c. base + c) offsets
+
+-- a base in the whole for each cell of a part: the cells with its values lie there and so far from it
+pub record ArePlaces (part whole : ScopeOf) (bases offsets : List ℕ) : Type 0 where
+  pub is_whole : IsScope whole
+  pub lies_in : LiesIn part whole
+  pub one_each : length bases ≡ cells_in part
+  pub onto : (d : ℕ) → d < cells_in part → cells_at (slice_index bases d) offsets ≡ cells_onto part whole d
+  pub few : length offsets ≤ cells_in whole
 
 -- a block of a list of cells
 abbrev pub block_of : List ℕ → ℕ → List ℕ

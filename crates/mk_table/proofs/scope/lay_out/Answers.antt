@@ -5,7 +5,7 @@ use Rattle.mk_exact.specs.States.{numbers_below}
 use Rattle.mk_table.specs.inner.Columns.{HaveColumns}
 use Rattle.mk_table.proofs.Members.{rising_apart}
 use Rattle.mk_table.proofs.Writing.{bounds_of, next_stride, more_columns, column_long}
-use Rattle.mk_table.proofs.Places.{listed_at}
+use Rattle.mk_table.proofs.Values.{listed_at}
 use Rattle.mk_table.proofs.scope.lay_out.Goals as goal
 
 pub nonzero_div-stride : goal.nonzero_div-stride

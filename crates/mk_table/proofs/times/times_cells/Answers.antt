@@ -1,38 +1,60 @@
-use Rattle.std.proofs.Common.{◌≡◌, ◌<◌, ℕ, length, slice_index, subst, arith}
+use Rattle.std.proofs.Common.{◌≡◌, ◌<◌, length, slice_index, arith, sym, subst, All}
+use Rattle.mk_cell.specs.Cell.{IsCell}
 use Rattle.mk_table.specs.Scopes.{cells_in}
 use Rattle.mk_table.specs.Cells.{cell_in}
-use Rattle.mk_table.specs.inner.Parts.{IsTimesCell, IsChanged}
-use Rattle.mk_table.proofs.Changes.{left_cell, room_cell, written_below}
+use Rattle.mk_table.specs.inner.Parts.{IsTimesCell, cells_at}
+use Rattle.mk_table.proofs.Changes.{left_cell, room_cell, changed_where}
+use Rattle.mk_table.proofs.Kept.{cell_within}
+use Rattle.mk_table.proofs.Placed.{IsBefore, placed_each, placed_rising, message_more}
 use Rattle.mk_table.proofs.times.times_cells.Goals as goal
 
-pub times_at-requires-clause-cell : goal.times_at-requires-clause-cell
-times_at-requires-clause-cell c =
-    left_cell _ _ c.args.digits.now c.args.exponents.now c.loop-cell.digits c.loop-cell.exponents c.requires.room.0 1 c.loop-cell.cell c.requires.room.1
-    c.loop-cell.invariant.changed (λ p. omega arith) (omega (arith, c.loop-cell-test.true))
+pub times_listed-requires-clause-within : goal.times_listed-requires-clause-within
+times_listed-requires-clause-within c =
+    let d = c.loop-place.place in let part = c.args.places.now.part in let whole = c.args.places.now.whole in
+    let l : d < cells_in part = omega (arith, c.lists.ensures.one_each, c.loop-place-test.true) in
+    let long : length c.loop-place.digits ≡ cells_in whole = omega (arith, c.loop-place.invariant.as_many_digits, c.requires.full.as_many_digits) in
+    subst (λ n. All (λ k. k < n) (cells_at (slice_index c.lists.result.0.now d) c.lists.result.1.now)) (sym long)
+    (placed_each part whole c.lists.result.0.now c.lists.result.1.now c.lists.ensures d l (λ k. k < cells_in whole) (λ k m e. m))
 
-pub times_at-requires-clause-other : goal.times_at-requires-clause-other
-times_at-requires-clause-other c =
-    room_cell c.args.other_digits.now c.args.other_exponents.now c.requires.other_room.0 1 c.next-place.result c.requires.other_room.1
-    (omega (arith, c.requires.other_full.as_many_digits, c.next-place.ensures.within))
+pub times_listed-requires-clause-within_exponents : goal.times_listed-requires-clause-within_exponents
+times_listed-requires-clause-within_exponents c =
+    let d = c.loop-place.place in let part = c.args.places.now.part in let whole = c.args.places.now.whole in
+    let l : d < cells_in part = omega (arith, c.lists.ensures.one_each, c.loop-place-test.true) in
+    let long : length c.loop-place.exponents ≡ cells_in whole = omega (arith, c.loop-place.invariant.as_many_exponents, c.requires.full.as_many_exponents) in
+    subst (λ n. All (λ k. k < n) (cells_at (slice_index c.lists.result.0.now d) c.lists.result.1.now)) (sym long)
+    (placed_each part whole c.lists.result.0.now c.lists.result.1.now c.lists.ensures d l (λ k. k < cells_in whole) (λ k m e. m))
 
-pub loop-cell-preserved : goal.loop-cell-preserved
-loop-cell-preserved c =
-    let goes : ℕ → ℕ = λ i. cell_in c.args.other_scope.now c.args.scope.now i in
+pub times_listed-requires-clause-rising : goal.times_listed-requires-clause-rising
+times_listed-requires-clause-rising c =
+    let d = c.loop-place.place in let part = c.args.places.now.part in
+    let l : d < cells_in part = omega (arith, c.lists.ensures.one_each, c.loop-place-test.true) in
+    placed_rising part c.args.places.now.whole c.lists.result.0.now c.lists.result.1.now c.lists.ensures d l
+
+pub times_listed-requires-clause-cells : goal.times_listed-requires-clause-cells
+times_listed-requires-clause-cells c =
+    let d = c.loop-place.place in let part = c.args.places.now.part in let whole = c.args.places.now.whole in
+    let l : d < cells_in part = omega (arith, c.lists.ensures.one_each, c.loop-place-test.true) in
+    placed_each part whole c.lists.result.0.now c.lists.result.1.now c.lists.ensures d l (λ k. IsCell (slice_index c.loop-place.digits k) (slice_index c.loop-place.exponents k))
+    (λ k m e.
+    left_cell _ (IsBefore part whole d) c.args.digits.now c.args.exponents.now c.loop-place.digits c.loop-place.exponents c.requires.room.0 1 k c.requires.room.1 c.loop-place.invariant
+    (λ p. omega (arith, p.1, e)) (omega (arith, m, c.requires.full.as_many_digits)))
+
+pub times_listed-requires-clause-other : goal.times_listed-requires-clause-other
+times_listed-requires-clause-other c =
+    room_cell c.args.other_digits.now c.args.other_exponents.now c.requires.other_room.0 1 c.loop-place.place c.requires.other_room.1
+    (omega (arith, c.requires.other_full.as_many_digits, c.lists.ensures.one_each, c.loop-place-test.true))
+
+pub loop-place-preserved : goal.loop-place-preserved
+loop-place-preserved c =
+    let d = c.loop-place.place in let part = c.args.places.now.part in
+    let l : d < cells_in part = omega (arith, c.lists.ensures.one_each, c.loop-place-test.true) in
+    message_more part c.args.places.now.whole c.lists.result.0.now c.lists.result.1.now c.lists.ensures d l c.args.other_digits.now c.args.other_exponents.now c.args.digits.now c.args.exponents.now
+    c.loop-place.digits c.loop-place.exponents c.times_listed.new.digits c.times_listed.new.exponents c.loop-place.invariant c.times_listed.ensures
+
+pub returns-clause-changed : goal.returns-clause-changed
+returns-clause-changed c =
+    let part = c.args.places.now.part in let whole = c.args.places.now.whole in
     let m = c.args.other_digits.now in let x' = c.args.other_exponents.now in
-    let n = c.loop-cell.cell in
-    let l : n < length c.args.digits.now = omega (arith, c.loop-cell-test.true) in
-    record {
-      walk = c.next-place.ensures.at;
-      changed = written_below (λ i d e x y. IsTimesCell d e (slice_index m (goes i)) (slice_index x' (goes i)) x y) c.args.digits.now c.args.exponents.now c.loop-cell.digits c.loop-cell.exponents c.times_at.new.digits c.times_at.new.exponents n
-          l (omega (arith, l, c.requires.full.as_many_digits, c.requires.full.as_many_exponents)) c.loop-cell.invariant.changed c.times_at.ensures.digits c.times_at.ensures.exponents
-          (subst (λ i. IsTimesCell (slice_index c.loop-cell.digits n) (slice_index c.loop-cell.exponents n) (slice_index m i) (slice_index x' i) (slice_index c.times_at.new.digits n) (slice_index c.times_at.new.exponents n))
-          c.next-place.ensures.cell (record { times = c.times_at.ensures.times }));
-    }
-
-pub returns : goal.returns
-returns c =
-    let goes : ℕ → ℕ = λ i. cell_in c.args.other_scope.now c.args.scope.now i in
-    let m = c.args.other_digits.now in let x' = c.args.other_exponents.now in
-    let e : c.loop-cell.cell ≡ cells_in c.args.scope.now = omega (arith, c.requires.full.as_many_digits, c.loop-cell-test.false) in
-    subst (λ n. IsChanged (λ i d e x y. IsTimesCell d e (slice_index m (goes i)) (slice_index x' (goes i)) x y) (λ i. i < n) c.args.digits.now c.args.exponents.now c.loop-cell.digits c.loop-cell.exponents) e
-    c.loop-cell.invariant.changed
+    let all : cells_in part ≡ c.loop-place.place = omega (arith, c.lists.ensures.one_each, c.loop-place-test.false) in
+    changed_where (λ i d e x y. IsTimesCell d e (slice_index m (cell_in part whole i)) (slice_index x' (cell_in part whole i)) x y) (IsBefore part whole c.loop-place.place) (λ i. i < cells_in whole)
+    c.args.digits.now c.args.exponents.now c.loop-place.digits c.loop-place.exponents (λ i l. (l, omega (arith, all, cell_within part whole c.lists.ensures.lies_in i l))) (λ i p. p.0) c.loop-place.invariant

@@ -1,11 +1,10 @@
 -- The values that a cell gives the variables, one variable after the other.
-use Rattle.std.proofs.Common.{◌≡◌, ℕ, suc, zero, ◌+◌, ◌*◌, ◌/◌, ◌%◌, ◌<◌, ◌≤◌, Bool, true, false, cond, ◌||◌, ◌⊎◌, inl, inr, eqb, List, [], ◌∷◌, length, get_or, take, drop, refl, sym, ap, subst, ◌∙◌, arith, mul-zero, one-mul, mul_assoc, eq-eqb}
-use Rattle.std.proofs.Math.Nat.{mod-lt, mod-eq_of_lt, mul-add-mod_self_right, le-mul_of_pos_right, one-le-mul}
+use Rattle.std.proofs.Common.{◌≡◌, ℕ, suc, zero, ◌+◌, ◌*◌, ◌/◌, ◌%◌, ◌<◌, ◌≤◌, Bool, true, false, cond, ◌||◌, ◌⊎◌, inl, inr, eqb, List, [], ◌∷◌, length, get_or, take, drop, refl, sym, ap, ◌∙◌, arith, mul-zero, one-mul, mul_assoc, eq-eqb}
+use Rattle.std.proofs.Math.Nat.{mod-lt, mod-eq_of_lt, mul-add-mod_self_right, one-le-mul}
 use Rattle.std.proofs.lemmas.Nat.{div-add-mod', div_below}
 use Rattle.std.proofs.lemmas.Bool.{cases_Bool, both_ways, or_parts, or_left, or_right, eqb-true}
-use Rattle.std.proofs.lemmas.List.{drop_more}
 use Rattle.mk_sums.specs.Sums.{upd, listed}
-use Rattle.mk_sums.specs.Cells.{cells, cell_of, place, Apart}
+use Rattle.mk_sums.specs.Cells.{cells, place, Apart}
 
 pub some_cells : (n k c : ℕ) → c < n * k → 0 < k
 some_cells n zero c h = absurd (omega (arith, mul-zero n))
@@ -93,16 +92,3 @@ pub listed_drop : (xs : List ℕ) (i x : ℕ) → listed (drop i xs) x ≡ true 
 listed_drop xs zero x p = p
 listed_drop [] (suc i) x p = p
 listed_drop (y ∷ xs) (suc i) x p = or_right (eqb x y) (listed xs x) (listed_drop xs i x p)
-
--- one variable more of a cell's number
-pub cell_step : (size a : ℕ → ℕ) (xs : List ℕ) (i d n total : ℕ) → i < length xs
-    → n * cells size (drop i xs) + cell_of size (drop i xs) a ≡ total
-    → (n * size (get_or xs i d) + a (get_or xs i d)) * cells size (drop (i + 1) xs) + cell_of size (drop (i + 1) xs) a ≡ total
-cell_step size a xs i d n total h e = grouped (get_or xs i d) (drop (i + 1) xs) (subst (λ (ys : List ℕ). n * cells size ys + cell_of size ys a ≡ total) (drop_more xs i d h) e)
-  where
-    grouped : (x : ℕ) (ys : List ℕ) → n * cells size (x ∷ ys) + cell_of size (x ∷ ys) a ≡ total → (n * size x + a x) * cells size ys + cell_of size ys a ≡ total
-    grouped x ys e = omega (arith, e)
-
--- a number so far is at most the whole number
-pub cell_so_far : (size a : ℕ → ℕ) (xs : List ℕ) (n total : ℕ) → ((x : ℕ) → listed xs x ≡ true → 1 ≤ size x) → n * cells size xs + cell_of size xs a ≡ total → n ≤ total
-cell_so_far size a xs n total h e = let l : n ≤ n * cells size xs = le-mul_of_pos_right n (cells_pos size xs h) in omega arith
