@@ -1,5 +1,5 @@
 -- Cells of 1, and their plus.
-use Rattle.std.proofs.Common.{◌≡◌, ℕ, zero, suc, ◌+◌, ◌-◌, ◌*◌, ◌^◌, ◌<◌, ◌≤◌, ◌⊎◌, inl, inr, min, List, [], ◌∷◌, length, replicate, get_or, take, drop, slice_index, slice_set, All, refl, sym, ap, subst, ◌∙◌, arith, length-take-le, length-drop, get_or-set_same, get_or-set_other}
+use Rattle.std.proofs.Common.{◌≡◌, ℕ, zero, suc, ◌+◌, ◌*◌, ◌^◌, ◌<◌, ◌≤◌, ◌⊎◌, inl, inr, List, length, replicate, get_or, take, drop, slice_index, slice_set, All, refl, sym, ap, subst, ◌∙◌, arith, length-take-le, length-drop, get_or-set_same, get_or-set_other}
 use Rattle.std.proofs.Math.ListN.{length-set}
 use Rattle.std.proofs.Math.Nat.{mul_assoc}
 use Rattle.std.proofs.lemmas.Bool.{cases_eq}
@@ -7,14 +7,14 @@ use Rattle.std.proofs.lemmas.Nat.{pow-add, pow_pos}
 use Rattle.std.proofs.lemmas.List.{length-replicate, get_or-replicate, length-take, get_or-take}
 use Rattle.mk_exact.specs.Lawful.{Lawful}
 use Rattle.mk_exact.specs.States.{plus_over}
-use Rattle.mk_cell.specs.Cell.{bias, bias-is, IsForm, IsCell, IsCut, IsRounded, StandsAt, AllStand, AreCells}
+use Rattle.mk_cell.specs.Cell.{bias, bias-is, IsForm, IsCell, IsRounded, StandsAt, AllStand, AreCells}
 use Rattle.mk_cell.specs.Passes.{plus_below}
 use Rattle.mk_cell.proofs.Standing.{exact_stands, times_stands}
 use Rattle.std.specs.Prelude.{None}
 use Rattle.mk_table.specs.Scopes.{ScopeOf, cells_in}
 use Rattle.mk_table.specs.Tables.{HasNumbers}
 use Rattle.mk_table.specs.inner.Blank.{one_digits, one_exponent, one_digits-is, one_exponent-is, filled}
-use Rattle.mk_table.specs.inner.Parts.{IsTimes, IsTimesCell, StandListed, block_of}
+use Rattle.mk_table.specs.inner.Parts.{IsTimesCell, StandListed, block_of}
 use Rattle.mk_table.proofs.Blocked.{gathered_all}
 use Rattle.mk_table.proofs.Filled.{filled_length, one_at}
 

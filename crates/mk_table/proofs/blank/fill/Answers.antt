@@ -1,5 +1,4 @@
-use Rattle.std.proofs.Common.{ap, sym, ◌∙◌, length, vec_len}
-use Rattle.mk_table.specs.inner.Blank.{one_digits, one_exponent}
+use Rattle.std.proofs.Common.{ap, ◌∙◌, length}
 use Rattle.mk_table.proofs.Filled.{at_most, filled_length}
 use Rattle.mk_table.proofs.blank.fill.Goals as goal
 

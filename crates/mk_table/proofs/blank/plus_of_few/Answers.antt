@@ -1,6 +1,5 @@
-use Rattle.std.proofs.Common.{ℕ, ◌<◌, replicate, take, slice_index, arith, subst, sym}
+use Rattle.std.proofs.Common.{ℕ, ◌<◌, slice_index, arith}
 use Rattle.mk_cell.specs.Cell.{IsCell, StandsAt}
-use Rattle.mk_table.specs.inner.Blank.{one_digits, one_exponent}
 use Rattle.mk_table.proofs.OnesSum.{one_cell, first_cells, first_stand, first_long, few_ones}
 use Rattle.mk_table.proofs.blank.plus_of_few.Goals as goal
 

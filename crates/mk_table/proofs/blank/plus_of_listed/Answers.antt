@@ -1,4 +1,4 @@
-use Rattle.std.proofs.Common.{ℕ, ◌+◌, refl}
+use Rattle.std.proofs.Common.{◌+◌, refl}
 use Rattle.mk_table.proofs.Filled.{all_blank, full_room, full_listed}
 use Rattle.mk_table.proofs.OnesSum.{ones_listed}
 use Rattle.mk_table.proofs.blank.plus_of_listed.Goals as goal

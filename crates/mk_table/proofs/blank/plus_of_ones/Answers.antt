@@ -1,8 +1,7 @@
-use Rattle.std.proofs.Common.{◌≡◌, ℕ, ◌+◌, ◌*◌, ◌/◌, ◌%◌, ◌<◌, ◌≤◌, List, length, replicate, arith, subst, sym}
+use Rattle.std.proofs.Common.{◌≡◌, ℕ, ◌+◌, ◌*◌, ◌/◌, ◌%◌, ◌<◌, ◌≤◌, length, replicate, arith, subst}
 use Rattle.std.proofs.lemmas.List.{length-replicate}
 use Rattle.mk_exact.specs.States.{plus_over}
 use Rattle.mk_cell.specs.Cell.{IsCell, StandsAt}
-use Rattle.mk_cell.specs.Passes.{plus_below}
 use Rattle.mk_cell.specs.inner.Laws.{has_room, stands_with_more}
 use Rattle.mk_table.specs.inner.Parts.{block_of}
 use Rattle.mk_table.specs.inner.Blank.{one_digits, one_exponent}

@@ -1,4 +1,4 @@
-use Rattle.std.proofs.Common.{◌≡◌, ℕ, ◌<◌, ◌≤◌, List, length, slice_index, refl, arith, ap, subst, sym, ◌∙◌, vec_len}
+use Rattle.std.proofs.Common.{◌<◌, ◌≤◌, length, slice_index, refl, arith, ap, subst, sym, ◌∙◌}
 use Rattle.mk_table.specs.Scopes.{cells_in}
 use Rattle.mk_table.specs.Cells.{cell_in}
 use Rattle.mk_table.specs.inner.Blank.{one_digits, one_exponent, filled}

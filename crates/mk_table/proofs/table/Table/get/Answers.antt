@@ -1,10 +1,10 @@
-use Rattle.std.proofs.Common.{◌≡◌, ℕ, ◌<◌, ◌≤◌, List, length, slice_index, vec_len, arith, ap, subst, sym, ◌∙◌}
+use Rattle.std.proofs.Common.{◌≡◌, ℕ, ◌<◌, List, length, slice_index, vec_len, arith, ap, subst, sym, ◌∙◌}
 use Rattle.std.proofs.lemmas.Bool.{eqb-true, eqb-false}
 use Rattle.std.proofs.lemmas.List.{get_or_read}
 use Rattle.mk_cell.specs.Cell.{StandsAt}
 use Rattle.mk_table.specs.Scopes.{cells_in}
 use Rattle.mk_table.specs.Tables.{TableOf, HasNumbers}
-use Rattle.mk_table.specs.inner.Blank.{one_digits, one_exponent, filled}
+use Rattle.mk_table.specs.inner.Blank.{one_digits, one_exponent}
 use Rattle.mk_table.proofs.Filled.{all_blank, all_full, not_blank, filled_full, one_at}
 use Rattle.mk_table.proofs.Whole.{table_full}
 use Rattle.mk_table.proofs.table.Table.get.Goals as goal
