@@ -170,7 +170,7 @@ pub(crate) fn plus_of_listed<R: Semiring>(
 }
 
 /// The plus of so many cells of 1, whatever numbers these stand for.
-fn plus_of_ones<R: Semiring>(count: usize) -> Cell
+pub(crate) fn plus_of_ones<R: Semiring>(count: usize) -> Cell
     requires { count ≤ max_clique_cells }
     ensures { (xs : List ℕ) → length xs ≡ count → (k : ℕ) (f : ℕ → ℕ) (n : ℕ) → All (λ c. StandsAt k one_digits one_exponent (f c) n) xs
         → Stands k result (plus_over R.plus_of 0 f xs) (n + 2 * count) }
@@ -184,18 +184,18 @@ fn plus_of_ones<R: Semiring>(count: usize) -> Cell
 }
 
 /// The plus of so many equal blocks and of what is left.
-fn plus_of_blocks<R: Semiring>(block: Cell, blocks: usize, rest: Cell) -> Cell
-    requires blocks { blocks ≤ 64 }
+fn plus_of_blocks<R: Semiring>(block: Cell, full: usize, rest: Cell) -> Cell
+    requires few { full ≤ 64 }
     requires block { IsCell block.digits block.exponent }
     requires rest { IsCell rest.digits rest.exponent }
-    ensures { (k : ℕ) (f : ℕ → ℕ) (n : ℕ) → ((b : ℕ) → b < blocks → Stands k block (f b) n) → Stands k rest (f blocks) n
-        → Stands k result (plus_below R.plus_of (blocks + 1) f) (n + (blocks + 1)) }
+    ensures { (k : ℕ) (f : ℕ → ℕ) (n : ℕ) → ((b : ℕ) → b < full → Stands k block (f b) n) → Stands k rest (f full) n
+        → Stands k result (plus_below R.plus_of (full + 1) f) (n + (full + 1)) }
 {
     let mut digits = [block.digits; BLOCK + 1];
     let mut exponents = [block.exponent; BLOCK + 1];
-    digits[blocks] = rest.digits;
-    exponents[blocks] = rest.exponent;
-    R::over(&digits[..blocks + 1], &exponents[..blocks + 1])
+    digits[full] = rest.digits;
+    exponents[full] = rest.exponent;
+    R::over(&digits[..full + 1], &exponents[..full + 1])
 }
 
 /// The plus of the ones of one block.

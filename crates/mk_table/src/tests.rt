@@ -8,6 +8,7 @@ ghost use Rattle.mk_net.specs.Trades.{trade_ratio};
 ghost use Rattle.mk_table.specs.Scopes.{ScopeOf, HasEvent, HasOneEach};
 ghost use Rattle.mk_table.specs.Tables.{HasRoom};
 
+use crate::blank::plus_of_ones;
 use crate::{CellList, Places, Scope, Table};
 use arrayvec::ArrayVec;
 use mk_cell::Cell;
@@ -231,6 +232,85 @@ fn sums(rt: HostRuntime) -> Result<(), Fail> {
 fn minima(rt: HostRuntime) -> Result<(), Fail> {
     let wind = [40_000_000_000, 80_000_000_000, 240_000_000_000];
     check_product::<MinProd>(&rt, rt.alloc(), &wind, 80_000_000_000)
+}
+
+/// Ones over the first two variables, times ones over the first.
+fn ones_times_ones<R: Semiring>(alloc: Global, net: &Network) -> Result<Table<R>, NoMemory>
+    requires three { length net.now ≡ 3 }
+    requires first { slice_index (sizes net.now) 0 ≡ 2 }
+    requires second { slice_index (sizes net.now) 1 ≡ 3 }
+    ensures scope { IfOk result (λ t. t.scope ≡ record { variables = 0 ∷ 1 ∷ []; sizes = 2 ∷ 3 ∷ [] }) }
+    ensures room { IfOk result (λ t. HasRoom t 12) }
+{
+    let both = both(alloc, net)?;
+    let first = first(alloc, net)?;
+    let message = Table::<R>::ones(alloc, &first)?;
+    let mut table = Table::<R>::ones(alloc, &both)?;
+    table.times_message(&Places::of(alloc, &both, &first)?, &message);
+    Ok(table)
+}
+
+/// Ones that are copied over another table, and then multiplied by the rows of the first variable.
+fn ones_times_rows<R: Semiring>(alloc: Global, net: &Network) -> Result<Table<R>, NoMemory>
+    requires three { length net.now ≡ 3 }
+    requires first { slice_index (sizes net.now) 0 ≡ 2 }
+    requires second { slice_index (sizes net.now) 1 ≡ 3 }
+    ensures { IfOk result (λ t. t.scope ≡ record { variables = 0 ∷ 1 ∷ []; sizes = 2 ∷ 3 ∷ [] }) }
+{
+    let _ = net.variables();
+    let both = both(alloc, net)?;
+    let first = first(alloc, net)?;
+    let mut message = Table::<R>::ones(alloc, &first)?;
+    message.times_rows(net, 0);
+    let blank = Table::<R>::ones(alloc, &both)?;
+    let mut table = Table::<R>::ones(alloc, &both)?;
+    table.restrict(MIDDLE);
+    blank.copy_into(&mut table);
+    table.times_message(&Places::of(alloc, &both, &first)?, &message);
+    Ok(table)
+}
+
+/// What calls make of a table of which nothing is written: for each wind the plus of the two cells of rain and of dry.
+fn check_ones<R: Semiring>(rt: &impl Abort, alloc: Global, two: u64) -> Result<(), Fail> {
+    let net = network(rt, alloc)?;
+    let mut table = ones_times_ones::<R>(alloc, &net)?;
+    let margin = margin::<R>(alloc, &net, &table)?;
+    for value in 0..3 {
+        check(rt, margin.get(value), two, 0);
+    }
+    let (before, after) = totals::<R>(&mut table);
+    check(rt, before, two, 0);
+    check(rt, after, two, 0);
+    check(rt, table.get(0), 0, 0);
+    check(rt, table.get(1), 1, 0);
+    check(rt, table.get(4), 1, 0);
+    let rows = ones_times_rows::<R>(alloc, &net)?;
+    check(rt, rows.get(0), 400_000, 0);
+    check(rt, rows.get(2), 400_000, 0);
+    check(rt, rows.get(3), 600_000, 0);
+    Ok(())
+}
+
+/// The plus of no cell, of one, and of as many as fill a block, one block and more, two, and a table.
+fn check_plus<R: Semiring>(rt: &impl Abort, numbers: &[u64; 6]) {
+    check(rt, plus_of_ones::<R>(0), numbers[0], 0);
+    check(rt, plus_of_ones::<R>(1), numbers[1], 0);
+    check(rt, plus_of_ones::<R>(64), numbers[2], 0);
+    check(rt, plus_of_ones::<R>(65), numbers[3], 0);
+    check(rt, plus_of_ones::<R>(128), numbers[4], 0);
+    check(rt, plus_of_ones::<R>(4096), numbers[5], 0);
+}
+
+#[test]
+fn sums_of_ones(rt: HostRuntime) -> Result<(), Fail> {
+    check_plus::<SumProd>(&rt, &[0, 1, 64, 65, 128, 4096]);
+    check_ones::<SumProd>(&rt, rt.alloc(), 2)
+}
+
+#[test]
+fn minima_of_ones(rt: HostRuntime) -> Result<(), Fail> {
+    check_plus::<MinProd>(&rt, &[0, 1, 1, 1, 1, 1]);
+    check_ones::<MinProd>(&rt, rt.alloc(), 1)
 }
 
 fn only(rt: &impl Abort, pair: Pair) -> Event
