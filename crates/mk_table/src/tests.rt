@@ -5,7 +5,7 @@ ghost use Rattle.mk_net.specs.Asked.{ratio_pairs};
 ghost use Rattle.mk_net.specs.Events.{speaks_of};
 ghost use Rattle.mk_net.specs.Network.{sizes};
 ghost use Rattle.mk_net.specs.Trades.{trade_ratio};
-ghost use Rattle.mk_table.specs.Scopes.{ScopeOf, HasEvent, HasOneEach};
+ghost use Rattle.mk_table.specs.Scopes.{ScopeOf, LiesIn, HasEvent, HasOneEach};
 ghost use Rattle.mk_table.specs.Tables.{HasRoom};
 
 use crate::blank::plus_of_ones;
@@ -123,6 +123,25 @@ fn second(alloc: Global, net: &Network) -> Result<Rc<Scope>, NoMemory>
     Ok(Rc::new(alloc, scope)?)
 }
 
+/// The scope of the third.
+fn third(alloc: Global, net: &Network) -> Result<Rc<Scope>, NoMemory>
+    requires three { length net.now ≡ 3 }
+    requires third { slice_index (sizes net.now) 2 ≡ 2 }
+    ensures { IfOk result (λ scope. scope.value ≡ record { variables = 2 ∷ []; sizes = 2 ∷ [] }) }
+{
+    let scope = Scope::of(alloc, net, &VarSet::empty().with(2))?;
+    Ok(Rc::new(alloc, scope)?)
+}
+
+/// The scope of none.
+fn none(alloc: Global, net: &Network) -> Result<Rc<Scope>, NoMemory>
+    requires three { length net.now ≡ 3 }
+    ensures { IfOk result (λ scope. scope.value ≡ record { variables = []; sizes = [] }) }
+{
+    let scope = Scope::of(alloc, net, &VarSet::empty())?;
+    Ok(Rc::new(alloc, scope)?)
+}
+
 /// The scope of all three.
 fn all(alloc: Global, net: &Network) -> Result<Rc<Scope>, NoMemory>
     requires three { length net.now ≡ 3 }
@@ -219,6 +238,42 @@ fn check_product<R: Semiring>(
     check(rt, table.get(0), 0, 0);
     check(rt, table.get(1), 80_000_000_000, 0);
     check(rt, table.get(4), 180_000_000_000, 0);
+    Ok(())
+}
+
+fn check_places(
+    rt: &impl Abort,
+    alloc: Global,
+    whole: &Rc<Scope>,
+    part: &Rc<Scope>,
+    bases: &[u16],
+    offsets: &[u16],
+) -> Result<(), NoMemory>
+    requires { LiesIn part.now.value whole.now.value }
+{
+    let places = Places::of(alloc, whole, part)?;
+    let (first, others) = places.lists();
+    assert_eq!(rt; first, bases);
+    assert_eq!(rt; others, offsets);
+    Ok(())
+}
+
+/// The cell of the whole is 6 rain + 2 wind + heat.
+#[test]
+fn places_of_parts(rt: HostRuntime) -> Result<(), Fail> {
+    let alloc = rt.alloc();
+    let net = network(&rt, alloc)?;
+    let whole = all(alloc, &net)?;
+    let each = [0, 1, 2, 3, 4, 5, 6, 7, 8, 9, 10, 11];
+    let front = first(alloc, &net)?;
+    check_places(&rt, alloc, &whole, &front, &[0, 6], &[0, 1, 2, 3, 4, 5])?;
+    let middle = second(alloc, &net)?;
+    check_places(&rt, alloc, &whole, &middle, &[0, 2, 4], &[0, 1, 6, 7])?;
+    let end = third(alloc, &net)?;
+    check_places(&rt, alloc, &whole, &end, &[0, 1], &[0, 2, 4, 6, 8, 10])?;
+    let none = none(alloc, &net)?;
+    check_places(&rt, alloc, &whole, &none, &[0], &each)?;
+    check_places(&rt, alloc, &whole, &whole, &each, &[0])?;
     Ok(())
 }
 
