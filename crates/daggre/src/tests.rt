@@ -230,54 +230,87 @@ const PRICES: &[u8] =
 const PRICED: &[u8] =
     b"ready 1 100\nprice 0.5000000000..0.5000000000\nprice 0.5000000000..0.5000000000\nprice 0.5000000000..0.5000000000\nprice 0.5000000000..0.5000000000\nrefused syntax\n";
 
+/// A user's limits before and after a deposit.
+const LIMITS: &[u8] =
+    b"user alice\nlimits alice coin=heads\ndeposit alice 1\nlimits alice coin=heads\n";
+
+const LIMITED: &[u8] =
+    b"ready 1 100\nuser alice at 1\nlimits 500000..500000 at 1\ndeposit alice 1 at 2\nlimits 250000..750000 at 2\n";
+
 /// Expects that this many bytes of the whole output were written.
-fn expect_front(rt: &impl Abort, ended: &Ended, count: usize) {
+fn expect_front(rt: &impl Abort, ended: &Ended, whole: &[u8], count: usize) {
     let written = ended.out.written();
-    assert!(rt; PRICED.starts_with(written));
+    assert!(rt; whole.starts_with(written));
     assert_eq!(rt; written.len(), count);
 }
 
 /// Each read fails in turn: what is written answers the whole lines that were read, and nothing is read behind it.
-#[test]
-fn each_read_fails_in_turn(rt: HostRuntime) -> Result<(), Fail> {
-    let alloc = rt.alloc();
+fn expect_failed_reads(
+    rt: &impl Abort,
+    alloc: Global,
+    commands: &[u8],
+    whole: &[u8],
+    written: &[usize],
+) -> Result<(), AllocError> {
     let words = ["run", "m.toml"];
     let market = text_of(alloc, COIN)?;
-    // the opening, three pieces of the file and its end; two pieces of the commands, the first of which ends within
-    // the fourth line and the second within the last, and their end
-    let written = [0, 0, 0, 0, 0, 12, 111, 144];
     let mut call = 1u64;
     for count in written {
-        let ended = run(alloc, &words, &market, PRICES, 64, (&[call], &[]))?;
-        expect_front(&rt, &ended, count);
+        let ended = run(alloc, &words, &market, commands, 64, (&[call], &[]))?;
+        expect_front(rt, &ended, whole, *count);
         assert!(rt; ended.status == Status::ReadFault);
         assert_eq!(rt; ended.reads, call);
         call = call.saturating_add(1);
     }
-    let ended = run(alloc, &words, &market, PRICES, 64, (&[call], &[]))?;
-    assert!(rt; ended.out.written() == PRICED);
+    let ended = run(alloc, &words, &market, commands, 64, (&[call], &[]))?;
+    assert!(rt; ended.out.written() == whole);
     assert!(rt; ended.status == Status::Done);
     Ok(())
 }
 
 /// Each write fails in turn: what was written before it stands, and nothing is written behind it.
-#[test]
-fn each_write_fails_in_turn(rt: HostRuntime) -> Result<(), Fail> {
-    let alloc = rt.alloc();
+fn expect_failed_writes(
+    rt: &impl Abort,
+    alloc: Global,
+    commands: &[u8],
+    whole: &[u8],
+    written: &[usize],
+) -> Result<(), AllocError> {
     let words = ["run", "m.toml"];
     let market = text_of(alloc, COIN)?;
-    // the ready line takes one write of at most 16 bytes, each price three, and the refusal one
-    let written = [0, 12, 28, 44, 45, 61, 77, 78, 94, 110, 111, 127, 143, 144];
     let mut call = 1u64;
     for count in written {
-        let ended = run(alloc, &words, &market, PRICES, 16, (&[], &[call]))?;
-        expect_front(&rt, &ended, count);
+        let ended = run(alloc, &words, &market, commands, 16, (&[], &[call]))?;
+        expect_front(rt, &ended, whole, *count);
         assert!(rt; ended.status == Status::WriteFault);
         assert_eq!(rt; ended.out.calls(), call);
         call = call.saturating_add(1);
     }
-    let ended = run(alloc, &words, &market, PRICES, 16, (&[], &[call]))?;
-    assert!(rt; ended.out.written() == PRICED);
+    let ended = run(alloc, &words, &market, commands, 16, (&[], &[call]))?;
+    assert!(rt; ended.out.written() == whole);
     assert!(rt; ended.status == Status::Done);
+    Ok(())
+}
+
+#[test]
+fn each_read_fails_in_turn(rt: HostRuntime) -> Result<(), Fail> {
+    // The opening, three pieces of the file and its end; two pieces of the commands, the first of which ends within
+    // the fourth line and the second within the last, and their end.
+    let priced = [0, 0, 0, 0, 0, 12, 111, 144];
+    expect_failed_reads(&rt, rt.alloc(), PRICES, PRICED, &priced)?;
+    // The first piece of these commands ends within the fourth line (11 + 24 + 16 bytes before it), the second at their end.
+    let limited = [0, 0, 0, 0, 0, 12, 76, 103];
+    expect_failed_reads(&rt, rt.alloc(), LIMITS, LIMITED, &limited)?;
+    Ok(())
+}
+
+#[test]
+fn each_write_fails_in_turn(rt: HostRuntime) -> Result<(), Fail> {
+    // The ready line takes one write of at most 16 bytes, each price three, and the refusal one.
+    let priced = [0, 12, 28, 44, 45, 61, 77, 78, 94, 110, 111, 127, 143, 144];
+    expect_failed_writes(&rt, rt.alloc(), PRICES, PRICED, &priced)?;
+    // The ready line (12 bytes) and the user's (16) take one write each; limits (27) and the deposit (21) take two.
+    let limited = [0, 12, 28, 44, 55, 71, 76, 92];
+    expect_failed_writes(&rt, rt.alloc(), LIMITS, LIMITED, &limited)?;
     Ok(())
 }
