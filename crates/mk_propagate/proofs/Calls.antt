@@ -17,7 +17,7 @@ use Rattle.mk_propagate.proofs.Placed.{with_table, table_read, factor_placed, pa
 use Rattle.mk_propagate.proofs.Placed as placed
 use Rattle.mk_propagate.proofs.Required as required
 
-module _ (old now : FlowOf) (view : old ≡ now) (scratch : List TableOf) (cells : ℕ) (kept : IsKept old scratch cells)
+module _ (old now : FlowOf) (view : old ≡ now) (gathered_tables : List TableOf) (cells : ℕ) (kept : IsKept old gathered_tables cells)
     (p : Placing) (h : HasPlaced now p) (clique : ℕ) (is : IsClique now.shape.tree clique) (read : TableOf) (value : read ≡ get_or old.tables (clique - 1) read) where
   placed_old : HasPlaced old p
   placed_old = subst (λ (o : FlowOf). HasPlaced o p) (sym view) h
@@ -63,8 +63,8 @@ module _ (old now : FlowOf) (view : old ≡ now) (scratch : List TableOf) (cells
   pair_variable q f = required.has_pair p.network now.shape.tree clique read.scope (scope_of_read p.network h.shape_is) q f.in_range f.holds_it
 
   module _ (t : TableOf) (scope : t.scope ≡ read.scope) where
-    pub still_kept : (count : ℕ) → IsKept (with_table old clique t count) scratch cells
-    still_kept count = kept_with old scratch cells clique count read t kept clique_old.first within reads scope
+    pub still_kept : (count : ℕ) → IsKept (with_table old clique t count) gathered_tables cells
+    still_kept count = kept_with old gathered_tables cells clique count read t kept clique_old.first within reads scope
 
     pub places_factor : (plus : ℕ → ℕ → ℕ) (f : Factor) → IsPlacedFactor p.network now.shape.tree (record { clique = clique; factor = f }) → now.factors < max_factors → t.shift ≤ read.shift + 40
         → ((g : ℕ → ℕ) (n : ℕ) → HasNumbers read g n → HasNumbers t (λ c. g c * factor_there p.network f (values_at read.scope c)) (n + 1))
