@@ -34,8 +34,11 @@ use Rattle.mk_propagate.proofs.Required.{all_pass}
 use Rattle.mk_propagate.proofs.Sending.{table_within, has_gathered}
 
 -- all messages into a clique are its inputs
+pub all_linked : (tree : GivenTree) (k i : ℕ) → is_input tree k None i ≡ true → linked_to (link_of tree) (length tree.cliques) k i ≡ true
+all_linked tree k i h = (and_parts (linked_to (link_of tree) (length tree.cliques) k i) true h).0
+
 pub all_inputs : (plus : ℕ → ℕ → ℕ) (flow : FlowOf) (p : Placing) (k : ℕ) → AreRightInto plus flow p k → (i : ℕ) → is_input flow.shape.tree k None i ≡ true → IsRight plus flow p i k
-all_inputs plus flow p k right i h = right i (and_parts (linked_to (link_of flow.shape.tree) (length flow.shape.tree.cliques) k i) true h).0
+all_inputs plus flow p k right i h = right i (all_linked flow.shape.tree k i h)
 
 -- what is gathered from the parts of a kept flow
 pub gathered_all : (plus : ℕ → ℕ → ℕ) (flow : FlowOf) (gathered_tables : List TableOf) (cells : ℕ) → IsKept flow gathered_tables cells → (k : ℕ) (p : Placing) → HasPlaced flow p → IsClique flow.shape.tree k → AreRightInto plus flow p k

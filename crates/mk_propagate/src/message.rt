@@ -24,17 +24,19 @@ impl<R: Semiring> Flow<R> {
         ensures counted { self.new.computed ≡ counted_on self.old.computed 1 }
     {
         let place = from as usize - 1;
+        let gathered = &mut self.gathered[place];
+        let table = &self.tables[place];
         let gathers = gather_for(
-            &mut self.gathered[place],
+            gathered,
             &mut self.current[place],
-            &self.tables[place],
+            table,
             &self.shape,
             &self.upward,
             &self.downward,
             from,
             to,
         );
-        let sent = one_of(gathers, &self.gathered[place], &self.tables[place]);
+        let sent = one_of(gathers, gathered, table);
         self.current[to as usize - 1] = false;
         self.computed = self.computed.saturating_add(1);
         if to < from {
@@ -45,13 +47,13 @@ impl<R: Semiring> Flow<R> {
     }
 }
 
-/// Puts into a message the plus, over what it does not hold, of what its sender gathered.
-fn send<R: Semiring>(gathered: &Table<R>, message: &mut Table<R>)
-    requires lies_in { LiesIn message.old.scope gathered.now.scope }
-    requires room { HasRoom gathered.now (2 * cells_in gathered.now.scope) }
-    ensures { IsMargin R.plus_of gathered.now message.old message.new }
+/// Puts into a message the plus, over what it does not hold, of what its sender has for the receiver.
+fn send<R: Semiring>(sent: &Table<R>, message: &mut Table<R>)
+    requires lies_in { LiesIn message.old.scope sent.now.scope }
+    requires room { HasRoom sent.now (2 * cells_in sent.now.scope) }
+    ensures { IsMargin R.plus_of sent.now message.old message.new }
 {
-    gathered.margin_into(message);
+    sent.margin_into(message);
     // The proof learns here that the table has a place for each cell of its scope, and no more.
     let _ = message.cells();
 }
@@ -99,20 +101,23 @@ fn gather_for<R: Semiring>(
     ensures sent { HasAllGathered R.plus_of shape.now table.now upward.now downward.now clique (Some receiver) (if result then gathered.new else table.now) }
     ensures current { current.new ≡ true → (current.old ≡ true) × (gathered.new ≡ gathered.old) }
 {
-    let gathers = shape.neighbours(clique).len() > 1;
-    if gathers {
-        gather(
-            gathered,
-            table,
-            shape,
-            upward,
-            downward,
-            clique,
-            Some(receiver),
-        );
-        *current = false;
+    // As in `send`, for the clique's table.
+    let _ = table.cells();
+    let neighbours = shape.neighbours(clique);
+    if neighbours.len() < 2 {
+        return false;
     }
-    gathers
+    gather(
+        gathered,
+        table,
+        shape,
+        upward,
+        downward,
+        clique,
+        Some(receiver),
+    );
+    *current = false;
+    true
 }
 
 /// One of two tables.

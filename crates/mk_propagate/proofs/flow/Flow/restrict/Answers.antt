@@ -1,5 +1,5 @@
 use Rattle.mk_propagate.specs.Flows.{FlowOf}
-use Rattle.mk_propagate.proofs.Calls.{pair_variable, still_kept, places_pair, pair_fits_each}
+use Rattle.mk_propagate.proofs.Calls.{pair_variable, still_flow, places_pair, pair_fits_each}
 use Rattle.mk_propagate.proofs.flow.Flow.restrict.Goals as goal
 
 pub restrict-requires : goal.restrict-requires
@@ -12,7 +12,7 @@ pub invariant_of-self : goal.invariant_of-self
 invariant_of-self g c =
     let inside = c.self.inside in
     let old : FlowOf = record { shape = inside.shape.value; tables = inside.tables.items; upward = inside.upward.items; downward = inside.downward.items; factors = inside.factors; computed = inside.computed } in
-    still_kept old c.args.self.now c.self.view_is inside.gathered.items inside.cells c.self.invariant.kept c.requires.0 c.requires.1 c.args.clique c.requires.2.clique_is c.index_mut.result.now c.index_mut.ensures.value c.restrict.new.self c.restrict.ensures.scope inside.factors
+    still_flow old c.args.self.now c.self.view_is inside.gathered.items inside.cells c.self.invariant.kept c.requires.0 c.requires.1 c.args.clique c.requires.2.clique_is c.index_mut.result.now c.index_mut.ensures.value c.restrict.new.self c.restrict.ensures.scope g.R.Semiring.plus_of inside.factors inside.current.items c.self.invariant.marked
 
 pub returns-clause-places : goal.returns-clause-places
 returns-clause-places g c = λ p h.

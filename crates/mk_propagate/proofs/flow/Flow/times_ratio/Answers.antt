@@ -1,8 +1,8 @@
-use Rattle.std.proofs.Common.{arith}
+use Rattle.std.proofs.Common.{◌+◌, arith}
 use Rattle.mk_engine.specs.Meaning.{RatioOf}
 use Rattle.mk_net.specs.Trades.{trade_ratio}
 use Rattle.mk_propagate.specs.Flows.{FlowOf}
-use Rattle.mk_propagate.proofs.Calls.{ratio_event, ratio_one_each, room, places_factor, ratio_fits_each}
+use Rattle.mk_propagate.proofs.Calls.{ratio_event, ratio_one_each, room, still_flow, places_factor, ratio_fits_each}
 use Rattle.mk_propagate.proofs.flow.Flow.times_ratio.Goals as goal
 
 pub times_ratio-requires-clause-event : goal.times_ratio-requires-clause-event
@@ -22,6 +22,12 @@ times_ratio-requires-clause-room g c =
     let inside = c.self.inside in
     let old : FlowOf = record { shape = inside.shape.value; tables = inside.tables.items; upward = inside.upward.items; downward = inside.downward.items; factors = inside.factors; computed = inside.computed } in
     room old c.args.self.now c.self.view_is inside.gathered.items inside.cells c.self.invariant.kept c.requires.0 c.requires.1.has c.args.clique c.requires.2.clique_is c.index_mut.result.now c.index_mut.ensures.value
+
+pub invariant_of-self : goal.invariant_of-self
+invariant_of-self g c =
+    let inside = c.self.inside in
+    let old : FlowOf = record { shape = inside.shape.value; tables = inside.tables.items; upward = inside.upward.items; downward = inside.downward.items; factors = inside.factors; computed = inside.computed } in
+    still_flow old c.args.self.now c.self.view_is inside.gathered.items inside.cells c.self.invariant.kept c.requires.0 c.requires.1.has c.args.clique c.requires.2.clique_is c.index_mut.result.now c.index_mut.ensures.value c.times_ratio.new.self c.times_ratio.ensures.scope g.R.Semiring.plus_of (inside.factors + 1) inside.current.items c.self.invariant.marked
 
 pub returns-clause-places : goal.returns-clause-places
 returns-clause-places g c = λ p h.

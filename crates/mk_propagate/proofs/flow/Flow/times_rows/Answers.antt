@@ -6,7 +6,7 @@ use Rattle.mk_table.specs.Tables.{HasNumbers}
 use Rattle.mk_engine.specs.Meaning.{RowsOf}
 use Rattle.mk_propagate.specs.Placings.{IsPlacedFactor}
 use Rattle.mk_propagate.specs.Flows.{FlowOf}
-use Rattle.mk_propagate.proofs.Calls.{rows_family, rows_parents, room, still_kept, places_factor}
+use Rattle.mk_propagate.proofs.Calls.{rows_family, rows_parents, room, still_flow, places_factor}
 use Rattle.mk_propagate.proofs.flow.Flow.times_rows.Goals as goal
 
 pub times_rows-requires-clause-family : goal.times_rows-requires-clause-family
@@ -31,7 +31,7 @@ pub invariant_of-self : goal.invariant_of-self
 invariant_of-self g c =
     let inside = c.self.inside in
     let old : FlowOf = record { shape = inside.shape.value; tables = inside.tables.items; upward = inside.upward.items; downward = inside.downward.items; factors = inside.factors; computed = inside.computed } in
-    still_kept old c.args.self.now c.self.view_is inside.gathered.items inside.cells c.self.invariant.kept c.requires.0 c.requires.1.has c.args.clique c.requires.3.clique_is c.index_mut.result.now c.index_mut.ensures.value c.times_rows.new.self c.times_rows.ensures.scope (inside.factors + 1)
+    still_flow old c.args.self.now c.self.view_is inside.gathered.items inside.cells c.self.invariant.kept c.requires.0 c.requires.1.has c.args.clique c.requires.3.clique_is c.index_mut.result.now c.index_mut.ensures.value c.times_rows.new.self c.times_rows.ensures.scope g.R.Semiring.plus_of (inside.factors + 1) inside.current.items c.self.invariant.marked
 
 pub returns-clause-places : goal.returns-clause-places
 returns-clause-places g c = λ p h e.
