@@ -324,7 +324,10 @@ fn after_news<R: Semiring>(rt: &impl Abort, alloc: Global) -> Result<(R::Value, 
 
 /// The beliefs that b is up, read in the first clique: with the rows of a and messages of ones, after the messages away, again with
 /// nothing changed, with the rows of b placed there, and with those of c placed in the second clique and the message from it.
-fn in_first<R: Semiring>(rt: &impl Abort, alloc: Global) -> Result<Vec<R::Value>, Fail> {
+fn in_first<R: Semiring>(
+    rt: &impl Abort,
+    alloc: Global,
+) -> Result<(R::Value, R::Value, R::Value, R::Value, R::Value, R::Value), Fail> {
     let net = network(alloc)?;
     let shape = shape_of(rt, alloc, &net)?;
     let up = only(rt, B_UP);
@@ -337,12 +340,15 @@ fn in_first<R: Semiring>(rt: &impl Abort, alloc: Global) -> Result<Vec<R::Value>
     place(rt, &mut flow, 2, &net, 2, 2);
     let (message, last) = around(rt, &mut flow, 1, &up);
     assert_eq!(rt; flow.computed(), 8);
-    Ok(vec![in alloc; first, away, same, rows, message, last]?)
+    Ok((first, away, same, rows, message, last))
 }
 
 /// The beliefs in all states, read in the second clique: at first, after the messages away, with the trade placed there, with c known
 /// in the third clique and the message from it, after the messages away, and with b known in the second.
-fn in_second<R: Semiring>(rt: &impl Abort, alloc: Global) -> Result<Vec<R::Value>, Fail> {
+fn in_second<R: Semiring>(
+    rt: &impl Abort,
+    alloc: Global,
+) -> Result<(R::Value, R::Value, R::Value, R::Value, R::Value, R::Value), Fail> {
     let net = network(alloc)?;
     let shape = shape_of(rt, alloc, &net)?;
     let all = Event::empty();
@@ -355,7 +361,7 @@ fn in_second<R: Semiring>(rt: &impl Abort, alloc: Global) -> Result<Vec<R::Value
     know(rt, &mut flow, 2, &net, B_UP);
     let pair = again(rt, &mut flow, 2, &all);
     assert_eq!(rt; flow.computed(), 8);
-    Ok(vec![in alloc; first, away, ratio, message, sent, pair]?)
+    Ok((first, away, ratio, message, sent, pair))
 }
 
 /// Stops unless the values are these numbers, exactly.
@@ -427,7 +433,8 @@ fn sums_in_turn(rt: HostRuntime) -> Result<(), Fail> {
         450_000_000_000_000_000,
         450_000_000_000_000_000,
     ];
-    check_all(&rt, &in_first::<SumProd>(&rt, alloc)?, &first);
+    let (a, b, c, d, e, f) = in_first::<SumProd>(&rt, alloc)?;
+    check_all(&rt, &[a, b, c, d, e, f], &first);
     // b is up at 0.45 and down at 0.55. The trade gives 2 * 0.45 + 3 * 0.55; with c up 0.9 * 0.8 + 1.65 * 0.1, of which b up is 0.72.
     let second = [
         1_000_000_000_000_000_000,
@@ -437,7 +444,8 @@ fn sums_in_turn(rt: HostRuntime) -> Result<(), Fail> {
         885_000_000_000_000_000,
         720_000_000_000_000_000,
     ];
-    check_all(&rt, &in_second::<SumProd>(&rt, alloc)?, &second);
+    let (a, b, c, d, e, f) = in_second::<SumProd>(&rt, alloc)?;
+    check_all(&rt, &[a, b, c, d, e, f], &second);
     Ok(())
 }
 
@@ -453,7 +461,8 @@ fn minima_in_turn(rt: HostRuntime) -> Result<(), Fail> {
         30_000_000_000_000_000,
         30_000_000_000_000_000,
     ];
-    check_all(&rt, &in_first::<MinProd>(&rt, alloc)?, &first);
+    let (a, b, c, d, e, f) = in_first::<MinProd>(&rt, alloc)?;
+    check_all(&rt, &[a, b, c, d, e, f], &first);
     // The least is 0.5 * 0.4 * 0.1, where b is down and c up, and 3 times that after the trade, as it is with c up; where b is up too
     // it is 0.5 * 0.3 * 0.8 * 2.
     let second = [
@@ -464,7 +473,8 @@ fn minima_in_turn(rt: HostRuntime) -> Result<(), Fail> {
         60_000_000_000_000_000,
         240_000_000_000_000_000,
     ];
-    check_all(&rt, &in_second::<MinProd>(&rt, alloc)?, &second);
+    let (a, b, c, d, e, f) = in_second::<MinProd>(&rt, alloc)?;
+    check_all(&rt, &[a, b, c, d, e, f], &second);
     Ok(())
 }
 
