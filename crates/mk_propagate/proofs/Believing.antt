@@ -34,18 +34,21 @@ use Rattle.mk_propagate.proofs.Required.{all_pass}
 use Rattle.mk_propagate.proofs.Sending.{table_within, has_gathered}
 
 -- all messages into a clique are its inputs
+pub all_linked : (tree : GivenTree) (k i : ℕ) → is_input tree k None i ≡ true → linked_to (link_of tree) (length tree.cliques) k i ≡ true
+all_linked tree k i h = (and_parts (linked_to (link_of tree) (length tree.cliques) k i) true h).0
+
 pub all_inputs : (plus : ℕ → ℕ → ℕ) (flow : FlowOf) (p : Placing) (k : ℕ) → AreRightInto plus flow p k → (i : ℕ) → is_input flow.shape.tree k None i ≡ true → IsRight plus flow p i k
-all_inputs plus flow p k right i h = right i (and_parts (linked_to (link_of flow.shape.tree) (length flow.shape.tree.cliques) k i) true h).0
+all_inputs plus flow p k right i h = right i (all_linked flow.shape.tree k i h)
 
 -- what is gathered from the parts of a kept flow
-pub gathered_all : (plus : ℕ → ℕ → ℕ) (flow : FlowOf) (scratch : List TableOf) (cells : ℕ) → IsKept flow scratch cells → (k : ℕ) (p : Placing) → HasPlaced flow p → IsClique flow.shape.tree k → AreRightInto plus flow p k
+pub gathered_all : (plus : ℕ → ℕ → ℕ) (flow : FlowOf) (gathered_tables : List TableOf) (cells : ℕ) → IsKept flow gathered_tables cells → (k : ℕ) (p : Placing) → HasPlaced flow p → IsClique flow.shape.tree k → AreRightInto plus flow p k
     → (shape : ShapeOf) (table : TableOf) (upward downward : List TableOf) → shape ≡ flow.shape → table ≡ slice_index_or flow.tables (k - 1) table → upward ≡ flow.upward → downward ≡ flow.downward
     → (t : TableOf) → ((q : Placing) → CanGather plus shape table upward downward k None q → HasGathered plus shape k None (neighbours shape.tree k) t q)
     → HasGathered plus flow.shape k None (neighbours flow.shape.tree k) t p
-gathered_all plus flow scratch cells kept k p has clique right shape table upward downward s e u d t h =
-    has_gathered plus flow p k None has clique (all_inputs plus flow p k right) shape table upward downward s (sym (table_read flow.tables (k - 1) table (table_within flow scratch cells kept k clique) e)) u d t h
+gathered_all plus flow gathered_tables cells kept k p has clique right shape table upward downward s e u d t h =
+    has_gathered plus flow p k None has clique (all_inputs plus flow p k right) shape table upward downward s (sym (table_read flow.tables (k - 1) table (table_within flow gathered_tables cells kept k clique) e)) u d t h
 
-module _ (plus : ℕ → ℕ → ℕ) (law : Lawful plus) (flow : FlowOf) (scratch : List TableOf) (cells : ℕ) (kept : IsKept flow scratch cells) (k : ℕ) (event : List Pair) (table : TableOf)
+module _ (plus : ℕ → ℕ → ℕ) (law : Lawful plus) (flow : FlowOf) (gathered_tables : List TableOf) (cells : ℕ) (kept : IsKept flow gathered_tables cells) (k : ℕ) (event : List Pair) (table : TableOf)
     (p : Placing) (has : HasPlaced flow p) (clique : IsClique flow.shape.tree k) (inside : holds_event event (clique_at flow.shape.tree k) ≡ true)
     (g : HasGathered plus flow.shape k None (neighbours flow.shape.tree k) table p) where
   abbrev tree : GivenTree

@@ -13,3 +13,5 @@ pub mod Readings
 pub mod Messages
 pub mod Sending
 pub mod Believing
+pub mod Marks
+pub mod Ready

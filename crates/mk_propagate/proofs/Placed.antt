@@ -236,16 +236,16 @@ module _ (plus : ℕ → ℕ → ℕ) (old : FlowOf) (p : Placing) (clique : ℕ
       h.counted
 
 -- a flow stays as it is to be kept
-pub kept_with : (old : FlowOf) (scratch : List TableOf) (cells clique count : ℕ) (read t : TableOf) → IsKept old scratch cells → 1 ≤ clique → clique - 1 < length old.tables
-    → table_at old clique ≡ read → t.scope ≡ read.scope → IsKept (with_table old clique t count) scratch cells
-kept_with old scratch cells clique count read t h first within reads scope = record {
+pub kept_with : (old : FlowOf) (gathered_tables : List TableOf) (cells clique count : ℕ) (read t : TableOf) → IsKept old gathered_tables cells → 1 ≤ clique → clique - 1 < length old.tables
+    → table_at old clique ≡ read → t.scope ≡ read.scope → IsKept (with_table old clique t count) gathered_tables cells
+kept_with old gathered_tables cells clique count read t h first within reads scope = record {
   linked = h.linked;
   one_each = length-set old.tables (clique - 1) t ∙ h.one_each;
-  one_scratch_each = h.one_scratch_each;
+  one_gathered_each = h.one_gathered_each;
   one_less_up = h.one_less_up;
   one_less_down = h.one_less_down;
   table_scopes = λ k at. from k at (cases_eq k clique);
-  scratch_scopes = h.scratch_scopes;
+  gathered_scopes = h.gathered_scopes;
   upward_scopes = h.upward_scopes;
   downward_scopes = h.downward_scopes;
   cells_are = h.cells_are;

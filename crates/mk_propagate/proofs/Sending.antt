@@ -25,30 +25,30 @@ same_scopes ts i j t l e = at (cases_eq j i)
         ∙ ap (λ (s : TableOf). s.scope) (get_or-set_same ts i t no_table l) ∙ e ∙ ap (λ n. (slice_index_or ts n no_table).scope) (sym q)
     at (inr d) = ap (λ (s : TableOf). s.scope) (get_or-set_other ts i j t no_table d)
 
--- a flow that is kept, of which a clique's scratch table was used
-module _ (old : FlowOf) (scratch : List TableOf) (cells : ℕ) (kept : IsKept old scratch cells) (k : ℕ) (clique : IsClique old.shape.tree k) where
-  pub scratch_within : k - 1 < length scratch
-  scratch_within = omega (arith, kept.one_scratch_each, clique.first, clique.last)
+-- a flow that is kept, of which a clique's gathered table was used
+module _ (old : FlowOf) (gathered_tables : List TableOf) (cells : ℕ) (kept : IsKept old gathered_tables cells) (k : ℕ) (clique : IsClique old.shape.tree k) where
+  pub gathered_within : k - 1 < length gathered_tables
+  gathered_within = omega (arith, kept.one_gathered_each, clique.first, clique.last)
 
   pub table_within : k - 1 < length old.tables
   table_within = omega (arith, kept.one_each, clique.first, clique.last)
 
-  pub scratch_fits : (t table : TableOf) → t ≡ slice_index_or scratch (k - 1) t → table ≡ slice_index_or old.tables (k - 1) table → t.scope ≡ table.scope
-  scratch_fits t table e f =
-      ap (λ (s : TableOf). s.scope) (sym (table_read scratch (k - 1) t scratch_within e)) ∙ kept.scratch_scopes k clique
+  pub gathered_fits : (t table : TableOf) → t ≡ slice_index_or gathered_tables (k - 1) t → table ≡ slice_index_or old.tables (k - 1) table → t.scope ≡ table.scope
+  gathered_fits t table e f =
+      ap (λ (s : TableOf). s.scope) (sym (table_read gathered_tables (k - 1) t gathered_within e)) ∙ kept.gathered_scopes k clique
       ∙ sym (ap (λ (s : TableOf). s.scope) (sym (table_read old.tables (k - 1) table table_within f)) ∙ kept.table_scopes k clique)
 
   -- it stays kept
-  pub scratch_kept : (was t : TableOf) → was ≡ slice_index_or scratch (k - 1) was → t.scope ≡ was.scope → IsKept old (slice_set scratch (k - 1) t) cells
-  scratch_kept was t e s = record {
+  pub gathered_kept : (was t : TableOf) → was ≡ slice_index_or gathered_tables (k - 1) was → t.scope ≡ was.scope → IsKept old (slice_set gathered_tables (k - 1) t) cells
+  gathered_kept was t e s = record {
     linked = kept.linked;
     one_each = kept.one_each;
-    one_scratch_each = length-set scratch (k - 1) t ∙ kept.one_scratch_each;
+    one_gathered_each = length-set gathered_tables (k - 1) t ∙ kept.one_gathered_each;
     one_less_up = kept.one_less_up;
     one_less_down = kept.one_less_down;
     table_scopes = kept.table_scopes;
-    scratch_scopes =
-        λ i c. same_scopes scratch (k - 1) (i - 1) t scratch_within (s ∙ ap (λ (u : TableOf). u.scope) (sym (table_read scratch (k - 1) was scratch_within e))) ∙ kept.scratch_scopes i c;
+    gathered_scopes =
+        λ i c. same_scopes gathered_tables (k - 1) (i - 1) t gathered_within (s ∙ ap (λ (u : TableOf). u.scope) (sym (table_read gathered_tables (k - 1) was gathered_within e))) ∙ kept.gathered_scopes i c;
     upward_scopes = kept.upward_scopes;
     downward_scopes = kept.downward_scopes;
     cells_are = kept.cells_are;
@@ -63,30 +63,30 @@ abbrev pub with_downward : FlowOf → ℕ → TableOf → ℕ → FlowOf
 with_downward old place t computed =
     record { shape = old.shape; tables = old.tables; upward = old.upward; downward = slice_set old.downward place t; factors = old.factors; computed = computed }
 
-module _ (old : FlowOf) (scratch : List TableOf) (cells computed : ℕ) (kept : IsKept old scratch cells) where
-  pub kept_upward : (place : ℕ) (was t : TableOf) → place < length old.upward → was ≡ slice_index_or old.upward place was → t.scope ≡ was.scope → IsKept (with_upward old place t computed) scratch cells
+module _ (old : FlowOf) (gathered_tables : List TableOf) (cells computed : ℕ) (kept : IsKept old gathered_tables cells) where
+  pub kept_upward : (place : ℕ) (was t : TableOf) → place < length old.upward → was ≡ slice_index_or old.upward place was → t.scope ≡ was.scope → IsKept (with_upward old place t computed) gathered_tables cells
   kept_upward place was t l e s = record {
     linked = kept.linked;
     one_each = kept.one_each;
-    one_scratch_each = kept.one_scratch_each;
+    one_gathered_each = kept.one_gathered_each;
     one_less_up = ap (λ n. n + 1) (length-set old.upward place t) ∙ kept.one_less_up;
     one_less_down = kept.one_less_down;
     table_scopes = kept.table_scopes;
-    scratch_scopes = kept.scratch_scopes;
+    gathered_scopes = kept.gathered_scopes;
     upward_scopes = λ k c later. same_scopes old.upward place (k - 2) t l (s ∙ ap (λ (u : TableOf). u.scope) (sym (table_read old.upward place was l e))) ∙ kept.upward_scopes k c later;
     downward_scopes = kept.downward_scopes;
     cells_are = kept.cells_are;
   }
 
-  pub kept_downward : (place : ℕ) (was t : TableOf) → place < length old.downward → was ≡ slice_index_or old.downward place was → t.scope ≡ was.scope → IsKept (with_downward old place t computed) scratch cells
+  pub kept_downward : (place : ℕ) (was t : TableOf) → place < length old.downward → was ≡ slice_index_or old.downward place was → t.scope ≡ was.scope → IsKept (with_downward old place t computed) gathered_tables cells
   kept_downward place was t l e s = record {
     linked = kept.linked;
     one_each = kept.one_each;
-    one_scratch_each = kept.one_scratch_each;
+    one_gathered_each = kept.one_gathered_each;
     one_less_up = kept.one_less_up;
     one_less_down = ap (λ n. n + 1) (length-set old.downward place t) ∙ kept.one_less_down;
     table_scopes = kept.table_scopes;
-    scratch_scopes = kept.scratch_scopes;
+    gathered_scopes = kept.gathered_scopes;
     upward_scopes = kept.upward_scopes;
     downward_scopes = λ k c later. same_scopes old.downward place (k - 2) t l (s ∙ ap (λ (u : TableOf). u.scope) (sym (table_read old.downward place was l e))) ∙ kept.downward_scopes k c later;
     cells_are = kept.cells_are;
@@ -155,16 +155,16 @@ module _ (old : FlowOf) (p : Placing) (has : HasPlaced old p) (a b : ℕ) (linke
     }
 
 -- where the message stands
-pub separator_up : (flow : FlowOf) (scratch : List TableOf) (cells : ℕ) → IsKept flow scratch cells → (a b : ℕ) → IsChild (link_of flow.shape.tree) (length flow.shape.tree.cliques) a b → b < a
+pub separator_up : (flow : FlowOf) (gathered_tables : List TableOf) (cells : ℕ) → IsKept flow gathered_tables cells → (a b : ℕ) → IsChild (link_of flow.shape.tree) (length flow.shape.tree.cliques) a b → b < a
     → (t : TableOf) → t ≡ slice_index_or flow.upward (a - 2) t → t.scope ≡ separator_between flow.shape a b
-separator_up flow scratch cells kept a b c l t e =
+separator_up flow gathered_tables cells kept a b c l t e =
     let m : max a b ≡ a = omega arith in
     let within : a - 2 < length flow.upward = omega (arith, kept.one_less_up, c.later, c.within) in
     ap (λ (s : TableOf). s.scope) (sym (table_read flow.upward (a - 2) t within e)) ∙ kept.upward_scopes a (record { first = omega (arith, c.later); last = c.within }) c.later ∙ ap (separator_scope flow.shape) (sym m)
 
-pub separator_down : (flow : FlowOf) (scratch : List TableOf) (cells : ℕ) → IsKept flow scratch cells → (a b : ℕ) → IsChild (link_of flow.shape.tree) (length flow.shape.tree.cliques) b a → a ≤ b
+pub separator_down : (flow : FlowOf) (gathered_tables : List TableOf) (cells : ℕ) → IsKept flow gathered_tables cells → (a b : ℕ) → IsChild (link_of flow.shape.tree) (length flow.shape.tree.cliques) b a → a ≤ b
     → (t : TableOf) → t ≡ slice_index_or flow.downward (b - 2) t → t.scope ≡ separator_between flow.shape a b
-separator_down flow scratch cells kept a b c l t e =
+separator_down flow gathered_tables cells kept a b c l t e =
     let m : max a b ≡ b = omega arith in
     let within : b - 2 < length flow.downward = omega (arith, kept.one_less_down, c.later, c.within) in
     ap (λ (s : TableOf). s.scope) (sym (table_read flow.downward (b - 2) t within e)) ∙ kept.downward_scopes b (record { first = omega (arith, c.later); last = c.within }) c.later ∙ ap (separator_scope flow.shape) (sym m)
@@ -206,49 +206,49 @@ module _ (old : FlowOf) (p : Placing) (has : HasPlaced old p) (a b : ℕ) (linke
           let q = same_child d c b a (downward_child old p has c d h m) (downward_child old p has a b linked_too l) e in apart (q.1, q.0)))
 
 -- what clique a gathered for b from the parts of a kept flow
-module _ (plus : ℕ → ℕ → ℕ) (law : Lawful plus) (old : FlowOf) (scratch : List TableOf) (cells : ℕ) (kept : IsKept old scratch cells) (a b : ℕ)
+module _ (plus : ℕ → ℕ → ℕ) (law : Lawful plus) (old : FlowOf) (gathered_tables : List TableOf) (cells : ℕ) (kept : IsKept old gathered_tables cells) (a b : ℕ)
     (shape : ShapeOf) (table : TableOf) (upward downward : List TableOf) (s : shape ≡ old.shape) (t : table ≡ slice_index_or old.tables (a - 1) table) (u : upward ≡ old.upward) (d : downward ≡ old.downward)
     (gathered : TableOf) (h : (q : Placing) → CanGather plus shape table upward downward a (Some b) q → HasGathered plus shape a (Some b) (neighbours shape.tree a) gathered q) where
   module _ (p : Placing) (has : HasPlaced old p) (linked_too : is_linked old.shape.tree a b ≡ true) (right : AreRightBut plus old p a b) where
     gathered_there : HasGathered plus old.shape a (Some b) (neighbours old.shape.tree a) gathered p
     gathered_there =
         let clique = sender old p has a b linked_too in
-        has_gathered plus old p a (Some b) has clique right shape table upward downward s (sym (table_read old.tables (a - 1) table (table_within old scratch cells kept a clique) t)) u d gathered h
+        has_gathered plus old p a (Some b) has clique right shape table upward downward s (sym (table_read old.tables (a - 1) table (table_within old gathered_tables cells kept a clique) t)) u d gathered h
 
     pub room_there : HasRoom gathered (2 * cells_in gathered.scope)
     room_there = send_room old p has a b linked_too plus law gathered gathered_there
 
     module _ (before : TableOf) where
       pub lies_up : b < a → before ≡ slice_index_or old.upward (a - 2) before → LiesIn before.scope gathered.scope
-      lies_up l e = send_lies_in old p has a b linked_too plus law gathered gathered_there before (separator_up old scratch cells kept a b (upward_child old p has a b linked_too l) l before e)
+      lies_up l e = send_lies_in old p has a b linked_too plus law gathered gathered_there before (separator_up old gathered_tables cells kept a b (upward_child old p has a b linked_too l) l before e)
 
       pub lies_down : a ≤ b → before ≡ slice_index_or old.downward (b - 2) before → LiesIn before.scope gathered.scope
-      lies_down l e = send_lies_in old p has a b linked_too plus law gathered gathered_there before (separator_down old scratch cells kept a b (downward_child old p has a b linked_too l) l before e)
+      lies_down l e = send_lies_in old p has a b linked_too plus law gathered gathered_there before (separator_down old gathered_tables cells kept a b (downward_child old p has a b linked_too l) l before e)
 
       module _ (after : TableOf) (computed : ℕ) (margin : IsMargin plus gathered before after) where
         pub right_up : b < a → before ≡ slice_index_or old.upward (a - 2) before → IsRight plus (with_upward old (a - 2) after computed) p a b
         right_up l e =
             let c = upward_child old p has a b linked_too l in
-            sent_right old p has a b linked_too plus law gathered gathered_there before after (separator_up old scratch cells kept a b c l before e) margin (with_upward old (a - 2) after computed) refl
+            sent_right old p has a b linked_too plus law gathered gathered_there before after (separator_up old gathered_tables cells kept a b c l before e) margin (with_upward old (a - 2) after computed) refl
             (message_up old a b computed after l (omega (arith, kept.one_less_up, c.later, c.within)))
 
         pub right_down : a ≤ b → before ≡ slice_index_or old.downward (b - 2) before → IsRight plus (with_downward old (b - 2) after computed) p a b
         right_down l e =
             let c = downward_child old p has a b linked_too l in
-            sent_right old p has a b linked_too plus law gathered gathered_there before after (separator_down old scratch cells kept a b c l before e) margin (with_downward old (b - 2) after computed) refl
+            sent_right old p has a b linked_too plus law gathered gathered_there before after (separator_down old gathered_tables cells kept a b c l before e) margin (with_downward old (b - 2) after computed) refl
             (message_down old a b computed after l (omega (arith, kept.one_less_down, c.later, c.within)))
 
 -- the flow is kept after both
-module _ (old : FlowOf) (scratch : List TableOf) (cells computed : ℕ) (kept : IsKept old scratch cells) (p : Placing) (has : HasPlaced old p) (a b : ℕ) (linked_too : is_linked old.shape.tree a b ≡ true)
-    (was gathered : TableOf) (e : was ≡ slice_index_or scratch (a - 1) was) (same : gathered.scope ≡ was.scope) (before after : TableOf) (over : after.scope ≡ before.scope) where
-  pub all_kept_up : b < a → before ≡ slice_index_or old.upward (a - 2) before → IsKept (with_upward old (a - 2) after computed) (slice_set scratch (a - 1) gathered) cells
+module _ (old : FlowOf) (gathered_tables : List TableOf) (cells computed : ℕ) (kept : IsKept old gathered_tables cells) (p : Placing) (has : HasPlaced old p) (a b : ℕ) (linked_too : is_linked old.shape.tree a b ≡ true)
+    (was gathered : TableOf) (e : was ≡ slice_index_or gathered_tables (a - 1) was) (same : gathered.scope ≡ was.scope) (before after : TableOf) (over : after.scope ≡ before.scope) where
+  pub all_kept_up : b < a → before ≡ slice_index_or old.upward (a - 2) before → IsKept (with_upward old (a - 2) after computed) (slice_set gathered_tables (a - 1) gathered) cells
   all_kept_up l f =
       let c = upward_child old p has a b linked_too l in
-      kept_upward old (slice_set scratch (a - 1) gathered) cells computed (scratch_kept old scratch cells kept a (sender old p has a b linked_too) was gathered e same) (a - 2) before after
+      kept_upward old (slice_set gathered_tables (a - 1) gathered) cells computed (gathered_kept old gathered_tables cells kept a (sender old p has a b linked_too) was gathered e same) (a - 2) before after
       (omega (arith, kept.one_less_up, c.later, c.within)) f over
 
-  pub all_kept_down : a ≤ b → before ≡ slice_index_or old.downward (b - 2) before → IsKept (with_downward old (b - 2) after computed) (slice_set scratch (a - 1) gathered) cells
+  pub all_kept_down : a ≤ b → before ≡ slice_index_or old.downward (b - 2) before → IsKept (with_downward old (b - 2) after computed) (slice_set gathered_tables (a - 1) gathered) cells
   all_kept_down l f =
       let c = downward_child old p has a b linked_too l in
-      kept_downward old (slice_set scratch (a - 1) gathered) cells computed (scratch_kept old scratch cells kept a (sender old p has a b linked_too) was gathered e same) (b - 2) before after
+      kept_downward old (slice_set gathered_tables (a - 1) gathered) cells computed (gathered_kept old gathered_tables cells kept a (sender old p has a b linked_too) was gathered e same) (b - 2) before after
       (omega (arith, kept.one_less_down, c.later, c.within)) f over

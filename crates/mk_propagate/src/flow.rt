@@ -29,8 +29,10 @@ pub struct Flow<R: Semiring> {
     pub(crate) tables: Vec<Table<R>>,
     pub(crate) upward: Vec<Table<R>>,
     pub(crate) downward: Vec<Table<R>>,
-    // Where a message or a belief is worked out: one table for each clique, and the cells of an event.
-    pub(crate) scratch: Vec<Table<R>>,
+    // What each clique gathered last. Where it is current it has the clique's table times the messages of all its neighbours.
+    pub(crate) gathered: Vec<Table<R>>,
+    pub(crate) current: Vec<bool>,
+    // Where the cells of an event are listed.
     pub(crate) chosen: CellList,
     // Of all cliques.
     pub(crate) cells: u32,
@@ -40,7 +42,7 @@ pub struct Flow<R: Semiring> {
 
 impl<R: Semiring> Model for Flow<R> {
     ghost use Rattle.mk_propagate.specs.Flows.{FlowOf};
-    ghost use Rattle.mk_propagate.specs.inner.Kept.{IsKept};
+    ghost use Rattle.mk_propagate.specs.inner.Kept.{IsFlow};
 
     ghost Value = { FlowOf };
 
@@ -53,14 +55,14 @@ impl<R: Semiring> Model for Flow<R> {
       computed = f.computed;
     } };
 
-    ghost invariant = { λ f. IsKept (record {
+    ghost invariant = { λ f. IsFlow R.plus_of (record {
       shape = f.shape.value;
       tables = f.tables.items;
       upward = f.upward.items;
       downward = f.downward.items;
       factors = f.factors;
       computed = f.computed;
-    }) f.scratch.items f.cells };
+    }) f.gathered.items f.current.items f.cells };
 }
 
 impl<R: Semiring> Flow<R> {
@@ -75,13 +77,14 @@ impl<R: Semiring> Flow<R> {
         let tables = tables_of_cliques(alloc, of)?;
         let upward = tables_of_separators(alloc, of)?;
         let downward = tables_of_separators(alloc, of)?;
-        let scratch = tables_of_cliques(alloc, of)?;
+        let gathered = tables_of_cliques(alloc, of)?;
         Ok(Flow {
             shape: shape.clone()?,
             tables,
             upward,
             downward,
-            scratch,
+            gathered,
+            current: vec![in alloc; false; of.cliques() as usize]?,
             chosen: CellList::new(),
             cells: count_cells(of),
             factors: 0,
@@ -111,7 +114,9 @@ impl<R: Semiring> Flow<R> {
             → Places R.plus_of self.old self.new clique p (with_factor_in clique (RowsOf variable) p) }
         ensures kept { KeepsMessages self.old self.new }
     {
-        self.tables[clique as usize - 1].times_rows(net, variable);
+        let place = clique as usize - 1;
+        self.tables[place].times_rows(net, variable);
+        self.current[place] = false;
         self.factors += 1;
     }
 
@@ -123,7 +128,9 @@ impl<R: Semiring> Flow<R> {
             → Places R.plus_of self.old self.new clique p (with_factor_in clique (RatioOf (trade_ratio ratio.now)) p) }
         ensures kept { KeepsMessages self.old self.new }
     {
-        self.tables[clique as usize - 1].times_ratio(ratio);
+        let place = clique as usize - 1;
+        self.tables[place].times_ratio(ratio);
+        self.current[place] = false;
         self.factors += 1;
     }
 
@@ -133,7 +140,9 @@ impl<R: Semiring> Flow<R> {
         ensures places { (p : Placing) → HasPlaced self.old p → Places R.plus_of self.old self.new clique p (with_pair_in clique pair p) }
         ensures kept { KeepsMessages self.old self.new }
     {
-        self.tables[clique as usize - 1].restrict(pair);
+        let place = clique as usize - 1;
+        self.tables[place].restrict(pair);
+        self.current[place] = false;
     }
 }
 

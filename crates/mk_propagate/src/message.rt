@@ -1,12 +1,12 @@
 //! Messages.
 
-ghost use Rattle.std.specs.Prelude.{◌≡◌, ◌≢◌, ℕ, ◌+◌, ◌*◌, ◌<◌, ◌≤◌, length, true, slice_index_or};
+ghost use Rattle.std.specs.Prelude.{◌≡◌, ◌≢◌, ℕ, ◌+◌, ◌*◌, ◌<◌, ◌≤◌, length, true, None, Some, if◌then◌else◌};
 ghost use Rattle.mk_table.specs.Scopes.{LiesIn, cells_in};
 ghost use Rattle.mk_table.specs.Tables.{HasRoom};
-ghost use Rattle.mk_propagate.specs.Shapes.{IsClique, are_linked, neighbours};
+ghost use Rattle.mk_propagate.specs.Shapes.{IsClique, are_linked};
 ghost use Rattle.mk_propagate.specs.Placings.{Placing};
-ghost use Rattle.mk_propagate.specs.Flows.{HasPlaced, AreRightBut, IsRight, CanSend, KeepsTables, message_at, no_table, counted_on};
-ghost use Rattle.mk_propagate.specs.inner.Gathered.{is_taken, message_in, AreMessages, CanGather, HasGathered, IsMargin};
+ghost use Rattle.mk_propagate.specs.Flows.{HasPlaced, AreRightBut, IsRight, CanSend, KeepsTables, message_at, counted_on};
+ghost use Rattle.mk_propagate.specs.inner.Gathered.{is_taken, message_in, AreMessages, CanGather, HasAllGathered, IsMargin};
 
 use crate::flow::Flow;
 use crate::shape::Shape;
@@ -24,34 +24,107 @@ impl<R: Semiring> Flow<R> {
         ensures counted { self.new.computed ≡ counted_on self.old.computed 1 }
     {
         let place = from as usize - 1;
-        let gathered = &mut self.scratch[place];
-        gather(
+        let gathered = &mut self.gathered[place];
+        let table = &self.tables[place];
+        let gathers = gather_for(
             gathered,
-            &self.tables[place],
+            &mut self.current[place],
+            table,
             &self.shape,
             &self.upward,
             &self.downward,
             from,
-            Some(to),
+            to,
         );
+        let sent = one_of(gathers, gathered, table);
+        self.current[to as usize - 1] = false;
         self.computed = self.computed.saturating_add(1);
         if to < from {
-            send(gathered, &mut self.upward[from as usize - 2]);
+            send(sent, &mut self.upward[from as usize - 2]);
         } else {
-            send(gathered, &mut self.downward[to as usize - 2]);
+            send(sent, &mut self.downward[to as usize - 2]);
         }
     }
 }
 
-/// Puts into a message the plus, over what it does not hold, of what its sender gathered.
-fn send<R: Semiring>(gathered: &Table<R>, message: &mut Table<R>)
-    requires lies_in { LiesIn message.old.scope gathered.now.scope }
-    requires room { HasRoom gathered.now (2 * cells_in gathered.now.scope) }
-    ensures { IsMargin R.plus_of gathered.now message.old message.new }
+/// Puts into a message the plus, over what it does not hold, of what its sender has for the receiver.
+fn send<R: Semiring>(sent: &Table<R>, message: &mut Table<R>)
+    requires lies_in { LiesIn message.old.scope sent.now.scope }
+    requires room { HasRoom sent.now (2 * cells_in sent.now.scope) }
+    ensures { IsMargin R.plus_of sent.now message.old message.new }
 {
-    gathered.margin_into(message);
+    sent.margin_into(message);
     // The proof learns here that the table has a place for each cell of its scope, and no more.
     let _ = message.cells();
+}
+
+/// Gathers from all neighbours of a clique, unless what it gathered is current.
+pub(crate) fn refresh<R: Semiring>(
+    gathered: &mut Table<R>,
+    current: &mut bool,
+    table: &Table<R>,
+    shape: &Shape,
+    upward: &[Table<R>],
+    downward: &[Table<R>],
+    clique: u32,
+)
+    requires clique { IsClique shape.now.tree clique }
+    requires scope { gathered.old.scope ≡ table.now.scope }
+    requires messages { AreMessages shape.now upward.now downward.now }
+    requires right { (p : Placing) × CanGather R.plus_of shape.now table.now upward.now downward.now clique None p }
+    requires current { current.old ≡ true → HasAllGathered R.plus_of shape.now table.now upward.now downward.now clique None gathered.old }
+    ensures scope { gathered.new.scope ≡ gathered.old.scope }
+    ensures gathered { HasAllGathered R.plus_of shape.now table.now upward.now downward.now clique None gathered.new }
+{
+    if !*current {
+        gather(gathered, table, shape, upward, downward, clique, None);
+        *current = true;
+    }
+}
+
+/// Gathers for a receiver, unless a clique has no other neighbour: then its table has all that it sends. Answers whether it gathered.
+fn gather_for<R: Semiring>(
+    gathered: &mut Table<R>,
+    current: &mut bool,
+    table: &Table<R>,
+    shape: &Shape,
+    upward: &[Table<R>],
+    downward: &[Table<R>],
+    clique: u32,
+    receiver: u32,
+) -> bool
+    requires linked { are_linked shape.now.tree clique receiver ≡ true }
+    requires scope { gathered.old.scope ≡ table.now.scope }
+    requires messages { AreMessages shape.now upward.now downward.now }
+    requires right { (p : Placing) × CanGather R.plus_of shape.now table.now upward.now downward.now clique (Some receiver) p }
+    ensures scope { gathered.new.scope ≡ gathered.old.scope }
+    ensures sent { HasAllGathered R.plus_of shape.now table.now upward.now downward.now clique (Some receiver) (if result then gathered.new else table.now) }
+    ensures current { current.new ≡ true → (current.old ≡ true) × (gathered.new ≡ gathered.old) }
+{
+    // As in `send`, for the clique's table.
+    let _ = table.cells();
+    let neighbours = shape.neighbours(clique);
+    if neighbours.len() < 2 {
+        return false;
+    }
+    gather(
+        gathered,
+        table,
+        shape,
+        upward,
+        downward,
+        clique,
+        Some(receiver),
+    );
+    *current = false;
+    true
+}
+
+/// One of two tables.
+fn one_of<'a, R: Semiring>(first: bool, a: &'a Table<R>, b: &'a Table<R>) -> &'a Table<R>
+    ensures { result.now ≡ (if first then a.now else b.now) }
+{
+    if first { a } else { b }
 }
 
 /// Puts into a table of a clique what is placed there, times the messages of its neighbours, but for a receiver's.
@@ -69,8 +142,7 @@ pub(crate) fn gather<R: Semiring>(
     requires messages { AreMessages shape.now upward.now downward.now }
     requires right { (p : Placing) × CanGather R.plus_of shape.now table.now upward.now downward.now clique receiver p }
     ensures scope { gathered.new.scope ≡ gathered.old.scope }
-    ensures gathered { (p : Placing) → CanGather R.plus_of shape.now table.now upward.now downward.now clique receiver p
-        → HasGathered R.plus_of shape.now clique receiver (neighbours shape.now.tree clique) gathered.new p }
+    ensures gathered { HasAllGathered R.plus_of shape.now table.now upward.now downward.now clique receiver gathered.new }
 {
     table.copy_into(gathered);
     // As in `send`, for the clique's table.

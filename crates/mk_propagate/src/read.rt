@@ -5,7 +5,7 @@ ghost use Rattle.mk_propagate.specs.Placings.{Placing};
 ghost use Rattle.mk_propagate.specs.Flows.{HasPlaced, AreRightInto, CanRead, IsReading};
 
 use crate::flow::Flow;
-use crate::message::gather;
+use crate::message::refresh;
 use mk_net::Event;
 use mk_semiring::Semiring;
 
@@ -19,15 +19,15 @@ impl<R: Semiring> Flow<R> {
             → IsReading R.encloses R.has_grade R.is_exact R.plus_of self.old.shape.tree p clique event.now result }
     {
         let place = clique as usize - 1;
-        let gathered = &mut self.scratch[place];
-        gather(
+        let gathered = &mut self.gathered[place];
+        refresh(
             gathered,
+            &mut self.current[place],
             &self.tables[place],
             &self.shape,
             &self.upward,
             &self.downward,
             clique,
-            None,
         );
         let separators = self.shape.cliques() - 1;
         let grade = self.factors + self.cells + 2 * separators + gathered.cells() as u32;

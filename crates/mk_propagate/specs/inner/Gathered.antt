@@ -61,6 +61,11 @@ pub record HasGathered (plus : ℕ → ℕ → ℕ) (shape : ShapeOf) (k : ℕ) 
       (gathered_steps shape.tree p k receiver listed) (gathered_factors shape.tree p k receiver listed)
   pub full : length table.digits ≡ cells_in table.scope
 
+-- a table has it of all neighbours whose messages are taken, at each placing at which clique k can gather
+abbrev pub HasAllGathered : (ℕ → ℕ → ℕ) → ShapeOf → TableOf → List TableOf → List TableOf → ℕ → Option ℕ → TableOf → Type 0
+HasAllGathered plus shape table upward downward k receiver t =
+    (p : Placing) → CanGather plus shape table upward downward k receiver p → HasGathered plus shape k receiver (neighbours shape.tree k) t p
+
 -- a table has it for the first so many neighbours, at each placing
 pub record IsGathering (plus : ℕ → ℕ → ℕ) (shape : ShapeOf) (table : TableOf) (upward downward : List TableOf) (k : ℕ) (receiver : Option ℕ) (passed : ℕ) (t : TableOf) : Type 0 where
   pub scope : t.scope ≡ table.scope

@@ -5,6 +5,8 @@ use Rattle.mk_net.specs.Network.{Variable, sizes}
 use Rattle.mk_exact.specs.Proper.{IsPairOf}
 use Rattle.mk_tree.specs.Given.{GivenTree, clique_at}
 use Rattle.mk_propagate.specs.Shapes.{ShapeOf, IsClique}
+use Rattle.mk_propagate.specs.Placings.{with_pair_in}
+use Rattle.mk_propagate.proofs.Ready.{into_after}
 use Rattle.mk_propagate.proofs.tests.know.Goals as goal
 
 pub restrict-requires : goal.restrict-requires
@@ -26,8 +28,17 @@ restrict-requires g c =
       },
     )
 
-pub returns : goal.returns
-returns g c =
+pub returns-clause-some : goal.returns-clause-some
+returns-clause-some g c =
     let some = c.requires in
     let placed = (c.restrict.ensures.places some.placing some.has).placed in
     record { placing = _; has = placed; of_network = some.of_network; counted = some.counted }
+
+pub returns-clause-ready : goal.returns-clause-ready
+returns-clause-ready g c = λ ready.
+    let some = ready.some in let clique = c.args.clique in let after = with_pair_in clique c.args.pair some.placing in
+    let places = c.restrict.ensures.places some.placing some.has in
+    record {
+      some = record { placing = after; has = places.placed; of_network = some.of_network; counted = some.counted };
+      right = into_after g.R.Semiring.plus_of c.args.flow.now c.restrict.new.self clique some.placing after places c.restrict.ensures.kept.same_shape ready.right;
+    }
