@@ -1,5 +1,6 @@
 pub mod Scopes
 pub mod Shaped
+pub mod Laid
 pub mod Placed
 pub mod Required
 pub mod Calls

@@ -4,16 +4,16 @@ use Rattle.std.proofs.lemmas.Bool.{cases_eq, cases_lt}
 use Rattle.std.proofs.lemmas.List.{get_or-set_same, get_or-set_other, length-set}
 use Rattle.mk_exact.specs.Lawful.{Lawful}
 use Rattle.mk_sums.proofs.Hops.{AreLinked, IsChild, are_linked}
-use Rattle.mk_table.specs.Scopes.{ScopeOf, LiesIn, cells_in}
+use Rattle.mk_table.specs.Scopes.{ScopeOf, PlacesOf, cells_in}
 use Rattle.mk_table.specs.Tables.{TableOf, HasRoom}
 use Rattle.mk_tree.specs.Given.{link_of}
-use Rattle.mk_propagate.specs.Shapes.{ShapeOf, IsClique, are_linked as is_linked, separator_scope, separator_between, neighbours}
+use Rattle.mk_propagate.specs.Shapes.{ShapeOf, IsClique, are_linked as is_linked, clique_scope, separator_scope, separator_between, neighbours}
 use Rattle.mk_propagate.specs.Placings.{Placing}
 use Rattle.mk_propagate.specs.Flows.{FlowOf, HasPlaced, IsRight, AreRightBut, no_table, table_at, message_at}
 use Rattle.mk_propagate.specs.inner.Kept.{IsKept}
 use Rattle.mk_propagate.specs.inner.Gathered.{is_input, IsRightIn, CanGather, HasGathered, IsMargin}
 use Rattle.mk_propagate.proofs.Placed.{table_read}
-use Rattle.mk_propagate.proofs.Messages.{are_ends, separator_lies_in, whole_room, message_sent}
+use Rattle.mk_propagate.proofs.Messages.{are_ends, whole_room, message_sent}
 
 -- a list of tables, one of which is put anew over the same scope
 pub same_scopes : (ts : List TableOf) (i j : ℕ) (t : TableOf) → i < length ts → t.scope ≡ (slice_index_or ts i no_table).scope → (slice_index_or (slice_set ts i t) j no_table).scope ≡ (slice_index_or ts j no_table).scope
@@ -137,11 +137,10 @@ module _ (old : FlowOf) (p : Placing) (has : HasPlaced old p) (a b : ℕ) (linke
   downward_child l = child_down l (are_linked (link_of old.shape.tree) (length old.shape.tree.cliques) a b linked_too)
 
   module _ (plus : ℕ → ℕ → ℕ) (law : Lawful plus) (gathered : TableOf) (g : HasGathered plus old.shape a (Some b) (neighbours old.shape.tree a) gathered p) where
-    pub send_lies_in : (before : TableOf) → before.scope ≡ separator_between old.shape a b → LiesIn before.scope gathered.scope
-    send_lies_in before e =
-        subst (λ (s : ScopeOf). LiesIn s gathered.scope) (sym e)
-        (subst (λ (s : ScopeOf). LiesIn (separator_between old.shape a b) s) (sym g.cells.scope_is)
-        (separator_lies_in old.shape p has.shape_is has.placing a b a linked_too (inl refl)))
+    pub send_places : (before : TableOf) → before.scope ≡ separator_between old.shape a b → (places : PlacesOf) → places ≡ record { whole = clique_scope old.shape a; part = separator_between old.shape a b }
+        → places ≡ record { whole = gathered.scope; part = before.scope }
+    send_places before e places q =
+        q ∙ ap (λ (s : ScopeOf). record { whole = s; part = separator_between old.shape a b }) (sym g.cells.scope_is) ∙ ap (λ (s : ScopeOf). record { whole = gathered.scope; part = s }) (sym e)
 
     pub send_room : HasRoom gathered (2 * cells_in gathered.scope)
     send_room = whole_room old.shape p has.shape_is has.placing plus law a sender (Some b) gathered g
@@ -219,11 +218,15 @@ module _ (plus : ℕ → ℕ → ℕ) (law : Lawful plus) (old : FlowOf) (gather
     room_there = send_room old p has a b linked_too plus law gathered gathered_there
 
     module _ (before : TableOf) where
-      pub lies_up : b < a → before ≡ slice_index_or old.upward (a - 2) before → LiesIn before.scope gathered.scope
-      lies_up l e = send_lies_in old p has a b linked_too plus law gathered gathered_there before (separator_up old gathered_tables cells kept a b (upward_child old p has a b linked_too l) l before e)
+      pub places_up : b < a → before ≡ slice_index_or old.upward (a - 2) before → (places : PlacesOf) → places ≡ record { whole = clique_scope shape a; part = separator_between shape a b } → places ≡ record { whole = gathered.scope; part = before.scope }
+      places_up l e places q =
+          send_places old p has a b linked_too plus law gathered gathered_there before (separator_up old gathered_tables cells kept a b (upward_child old p has a b linked_too l) l before e) places
+          (subst (λ (x : ShapeOf). places ≡ record { whole = clique_scope x a; part = separator_between x a b }) s q)
 
-      pub lies_down : a ≤ b → before ≡ slice_index_or old.downward (b - 2) before → LiesIn before.scope gathered.scope
-      lies_down l e = send_lies_in old p has a b linked_too plus law gathered gathered_there before (separator_down old gathered_tables cells kept a b (downward_child old p has a b linked_too l) l before e)
+      pub places_down : a ≤ b → before ≡ slice_index_or old.downward (b - 2) before → (places : PlacesOf) → places ≡ record { whole = clique_scope shape a; part = separator_between shape a b } → places ≡ record { whole = gathered.scope; part = before.scope }
+      places_down l e places q =
+          send_places old p has a b linked_too plus law gathered gathered_there before (separator_down old gathered_tables cells kept a b (downward_child old p has a b linked_too l) l before e) places
+          (subst (λ (x : ShapeOf). places ≡ record { whole = clique_scope x a; part = separator_between x a b }) s q)
 
       module _ (after : TableOf) (computed : ℕ) (margin : IsMargin plus gathered before after) where
         pub right_up : b < a → before ≡ slice_index_or old.upward (a - 2) before → IsRight plus (with_upward old (a - 2) after computed) p a b

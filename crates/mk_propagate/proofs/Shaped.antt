@@ -11,9 +11,10 @@ use Rattle.mk_tree.specs.Given.{GivenTree, link_of, holds}
 use Rattle.mk_tree.specs.Given as given
 use Rattle.mk_tree.specs.Checked.{IsTreeOf}
 use Rattle.mk_net.specs.Network.{Variable, IsNetwork}
-use Rattle.mk_table.specs.Scopes.{ScopeOf}
-use Rattle.mk_propagate.specs.Shapes.{ShapeOf, IsClique, IsShapeFor, next_on_way, scope_within, shares, no_scope}
-use Rattle.mk_propagate.specs.inner.Shaped.{IsRowFrom, AreRows, IsShaped, scopes_of_cliques, scopes_of_separators, lists_of_neighbours}
+use Rattle.mk_table.specs.Scopes.{ScopeOf, PlacesOf, LiesIn}
+use Rattle.mk_propagate.specs.Shapes.{ShapeOf, IsClique, IsShapeFor, clique_scope, separator_scope, next_on_way, scope_within, shares, no_scope}
+use Rattle.mk_propagate.specs.inner.Shaped.{IsRowFrom, AreRows, IsShaped, CanPlaceSeparators, scopes_of_cliques, scopes_of_separators, lists_of_neighbours, shape_of, whole_of, places_of}
+use Rattle.mk_propagate.proofs.Scopes.{shared_lies_in, shared_lies_in_link}
 
 map_push : {A B : Type 0} (f : A → B) (xs : List A) (y : A) → map f (xs ++ y ∷ []) ≡ map f xs ++ f y ∷ []
 map_push f [] y = refl
@@ -24,6 +25,12 @@ pub one_more : {A B : Type 0} (f : A → B) (g : ℕ → B) (xs ys : List A) (y 
     → map f ys ≡ map g (range_with_len a (n + 1))
 one_more f g xs ys y a n j h pushed e at =
     ap (map f) pushed ∙ map_push f xs y ∙ ap (λ zs. zs ++ f y ∷ []) h ∙ ap (λ z. map g (range_with_len a n) ++ z ∷ []) e ∙ sym (map-range_with_len_more g a n j at)
+
+-- the same of a list that is one of the function's values
+pub one_more_listed : {B : Type 0} (g : ℕ → B) (xs ys : List B) (y : B) (a n j : ℕ) → xs ≡ map g (range_with_len a n) → ys ≡ xs ++ y ∷ [] → y ≡ g j → a + n ≡ j
+    → ys ≡ map g (range_with_len a (n + 1))
+one_more_listed g xs ys y a n j h pushed e at =
+    pushed ∙ ap (λ zs. zs ++ y ∷ []) h ∙ ap (λ z. map g (range_with_len a n) ++ z ∷ []) e ∙ sym (map-range_with_len_more g a n j at)
 
 filter_push : (p : ℕ → Bool) (xs : List ℕ) (y : ℕ) → filter p (xs ++ y ∷ []) ≡ filter p xs ++ cond (p y) (y ∷ []) []
 filter_push p [] y = refl
@@ -145,9 +152,13 @@ module _ (shape : ShapeOf) (network : List Variable) (tree : GivenTree) (tree_is
   counts : length shape.tree.cliques ≡ length tree.cliques
   counts = ap (λ (t : GivenTree). length t.cliques) tree_is
 
-  pub shaped : given.AreLinked tree → (lists next : List (List ℕ)) → lists ≡ lists_of_neighbours tree (length tree.cliques) → AreRows tree (length tree.cliques) next → IsShaped shape lists next
-  shaped linked lists next l r = record {
+  pub shaped : given.AreLinked tree → (in_cliques in_links : List PlacesOf) → in_cliques ≡ places_of (shape_of tree shape.cliques shape.separators) false (length tree.cliques - 1)
+      → in_links ≡ places_of (shape_of tree shape.cliques shape.separators) true (length tree.cliques - 1)
+      → (lists next : List (List ℕ)) → lists ≡ lists_of_neighbours tree (length tree.cliques) → AreRows tree (length tree.cliques) next → IsShaped shape in_cliques in_links lists next
+  shaped linked in_cliques in_links p q lists next l r = record {
     linked = subst given.AreLinked (sym tree_is) linked;
+    in_cliques_are = subst (λ (t : GivenTree). in_cliques ≡ places_of (shape_of t shape.cliques shape.separators) false (length t.cliques - 1)) (sym tree_is) p;
+    in_links_are = subst (λ (t : GivenTree). in_links ≡ places_of (shape_of t shape.cliques shape.separators) true (length t.cliques - 1)) (sym tree_is) q;
     one_each = ap length cliques ∙ length-map-range_with_len (λ k. scope_within network (holds tree k)) 1 (length tree.cliques) ∙ sym counts;
     one_less =
         let n = ap length separators ∙ length-map-range_with_len (λ k. scope_within network (shares tree k)) 2 (length tree.cliques - 1) in
@@ -173,3 +184,49 @@ module _ (shape : ShapeOf) (network : List Variable) (tree : GivenTree) (tree_is
         ∙ get_or-map-range_with_len (λ i. scope_within network (shares tree i)) 2 (length tree.cliques - 1) (k - 2) k no_scope (omega (arith, at.first, at.last, counts)) (omega arith)
         ∙ ap (λ (t : GivenTree). scope_within network (shares t k)) (sym tree_is);
   }
+
+  -- each separator lies in the cliques at its ends
+  pub can_place : IsNetwork network → IsTreeOf network tree → (in_link : Bool) → CanPlaceSeparators shape in_link
+  can_place legal is in_link = record {
+    one_each = for.one_each;
+    one_less = for.one_less;
+    lie = λ k at more.
+        subst (λ (part : ScopeOf). LiesIn part (clique_scope shape (whole_of shape.tree in_link k))) (sym (for.separator_scopes k at more)) (lies in_link k at more);
+  }
+    where
+      for : IsShapeFor shape network
+      for = shape_for legal is
+
+      lies : (b : Bool) (k : ℕ) → IsClique shape.tree k → 1 < k → LiesIn (scope_within network (shares shape.tree k)) (clique_scope shape (whole_of shape.tree b k))
+      lies false k at more = subst (LiesIn (scope_within network (shares shape.tree k))) (sym (for.clique_scopes k at)) (shared_lies_in network shape.tree k)
+      lies true k at more =
+          let l = for.tree_is.linked.earlier k more at.last in
+          subst (LiesIn (scope_within network (shares shape.tree k))) (sym (for.clique_scopes (link_of shape.tree k) (record { first = l.0; last = omega (arith, l.1, at.last) })))
+          (shared_lies_in_link network shape.tree k)
+
+-- ---- the places of separators
+
+-- a scope that is read of those that are kept
+pub scope_read : {A : Type 0} (f : A → ScopeOf) (xs : List A) (i j : ℕ) (x : A) → i < length xs → i ≡ j → x ≡ get_or xs i x → f x ≡ slice_index_or (map f xs) j no_scope
+scope_read f xs i j x l same e =
+    ap f e ∙ sym (get_or-map f xs i x) ∙ get_or_default (map f xs) i (f x) no_scope (let m = length-map xs f in omega (arith, l, m)) ∙ ap (λ n. slice_index_or (map f xs) n no_scope) same
+
+-- one more
+pub place_more : (shape : ShapeOf) (in_link : Bool) (passed whole : ℕ) (old new : List PlacesOf) (places : PlacesOf) (in_whole in_part : ScopeOf) → old ≡ places_of shape in_link passed → new ≡ old ++ places ∷ []
+    → whole ≡ whole_of shape.tree in_link (passed + 2) → in_whole ≡ clique_scope shape whole → in_part ≡ separator_scope shape (passed + 2)
+    → places ≡ record { whole = in_whole; part = in_part } → new ≡ places_of shape in_link (passed + 1)
+place_more shape in_link passed whole old new places in_whole in_part h pushed is w p e =
+    one_more_listed (λ k. record { whole = clique_scope shape (whole_of shape.tree in_link k); part = separator_scope shape k }) old new places 2 passed (passed + 2) h pushed
+    (e ∙ ap (λ (s : ScopeOf). record { whole = s; part = in_part }) (w ∙ ap (clique_scope shape) is) ∙ ap (λ (s : ScopeOf). record { whole = clique_scope shape (whole_of shape.tree in_link (passed + 2)); part = s }) p)
+    (omega arith)
+
+-- how many there are
+pub places_long : (shape : ShapeOf) (in_link : Bool) (count : ℕ) (places : List PlacesOf) → places ≡ places_of shape in_link count → length places ≡ count
+places_long shape in_link count places h = ap length h ∙ length-map-range_with_len (λ k. record { whole = clique_scope shape (whole_of shape.tree in_link k); part = separator_scope shape k }) 2 count
+
+-- what is read of them
+pub places_read : (shape : ShapeOf) (in_link : Bool) (count : ℕ) (places : List PlacesOf) → places ≡ places_of shape in_link count → (k : ℕ) → 1 < k → k - 2 < count
+    → (read : PlacesOf) → read ≡ get_or places (k - 2) read → read ≡ record { whole = clique_scope shape (whole_of shape.tree in_link k); part = separator_scope shape k }
+places_read shape in_link count places h k more l read e =
+    e ∙ ap (λ (ps : List PlacesOf). get_or ps (k - 2) read) h
+    ∙ get_or-map-range_with_len (λ i. record { whole = clique_scope shape (whole_of shape.tree in_link i); part = separator_scope shape i }) 2 count (k - 2) k read l (omega arith)

@@ -129,7 +129,7 @@ impl<R: Semiring> Flow<R> {
         ensures kept { KeepsMessages self.old self.new }
     {
         let place = clique as usize - 1;
-        self.tables[place].times_ratio(ratio);
+        self.tables[place].times_ratio(ratio, &mut self.chosen);
         self.current[place] = false;
         self.factors += 1;
     }

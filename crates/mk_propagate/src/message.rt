@@ -1,7 +1,7 @@
 //! Messages.
 
 ghost use Rattle.std.specs.Prelude.{◌≡◌, ◌≢◌, ℕ, ◌+◌, ◌*◌, ◌<◌, ◌≤◌, length, true, None, Some, if◌then◌else◌};
-ghost use Rattle.mk_table.specs.Scopes.{LiesIn, cells_in};
+ghost use Rattle.mk_table.specs.Scopes.{cells_in};
 ghost use Rattle.mk_table.specs.Tables.{HasRoom};
 ghost use Rattle.mk_propagate.specs.Shapes.{IsClique, are_linked};
 ghost use Rattle.mk_propagate.specs.Placings.{Placing};
@@ -11,7 +11,7 @@ ghost use Rattle.mk_propagate.specs.inner.Gathered.{is_taken, message_in, AreMes
 use crate::flow::Flow;
 use crate::shape::Shape;
 use mk_semiring::Semiring;
-use mk_table::Table;
+use mk_table::{Places, Table};
 
 impl<R: Semiring> Flow<R> {
     /// Makes the message from a clique to one that is linked to it: the plus, over what the separator does not hold, of what is placed
@@ -37,23 +37,24 @@ impl<R: Semiring> Flow<R> {
             to,
         );
         let sent = one_of(gathers, gathered, table);
+        let places = self.shape.places(from, to);
         self.current[to as usize - 1] = false;
         self.computed = self.computed.saturating_add(1);
         if to < from {
-            send(sent, &mut self.upward[from as usize - 2]);
+            send(sent, places, &mut self.upward[from as usize - 2]);
         } else {
-            send(sent, &mut self.downward[to as usize - 2]);
+            send(sent, places, &mut self.downward[to as usize - 2]);
         }
     }
 }
 
 /// Puts into a message the plus, over what it does not hold, of what its sender has for the receiver.
-fn send<R: Semiring>(sent: &Table<R>, message: &mut Table<R>)
-    requires lies_in { LiesIn message.old.scope sent.now.scope }
+fn send<R: Semiring>(sent: &Table<R>, places: &Places, message: &mut Table<R>)
+    requires places { places.now ≡ record { whole = sent.now.scope; part = message.old.scope } }
     requires room { HasRoom sent.now (2 * cells_in sent.now.scope) }
     ensures { IsMargin R.plus_of sent.now message.old message.new }
 {
-    sent.margin_into(message);
+    sent.margin_into(places, message);
     // The proof learns here that the table has a place for each cell of its scope, and no more.
     let _ = message.cells();
 }
@@ -149,7 +150,10 @@ pub(crate) fn gather<R: Semiring>(
     let _ = gathered.cells();
     for neighbour in shape.neighbours(clique) {
         if is_taken(receiver, *neighbour) {
-            gathered.times_message(message_of(upward, downward, *neighbour, clique));
+            gathered.times_message(
+                shape.places(clique, *neighbour),
+                message_of(upward, downward, *neighbour, clique),
+            );
             let _ = gathered.cells();
         }
     }

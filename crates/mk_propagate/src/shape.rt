@@ -1,27 +1,30 @@
 //! The shape of a flow.
 
-ghost use Rattle.std.specs.Prelude.{◌≡◌, ◌≢◌, ℕ, ◌+◌, ◌-◌, ◌<◌, ◌≤◌, ◌&&◌, ◌==◌, nat_lt, nat_le, length, map, filter, IfOk};
+ghost use Rattle.std.specs.Prelude.{◌≡◌, ◌≢◌, ℕ, ◌+◌, ◌-◌, ◌<◌, ◌≤◌, ◌&&◌, ◌==◌, nat_lt, nat_le, length, map, filter, true, if◌then◌else◌, IfOk};
 ghost use Rattle.std.specs.List.{range_with_len};
 ghost use Rattle.mk_sums.specs.Trees.{linked_to};
 ghost use Rattle.mk_tree.specs.Given.{AreLinked, link_of};
 ghost use Rattle.mk_tree.specs.Checked.{IsTreeOf};
-ghost use Rattle.mk_propagate.specs.Shapes.{IsShapeFor, IsClique, clique_scope, separator_scope, are_linked, neighbours, next_on_way};
-ghost use Rattle.mk_propagate.specs.inner.Shaped.{scopes_of_cliques, scopes_of_separators, lists_of_neighbours, IsRowFrom, AreRows};
+ghost use Rattle.mk_table.specs.Scopes.{LiesIn};
+ghost use Rattle.mk_propagate.specs.Shapes.{IsShapeFor, IsClique, clique_scope, separator_scope, separator_between, are_linked, neighbours, next_on_way};
+ghost use Rattle.mk_propagate.specs.inner.Shaped.{scopes_of_cliques, scopes_of_separators, lists_of_neighbours, IsRowFrom, AreRows, CanPlaceSeparators, whole_of, places_of, shape_of};
 
 use mk_net::{Network, NoMemory};
-use mk_table::Scope;
+use mk_table::{Places, Scope};
 use mk_tree::Tree;
 use std::alloc::Global;
 use std::marker::Model;
 use std::rc::Rc;
 
-/// A copy of a tree, with the scopes of its cliques and separators, the neighbours of each clique, and the next clique on the way
-/// from each to each. It is made once; all flows over the tree share it.
+/// A copy of a tree, with the scopes of its cliques and separators, where each separator's cells lie in its clique and in the link,
+/// the neighbours of each clique, and the next clique on the way from each to each. It is made once; all flows over the tree share it.
 #[derive(Drop)]
 pub struct Shape {
     tree: Tree,
     cliques: Vec<Rc<Scope>>,
     separators: Vec<Rc<Scope>>,
+    in_cliques: Vec<Places>,
+    in_links: Vec<Places>,
     neighbours: Vec<Vec<u32>>,
     next: Vec<Vec<u32>>,
 }
@@ -43,7 +46,7 @@ impl Model for Shape {
       tree = s.tree;
       cliques = map (λ scope. scope.value) s.cliques.items;
       separators = map (λ scope. scope.value) s.separators.items;
-    }) (map (λ list. list.items) s.neighbours.items) (map (λ row. row.items) s.next.items) };
+    }) s.in_cliques.items s.in_links.items (map (λ list. list.items) s.neighbours.items) (map (λ row. row.items) s.next.items) };
 }
 
 impl Shape {
@@ -54,10 +57,16 @@ impl Shape {
         ensures shape { IfOk result (λ shape. IsShapeFor shape net.now) }
     {
         let _ = (net.variables(), tree.cliques());
+        let cliques = clique_scopes(alloc, net, tree)?;
+        let separators = separator_scopes(alloc, net, tree)?;
+        let in_cliques = separator_places(alloc, tree, &cliques, &separators, false)?;
+        let in_links = separator_places(alloc, tree, &cliques, &separators, true)?;
         Ok(Shape {
             tree: tree.copy(alloc)?,
-            cliques: clique_scopes(alloc, net, tree)?,
-            separators: separator_scopes(alloc, net, tree)?,
+            cliques,
+            separators,
+            in_cliques,
+            in_links,
             neighbours: neighbour_lists(alloc, tree)?,
             next: next_rows(alloc, tree)?,
         })
@@ -93,6 +102,18 @@ impl Shape {
         ensures { result.now.value ≡ separator_scope self.now k }
     {
         &self.separators[k as usize - 2]
+    }
+
+    /// Where the cells of the separator between two cliques that are linked lie in the first.
+    pub fn places(&self, clique: u32, neighbour: u32) -> &Places
+        requires { are_linked self.now.tree clique neighbour ≡ true }
+        ensures { result.now ≡ record { whole = clique_scope self.now clique; part = separator_between self.now clique neighbour } }
+    {
+        if neighbour < clique {
+            &self.in_cliques[clique as usize - 2]
+        } else {
+            &self.in_links[neighbour as usize - 2]
+        }
     }
 
     /// The cliques that are linked to a clique, in rising order.
@@ -143,6 +164,40 @@ fn separator_scopes(alloc: Global, net: &Network, tree: &Tree) -> Result<Vec<Rc<
         scopes.push(Rc::new(alloc, scope)?)?;
     }
     Ok(scopes)
+}
+
+/// Where the cells of each separator lie in its clique, or in the clique's link.
+fn separator_places(
+    alloc: Global,
+    tree: &Tree,
+    cliques: &[Rc<Scope>],
+    separators: &[Rc<Scope>],
+    in_link: bool,
+) -> Result<Vec<Places>, NoMemory>
+    requires { CanPlaceSeparators (shape_of tree.now (map (λ scope. scope.value) cliques.now) (map (λ scope. scope.value) separators.now)) in_link }
+    ensures { IfOk result (λ places. places.items
+        ≡ places_of (shape_of tree.now (map (λ scope. scope.value) cliques.now) (map (λ scope. scope.value) separators.now)) in_link (length tree.now.cliques - 1)) }
+{
+    let mut places = Vec::new(alloc);
+    for passed in 0..tree.cliques() - 1 {
+        let whole = whole_of(tree, passed + 2, in_link);
+        places.push(Places::of(
+            alloc,
+            &cliques[whole as usize - 1],
+            &separators[passed as usize],
+        )?)?;
+    }
+    Ok(places)
+}
+
+/// A clique, from 2 on, or its link.
+fn whole_of(tree: &Tree, k: u32, in_link: bool) -> u32
+    requires clique { IsClique tree.now k }
+    requires linked { 1 < k }
+    ensures whole { result ≡ whole_of tree.now in_link k }
+    ensures clique { IsClique tree.now result }
+{
+    if in_link { link(tree, k) } else { k }
 }
 
 /// The link of a clique, from 2 on.

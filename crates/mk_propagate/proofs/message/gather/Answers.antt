@@ -1,16 +1,17 @@
-use Rattle.std.proofs.Common.{◌≡◌, ℕ, ◌+◌, ◌*◌, ◌<◌, Bool, true, false, inr, List, Option, length, take, get_or, slice_index_or, refl, sym, ap, subst, ◌∙◌, arith}
+use Rattle.std.proofs.Common.{◌≡◌, ℕ, ◌+◌, ◌*◌, ◌<◌, Bool, true, false, List, Option, length, take, get_or, max, slice_index_or, refl, sym, ap, subst, ◌∙◌, arith}
 use Rattle.std.proofs.Math.Seq.{take-length}
 use Rattle.std.proofs.lemmas.Bool.{and_from}
 use Rattle.mk_exact.specs.Lawful.{Lawful}
 use Rattle.mk_sums.specs.Trees.{linked}
-use Rattle.mk_table.specs.Scopes.{ScopeOf, LiesIn, cells_in}
+use Rattle.mk_sums.proofs.Hops.{are_linked, linked_back, linked_from}
+use Rattle.mk_table.specs.Scopes.{ScopeOf, PlacesOf, cells_in}
 use Rattle.mk_table.specs.Cells.{cell_in}
 use Rattle.mk_table.specs.Tables.{TableOf, HasNumbers}
 use Rattle.mk_tree.specs.Given.{link_of}
-use Rattle.mk_propagate.specs.Shapes.{ShapeOf, IsClique, neighbours, separator_between}
+use Rattle.mk_propagate.specs.Shapes.{ShapeOf, IsClique, clique_scope, separator_scope, neighbours, separator_between}
 use Rattle.mk_propagate.specs.Placings.{Placing}
 use Rattle.mk_propagate.specs.inner.Gathered.{is_taken, message_in, CanGather, HasGathered, IsGathering, IsRightIn}
-use Rattle.mk_propagate.proofs.Messages.{neighbour_linked, are_ends, separator_lies_in, begins, passed_by, taken_too, taken_room, message_room}
+use Rattle.mk_propagate.proofs.Messages.{neighbour_linked, are_ends, begins, passed_by, taken_too, taken_room, message_room}
 use Rattle.mk_propagate.proofs.message.gather.Goals as goal
 use Rattle.mk_propagate.proofs.message.gather.Goals.{then-is_taken, else-is_taken}
 
@@ -62,22 +63,27 @@ right_there plus shape table upward downward k j i receiver p taken message h at
     subst (λ (t : TableOf). IsRightIn plus shape p i k t) (sym same)
     (h.right i (and_from (linked (link_of shape.tree) (length shape.tree.cliques) i k) (is_taken receiver i) (linked_there shape k j i at) (sym is ∙ took)))
 
--- and lies in what is gathered so far
-lies_there : (plus : ℕ → ℕ → ℕ) (shape : ShapeOf) (table : TableOf) (upward downward : List TableOf) (k j i : ℕ) (receiver : Option ℕ) (p : Placing) (old message : TableOf)
-    → CanGather plus shape table upward downward k receiver p → IsAt shape k j i → HasGathered plus shape k receiver (take j (neighbours shape.tree k)) old p → IsRightIn plus shape p i k message
-    → LiesIn message.scope old.scope
-lies_there plus shape table upward downward k j i receiver p old message h at gathered right =
-    subst (λ (s : ScopeOf). LiesIn s old.scope) (sym right.scope_is)
-    (subst (λ (s : ScopeOf). LiesIn (separator_between shape i k) s) (sym gathered.cells.scope_is)
-    (separator_lies_in shape p h.shape_is h.placing i k k (linked_there shape k j i at) (inr refl)))
+-- the shape has its places in what is gathered so far
+places_there : (plus : ℕ → ℕ → ℕ) (shape : ShapeOf) (k j i : ℕ) (receiver : Option ℕ) (p : Placing) (old message : TableOf) → HasGathered plus shape k receiver (take j (neighbours shape.tree k)) old p
+    → IsRightIn plus shape p i k message → (places : PlacesOf) → places ≡ record { whole = clique_scope shape k; part = separator_between shape k i } → places ≡ record { whole = old.scope; part = message.scope }
+places_there plus shape k j i receiver p old message gathered right places e =
+    let m : max k i ≡ max i k = omega arith in
+    e ∙ ap (λ (s : ScopeOf). record { whole = s; part = separator_between shape k i }) (sym gathered.cells.scope_is)
+    ∙ ap (λ (s : ScopeOf). record { whole = old.scope; part = s }) (ap (separator_scope shape) m ∙ sym right.scope_is)
 
-pub times_message-requires-clause-lies_in : goal.times_message-requires-clause-lies_in
-times_message-requires-clause-lies_in g c =
+pub places-requires : goal.places-requires
+places-requires g c =
+    let shape = c.args.shape.now in let k = c.args.clique in
+    let at = at_place shape k c.loop-neighbour.neighbour-index c.neighbours-neighbour-items.result.now c.neighbours-neighbour-items.ensures c.loop-neighbour-test.true in
+    linked_from (link_of shape.tree) (length shape.tree.cliques) k _ (linked_back (link_of shape.tree) (length shape.tree.cliques) _ k (are_linked (link_of shape.tree) (length shape.tree.cliques) _ k (linked_there shape k _ _ at)))
+
+pub times_message-requires-clause-places : goal.times_message-requires-clause-places
+times_message-requires-clause-places g c =
     let plus = g.R.Semiring.plus_of in let shape = c.args.shape.now in let k = c.args.clique in let p = c.requires.right.0 in let h = c.requires.right.1 in
     let j = c.loop-neighbour.neighbour-index in let items = c.neighbours-neighbour-items.result.now in
     let at = at_place shape k j items c.neighbours-neighbour-items.ensures c.loop-neighbour-test.true in
     let right = right_there plus shape c.args.table.now c.args.upward.now c.args.downward.now k j (slice_index_or items j 0) c.args.receiver p c.is_taken.result c.message_of.result.now h at c.is_taken.ensures c.if-is_taken.true c.message_of.ensures in
-    lies_there plus shape c.args.table.now c.args.upward.now c.args.downward.now k j (slice_index_or items j 0) c.args.receiver p c.loop-neighbour.gathered c.message_of.result.now h at (c.loop-neighbour.invariant.has p h) right
+    places_there plus shape k j (slice_index_or items j 0) c.args.receiver p c.loop-neighbour.gathered c.message_of.result.now (c.loop-neighbour.invariant.has p h) right c.places.result.now c.places.ensures
 
 pub times_message-requires-clause-room : goal.times_message-requires-clause-room
 times_message-requires-clause-room g c =

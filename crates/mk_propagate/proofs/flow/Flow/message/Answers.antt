@@ -1,10 +1,10 @@
 use Rattle.std.proofs.Common.{◌≡◌, true, Some, sym, ap, subst, ◌∙◌}
 use Rattle.mk_table.specs.Tables.{TableOf}
-use Rattle.mk_propagate.specs.Shapes.{are_linked}
+use Rattle.mk_propagate.specs.Shapes.{ShapeOf, are_linked, clique_scope, separator_between}
 use Rattle.mk_propagate.specs.Flows.{FlowOf, HasPlaced, AreRightBut, CanSend, message_at}
 use Rattle.mk_propagate.specs.inner.Gathered.{HasAllGathered}
 use Rattle.mk_propagate.proofs.Placed.{table_read}
-use Rattle.mk_propagate.proofs.Sending.{gathered_fits, table_within, can_gather, sender, lies_up, lies_down, room_there, right_up, right_down, others_up, others_down}
+use Rattle.mk_propagate.proofs.Sending.{gathered_fits, table_within, can_gather, sender, receiver_is, places_up, places_down, room_there, right_up, right_down, others_up, others_down}
 use Rattle.mk_propagate.proofs.Marks.{flow_up, flow_down}
 use Rattle.mk_propagate.proofs.flow.Flow.message.Goals as goal
 
@@ -23,12 +23,12 @@ gather_for-gathers-requires-clause-right g c =
           c.deref.ensures (sym (table_read _ _ c.index-table.result.now (table_within _ _ _ c.self.invariant.kept c.args.from clique) c.index-table.ensures)) c.deref-2.ensures.value c.deref-3.ensures.value,
     )
 
-pub send-requires-clause-lies_in : goal.send-requires-clause-lies_in
-send-requires-clause-lies_in g c =
+pub send-requires-clause-places : goal.send-requires-clause-places
+send-requires-clause-places g c =
     let plus = g.R.Semiring.plus_of in let law = g.met.R.Semiring.lawful in let a = c.args.from in let b = c.args.to in
     let can = subst (λ (f : FlowOf). CanSend plus f a b) (sym c.self.view_is) c.requires in
-    lies_up plus law _ _ _ c.self.invariant.kept a b c.deref.result.now c.index-table.result.now c.deref-2.result.now c.deref-3.result.now c.deref.ensures c.index-table.ensures c.deref-2.ensures.value c.deref-3.ensures.value c.one_of-sent.result.now (subst (λ (t : TableOf). HasAllGathered plus c.deref.result.now c.index-table.result.now c.deref-2.result.now c.deref-3.result.now a (Some b) t) (sym c.one_of-sent.ensures) c.gather_for-gathers.ensures.sent)
-    can.placing can.has can.linked_too can.right c.index_mut-then-to-from.result.now c.if-to-from.true c.index_mut-then-to-from.ensures.value
+    places_up plus law _ _ _ c.self.invariant.kept a b c.deref.result.now c.index-table.result.now c.deref-2.result.now c.deref-3.result.now c.deref.ensures c.index-table.ensures c.deref-2.ensures.value c.deref-3.ensures.value c.one_of-sent.result.now (subst (λ (t : TableOf). HasAllGathered plus c.deref.result.now c.index-table.result.now c.deref-2.result.now c.deref-3.result.now a (Some b) t) (sym c.one_of-sent.ensures) c.gather_for-gathers.ensures.sent)
+    can.placing can.has can.linked_too can.right c.index_mut-then-to-from.result.now c.if-to-from.true c.index_mut-then-to-from.ensures.value c.places-places.result.now (c.places-places.ensures ∙ ap (λ (s : ShapeOf). record { whole = clique_scope s a; part = separator_between s a b }) (c.deref-4.ensures ∙ sym c.deref.ensures))
 
 pub send-requires-clause-room : goal.send-requires-clause-room
 send-requires-clause-room g c =
@@ -60,12 +60,12 @@ returns-then-to-from-clause-others g c = λ x y h apart.
     others_up _ can.placing can.has a b can.linked_too c.saturating_add-self-inside.result c.send.new.message c.if-to-from.true x y linked_too apart
     ∙ ap (λ (f : FlowOf). message_at f x y) c.self.view_is
 
-pub send-requires-else-to-from-clause-lies_in : goal.send-requires-else-to-from-clause-lies_in
-send-requires-else-to-from-clause-lies_in g c =
+pub send-requires-else-to-from-clause-places : goal.send-requires-else-to-from-clause-places
+send-requires-else-to-from-clause-places g c =
     let plus = g.R.Semiring.plus_of in let law = g.met.R.Semiring.lawful in let a = c.args.from in let b = c.args.to in
     let can = subst (λ (f : FlowOf). CanSend plus f a b) (sym c.self.view_is) c.requires in
-    lies_down plus law _ _ _ c.self.invariant.kept a b c.deref.result.now c.index-table.result.now c.deref-2.result.now c.deref-3.result.now c.deref.ensures c.index-table.ensures c.deref-2.ensures.value c.deref-3.ensures.value c.one_of-sent.result.now (subst (λ (t : TableOf). HasAllGathered plus c.deref.result.now c.index-table.result.now c.deref-2.result.now c.deref-3.result.now a (Some b) t) (sym c.one_of-sent.ensures) c.gather_for-gathers.ensures.sent)
-    can.placing can.has can.linked_too can.right c.index_mut-else-to-from.result.now c.if-to-from.false c.index_mut-else-to-from.ensures.value
+    places_down plus law _ _ _ c.self.invariant.kept a b c.deref.result.now c.index-table.result.now c.deref-2.result.now c.deref-3.result.now c.deref.ensures c.index-table.ensures c.deref-2.ensures.value c.deref-3.ensures.value c.one_of-sent.result.now (subst (λ (t : TableOf). HasAllGathered plus c.deref.result.now c.index-table.result.now c.deref-2.result.now c.deref-3.result.now a (Some b) t) (sym c.one_of-sent.ensures) c.gather_for-gathers.ensures.sent)
+    can.placing can.has can.linked_too can.right c.index_mut-else-to-from.result.now c.if-to-from.false c.index_mut-else-to-from.ensures.value c.places-places.result.now (c.places-places.ensures ∙ ap (λ (s : ShapeOf). record { whole = clique_scope s a; part = separator_between s a b }) (c.deref-4.ensures ∙ sym c.deref.ensures))
 
 pub send-requires-else-to-from-clause-room : goal.send-requires-else-to-from-clause-room
 send-requires-else-to-from-clause-room g c =

@@ -1,12 +1,30 @@
-use Rattle.std.proofs.Common.{map}
-use Rattle.mk_propagate.proofs.Shaped.{shaped, shape_for}
+use Rattle.std.proofs.Common.{◌≡◌, ◌-◌, true, false, map, length, refl, ap, ◌∙◌}
+use Rattle.mk_propagate.specs.inner.Shaped.{shape_of, places_of}
+use Rattle.mk_propagate.proofs.Shaped.{shaped, shape_for, can_place}
 use Rattle.mk_propagate.proofs.shape.Shape.of.Goals as goal
+
+pub separator_places-requires : goal.separator_places-requires
+separator_places-requires c =
+    can_place (shape_of c.args.tree.now (map (λ scope. scope.value) c.deref.result.now) (map (λ scope. scope.value) c.deref-2.result.now)) c.args.net.now c.args.tree.now refl
+    (ap (map (λ scope. scope.value)) c.deref.ensures.value ∙ c.in_ok-cliques.ensures) (ap (map (λ scope. scope.value)) c.deref-2.ensures.value ∙ c.in_ok-separators.ensures)
+    c.variables.ensures.network c.requires false
+
+pub separator_places-requires-2 : goal.separator_places-requires-2
+separator_places-requires-2 c =
+    can_place (shape_of c.args.tree.now (map (λ scope. scope.value) c.deref-3.result.now) (map (λ scope. scope.value) c.deref-4.result.now)) c.args.net.now c.args.tree.now refl
+    (ap (map (λ scope. scope.value)) c.deref-3.ensures.value ∙ c.in_ok-cliques.ensures) (ap (map (λ scope. scope.value)) c.deref-4.ensures.value ∙ c.in_ok-separators.ensures)
+    c.variables.ensures.network c.requires true
 
 pub invariant_of-result : goal.invariant_of-result
 invariant_of-result c =
-    shaped _ c.args.net.now c.args.tree.now c.in_ok-copy.ensures c.in_ok-clique_scopes.ensures c.in_ok-separator_scopes.ensures c.cliques.ensures.linked
+    let tree = c.args.tree.now in let n = length tree.cliques - 1 in let cliques = c.in_ok-cliques.cliques.items in
+    shaped _ c.args.net.now tree c.in_ok-copy.ensures c.in_ok-cliques.ensures c.in_ok-separators.ensures c.cliques.ensures.linked c.in_ok-in_cliques.in_cliques.items c.in_ok-in_links.in_links.items
+    (c.in_ok-in_cliques.ensures ∙ ap (λ xs. places_of (shape_of tree (map (λ scope. scope.value) xs) (map (λ scope. scope.value) c.deref-2.result.now)) false n) c.deref.ensures.value
+    ∙ ap (λ xs. places_of (shape_of tree (map (λ scope. scope.value) cliques) (map (λ scope. scope.value) xs)) false n) c.deref-2.ensures.value)
+    (c.in_ok-in_links.ensures ∙ ap (λ xs. places_of (shape_of tree (map (λ scope. scope.value) xs) (map (λ scope. scope.value) c.deref-4.result.now)) true n) c.deref-3.ensures.value
+    ∙ ap (λ xs. places_of (shape_of tree (map (λ scope. scope.value) cliques) (map (λ scope. scope.value) xs)) true n) c.deref-4.ensures.value)
     (map (λ list. list.items) c.in_ok-neighbour_lists.field-0.items) (map (λ row. row.items) c.in_ok-next_rows.field-0.items) c.in_ok-neighbour_lists.ensures c.in_ok-next_rows.ensures
 
 pub returns-clause-shape : goal.returns-clause-shape
 returns-clause-shape c =
-    shape_for _ c.args.net.now c.args.tree.now c.in_ok-copy.ensures c.in_ok-clique_scopes.ensures c.in_ok-separator_scopes.ensures c.variables.ensures.network c.requires
+    shape_for _ c.args.net.now c.args.tree.now c.in_ok-copy.ensures c.in_ok-cliques.ensures c.in_ok-separators.ensures c.variables.ensures.network c.requires
