@@ -1,4 +1,4 @@
-//! Markets from their files: commands, their replies, and what a market keeps of them.
+//! Markets from their files: runs of commands with their replies, and what a market keeps of them.
 
 ghost use Rattle.std.specs.Prelude.{◌≡◌};
 
@@ -15,7 +15,17 @@ use std::test::Fail;
 
 type TreeMarket = Market<TreeEngine<SumProd>, TreeEngine<MinProd>>;
 
-const COIN: &str = "points_per_bit = 100
+/// A market file, and a run on it: each line is a command and its reply.
+#[derive(Clone, Copy)]
+struct Sample {
+    file: &'static str,
+    run: &'static str,
+}
+
+/// One coin.
+fn coin() -> Sample {
+    Sample {
+        file: "points_per_bit = 100
 max_trades = 1000
 cliques = [['coin']]
 links = []
@@ -25,24 +35,24 @@ name = 'coin'
 values = ['heads', 'tails']
 parents = []
 rows = [[500000, 500000]]
-";
+",
+        run: "user alice -> user alice at 1
+worst alice -> worst 0..0
+deposit alice 1 -> deposit alice 1 at 2
+worst alice -> worst 100..100
+user alice -> refused exists alice
+worst bob -> refused user bob
+deposit alice 1001 -> refused range 1001
+user bob -> user bob at 3
+price coin=heads -> price 0.5000000000..0.5000000000
+price coin=edge -> refused name coin=edge",
+    }
+}
 
-/// Each command with its reply, in turn.
-const COIN_LINES: [(&str, &str); 10] = [
-    ("user alice", "user alice at 1"),
-    ("worst alice", "worst 0..0"),
-    ("deposit alice 1", "deposit alice 1 at 2"),
-    ("worst alice", "worst 100..100"),
-    ("user alice", "refused exists alice"),
-    ("worst bob", "refused user bob"),
-    ("deposit alice 1001", "refused range 1001"),
-    ("user bob", "user bob at 3"),
-    ("price coin=heads", "price 0.5000000000..0.5000000000"),
-    ("price coin=edge", "refused name coin=edge"),
-];
-
-/// It takes one trade.
-const ONE_TRADE: &str = "points_per_bit = 100
+/// A coin that takes one trade.
+fn one_trade() -> Sample {
+    Sample {
+        file: "points_per_bit = 100
 max_trades = 1
 cliques = [['coin']]
 links = []
@@ -52,37 +62,32 @@ name = 'coin'
 values = ['heads', 'tails']
 parents = []
 rows = [[500000, 500000]]
-";
-
-const ONE_TRADE_LINES: [(&str, &str); 18] = [
-    ("user alice", "user alice at 1"),
-    ("deposit alice 1", "deposit alice 1 at 2"),
-    ("edit alice coin=heads to 0", "refused range 0"),
-    ("edit alice coin=heads to 1000000", "refused range 1000000"),
-    ("deposit alice 1001", "refused range 1001"),
-    ("withdraw alice 0", "refused range 0"),
-    ("user alice", "refused exists alice"),
-    (
-        "edit alice coin=heads to 600000",
-        "trade 1319413953331 879609302220 at 3",
-    ),
-    ("edit alice coin=heads to 500000", "refused full 1"),
-    ("user bob", "user bob at 4"),
-    ("edit bob coin=heads to 600000 at 3", "refused stale 3 4"),
-    ("limits bobby coin=heads", "refused user bobby"),
-    ("resolve coin=heads", "resolve coin=heads at 5"),
-    ("price coin=heads", "refused resolved coin"),
-    ("resolve coin=tails", "refused resolved coin"),
-    (
-        "settle",
-        "settle at 6, alice 126..126 paid 126, bob 0..0 paid 0",
-    ),
-    ("price coin=heads", "refused settled"),
-    ("worst bobby", "refused settled"),
-];
+",
+        run: "user alice -> user alice at 1
+deposit alice 1 -> deposit alice 1 at 2
+edit alice coin=heads to 0 -> refused range 0
+edit alice coin=heads to 1000000 -> refused range 1000000
+deposit alice 1001 -> refused range 1001
+withdraw alice 0 -> refused range 0
+user alice -> refused exists alice
+edit alice coin=heads to 600000 -> trade 1319413953331 879609302220 at 3
+edit alice coin=heads to 500000 -> refused full 1
+user bob -> user bob at 4
+edit bob coin=heads to 600000 at 3 -> refused stale 3 4
+limits bobby coin=heads -> refused user bobby
+resolve coin=heads -> resolve coin=heads at 5
+price coin=heads -> refused resolved coin
+resolve coin=tails -> refused resolved coin
+settle -> settle at 6, alice 126..126 paid 126, bob 0..0 paid 0
+price coin=heads -> refused settled
+worst bobby -> refused settled",
+    }
+}
 
 /// Its second clique holds the first variable alone.
-const WEATHER: &str = "points_per_bit = 100
+fn weather() -> Sample {
+    Sample {
+        file: "points_per_bit = 100
 max_trades = 1000
 cliques = [['season', 'rain'], ['season']]
 links = [1]
@@ -98,31 +103,23 @@ name = 'rain'
 values = ['yes', 'no']
 parents = ['season']
 rows = [[700000, 300000], [100000, 900000]]
-";
-
-const WEATHER_LINES: [(&str, &str); 9] = [
-    ("user ann", "user ann at 1"),
-    ("deposit ann 1", "deposit ann 1 at 2"),
-    (
-        "edit ann rain=yes | season=wet to 800000",
-        "trade 1256584717458 733007751850 at 3",
-    ),
-    (
-        "price rain=yes | season=dry",
-        "price 0.1000000000..0.1000000000",
-    ),
-    ("resolve season=dry", "resolve season=dry at 4"),
-    (
-        "price rain=yes | season=wet",
-        "refused impossible season=wet",
-    ),
-    ("price season=wet", "refused resolved season"),
-    ("resolve rain=snow", "refused name rain=snow"),
-    ("settle", "refused open rain"),
-];
+",
+        run: "user ann -> user ann at 1
+deposit ann 1 -> deposit ann 1 at 2
+edit ann rain=yes | season=wet to 800000 -> trade 1256584717458 733007751850 at 3
+price rain=yes | season=dry -> price 0.1000000000..0.1000000000
+resolve season=dry -> resolve season=dry at 4
+price rain=yes | season=wet -> refused impossible season=wet
+price season=wet -> refused resolved season
+resolve rain=snow -> refused name rain=snow
+settle -> refused open rain",
+    }
+}
 
 /// Its cliques are linked in a row.
-const CHAIN: &str = "points_per_bit = 100
+fn chain() -> Sample {
+    Sample {
+        file: "points_per_bit = 100
 max_trades = 1000
 cliques = [['a', 'b'], ['b', 'c'], ['c']]
 links = [1, 2]
@@ -144,18 +141,17 @@ name = 'c'
 values = ['up', 'down']
 parents = ['b']
 rows = [[800000, 200000], [100000, 900000]]
-";
-
-const CHAIN_LINES: [(&str, &str); 8] = [
-    ("price c=up | a=up", "refused wide"),
-    ("price c=left", "refused name c=left"),
-    ("price c=up | b=up, c=down", "refused twice c"),
-    ("edit zed c=up | a=up to 500000", "refused user zed"),
-    ("price a=up | a=down, b=left", "refused name b=left"),
-    ("price a=up | b=up, b=down, a=down", "refused twice b"),
-    ("price a=up | b=up, a=up, b=up", "refused twice a"),
-    ("price d=up | a=left", "refused name d=up"),
-];
+",
+        run: "price c=up | a=up -> refused wide
+price c=left -> refused name c=left
+price c=up | b=up, c=down -> refused twice c
+edit zed c=up | a=up to 500000 -> refused user zed
+price a=up | a=down, b=left -> refused name b=left
+price a=up | b=up, b=down, a=down -> refused twice b
+price a=up | b=up, a=up, b=up -> refused twice a
+price d=up | a=left -> refused name d=up",
+    }
+}
 
 /// Applies a command, and stops unless this is its reply.
 fn expect_reply(
@@ -172,27 +168,24 @@ fn expect_reply(
     let reply = market.apply(alloc, &command);
     let mut text = ArrayString::new();
     print_reply(&reply, &mut text);
-    assert_eq!(rt; text.as_str(), expected);
+    assert_eq!(rt; text.as_str(), expected, "to {line}");
 }
 
-/// Opens a market, and expects a reply to each line.
-fn expect_replies(
-    rt: &impl Abort,
-    alloc: Global,
-    file: &str,
-    lines: &[(&str, &str)],
-) -> Result<TreeMarket, Fail> {
+/// Opens a market of a file, and expects each reply of a run.
+fn expect_run(rt: &impl Abort, alloc: Global, file: &str, run: &str) -> Result<TreeMarket, Fail> {
     let file = read_market(alloc, file.as_bytes())?;
     let mut market = TreeMarket::start(alloc, file)?;
-    for (line, expected) in lines {
-        expect_reply(rt, alloc, &mut market, line, expected);
+    for line in run.split("\n") {
+        let (command, reply) = line.split_once(" -> ").ok_or("no arrow")?;
+        expect_reply(rt, alloc, &mut market, command, reply);
     }
     Ok(market)
 }
 
 #[test]
 fn coin_market(rt: HostRuntime) -> Result<(), Fail> {
-    let market = expect_replies(&rt, rt.alloc(), COIN, &COIN_LINES)?;
+    let sample = coin();
+    let market = expect_run(&rt, rt.alloc(), sample.file, sample.run)?;
     assert_eq!(rt; (market.variables(), market.points_per_bit()), (1, 100));
     assert_eq!(rt; market.history().len(), 3);
     Ok(())
@@ -200,22 +193,25 @@ fn coin_market(rt: HostRuntime) -> Result<(), Fail> {
 
 #[test]
 fn each_refusal_has_its_words(rt: HostRuntime) -> Result<(), Fail> {
-    let alloc = rt.alloc();
-    let _ = expect_replies(&rt, alloc, ONE_TRADE, &ONE_TRADE_LINES)?;
-    let _ = expect_replies(&rt, alloc, WEATHER, &WEATHER_LINES)?;
-    let _ = expect_replies(&rt, alloc, CHAIN, &CHAIN_LINES)?;
+    for sample in [one_trade(), weather(), chain()] {
+        let _ = expect_run(&rt, rt.alloc(), sample.file, sample.run)?;
+    }
     Ok(())
+}
+
+/// As many users join as may, and then one more.
+fn joinings(alloc: Global) -> Result<String, Fail> {
+    let mut run = String::new(alloc);
+    for number in 1..257u32 {
+        run.push_str(&format!(in alloc; "user u{number} -> user u{number} at {number}\n")?)?;
+    }
+    run.push_str("user u257 -> refused users 256")?;
+    Ok(run)
 }
 
 #[test]
 fn the_257th_user_is_refused(rt: HostRuntime) -> Result<(), Fail> {
-    let alloc = rt.alloc();
-    let mut market = expect_replies(&rt, alloc, COIN, &[])?;
-    for number in 1..257u32 {
-        let line = format!(in alloc; "user u{number}")?;
-        let reply = format!(in alloc; "user u{number} at {number}")?;
-        expect_reply(&rt, alloc, &mut market, &line, &reply);
-    }
-    expect_reply(&rt, alloc, &mut market, "user u257", "refused users 256");
+    let run = joinings(rt.alloc())?;
+    let _ = expect_run(&rt, rt.alloc(), coin().file, &run)?;
     Ok(())
 }
