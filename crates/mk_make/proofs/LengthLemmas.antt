@@ -1,5 +1,5 @@
 -- How long the lines of the commands are at most.
-use Rattle.std.proofs.Common.{◌≡◌, refl, ℕ, zero, suc, ◌+◌, ◌-◌, ◌*◌, ◌/◌, ◌%◌, ◌<◌, ◌≤◌, ◌==◌, List, length, codes, decimal, Bool, true, false, if◌then◌else◌, arith, length-append, lit<}
+use Rattle.std.proofs.Common.{◌≡◌, refl, ℕ, zero, suc, ◌+◌, ◌-◌, ◌*◌, ◌%◌, ◌<◌, ◌≤◌, ◌==◌, List, length, codes, decimal, Bool, true, false, if◌then◌else◌, arith, length-append, lit<}
 use Rattle.std.specs.List.{flat_map, range_with_len}
 use Rattle.std.proofs.Math.Nat.{mod-lt}
 use Rattle.std.proofs.lemmas.Fmt.{length-decimal-le}
