@@ -1,2 +1,3 @@
 pub mod GrowingLemmas
 pub mod PartLemmas
+pub mod LengthLemmas

@@ -1,3 +1,4 @@
 pub mod Lines
 pub mod Sample
 pub mod Examples
+pub mod Bounds

@@ -1,6 +1,7 @@
 //! The sample market: its file and the commands that are given to it, as bytes, for each number of variables.
 #![tactic(auto)]
 
+mod bounds;
 mod commands;
 mod examples;
 mod file;
@@ -10,6 +11,7 @@ mod tests;
 mod texts;
 mod words;
 
+pub use bounds::commands_are_short;
 pub use examples::{five_edits, one_clique};
 pub use make::sample;
 pub use texts::{Bytes, Sample};
