@@ -157,26 +157,37 @@ fn quote(rt: &impl Abort, user: u32) -> Quote {
     Quote::make(user, rain(rt), 3, &bounds)
 }
 
+/// Users of these names, who own nothing.
+fn joined(
+    rt: &impl Abort,
+    alloc: Global,
+    names: &str,
+) -> Result<Users<JointEngine<MinProd>>, Fail> {
+    let weather = make_weather(rt, alloc)?;
+    let mut users = Users::<JointEngine<MinProd>>::none(alloc);
+    for text in names.split(" ") {
+        let assets = nothing_owned(alloc, &weather)?;
+        join(rt, &mut users, name(rt, text.as_bytes()), assets)?;
+    }
+    Ok(users)
+}
+
+/// Stops unless this user is found under a name.
+fn expect_found(
+    rt: &impl Abort,
+    users: &Users<JointEngine<MinProd>>,
+    text: &str,
+    user: Option<u32>,
+) {
+    assert_eq!(rt; users.find(&name(rt, text.as_bytes())), user, "{text}");
+}
+
 #[test]
 fn users_are_found(rt: HostRuntime) -> Result<(), Fail> {
-    let alloc = rt.alloc();
-    let weather = make_weather(&rt, alloc)?;
-    let mut users = Users::<JointEngine<MinProd>>::none(alloc);
-    for bytes in [b"ann".as_slice(), b"bob".as_slice(), b"cy".as_slice()] {
-        join(
-            &rt,
-            &mut users,
-            name(&rt, bytes),
-            nothing_owned(alloc, &weather)?,
-        )?;
-    }
-    for (bytes, user) in [
-        (b"ann".as_slice(), Some(0)),
-        (b"cy".as_slice(), Some(2)),
-        (b"bo".as_slice(), None),
-    ] {
-        assert_eq!(rt; users.find(&name(&rt, bytes)), user);
-    }
+    let mut users = joined(&rt, rt.alloc(), "ann bob cy")?;
+    expect_found(&rt, &users, "ann", Some(0));
+    expect_found(&rt, &users, "cy", Some(2));
+    expect_found(&rt, &users, "bo", None);
     assert!(rt; users.count() == 3);
     users.set_quote(1, quote(&rt, 1));
     assert!(rt; users.quote(0).is_none() && users.quote(1).is_some());
