@@ -1,5 +1,5 @@
 -- What is written of a sample market and its run.
-use Rattle.std.specs.Prelude.{◌≡◌, ℕ, List, [], ◌++◌, codes, decimal, Option, Some, None, Result, Ok, Err, ◌⊎◌}
+use Rattle.std.specs.Prelude.{◌≡◌, ℕ, ◌≤◌, List, [], ◌++◌, codes, decimal, Option, Some, None, Result, Ok, Err, ◌⊎◌}
 use Rattle.mk_io.specs.declared.status.Status.{Status}
 use Rattle.mk_io.specs.declared.status.Status.TheVariants.{Done, Usage, MarketRefused, ReadFault, WriteFault, Memory, TooMany}
 use Rattle.mk_file.specs.declared.fault.FileFault.{FileFault}
@@ -9,7 +9,9 @@ use Rattle.mk_make.specs.Sample.{sample_file, sample_commands}
 use Rattle.mk_session.specs.declared.counts.Tally.{Tally}
 use Rattle.mk_session.specs.Texts.{as_line, reply_line, fault_line}
 use Rattle.mk_session.specs.Tally.{TallyEnds}
+use Rattle.mk_session.specs.Complete.{AreWithin}
 use Rattle.mk_session.specs.Outcome.{IsFrontOf}
+use Rattle.daggre.specs.Words.{max_sample}
 
 -- the line that names the sample, and the line of the counts
 unfoldable pub count_lines : ℕ → Tally → List ℕ
@@ -52,3 +54,7 @@ EndsSample Memory n output = output ≡ []
 EndsSample Usage n output = ⊥
 EndsSample ReadFault n output = ⊥
 EndsSample TooMany n output = ⊥
+
+-- the commands of every sample are no more than a stream may hold
+abbrev pub SamplesAreWithin : Type 0
+SamplesAreWithin = (n : ℕ) → 2 ≤ n → n ≤ max_sample → AreWithin (sample_commands n)

@@ -7,7 +7,7 @@ ghost use Rattle.mk_file.specs.File.{file_of};
 ghost use Rattle.mk_session.specs.Tally.{TallyEnds};
 ghost use Rattle.mk_session.specs.Outcome.{Adds, HasCauses};
 ghost use Rattle.daggre.specs.Words.{max_sample};
-ghost use Rattle.daggre.specs.Sampled.{count_lines, last_line, sample_text, EndsSample};
+ghost use Rattle.daggre.specs.Sampled.{count_lines, last_line, sample_text, EndsSample, SamplesAreWithin};
 
 use mk_file::FileFault;
 use mk_io::{Sink, SinkFailed, Status, write_all};
@@ -17,6 +17,11 @@ use mk_reply::Reply;
 use mk_session::{LineBuffer, Tally, TallyFault, print_fault_line, print_reply_line, tally};
 use mk_text::put_number;
 use std::alloc::Global;
+
+/// The commands of every sample are within the limits of a stream.
+pub fn samples_are_within()
+    ensures { SamplesAreWithin }
+{}
 
 /// Runs the sample market of `n` variables over its commands, and writes the counts of its replies and the last one.
 pub fn run_sample<S: Sink>(alloc: Global, n: u32, out: &mut S) -> Status
@@ -42,9 +47,12 @@ fn count_sample(alloc: Global, n: u32) -> Result<Result<Tally, TallyFault>, NoMe
     Ok(tally(alloc, sample.file.bytes(), sample.commands.bytes()))
 }
 
-/// Writes what came of a sample.
+/// Writes what came of a sample, which never has too many commands.
+#[tactic(auto, using(crate::proofs::SampleLengths::never_too_many))]
 fn write_sample<S: Sink>(n: u32, counted: Result<Tally, TallyFault>, out: &mut S) -> Status
-    requires { TallyEnds counted (file_of (sample_file n)) (sample_commands n) }
+    requires least { 2 ≤ n }
+    requires most { n ≤ max_sample }
+    requires counted { TallyEnds counted (file_of (sample_file n)) (sample_commands n) }
     ensures output { Adds (S.written out.old) (S.written out.new) (EndsSample result n) }
     ensures causes { (inputs : ℕ) → HasCauses result inputs inputs (S.faults out.old) (S.faults out.new) }
     ensures not_usage { result ≢ Status.Usage }
@@ -52,8 +60,7 @@ fn write_sample<S: Sink>(n: u32, counted: Result<Tally, TallyFault>, out: &mut S
     match counted {
         Ok(tally) => say_tally(n, &tally, out),
         Err(TallyFault::Market(fault)) => say_fault(n, fault, out),
-        // No sample has so many commands; were there one, it could not be kept.
-        Err(TallyFault::TooMany) => Status::Memory,
+        Err(TallyFault::TooMany) => unreachable!(),
         Err(TallyFault::Memory) => Status::Memory,
     }
 }
