@@ -1,5 +1,5 @@
 -- The size of a sample among those that it may have.
-use Rattle.std.proofs.Common.{◌≡◌, ℕ, decimal, zero, suc, ◌+◌, ◌<◌, ◌≤◌, Bool, true, false, List, [], ◌∷◌, Option, Some, None, cond, ◌⊎◌, inl, inr, refl, ap, subst, arith}
+use Rattle.std.proofs.Common.{◌≡◌, ℕ, decimal, zero, suc, ◌+◌, ◌<◌, ◌≤◌, Bool, true, false, List, Some, None, cond, ◌⊎◌, inl, inr, refl, ap, subst, arith}
 use Rattle.std.specs.List.{find, range_with_len}
 use Rattle.std.proofs.lemmas.Bool.{cases_lt}
 use Rattle.mk_net.specs.Texts.{same_text}

@@ -1,5 +1,5 @@
 -- What a count of a sample's replies says of what is written.
-use Rattle.std.proofs.Common.{◌≡◌, ◌≢◌, ℕ, List, [], ◌++◌, Option, Some, None, Result, Ok, Err, OnOk, OnErr, ◌⊎◌, inl, inr, refl, sym, ap, subst, ◌∙◌, append_assoc}
+use Rattle.std.proofs.Common.{◌≡◌, ◌≢◌, ℕ, List, [], ◌++◌, Option, Result, Ok, Err, OnOk, OnErr, ◌⊎◌, refl, sym, ap, ◌∙◌, append_assoc}
 use Rattle.mk_io.specs.declared.status.Status.TheVariants.{Done, MarketRefused, WriteFault, Memory}
 use Rattle.mk_io.specs.Outside.{append_known, AddsFront}
 use Rattle.mk_io.proofs.Told.{append_known_none, append_known_twice}

@@ -6,7 +6,11 @@ mod program;
 mod rows;
 mod sample;
 #[cfg(test)]
+mod sample_rows;
+#[cfg(test)]
 mod sizes;
+#[cfg(test)]
+mod tallies;
 #[cfg(test)]
 mod tests;
 mod words;

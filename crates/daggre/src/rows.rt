@@ -174,14 +174,6 @@ const LATE_PARENT: &[&str] = &[
     FAIR,
 ];
 
-/// What the sample of two variables writes.
-pub const SAMPLE_2: &str =
-    "sample 2\nreplies 24 trades 5 refused 0\nsettle at 24, u1 20193..20193 paid 20193, u2 19887..19887 paid 19887, u3 19985..19985 paid 19985, u4 20034..20034 paid 20034, u5 19983..19983 paid 19983, u6 20000..20000 paid 20000, u7 20000..20000 paid 20000, u8 20000..20000 paid 20000\n";
-
-/// What the sample of twelve variables writes.
-pub const SAMPLE_12: &str =
-    "sample 12\nreplies 59 trades 30 refused 0\nsettle at 59, u1 20404..20404 paid 20404, u2 19979..19979 paid 19979, u3 20382..20382 paid 20382, u4 19947..19947 paid 19947, u5 19951..19951 paid 19951, u6 20284..20284 paid 20284, u7 20041..20041 paid 20041, u8 20152..20152 paid 20152\n";
-
 /// Markets that are served.
 pub const SERVED: [Row; 21] = [
     Row {

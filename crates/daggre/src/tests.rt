@@ -3,7 +3,8 @@
 ghost use Rattle.std.specs.Prelude.{◌≤◌};
 
 use crate::program::program;
-use crate::rows::{COIN, REFUSED, Row, SAMPLE_2, SAMPLE_12, SERVED};
+use crate::rows::{COIN, REFUSED, Row, SERVED};
+use crate::sample_rows::SAMPLES;
 use crate::sizes::{many_cliques, many_parents, many_users, many_variables};
 use mk_io::{MemoryInputs, MemorySink, NamedFile, Status};
 use std::alloc::{AllocError, Global};
@@ -14,7 +15,7 @@ use std::test::Fail;
 const ROOM: usize = 8_192;
 
 /// The text of a market file that is given in pieces.
-fn text_of(alloc: Global, pieces: &[&str]) -> Result<Vec<u8>, AllocError> {
+pub fn text_of(alloc: Global, pieces: &[&str]) -> Result<Vec<u8>, AllocError> {
     let mut text = Vec::new(alloc);
     for piece in pieces {
         text.extend_from_slice(piece.as_bytes())?;
@@ -136,16 +137,12 @@ fn sample_of_two_hundred(rt: HostRuntime) -> Result<(), Fail> {
     Ok(())
 }
 
-/// Two samples, with what each is worked out to write.
+/// The samples of up to 2^12 states, with what each is worked out to write.
 #[test]
-fn samples(rt: HostRuntime) -> Result<(), Fail> {
-    let rows: [(&[&str], &[u8]); 2] = [
-        (&["sample", "2"], SAMPLE_2.as_bytes()),
-        (&["sample", "12"], SAMPLE_12.as_bytes()),
-    ];
-    for (words, output) in rows {
-        let ended = run(rt.alloc(), words, b"", b"", 4096, (&[], &[]))?;
-        assert!(rt; ended.out.written() == output);
+fn small_samples(rt: HostRuntime) -> Result<(), Fail> {
+    for (size, output) in SAMPLES {
+        let ended = run(rt.alloc(), &["sample", size], b"", b"", 4096, (&[], &[]))?;
+        assert!(rt; ended.out.written() == output.as_bytes());
         assert!(rt; ended.status == Status::Done);
         assert_eq!(rt; ended.reads, 0);
     }
