@@ -6,7 +6,7 @@ ghost use Rattle.std.specs.List.{AllByRecursion};
 ghost use Rattle.mk_net.specs.Bounds.{max_clique_cells};
 ghost use Rattle.mk_net.specs.Sets.{is_member};
 ghost use Rattle.mk_net.specs.Trades.{trade_ratio};
-ghost use Rattle.mk_exact.specs.Proper.{IsPairOf, IsRatioOf};
+ghost use Rattle.mk_exact.specs.Proper.{IsPairOf, IsQuestionOf, IsRatioOf};
 ghost use Rattle.mk_tree.specs.Given.{AreOfNetwork};
 ghost use Rattle.mk_tree.specs.Checked.{IsTreeOf};
 ghost use Rattle.mk_joint.specs.inner.Joints.{joint_states};
@@ -17,7 +17,6 @@ use crate::tests::{all_variables, expect_links, expect_of_network, texts};
 use mk_engine::Engine;
 use mk_joint::JointEngine;
 use mk_net::{Draft, Event, Network, NoMemory, Pair, Question, Ratio, VarSet, VariableDraft};
-use mk_scaled::Scaled;
 use mk_semiring::{Held, MinProd, Semiring, SumProd};
 use mk_tree::Tree;
 use mk_walk::{WalkTrade, least_gain, total};
@@ -50,7 +49,6 @@ struct Case {
     net: Network,
     tree: Tree,
     ghost few: { joint_states net ≤ max_clique_cells },
-    ghost own: { IsTreeOf net tree },
 }
 
 /// A plain walk that finds what beliefs over a semiring are.
@@ -116,17 +114,27 @@ fn event(rt: &impl Abort, net: &Network, about: &About) -> Event
     condition.with(about.0).expect(rt, "two pairs")
 }
 
+fn question(rt: &impl Abort, net: &Network, about: &About) -> Question
+    ensures { IsQuestionOf net.now result }
+{
+    let condition = condition(rt, net, about.1);
+    check_pair(rt, net, about.0);
+    Question::make(about.0, condition).expect(rt, "a question")
+}
+
 /// The ratio of a trade.
 fn ratio(rt: &impl Abort, net: &Network, about: &About, hit: u64, miss: u64) -> Ratio
     ensures { IsRatioOf net.now (trade_ratio result) }
 {
-    let condition = condition(rt, net, about.1);
-    check_pair(rt, net, about.0);
-    let asked = Question::make(about.0, condition).expect(rt, "a question");
-    let values = net.values(about.0.variable);
-    assert!(rt; 2 <= values && values <= 16);
-    assert!(rt; 1 <= hit && hit < 1 << 62);
-    assert!(rt; 1 <= miss && miss < 1 << 62);
+    let asked = question(rt, net, about);
+    let target = asked.target();
+    let values = net.values(target.variable);
+    assert!(rt; 2 <= values);
+    assert!(rt; values <= 16);
+    assert!(rt; 1 <= hit);
+    assert!(rt; hit < 1 << 62);
+    assert!(rt; 1 <= miss);
+    assert!(rt; miss < 1 << 62);
     Ratio::of_question(&asked, values, hit, miss)
 }
 
@@ -196,20 +204,18 @@ fn ask<R: Semiring, E: Engine<R>>(
     engine.belief(&event)
 }
 
-/// Whether a number is at most another.
-fn is_at_most(rt: &impl Abort, low: &Scaled, n: u128) -> bool {
-    let exponent = low.exponent();
+/// Stops unless the mantissa times a power of two is at most the number.
+fn expect_at_most(rt: &impl Abort, mantissa: u64, exponent: u64, n: u128) {
     assert!(rt; exponent < 128);
-    low.mantissa() as u128 <= n >> exponent as u32
+    assert!(rt; mantissa as u128 <= n >> exponent as u32);
 }
 
-/// Whether a number is at least another.
-fn is_at_least(rt: &impl Abort, high: &Scaled, n: u128) -> bool {
-    let exponent = high.exponent();
+/// Stops unless it is at least the number.
+fn expect_at_least(rt: &impl Abort, mantissa: u64, exponent: u64, n: u128) {
     assert!(rt; exponent < 128);
-    let mantissa = high.mantissa() as u128;
     let floor = n >> exponent as u32;
-    floor < mantissa || (floor == mantissa && floor << exponent as u32 == n)
+    let is_whole = floor << exponent as u32 == n;
+    assert!(rt; floor < mantissa as u128 || (floor == mantissa as u128 && is_whole));
 }
 
 /// Stops unless the value encloses what was walked.
@@ -219,8 +225,9 @@ fn check(rt: &impl Abort, held: &Held, walked: Option<u128>) {
         Held::Present(enclosure) => {
             let n = walked.expect(rt, "a state that is possible");
             assert!(rt; n < u128::MAX);
-            assert!(rt; is_at_most(rt, &enclosure.lo(), n));
-            assert!(rt; is_at_least(rt, &enclosure.hi(), n));
+            let (low, high) = (enclosure.lo(), enclosure.hi());
+            expect_at_most(rt, low.mantissa(), low.exponent(), n);
+            expect_at_least(rt, high.mantissa(), high.exponent(), n);
         }
     }
 }
@@ -284,6 +291,7 @@ fn follow_case<R: Semiring<Value = Held> + Walked, P: Engine<R>, Q: Engine<R>>(
     from: usize,
     asked: &[About],
 ) -> Result<(), Fail>
+    requires tree { IsTreeOf case.now.net case.now.tree }
     requires left { P.suits case.now.net case.now.tree }
     requires right { Q.suits case.now.net case.now.tree }
 {
@@ -304,7 +312,9 @@ fn follow_both(
     rows: &[Change],
     changes: &[Change],
     asked: &[About],
-) -> Result<(), Fail> {
+) -> Result<(), Fail>
+    requires { IsTreeOf case.now.net case.now.tree }
+{
     let mut weighed = Vec::new(alloc);
     for change in rows {
         weighed.push(*change)?;
@@ -359,7 +369,9 @@ fn make_case(
     variables: Vec<VariableDraft>,
     cliques: &[VarSet],
     links: &[u32],
-) -> Result<Case, Fail> {
+) -> Result<Case, Fail>
+    ensures { IfOk result (λ case. IsTreeOf case.net case.tree) }
+{
     let net = Network::check(alloc, &Draft { variables })?;
     expect_few_states(alloc, &net)?;
     expect_links(rt, links);
@@ -426,7 +438,9 @@ const ROWS: [Change; 4] = [
 ];
 
 /// A season and its rain, in the cliques {season, rain} and {season}.
-fn weather(rt: &impl Abort, alloc: Global) -> Result<Case, Fail> {
+fn weather(rt: &impl Abort, alloc: Global) -> Result<Case, Fail>
+    ensures { IfOk result (λ case. IsTreeOf case.net case.tree) }
+{
     let rows: &[&[i64]] = &[&[400_000, 600_000]];
     let season = variable(alloc, "season", &["wet", "dry"], &[], rows)?;
     let rows: &[&[i64]] = &[&[700_000, 300_000], &[100_000, 900_000]];
@@ -518,7 +532,9 @@ fn a_trade_on_rain(rt: HostRuntime) -> Result<(), Fail> {
 }
 
 /// A chain of three, in the cliques {a, b}, {b, c} and {c}.
-fn chain(rt: &impl Abort, alloc: Global) -> Result<Case, Fail> {
+fn chain(rt: &impl Abort, alloc: Global) -> Result<Case, Fail>
+    ensures { IfOk result (λ case. IsTreeOf case.net case.tree) }
+{
     let rows: &[&[i64]] = &[&[500_000, 500_000]];
     let a = variable(alloc, "a", &["up", "down"], &[], rows)?;
     let rows: &[&[i64]] = &[&[600_000, 400_000], &[300_000, 700_000]];
@@ -602,7 +618,9 @@ fn trades_along_a_chain(rt: HostRuntime) -> Result<(), Fail> {
 }
 
 /// A star: the clique {a, b} amid {a, c}, {b, d} and {b}, where b has three values.
-fn star(rt: &impl Abort, alloc: Global) -> Result<Case, Fail> {
+fn star(rt: &impl Abort, alloc: Global) -> Result<Case, Fail>
+    ensures { IfOk result (λ case. IsTreeOf case.net case.tree) }
+{
     let rows: &[&[i64]] = &[&[250_000, 750_000]];
     let a = variable(alloc, "a", &["up", "down"], &[], rows)?;
     let rows: &[&[i64]] = &[&[200_000, 300_000, 500_000], &[600_000, 100_000, 300_000]];
