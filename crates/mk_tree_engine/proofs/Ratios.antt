@@ -1,12 +1,11 @@
 -- The ratio of a trade on a question speaks of the network's own pairs.
-use Rattle.std.proofs.Common.{ℕ, ◌≤◌, Bool, true, false, cond, eqb, slice_index}
+use Rattle.std.proofs.Common.{ℕ, ◌≤◌, Bool, true, false, cond, eqb, List, slice_index}
 use Rattle.std.specs.List.{AllByRecursion, range_with_len}
 use Rattle.mk_net.specs.Network.{Variable, sizes}
 use Rattle.mk_net.specs.Asked.{Asked, factors_of, question_ratio}
 use Rattle.mk_net.proofs.UnitsOf.{factors_length}
 use Rattle.mk_exact.specs.Proper.{IsQuestionOf, IsRatioOf}
 use Rattle.mk_exact.proofs.Sums.{each-map, each_always}
-use Rattle.std.specs.Prelude.{List}
 
 either : (P : ℕ → Type 0) (b : Bool) (hit miss : ℕ) → P hit → P miss → P (cond b hit miss)
 either P true hit miss h m = h

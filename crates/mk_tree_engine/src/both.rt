@@ -1,13 +1,11 @@
 //! Both engines side by side: the same factors and known pairs, and after each of them beliefs beside those of a plain walk over
 //! all states.
 
-ghost use Rattle.std.specs.Prelude.{◌≡◌, ℕ, ◌+◌, ◌<◌, ◌≤◌, [], ◌∷◌, length, true, IfOk};
+ghost use Rattle.std.specs.Prelude.{◌+◌, ◌<◌, ◌≤◌, IfOk};
 ghost use Rattle.std.specs.List.{AllByRecursion};
 ghost use Rattle.mk_net.specs.Bounds.{max_clique_cells};
-ghost use Rattle.mk_net.specs.Sets.{is_member};
 ghost use Rattle.mk_net.specs.Trades.{trade_ratio};
 ghost use Rattle.mk_exact.specs.Proper.{IsPairOf, IsQuestionOf, IsRatioOf};
-ghost use Rattle.mk_tree.specs.Given.{AreOfNetwork};
 ghost use Rattle.mk_tree.specs.Checked.{IsTreeOf};
 ghost use Rattle.mk_joint.specs.inner.Joints.{joint_states};
 ghost use Rattle.mk_tree_engine.specs.inner.Some.{IsInUse};
@@ -374,6 +372,8 @@ fn make_case(
 {
     let net = Network::check(alloc, &Draft { variables })?;
     expect_few_states(alloc, &net)?;
+    assert!(rt; cliques.len() <= 256);
+    assert!(rt; links.len() + 1 == cliques.len());
     expect_links(rt, links);
     expect_of_network(rt, &net, cliques);
     let tree = Tree::from_cliques(alloc, &net, cliques, links)?;
