@@ -7,3 +7,4 @@ pub mod Marking
 pub mod Placed
 pub mod Believing
 pub mod Numbers
+pub mod Ratios

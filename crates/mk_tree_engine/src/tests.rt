@@ -32,7 +32,7 @@ const C_UP: Pair = Pair {
     value: 0,
 };
 
-fn texts(alloc: Global, given: &[&str]) -> Result<Vec<String>, Fail> {
+pub(crate) fn texts(alloc: Global, given: &[&str]) -> Result<Vec<String>, Fail> {
     let mut texts = Vec::new(alloc);
     for text in given {
         texts.push(String::from_str(alloc, *text)?)?;
@@ -75,7 +75,7 @@ fn network(alloc: Global) -> Result<Network, Fail> {
 }
 
 /// Stops unless each link leads to an earlier clique.
-fn expect_links(rt: &impl Abort, links: &[u32])
+pub(crate) fn expect_links(rt: &impl Abort, links: &[u32])
     ensures first { (k : ℕ) → k < length links.now → 1 ≤ slice_index links.now k }
     ensures earlier { (k : ℕ) → k < length links.now → slice_index links.now k ≤ k + 1 }
 {
@@ -84,8 +84,9 @@ fn expect_links(rt: &impl Abort, links: &[u32])
     }
 }
 
-fn all_variables(net: &Network) -> VarSet
-    ensures { (x : ℕ) → is_member result x ≡ true → x < length net.now }
+pub(crate) fn all_variables(net: &Network) -> VarSet
+    ensures all { (x : ℕ) → x < length net.now → is_member result x ≡ true }
+    ensures no_other { (x : ℕ) → is_member result x ≡ true → x < length net.now }
 {
     let mut all = VarSet::empty();
     for variable in 0..net.variables() {
@@ -95,7 +96,7 @@ fn all_variables(net: &Network) -> VarSet
 }
 
 /// Stops unless the cliques hold variables of the network alone.
-fn expect_of_network(rt: &impl Abort, net: &Network, cliques: &[VarSet])
+pub(crate) fn expect_of_network(rt: &impl Abort, net: &Network, cliques: &[VarSet])
     ensures { AreOfNetwork net.now cliques.now }
 {
     let all = all_variables(net);

@@ -1,5 +1,5 @@
 -- What tests keep of an engine.
-use Rattle.std.specs.Prelude.{◌≡◌, ℕ, List, length}
+use Rattle.std.specs.Prelude.{◌≡◌, ℕ, ◌≤◌, List, length}
 use Rattle.mk_net.specs.Network.{Variable}
 use Rattle.mk_engine.specs.Meaning.{Meaning}
 use Rattle.mk_tree_engine.specs.Engines.{MarkedFlow, HasTree}
@@ -10,3 +10,10 @@ pub record HasSome (plus : ℕ → ℕ → ℕ) (e : MarkedFlow) (network : List
   pub stands : HasTree plus e meaning
   pub of_network : meaning.network ≡ network
   pub counted : length meaning.factors ≡ count
+
+-- an engine of some kind stands for a meaning of a network with at most so many factors
+pub record IsInUse {E : Type 0} (stands_for : E → Meaning → Type 0) (engine : E) (network : List Variable) (count : ℕ) : Type 0 where
+  pub meaning : Meaning
+  pub stands : stands_for engine meaning
+  pub of_network : meaning.network ≡ network
+  pub few : length meaning.factors ≤ count
