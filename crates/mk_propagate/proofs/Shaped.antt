@@ -13,7 +13,7 @@ use Rattle.mk_tree.specs.Checked.{IsTreeOf}
 use Rattle.mk_net.specs.Network.{Variable, IsNetwork}
 use Rattle.mk_table.specs.Scopes.{ScopeOf, PlacesOf, LiesIn}
 use Rattle.mk_propagate.specs.Shapes.{ShapeOf, IsClique, IsShapeFor, clique_scope, separator_scope, next_on_way, scope_within, shares, no_scope}
-use Rattle.mk_propagate.specs.inner.Shaped.{IsRowFrom, AreRows, IsShaped, CanPlaceSeparators, scopes_of_cliques, scopes_of_separators, lists_of_neighbours, shape_of, whole_of, places_of}
+use Rattle.mk_propagate.specs.inner.Shaped.{AreNextTo, AreWays, IsShaped, CanPlaceSeparators, scopes_of_cliques, scopes_of_separators, lists_of_neighbours, shape_of, whole_of, places_of}
 use Rattle.mk_propagate.proofs.Scopes.{shared_lies_in, shared_lies_in_link}
 
 map_push : {A B : Type 0} (f : A → B) (xs : List A) (y : A) → map f (xs ++ y ∷ []) ≡ map f xs ++ f y ∷ []
@@ -85,22 +85,6 @@ module _ (tree : GivenTree) (linked : given.AreLinked tree) (from : ℕ) (is : I
   next_down to p q l d =
       sym (hop_step (link_of tree) (length tree.cliques) from to (link_of tree to) linked.earlier (inl (child to p q)) is.first is.last (λ e. omega arith) (λ e. d (sym e)))
 
-  -- one clique more of a row
-  pub row_more : (count next : ℕ) (row new : List ℕ) → IsRowFrom tree from count row → new ≡ row ++ next ∷ [] → (from ≢ count + 1
-      → next ≡ next_on_way tree from (count + 1)) → IsRowFrom tree from (count + 1) new
-  row_more count next row new h pushed last = record {
-    long = ap length pushed ∙ length_push row next ∙ ap (λ n. n + 1) h.long;
-    next_is = λ to p q d. at to p q d (cases_eq to (count + 1));
-  }
-    where
-      at : (to : ℕ) → 1 ≤ to → to ≤ count + 1 → from ≢ to → ((to ≡ count + 1) ⊎ (to ≡ count + 1 → ⊥)) → slice_index new (to - 1) ≡ next_on_way tree from to
-      at to p q d (inl e) =
-          let i : to - 1 ≡ count = omega arith in
-          ap (λ ns. slice_index ns (to - 1)) pushed ∙ ap (slice_index (row ++ next ∷ [])) i ∙ get_or_push row next 0 count h.long ∙ last (λ f. d (f ∙ sym e)) ∙ ap (next_on_way tree from) (sym e)
-      at to p q d (inr f) =
-          let l : to - 1 < length row = omega (arith, h.long) in
-          ap (λ ns. slice_index ns (to - 1)) pushed ∙ get_or-append row (next ∷ []) 0 (to - 1) l ∙ h.next_is to p (omega arith) d
-
   -- the next clique is a clique
   pub next_is_clique : (to : ℕ) → IsClique tree to → from ≢ to → IsClique tree (next_on_way tree from to)
   next_is_clique to at d =
@@ -108,42 +92,66 @@ module _ (tree : GivenTree) (linked : given.AreLinked tree) (from : ℕ) (is : I
       let n = ends (link_of tree) (length tree.cliques) (next_on_way tree from to) from linked.earlier l in
       record { first = n.0; last = n.1 }
 
--- one row more
-pub rows_more : (tree : GivenTree) (count : ℕ) (rows new : List (List ℕ)) (row : List ℕ) → AreRows tree count rows → new ≡ rows ++ row ∷ []
-    → IsRowFrom tree (count + 1) (length tree.cliques) row → AreRows tree (count + 1) new
-rows_more tree count rows new row h pushed last = record {
-  long = ap length pushed ∙ length_push rows row ∙ ap (λ n. n + 1) h.long;
-  row_is = λ from p q. at from p q (cases_eq from (count + 1));
+-- one clique more of the ways to one
+pub next_more : (tree : GivenTree) (to count next : ℕ) (old new : List ℕ) → AreNextTo tree to count old → new ≡ old ++ next ∷ []
+    → (count + 1 ≢ to → next ≡ next_on_way tree (count + 1) to) → AreNextTo tree to (count + 1) new
+next_more tree to count next old new h pushed last = record {
+  long = ap length pushed ∙ length_push old next ∙ ap (λ n. n + 1) h.long;
+  next_is = λ from p q d. at from p q d (cases_eq from (count + 1));
 }
   where
-    at : (from : ℕ) → 1 ≤ from → from ≤ count + 1 → ((from ≡ count + 1) ⊎ (from ≡ count + 1 → ⊥)) → IsRowFrom tree from (length tree.cliques) (slice_index_or new (from - 1) [])
-    at from p q (inl e) =
+    at : (from : ℕ) → 1 ≤ from → from ≤ count + 1 → from ≢ to → ((from ≡ count + 1) ⊎ (from ≡ count + 1 → ⊥)) → slice_index new (from - 1) ≡ next_on_way tree from to
+    at from p q d (inl e) =
         let i : from - 1 ≡ count = omega arith in
-        let r : slice_index_or new (from - 1) [] ≡ row = ap (λ (ns : List (List ℕ)). slice_index_or ns (from - 1) []) pushed
-        ∙ ap (λ (k : ℕ). slice_index_or (rows ++ row ∷ []) k []) i ∙ get_or_push rows row [] count h.long in
-        subst (λ (ns : List ℕ). IsRowFrom tree from (length tree.cliques) ns) (sym r) (subst (λ (k : ℕ). IsRowFrom tree k (length tree.cliques) row) (sym e) last)
-    at from p q (inr f) =
-        let l : from - 1 < length rows = omega (arith, h.long) in
-        let r : slice_index_or new (from - 1) [] ≡ slice_index_or rows (from - 1) [] = ap (λ (ns : List (List ℕ)). slice_index_or ns (from - 1) []) pushed
-        ∙ get_or-append rows (row ∷ []) [] (from - 1) l in
-        subst (λ (ns : List ℕ). IsRowFrom tree from (length tree.cliques) ns) (sym r) (h.row_is from p (omega arith))
+        ap (λ ns. slice_index ns (from - 1)) pushed ∙ ap (slice_index (old ++ next ∷ [])) i ∙ get_or_push old next 0 count h.long
+        ∙ last (λ f. d (e ∙ f)) ∙ ap (λ k. next_on_way tree k to) (sym e)
+    at from p q d (inr f) =
+        let l : from - 1 < length old = omega (arith, h.long) in
+        ap (λ ns. slice_index ns (from - 1)) pushed ∙ get_or-append old (next ∷ []) 0 (from - 1) l ∙ h.next_is from p (omega arith) d
 
--- rows as they are kept: a list of vectors
-pub rows_push : {A : Type 0} (f : A → List ℕ) (tree : GivenTree) (count : ℕ) (rows new : List A) (row : A) → AreRows tree count (map f rows)
-    → new ≡ rows ++ row ∷ [] → IsRowFrom tree (count + 1) (length tree.cliques) (f row)
-    → AreRows tree (count + 1) (map f new)
-rows_push f tree count rows new row h pushed last = rows_more tree count (map f rows) (map f new) (f row) h (ap (map f) pushed ∙ map_push f rows row) last
+-- the ways to one clique more
+pub ways_more : (tree : GivenTree) (count : ℕ) (old new : List (List ℕ)) (next : List ℕ) → AreWays tree count old → new ≡ old ++ next ∷ []
+    → AreNextTo tree (count + 1) (length tree.cliques) next → AreWays tree (count + 1) new
+ways_more tree count old new next h pushed last = record {
+  long = ap length pushed ∙ length_push old next ∙ ap (λ n. n + 1) h.long;
+  way_is = λ to p q. at to p q (cases_eq to (count + 1));
+}
+  where
+    at : (to : ℕ) → 1 ≤ to → to ≤ count + 1 → ((to ≡ count + 1) ⊎ (to ≡ count + 1 → ⊥)) → AreNextTo tree to (length tree.cliques) (slice_index_or new (to - 1) [])
+    at to p q (inl e) =
+        let i : to - 1 ≡ count = omega arith in
+        let r : slice_index_or new (to - 1) [] ≡ next = ap (λ (ns : List (List ℕ)). slice_index_or ns (to - 1) []) pushed
+        ∙ ap (λ (k : ℕ). slice_index_or (old ++ next ∷ []) k []) i ∙ get_or_push old next [] count h.long in
+        subst (λ (ns : List ℕ). AreNextTo tree to (length tree.cliques) ns) (sym r) (subst (λ (k : ℕ). AreNextTo tree k (length tree.cliques) next) (sym e) last)
+    at to p q (inr f) =
+        let l : to - 1 < length old = omega (arith, h.long) in
+        let r : slice_index_or new (to - 1) [] ≡ slice_index_or old (to - 1) [] = ap (λ (ns : List (List ℕ)). slice_index_or ns (to - 1) []) pushed
+        ∙ get_or-append old (next ∷ []) [] (to - 1) l in
+        subst (λ (ns : List ℕ). AreNextTo tree to (length tree.cliques) ns) (sym r) (h.way_is to p (omega arith))
+
+-- ways as they are kept: a list of vectors
+pub ways_push : {A : Type 0} (f : A → List ℕ) (tree : GivenTree) (count : ℕ) (old new : List A) (next : A) → AreWays tree count (map f old)
+    → new ≡ old ++ next ∷ [] → AreNextTo tree (count + 1) (length tree.cliques) (f next) → AreWays tree (count + 1) (map f new)
+ways_push f tree count old new next h pushed last = ways_more tree count (map f old) (map f new) (f next) h (ap (map f) pushed ∙ map_push f old next) last
+
+-- how many vectors there are, and how long each is
+pub ways_long : {A : Type 0} (f : A → List ℕ) (tree : GivenTree) (count : ℕ) (ways : List A) → AreWays tree count (map f ways) → length ways ≡ count
+ways_long f tree count ways h = sym (length-map ways f) ∙ h.long
+
+pub way_of : {A : Type 0} (f : A → List ℕ) (tree : GivenTree) (count : ℕ) (ways : List A) → AreWays tree count (map f ways) → (to : ℕ) → 1 ≤ to → to ≤ count
+    → (way : A) → way ≡ get_or ways (to - 1) way → AreNextTo tree to (length tree.cliques) (f way)
+way_of f tree count ways h to p q way e =
+    let long = ways_long f tree count ways h in
+    let r : get_or (map f ways) (to - 1) [] ≡ f way =
+    get_or_default (map f ways) (to - 1) [] (f way) (omega (arith, h.long)) ∙ get_or-map f ways (to - 1) way ∙ ap f (sym e) in
+    subst (AreNextTo tree to (length tree.cliques)) r (h.way_is to p q)
 
 -- what is read of them
-pub next_read : {A : Type 0} (f : A → List ℕ) (tree : GivenTree) (rows : List A) → AreRows tree (length tree.cliques) (map f rows) → (from to : ℕ) → IsClique tree from → IsClique tree to → from ≢ to
-    → (row : A) (next : ℕ) → row ≡ get_or rows (from - 1) row → next ≡ get_or (f row) (to - 1) next → next ≡ next_on_way tree from to
-next_read f tree rows h from to is at d row next e g =
-    let long : length rows ≡ length tree.cliques = sym (length-map rows f) ∙ h.long in
-    let r : get_or (map f rows) (from - 1) [] ≡ f row =
-    get_or_default (map f rows) (from - 1) [] (f row) (omega (arith, h.long, is.first, is.last)) ∙ get_or-map f rows (from - 1) row ∙ ap f (sym e) in
-    let w = h.row_is from is.first is.last in
-    let n : length (f row) ≡ length tree.cliques = ap length (sym r) ∙ w.long in
-    g ∙ get_or_default (f row) (to - 1) next 0 (omega (arith, n, at.first, at.last)) ∙ ap (λ (ns : List ℕ). get_or ns (to - 1) 0) (sym r) ∙ w.next_is to at.first at.last d
+pub next_read : {A : Type 0} (f : A → List ℕ) (tree : GivenTree) (count : ℕ) (ways : List A) → AreWays tree count (map f ways) → (from to : ℕ) → IsClique tree from → 1 ≤ to → to ≤ count → from ≢ to
+    → (way : A) (next : ℕ) → way ≡ get_or ways (to - 1) way → next ≡ get_or (f way) (from - 1) next → next ≡ next_on_way tree from to
+next_read f tree count ways h from to is p q d way next e g =
+    let w = way_of f tree count ways h to p q way e in
+    g ∙ get_or_default (f way) (from - 1) next 0 (omega (arith, w.long, is.first, is.last)) ∙ w.next_is from is.first is.last d
 
 -- ---- a shape
 
@@ -154,8 +162,8 @@ module _ (shape : ShapeOf) (network : List Variable) (tree : GivenTree) (tree_is
 
   pub shaped : given.AreLinked tree → (in_cliques in_links : List PlacesOf) → in_cliques ≡ places_of (shape_of tree shape.cliques shape.separators) false (length tree.cliques - 1)
       → in_links ≡ places_of (shape_of tree shape.cliques shape.separators) true (length tree.cliques - 1)
-      → (lists next : List (List ℕ)) → lists ≡ lists_of_neighbours tree (length tree.cliques) → AreRows tree (length tree.cliques) next → IsShaped shape in_cliques in_links lists next
-  shaped linked in_cliques in_links p q lists next l r = record {
+      → (lists ways : List (List ℕ)) → lists ≡ lists_of_neighbours tree (length tree.cliques) → AreWays tree (length tree.cliques) ways → IsShaped shape in_cliques in_links lists ways
+  shaped linked in_cliques in_links p q lists ways l r = record {
     linked = subst given.AreLinked (sym tree_is) linked;
     in_cliques_are = subst (λ (t : GivenTree). in_cliques ≡ places_of (shape_of t shape.cliques shape.separators) false (length t.cliques - 1)) (sym tree_is) p;
     in_links_are = subst (λ (t : GivenTree). in_links ≡ places_of (shape_of t shape.cliques shape.separators) true (length t.cliques - 1)) (sym tree_is) q;
@@ -164,7 +172,7 @@ module _ (shape : ShapeOf) (network : List Variable) (tree : GivenTree) (tree_is
         let n = ap length separators ∙ length-map-range_with_len (λ k. scope_within network (shares tree k)) 2 (length tree.cliques - 1) in
         omega (arith, n, counts, linked.some);
     neighbours_are = subst (λ (t : GivenTree). lists ≡ lists_of_neighbours t (length t.cliques)) (sym tree_is) l;
-    rows = subst (λ (t : GivenTree). AreRows t (length t.cliques) next) (sym tree_is) r;
+    ways_are = subst (λ (t : GivenTree). AreWays t (length t.cliques) ways) (sym tree_is) r;
   }
 
   pub shape_for : IsNetwork network → IsTreeOf network tree → IsShapeFor shape network

@@ -7,7 +7,7 @@ ghost use Rattle.mk_tree.specs.Given.{AreLinked, link_of};
 ghost use Rattle.mk_tree.specs.Checked.{IsTreeOf};
 ghost use Rattle.mk_table.specs.Scopes.{LiesIn};
 ghost use Rattle.mk_propagate.specs.Shapes.{IsShapeFor, IsClique, clique_scope, separator_scope, separator_between, are_linked, neighbours, next_on_way};
-ghost use Rattle.mk_propagate.specs.inner.Shaped.{scopes_of_cliques, scopes_of_separators, lists_of_neighbours, IsRowFrom, AreRows, CanPlaceSeparators, whole_of, places_of, shape_of};
+ghost use Rattle.mk_propagate.specs.inner.Shaped.{scopes_of_cliques, scopes_of_separators, lists_of_neighbours, AreNextTo, AreWays, CanPlaceSeparators, whole_of, places_of, shape_of};
 
 use mk_net::{Network, NoMemory};
 use mk_table::{Places, Scope};
@@ -17,7 +17,7 @@ use std::marker::Model;
 use std::rc::Rc;
 
 /// A copy of a tree, with the scopes of its cliques and separators, where each separator's cells lie in its clique and in the link,
-/// the neighbours of each clique, and the next clique on the way from each to each. It is made once; all flows over the tree share it.
+/// the neighbours of each clique, and the next cliques on the ways to each. It is made once; all flows over the tree share it.
 #[derive(Drop)]
 pub struct Shape {
     tree: Tree,
@@ -26,7 +26,7 @@ pub struct Shape {
     in_cliques: Vec<Places>,
     in_links: Vec<Places>,
     neighbours: Vec<Vec<u32>>,
-    next: Vec<Vec<u32>>,
+    ways: Vec<Vec<u32>>,
 }
 
 impl Model for Shape {
@@ -46,7 +46,7 @@ impl Model for Shape {
       tree = s.tree;
       cliques = map (λ scope. scope.value) s.cliques.items;
       separators = map (λ scope. scope.value) s.separators.items;
-    }) s.in_cliques.items s.in_links.items (map (λ list. list.items) s.neighbours.items) (map (λ row. row.items) s.next.items) };
+    }) s.in_cliques.items s.in_links.items (map (λ list. list.items) s.neighbours.items) (map (λ next. next.items) s.ways.items) };
 }
 
 impl Shape {
@@ -68,7 +68,7 @@ impl Shape {
             in_cliques,
             in_links,
             neighbours: neighbour_lists(alloc, tree)?,
-            next: next_rows(alloc, tree)?,
+            ways: ways(alloc, tree)?,
         })
     }
 
@@ -132,7 +132,7 @@ impl Shape {
         ensures next { result ≡ next_on_way self.now.tree from to }
         ensures clique { IsClique self.now.tree result }
     {
-        self.next[from as usize - 1][to as usize - 1]
+        self.ways[to as usize - 1][from as usize - 1]
     }
 }
 
@@ -261,37 +261,38 @@ fn neighbours_of(alloc: Global, tree: &Tree, k: u32) -> Result<Vec<u32>, NoMemor
     Ok(list)
 }
 
-/// The next cliques on the ways from each clique.
-fn next_rows(alloc: Global, tree: &Tree) -> Result<Vec<Vec<u32>>, NoMemory>
-    ensures { IfOk result (λ rows. AreRows tree.now (length tree.now.cliques) (map (λ row. row.items) rows.items)) }
+/// The next cliques on the ways to each clique.
+fn ways(alloc: Global, tree: &Tree) -> Result<Vec<Vec<u32>>, NoMemory>
+    ensures { IfOk result (λ ways. AreWays tree.now (length tree.now.cliques) (map (λ next. next.items) ways.items)) }
 {
-    let mut rows = Vec::new(alloc);
+    let mut ways = Vec::new(alloc);
     for passed in 0..tree.cliques() {
-        rows.push(next_row(alloc, tree, passed + 1)?)?;
+        let next = next_to(alloc, tree, &ways, passed + 1)?;
+        ways.push(next)?;
     }
-    Ok(rows)
+    Ok(ways)
 }
 
-/// The next cliques on the ways from a clique.
-fn next_row(alloc: Global, tree: &Tree, from: u32) -> Result<Vec<u32>, NoMemory>
-    requires { IsClique tree.now from }
-    ensures { IfOk result (λ row. IsRowFrom tree.now from (length tree.now.cliques) row.items) }
+/// The next cliques on the ways to a clique, from those on the ways to the cliques before it.
+fn next_to(alloc: Global, tree: &Tree, ways: &[Vec<u32>], to: u32) -> Result<Vec<u32>, NoMemory>
+    requires clique { IsClique tree.now to }
+    requires ways { AreWays tree.now (to - 1) (map (λ next. next.items) ways.now) }
+    ensures { IfOk result (λ next. AreNextTo tree.now to (length tree.now.cliques) next.items) }
 {
-    let mut row = Vec::new(alloc);
+    let mut next = Vec::new(alloc);
     for passed in 0..tree.cliques() {
-        let next = next_after(tree, &row, from, passed + 1);
-        row.push(next)?;
+        next.push(next_on_way(tree, ways, passed + 1, to))?;
     }
-    Ok(row)
+    Ok(next)
 }
 
 /// The next clique on the way from one clique to another, from those on the ways to the cliques before that other.
 ///
 /// To an earlier clique the way goes up. To a later one it goes as to its link, but from the link itself.
-fn next_after(tree: &Tree, row: &[u32], from: u32, to: u32) -> u32
+fn next_on_way(tree: &Tree, ways: &[Vec<u32>], from: u32, to: u32) -> u32
     requires from { IsClique tree.now from }
     requires to { IsClique tree.now to }
-    requires row { IsRowFrom tree.now from (to - 1) row.now }
+    requires ways { AreWays tree.now (to - 1) (map (λ next. next.items) ways.now) }
     ensures { from ≢ to → result ≡ next_on_way tree.now from to }
 {
     let _ = tree.cliques();
@@ -305,6 +306,6 @@ fn next_after(tree: &Tree, row: &[u32], from: u32, to: u32) -> u32
     if above == from {
         to
     } else {
-        row[above as usize - 1]
+        ways[above as usize - 1][from as usize - 1]
     }
 }

@@ -1,5 +1,5 @@
 -- How a shape is kept: beside the scopes, where the separators' cells lie in the cliques at their ends, the list of each clique's neighbours,
--- and a row of next cliques for each clique.
+-- and for each clique the next cliques on the ways there.
 use Rattle.std.specs.Prelude.{◌≡◌, ◌≢◌, ℕ, ◌+◌, ◌-◌, ◌<◌, ◌≤◌, Bool, true, false, if◌then◌else◌, List, [], map, length, slice_index, slice_index_or}
 use Rattle.std.specs.List.{range_with_len}
 use Rattle.mk_net.specs.Network.{Variable}
@@ -19,15 +19,15 @@ scopes_of_separators network tree count = map (λ k. scope_within network (share
 abbrev pub lists_of_neighbours : GivenTree → ℕ → List (List ℕ)
 lists_of_neighbours tree count = map (neighbours tree) (range_with_len 1 count)
 
--- a row of next cliques on the ways from a clique to the cliques from 1 on, so many of them; it says nothing of the way to itself
-pub record IsRowFrom (tree : GivenTree) (from count : ℕ) (row : List ℕ) : Type 0 where
-  pub long : length row ≡ count
-  pub next_is : (to : ℕ) → 1 ≤ to → to ≤ count → from ≢ to → slice_index row (to - 1) ≡ next_on_way tree from to
+-- the next cliques on the ways from the cliques from 1 on, so many of them, to a clique; it says nothing of the way from itself
+pub record AreNextTo (tree : GivenTree) (to count : ℕ) (next : List ℕ) : Type 0 where
+  pub long : length next ≡ count
+  pub next_is : (from : ℕ) → 1 ≤ from → from ≤ count → from ≢ to → slice_index next (from - 1) ≡ next_on_way tree from to
 
--- a row for each of the cliques from 1 on, so many of them
-pub record AreRows (tree : GivenTree) (count : ℕ) (rows : List (List ℕ)) : Type 0 where
-  pub long : length rows ≡ count
-  pub row_is : (from : ℕ) → 1 ≤ from → from ≤ count → IsRowFrom tree from (length tree.cliques) (slice_index_or rows (from - 1) [])
+-- a list of them for each of the cliques from 1 on, so many of them
+pub record AreWays (tree : GivenTree) (count : ℕ) (ways : List (List ℕ)) : Type 0 where
+  pub long : length ways ≡ count
+  pub way_is : (to : ℕ) → 1 ≤ to → to ≤ count → AreNextTo tree to (length tree.cliques) (slice_index_or ways (to - 1) [])
 
 abbrev pub shape_of : GivenTree → List ScopeOf → List ScopeOf → ShapeOf
 shape_of tree cliques separators = record { tree = tree; cliques = cliques; separators = separators }
@@ -47,11 +47,11 @@ pub record CanPlaceSeparators (shape : ShapeOf) (in_link : Bool) : Type 0 where
   pub one_less : length shape.separators + 1 ≡ length shape.tree.cliques
   pub lie : (k : ℕ) → IsClique shape.tree k → 1 < k → LiesIn (separator_scope shape k) (clique_scope shape (whole_of shape.tree in_link k))
 
-pub record IsShaped (shape : ShapeOf) (in_cliques in_links : List PlacesOf) (neighbour_lists next : List (List ℕ)) : Type 0 where
+pub record IsShaped (shape : ShapeOf) (in_cliques in_links : List PlacesOf) (neighbour_lists ways : List (List ℕ)) : Type 0 where
   pub linked : AreLinked shape.tree
   pub in_cliques_are : in_cliques ≡ places_of shape false (length shape.tree.cliques - 1)
   pub in_links_are : in_links ≡ places_of shape true (length shape.tree.cliques - 1)
   pub one_each : length shape.cliques ≡ length shape.tree.cliques
   pub one_less : length shape.separators + 1 ≡ length shape.tree.cliques
   pub neighbours_are : neighbour_lists ≡ lists_of_neighbours shape.tree (length shape.tree.cliques)
-  pub rows : AreRows shape.tree (length shape.tree.cliques) next
+  pub ways_are : AreWays shape.tree (length shape.tree.cliques) ways

@@ -9,5 +9,6 @@ returns-clause-clique c =
     let m = ap (λ (s : ShapeOf). length s.tree.cliques) c.self.view_is in
     let p : IsClique tree from = record { first = c.requires.from.first; last = omega (arith, m, c.requires.from.last) } in
     let q : IsClique tree to = record { first = c.requires.to.first; last = omega (arith, m, c.requires.to.last) } in
-    let e = next_read (λ row. row.items) tree c.self.inside.next.items c.self.invariant.rows from to p q c.requires.apart c.index.result.now c.index-2.result.now c.index.ensures c.index-2.ensures in
+    let e = next_read (λ next. next.items) tree (length tree.cliques) c.self.inside.ways.items c.self.invariant.ways_are from to p q.first q.last c.requires.apart
+    c.index.result.now c.index-2.result.now c.index.ensures c.index-2.ensures in
     subst (λ (s : ShapeOf). IsClique s.tree c.index-2.result.now) c.self.view_is (subst (IsClique tree) (sym e) (next_is_clique tree c.self.invariant.linked from p to q c.requires.apart))

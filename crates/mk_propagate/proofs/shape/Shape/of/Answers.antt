@@ -23,7 +23,7 @@ invariant_of-result c =
     ∙ ap (λ xs. places_of (shape_of tree (map (λ scope. scope.value) cliques) (map (λ scope. scope.value) xs)) false n) c.deref-2.ensures.value)
     (c.in_ok-in_links.ensures ∙ ap (λ xs. places_of (shape_of tree (map (λ scope. scope.value) xs) (map (λ scope. scope.value) c.deref-4.result.now)) true n) c.deref-3.ensures.value
     ∙ ap (λ xs. places_of (shape_of tree (map (λ scope. scope.value) cliques) (map (λ scope. scope.value) xs)) true n) c.deref-4.ensures.value)
-    (map (λ list. list.items) c.in_ok-neighbour_lists.field-0.items) (map (λ row. row.items) c.in_ok-next_rows.field-0.items) c.in_ok-neighbour_lists.ensures c.in_ok-next_rows.ensures
+    (map (λ list. list.items) c.in_ok-neighbour_lists.field-0.items) (map (λ next. next.items) c.in_ok-ways.field-0.items) c.in_ok-neighbour_lists.ensures c.in_ok-ways.ensures
 
 pub returns-clause-shape : goal.returns-clause-shape
 returns-clause-shape c =

@@ -1,7 +1,7 @@
-use Rattle.std.proofs.Common.{arith, sym, ap, ◌∙◌}
+use Rattle.std.proofs.Common.{◌-◌, arith, sym, ap, ◌∙◌}
 use Rattle.mk_propagate.specs.Shapes.{next_on_way}
-use Rattle.mk_propagate.proofs.Shaped.{next_up, next_near, next_down}
-use Rattle.mk_propagate.proofs.shape.next_after.Goals as goal
+use Rattle.mk_propagate.proofs.Shaped.{next_up, next_near, next_down, next_read}
+use Rattle.mk_propagate.proofs.shape.next_on_way.Goals as goal
 
 pub returns-then-to-from : goal.returns-then-to-from
 returns-then-to-from c = λ d.
@@ -15,7 +15,8 @@ returns-then-above-from c = λ d.
 pub returns-else-above-from : goal.returns-else-above-from
 returns-else-above-from c = λ d.
     let up = c.link-above.ensures in let tree = c.args.tree.now in let from = c.args.from in let to = c.args.to in
-    c.requires.row.next_is c.link-above.result up.clique.first (omega (arith, up.earlier)) (λ e. c.if-above-from.false (sym e))
+    next_read (λ next. next.items) tree (to - 1) c.args.ways.now c.requires.ways from c.link-above.result c.requires.from up.clique.first (omega (arith, up.earlier))
+    (λ e. c.if-above-from.false (sym e)) c.index-ways-above.result c.index.result.now c.index-ways-above.is c.index.ensures
     ∙ ap (next_on_way tree from) up.link
     ∙ next_down tree c.cliques.ensures.linked from c.requires.from to (omega (arith, up.earlier, up.clique.first)) c.requires.to.last (omega
     (arith, c.if-to-from.false, c.if-from-to.false)) (λ e. c.if-above-from.false (up.link ∙ e))
