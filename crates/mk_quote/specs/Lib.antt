@@ -2,4 +2,6 @@ pub mod Sides
 pub mod Laws
 pub mod Bounds
 pub mod Quotes
+pub mod Values
+pub mod Spreads
 pub mod inner

@@ -1,5 +1,5 @@
 -- Right bounds of a whole distribution, for the exact numbers of each value.
-use Rattle.std.specs.Prelude.{◌≡◌, ℕ, ◌≤◌, ⊤, List, [], ◌∷◌, Any, Option, Some, None, IfSome, ◌↔◌}
+use Rattle.std.specs.Prelude.{◌≡◌, ℕ, ◌≤◌, ⊤, List, [], ◌∷◌, Any, Option, Some, None, IfSome, option_map, ◌↔◌}
 use Rattle.std.specs.List.{AllZip}
 use Rattle.mk_exact.specs.Limits.{Side, IsFairAndSolvent, IsWanted, IsFloorSolvent, Inside, IsWithinRange}
 
@@ -25,6 +25,12 @@ pub record IsRightInterval (small : Type 0) (side : Side) (interval : ℕ × ℕ
   pub sound : (X : ℕ) → Inside (Some interval) X → (F : ℕ) × IsFairAndSolvent small side X F
   pub near_complete : (X : ℕ) → 1 ≤ X → X ≤ 999999 → IsWanted side X → Inside (Some interval) X
   pub exact : small → (X : ℕ) → 1 ≤ X → X ≤ 999999 → Inside (Some interval) X ↔ IsFloorSolvent side X
+
+-- the intervals of all values, where each has one
+abbrev pub all_given : List (Option (ℕ × ℕ)) → Intervals
+all_given [] = Some []
+all_given (None ∷ os) = None
+all_given (Some interval ∷ os) = option_map (λ intervals. interval ∷ intervals) (all_given os)
 
 -- no share of a side meets a property
 abbrev pub NoShare : (Side → ℕ → Type 0) → Side → Type 0
