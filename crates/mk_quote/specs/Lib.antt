@@ -3,5 +3,6 @@ pub mod Laws
 pub mod Bounds
 pub mod Quotes
 pub mod Values
+pub mod Questions
 pub mod Spreads
 pub mod inner

@@ -3,12 +3,8 @@ use Rattle.std.specs.Prelude.{◌≡◌, ℕ, List, map}
 use Rattle.mk_spread.specs.Spreads.{SpreadAsked}
 use Rattle.mk_spread.specs.Bounds.{Intervals, all_given}
 use Rattle.mk_quote.specs.declared.side.SideBounds.{SideBounds}
-use Rattle.mk_quote.specs.declared.spread.SpreadQuestion.{SpreadQuestion}
+use Rattle.mk_quote.specs.Questions.{spread_in}
 use Rattle.mk_quote.specs.declared.spread_quote.SpreadQuote.{SpreadQuote}
-
--- the question as the exact market knows it
-abbrev pub spread_in : SpreadQuestion → SpreadAsked
-spread_in question = record { variable = question.variable; condition = question.condition }
 
 abbrev pub user_of : SpreadQuote → ℕ
 user_of quote = quote.user

@@ -3,6 +3,7 @@ ghost use Rattle.std.specs.Prelude.{◌≡◌, ◌≤◌, false, length};
 ghost use Rattle.mk_net.specs.Bounds.{max_condition};
 ghost use Rattle.mk_net.specs.Events.{speaks_of};
 
+use crate::quote::have_same_pairs;
 use mk_net::{Event, Pair, Question};
 
 /// A variable, and a condition of at most eight pairs that does not speak of it.
@@ -15,10 +16,10 @@ pub struct SpreadQuestion {
 }
 
 impl SpreadQuestion {
-    ghost use Rattle.std.specs.Prelude.{◌≡◌, ◌<◌, ◌⊎◌, true, length, IfSome, IfNone};
+    ghost use Rattle.std.specs.Prelude.{◌≡◌, ◌<◌, ◌⊎◌, ◌↔◌, true, length, IfSome, IfNone, IsTrue};
     ghost use Rattle.mk_net.specs.Bounds.{max_condition};
     ghost use Rattle.mk_net.specs.Events.{speaks_of};
-    ghost use Rattle.mk_quote.specs.Spreads.{spread_in};
+    ghost use Rattle.mk_quote.specs.Questions.{spread_in};
 
     /// The question about a variable under a condition. None exactly where the condition has more than eight pairs, or
     /// speaks of the variable.
@@ -32,5 +33,11 @@ impl SpreadQuestion {
             variable,
             condition: question.condition(),
         })
+    }
+    /// Whether two questions are the same: the same variable, and the same pairs in the same order.
+    pub fn is_same(&self, other: &SpreadQuestion) -> bool
+        ensures { IsTrue result ↔ (spread_in self.now ≡ spread_in other.now) }
+    {
+        self.variable == other.variable && have_same_pairs(&self.condition, &other.condition)
     }
 }

@@ -2,7 +2,6 @@
 ghost use Rattle.mk_quote.specs.inner.Served.{AreServed};
 ghost use Rattle.mk_quote.specs.inner.Props.{served-prop};
 
-use crate::quote::have_same_pairs;
 use crate::values::ValueQuote;
 use crate::{SideBounds, SpreadBounds, SpreadQuestion};
 use arrayvec::ArrayVec;
@@ -26,7 +25,8 @@ impl SpreadQuote {
     ghost use Rattle.mk_exact.specs.Limits.{IsWithinRange};
     ghost use Rattle.mk_spread.specs.Bounds.{InsideEach};
     ghost use Rattle.mk_quote.specs.Values.{sides_in, intervals_in, AreRightForEach, AreFairForEach};
-    ghost use Rattle.mk_quote.specs.Spreads.{spread_in, user_of, question_of, revision_of, sides_of, intervals_of, IsSpreadFor};
+    ghost use Rattle.mk_quote.specs.Questions.{spread_in};
+    ghost use Rattle.mk_quote.specs.Spreads.{user_of, question_of, revision_of, sides_of, intervals_of, IsSpreadFor};
 
     /// The quote of a question for a user, with the intervals that its bounds give.
     pub fn make(user: u32, question: SpreadQuestion, revision: u64, bounds: &SpreadBounds) -> SpreadQuote
@@ -79,7 +79,7 @@ impl SpreadQuote {
     pub fn is_for(&self, question: &SpreadQuestion, revision: u64) -> bool
         ensures { IsTrue result ↔ IsSpreadFor self.now (spread_in question.now) revision }
     {
-        self.revision == revision && are_same(&self.question, question)
+        self.revision == revision && self.question.is_same(question)
     }
 
     /// The units that an edit to these shares, in parts in a million, trades for: one number for each value. Some
@@ -98,11 +98,4 @@ impl SpreadQuote {
         }
         Some(units)
     }
-}
-
-/// Whether two questions are the same: the same variable, and the same pairs in the same order.
-fn are_same(left: &SpreadQuestion, right: &SpreadQuestion) -> bool
-    ensures { IsTrue result ↔ (spread_in left.now ≡ spread_in right.now) }
-{
-    left.variable == right.variable && have_same_pairs(&left.condition, &right.condition)
 }

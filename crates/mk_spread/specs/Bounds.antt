@@ -26,11 +26,15 @@ pub record IsRightInterval (small : Type 0) (side : Side) (interval : ℕ × ℕ
   pub near_complete : (X : ℕ) → 1 ≤ X → X ≤ 999999 → IsWanted side X → Inside (Some interval) X
   pub exact : small → (X : ℕ) → 1 ≤ X → X ≤ 999999 → Inside (Some interval) X ↔ IsFloorSolvent side X
 
+-- an interval before others, where all are given
+abbrev pub given_with : Option (ℕ × ℕ) → Intervals → Intervals
+given_with None others = None
+given_with (Some interval) others = option_map (λ intervals. interval ∷ intervals) others
+
 -- the intervals of all values, where each has one
 abbrev pub all_given : List (Option (ℕ × ℕ)) → Intervals
 all_given [] = Some []
-all_given (None ∷ os) = None
-all_given (Some interval ∷ os) = option_map (λ intervals. interval ∷ intervals) (all_given os)
+all_given (o ∷ os) = given_with o (all_given os)
 
 -- no share of a side meets a property
 abbrev pub NoShare : (Side → ℕ → Type 0) → Side → Type 0
