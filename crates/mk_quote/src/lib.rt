@@ -20,4 +20,6 @@ pub use spread_quote::{Intervals, SpreadQuote};
 pub use values::{SpreadBounds, ValueBounds};
 
 #[cfg(test)]
+mod spread_tests;
+#[cfg(test)]
 mod tests;

@@ -85,7 +85,6 @@ impl SpreadQuote {
     /// The units that an edit to these shares, in parts in a million, trades for: one number for each value. Some
     /// exactly inside the intervals, so none where there are more or fewer shares than values.
     pub fn judge(&self, xs: &[u32]) -> Option<ArrayVec<u64, 16>>
-        requires { All (λ X. (1 ≤ X) × (X ≤ 999999)) xs.now }
         ensures inside { MatchOption result (¬ InsideEach (intervals_of self.now) xs.now) (λ units. InsideEach (intervals_of self.now) xs.now) }
         ensures fair { IfSome result (λ units. AreFairForEach (sides_of self.now) xs.now units.items) }
     {
@@ -94,7 +93,7 @@ impl SpreadQuote {
         }
         let mut units = ArrayVec::new();
         for index in 0..xs.len() {
-            units.push(self.values[index].side.judge(xs[index])?);
+            units.push(self.values[index].judge(xs[index])?);
         }
         Some(units)
     }

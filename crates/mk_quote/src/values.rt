@@ -42,6 +42,26 @@ pub struct ValueQuote {
     pub interval: Option<(u32, u32)>,
 }
 
+impl ValueQuote {
+    ghost use Rattle.std.specs.Prelude.{◌≡◌, MatchOption, IfSome};
+    ghost use Rattle.mk_exact.specs.Limits.{Inside};
+    ghost use Rattle.mk_quote.specs.Sides.{ratio_for};
+    ghost use Rattle.mk_quote.specs.inner.Served.{IsServed};
+
+    /// The units for a share of this value. None exactly outside of its interval.
+    pub fn judge(&self, x: u32) -> Option<u64>
+        requires { IsServed self.now }
+        ensures inside { MatchOption result (¬ Inside self.now.interval x) (λ units. Inside self.now.interval x) }
+        ensures units { IfSome result (λ units. units ≡ ratio_for self.now.side x) }
+    {
+        let (low, high) = self.interval?;
+        if x < low || x > high {
+            return None;
+        }
+        self.side.judge(x)
+    }
+}
+
 /// A value without shares, which fills the unused places of a list.
 impl Default for ValueQuote {
     fn default() -> ValueQuote {
