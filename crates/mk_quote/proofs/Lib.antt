@@ -2,3 +2,5 @@ pub mod Bearing
 pub mod Serving
 pub mod Reaching
 pub mod Rightness
+pub mod Spreading
+pub mod Judging

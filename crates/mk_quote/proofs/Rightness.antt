@@ -9,7 +9,7 @@ use Rattle.mk_quote.specs.Bounds.{hit_side, miss_side, EncloseSides, AreAllGrade
 use Rattle.mk_quote.proofs.Serving.{served_is_fair, wanted_serves, exactly_serves}
 
 -- what asks for less of the small case is fair in it too
-fair_in : (small less : Type 0) (side : Side) (X F : ℕ) → (less → small) → IsFairAndSolvent small side X F → IsFairAndSolvent less side X F
+pub fair_in : (small less : Type 0) (side : Side) (X F : ℕ) → (less → small) → IsFairAndSolvent small side X F → IsFairAndSolvent less side X F
 fair_in small less side X F within f = record {
   fair = record { positive = f.fair.positive; fits = f.fair.fits; not_above = f.fair.not_above; close = f.fair.close; floor = λ s. f.fair.floor (within s) };
   solvent = f.solvent;
@@ -22,7 +22,7 @@ allowed_is_fair bounds X p q allows = λ hit miss enclose graded. (
   fair_in _ _ miss (million - X) _ (λ exact. exact.miss) (served_is_fair (miss_side bounds) miss enclose.of_miss graded.miss (million - X) (omega arith) (allows.1)),
 )
 
-within : (limits : Option (ℕ × ℕ)) → IsWithinRange limits → (X : ℕ) → Inside limits X → (1 ≤ X) × (X ≤ 999999)
+pub within : (limits : Option (ℕ × ℕ)) → IsWithinRange limits → (X : ℕ) → Inside limits X → (1 ≤ X) × (X ≤ 999999)
 within None r X i = absurd i
 within (Some (low, high)) r X i = (omega (arith, r.0, i.0), omega (arith, r.2, i.1))
 

@@ -1,3 +1,4 @@
 -- What only proofs and private contracts cite.
 pub mod Reached
 pub mod Props
+pub mod Served

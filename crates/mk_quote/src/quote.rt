@@ -88,7 +88,7 @@ fn are_same(left: &Question, right: &Question) -> bool
 }
 
 /// Whether two events are the same list.
-fn have_same_pairs(left: &Event, right: &Event) -> bool
+pub(crate) fn have_same_pairs(left: &Event, right: &Event) -> bool
     ensures { IsTrue result ↔ (left.now ≡ right.now) }
 {
     left.pairs() == right.pairs()

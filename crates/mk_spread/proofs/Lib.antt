@@ -1,0 +1,7 @@
+pub mod Listed
+pub mod Fair
+pub mod Summed
+pub mod Safe
+pub mod Moves
+pub mod Exist
+pub mod Agree

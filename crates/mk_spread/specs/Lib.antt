@@ -1,0 +1,6 @@
+pub mod Spreads
+pub mod Bounds
+pub mod Markets
+pub mod Laws
+pub mod Existing
+pub mod Examples
