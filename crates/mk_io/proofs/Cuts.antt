@@ -1,8 +1,9 @@
 -- The loop that cuts one line.
-use Rattle.std.proofs.Common.{◌≡◌, ℕ, ◌+◌, ◌≤◌, List, [], ◌∷◌, ◌++◌, length, Option, refl, sym, ap, ◌∙◌, arith}
+use Rattle.std.proofs.Common.{◌≡◌, ℕ, ◌+◌, ◌<◌, ◌≤◌, List, [], ◌∷◌, ◌++◌, length, Option, Contains, refl, sym, ap, subst, ◌∙◌, arith}
 use Rattle.std.specs.Prelude.{◌≢◌, All}
 use Rattle.std.proofs.lemmas.List.{length_push}
 use Rattle.std.proofs.lemmas.List.Elements.{All-nil, All-push}
+use Rattle.std.proofs.lemmas.Map.Made.{Contains-tail}
 use Rattle.mk_io.specs.declared.cut.Cut.TheVariants.{Whole, Last, Fault, Full}
 use Rattle.mk_io.specs.Outside.{prepend_known, IsAtEnd, LeavesRest}
 use Rattle.mk_io.specs.inner.Cut.{front, CutsLine}
@@ -22,6 +23,45 @@ pub record CutSoFar (limit : ℕ) (text : List ℕ) (size room : ℕ) (before af
 pub record Elsewhere (old_market new_market : Option (List ℕ)) (old_file new_file : List ℕ → Option (List ℕ)) (before after : ℕ) : Type 0 where
   pub rest : LeavesRest old_market new_market old_file new_file
   pub kept : after ≡ before
+
+-- a line was read whole before its cutting began: nothing more is read for it
+pub record Held {I : Type 0} (initial left : List ℕ) (inputs_then inputs : I) (size : ℕ) : Type 0 where
+  pub unread : inputs ≡ inputs_then
+  pub whole : Contains left 10
+  pub counted : size + length left ≡ length initial
+
+pub some_left : (left : List ℕ) → Contains left 10 → 0 < length left
+some_left [] none = let below : none.0 < 0 = none.1 in absurd (omega arith)
+some_left (b ∷ left) some = omega arith
+
+-- a byte of it was taken
+taken_held : {I : Type 0} (initial old mid new : List ℕ) (inputs_then inputs next : I) (size b : ℕ) → Held initial old inputs_then inputs size
+    → (0 < length old → mid ≡ old) → (0 < length old → next ≡ inputs) → mid ≡ b ∷ new → b ≢ 10 → Held initial new inputs_then next (size + 1)
+taken_held initial old mid new inputs_then inputs next size b held kept unread byte other =
+    let some : 0 < length old = some_left old held.whole in
+    let parts : old ≡ b ∷ new = sym (kept some) ∙ byte in
+    record {
+      unread = unread some ∙ held.unread;
+      whole = Contains-tail b new 10 other (subst (λ (bytes : List ℕ). Contains bytes 10) parts held.whole);
+      counted = omega (arith, held.counted, ap length parts);
+    }
+
+pub still_held : {I : Type 0} (initial old mid new : List ℕ) (inputs_then inputs next : I) (size b : ℕ) → (Contains initial 10 → Held initial old inputs_then inputs size)
+    → (0 < length old → mid ≡ old) → (0 < length old → next ≡ inputs) → mid ≡ b ∷ new → b ≢ 10
+    → Contains initial 10 → Held initial new inputs_then next (size + 1)
+still_held initial old mid new inputs_then inputs next size b held kept unread byte other whole =
+    taken_held initial old mid new inputs_then inputs next size b (held whole) kept unread byte other
+
+pub unread_if_held : {I : Type 0} (initial old : List ℕ) (inputs_then inputs next : I) (size : ℕ) → (Contains initial 10 → Held initial old inputs_then inputs size)
+    → (0 < length old → next ≡ inputs) → Contains initial 10 → next ≡ inputs_then
+unread_if_held initial old inputs_then inputs next size held unread whole =
+    let h = held whole in unread (some_left old h.whole) ∙ h.unread
+
+-- there is room for what was read with it
+pub room_if_held : {I : Type 0} (initial old : List ℕ) (inputs_then inputs : I) (size room : ℕ) → (Contains initial 10 → Held initial old inputs_then inputs size)
+    → Contains initial 10 → length initial ≤ room → size ≡ room → ⊥
+room_if_held initial old inputs_then inputs size room held whole fits full =
+    let h = held whole in omega (arith, some_left old h.whole, h.counted)
 
 pub so_far_none : (limit room : ℕ) (text : List ℕ) (before : Option (List ℕ)) → text ≡ [] → CutSoFar limit text 0 room before before
 so_far_none limit room text before empty =

@@ -1,5 +1,5 @@
 -- What a value that cuts a stream into lines answers, and what it leaves.
-use Rattle.std.specs.Prelude.{◌≡◌, ◌≢◌, ℕ, ◌+◌, ◌<◌, ◌≤◌, List, [], ◌∷◌, length, Option, Some, None, IfSome, All, ◌==◌, if◌then◌else◌, MatchOption, ◌⊎◌}
+use Rattle.std.specs.Prelude.{◌≡◌, ◌≢◌, ℕ, ◌+◌, ◌<◌, ◌≤◌, List, [], ◌∷◌, length, Option, Some, None, IfSome, All, Contains, ◌==◌, if◌then◌else◌, MatchOption, ◌⊎◌, ⊤}
 use Rattle.mk_io.specs.declared.lines.Next.{Next}
 use Rattle.mk_io.specs.declared.lines.Next.TheVariants.{Line, Long, End, ReadFault, TooMany}
 use Rattle.mk_io.specs.Outside.{prepend_known, IsAtEnd, CountsFault}
@@ -100,3 +100,18 @@ IsAnswer result old new source rest =
 -- the cause of an answer: an earlier one that stays leaves the count of faults as it was
 abbrev pub HasReadCause : Next → Cutting → ℕ → ℕ → Type 0
 HasReadCause result old before now = MatchOption old.last (CountsReadFault result before now) (λ _. now ≡ before)
+
+-- a whole line was read and is to be given next: it and all that was read with it are within the limits
+pub record HoldsLine (cutting : Cutting) : Type 0 where
+  pub goes_on : cutting.last ≡ None
+  pub whole : Contains cutting.left 10
+  pub line_fits : cutting.given < max_stream_lines
+  pub bytes_fit : cutting.spent + length cutting.left ≤ max_stream_bytes
+
+-- a line was given
+abbrev pub IsLine : Next → Type 0
+IsLine Line = ⊤
+IsLine Long = ⊤
+IsLine End = ⊥
+IsLine ReadFault = ⊥
+IsLine TooMany = ⊥

@@ -1,5 +1,5 @@
 -- Inputs in memory whose calls never fail, as plain values.
-use Rattle.std.specs.Prelude.{ℕ, List, [], Option}
+use Rattle.std.specs.Prelude.{ℕ, List, []}
 use Rattle.std.specs.Option.{unwrap_or}
 use Rattle.mk_io.specs.Memory.{file_bytes}
 

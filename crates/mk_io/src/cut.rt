@@ -1,8 +1,8 @@
 //! The cutting of one line.
 
-ghost use Rattle.std.specs.Prelude.{◌≡◌, ℕ, ◌≤◌, List, Option};
+ghost use Rattle.std.specs.Prelude.{◌≡◌, ℕ, ◌≤◌, List, Option, Contains, length};
 ghost use Rattle.mk_io.specs.Outside.{LeavesRest, prepend_known};
-ghost use Rattle.mk_io.specs.inner.Cut.{CutsLine, CountsCutFault};
+ghost use Rattle.mk_io.specs.inner.Cut.{CutsLine, CountsCutFault, IsWhole};
 
 use crate::outside::Inputs;
 use crate::pending::Pending;
@@ -26,6 +26,8 @@ pub fn cut_line<I: Inputs>(pending: &mut Pending, text: &mut Text, inputs: &mut 
         (prepend_known pending.old (I.commands inputs.old)) pending.new (I.commands inputs.new) }
     ensures rest { LeavesRest (I.market inputs.old) (I.market inputs.new) (I.file inputs.old) (I.file inputs.new) }
     ensures cause { CountsCutFault result (I.faults inputs.old) (I.faults inputs.new) }
+    ensures unread { Contains pending.old 10 → inputs.new ≡ inputs.old }
+    ensures whole { Contains pending.old 10 → length pending.old ≤ room → IsWhole result }
 {
     text.clear();
     let mut size = 0;

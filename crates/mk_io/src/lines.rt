@@ -1,9 +1,9 @@
 //! The lines of a stream of commands, cut with buffers of fixed size.
 
-ghost use Rattle.std.specs.Prelude.{◌≡◌, ◌≢◌, ℕ, ◌+◌, ◌<◌, ◌≤◌, List, [], Option, None, length};
+ghost use Rattle.std.specs.Prelude.{◌≡◌, ◌≢◌, ℕ, ◌+◌, ◌<◌, ◌≤◌, ◌↔◌, List, [], Option, None, IsTrue, length};
 ghost use Rattle.mk_io.specs.Outside.{LeavesRest};
 ghost use Rattle.mk_io.specs.Stream.{max_stream_lines, max_stream_bytes};
-ghost use Rattle.mk_io.specs.Cutting.{fresh, IsAnswer, IsFreshAnswer, IsWithinLimits, HasReadCause, CountsReadFault};
+ghost use Rattle.mk_io.specs.Cutting.{fresh, IsAnswer, IsFreshAnswer, IsWithinLimits, HasReadCause, CountsReadFault, HoldsLine, IsLine};
 ghost use Rattle.mk_io.specs.inner.Giving.{GivesText};
 
 use crate::cut::{Cut, cut_line};
@@ -82,6 +82,16 @@ impl Lines {
         self.text.as_slice()
     }
 
+    /// Whether a whole line was read and not given. Then `next` gives this line, and reads nothing.
+    pub fn holds_line(&self) -> bool
+        ensures { IsTrue result ↔ HoldsLine self.now }
+    {
+        self.last.is_none()
+            && self.given < MAX_STREAM_LINES
+            && self.pending.len() as u64 <= MAX_STREAM_BYTES - self.spent
+            && self.pending.holds(b'\n')
+    }
+
     /// Takes the next line of the stream.
     ///
     /// The stream is the bytes that were taken and not given, and then those that `inputs` has left. After `End`,
@@ -92,6 +102,8 @@ impl Lines {
         ensures within { IsWithinLimits self.new }
         ensures rest { LeavesRest (I.market inputs.old) (I.market inputs.new) (I.file inputs.old) (I.file inputs.new) }
         ensures cause { HasReadCause result self.old (I.faults inputs.old) (I.faults inputs.new) }
+        ensures unread { HoldsLine self.old → inputs.new ≡ inputs.old }
+        ensures held { HoldsLine self.old → IsLine result }
     {
         match self.last {
             Some(last) => self.stop(last),
@@ -106,6 +118,8 @@ impl Lines {
         ensures within { IsWithinLimits self.new }
         ensures rest { LeavesRest (I.market inputs.old) (I.market inputs.new) (I.file inputs.old) (I.file inputs.new) }
         ensures cause { CountsReadFault result (I.faults inputs.old) (I.faults inputs.new) }
+        ensures unread { HoldsLine self.old → inputs.new ≡ inputs.old }
+        ensures held { HoldsLine self.old → IsLine result }
     {
         match self.pending.refill(inputs) {
             Err(_) => self.stop(Next::ReadFault),
@@ -123,6 +137,8 @@ impl Lines {
         ensures within { IsWithinLimits self.new }
         ensures rest { LeavesRest (I.market inputs.old) (I.market inputs.new) (I.file inputs.old) (I.file inputs.new) }
         ensures cause { CountsReadFault result (I.faults inputs.old) (I.faults inputs.new) }
+        ensures unread { HoldsLine self.old → inputs.new ≡ inputs.old }
+        ensures held { HoldsLine self.old → IsLine result }
     {
         if self.given == MAX_STREAM_LINES {
             return self.stop(Next::TooMany);

@@ -1,6 +1,6 @@
 //! Bytes that were read and are still to be taken.
 
-ghost use Rattle.std.specs.Prelude.{◌≡◌, ℕ, ◌<◌, List, [], ◌∷◌, Option, length};
+ghost use Rattle.std.specs.Prelude.{◌≡◌, ℕ, ◌<◌, ◌↔◌, List, [], ◌∷◌, Option, Ok, true, IsTrue, Contains, length};
 ghost use Rattle.mk_io.specs.Outside.{HasCause, LeavesRest};
 ghost use Rattle.mk_io.specs.inner.Cut.{Refills};
 
@@ -44,6 +44,9 @@ impl Pending {
         ensures cause { HasCause (I.faults inputs.old) (I.faults inputs.new) result }
         ensures bytes { Refills self.old self.new (I.commands inputs.old) (I.commands inputs.new) result }
         ensures rest { LeavesRest (I.market inputs.old) (I.market inputs.new) (I.file inputs.old) (I.file inputs.new) }
+        ensures there { 0 < length self.old → result ≡ Ok true }
+        ensures kept { 0 < length self.old → self.new ≡ self.old }
+        ensures unread { 0 < length self.old → inputs.new ≡ inputs.old }
     {
         if self.from < self.to {
             return Ok(true);
@@ -53,6 +56,20 @@ impl Pending {
         let count = inputs.read_commands(&mut self.buf)?;
         self.to = count;
         Ok(count > 0)
+    }
+
+    /// How many bytes there are.
+    pub fn len(&self) -> usize
+        ensures { result ≡ length self.now }
+    {
+        self.to - self.from
+    }
+
+    /// Whether a byte is among them.
+    pub fn holds(&self, byte: u8) -> bool
+        ensures { IsTrue result ↔ Contains self.now byte }
+    {
+        self.buf[self.from..self.to].contains(&byte)
     }
 
     /// Takes the next byte.

@@ -121,6 +121,20 @@ fn nothing_is_read_behind_a_last_line(rt: HostRuntime) -> Result<(), Fail> {
 }
 
 #[test]
+fn holds_the_lines_that_were_read_whole(rt: HostRuntime) -> Result<(), Fail> {
+    let mut inputs = inputs_of(rt.alloc(), b"a\nb\nc\nd", 5, &[])?;
+    let mut lines = Lines::new();
+    // The first read ends behind the first byte of the third line, and the second one with the stream.
+    for held in [false, true, false, false] {
+        assert_eq!(rt; lines.holds_line(), held);
+        let calls = inputs.calls();
+        let _ = lines.next(&mut inputs);
+        assert_eq!(rt; inputs.calls() == calls, held);
+    }
+    Ok(())
+}
+
+#[test]
 fn writes_go_on_and_fail(rt: HostRuntime) -> Result<(), Fail> {
     let alloc = rt.alloc();
     let mut whole = MemorySink::new(vec![in alloc; 0; 8]?, 1, Vec::new(alloc));

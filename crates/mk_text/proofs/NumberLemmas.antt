@@ -1,5 +1,5 @@
 -- Numbers: each is read from the digits in which it is written, and from no others.
-use Rattle.std.specs.Prelude.{◌≡◌, ℕ, zero, suc, ◌+◌, ◌-◌, ◌*◌, ◌/◌, ◌%◌, ◌^◌, ◌<◌, ◌≤◌, List, [], ◌∷◌, ◌++◌, length, Bool, true, false, ◌&&◌, nat_lt, Option, Some, None, decimal, cond, IsUtf8, All}
+use Rattle.std.specs.Prelude.{◌≡◌, ℕ, zero, suc, ◌+◌, ◌*◌, ◌/◌, ◌%◌, ◌^◌, ◌<◌, ◌≤◌, List, [], ◌∷◌, length, drop, Bool, true, false, ◌&&◌, nat_lt, Option, Some, None, decimal, cond, IsUtf8, All}
 use Rattle.std.specs.List.{list_all}
 use Rattle.std.specs.Str.{bytes_eq}
 use Rattle.std.specs.Char.{digit_value}
@@ -9,7 +9,7 @@ use Rattle.std.proofs.Common.{refl, sym, ap, ◌∙◌, arith, length-append, li
 use Rattle.std.proofs.lemmas.Bool.Decides.{nat_tests}
 use Rattle.std.proofs.lemmas.Option.{cond_some}
 use Rattle.std.proofs.lemmas.Bool.{ltb-true, lt-ltb}
-use Rattle.std.proofs.lemmas.Fmt.{decimal_is_IsNumeral}
+use Rattle.std.proofs.lemmas.Fmt.{decimal_is_IsNumeral, decimal_digit, decimal_step}
 use Rattle.std.proofs.lemmas.Int.Digits.{digits_push, digits_value_push}
 use Rattle.std.proofs.Math.Nat.{pow-suc, div-lt_iff_lt-mul}
 use Rattle.std.proofs.lemmas.Slice.Eq.{bytes_eq-Decides}
@@ -141,13 +141,25 @@ pub told_apart : (written text word : List ℕ) (same : Bool) → written ≡ te
 told_apart written text word same e told fails equal =
     let passes : bytes_eq written word ≡ true = (bytes_eq-Decides written word).1 (e ∙ equal) in cc
 
--- the last digit of some
-pub places_apart : (count n : ℕ) → 0 < count → places count n ≡ places (count - 1) (n / 10) ++ (48 + n % 10) ∷ []
+-- a one in front of the places makes a number of one digit more
+pub behind_one : (count n : ℕ) → n < 10 ^ count → 10 ^ count + n < 2 ^ 64 → decimal (10 ^ count + n) ≡ 49 ∷ places count n
 unfolding places
-places_apart zero n some = absurd (omega arith)
-places_apart (suc count) n some = let fewer : suc count - 1 ≡ count = omega arith in rw fewer refl
+behind_one zero n below fits = let none : n ≡ 0 = omega (arith, below) in rw none (decimal_digit 1 (lit< tt))
+behind_one (suc count) n below fits =
+    let power : 10 ^ suc count ≡ 10 ^ count * 10 = pow-suc 10 count in
+    let room : n < 10 ^ count * 10 = rw (← power) below in
+    let fewer : n / 10 < 10 ^ count = (div-lt_iff_lt-mul {k = 10} {x = n} {y = 10 ^ count} (lit< tt)).1 room in
+    let front : (10 ^ suc count + n) / 10 ≡ 10 ^ count + n / 10 = rw power (omega arith) in
+    let last : (10 ^ suc count + n) % 10 ≡ n % 10 = rw power (omega arith) in
+    let some : 10 ≤ 10 ^ suc count + n = omega (arith, power, fewer) in
+    let shorter : 10 ^ count + n / 10 < 2 ^ 64 = omega (arith, power, fits) in
+    decimal_step (10 ^ suc count + n) some fits ∙ rw (front, last, behind_one count (n / 10) fewer shorter) refl
 
-pub places_none : (count n : ℕ) → count ≡ 0 → places count n ≡ []
-unfolding places
-places_none zero n none = refl
-places_none (suc count) n none = absurd (omega arith)
+pub ten_behind_one : (part : ℕ) → part < 10 ^ 10 → decimal (10 ^ 10 + part) ≡ 49 ∷ places 10 part
+ten_behind_one part below = behind_one 10 part below (omega (arith, below))
+
+pub behind_first : (digits rest : List ℕ) → digits ≡ 49 ∷ rest → drop 1 digits ≡ rest
+behind_first digits rest e = rw e refl
+
+pub length-behind_first : (digits rest : List ℕ) → digits ≡ 49 ∷ rest → 1 ≤ length digits
+length-behind_first digits rest e = rw e (omega arith)

@@ -1,5 +1,5 @@
 -- What is left when parts at the front are read one after the other.
-use Rattle.std.proofs.Common.{◌≡◌, ℕ, List, [], ◌∷◌, ◌++◌, Option, Some, refl, sym, ap, ◌∙◌, append_assoc}
+use Rattle.std.proofs.Common.{◌≡◌, ℕ, List, [], ◌++◌, refl, sym, ap, ◌∙◌, append_assoc}
 use Rattle.mk_text.specs.Words.{word, behind_word, IsRestOf}
 use Rattle.mk_text.proofs.WordLemmas.{word_splits}
 

@@ -8,8 +8,8 @@ mod writers;
 
 pub use reader::Reader;
 pub use writers::{
-    put_condition, put_limits, put_name, put_number, put_pair, put_places, put_price, put_question,
-    put_range, put_short,
+    put_condition, put_limits, put_name, put_number, put_pair, put_price, put_question, put_range,
+    put_short,
 };
 
 #[cfg(test)]

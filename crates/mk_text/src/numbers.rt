@@ -6,7 +6,7 @@ ghost use Rattle.arrayvec.specs.ArrayString.{array_string_len};
 ghost use Rattle.mk_text.specs.Numbers.{places};
 ghost use Rattle.mk_text.specs.Reading.{number_written};
 
-use crate::writers::put_places;
+use crate::writers::{UNITS, put_ten_places};
 use arrayvec::ArrayString;
 use itoa::Buffer;
 use std::str;
@@ -30,9 +30,12 @@ pub fn ten_places_of(word: &[u8]) -> Option<u64>
     ensures below { IfSome result (λ n. n < 10 ^ 10) }
 {
     let number = value_of(word)?;
+    if number >= UNITS {
+        return None;
+    }
     let mut written = ArrayString::<10>::new();
-    put_places(&mut written, 10, number);
-    if number < 10_000_000_000 && written.as_bytes() == word {
+    put_ten_places(&mut written, number);
+    if written.as_bytes() == word {
         Some(number)
     } else {
         None

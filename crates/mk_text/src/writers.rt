@@ -46,16 +46,17 @@ pub fn put_short<const N: usize>(out: &mut ArrayString<N>, number: u32)
     out.push_str(Buffer::new().format(number));
 }
 
-/// Writes so many last digits of a number.
-pub fn put_places<const N: usize>(out: &mut ArrayString<N>, count: usize, number: u64)
-    requires { array_string_len out.old + count ≤ N }
-    ensures text { out.new.bytes ≡ out.old.bytes ++ places count number }
-    ensures growth { array_string_len out.new ≡ array_string_len out.old + count }
+/// Writes a number below 10^10 in ten digits, with leading zeros.
+pub fn put_ten_places<const N: usize>(out: &mut ArrayString<N>, part: u64)
+    requires below { part < 10 ^ 10 }
+    requires room { array_string_len out.old + 10 ≤ N }
+    ensures text { out.new.bytes ≡ out.old.bytes ++ places 10 part }
+    ensures growth { array_string_len out.new ≡ array_string_len out.old + 10 }
 {
-    if count > 0 {
-        put_places(out, count - 1, number / 10);
-        out.push((b'0' + (number % 10) as u8) as char);
-    }
+    // A one in front keeps the zeros behind it.
+    let mut buffer = Buffer::new();
+    let digits = buffer.format(UNITS + part);
+    out.push_str(&digits[1..]);
 }
 
 /// Writes a pair, in at most 65 bytes.
@@ -113,7 +114,7 @@ pub fn put_price<const N: usize>(out: &mut ArrayString<N>, price: u64)
 {
     put_number(out, price / UNITS);
     out.push_str(".");
-    put_places(out, 10, price % UNITS);
+    put_ten_places(out, price % UNITS);
 }
 
 /// Writes two numbers with two points between them, in at most 42 bytes.

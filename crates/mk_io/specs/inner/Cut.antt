@@ -1,5 +1,5 @@
 -- What the parts of `Lines` do: the bytes that were read, the text of one line, and the cutting of one line.
-use Rattle.std.specs.Prelude.{◌≡◌, ◌≢◌, ℕ, ◌+◌, ◌<◌, ◌≤◌, List, [], ◌∷◌, ◌++◌, length, take, Option, Result, IfOk, OnErr, Bool, true, false, All}
+use Rattle.std.specs.Prelude.{◌≡◌, ◌≢◌, ℕ, ◌+◌, ◌<◌, ◌≤◌, List, [], ◌∷◌, ◌++◌, length, take, Option, Result, IfOk, OnErr, Bool, true, false, All, ⊤}
 use Rattle.mk_io.specs.declared.cut.Cut.{Cut}
 use Rattle.mk_io.specs.declared.cut.Cut.TheVariants.{Whole, Last, Fault, Full}
 use Rattle.mk_io.specs.Outside.{prepend_known, IsAtEnd, CountsFault}
@@ -62,3 +62,10 @@ CountsCutFault Fault before now = CountsFault before now
 CountsCutFault (Whole size) before now = now ≡ before
 CountsCutFault (Last size) before now = now ≡ before
 CountsCutFault Full before now = now ≡ before
+
+-- the line ended at its LF
+abbrev pub IsWhole : Cut → Type 0
+IsWhole (Whole size) = ⊤
+IsWhole (Last size) = ⊥
+IsWhole Fault = ⊥
+IsWhole Full = ⊥
