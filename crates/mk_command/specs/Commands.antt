@@ -1,11 +1,11 @@
 -- Commands, and how they are written.
 use Rattle.std.specs.Prelude.{ℕ, List, codes, decimal, Option, IfSome, ⊤}
 use Rattle.mk_net.specs.Name.{IsName}
-use Rattle.mk_text.specs.Joined.{◌&◌, perhaps_text}
+use Rattle.mk_text.specs.Joined.{◌&◌, perhaps_text, spaced, AreSeveral}
 use Rattle.mk_text.specs.Numbers.{IsShort}
-use Rattle.mk_text.specs.Texts.{IsPairText, pair_text, IsQuestionText, question_text}
+use Rattle.mk_text.specs.Texts.{IsPairText, pair_text, IsCondition, condition_text, IsQuestionText, question_text}
 use Rattle.mk_command.specs.declared.command.Command.{Command}
-use Rattle.mk_command.specs.declared.command.Command.TheVariants.{User, Deposit, Withdraw, Price, Limits, Edit, Worst, Resolve, Settle}
+use Rattle.mk_command.specs.declared.command.Command.TheVariants.{User, Deposit, Withdraw, Price, Limits, Edit, Bounds, Spread, Worst, Resolve, Settle}
 
 -- the revision that an edit names
 abbrev pub at_text : Option ℕ → List ℕ
@@ -18,6 +18,9 @@ command_text (Withdraw user bits) = codes "withdraw " & user & codes " " & decim
 command_text (Price question) = codes "price " & question_text question
 command_text (Limits user question) = codes "limits " & user & codes " " & question_text question
 command_text (Edit user question to at) = codes "edit " & user & codes " " & question_text question & codes " to " & decimal to & at_text at
+command_text (Bounds user variable condition) = codes "bounds " & user & codes " " & variable & condition_text condition.items
+command_text (Spread user variable condition to at) =
+    codes "spread " & user & codes " " & variable & condition_text condition.items & codes " to " & spaced decimal to.items & at_text at
 command_text (Worst user) = codes "worst " & user
 command_text (Resolve pair) = codes "resolve " & pair_text pair
 command_text Settle = codes "settle"
@@ -30,11 +33,14 @@ IsCommand (Withdraw user bits) = IsName user × IsShort bits
 IsCommand (Price question) = IsQuestionText question
 IsCommand (Limits user question) = IsName user × IsQuestionText question
 IsCommand (Edit user question to at) = IsName user × IsQuestionText question × IsShort to × IfSome at IsShort
+IsCommand (Bounds user variable condition) = IsName user × IsName variable × IsCondition condition.items
+IsCommand (Spread user variable condition to at) =
+    IsName user × IsName variable × IsCondition condition.items × AreSeveral IsShort to.items × IfSome at IsShort
 IsCommand (Worst user) = IsName user
 IsCommand (Resolve pair) = IsPairText pair
 IsCommand Settle = ⊤
 
--- its numbers have at most nine digits
+-- its numbers have at most nine digits, and a distribution is 2 to 16 of them
 abbrev pub HasShortNumbers : Command → Type 0
 HasShortNumbers (User user) = ⊤
 HasShortNumbers (Deposit user bits) = IsShort bits
@@ -42,6 +48,8 @@ HasShortNumbers (Withdraw user bits) = IsShort bits
 HasShortNumbers (Price question) = ⊤
 HasShortNumbers (Limits user question) = ⊤
 HasShortNumbers (Edit user question to at) = IsShort to × IfSome at IsShort
+HasShortNumbers (Bounds user variable condition) = ⊤
+HasShortNumbers (Spread user variable condition to at) = AreSeveral IsShort to.items × IfSome at IsShort
 HasShortNumbers (Worst user) = ⊤
 HasShortNumbers (Resolve pair) = ⊤
 HasShortNumbers Settle = ⊤

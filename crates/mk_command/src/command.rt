@@ -1,5 +1,6 @@
 //! The commands of a market's users.
 
+use arrayvec::ArrayVec;
 use mk_net::{Name, PairText, QuestionText};
 
 /// A line of the command stream.
@@ -33,6 +34,21 @@ pub enum Command {
         user: Name,
         question: QuestionText,
         to: u32,
+        at: Option<u32>,
+    },
+    /// `bounds U V`, perhaps under a condition: to which prices may U move each value of V?
+    Bounds {
+        user: Name,
+        variable: Name,
+        condition: ArrayVec<PairText, 8>,
+    },
+    /// `spread U V to X..` or `spread U V to X.. at R`, perhaps under a condition: U moves the values of V, in their order, to these
+    /// millionths, having seen the revision R.
+    Spread {
+        user: Name,
+        variable: Name,
+        condition: ArrayVec<PairText, 8>,
+        to: ArrayVec<u32, 16>,
         at: Option<u32>,
     },
     /// `worst U`: what is U paid at least?

@@ -1,12 +1,17 @@
 -- Refusals, and how they are written.
-use Rattle.std.specs.Prelude.{◌≡◌, ℕ, List, codes, decimal, ⊤}
+use Rattle.std.specs.Prelude.{◌≡◌, ℕ, List, codes, decimal, ⊤, Option, option_map}
+use Rattle.arrayvec.specs.ArrayVec.{ArrayVec}
 use Rattle.mk_net.specs.Bounds.{max_users}
 use Rattle.mk_net.specs.Name.{IsName}
 use Rattle.mk_text.specs.Joined.{◌&◌}
-use Rattle.mk_text.specs.Numbers.{IsLong, IsNarrow, AreLimits, limits_text}
+use Rattle.mk_text.specs.Numbers.{IsShort, IsLong, IsNarrow, AreLimits, limits_text, AreIntervals, intervals_text}
 use Rattle.mk_text.specs.Texts.{IsPairText, pair_text}
 use Rattle.mk_reply.specs.declared.refusal.Refusal.{Refusal}
-use Rattle.mk_reply.specs.declared.refusal.Refusal.TheVariants.{Syntax, Long, Settled, User, Exists, Users, Unknown, Twice, Stale, Resolved, Impossible, Wide, Range, Full, Beyond, Short, Unresolved, Memory}
+use Rattle.mk_reply.specs.declared.refusal.Refusal.TheVariants.{Syntax, Long, Settled, User, Exists, Users, Unknown, Twice, Stale, Resolved, Impossible, Wide, Range, Full, Beyond, Short, Unresolved, NoVariable, Numbers, Sum, Outside, Memory}
+
+-- the intervals that are given, if there are any
+abbrev pub given_in : Option (ArrayVec (ℕ × ℕ)) → Option (List (ℕ × ℕ))
+given_in intervals = option_map (λ given. given.items) intervals
 
 abbrev pub refusal_text : Refusal → List ℕ
 refusal_text Syntax = codes "syntax"
@@ -26,6 +31,10 @@ refusal_text (Full held) = codes "full " & decimal held
 refusal_text (Beyond limits) = codes "beyond " & limits_text limits
 refusal_text (Short bits) = codes "short " & decimal bits
 refusal_text (Unresolved variable) = codes "open " & variable
+refusal_text (NoVariable variable) = codes "variable " & variable
+refusal_text (Numbers given) = codes "numbers " & decimal given
+refusal_text (Sum sum) = codes "sum " & decimal sum
+refusal_text (Outside intervals) = codes "outside " & intervals_text (given_in intervals)
 refusal_text Memory = codes "memory"
 
 -- the refusals that are read
@@ -47,4 +56,8 @@ IsRefusal (Full held) = IsNarrow held
 IsRefusal (Beyond limits) = AreLimits limits
 IsRefusal (Short bits) = IsLong bits
 IsRefusal (Unresolved variable) = IsName variable
+IsRefusal (NoVariable variable) = IsName variable
+IsRefusal (Numbers given) = IsShort given
+IsRefusal (Sum sum) = IsShort sum
+IsRefusal (Outside intervals) = AreIntervals (given_in intervals)
 IsRefusal Memory = ⊤

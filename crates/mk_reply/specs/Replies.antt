@@ -2,13 +2,13 @@
 use Rattle.std.specs.Prelude.{◌≡◌, ◌≢◌, ℕ, ◌≤◌, List, ◌++◌, length, codes, decimal, All}
 use Rattle.mk_net.specs.Bounds.{max_users}
 use Rattle.mk_net.specs.Name.{IsName}
-use Rattle.mk_text.specs.Joined.{◌&◌, items_text}
-use Rattle.mk_text.specs.Numbers.{IsLong, IsNarrow, IsPrice, price_text, range_text, AreLimits, limits_text}
+use Rattle.mk_text.specs.Joined.{◌&◌, items_text, spaced, AreSeveral}
+use Rattle.mk_text.specs.Numbers.{IsLong, IsNarrow, IsPrice, price_text, range_text, AreLimits, limits_text, AreIntervals, intervals_text}
 use Rattle.mk_text.specs.Texts.{IsPairText, pair_text}
-use Rattle.mk_reply.specs.Refusals.{refusal_text, IsRefusal}
+use Rattle.mk_reply.specs.Refusals.{refusal_text, given_in, IsRefusal}
 use Rattle.mk_reply.specs.declared.payments.Payment.{Payment}
 use Rattle.mk_reply.specs.declared.reply.Reply.{Reply}
-use Rattle.mk_reply.specs.declared.reply.Reply.TheVariants.{Joined, Deposited, Withdrawn, Price, Limits, Traded, Worst, Resolved, Settled, Refused}
+use Rattle.mk_reply.specs.declared.reply.Reply.TheVariants.{Joined, Deposited, Withdrawn, Price, Limits, Traded, Bounded, Spreaded, Worst, Resolved, Settled, Refused}
 use Rattle.mk_reply.specs.declared.unread.Unread.{Unread}
 use Rattle.mk_reply.specs.declared.unread.Unread.TheVariants.{Syntax, Memory}
 
@@ -26,6 +26,8 @@ reply_text (Withdrawn user bits at) = codes "withdraw " & user & codes " " & dec
 reply_text (Price low high) = codes "price " & price_text low & codes ".." & price_text high
 reply_text (Limits limits at) = codes "limits " & limits_text limits & at_text at
 reply_text (Traded hit miss at) = codes "trade " & decimal hit & codes " " & decimal miss & at_text at
+reply_text (Bounded intervals at) = codes "bounds " & intervals_text (given_in intervals) & at_text at
+reply_text (Spreaded factors at) = codes "spread " & spaced decimal factors.items & at_text at
 reply_text (Worst low high) = codes "worst " & range_text low high
 reply_text (Resolved pair at) = codes "resolve " & pair_text pair & at_text at
 reply_text (Settled at payments) = codes "settle" & at_text at & items_text (codes ", ") payment_text payments
@@ -59,6 +61,8 @@ IsReply (Withdrawn user bits at) = IsName user × IsNarrow bits × IsLong at
 IsReply (Price low high) = IsPrice low × IsPrice high
 IsReply (Limits limits at) = AreLimits limits × IsLong at
 IsReply (Traded hit miss at) = IsRatio hit × IsRatio miss × IsLong at
+IsReply (Bounded intervals at) = AreIntervals (given_in intervals) × IsLong at
+IsReply (Spreaded factors at) = AreSeveral IsRatio factors.items × IsLong at
 IsReply (Worst low high) = IsLong low × IsLong high
 IsReply (Resolved pair at) = IsPairText pair × IsLong at
 IsReply (Settled at payments) = IsLong at × ArePayments payments

@@ -1,9 +1,13 @@
 //! Why a line is refused.
 
+use arrayvec::ArrayVec;
 use mk_net::{Name, PairText};
 
+/// For each value of a variable, the least and the greatest millionths to which its price may be moved.
+pub type Intervals = ArrayVec<(u32, u32), 16>;
+
 /// Why a line is refused.
-#[derive(Clone, Copy, Debug, PartialEq, Eq)]
+#[derive(Clone, Debug, Drop, PartialEq, Eq)]
 pub enum Refusal {
     /// The line is the text of no command.
     Syntax,
@@ -39,8 +43,16 @@ pub enum Refusal {
     Short { bits: u64 },
     /// The variable is not resolved yet.
     Unresolved { variable: Name },
+    /// The variable is unknown.
+    NoVariable { variable: Name },
+    /// So many numbers are given, and the variable has another number of values.
+    Numbers { given: u32 },
+    /// The sum of the numbers is not a million.
+    Sum { sum: u32 },
+    /// The numbers are outside the bounds that judge this spread.
+    Outside { intervals: Option<Intervals> },
     /// Memory was wanting.
     Memory,
 }
 
-const _: () = prove!(size_of::<Refusal>() <= 80);
+const _: () = prove!(size_of::<Refusal>() <= 160);

@@ -1,7 +1,8 @@
 //! The answers to lines that are not blank.
 
 use crate::payments::Payments;
-use crate::refusal::Refusal;
+use crate::refusal::{Intervals, Refusal};
+use arrayvec::ArrayVec;
 use mk_net::{Name, PairText};
 
 /// The answer to a line. `at` is the revision after it.
@@ -19,6 +20,13 @@ pub enum Reply {
     Limits { limits: Option<(u32, u32)>, at: u64 },
     /// A trade was made; its ratios, 2^40 being one.
     Traded { hit: u64, miss: u64, at: u64 },
+    /// The bounds of a user's spread: an interval in millionths for each value, if there are any.
+    Bounded {
+        intervals: Option<Intervals>,
+        at: u64,
+    },
+    /// A trade of a whole distribution was made; its ratio for each value, 2^40 being one.
+    Spreaded { factors: ArrayVec<u64, 16>, at: u64 },
     /// An interval that holds what a user is paid at least, in points.
     Worst { low: u64, high: u64 },
     /// A variable was resolved.
@@ -29,4 +37,4 @@ pub enum Reply {
     Refused { why: Refusal },
 }
 
-const _: () = prove!(size_of::<Reply>() <= 96);
+const _: () = prove!(size_of::<Reply>() <= 176);

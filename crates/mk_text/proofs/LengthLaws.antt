@@ -5,7 +5,7 @@ use Rattle.std.proofs.lemmas.Fmt.{length-decimal-le}
 use Rattle.std.proofs.lemmas.List.Elements.{All-head, All-tail}
 use Rattle.mk_net.specs.declared.words.PairText.{PairText}
 use Rattle.mk_net.specs.declared.words.QuestionText.{QuestionText}
-use Rattle.mk_text.specs.Joined.{items_text}
+use Rattle.mk_text.specs.Joined.{items_text, spaced, AreSeveral}
 use Rattle.mk_text.specs.Numbers.{IsShort, IsLong, price_text, IsPrice, places, units, limits_text, AreLimits}
 use Rattle.mk_text.specs.Texts.{IsPairText, pair_text, IsCondition, condition_text, IsQuestionText, question_text}
 use Rattle.mk_text.proofs.NumberLemmas.{length-places}
@@ -56,3 +56,11 @@ pub limits_length : (limits : Option (ℕ × ℕ)) → AreLimits limits → leng
 limits_length None fits = omega arith
 limits_length (Some limits) fits =
     simp length-append (omega (arith, long_length (limits.0) (omega (arith, fits.ordered, fits.below)), long_length (limits.1) (omega (arith, fits.below))))
+
+-- several short numbers
+pub shorts_length : (xs : List ℕ) → AreSeveral IsShort xs → length (spaced decimal xs) ≤ 160
+shorts_length [] fits = omega arith
+shorts_length (x ∷ xs) fits =
+    let first = short_length x (All-head IsShort x xs fits.each) in
+    let more = items_length (codes " ") decimal IsShort 10 (λ y is. let n = short_length y is in omega (arith, n)) xs (All-tail IsShort x xs fits.each) in
+    omega (arith, length-append (decimal x) (items_text (codes " ") decimal xs), first, more, fits.few)

@@ -1,5 +1,5 @@
 -- What is read of each part of a text.
-use Rattle.std.specs.Prelude.{◌≡◌, ℕ, ◌+◌, ◌*◌, ◌/◌, ◌%◌, ◌^◌, ◌≤◌, ◌<◌, List, [], ◌∷◌, ◌++◌, length, true, false, ◌&&◌, Option, Some, None, option_and_then, codes, decimal, nat_le, ◌==◌}
+use Rattle.std.specs.Prelude.{◌≡◌, ℕ, ◌+◌, ◌*◌, ◌/◌, ◌%◌, ◌^◌, ◌≤◌, ◌<◌, List, [], ◌∷◌, ◌++◌, length, All, true, false, ◌&&◌, Option, Some, None, option_and_then, codes, decimal, nat_le, ◌==◌}
 use Rattle.std.specs.List.{list_all}
 use Rattle.std.specs.Str.Parse.{IsNumeral}
 use Rattle.std.proofs.lemmas.Fmt.{decimal_is_IsNumeral}
@@ -12,14 +12,15 @@ use Rattle.std.proofs.lemmas.Str.Parse.{digit_from_value}
 use Rattle.mk_net.specs.Name.{IsName, is_name, is_name_byte, max_name_bytes, begins_with_letter}
 use Rattle.mk_net.specs.declared.words.PairText.{PairText}
 use Rattle.mk_net.specs.declared.words.QuestionText.{QuestionText}
-use Rattle.mk_text.specs.Joined.{items_text}
-use Rattle.mk_text.specs.Numbers.{places, price_text, IsPrice, units, limits_text, AreLimits, IsWithinLimits, range_text}
+use Rattle.mk_net.specs.Bounds.{max_values}
+use Rattle.mk_text.specs.Joined.{items_text, spaced, AreSeveral}
+use Rattle.mk_text.specs.Numbers.{places, price_text, IsPrice, units, limits_text, AreLimits, IsWithinLimits, range_text, IsInterval, interval_text, AreIntervals, intervals_text, IsShort}
 use Rattle.mk_text.specs.Texts.{IsPairText, pair_text, IsCondition, condition_text, IsQuestionText, question_text}
 use Rattle.mk_text.specs.Words.{word, behind_word, EndsWord, after}
-use Rattle.mk_text.specs.Reading.{Read, made, passed, given, never, items, read_name, read_written, read_number, read_pair, more_pairs, read_condition, read_question, read_price, read_range, read_limits, number_written}
+use Rattle.mk_text.specs.Reading.{Read, made, passed, given, never, items, read_name, read_written, read_number, read_pair, more_pairs, read_condition, read_question, read_price, read_range, read_interval, read_limits, read_short, read_units, before_revision, more_spaced, read_several, read_intervals, number_written}
 use Rattle.mk_text.proofs.WordLemmas.{word_splits, word_of, behind_word_of, both_true}
 use Rattle.mk_text.proofs.NumberLemmas.{IsWriting, decimal_writing, places_writing, digits_in_word, number_found, number_is}
-use Rattle.mk_text.proofs.ReadingLaws.{Took, took_same, Reads, Added, BothFit, both_text, behind_text, items_takes, items_again, fronted, reads_same, IsMade, both_reads, behind_reads, made_reads, passed_reads, passing, either_cases, either_here, either_else}
+use Rattle.mk_text.proofs.ReadingLaws.{Took, took_same, Reads, Added, EndsItems, BothFit, both_text, behind_text, items_takes, items_again, fronted, reads_same, IsMade, both_reads, behind_reads, made_reads, passed_reads, passing, either_cases, either_here, either_else}
 
 name_from_test : (bytes : List ℕ) → is_name bytes ≡ true → IsName bytes
 name_from_test bytes passes =
@@ -181,11 +182,9 @@ passes_in_order low high within = rw (le-leb 1 low (within.positive), le-leb low
 abbrev SomeLimits : ℕ × ℕ → Type 0
 SomeLimits limits = IsWithinLimits (limits.0) (limits.1)
 
-abbrev some_limits : Read (ℕ × ℕ)
-some_limits = passed (λ limits. nat_le 1 (limits.0) && nat_le (limits.0) (limits.1)) (read_range 1000000)
-
-some_limits_reads : Reads some_limits both_ends SomeLimits EndsWord
-some_limits_reads = reads_same (passed_reads (λ limits. nat_le 1 (limits.0) && nat_le (limits.0) (limits.1)) (range_reads 1000000 (lit≤ tt)))
+pub interval_reads : Reads read_interval both_ends SomeLimits EndsWord
+unfolding read_interval
+interval_reads = reads_same (passed_reads (λ limits. nat_le 1 (limits.0) && nat_le (limits.0) (limits.1)) (range_reads 1000000 (lit≤ tt)))
     (λ limits fits. in_order (limits.0) (limits.1) (fits.1) (fits.0.0) (fits.0.1))
     (λ limits fits. ((omega (arith, fits.ordered, fits.below), omega (arith, fits.below)), passes_in_order (limits.0) (limits.1) fits))
 
@@ -204,24 +203,138 @@ number_no_word b text n rest letter fits = digits_first b text (decimal n) rest 
 limits_takes : (bytes : List ℕ) (limits : Option (ℕ × ℕ)) (rest : List ℕ) → read_limits bytes ≡ Some (limits, rest) →
     Took limits_text AreLimits bytes limits rest
 unfolding read_limits
-limits_takes bytes limits rest e = either_cases (codes "none") (given None) (made (λ limits. Some limits) some_limits) bytes (Some (limits, rest)) _ e
+limits_takes bytes limits rest e = either_cases (codes "none") (given None) (made (λ limits. Some limits) read_interval) bytes (Some (limits, rest)) _ e
     (λ left begins e1. took_same limits_text AreLimits bytes (None, left) (limits, rest) (same_Some (None, left) (limits, rest) e1)
     (record { begins = begins; fits = tt }))
     (λ e1. option_and_then_some _ _ (limits, rest) e1 (λ x was e2.
-    let took = some_limits_reads.takes bytes (x.0) (x.1) was in
+    let took = interval_reads.takes bytes (x.0) (x.1) was in
     took_same limits_text AreLimits bytes (Some (x.0), x.1) (limits, rest) (same_Some (Some (x.0), x.1) (limits, rest) e2)
     (record { begins = took.begins; fits = took.fits })))
 
 limits_again : (limits : Option (ℕ × ℕ)) (rest : List ℕ) → AreLimits limits → EndsWord rest →
     read_limits (limits_text limits ++ rest) ≡ Some (limits, rest)
 unfolding read_limits
-limits_again None rest fits ends = either_here (codes "none") (given None) (made (λ limits. Some limits) some_limits) rest
+limits_again None rest fits ends = either_here (codes "none") (given None) (made (λ limits. Some limits) read_interval) rest
 limits_again (Some limits) rest fits ends =
     let low : limits.0 < 2 ^ 64 = omega (arith, fits.ordered, fits.below) in
     let missing : after (codes "none") (both_ends limits ++ rest) ≡ None =
     rw (append_assoc (decimal (limits.0)) (codes ".." ++ decimal (limits.1)) rest) (number_no_word 110 (codes "one") (limits.0) (codes ".." ++ decimal (limits.1) ++ rest) (lit< tt) low) in
-    either_else (codes "none") (given None) (made (λ limits. Some limits) some_limits) (both_ends limits ++ rest) missing
-    ∙ rw (some_limits_reads.again limits rest fits ends) refl
+    either_else (codes "none") (given None) (made (λ limits. Some limits) read_interval) (both_ends limits ++ rest) missing
+    ∙ rw (interval_reads.again limits rest fits ends) refl
 
 pub limits_reads : Reads read_limits limits_text AreLimits EndsWord
 limits_reads = record { takes = limits_takes; again = limits_again }
+
+-- ---- several things
+
+-- where a list of things ends: no word goes on, and what follows is a revision or no other thing
+pub record EndsSeveral (rest : List ℕ) : Type 0 where
+  pub word : EndsWord rest
+  pub ends : EndsItems before_revision (codes " ") rest
+
+abbrev AreSome : {X : Type 0} → (X → Type 0) → List X → Type 0
+AreSome Fits xs = (1 ≤ length xs) × (length xs ≤ 16) × All Fits xs
+
+several_took : {X : Type 0} (t : X → List ℕ) (F : X → Type 0) (bytes middle : List ℕ) (x : X) (xs : List X) (rest : List ℕ) →
+    Took t F bytes x middle → Added (codes " ") t F 15 (x ∷ []) middle xs rest → Took (spaced t) (AreSome F) bytes xs rest
+several_took {X} t F bytes middle x xs rest took added =
+    took_same (spaced t) (AreSome F) bytes (x ∷ added.more, rest) (xs, rest) (ap (λ (all : List X). (all, rest)) (sym (added.joined))) (record {
+      begins = took.begins ∙ ap (λ (left : List ℕ). t x ++ left) (added.begins) ∙ sym (append_assoc (t x) (items_text (codes " ") t (added.more)) rest);
+      fits = (omega arith, omega (arith, added.few), All-cons F x (added.more) (took.fits) (added.fits));
+    })
+
+-- no word goes on before further things
+spaced_on : {X : Type 0} (t : X → List ℕ) (xs : List X) (rest : List ℕ) → EndsWord rest → EndsWord (items_text (codes " ") t xs ++ rest)
+spaced_on t [] rest ends = ends
+spaced_on t (x ∷ xs) rest ends = refl
+
+some_again : {X : Type 0} {read : Read X} {t : X → List ℕ} {F : X → Type 0} → Reads read t F EndsWord →
+    ((x : X) (rest : List ℕ) → F x → before_revision (codes " " ++ (t x ++ rest)) ≡ false) →
+    (xs : List X) (rest : List ℕ) → AreSome F xs → EndsSeveral rest →
+    option_and_then (λ first. more_spaced read ((first.0) ∷ []) (first.1)) (read (spaced t xs ++ rest)) ≡ Some (xs, rest)
+unfolding more_spaced
+some_again a goes [] rest fits ends = absurd (omega (arith, fits.0))
+some_again {X} {read} {t} {F} a goes (x ∷ xs) rest fits ends =
+    let others = items_text (codes " ") t xs in
+    let first : F x = All-head F x xs (fits.2) in
+    let more = items_again a before_revision (codes " ") (λ rest. refl) goes 15 (x ∷ []) xs rest (omega (arith, fits.1)) (All-tail F x xs (fits.2)) (ends.word) (ends.ends) in
+    rw (append_assoc (t x) others rest, a.again x (others ++ rest) first (spaced_on t xs rest (ends.word))) more
+
+some_reads : {X : Type 0} {read : Read X} {t : X → List ℕ} {F : X → Type 0} → Reads read t F EndsWord →
+    ((x : X) (rest : List ℕ) → F x → before_revision (codes " " ++ (t x ++ rest)) ≡ false) →
+    Reads (λ bytes. option_and_then (λ first. more_spaced read ((first.0) ∷ []) (first.1)) (read bytes)) (spaced t) (AreSome F) EndsSeveral
+unfolding more_spaced
+some_reads {X} {read} {t} {F} a goes = record {
+  takes = λ bytes xs rest e. option_and_then_some _ (read bytes) (xs, rest) e (λ x was e1.
+      several_took t F bytes (x.1) (x.0) xs rest (a.takes bytes (x.0) (x.1) was)
+      (items_takes a before_revision (codes " ") 15 ((x.0) ∷ []) (x.1) xs rest e1));
+  again = some_again a goes;
+}
+
+pub several_reads : {X : Type 0} {read : Read X} {t : X → List ℕ} {F : X → Type 0} → Reads read t F EndsWord →
+    ((x : X) (rest : List ℕ) → F x → before_revision (codes " " ++ (t x ++ rest)) ≡ false) →
+    Reads (read_several read) (spaced t) (AreSeveral F) EndsSeveral
+unfolding read_several
+several_reads a goes = reads_same (passed_reads (λ xs. nat_le 2 (length xs)) (some_reads a goes))
+    (λ xs fits. record { two = leb-true 2 (length xs) (fits.1); few = fits.0.1; each = fits.0.2 })
+    (λ xs fits. ((omega (arith, fits.two), fits.few, fits.each), le-leb 2 (length xs) (fits.two)))
+
+-- a number is no revision
+pub number_goes_on : (n : ℕ) (rest : List ℕ) → n < 2 ^ 64 → before_revision (codes " " ++ (decimal n ++ rest)) ≡ false
+unfolding after
+number_goes_on n rest fits = rw (number_no_word 97 (codes "t ") n rest (lit< tt) fits) refl
+
+pub short_reads : Reads read_short decimal IsShort EndsWord
+unfolding read_short
+short_reads = number_reads (10 ^ 9) (lit≤ tt)
+
+pub record IsUnit (n : ℕ) : Type 0 where
+  pub positive : 1 ≤ n
+  pub below : n < 2 ^ 63
+
+pub units_reads : Reads read_units decimal IsUnit EndsWord
+unfolding read_units
+units_reads = reads_same (passed_reads (λ n. nat_le 1 n) (number_reads (2 ^ 63) (lit≤ tt))) (λ n fits. record { positive = leb-true 1 n (fits.1); below = fits.0 })
+    (λ n fits. (fits.below, le-leb 1 n (fits.positive)))
+
+pub shorts_reads : Reads (read_several read_short) (spaced decimal) (AreSeveral IsShort) EndsSeveral
+shorts_reads = several_reads short_reads (λ n rest fits. number_goes_on n rest (omega (arith, fits)))
+
+pub all_units_reads : Reads (read_several read_units) (spaced decimal) (AreSeveral IsUnit) EndsSeveral
+all_units_reads = several_reads units_reads (λ n rest fits. number_goes_on n rest (omega (arith, fits.below)))
+
+interval_goes_on : (interval : ℕ × ℕ) (rest : List ℕ) → IsInterval interval → before_revision (codes " " ++ (interval_text interval ++ rest)) ≡ false
+interval_goes_on interval rest fits =
+    rw (append_assoc (decimal (interval.0)) (codes ".." ++ decimal (interval.1)) rest) (number_goes_on (interval.0) (codes ".." ++ decimal (interval.1) ++ rest) (omega (arith, fits.ordered, fits.below)))
+
+given_reads : Reads (read_several read_interval) (spaced interval_text) (AreSeveral IsInterval) EndsSeveral
+given_reads = several_reads interval_reads interval_goes_on
+
+intervals_takes : (bytes : List ℕ) (intervals : Option (List (ℕ × ℕ))) (rest : List ℕ) → read_intervals bytes ≡ Some (intervals, rest) →
+    Took intervals_text AreIntervals bytes intervals rest
+unfolding read_intervals
+intervals_takes bytes intervals rest e = either_cases (codes "none") (given None) (made (λ intervals. Some intervals) (read_several read_interval)) bytes (Some (intervals, rest)) _ e
+    (λ left begins e1. took_same intervals_text AreIntervals bytes (None, left) (intervals, rest) (same_Some (None, left) (intervals, rest) e1)
+    (record { begins = begins; fits = tt }))
+    (λ e1. option_and_then_some _ _ (intervals, rest) e1 (λ x was e2.
+    let took = given_reads.takes bytes (x.0) (x.1) was in
+    took_same intervals_text AreIntervals bytes (Some (x.0), x.1) (intervals, rest) (same_Some (Some (x.0), x.1) (intervals, rest) e2)
+    (record { begins = took.begins; fits = took.fits })))
+
+intervals_again : (intervals : Option (List (ℕ × ℕ))) (rest : List ℕ) → AreIntervals intervals → EndsSeveral rest →
+    read_intervals (intervals_text intervals ++ rest) ≡ Some (intervals, rest)
+unfolding read_intervals
+intervals_again None rest fits ends = either_here (codes "none") (given None) (made (λ intervals. Some intervals) (read_several read_interval)) rest
+intervals_again (Some []) rest fits ends = absurd (omega (arith, fits.two))
+intervals_again (Some (first ∷ others)) rest fits ends =
+    let is = All-head IsInterval first others (fits.each) in
+    let low : first.0 < 2 ^ 64 = omega (arith, is.ordered, is.below) in
+    let behind = codes ".." ++ decimal (first.1) in
+    let more = items_text (codes " ") interval_text others in
+    let missing : after (codes "none") (spaced interval_text (first ∷ others) ++ rest) ≡ None =
+    rw (append_assoc (interval_text first) more rest, append_assoc (decimal (first.0)) behind (more ++ rest)) (number_no_word 110 (codes "one") (first.0) (behind ++ (more ++ rest)) (lit< tt) low) in
+    either_else (codes "none") (given None) (made (λ intervals. Some intervals) (read_several read_interval)) (spaced interval_text (first ∷ others) ++ rest) missing
+    ∙ rw (given_reads.again (first ∷ others) rest fits ends) refl
+
+pub intervals_reads : Reads read_intervals intervals_text AreIntervals EndsSeveral
+intervals_reads = record { takes = intervals_takes; again = intervals_again }

@@ -228,6 +228,33 @@ unfolding items
 items_end read stops separator count found rest (inl stopped) = rw stopped refl
 items_end read stops separator count found rest (inr missing) = rw missing (same_either (stops rest) _)
 
+-- a list is over where it stops or no separator stands; else it goes on with what is read behind that
+pub items_over : {X : Type 0} (read : Read X) (stops : List ℕ → Bool) (separator : List ℕ) (count : ℕ) (found : List X) (bytes : List ℕ) →
+    (stops bytes ≡ true) ⊎ (after separator bytes ≡ None) → items stops separator read count found bytes ≡ Some (found, bytes)
+unfolding items
+items_over read stops separator zero found bytes over = refl
+items_over read stops separator (suc count) found bytes over = items_end read stops separator count found bytes over
+
+pub items_halted : {X : Type 0} (read : Read X) (stops : List ℕ → Bool) (separator : List ℕ) (count : ℕ) (found : List X) (bytes left : List ℕ) → 0 < count →
+    stops bytes ≡ false → after separator bytes ≡ Some left → read left ≡ None → items stops separator read count found bytes ≡ None
+unfolding items
+items_halted read stops separator zero found bytes left some goes here missing = absurd (omega arith)
+items_halted read stops separator (suc count) found bytes left some goes here missing = rw (goes, here, missing) refl
+
+pub items_next : {X : Type 0} (read : Read X) (stops : List ℕ → Bool) (separator : List ℕ) (count : ℕ) (found : List X) (bytes left rest : List ℕ) (x : X) → 0 < count →
+    stops bytes ≡ false → after separator bytes ≡ Some left → read left ≡ Some (x, rest) →
+    items stops separator read count found bytes ≡ items stops separator read (count - 1) (found ++ x ∷ []) rest
+unfolding items
+items_next read stops separator zero found bytes left rest x some goes here there = absurd (omega arith)
+items_next read stops separator (suc count) found bytes left rest x some goes here there =
+    let fewer : suc count - 1 ≡ count = omega arith in rw (goes, here, there, fewer) refl
+
+pub items_full : {X : Type 0} (read : Read X) (stops : List ℕ → Bool) (separator : List ℕ) (count : ℕ) (found : List X) (bytes : List ℕ) → count ≡ 0 →
+    items stops separator read count found bytes ≡ Some (found, bytes)
+unfolding items
+items_full read stops separator zero found bytes all = refl
+items_full read stops separator (suc count) found bytes all = absurd (omega arith)
+
 pub items_again : {X : Type 0} {read : Read X} {t : X → List ℕ} {F : X → Type 0} {V : List ℕ → Type 0} →
     Reads read t F V → (stops : List ℕ → Bool) (separator : List ℕ) → ((rest : List ℕ) → V (separator ++ rest)) →
     ((x : X) (rest : List ℕ) → F x → stops (separator ++ (t x ++ rest)) ≡ false) →

@@ -1,6 +1,6 @@
 -- Numbers and prices, and how they are written.
 use Rattle.std.specs.Prelude.{ℕ, zero, suc, ◌+◌, ◌/◌, ◌%◌, ◌^◌, ◌<◌, ◌≤◌, ⊤, List, [], ◌∷◌, ◌++◌, codes, decimal, Option, Some, None}
-use Rattle.mk_text.specs.Joined.{◌&◌}
+use Rattle.mk_text.specs.Joined.{◌&◌, spaced, AreSeveral}
 
 -- a number of at most nine digits
 abbrev pub IsShort : ℕ → Type 0
@@ -47,3 +47,19 @@ range_text low high = decimal low & codes ".." & decimal high
 abbrev pub limits_text : Option (ℕ × ℕ) → List ℕ
 limits_text None = codes "none"
 limits_text (Some limits) = range_text limits.0 limits.1
+
+-- an interval within a million
+abbrev pub IsInterval : ℕ × ℕ → Type 0
+IsInterval interval = IsWithinLimits interval.0 interval.1
+
+abbrev pub interval_text : ℕ × ℕ → List ℕ
+interval_text interval = range_text interval.0 interval.1
+
+-- an interval for each value of a variable, or none
+abbrev pub AreIntervals : Option (List (ℕ × ℕ)) → Type 0
+AreIntervals None = ⊤
+AreIntervals (Some intervals) = AreSeveral IsInterval intervals
+
+abbrev pub intervals_text : Option (List (ℕ × ℕ)) → List ℕ
+intervals_text None = codes "none"
+intervals_text (Some intervals) = spaced interval_text intervals

@@ -1,5 +1,5 @@
 -- Reading from the front of some bytes: what is found there, and the bytes that are left.
-use Rattle.std.specs.Prelude.{◌≡◌, ℕ, zero, suc, ◌+◌, ◌*◌, List, [], ◌∷◌, ◌++◌, Bool, false, ◌&&◌, Option, Some, None, option_and_then, if◌then◌else◌, nat_lt, nat_le, codes, decimal}
+use Rattle.std.specs.Prelude.{◌≡◌, ℕ, zero, suc, ◌+◌, ◌*◌, ◌^◌, List, [], ◌∷◌, ◌++◌, Bool, false, ◌&&◌, Option, Some, None, option_and_then, if◌then◌else◌, nat_lt, nat_le, length, is_some, codes, decimal}
 use Rattle.std.specs.Str.{bytes_eq}
 use Rattle.std.specs.Str.Parse.{digits_value}
 use Rattle.mk_net.specs.Name.{is_name}
@@ -102,6 +102,33 @@ read_price = passed (λ price. nat_le price units)
 unfoldable pub read_range : ℕ → Read (ℕ × ℕ)
 read_range limit = both (read_number limit) (behind (codes "..") (read_number limit))
 
+-- two numbers from 1 to 999,999, in order
+unfoldable pub read_interval : Read (ℕ × ℕ)
+read_interval = passed (λ limits. nat_le 1 (limits.0) && nat_le (limits.0) (limits.1)) (read_range 1000000)
+
 unfoldable pub read_limits : Read (Option (ℕ × ℕ))
 read_limits = either (codes "none") (given None)
-    (made (λ limits. Some limits) (passed (λ limits. nat_le 1 (limits.0) && nat_le (limits.0) (limits.1)) (read_range 1000000)))
+    (made (λ limits. Some limits) read_interval)
+
+-- a number of at most nine digits
+unfoldable pub read_short : Read ℕ
+read_short = read_number (10 ^ 9)
+
+-- units of a ratio
+unfoldable pub read_units : Read ℕ
+read_units = passed (λ n. nat_le 1 n) (read_number (2 ^ 63))
+
+-- a revision stands next
+abbrev pub before_revision : List ℕ → Bool
+before_revision bytes = is_some (after (codes " at ") bytes)
+
+-- at most so many things more, each behind a space, up to a revision
+unfoldable pub more_spaced : {X : Type 0} → Read X → List X → Read (List X)
+more_spaced read found = items before_revision (codes " ") read 15 found
+
+-- 2 to 16 things with a space between them
+unfoldable pub read_several : {X : Type 0} → Read X → Read (List X)
+read_several read = passed (λ xs. nat_le 2 (length xs)) (λ bytes. option_and_then (λ first. more_spaced read ((first.0) ∷ []) (first.1)) (read bytes))
+
+unfoldable pub read_intervals : Read (Option (List (ℕ × ℕ)))
+read_intervals = either (codes "none") (given None) (made (λ intervals. Some intervals) (read_several read_interval))

@@ -1,8 +1,8 @@
 //! Reading names, numbers, pairs and questions from the front of some bytes.
 
-ghost use Rattle.std.specs.Prelude.{◌≡◌, ◌<◌, ◌≤◌, ◌^◌, false, IfSome, Some, None, option_map, if◌then◌else◌, ◌==◌, length, take, drop};
+ghost use Rattle.std.specs.Prelude.{◌≡◌, ◌<◌, ◌≤◌, ◌^◌, false, IfSome, Some, None, is_some, option_map, if◌then◌else◌, ◌==◌, length, take, drop};
 ghost use Rattle.mk_text.specs.Words.{word, word_len, behind_word, after, IsRestOf};
-ghost use Rattle.mk_text.specs.Reading.{Finds, read_name, read_number, read_pair, read_condition, more_pairs, read_question, read_price, read_range, read_limits};
+ghost use Rattle.mk_text.specs.Reading.{Finds, read_name, read_number, read_pair, read_condition, more_pairs, read_question, read_price, read_range, read_interval, read_limits};
 ghost use Rattle.arrayvec.specs.ArrayVec.{array_vec_len};
 
 use crate::numbers::{number_of, ten_places_of};
@@ -40,6 +40,16 @@ impl<'a> Reader<'a> {
         ensures { result ≡ (length self.now == 0) }
     {
         self.left.is_empty()
+    }
+
+    /// Whether a text is the next.
+    pub fn is_before(&self, text: &[u8]) -> bool
+        ensures { result ≡ is_some (after text.now self.now) }
+    {
+        match self.left.strip_prefix(text) {
+            Some(_left) => true,
+            None => false,
+        }
     }
 
     /// Passes over a text, if it is the next. Otherwise nothing is read.
@@ -165,6 +175,20 @@ impl<'a> Reader<'a> {
         Some((low, high))
     }
 
+    /// An interval within a million.
+    #[tactic(auto, using(crate::proofs::Rests::rest_of_rest), unfolding(crate::specs::Reading::read_interval))]
+    pub fn interval(&mut self) -> Option<(u32, u32)>
+        ensures found { Finds result self.new (read_interval self.old) }
+        ensures rest { IsRestOf self.new self.old }
+    {
+        let (low, high) = self.range(1_000_000)?;
+        if 1 <= low && low <= high {
+            Some((low as u32, high as u32))
+        } else {
+            None
+        }
+    }
+
     /// Limits within a million, or none.
     #[tactic(auto, using(crate::proofs::Rests::rest_of_rest), unfolding(crate::specs::Reading::read_limits))]
     pub fn limits(&mut self) -> Option<Option<(u32, u32)>>
@@ -174,12 +198,8 @@ impl<'a> Reader<'a> {
         if self.skip(b"none") {
             return Some(None);
         }
-        let (low, high) = self.range(1_000_000)?;
-        if 1 <= low && low <= high {
-            Some(Some((low as u32, high as u32)))
-        } else {
-            None
-        }
+        let interval = self.interval()?;
+        Some(Some(interval))
     }
 
     /// Passes over the next word, which is the longest run of letters, digits and underscores. It may be empty.

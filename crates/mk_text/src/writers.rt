@@ -1,10 +1,11 @@
 //! Writing names, numbers, pairs and questions at the end of a text. Each function asks for the room of the longest text that
 //! it writes, and its clause `growth` says how much of that it takes at most.
 
-ghost use Rattle.std.specs.Prelude.{◌≡◌, ◌+◌, ◌^◌, ◌<◌, ◌≤◌, ◌++◌, length, codes, decimal, IsUtf8};
+ghost use Rattle.std.specs.Prelude.{◌≡◌, ◌+◌, ◌^◌, ◌<◌, ◌≤◌, ◌++◌, length, All, IfSome, option_map, codes, decimal, IsUtf8};
 ghost use Rattle.arrayvec.specs.ArrayString.{array_string_len};
-ghost use Rattle.mk_text.specs.Joined.{items_text};
-ghost use Rattle.mk_text.specs.Numbers.{places, price_text, range_text, limits_text};
+ghost use Rattle.mk_net.specs.Bounds.{max_values};
+ghost use Rattle.mk_text.specs.Joined.{items_text, spaced, AreSeveral};
+ghost use Rattle.mk_text.specs.Numbers.{places, IsShort, price_text, range_text, limits_text, interval_text, intervals_text};
 ghost use Rattle.mk_text.specs.Texts.{pair_text, condition_text, question_text};
 
 use arrayvec::ArrayString;
@@ -126,6 +127,94 @@ pub fn put_range<const N: usize>(out: &mut ArrayString<N>, low: u64, high: u64)
     put_number(out, low);
     out.push_str("..");
     put_number(out, high);
+}
+
+/// Writes 2 to 16 numbers of at most nine digits with a space between them, in at most 160 bytes.
+pub fn put_numbers<const N: usize>(out: &mut ArrayString<N>, numbers: &[u32])
+    requires numbers { AreSeveral IsShort numbers.now }
+    requires room { array_string_len out.old + 160 ≤ N }
+    ensures text { out.new.bytes ≡ out.old.bytes ++ spaced decimal numbers.now }
+    ensures growth { array_string_len out.new ≤ array_string_len out.old + 160 }
+{
+    if let [first, rest @ ..] = numbers {
+        put_short(out, *first);
+        put_more_numbers(out, rest);
+    }
+}
+
+fn put_more_numbers<const N: usize>(out: &mut ArrayString<N>, numbers: &[u32])
+    requires few { length numbers.now ≤ 15 }
+    requires short { All IsShort numbers.now }
+    requires room { array_string_len out.old + 150 ≤ N }
+    ensures text { out.new.bytes ≡ out.old.bytes ++ items_text (codes " ") decimal numbers.now }
+    ensures growth { array_string_len out.new ≤ array_string_len out.old + 150 }
+{
+    for number in numbers {
+        out.push_str(" ");
+        put_short(out, *number);
+    }
+}
+
+/// Writes at most 16 numbers with a space between them, in at most 336 bytes.
+pub fn put_units<const N: usize>(out: &mut ArrayString<N>, units: &[u64])
+    requires few { length units.now ≤ max_values }
+    requires room { array_string_len out.old + 336 ≤ N }
+    ensures text { out.new.bytes ≡ out.old.bytes ++ spaced decimal units.now }
+    ensures growth { array_string_len out.new ≤ array_string_len out.old + 336 }
+{
+    if let [first, rest @ ..] = units {
+        put_number(out, *first);
+        put_more_units(out, rest);
+    }
+}
+
+fn put_more_units<const N: usize>(out: &mut ArrayString<N>, units: &[u64])
+    requires few { length units.now ≤ 15 }
+    requires room { array_string_len out.old + 315 ≤ N }
+    ensures text { out.new.bytes ≡ out.old.bytes ++ items_text (codes " ") decimal units.now }
+    ensures growth { array_string_len out.new ≤ array_string_len out.old + 315 }
+{
+    for number in units {
+        out.push_str(" ");
+        put_number(out, *number);
+    }
+}
+
+/// Writes at most 16 intervals with a space between them, in at most 688 bytes, or `none`.
+pub fn put_intervals<const N: usize>(out: &mut ArrayString<N>, intervals: Option<&[(u32, u32)]>)
+    requires few { IfSome intervals (λ given. length given.now ≤ max_values) }
+    requires room { array_string_len out.old + 688 ≤ N }
+    ensures text { out.new.bytes ≡ out.old.bytes ++ intervals_text (option_map (λ given. given.now) intervals.entry) }
+    ensures growth { array_string_len out.new ≤ array_string_len out.old + 688 }
+{
+    match intervals {
+        None => out.push_str("none"),
+        Some(given) => put_given(out, given),
+    }
+}
+
+fn put_given<const N: usize>(out: &mut ArrayString<N>, intervals: &[(u32, u32)])
+    requires few { length intervals.now ≤ max_values }
+    requires room { array_string_len out.old + 688 ≤ N }
+    ensures text { out.new.bytes ≡ out.old.bytes ++ spaced interval_text intervals.now }
+    ensures growth { array_string_len out.new ≤ array_string_len out.old + 688 }
+{
+    if let [first, rest @ ..] = intervals {
+        put_range(out, first.0 as u64, first.1 as u64);
+        put_more_intervals(out, rest);
+    }
+}
+
+fn put_more_intervals<const N: usize>(out: &mut ArrayString<N>, intervals: &[(u32, u32)])
+    requires few { length intervals.now ≤ 15 }
+    requires room { array_string_len out.old + 645 ≤ N }
+    ensures text { out.new.bytes ≡ out.old.bytes ++ items_text (codes " ") interval_text intervals.now }
+    ensures growth { array_string_len out.new ≤ array_string_len out.old + 645 }
+{
+    for interval in intervals {
+        out.push_str(" ");
+        put_range(out, interval.0 as u64, interval.1 as u64);
+    }
 }
 
 /// Writes limits, in at most 42 bytes.
