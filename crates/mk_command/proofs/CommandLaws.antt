@@ -1,26 +1,24 @@
 -- Each command is read from its text, and from no other.
-use Rattle.std.specs.Prelude.{◌≡◌, ℕ, ◌^◌, List, [], ◌++◌, codes, decimal, Option, Some, None, IfSome, IfOk, OnErr, Result, Ok, Err, ◌≢◌}
-use Rattle.std.proofs.Common.{refl, sym, ap, ◌∙◌, lit≤}
+use Rattle.std.specs.Prelude.{◌≡◌, ℕ, List, [], ◌∷◌, ◌++◌, codes, decimal, Option, Some, None, IfSome, IfOk, OnErr, Result, Ok, Err, ◌≢◌}
+use Rattle.std.proofs.Common.{refl, sym, ap, ◌∙◌, inl, inr}
+use Rattle.mk_net.specs.declared.words.PairText.{PairText}
 use Rattle.mk_net.specs.Name.{IsName}
 use Rattle.mk_net.specs.declared.words.QuestionText.{QuestionText}
 use Rattle.mk_net.specs.declared.words.Syntax.{Syntax}
 use Rattle.mk_text.specs.Numbers.{IsShort}
-use Rattle.mk_text.specs.Texts.{question_text, IsQuestionText}
+use Rattle.mk_text.specs.Joined.{spaced, AreSeveral}
+use Rattle.mk_text.specs.Texts.{condition_text, IsCondition, question_text, IsQuestionText}
 use Rattle.mk_text.specs.Words.{after, EndsWord}
-use Rattle.mk_text.specs.Reading.{Read, both, behind, given, nothing, read_name, read_question}
-use Rattle.mk_text.proofs.ReadingLaws.{Took, Reads, Tells, Spelled, MayFollow, BothFit, both_text, behind_text, both_reads, behind_reads, perhaps_reads, spelled_by, spelled_alone, choose_takes, nothing_takes, made_last, whole_one}
-use Rattle.mk_text.proofs.PartLaws.{EndsQuestion, name_reads, number_reads, pair_reads, question_reads}
+use Rattle.mk_text.specs.Reading.{Read, both, behind, given, nothing, read_name, read_short, read_several, read_condition, read_question}
+use Rattle.mk_text.proofs.ReadingLaws.{Took, Reads, Tells, Spelled, MayFollow, EndsItems, BothFit, both_text, behind_text, both_reads, behind_reads, perhaps_reads, spelled_by, spelled_alone, choose_takes, nothing_takes, made_last, whole_one}
+use Rattle.mk_text.proofs.PartLaws.{EndsQuestion, EndsSeveral, name_reads, short_reads, shorts_reads, pair_reads, condition_reads, question_reads}
 use Rattle.mk_command.specs.Commands.{command_text, IsCommand, at_text}
-use Rattle.mk_command.specs.inner.Reading.{read_short, read_user, read_deposit, read_withdraw, read_price, read_limits, read_at, read_edit, read_worst, read_resolve, forms, read_form}
+use Rattle.mk_command.specs.inner.Reading.{read_user, read_deposit, read_withdraw, read_price, read_limits, read_at, read_edit, held, read_bounds, read_spread, read_worst, read_resolve, forms, read_form}
 use Rattle.mk_command.specs.declared.command.Command.{Command}
-use Rattle.mk_command.specs.declared.command.Command.TheVariants.{User, Deposit, Withdraw, Price, Limits, Edit, Worst, Resolve, Settle}
+use Rattle.mk_command.specs.declared.command.Command.TheVariants.{User, Deposit, Withdraw, Price, Limits, Edit, Bounds, Spread, Worst, Resolve, Settle}
 
 abbrev OfCommand : List ℕ × Read Command → Type 0
 OfCommand = Spelled command_text IsCommand
-
-short_reads : Reads read_short decimal IsShort EndsWord
-unfolding read_short
-short_reads = number_reads (10 ^ 9) (lit≤ tt)
 
 abbrev NameFirst : {X : Type 0} → (X → List ℕ) → List ℕ × X → List ℕ
 NameFirst t = both_text (λ (name : List ℕ). name) (behind_text (codes " ") t)
@@ -61,6 +59,62 @@ edit_parts : Reads (both read_name (behind (codes " ") (both read_question (behi
     (BothFit IsName (BothFit IsQuestionText (BothFit IsShort IfShort))) (MayFollow (codes " at ") EndsWord)
 edit_parts = both_reads name_reads (behind_reads (codes " ") moved) (λ parts rest fits ends. refl)
 
+abbrev values_text : List ℕ × (List ℕ × List PairText) → List ℕ
+values_text = NameFirst (both_text (λ (name : List ℕ). name) condition_text)
+
+abbrev ValuesFit : List ℕ × (List ℕ × List PairText) → Type 0
+ValuesFit = BothFit IsName (BothFit IsName IsCondition)
+
+-- no word goes on before a condition
+before_condition : (pairs : List PairText) (rest : List ℕ) → EndsWord rest → EndsWord (condition_text pairs ++ rest)
+before_condition [] rest ends = ends
+before_condition (pair ∷ pairs) rest ends = refl
+
+values_reads : Reads (both read_name (behind (codes " ") (both read_name read_condition))) values_text ValuesFit EndsQuestion
+values_reads = both_reads name_reads (behind_reads (codes " ") (both_reads name_reads condition_reads (λ pairs rest fits ends. before_condition pairs rest (ends.word))))
+    (λ parts rest fits ends. refl)
+
+-- the numbers that a spread asks for, and the revision that it names
+abbrev EndsMoves : List ℕ → Type 0
+EndsMoves rest = MayFollow (codes " at ") EndsSeveral rest
+
+ends_numbers : (at : Option ℕ) (rest : List ℕ) → EndsMoves rest → EndsSeveral (at_text at ++ rest)
+unfolding after
+ends_numbers None rest ends = ends.follows
+ends_numbers (Some at) rest ends = record { word = refl; ends = record { stopped = inl refl } }
+
+revision_reads : Reads read_at at_text IfShort EndsMoves
+unfolding read_at
+revision_reads = weaker at_reads (λ rest ends. record { follows = ends.follows.word; missing = ends.missing })
+  where
+    weaker : {X : Type 0} {read : Read X} {t : X → List ℕ} {F : X → Type 0} {V W : List ℕ → Type 0} → Reads read t F V → ((rest : List ℕ) → W rest → V rest) → Reads read t F W
+    weaker a stronger = record { takes = a.takes; again = λ x rest fits w. a.again x rest fits (stronger rest w) }
+
+abbrev moves_text : List ℕ × Option ℕ → List ℕ
+moves_text = both_text (spaced decimal) at_text
+
+moves : Reads (both (read_several read_short) read_at) moves_text (BothFit (AreSeveral IsShort) IfShort) EndsMoves
+moves = both_reads shorts_reads revision_reads (λ at rest fits ends. ends_numbers at rest ends)
+
+abbrev spread_text : List PairText × (List ℕ × Option ℕ) → List ℕ
+spread_text = both_text condition_text (behind_text (codes " to ") moves_text)
+
+abbrev SpreadFits : List PairText × (List ℕ × Option ℕ) → Type 0
+SpreadFits = BothFit IsCondition (BothFit (AreSeveral IsShort) IfShort)
+
+condition_and_moves : Reads (both read_condition (behind (codes " to ") (both (read_several read_short) read_at))) spread_text SpreadFits EndsMoves
+condition_and_moves = both_reads condition_reads (behind_reads (codes " to ") moves) (λ parts rest fits ends. before_to (moves_text parts ++ rest))
+
+-- no word goes on before them
+before_moves : (pairs : List PairText) (text rest : List ℕ) → EndsWord ((condition_text pairs ++ (codes " to " ++ text)) ++ rest)
+before_moves [] text rest = refl
+before_moves (pair ∷ pairs) text rest = refl
+
+spread_parts : Reads (both read_name (behind (codes " ") (both read_name (both read_condition (behind (codes " to ") (both (read_several read_short) read_at))))))
+    (NameFirst (both_text (λ (name : List ℕ). name) spread_text)) (BothFit IsName (BothFit IsName SpreadFits)) EndsMoves
+spread_parts = both_reads name_reads (behind_reads (codes " ") (both_reads name_reads condition_and_moves (λ parts rest fits ends. before_moves (parts.0) (moves_text (parts.1)) rest)))
+    (λ parts rest fits ends. refl)
+
 user_form : OfCommand (codes "user ", read_user)
 unfolding read_user
 user_form = spelled_by (codes "user ") (λ user. User user) name_reads (λ user fits. (refl, fits))
@@ -86,6 +140,15 @@ unfolding read_edit
 edit_form = spelled_by (codes "edit ") (λ parts. Edit (parts.0) (parts.1.0) (parts.1.1.0) (parts.1.1.1)) edit_parts
     (λ parts fits. (refl, (fits.0, fits.1.0, fits.1.1.0, fits.1.1.1)))
 
+bounds_form : OfCommand (codes "bounds ", read_bounds)
+unfolding read_bounds
+bounds_form = spelled_by (codes "bounds ") (λ parts. Bounds (parts.0) (parts.1.0) (held (parts.1.1))) values_reads (λ parts fits. (refl, (fits.0, fits.1.0, fits.1.1)))
+
+spread_form : OfCommand (codes "spread ", read_spread)
+unfolding read_spread
+spread_form = spelled_by (codes "spread ") (λ parts. Spread (parts.0) (parts.1.0) (held (parts.1.1.0)) (held (parts.1.1.1.0)) (parts.1.1.1.1)) spread_parts
+    (λ parts fits. (refl, (fits.0, fits.1.0, fits.1.1.0, fits.1.1.1.0, fits.1.1.1.1)))
+
 worst_form : OfCommand (codes "worst ", read_worst)
 unfolding read_worst
 worst_form = spelled_by (codes "worst ") (λ user. Worst user) name_reads (λ user fits. (refl, fits))
@@ -109,7 +172,7 @@ form_takes = choose_takes command_text IsCommand forms nothing (
         price_form,
         (
           limits_form,
-          (edit_form, (worst_form, (resolve_form, (settle_form, tt)))),
+          (edit_form, (bounds_form, (spread_form, (worst_form, (resolve_form, (settle_form, tt)))))),
         ),
       ),
     ),
@@ -124,8 +187,12 @@ ends_question : EndsQuestion []
 unfolding after
 ends_question = record { word = refl; comma = refl; bar = refl }
 
+ends_moves : EndsMoves []
+unfolding after
+ends_moves = record { follows = record { word = refl; ends = record { stopped = inr refl } }; missing = refl }
+
 form_last : (c : Command) → IsCommand c → read_form (command_text c) ≡ Some (c, [])
-unfolding read_form read_user read_deposit read_withdraw read_price read_limits read_edit read_worst read_resolve after
+unfolding read_form read_user read_deposit read_withdraw read_price read_limits read_edit read_bounds read_spread read_worst read_resolve after
 form_last (User user) fits = made_last (λ user. User user) name_reads user fits refl
 form_last (Deposit user bits) fits = made_last (λ parts. Deposit (parts.0) (parts.1)) user_and_bits (user, bits) fits refl
 form_last (Withdraw user bits) fits = made_last (λ parts. Withdraw (parts.0) (parts.1)) user_and_bits (user, bits) fits refl
@@ -133,6 +200,11 @@ form_last (Price question) fits = made_last (λ question. Price question) questi
 form_last (Limits user question) fits = made_last (λ parts. Limits (parts.0) (parts.1)) user_and_question (user, question) fits ends_question
 form_last (Edit user question to at) fits = made_last (λ parts. Edit (parts.0) (parts.1.0) (parts.1.1.0) (parts.1.1.1)) edit_parts
     (user, (question, (to, at))) (fits.0, (fits.1, (fits.2, fits.3))) ends_edit
+form_last (Bounds user variable condition) fits =
+    made_last (λ parts. Bounds (parts.0) (parts.1.0) (held (parts.1.1))) values_reads (user, (variable, condition.items)) (fits.0, (fits.1, fits.2)) ends_question
+form_last (Spread user variable condition to at) fits =
+    made_last (λ parts. Spread (parts.0) (parts.1.0) (held (parts.1.1.0)) (held (parts.1.1.1.0)) (parts.1.1.1.1)) spread_parts
+    (user, (variable, (condition.items, (to.items, at)))) (fits.0, (fits.1, (fits.2, (fits.3, fits.4)))) ends_moves
 form_last (Worst user) fits = made_last (λ user. Worst user) name_reads user fits refl
 form_last (Resolve pair) fits = made_last (λ pair. Resolve pair) pair_reads pair fits refl
 form_last Settle fits = refl

@@ -3,13 +3,14 @@
 ghost use Rattle.std.specs.Prelude.{◌≡◌, ◌≤◌, ◌<◌, ◌+◌, ◌^◌, ◌++◌, length, codes, decimal, IfSome};
 ghost use Rattle.arrayvec.specs.ArrayString.{array_string_len};
 ghost use Rattle.mk_text.specs.Numbers.{IsShort};
-ghost use Rattle.mk_text.specs.Texts.{question_text};
+ghost use Rattle.mk_text.specs.Joined.{spaced, AreSeveral};
+ghost use Rattle.mk_text.specs.Texts.{condition_text, question_text};
 ghost use Rattle.mk_command.specs.Commands.{HasShortNumbers, command_text, at_text};
 
 use crate::command::Command;
 use arrayvec::ArrayString;
-use mk_net::{Name, QuestionText};
-use mk_text::{put_name, put_pair, put_question, put_short};
+use mk_net::{Name, PairText, QuestionText};
+use mk_text::{put_condition, put_name, put_numbers, put_pair, put_question, put_short};
 
 /// Puts the text of a command into `out`, in place of what it held. Its numbers must be below 10^9.
 pub fn print_command(command: &Command, out: &mut ArrayString<1024>)
@@ -44,6 +45,25 @@ pub fn print_command(command: &Command, out: &mut ArrayString<1024>)
             put_user(out, "edit ", user);
             put_asked(out, question);
             put_move(out, *to, *at);
+        }
+        Command::Bounds {
+            user,
+            variable,
+            condition,
+        } => {
+            put_user(out, "bounds ", user);
+            put_values_asked(out, variable, condition.as_slice());
+        }
+        Command::Spread {
+            user,
+            variable,
+            condition,
+            to,
+            at,
+        } => {
+            put_user(out, "spread ", user);
+            put_values_asked(out, variable, condition.as_slice());
+            put_moves(out, to.as_slice(), *at);
         }
         Command::Worst { user } => put_user(out, "worst ", user),
         Command::Resolve { pair } => {
@@ -82,6 +102,17 @@ fn put_asked(out: &mut ArrayString<1024>, question: &QuestionText)
     put_question(out, question);
 }
 
+fn put_values_asked(out: &mut ArrayString<1024>, variable: &Name, condition: &[PairText])
+    requires few { length condition.now ≤ 8 }
+    requires room { array_string_len out.old + 570 ≤ 1024 }
+    ensures text { out.new.bytes ≡ out.old.bytes ++ (codes " " ++ (variable.now ++ condition_text condition.now)) }
+    ensures growth { array_string_len out.new ≤ array_string_len out.old + 570 }
+{
+    out.push_str(" ");
+    put_name(out, variable);
+    put_condition(out, condition);
+}
+
 fn put_move(out: &mut ArrayString<1024>, to: u32, at: Option<u32>)
     requires short { IsShort to × IfSome at IsShort }
     requires room { array_string_len out.old + 26 ≤ 1024 }
@@ -89,6 +120,25 @@ fn put_move(out: &mut ArrayString<1024>, to: u32, at: Option<u32>)
 {
     out.push_str(" to ");
     put_short(out, to);
+    put_at(out, at);
+}
+
+fn put_moves(out: &mut ArrayString<1024>, to: &[u32], at: Option<u32>)
+    requires numbers { AreSeveral IsShort to.now }
+    requires short { IfSome at IsShort }
+    requires room { array_string_len out.old + 177 ≤ 1024 }
+    ensures { out.new.bytes ≡ out.old.bytes ++ (codes " to " ++ (spaced decimal to.now ++ at_text at)) }
+{
+    out.push_str(" to ");
+    put_numbers(out, to);
+    put_at(out, at);
+}
+
+fn put_at(out: &mut ArrayString<1024>, at: Option<u32>)
+    requires short { IfSome at IsShort }
+    requires room { array_string_len out.old + 13 ≤ 1024 }
+    ensures { out.new.bytes ≡ out.old.bytes ++ at_text at }
+{
     if let Some(at) = at {
         out.push_str(" at ");
         put_short(out, at);

@@ -1,14 +1,14 @@
 //! Reading a line of the command stream.
 
 ghost use Rattle.std.specs.Prelude.{◌≡◌, ◌≢◌, ◌<◌, ◌^◌, IfOk, IfSome, OnErr};
-ghost use Rattle.mk_text.specs.Reading.{Finds};
+ghost use Rattle.mk_text.specs.Reading.{Finds, read_short};
 ghost use Rattle.mk_command.specs.Commands.{IsCommand, command_text};
-ghost use Rattle.mk_command.specs.inner.Reading.{read_short, read_user, read_deposit, read_withdraw, read_price, read_limits, read_edit, read_at, read_worst, read_resolve, read_form};
+ghost use Rattle.mk_command.specs.inner.Reading.{read_user, read_deposit, read_withdraw, read_price, read_limits, read_edit, read_at, read_bounds, read_spread, read_worst, read_resolve, read_form};
 ghost use Rattle.mk_command.specs.declared.command.Command.{Command};
 
 use crate::command::Command;
 use mk_net::Syntax;
-use mk_text::Reader;
+use mk_text::{Item, Reader, several};
 
 /// The command of which these bytes are the text. Syntax where they are the text of no command.
 pub fn read_command(line: &[u8]) -> Result<Command, Syntax>
@@ -47,6 +47,12 @@ fn command(reader: &mut Reader) -> Option<Command>
     }
     if reader.skip(b"edit ") {
         return edit(reader);
+    }
+    if reader.skip(b"bounds ") {
+        return bounds(reader);
+    }
+    if reader.skip(b"spread ") {
+        return spread(reader);
     }
     if reader.skip(b"worst ") {
         return worst(reader);
@@ -124,6 +130,41 @@ fn edit(reader: &mut Reader) -> Option<Command>
     })
 }
 
+#[tactic(auto, unfolding(crate::specs::inner::Reading::read_bounds))]
+fn bounds(reader: &mut Reader) -> Option<Command>
+    ensures { Finds result reader.new (read_bounds reader.old) }
+{
+    let user = reader.name()?;
+    reader.expect(b" ")?;
+    let variable = reader.name()?;
+    let condition = reader.condition()?;
+    Some(Command::Bounds {
+        user,
+        variable,
+        condition,
+    })
+}
+
+#[tactic(auto, unfolding(crate::specs::inner::Reading::read_spread))]
+fn spread(reader: &mut Reader) -> Option<Command>
+    ensures { Finds result reader.new (read_spread reader.old) }
+{
+    let user = reader.name()?;
+    reader.expect(b" ")?;
+    let variable = reader.name()?;
+    let condition = reader.condition()?;
+    reader.expect(b" to ")?;
+    let to = several(reader)?;
+    let at = revision(reader)?;
+    Some(Command::Spread {
+        user,
+        variable,
+        condition,
+        to,
+        at,
+    })
+}
+
 #[tactic(auto, unfolding(crate::specs::inner::Reading::read_at))]
 fn revision(reader: &mut Reader) -> Option<Option<u32>>
     ensures { Finds result reader.new (read_at reader.old) }
@@ -152,10 +193,8 @@ fn resolve(reader: &mut Reader) -> Option<Command>
 }
 
 /// A number of at most nine digits.
-#[tactic(auto, unfolding(crate::specs::inner::Reading::read_short))]
 fn short(reader: &mut Reader) -> Option<u32>
     ensures { Finds result reader.new (read_short reader.old) }
 {
-    let number = reader.number(1_000_000_000)?;
-    Some(number as u32)
+    u32::next(reader)
 }

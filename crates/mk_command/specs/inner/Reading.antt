@@ -1,11 +1,9 @@
 -- Reading a command: the word by which its form is known, and then the parts of that form.
-use Rattle.std.specs.Prelude.{ℕ, ◌^◌, List, [], ◌∷◌, codes, Option}
-use Rattle.mk_text.specs.Reading.{Read, both, behind, made, given, nothing, perhaps, choose, read_name, read_number, read_pair, read_question}
+use Rattle.std.specs.Prelude.{ℕ, List, [], ◌∷◌, codes, Option}
+use Rattle.arrayvec.specs.ArrayVec.{ArrayVec}
+use Rattle.mk_text.specs.Reading.{Read, both, behind, made, given, nothing, perhaps, choose, read_name, read_short, read_pair, read_condition, read_question, read_several}
 use Rattle.mk_command.specs.declared.command.Command.{Command}
-use Rattle.mk_command.specs.declared.command.Command.TheVariants.{User, Deposit, Withdraw, Price, Limits, Edit, Worst, Resolve, Settle}
-
-unfoldable pub read_short : Read ℕ
-read_short = read_number (10 ^ 9)
+use Rattle.mk_command.specs.declared.command.Command.TheVariants.{User, Deposit, Withdraw, Price, Limits, Edit, Bounds, Spread, Worst, Resolve, Settle}
 
 unfoldable pub read_user : Read Command
 read_user = made (λ user. User user) read_name
@@ -29,6 +27,16 @@ unfoldable pub read_edit : Read Command
 read_edit = made (λ parts. Edit (parts.0) (parts.1.0) (parts.1.1.0) (parts.1.1.1))
     (both read_name (behind (codes " ") (both read_question (behind (codes " to ") (both read_short read_at)))))
 
+abbrev pub held : {X : Type 0} → List X → ArrayVec X
+held items = record { items = items }
+
+unfoldable pub read_bounds : Read Command
+read_bounds = made (λ parts. Bounds (parts.0) (parts.1.0) (held (parts.1.1))) (both read_name (behind (codes " ") (both read_name read_condition)))
+
+unfoldable pub read_spread : Read Command
+read_spread = made (λ parts. Spread (parts.0) (parts.1.0) (held (parts.1.1.0)) (held (parts.1.1.1.0)) (parts.1.1.1.1))
+    (both read_name (behind (codes " ") (both read_name (both read_condition (behind (codes " to ") (both (read_several read_short) read_at))))))
+
 unfoldable pub read_worst : Read Command
 read_worst = made (λ user. Worst user) read_name
 
@@ -43,6 +51,8 @@ forms =
     ∷ (codes "price ", read_price)
     ∷ (codes "limits ", read_limits)
     ∷ (codes "edit ", read_edit)
+    ∷ (codes "bounds ", read_bounds)
+    ∷ (codes "spread ", read_spread)
     ∷ (codes "worst ", read_worst)
     ∷ (codes "resolve ", read_resolve)
     ∷ (codes "settle", given Settle)
