@@ -1,16 +1,17 @@
 -- No reply is long.
-use Rattle.std.specs.Prelude.{ℕ, ◌+◌, ◌≤◌, ◌<◌, List, ◌++◌, length, codes, decimal}
+use Rattle.std.specs.Prelude.{ℕ, ◌+◌, ◌≤◌, ◌<◌, List, [], ◌∷◌, ◌++◌, length, codes, decimal, Option, Some, None}
+use Rattle.std.proofs.lemmas.List.Elements.{All-head, All-tail}
 use Rattle.std.proofs.Common.{arith, length-append}
-use Rattle.mk_text.specs.Joined.{items_text}
-use Rattle.mk_text.specs.Numbers.{IsLong, IsNarrow, price_text, limits_text}
+use Rattle.mk_text.specs.Joined.{items_text, spaced, AreSeveral}
+use Rattle.mk_text.specs.Numbers.{IsShort, IsLong, IsNarrow, price_text, limits_text, IsInterval, interval_text, AreIntervals, intervals_text}
 use Rattle.mk_text.proofs.LengthLaws.{long_length, pair_length, price_length, limits_length, items_length}
-use Rattle.mk_reply.specs.Refusals.{refusal_text, IsRefusal}
-use Rattle.mk_reply.specs.Replies.{reply_text, at_text, payment_text, IsPayment, IsReply}
+use Rattle.mk_reply.specs.Refusals.{refusal_text, given_in, IsRefusal}
+use Rattle.mk_reply.specs.Replies.{reply_text, at_text, payment_text, IsRatio, IsPayment, IsReply}
 use Rattle.mk_reply.specs.declared.payments.Payment.{Payment}
 use Rattle.mk_reply.specs.declared.reply.Reply.{Reply}
-use Rattle.mk_reply.specs.declared.reply.Reply.TheVariants.{Joined, Deposited, Withdrawn, Price, Limits, Traded, Worst, Resolved, Settled, Refused}
+use Rattle.mk_reply.specs.declared.reply.Reply.TheVariants.{Joined, Deposited, Withdrawn, Price, Limits, Traded, Bounded, Spreaded, Worst, Resolved, Settled, Refused}
 use Rattle.mk_reply.specs.declared.refusal.Refusal.{Refusal}
-use Rattle.mk_reply.specs.declared.refusal.Refusal.TheVariants.{Syntax, Long, Settled as Over, User, Exists, Users, Unknown, Twice, Stale, Resolved as Known, Impossible, Wide, Range, Full, Beyond, Short, Unresolved, Memory}
+use Rattle.mk_reply.specs.declared.refusal.Refusal.TheVariants.{Syntax, Long, Settled as Over, User, Exists, Users, Unknown, Twice, Stale, Resolved as Known, Impossible, Wide, Range, Full, Beyond, Short, Unresolved, NoVariable, Numbers, Sum, Outside, Memory}
 
 at_length : (at : ℕ) → IsLong at → length (at_text at) ≤ 23
 at_length at long = simp length-append (omega (arith, long_length at long))
@@ -23,7 +24,31 @@ payment_length p fits =
     let paid : IsLong p.paid = rw fits.paid fits.low in
     simp length-append (omega (arith, fits.user.short, long_length p.low fits.low, long_length p.high fits.high, long_length p.paid paid))
 
-refusal_length : (why : Refusal) → IsRefusal why → length (refusal_text why) ≤ 100
+ratio_length : (n : ℕ) → IsRatio n → length (decimal n) ≤ 19
+ratio_length n fits = long_length n fits.below
+
+interval_length : (interval : ℕ × ℕ) → IsInterval interval → length (interval_text interval) ≤ 40
+interval_length interval fits = limits_length (Some interval) fits
+
+ratios_length : (factors : List ℕ) → AreSeveral IsRatio factors → length (spaced decimal factors) ≤ 319
+ratios_length [] fits = omega arith
+ratios_length (first ∷ others) fits =
+    let here = ratio_length first (All-head IsRatio first others fits.each) in
+    let more = items_length (codes " ") decimal IsRatio 20 (λ n is. let l = ratio_length n is in omega (arith, l)) others (All-tail IsRatio first others fits.each) in
+    omega (arith, length-append (decimal first) (items_text (codes " ") decimal others), here, more, fits.few)
+
+given_length : (intervals : List (ℕ × ℕ)) → AreSeveral IsInterval intervals → length (spaced interval_text intervals) ≤ 655
+given_length [] fits = omega arith
+given_length (first ∷ others) fits =
+    let here = interval_length first (All-head IsInterval first others fits.each) in
+    let more = items_length (codes " ") interval_text IsInterval 41 (λ i is. let l = interval_length i is in omega (arith, l)) others (All-tail IsInterval first others fits.each) in
+    omega (arith, length-append (interval_text first) (items_text (codes " ") interval_text others), here, more, fits.few)
+
+intervals_length : (intervals : Option (List (ℕ × ℕ))) → AreIntervals intervals → length (intervals_text intervals) ≤ 655
+intervals_length None fits = omega arith
+intervals_length (Some intervals) fits = given_length intervals fits
+
+refusal_length : (why : Refusal) → IsRefusal why → length (refusal_text why) ≤ 700
 refusal_length Syntax fits = omega arith
 refusal_length Long fits = omega arith
 refusal_length Over fits = omega arith
@@ -41,6 +66,11 @@ refusal_length (Full held) fits = simp length-append (omega (arith, narrow_lengt
 refusal_length (Beyond limits) fits = omega (arith, length-append (codes "beyond ") (limits_text limits), limits_length limits fits)
 refusal_length (Short bits) fits = simp length-append (omega (arith, long_length bits fits))
 refusal_length (Unresolved variable) fits = simp length-append (omega (arith, fits.short))
+refusal_length (NoVariable variable) fits = simp length-append (omega (arith, fits.short))
+refusal_length (Numbers given) fits = simp length-append (omega (arith, narrow_length given (omega (arith, fits))))
+refusal_length (Sum sum) fits = simp length-append (omega (arith, narrow_length sum (omega (arith, fits))))
+refusal_length (Outside intervals) fits =
+    omega (arith, length-append (codes "outside ") (intervals_text (given_in intervals)), intervals_length (given_in intervals) fits)
 refusal_length Memory fits = omega arith
 
 two_lengths : (a b : List ℕ) (m n : ℕ) → length a ≤ m → length b ≤ n → length (a ++ b) ≤ m + n
@@ -59,6 +89,12 @@ reply_length (Limits limits at) fits =
     omega (arith, length-append (codes "limits ") (limits_text limits ++ at_text at), both)
 reply_length (Traded hit miss at) fits =
     simp length-append (omega (arith, long_length hit fits.0.below, long_length miss fits.1.below, long_length at fits.2))
+reply_length (Bounded intervals at) fits =
+    let both = two_lengths (intervals_text (given_in intervals)) (at_text at) 655 23 (intervals_length (given_in intervals) fits.0) (at_length at fits.1) in
+    omega (arith, length-append (codes "bounds ") (intervals_text (given_in intervals) ++ at_text at), both)
+reply_length (Spreaded factors at) fits =
+    let both = two_lengths (spaced decimal factors.items) (at_text at) 319 23 (ratios_length factors.items fits.0) (at_length at fits.1) in
+    omega (arith, length-append (codes "spread ") (spaced decimal factors.items ++ at_text at), both)
 reply_length (Worst low high) fits = simp length-append (omega (arith, long_length low fits.0, long_length high fits.1))
 reply_length (Resolved pair at) fits =
     simp length-append (omega (arith, pair_length pair fits.0, long_length at fits.1))

@@ -1,17 +1,19 @@
 -- Each refusal is read from its text, and from no other.
-use Rattle.std.specs.Prelude.{◌≡◌, ℕ, ◌^◌, List, [], codes, decimal, Some, ◌==◌}
-use Rattle.std.proofs.Common.{refl, lit≤, arith, append-nil}
+use Rattle.std.specs.Prelude.{◌≡◌, ℕ, ◌^◌, List, [], ◌++◌, codes, decimal, Option, Some, None, ◌==◌}
+use Rattle.arrayvec.specs.ArrayVec.{ArrayVec}
+use Rattle.std.proofs.Common.{refl, sym, ap, subst, lit≤, arith, append-nil, inr}
 use Rattle.std.proofs.lemmas.Bool.{eqb-true, eq-eqb}
 use Rattle.mk_text.specs.Numbers.{IsLong, IsNarrow}
 use Rattle.mk_text.specs.Words.{after, EndsWord}
 use Rattle.mk_text.specs.Reading.{Read, both, behind, given, nothing}
 use Rattle.mk_text.proofs.ReadingLaws.{Took, Reads, Spelled, BothFit, both_text, behind_text, both_reads, behind_reads, passed_reads, reads_same, spelled_by, spelled_alone, choose_takes, nothing_takes, made_last}
-use Rattle.mk_text.proofs.PartLaws.{name_reads, number_reads, pair_reads, limits_reads}
+use Rattle.mk_text.proofs.PartLaws.{EndsSeveral, name_reads, number_reads, short_reads, pair_reads, limits_reads, intervals_reads}
 use Rattle.mk_net.specs.Bounds.{max_users}
-use Rattle.mk_reply.specs.Refusals.{refusal_text, IsRefusal}
-use Rattle.mk_reply.specs.Reading.{read_long, read_narrow, read_held, read_stale, plain_forms, named_forms, paired_forms, numbered_forms, read_numbered, read_paired, read_named, read_refusal}
+use Rattle.mk_text.specs.Numbers.{AreIntervals, intervals_text}
+use Rattle.mk_reply.specs.Refusals.{refusal_text, given_in, IsRefusal}
+use Rattle.mk_reply.specs.Reading.{read_long, read_narrow, read_held, read_stale, plain_forms, named_forms, paired_forms, numbered_forms, spread_out_forms, boxed, read_spread_out, read_numbered, read_paired, read_named, read_refusal}
 use Rattle.mk_reply.specs.declared.refusal.Refusal.{Refusal}
-use Rattle.mk_reply.specs.declared.refusal.Refusal.TheVariants.{Syntax, Long, Settled, User, Exists, Users, Unknown, Twice, Stale, Resolved, Impossible, Wide, Range, Full, Beyond, Short, Unresolved, Memory}
+use Rattle.mk_reply.specs.declared.refusal.Refusal.TheVariants.{Syntax, Long, Settled, User, Exists, Users, Unknown, Twice, Stale, Resolved, Impossible, Wide, Range, Full, Beyond, Short, Unresolved, NoVariable, Numbers, Sum, Outside, Memory}
 
 pub long_reads : Reads read_long decimal IsLong EndsWord
 unfolding read_long
@@ -51,9 +53,33 @@ stale_form = spelled_by (codes "stale ") (λ parts. Stale (parts.0) (parts.1)) s
 abbrev Takes : Read Refusal → Type 0
 Takes read = (bytes : List ℕ) (why : Refusal) (rest : List ℕ) → read bytes ≡ Some (why, rest) → Took refusal_text IsRefusal bytes why rest
 
+-- intervals as a reply holds them, and back
+pub boxed_same : (intervals : Option (ArrayVec (ℕ × ℕ))) → boxed (given_in intervals) ≡ intervals
+boxed_same None = refl
+boxed_same (Some intervals) = refl
+
+pub given_same : (intervals : Option (List (ℕ × ℕ))) → given_in (boxed intervals) ≡ intervals
+given_same None = refl
+given_same (Some intervals) = refl
+
+spread_out_takes : Takes read_spread_out
+unfolding read_spread_out
+spread_out_takes = choose_takes refusal_text IsRefusal spread_out_forms nothing (
+  spelled_by (codes "numbers ") (λ given. Numbers given) short_reads (λ given fits. (refl, fits)),
+  (
+    spelled_by (codes "sum ") (λ sum. Sum sum) short_reads (λ sum fits. (refl, fits)),
+    (
+      spelled_by (codes "outside ") (λ intervals. Outside (boxed intervals)) intervals_reads
+          (λ intervals fits. (ap (λ (given : Option (List (ℕ × ℕ))). codes "outside " ++ intervals_text given) (sym (given_same intervals)), subst AreIntervals (sym (given_same intervals)) fits)),
+      tt,
+    ),
+  ),
+)
+    (nothing_takes refusal_text IsRefusal)
+
 numbered_takes : Takes read_numbered
 unfolding read_numbered
-numbered_takes = choose_takes refusal_text IsRefusal numbered_forms nothing (
+numbered_takes = choose_takes refusal_text IsRefusal numbered_forms read_spread_out (
   spelled_by (codes "users ") (λ held. Users held) held_reads (λ held fits. (refl, fits)),
   (
     stale_form,
@@ -68,8 +94,7 @@ numbered_takes = choose_takes refusal_text IsRefusal numbered_forms nothing (
       ),
     ),
   ),
-)
-    (nothing_takes refusal_text IsRefusal)
+) spread_out_takes
 
 paired_takes : Takes read_paired
 unfolding read_paired
@@ -88,7 +113,10 @@ named_takes = choose_takes refusal_text IsRefusal named_forms read_paired (
       spelled_by (codes "twice ") (λ variable. Twice variable) name_reads (λ variable fits. (refl, fits)),
       (
         spelled_by (codes "resolved ") (λ variable. Resolved variable) name_reads (λ variable fits. (refl, fits)),
-        (spelled_by (codes "open ") (λ variable. Unresolved variable) name_reads (λ variable fits. (refl, fits)), tt),
+        (
+          spelled_by (codes "open ") (λ variable. Unresolved variable) name_reads (λ variable fits. (refl, fits)),
+          (spelled_by (codes "variable ") (λ variable. NoVariable variable) name_reads (λ variable fits. (refl, fits)), tt),
+        ),
       ),
     ),
   ),
@@ -110,8 +138,12 @@ refusal_takes = choose_takes refusal_text IsRefusal plain_forms read_named (
   ),
 ) named_takes
 
+ends_several : EndsSeveral []
+unfolding after
+ends_several = record { word = refl; ends = record { stopped = inr refl } }
+
 refusal_last : (why : Refusal) → IsRefusal why → read_refusal (refusal_text why) ≡ Some (why, [])
-unfolding read_refusal read_named read_paired read_numbered read_stale after
+unfolding read_refusal read_named read_paired read_numbered read_spread_out read_stale after
 refusal_last Syntax fits = refl
 refusal_last Long fits = refl
 refusal_last Settled fits = refl
@@ -129,6 +161,11 @@ refusal_last (Full held) fits = made_last (λ held. Full held) narrow_reads held
 refusal_last (Beyond limits) fits = made_last (λ limits. Beyond limits) limits_reads limits fits refl
 refusal_last (Short bits) fits = made_last (λ bits. Short bits) long_reads bits fits refl
 refusal_last (Unresolved variable) fits = made_last (λ variable. Unresolved variable) name_reads variable fits refl
+refusal_last (NoVariable variable) fits = made_last (λ variable. NoVariable variable) name_reads variable fits refl
+refusal_last (Numbers given) fits = made_last (λ given. Numbers given) short_reads given fits refl
+refusal_last (Sum sum) fits = made_last (λ sum. Sum sum) short_reads sum fits refl
+refusal_last (Outside None) fits = made_last (λ intervals. Outside (boxed intervals)) intervals_reads None fits ends_several
+refusal_last (Outside (Some intervals)) fits = made_last (λ intervals. Outside (boxed intervals)) intervals_reads (Some (intervals.items)) fits ends_several
 refusal_last Memory fits = refl
 
 -- a refusal is the last thing of a text

@@ -1,22 +1,23 @@
 -- Each reply is read from its text, and from no other.
-use Rattle.std.specs.Prelude.{◌≡◌, ◌≢◌, ℕ, ◌^◌, List, [], ◌∷◌, ◌++◌, codes, decimal, length, Option, Some, None, nat_le, true, false, ◌==◌, IfOk, IfErr, MatchResult, Result, Ok, Err}
-use Rattle.std.proofs.Common.{refl, sym, ◌∙◌, subst, lit≤}
+use Rattle.std.specs.Prelude.{◌≡◌, ◌≢◌, ℕ, ◌^◌, List, [], ◌∷◌, ◌++◌, codes, decimal, length, Option, Some, None, true, false, ◌==◌, IfOk, IfErr, MatchResult, Result, Ok, Err}
+use Rattle.std.proofs.Common.{refl, sym, ap, ◌∙◌, subst, arith, lit≤, inl}
 use Rattle.std.proofs.lemmas.Option.{none-some, same_Some}
-use Rattle.std.proofs.lemmas.Bool.{leb-true, le-leb, eqb-true, eq-eqb}
+use Rattle.std.proofs.lemmas.Bool.{eqb-true, eq-eqb}
 use Rattle.mk_net.specs.Name.{IsName}
-use Rattle.mk_text.specs.Joined.{items_text}
-use Rattle.mk_text.specs.Numbers.{IsLong, IsNarrow, IsPrice, price_text}
+use Rattle.mk_text.specs.Joined.{items_text, spaced, AreSeveral}
+use Rattle.mk_text.specs.Numbers.{IsLong, IsNarrow, IsPrice, price_text, AreIntervals, intervals_text}
 use Rattle.mk_text.specs.Words.{after, EndsWord}
-use Rattle.mk_text.specs.Reading.{Finds, Read, both, behind, made, nothing, read_name, read_price, read_range}
+use Rattle.mk_text.specs.Reading.{Finds, Read, both, behind, made, nothing, read_name, read_price, read_range, read_units, read_several, read_intervals}
 use Rattle.mk_text.proofs.ReadingLaws.{Took, Reads, Tells, Spelled, IsMade, BothFit, both_text, behind_text, both_reads, behind_reads, passed_reads, made_reads, reads_same, AreItems, EndsList, list_reads, spelled_by, choose_takes, nothing_takes, made_last, whole_one, whole_found, whole_nothing, whole_left}
 use Rattle.mk_text.proofs.WordLemmas.{after_begins}
-use Rattle.mk_text.proofs.PartLaws.{name_reads, pair_reads, limits_reads, price_reads, range_reads, both_ends, AreBelow}
+use Rattle.mk_text.proofs.PartLaws.{EndsSeveral, IsUnit, name_reads, pair_reads, limits_reads, price_reads, range_reads, units_reads, several_reads, number_goes_on, intervals_reads, both_ends, AreBelow}
+use Rattle.mk_reply.specs.Refusals.{given_in}
 use Rattle.mk_reply.specs.Replies.{reply_text, at_text, payment_text, IsRatio, IsPayment, IsReply, IsUnread}
-use Rattle.mk_reply.specs.Reading.{read_long, read_ratio, dated, read_joined, read_moved, read_prices, read_limited, read_traded, read_worst, read_resolved, read_payment, read_payments, read_settled, read_refusal, other_forms, read_other, read_form}
-use Rattle.mk_reply.proofs.RefusalLaws.{long_reads, narrow_reads, refusal_reads}
+use Rattle.mk_reply.specs.Reading.{read_long, dated, boxed, read_joined, read_moved, read_prices, read_limited, read_traded, read_bounded, read_spreaded, read_worst, read_resolved, read_payment, read_payments, read_settled, read_refusal, other_forms, read_other, read_form}
+use Rattle.mk_reply.proofs.RefusalLaws.{long_reads, narrow_reads, given_same, refusal_reads}
 use Rattle.mk_reply.specs.declared.payments.Payment.{Payment}
 use Rattle.mk_reply.specs.declared.reply.Reply.{Reply}
-use Rattle.mk_reply.specs.declared.reply.Reply.TheVariants.{Joined, Deposited, Withdrawn, Price, Limits, Traded, Worst, Resolved, Settled, Refused}
+use Rattle.mk_reply.specs.declared.reply.Reply.TheVariants.{Joined, Deposited, Withdrawn, Price, Limits, Traded, Bounded, Spreaded, Worst, Resolved, Settled, Refused}
 use Rattle.mk_reply.specs.declared.unread.Unread.{Unread}
 use Rattle.mk_reply.specs.declared.unread.Unread.TheVariants.{Syntax, Memory}
 
@@ -34,10 +35,22 @@ dated_reads : {X : Type 0} {read : Read X} {t : X → List ℕ} {F : X → Type 
     Reads (dated read) (dated_text t) (BothFit F IsLong) EndsWord
 dated_reads a = both_reads a at_reads (λ at rest fits ends. refl)
 
-ratio_reads : Reads read_ratio decimal IsRatio EndsWord
-unfolding read_ratio
-ratio_reads = reads_same (passed_reads (λ n. nat_le 1 n) long_reads) (λ n fits. record { positive = leb-true 1 n (fits.1); below = fits.0 })
-    (λ n fits. (fits.below, le-leb 1 n (fits.positive)))
+ratio_reads : Reads read_units decimal IsRatio EndsWord
+ratio_reads = reads_same units_reads (λ n fits. record { positive = fits.positive; below = fits.below }) (λ n fits. record { positive = fits.positive; below = fits.below })
+
+-- several things and the revision behind them
+before_revision_ends : (at : ℕ) (rest : List ℕ) → EndsSeveral (at_text at ++ rest)
+unfolding after
+before_revision_ends at rest = record { word = refl; ends = record { stopped = inl refl } }
+
+bounded_parts : Reads (dated read_intervals) (dated_text intervals_text) (BothFit AreIntervals IsLong) EndsWord
+bounded_parts = both_reads intervals_reads at_reads (λ at rest fits ends. before_revision_ends at rest)
+
+ratios_reads : Reads (read_several read_units) (spaced decimal) (AreSeveral IsRatio) EndsSeveral
+ratios_reads = several_reads ratio_reads (λ n rest fits. number_goes_on n rest (omega (arith, fits.below)))
+
+spreaded_parts : Reads (dated (read_several read_units)) (dated_text (spaced decimal)) (BothFit (AreSeveral IsRatio) IsLong) EndsWord
+spreaded_parts = both_reads ratios_reads at_reads (λ at rest fits ends. before_revision_ends at rest)
 
 abbrev word_text : List ℕ → List ℕ
 word_text name = name
@@ -58,7 +71,7 @@ prices_parts = both_reads price_reads (behind_reads (codes "..") price_reads) (�
 abbrev traded_text : ℕ × (ℕ × ℕ) → List ℕ
 traded_text = both_text decimal (behind_text (codes " ") (dated_text decimal))
 
-traded_parts : Reads (both read_ratio (behind (codes " ") (dated read_ratio))) traded_text (BothFit IsRatio (BothFit IsRatio IsLong)) EndsWord
+traded_parts : Reads (both read_units (behind (codes " ") (dated read_units))) traded_text (BothFit IsRatio (BothFit IsRatio IsLong)) EndsWord
 traded_parts = both_reads ratio_reads (behind_reads (codes " ") (dated_reads ratio_reads)) (λ parts rest fits ends. refl)
 
 worst_parts : Reads (read_range (2 ^ 63)) both_ends (AreBelow (2 ^ 63)) EndsWord
@@ -139,6 +152,17 @@ traded_form : OfReply (codes "trade ", read_traded)
 unfolding read_traded
 traded_form = spelled_by (codes "trade ") (λ parts. Traded (parts.0) (parts.1.0) (parts.1.1)) traded_parts (λ parts fits. (refl, (fits.0, fits.1.0, fits.1.1)))
 
+bounded_form : OfReply (codes "bounds ", read_bounded)
+unfolding read_bounded
+bounded_form = spelled_by (codes "bounds ") (λ parts. Bounded (boxed (parts.0)) (parts.1)) bounded_parts (λ parts fits. (
+  ap (λ (given : Option (List (ℕ × ℕ))). codes "bounds " ++ (intervals_text given ++ at_text (parts.1))) (sym (given_same (parts.0))),
+  (subst AreIntervals (sym (given_same (parts.0))) (fits.0), fits.1),
+))
+
+spreaded_form : OfReply (codes "spread ", read_spreaded)
+unfolding read_spreaded
+spreaded_form = spelled_by (codes "spread ") (λ parts. Spreaded (record { items = parts.0 }) (parts.1)) spreaded_parts (λ parts fits. (refl, fits))
+
 worst_form : OfReply (codes "worst ", read_worst)
 unfolding read_worst
 worst_form = spelled_by (codes "worst ") (λ range. Worst (range.0) (range.1)) worst_parts (λ range fits. (refl, fits))
@@ -163,7 +187,7 @@ other_takes = choose_takes reply_text IsReply other_forms nothing (
     spelled_by (codes "deposit ") (λ parts. Deposited (parts.0) (parts.1.0) (parts.1.1)) moved_reads (λ parts fits. (refl, (fits.0, fits.1.0, fits.1.1))),
     (
       spelled_by (codes "withdraw ") (λ parts. Withdrawn (parts.0) (parts.1.0) (parts.1.1)) moved_reads (λ parts fits. (refl, (fits.0, fits.1.0, fits.1.1))),
-      (prices_form, (limited_form, (traded_form, (worst_form, (resolved_form, (refused_form, tt)))))),
+      (prices_form, (limited_form, (traded_form, (bounded_form, (spreaded_form, (worst_form, (resolved_form, (refused_form, tt)))))))),
     ),
   ),
 )
@@ -178,7 +202,7 @@ unfolding after
 ends_payments = record { follows = refl; missing = refl }
 
 form_last : (r : Reply) → IsReply r → read_form (reply_text r) ≡ Some (r, [])
-unfolding read_form read_other read_joined read_prices read_limited read_traded read_worst read_resolved read_settled after
+unfolding read_form read_other read_joined read_prices read_limited read_traded read_bounded read_spreaded read_worst read_resolved read_settled after
 form_last (Joined user at) fits = made_last (λ parts. Joined (parts.0) (parts.1)) (dated_reads name_reads) (user, at) fits refl
 form_last (Deposited user bits at) fits =
     made_last (λ parts. Deposited (parts.0) (parts.1.0) (parts.1.1)) moved_reads (user, (bits, at)) (fits.0, (fits.1, fits.2)) refl
@@ -188,6 +212,9 @@ form_last (Price low high) fits = made_last (λ prices. Price (prices.0) (prices
 form_last (Limits limits at) fits = made_last (λ parts. Limits (parts.0) (parts.1)) (dated_reads limits_reads) (limits, at) fits refl
 form_last (Traded hit miss at) fits =
     made_last (λ parts. Traded (parts.0) (parts.1.0) (parts.1.1)) traded_parts (hit, (miss, at)) (fits.0, (fits.1, fits.2)) refl
+form_last (Bounded None at) fits = made_last (λ parts. Bounded (boxed (parts.0)) (parts.1)) bounded_parts (None, at) fits refl
+form_last (Bounded (Some intervals) at) fits = made_last (λ parts. Bounded (boxed (parts.0)) (parts.1)) bounded_parts (Some (intervals.items), at) fits refl
+form_last (Spreaded factors at) fits = made_last (λ parts. Spreaded (record { items = parts.0 }) (parts.1)) spreaded_parts (factors.items, at) fits refl
 form_last (Worst low high) fits = made_last (λ range. Worst (range.0) (range.1)) worst_parts (low, high) fits refl
 form_last (Resolved pair at) fits = made_last (λ parts. Resolved (parts.0) (parts.1)) (dated_reads pair_reads) (pair, at) fits refl
 form_last (Settled at payments) fits = made_last (λ parts. Settled (parts.0) (parts.1)) settled_parts (at, payments)

@@ -1,12 +1,13 @@
 -- Reading a reply: the word by which its form is known, and then the parts of that form.
-use Rattle.std.specs.Prelude.{ℕ, ◌^◌, List, [], ◌∷◌, codes, nat_le, ◌==◌}
-use Rattle.mk_text.specs.Reading.{Read, both, behind, made, passed, given, never, items, choose, nothing, read_name, read_number, read_pair, read_price, read_range, read_limits}
+use Rattle.std.specs.Prelude.{ℕ, ◌^◌, List, [], ◌∷◌, codes, ◌==◌, Option, option_map}
+use Rattle.arrayvec.specs.ArrayVec.{ArrayVec}
+use Rattle.mk_text.specs.Reading.{Read, both, behind, made, passed, given, never, items, choose, nothing, read_name, read_number, read_short, read_units, read_pair, read_price, read_range, read_limits, read_several, read_intervals}
 use Rattle.mk_net.specs.Bounds.{max_users}
 use Rattle.mk_reply.specs.declared.refusal.Refusal.{Refusal}
-use Rattle.mk_reply.specs.declared.refusal.Refusal.TheVariants.{Syntax, Long, Settled, User, Exists, Users, Unknown, Twice, Stale, Resolved, Impossible, Wide, Range, Full, Beyond, Short, Unresolved, Memory}
+use Rattle.mk_reply.specs.declared.refusal.Refusal.TheVariants.{Syntax, Long, Settled, User, Exists, Users, Unknown, Twice, Stale, Resolved, Impossible, Wide, Range, Full, Beyond, Short, Unresolved, NoVariable, Numbers, Sum, Outside, Memory}
 use Rattle.mk_reply.specs.declared.payments.Payment.{Payment}
 use Rattle.mk_reply.specs.declared.reply.Reply.{Reply}
-use Rattle.mk_reply.specs.declared.reply.Reply.TheVariants.{Joined, Deposited, Withdrawn, Price, Limits as Limited, Traded, Worst, Resolved as ResolvedPair, Settled as AllSettled, Refused}
+use Rattle.mk_reply.specs.declared.reply.Reply.TheVariants.{Joined, Deposited, Withdrawn, Price, Limits as Limited, Traded, Bounded, Spreaded, Worst, Resolved as ResolvedPair, Settled as AllSettled, Refused}
 
 unfoldable pub read_long : Read ℕ
 read_long = read_number (2 ^ 63)
@@ -15,8 +16,9 @@ read_long = read_number (2 ^ 63)
 unfoldable pub read_narrow : Read ℕ
 read_narrow = read_number (2 ^ 32)
 
-unfoldable pub read_ratio : Read ℕ
-read_ratio = passed (λ n. nat_le 1 n) read_long
+-- intervals as a reply holds them
+abbrev pub boxed : Option (List (ℕ × ℕ)) → Option (ArrayVec (ℕ × ℕ))
+boxed intervals = option_map (λ given. record { items = given }) intervals
 
 unfoldable pub read_held : Read ℕ
 read_held = passed (λ n. n == max_users) read_narrow
@@ -24,7 +26,7 @@ read_held = passed (λ n. n == max_users) read_narrow
 unfoldable pub read_stale : Read Refusal
 read_stale = made (λ parts. Stale (parts.0) (parts.1)) (both read_narrow (behind (codes " ") read_long))
 
--- refusals without parts, with a name, with a pair, and with numbers
+-- refusals without parts, with a name, with a pair, with numbers, and of a whole distribution
 abbrev pub plain_forms : List (List ℕ × Read Refusal)
 plain_forms =
     (codes "syntax", given Syntax)
@@ -41,6 +43,7 @@ named_forms =
     ∷ (codes "twice ", made (λ variable. Twice variable) read_name)
     ∷ (codes "resolved ", made (λ variable. Resolved variable) read_name)
     ∷ (codes "open ", made (λ variable. Unresolved variable) read_name)
+    ∷ (codes "variable ", made (λ variable. NoVariable variable) read_name)
     ∷ []
 
 abbrev pub paired_forms : List (List ℕ × Read Refusal)
@@ -59,8 +62,18 @@ numbered_forms =
     ∷ (codes "short ", made (λ bits. Short bits) read_long)
     ∷ []
 
+abbrev pub spread_out_forms : List (List ℕ × Read Refusal)
+spread_out_forms =
+    (codes "numbers ", made (λ given. Numbers given) read_short)
+    ∷ (codes "sum ", made (λ sum. Sum sum) read_short)
+    ∷ (codes "outside ", made (λ intervals. Outside (boxed intervals)) read_intervals)
+    ∷ []
+
+unfoldable pub read_spread_out : Read Refusal
+read_spread_out = choose spread_out_forms nothing
+
 unfoldable pub read_numbered : Read Refusal
-read_numbered = choose numbered_forms nothing
+read_numbered = choose numbered_forms read_spread_out
 
 unfoldable pub read_paired : Read Refusal
 read_paired = choose paired_forms read_numbered
@@ -89,7 +102,13 @@ unfoldable pub read_limited : Read Reply
 read_limited = made (λ parts. Limited (parts.0) (parts.1)) (dated read_limits)
 
 unfoldable pub read_traded : Read Reply
-read_traded = made (λ parts. Traded (parts.0) (parts.1.0) (parts.1.1)) (both read_ratio (behind (codes " ") (dated read_ratio)))
+read_traded = made (λ parts. Traded (parts.0) (parts.1.0) (parts.1.1)) (both read_units (behind (codes " ") (dated read_units)))
+
+unfoldable pub read_bounded : Read Reply
+read_bounded = made (λ parts. Bounded (boxed (parts.0)) (parts.1)) (dated read_intervals)
+
+unfoldable pub read_spreaded : Read Reply
+read_spreaded = made (λ parts. Spreaded (record { items = parts.0 }) (parts.1)) (dated (read_several read_units))
 
 unfoldable pub read_worst : Read Reply
 read_worst = made (λ range. Worst (range.0) (range.1)) (read_range (2 ^ 63))
@@ -117,6 +136,8 @@ other_forms =
     ∷ (codes "price ", read_prices)
     ∷ (codes "limits ", read_limited)
     ∷ (codes "trade ", read_traded)
+    ∷ (codes "bounds ", read_bounded)
+    ∷ (codes "spread ", read_spreaded)
     ∷ (codes "worst ", read_worst)
     ∷ (codes "resolve ", read_resolved)
     ∷ (codes "refused ", made (λ why. Refused why) read_refusal)

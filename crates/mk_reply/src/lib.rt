@@ -14,7 +14,7 @@ pub use laws::{one_reply_each, read_printed, short_replies};
 pub use payments::{Payment, Payments};
 pub use print::print_reply;
 pub use read::read_reply;
-pub use refusal::Refusal;
+pub use refusal::{Intervals, Refusal};
 pub use reply::Reply;
 pub use unread::Unread;
 

@@ -3,17 +3,19 @@
 ghost use Rattle.std.specs.Prelude.{◌≡◌, ◌+◌, ◌*◌, ◌<◌, ◌≤◌, ◌++◌, length, codes, decimal};
 ghost use Rattle.arrayvec.specs.ArrayString.{array_string_len};
 ghost use Rattle.mk_text.specs.Joined.{items_text};
-ghost use Rattle.mk_text.specs.Numbers.{price_text, limits_text};
+ghost use Rattle.mk_text.specs.Numbers.{price_text, limits_text, intervals_text};
 ghost use Rattle.mk_text.specs.Texts.{pair_text};
-ghost use Rattle.mk_reply.specs.Refusals.{refusal_text};
+ghost use Rattle.mk_reply.specs.Refusals.{refusal_text, given_in};
 ghost use Rattle.mk_reply.specs.Replies.{reply_text, at_text, payment_text};
 
 use crate::payments::Payment;
-use crate::refusal::Refusal;
+use crate::refusal::{Intervals, Refusal};
 use crate::reply::Reply;
 use arrayvec::ArrayString;
 use mk_net::{Name, PairText};
-use mk_text::{put_limits, put_name, put_number, put_pair, put_price, put_range};
+use mk_text::{
+    put_intervals, put_limits, put_name, put_number, put_pair, put_price, put_range, put_units,
+};
 
 /// The text of a reply. Each has room, also a settlement with 256 payments.
 type Text = ArrayString<32768>;
@@ -45,6 +47,15 @@ pub fn print_reply(reply: &Reply, out: &mut ArrayString<32768>)
             put_at(out, *at);
         }
         Reply::Traded { hit, miss, at } => put_trade(out, *hit, *miss, *at),
+        Reply::Bounded { intervals, at } => {
+            put_given(out, "bounds ", intervals);
+            put_at(out, *at);
+        }
+        Reply::Spreaded { factors, at } => {
+            out.push_str("spread ");
+            put_units(out, factors.as_slice());
+            put_at(out, *at);
+        }
         Reply::Worst { low, high } => {
             out.push_str("worst ");
             put_range(out, *low, *high);
@@ -101,6 +112,18 @@ fn put_limited(out: &mut Text, word: &str, limits: Option<(u32, u32)>)
     put_limits(out, limits);
 }
 
+fn put_given(out: &mut Text, word: &str, intervals: &Option<Intervals>)
+    requires { array_string_len out.old + length word.now + 688 ≤ 32768 }
+    ensures text { out.new.bytes ≡ out.old.bytes ++ (word.now ++ intervals_text (given_in intervals.now)) }
+    ensures growth { array_string_len out.new ≤ array_string_len out.old + length word.now + 688 }
+{
+    out.push_str(word);
+    match intervals {
+        None => put_intervals(out, None),
+        Some(given) => put_intervals(out, Some(given.as_slice())),
+    }
+}
+
 fn put_prices(out: &mut Text, low: u64, high: u64)
     requires { array_string_len out.old + 70 ≤ 32768 }
     ensures text { out.new.bytes ≡ out.old.bytes ++ (codes "price " ++ (price_text low ++ (codes ".." ++ price_text high))) }
@@ -154,9 +177,9 @@ fn put_payment(out: &mut Text, payment: &Payment)
 }
 
 fn put_refusal(out: &mut Text, why: &Refusal)
-    requires { array_string_len out.old + 100 ≤ 32768 }
+    requires { array_string_len out.old + 696 ≤ 32768 }
     ensures text { out.new.bytes ≡ out.old.bytes ++ refusal_text why.now }
-    ensures growth { array_string_len out.new ≤ array_string_len out.old + 100 }
+    ensures growth { array_string_len out.new ≤ array_string_len out.old + 696 }
 {
     match why {
         Refusal::Syntax => out.push_str("syntax"),
@@ -179,6 +202,10 @@ fn put_refusal(out: &mut Text, why: &Refusal)
         Refusal::Beyond { limits } => put_limited(out, "beyond ", *limits),
         Refusal::Short { bits } => put_counted(out, "short ", *bits),
         Refusal::Unresolved { variable } => put_named(out, "open ", variable),
+        Refusal::NoVariable { variable } => put_named(out, "variable ", variable),
+        Refusal::Numbers { given } => put_counted(out, "numbers ", *given as u64),
+        Refusal::Sum { sum } => put_counted(out, "sum ", *sum as u64),
+        Refusal::Outside { intervals } => put_given(out, "outside ", intervals),
         Refusal::Memory => out.push_str("memory"),
     }
 }

@@ -3,14 +3,14 @@
 ghost use Rattle.std.specs.Prelude.{◌≡◌, ℕ, List, IfOk, IfErr, option_map, [], ◌++◌, codes};
 ghost use Rattle.mk_text.specs.Reading.{Finds, behind};
 ghost use Rattle.mk_reply.specs.Replies.{IsReply, reply_text, IsUnread};
-ghost use Rattle.mk_reply.specs.Reading.{read_long, read_ratio, read_joined, read_moved, read_prices, read_limited, read_traded, read_worst, read_resolved, read_payment, read_payments, read_settled, read_other, read_form};
+ghost use Rattle.mk_reply.specs.Reading.{read_long, read_joined, read_moved, read_prices, read_limited, read_traded, read_bounded, read_spreaded, read_worst, read_resolved, read_payment, read_payments, read_settled, read_other, read_form};
 
 use crate::payments::{Payment, Payments};
 use crate::read_refusal::{long, narrow, refusal};
 use crate::reply::Reply;
 use crate::unread::Unread;
 use mk_net::{Name, NoMemory};
-use mk_text::Reader;
+use mk_text::{Item, Reader, intervals, several};
 use std::alloc::Global;
 
 /// The reply of which these bytes are the text. Only a settlement takes memory.
@@ -65,6 +65,12 @@ fn other(reader: &mut Reader) -> Option<Reply>
     }
     if reader.skip(b"trade ") {
         return traded(reader);
+    }
+    if reader.skip(b"bounds ") {
+        return bounded(reader);
+    }
+    if reader.skip(b"spread ") {
+        return spreaded(reader);
     }
     if reader.skip(b"worst ") {
         return worst(reader);
@@ -130,19 +136,29 @@ fn limited(reader: &mut Reader) -> Option<Reply>
 fn traded(reader: &mut Reader) -> Option<Reply>
     ensures { Finds result reader.new (read_traded reader.old) }
 {
-    let hit = ratio(reader)?;
+    let hit = u64::next(reader)?;
     reader.expect(b" ")?;
-    let miss = ratio(reader)?;
+    let miss = u64::next(reader)?;
     let at = revision(reader)?;
     Some(Reply::Traded { hit, miss, at })
 }
 
-#[tactic(auto, unfolding(crate::specs::Reading::read_ratio))]
-fn ratio(reader: &mut Reader) -> Option<u64>
-    ensures { Finds result reader.new (read_ratio reader.old) }
+#[tactic(auto, using(crate::proofs::RefusalLaws::boxed_same), unfolding(crate::specs::Reading::read_bounded))]
+fn bounded(reader: &mut Reader) -> Option<Reply>
+    ensures { Finds result reader.new (read_bounded reader.old) }
 {
-    let ratio = long(reader)?;
-    if ratio >= 1 { Some(ratio) } else { None }
+    let intervals = intervals(reader)?;
+    let at = revision(reader)?;
+    Some(Reply::Bounded { intervals, at })
+}
+
+#[tactic(auto, unfolding(crate::specs::Reading::read_spreaded))]
+fn spreaded(reader: &mut Reader) -> Option<Reply>
+    ensures { Finds result reader.new (read_spreaded reader.old) }
+{
+    let factors = several(reader)?;
+    let at = revision(reader)?;
+    Some(Reply::Spreaded { factors, at })
 }
 
 #[tactic(auto, unfolding(crate::specs::Reading::read_worst))]

@@ -2,10 +2,10 @@
 
 ghost use Rattle.std.specs.Prelude.{◌≡◌, ◌^◌, ◌<◌, IfSome};
 ghost use Rattle.mk_text.specs.Reading.{Finds};
-ghost use Rattle.mk_reply.specs.Reading.{read_long, read_narrow, read_held, read_stale, read_refusal, read_named, read_paired, read_numbered};
+ghost use Rattle.mk_reply.specs.Reading.{read_long, read_narrow, read_held, read_stale, read_refusal, read_named, read_paired, read_numbered, read_spread_out};
 
 use crate::refusal::Refusal;
-use mk_text::Reader;
+use mk_text::{Item, Reader, intervals};
 
 /// What follows the word `refused`.
 #[tactic(auto, unfolding(crate::specs::Reading::read_refusal))]
@@ -55,6 +55,10 @@ fn named(reader: &mut Reader) -> Option<Refusal>
         let variable = reader.name()?;
         return Some(Refusal::Unresolved { variable });
     }
+    if reader.skip(b"variable ") {
+        let variable = reader.name()?;
+        return Some(Refusal::NoVariable { variable });
+    }
     paired(reader)
 }
 
@@ -101,6 +105,26 @@ fn numbered(reader: &mut Reader) -> Option<Refusal>
     if reader.skip(b"short ") {
         let bits = long(reader)?;
         return Some(Refusal::Short { bits });
+    }
+    spread_out(reader)
+}
+
+// The refusals of a whole distribution.
+#[tactic(auto, using(crate::proofs::RefusalLaws::boxed_same), unfolding(crate::specs::Reading::read_spread_out))]
+fn spread_out(reader: &mut Reader) -> Option<Refusal>
+    ensures { Finds result reader.new (read_spread_out reader.old) }
+{
+    if reader.skip(b"numbers ") {
+        let given = u32::next(reader)?;
+        return Some(Refusal::Numbers { given });
+    }
+    if reader.skip(b"sum ") {
+        let sum = u32::next(reader)?;
+        return Some(Refusal::Sum { sum });
+    }
+    if reader.skip(b"outside ") {
+        let intervals = intervals(reader)?;
+        return Some(Refusal::Outside { intervals });
     }
     None
 }

@@ -9,32 +9,67 @@ use mk_net::{Name, PairText};
 #[derive(Debug, Drop, PartialEq)]
 pub enum Reply {
     /// A user joined.
-    Joined { user: Name, at: u64 },
+    Joined {
+        user: Name,
+        at: u64,
+    },
     /// A user paid in so many bits.
-    Deposited { user: Name, bits: u32, at: u64 },
+    Deposited {
+        user: Name,
+        bits: u32,
+        at: u64,
+    },
     /// A user took out so many bits.
-    Withdrawn { user: Name, bits: u32, at: u64 },
+    Withdrawn {
+        user: Name,
+        bits: u32,
+        at: u64,
+    },
     /// An interval that holds a price, in units of 10^-10.
-    Price { low: u64, high: u64 },
+    Price {
+        low: u64,
+        high: u64,
+    },
     /// The limits of a user's edit in millionths, if there are any.
-    Limits { limits: Option<(u32, u32)>, at: u64 },
+    Limits {
+        limits: Option<(u32, u32)>,
+        at: u64,
+    },
     /// A trade was made; its ratios, 2^40 being one.
-    Traded { hit: u64, miss: u64, at: u64 },
+    Traded {
+        hit: u64,
+        miss: u64,
+        at: u64,
+    },
     /// The bounds of a user's spread: an interval in millionths for each value, if there are any.
     Bounded {
         intervals: Option<Intervals>,
         at: u64,
     },
     /// A trade of a whole distribution was made; its ratio for each value, 2^40 being one.
-    Spreaded { factors: ArrayVec<u64, 16>, at: u64 },
+    Spreaded {
+        factors: ArrayVec<u64, 16>,
+        at: u64,
+    },
     /// An interval that holds what a user is paid at least, in points.
-    Worst { low: u64, high: u64 },
+    Worst {
+        low: u64,
+        high: u64,
+    },
     /// A variable was resolved.
-    Resolved { pair: PairText, at: u64 },
+    Resolved {
+        pair: PairText,
+        at: u64,
+    },
     /// The market was settled, and each user is paid, in the order of joining.
-    Settled { at: u64, payments: Payments },
+    Settled {
+        at: u64,
+        payments: Payments,
+    },
     /// The line is refused.
-    Refused { why: Refusal },
+    Refused {
+        why: Refusal,
+    },
 }
 
 const _: () = prove!(size_of::<Reply>() <= 176);
