@@ -1,16 +1,13 @@
 -- Right bounds exist, and judge each list of shares.
-use Rattle.std.proofs.Common.{◌≡◌, ℕ, zero, suc, ◌+◌, ◌-◌, ◌*◌, ◌/◌, ◌^◌, ◌<◌, ◌≤◌, ◌⊎◌, false, List, [], ◌∷◌, length, slice_index, Option, Some, None, IfSome, option_map, Any, All, refl, ap, ◌∙◌, subst, inl, inr, arith}
+use Rattle.std.proofs.Common.{◌≡◌, ℕ, suc, ◌-◌, ◌<◌, ◌≤◌, ◌⊎◌, List, [], ◌∷◌, length, slice_index, Option, Some, None, IfSome, option_map, Any, All, refl, ap, ◌∙◌, inl, inr, arith}
 use Rattle.std.specs.Bool.{⊤}
-use Rattle.std.specs.Prelude.{◌↔◌}
-use Rattle.std.specs.List.{AllZip, AllByRecursion, range_with_len}
-use Rattle.std.proofs.Math.Nat.{div-mul-le_self, lt-div-mul-add}
+use Rattle.std.specs.List.{AllZip, AllByRecursion}
 use Rattle.std.proofs.lemmas.List.Elements.{All-from_recursion}
-use Rattle.mk_net.specs.Bounds.{number_limit, million}
+use Rattle.mk_net.specs.Bounds.{million}
 use Rattle.mk_net.specs.Network.{Variable, IsNetwork, sizes}
 use Rattle.mk_exact.specs.Ratios.{unit}
 use Rattle.mk_exact.specs.History.{Entry}
 use Rattle.mk_exact.specs.Weight.{IsSmall}
-use Rattle.mk_exact.specs.Prices.{IsSolvent}
 use Rattle.mk_exact.specs.Limits.{Side, IsFairAndSolvent, IsWanted, IsFloorSolvent, Inside, IsWithinRange, AreRight}
 use Rattle.mk_exact.specs.Sound.{IsSound}
 use Rattle.mk_exact.specs.Proper.{IsProper}
@@ -45,8 +42,8 @@ has_share small s side (low, high) right none =
 pub given_right : (small : Type 0) (sides : List Side) (given : List (ℕ × ℕ)) → AllZip (IsRightInterval small) sides given → AreRightBounds small sides (Some given)
 given_right small sides given h = record {
   given = h;
-  none = λ e. cc;
-  exactly_none = λ s. (λ e. cc, λ none. absurd (all_have s none));
+  none = λ e. absurd (cc);
+  exactly_none = λ s. (λ e. absurd (cc), λ none. absurd (all_have s none));
 }
   where
     all_have : small → Any (NoShare IsFloorSolvent) sides → ⊥
