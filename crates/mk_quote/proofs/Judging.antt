@@ -1,12 +1,11 @@
 -- Shares inside the interval of each value are those inside of all, and their units are fair and solvent.
-use Rattle.std.proofs.Common.{◌≡◌, ℕ, zero, suc, ◌+◌, ◌<◌, ◌≤◌, ◌↔◌, List, [], ◌∷◌, ◌++◌, map, drop, length, get_or, Option, Some, None, refl, sym, ap, ◌∙◌, subst, arith, append_assoc, append-nil}
+use Rattle.std.proofs.Common.{◌≡◌, ℕ, zero, suc, ◌+◌, ◌<◌, ◌≤◌, List, [], ◌∷◌, ◌++◌, drop, length, get_or, Option, Some, None, sym, subst, arith, append_assoc, append-nil}
 use Rattle.std.specs.List.{AllZip, AllByRecursion}
 use Rattle.std.proofs.lemmas.List.{drop_more, drop_all}
-use Rattle.mk_exact.specs.Limits.{Side, IsFairAndSolvent, Inside, IsWithinRange}
+use Rattle.mk_exact.specs.Limits.{Side, IsFairAndSolvent, Inside}
 use Rattle.mk_spread.specs.Bounds.{AreFairUnits, Intervals, InsideEach, given_with, all_given}
-use Rattle.mk_quote.specs.declared.side.SideBounds.{SideBounds}
 use Rattle.mk_quote.specs.declared.values.ValueQuote.{ValueQuote}
-use Rattle.mk_quote.specs.Sides.{AreBoundsOf, AreGraded, AreExact, ratio_for, Serves}
+use Rattle.mk_quote.specs.Sides.{AreBoundsOf, AreGraded, AreExact, ratio_for}
 use Rattle.mk_quote.specs.Values.{AreEachExact, AreFairForEach}
 use Rattle.mk_quote.specs.inner.Served.{IsServed, AreServed}
 use Rattle.mk_quote.proofs.Serving.{served_is_fair}

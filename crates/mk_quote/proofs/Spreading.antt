@@ -1,7 +1,8 @@
 -- The intervals that a quote keeps are right.
-use Rattle.std.proofs.Common.{◌≡◌, ℕ, ◌+◌, ◌≤◌, ◌↔◌, List, [], ◌∷◌, ◌++◌, map, take, drop, length, get_or, Option, Some, None, IfSome, option_map, All, refl, sym, ap, ◌∙◌, append_assoc, append-nil}
+use Rattle.std.proofs.Common.{◌≡◌, ℕ, ◌+◌, ◌<◌, ◌≤◌, ◌↔◌, List, [], ◌∷◌, ◌++◌, map, take, drop, length, get_or, Option, Some, None, IfSome, option_map, All, refl, sym, ap, ◌∙◌, subst, append_assoc, append-nil}
 use Rattle.std.specs.List.{AllZip, AllByRecursion}
 use Rattle.std.proofs.lemmas.List.{drop_more, drop_all, map_more, map-append}
+use Rattle.std.proofs.lemmas.List.Elements.{All-from_recursion}
 use Rattle.mk_exact.specs.Limits.{Side, Inside, IsWithinRange}
 use Rattle.mk_spread.specs.Bounds.{Intervals, given_with, all_given}
 use Rattle.mk_spread.proofs.Exist.{IsRightFor, collected}
@@ -116,3 +117,15 @@ one_side_more bounds values i part more p before same =
 pub one_served_more : (values : List ValueQuote) (more : ValueQuote) → AreServed values → IsServed more → AreServed (values ++ more ∷ [])
 one_served_more [] more h m = (m, tt)
 one_served_more (value ∷ values) more h m = (h.0, one_served_more values more h.1 m)
+
+-- ---- what the intervals are
+
+pub right_if_given : (values items : List ValueQuote) → items ≡ values → AreServed values → (o : Intervals) → all_given (intervals_in_quote items) ≡ o → AreRightForEach (sides_in_quote values) o
+right_if_given values items same served o given =
+    subst (AreRightForEach (sides_in_quote values)) (ap (λ (vs : List ValueQuote). all_given (intervals_in_quote vs)) (sym same) ∙ given) (intervals_are_right values served)
+
+pub in_range_if_given : (values items : List ValueQuote) → items ≡ values → AreServed values → (listed : List (ℕ × ℕ)) → all_given (intervals_in_quote items) ≡ Some listed
+    → All (λ interval. IsWithinRange (Some interval)) listed
+in_range_if_given values items same served listed given =
+    All-from_recursion (λ interval. IsWithinRange (Some interval)) listed
+    (subst (λ (o : Intervals). IfSome o (AllByRecursion (λ interval. IsWithinRange (Some interval)))) (ap (λ (vs : List ValueQuote). all_given (intervals_in_quote vs)) (sym same) ∙ given) (given_in_range values served))

@@ -29,7 +29,12 @@ impl SpreadQuote {
     ghost use Rattle.mk_quote.specs.Spreads.{user_of, question_of, revision_of, sides_of, intervals_of, IsSpreadFor};
 
     /// The quote of a question for a user, with the intervals that its bounds give.
-    pub fn make(user: u32, question: SpreadQuestion, revision: u64, bounds: &SpreadBounds) -> SpreadQuote
+    pub fn make(
+        user: u32,
+        question: SpreadQuestion,
+        revision: u64,
+        bounds: &SpreadBounds,
+    ) -> SpreadQuote
         ensures user { user_of result ≡ user }
         ensures question { question_of result ≡ spread_in question }
         ensures revision { revision_of result ≡ revision }

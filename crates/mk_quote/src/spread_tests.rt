@@ -164,13 +164,7 @@ fn exact(rt: &impl Abort, number: u64) -> Enclosure {
 }
 
 /// The bounds of some values, for a user with so many trades and bits.
-fn bounds_of(
-    rt: &impl Abort,
-    values: &[Value],
-    whole: u64,
-    trades: u32,
-    net: i64,
-) -> SpreadBounds {
+fn bounds_of(rt: &impl Abort, values: &[Value], whole: u64, trades: u32, net: i64) -> SpreadBounds {
     let mut parts = ArrayVec::new();
     for value in values {
         let part = ValueBounds {
@@ -239,7 +233,9 @@ fn sixteen_values(rt: HostRuntime) {
 fn without_bits(rt: HostRuntime) {
     let even = quote_of(&rt, &bounds_of(&rt, &DIE, 1_000_000, 0, 0));
     let intervals = even.intervals().expect(&rt, "intervals");
-    assert!(rt; intervals.as_slice() == &[(333_333, 999_999), (333_333, 999_999), (333_334, 999_999)][..]);
+    assert!(rt;
+        intervals.as_slice() == &[(333_333, 999_999), (333_333, 999_999), (333_334, 999_999)][..]
+    );
     let owing = quote_of(&rt, &bounds_of(&rt, &DIE, 1_000_000, 0, -2));
     assert!(rt; owing.intervals().is_none());
     assert!(rt; owing.judge(&[333_333, 333_333, 333_334]).is_none());

@@ -1,5 +1,4 @@
 //! Every value of a variable, each with its side by bounds.
-ghost use Rattle.std.specs.Prelude.{◌≡◌};
 
 use crate::SideBounds;
 use arrayvec::ArrayVec;
@@ -16,10 +15,9 @@ pub struct ValueBounds {
 /// A value of weight and factor one, which fills the unused places of a list.
 impl Default for ValueBounds {
     fn default() -> ValueBounds {
-        let one = Enclosure::exact(1);
         ValueBounds {
-            part: one,
-            factor: factor_of(one),
+            part: Enclosure::exact(1),
+            factor: blank_factor(),
         }
     }
 }
@@ -65,24 +63,21 @@ impl ValueQuote {
 /// A value without shares, which fills the unused places of a list.
 impl Default for ValueQuote {
     fn default() -> ValueQuote {
-        let one = Enclosure::exact(1);
         ValueQuote {
             side: SideBounds {
-                part: one,
-                whole: one,
-                factor: factor_of(one),
+                part: Enclosure::exact(1),
+                whole: Enclosure::exact(1),
+                factor: blank_factor(),
             },
             interval: None,
         }
     }
 }
 
-/// The factor of a gain before any trade or transfer.
-fn factor_of(gain: Enclosure) -> Factor
-    ensures { result.gain ≡ gain }
-{
+/// The factor of a user who has done nothing.
+fn blank_factor() -> Factor {
     Factor {
-        gain,
+        gain: Enclosure::exact(1),
         trades: 0,
         net: 0,
     }

@@ -1,5 +1,5 @@
 -- In the small case right bounds hold exactly the lists whose exact floors are fit and solvent.
-use Rattle.std.proofs.Common.{◌≡◌, ℕ, zero, suc, ◌+◌, ◌*◌, ◌/◌, ◌^◌, ◌<◌, ◌≤◌, List, [], ◌∷◌, Option, Some, None, IfSome, IsSomeAnd, Any, refl, sym, ◌∙◌, subst, arith}
+use Rattle.std.proofs.Common.{◌≡◌, ℕ, ◌*◌, ◌/◌, ◌<◌, ◌≤◌, List, [], ◌∷◌, Option, Some, None, IfSome, IsSomeAnd, Any, refl, sym, ◌∙◌, subst, arith}
 use Rattle.std.specs.Prelude.{◌↔◌}
 use Rattle.std.specs.List.{AllZip, AllByRecursion}
 use Rattle.std.proofs.Math.Nat.{div-eq_of_lt-le}
@@ -85,8 +85,7 @@ pub bounds_agree : (network : List Variable) (H : List Entry) (u : ℕ) (spread 
 bounds_agree network H u spread first second Xs small a b =
     let one = inside_is_floors (IsSmall network H) small a.sides first Xs a.right in
     let other = inside_is_floors (IsSmall network H) small b.sides second Xs b.right in
-    let same = same_sides network H u spread a.sides b.sides a.are_sides b.are_sides in
-    (
+    let same = same_sides network H u spread a.sides b.sides a.are_sides b.are_sides in (
       λ i. other.1 (subst (λ (sides : List Side). AllZip IsFloorShare sides Xs) same (one.0 i)),
       λ i. one.1 (subst (λ (sides : List Side). AllZip IsFloorShare sides Xs) (sym same) (other.0 i)),
     )

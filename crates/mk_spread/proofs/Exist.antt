@@ -1,16 +1,13 @@
 -- Right bounds exist, and judge each list of shares.
-use Rattle.std.proofs.Common.{◌≡◌, ℕ, zero, suc, ◌+◌, ◌-◌, ◌*◌, ◌/◌, ◌^◌, ◌<◌, ◌≤◌, ◌⊎◌, false, List, [], ◌∷◌, length, slice_index, Option, Some, None, IfSome, option_map, Any, All, refl, ap, ◌∙◌, subst, inl, inr, arith}
+use Rattle.std.proofs.Common.{◌≡◌, ℕ, suc, ◌-◌, ◌<◌, ◌≤◌, ◌⊎◌, List, [], ◌∷◌, length, slice_index, Option, Some, None, IfSome, option_map, Any, All, refl, ap, ◌∙◌, inl, inr, arith}
 use Rattle.std.specs.Bool.{⊤}
-use Rattle.std.specs.Prelude.{◌↔◌}
-use Rattle.std.specs.List.{AllZip, AllByRecursion, range_with_len}
-use Rattle.std.proofs.Math.Nat.{div-mul-le_self, lt-div-mul-add}
+use Rattle.std.specs.List.{AllZip, AllByRecursion}
 use Rattle.std.proofs.lemmas.List.Elements.{All-from_recursion}
-use Rattle.mk_net.specs.Bounds.{number_limit, million}
+use Rattle.mk_net.specs.Bounds.{million}
 use Rattle.mk_net.specs.Network.{Variable, IsNetwork, sizes}
 use Rattle.mk_exact.specs.Ratios.{unit}
 use Rattle.mk_exact.specs.History.{Entry}
 use Rattle.mk_exact.specs.Weight.{IsSmall}
-use Rattle.mk_exact.specs.Prices.{IsSolvent}
 use Rattle.mk_exact.specs.Limits.{Side, IsFairAndSolvent, IsWanted, IsFloorSolvent, Inside, IsWithinRange, AreRight}
 use Rattle.mk_exact.specs.Sound.{IsSound}
 use Rattle.mk_exact.specs.Proper.{IsProper}
@@ -24,6 +21,7 @@ use Rattle.mk_spread.specs.Markets.{IsValueSide, AreValueSides, AreRightBoundsOf
 use Rattle.mk_spread.specs.Existing.{HasValueSides}
 use Rattle.mk_spread.specs.Laws.{AreOfValues}
 use Rattle.mk_spread.proofs.Listed.{range_of, ranged_length, any_here, any_later, any_paired}
+use Rattle.mk_spread.proofs.When.{bounds_when}
 use Rattle.mk_spread.proofs.Fair.{of_values}
 
 -- ---- bounds, from an interval or none for each side
@@ -45,8 +43,8 @@ has_share small s side (low, high) right none =
 pub given_right : (small : Type 0) (sides : List Side) (given : List (ℕ × ℕ)) → AllZip (IsRightInterval small) sides given → AreRightBounds small sides (Some given)
 given_right small sides given h = record {
   given = h;
-  none = λ e. cc;
-  exactly_none = λ s. (λ e. cc, λ none. absurd (all_have s none));
+  none = λ e. absurd (cc);
+  exactly_none = λ s. (λ e. absurd (cc), λ none. absurd (all_have s none));
 }
   where
     all_have : small → Any (NoShare IsFloorSolvent) sides → ⊥
@@ -114,37 +112,6 @@ bounds_exist sides h =
     let each = each_right sides h in
     (all_given (each.0), collected ⊤ sides (each.0) (each.1))
 
--- what serves the small case serves any
-fair_in : (small : Type 0) (side : Side) (X F : ℕ) → IsFairAndSolvent ⊤ side X F → IsFairAndSolvent small side X F
-fair_in small side X F f = record {
-  fair = record { positive = f.fair.positive; fits = f.fair.fits; not_above = f.fair.not_above; close = f.fair.close; floor = λ _. f.fair.floor tt };
-  solvent = f.solvent;
-}
-
-interval_in : (small : Type 0) (side : Side) (interval : ℕ × ℕ) → IsRightInterval ⊤ side interval → IsRightInterval small side interval
-interval_in small side interval h = record {
-  in_range = h.in_range;
-  sound = λ X i. found X (h.sound X i);
-  near_complete = h.near_complete;
-  exact = λ _. h.exact tt;
-}
-  where
-    found : (X : ℕ) → (F : ℕ) × IsFairAndSolvent ⊤ side X F → (F : ℕ) × IsFairAndSolvent small side X F
-    found X f = (f.0, fair_in small side X (f.0) (f.1))
-
-intervals_in : (small : Type 0) (sides : List Side) (given : List (ℕ × ℕ)) → AllZip (IsRightInterval ⊤) sides given → AllZip (IsRightInterval small) sides given
-intervals_in small [] [] h = tt
-intervals_in small [] (i ∷ given) h = absurd h
-intervals_in small (side ∷ sides) [] h = absurd h
-intervals_in small (side ∷ sides) (i ∷ given) h = (interval_in small side i h.0, intervals_in small sides given h.1)
-
-bounds_in : (small : Type 0) (sides : List Side) (intervals : Intervals) → AreRightBounds ⊤ sides intervals → AreRightBounds small sides intervals
-bounds_in small sides intervals h = record { given = given_in intervals h.given; none = h.none; exactly_none = λ _. h.exactly_none tt }
-  where
-    given_in : (intervals : Intervals) → IfSome intervals (AllZip (IsRightInterval ⊤) sides) → IfSome intervals (AllZip (IsRightInterval small) sides)
-    given_in None h = tt
-    given_in (Some given) h = intervals_in small sides given h
-
 -- ---- bounds of a market
 
 can_be_asked : (network : List Variable) (H : List Entry) (spread : SpreadAsked) → CanBeSpread network H spread → (k : ℕ) → k < slice_index (sizes network) spread.variable
@@ -174,7 +141,7 @@ module _ (network : List Variable) (H : List Entry) (u : ℕ) (spread : SpreadAs
   right_bounds_exist = found value_sides_exist
     where
       of_sides : (has : HasValueSides network H u spread) → (intervals : Intervals) × AreRightBounds ⊤ has.sides intervals → (intervals : Intervals) × AreRightBoundsOf network H u spread intervals
-      of_sides has b = (b.0, record { sides = has.sides; are_sides = has.are_sides; right = bounds_in (IsSmall network H) has.sides (b.0) (b.1) })
+      of_sides has b = (b.0, record { sides = has.sides; are_sides = has.are_sides; right = bounds_when (IsSmall network H) ⊤ (λ _. tt) has.sides (b.0) (b.1) })
 
       found : HasValueSides network H u spread → (intervals : Intervals) × AreRightBoundsOf network H u spread intervals
       found has = of_sides has (bounds_exist has.sides (each_weaker IsOpenSide (λ (side : Side). IsPositivePrice side.price) (λ side o. o.price) has.sides has.each_open))

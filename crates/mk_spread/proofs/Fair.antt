@@ -1,8 +1,6 @@
 -- What a fair list says of each value, and of the ratio that it makes.
 use Rattle.std.proofs.Common.{◌≡◌, ℕ, ◌+◌, ◌<◌, ◌≤◌, List, length, slice_index, Option, Some, None, IfSome, IsSomeAnd, All, ◌∙◌, subst, arith}
-use Rattle.std.specs.List.{AllByRecursion}
 use Rattle.std.proofs.lemmas.List.Elements.{All-from_recursion}
-use Rattle.mk_net.specs.Bounds.{max_values}
 use Rattle.mk_net.specs.Network.{Variable, IsNetwork, sizes}
 use Rattle.mk_net.specs.Named.{nobody}
 use Rattle.mk_net.specs.Asked.{Asked, IsUnits}
@@ -16,8 +14,7 @@ use Rattle.mk_exact.specs.Sides.{IsSide}
 use Rattle.mk_exact.specs.Proper.{IsRatioOf}
 use Rattle.mk_exact.proofs.Positive.{size_at, few_values_at}
 use Rattle.mk_spread.specs.Spreads.{SpreadAsked, asked_of, IsSpreadOf, spread_ratio}
-use Rattle.mk_spread.specs.Bounds.{AreFairUnits}
-use Rattle.mk_spread.specs.Markets.{IsValueSide, AreValueSides, IsFairList}
+use Rattle.mk_spread.specs.Markets.{IsValueSide, IsFairList}
 use Rattle.mk_spread.specs.Laws.{AreOfValues}
 use Rattle.mk_spread.proofs.Listed.{ranged_length, fair_lengths, fair_at, each_units}
 

@@ -1,4 +1,5 @@
 pub mod Listed
+pub mod When
 pub mod Fair
 pub mod Summed
 pub mod Safe

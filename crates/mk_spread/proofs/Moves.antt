@@ -1,5 +1,5 @@
 -- A fair list takes the price of each value near its share.
-use Rattle.std.proofs.Common.{◌≡◌, ℕ, zero, suc, ◌+◌, ◌-◌, ◌*◌, ◌^◌, ◌<◌, ◌≤◌, List, [], ◌∷◌, length, slice_index, sum, sym, ap, ◌∙◌, subst₂, arith, le_of_lt, mul-le-mul_left, mul-le-mul_right}
+use Rattle.std.proofs.Common.{◌≡◌, ℕ, zero, suc, ◌+◌, ◌-◌, ◌*◌, ◌^◌, ◌<◌, ◌≤◌, List, [], ◌∷◌, length, slice_index, sum, sym, arith, le_of_lt, mul-le-mul_left, mul-le-mul_right}
 use Rattle.std.proofs.lemmas.List.Sums.{sum_by-cons}
 use Rattle.mk_net.specs.Bounds.{million}
 use Rattle.mk_net.specs.Network.{Variable, sizes}
@@ -52,7 +52,7 @@ module _ (network : List Variable) (H : List Entry) (u : ℕ) (spread : SpreadAs
   nearly : unit * before * (2 ^ 30 - 1) ≤ (after + before) * 2 ^ 30
   nearly =
       let l : sum Xs * (unit * before * (2 ^ 30 - 1)) ≤ (after + before) * (million * 2 ^ 30) = rw (both_sums, ← (listed_lengths network H u spread Xs Fs list).0)
-          (sum_beyond (λ k. slice_index Fs k * part_of network H spread k + part_of network H spread k) (million * 2 ^ 30) (unit * before * (2 ^ 30 - 1)) Xs 0 each) in
+      (sum_beyond (λ k. slice_index Fs k * part_of network H spread k + part_of network H spread k) (million * 2 ^ 30) (unit * before * (2 ^ 30 - 1)) Xs 0 each) in
       let m : million * (unit * before * (2 ^ 30 - 1)) ≤ (after + before) * (million * 2 ^ 30) = rw shares at l in
       omega (arith, m)
     where

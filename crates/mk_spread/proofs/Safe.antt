@@ -1,17 +1,17 @@
 -- A fair and solvent list makes a safe trade.
-use Rattle.std.proofs.Common.{◌≡◌, ℕ, ◌+◌, ◌*◌, ◌^◌, ◌<◌, ◌≤◌, Bool, true, false, cond, eqb, ◌&&◌, List, [], ◌∷◌, length, slice_index, sum, IfSome, All, sym, subst, arith, mul-le-mul_right, eq-eqb, refl}
+use Rattle.std.proofs.Common.{◌≡◌, ℕ, ◌+◌, ◌*◌, ◌^◌, ◌<◌, ◌≤◌, Bool, true, false, cond, eqb, ◌&&◌, List, [], ◌∷◌, length, slice_index, sum, All, arith, mul-le-mul_right, eq-eqb, refl}
 use Rattle.std.specs.List.{AllByRecursion}
 use Rattle.std.proofs.lemmas.Bool.{and_from, and_parts}
 use Rattle.std.proofs.lemmas.List.Elements.{All-from_recursion}
 use Rattle.mk_net.specs.Bounds.{million}
 use Rattle.mk_net.specs.Network.{Variable, sizes}
-use Rattle.mk_exact.specs.States.{IsState, plus_over, numbers_below}
+use Rattle.mk_exact.specs.States.{IsState}
 use Rattle.mk_exact.specs.InitialWeight.{all_states, value_at}
 use Rattle.mk_exact.specs.Events.{holds, with_target}
 use Rattle.mk_exact.specs.Ratios.{unit, ratio_at}
 use Rattle.mk_exact.specs.History.{Entry, deposited, withdrawn}
 use Rattle.mk_exact.specs.Weight.{total, is_possible, possible_states}
-use Rattle.mk_exact.specs.Factors.{gain, trade_count, factor, factor_with, least_gain}
+use Rattle.mk_exact.specs.Factors.{gain, trade_count, factor, factor_with}
 use Rattle.mk_exact.specs.Prices.{IsSolvent}
 use Rattle.mk_exact.specs.Accepted.{IsSafeTrade}
 use Rattle.mk_exact.proofs.Sums.{each_kept, kept_each, each_weaker, each_both}
@@ -32,7 +32,7 @@ units_where : (P : ℕ → Type 0) (h : Bool) (units rest : ℕ) → h ≡ true 
 units_where P true units rest e p = p
 units_where P false units rest e p = absurd (cc)
 
-within_million : (n s c : ℕ) → n * million ≤ s * c → s ≤ million → n ≤ c
+pub within_million : (n s c : ℕ) → n * million ≤ s * c → s ≤ million → n ≤ c
 within_million n s c p q =
     let l : s * c ≤ million * c = mul-le-mul_right c q in
     omega arith

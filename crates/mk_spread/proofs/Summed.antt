@@ -1,10 +1,9 @@
 -- The weights that a trade of a whole distribution makes, value by value.
-use Rattle.std.proofs.Common.{◌≡◌, ℕ, zero, suc, ◌+◌, ◌*◌, ◌<◌, ◌≤◌, Bool, true, false, cond, eqb, ◌&&◌, List, [], ◌∷◌, length, slice_index, sum_by, sum, filter, refl, sym, ap, ◌∙◌, arith, eqb-true}
-use Rattle.std.specs.List.{AllByRecursion, range_with_len}
+use Rattle.std.proofs.Common.{◌≡◌, ℕ, suc, ◌+◌, ◌*◌, ◌<◌, ◌≤◌, Bool, true, false, cond, eqb, ◌&&◌, List, [], ◌∷◌, length, slice_index, sum_by, sum, filter, refl, sym, ap, ◌∙◌, arith, eqb-true}
+use Rattle.std.specs.List.{range_with_len}
 use Rattle.std.proofs.Math.Path.{fun_ext}
 use Rattle.std.proofs.lemmas.List.Sums.{sum_by-cons}
 use Rattle.std.proofs.lemmas.List.Elements.{All-filter, All-from_recursion, recursion_from_All}
-use Rattle.mk_net.specs.declared.words.Pair.{Pair}
 use Rattle.mk_net.specs.Network.{Variable, sizes}
 use Rattle.mk_exact.specs.States.{IsState, plus_over, numbers_below}
 use Rattle.mk_exact.specs.InitialWeight.{all_states, value_at}

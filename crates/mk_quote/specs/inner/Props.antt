@@ -23,4 +23,4 @@ is_served-prop value = hlevel (props, range-prop, inside-prop)
 
 pub served-prop : (values : List ValueQuote) → IsProp (AreServed values)
 served-prop [] = hlevel props
-served-prop (value ∷ values) = hlevel (props, is_served-prop, served-prop)
+served-prop (value ∷ values) = hlevel (props, is_served-prop value, served-prop values)

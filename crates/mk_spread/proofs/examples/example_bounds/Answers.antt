@@ -1,5 +1,4 @@
-use Rattle.std.proofs.Common.{◌≡◌, ℕ, ◌*◌, ◌/◌, ◌^◌, ◌≤◌, List, [], ◌∷◌, Option, Some, None, refl, arith, subst}
-use Rattle.std.specs.List.{AllZip}
+use Rattle.std.proofs.Common.{ℕ, ◌*◌, ◌/◌, ◌^◌, ◌≤◌, List, [], ◌∷◌, Some, None, refl, arith, subst}
 use Rattle.mk_exact.specs.Weight.{IsSmall}
 use Rattle.mk_exact.specs.Limits.{Side, IsFairAndSolvent, IsFloorSolvent}
 use Rattle.mk_exact.specs.Examples.{die, deposited_one}
@@ -17,7 +16,7 @@ small : Small
 small = omega arith
 
 sides : AreValueSides die deposited_one 0 every_face faces
-sides = (refl, refl, refl, tt)
+sides = (refl, (refl, (refl, tt)))
 
 -- the floor of the units for X
 low_units : (X : ℕ) → 166667 ≤ X → X ≤ 999999 → IsFairAndSolvent Small (face 333333) X (X * 2 ^ 40 / 333333)
@@ -43,7 +42,7 @@ high_right = record {
 }
 
 right : AreRightBounds Small faces (Some ((166667, 999999) ∷ (166667, 999999) ∷ (166667, 999999) ∷ []))
-right = given_right Small faces ((166667, 999999) ∷ (166667, 999999) ∷ (166667, 999999) ∷ []) (low_right, low_right, high_right, tt)
+right = given_right Small faces ((166667, 999999) ∷ (166667, 999999) ∷ (166667, 999999) ∷ []) (low_right, (low_right, (high_right, tt)))
 
 -- right bounds are right for the sides that there are
 for_faces : (intervals : Intervals) → AreRightBoundsOf die deposited_one 0 every_face intervals → AreRightBounds Small faces intervals
@@ -56,7 +55,7 @@ too_narrow : AreRightBounds Small faces (Some ((166667, 999999) ∷ (166667, 999
 too_narrow r = let inside = (r.given.1.1.0.exact small 999999 (omega arith) (omega arith)).1 (omega arith, omega arith) in omega (arith, inside.1)
 
 not_none : AreRightBounds Small faces None → ⊥
-not_none r = no_share faces (500000 ∷ 500000 ∷ 500000 ∷ []) ((r.exactly_none small).0 refl) (share 333333 (omega arith, omega arith), share 333333 (omega arith, omega arith), share 333334 (omega arith, omega arith), tt)
+not_none r = no_share faces (500000 ∷ 500000 ∷ 500000 ∷ []) ((r.exactly_none small).0 refl) (share 333333 (omega arith, omega arith), (share 333333 (omega arith, omega arith), (share 333334 (omega arith, omega arith), tt)))
   where
     share : (weight : ℕ) → IsFloorSolvent (face weight) 500000 → IsFloorShare (face weight) 500000
     share weight floor = record { least = omega arith; most = omega arith; floor = floor }
@@ -75,7 +74,7 @@ pub returns : goal.returns
 returns c = record {
   sides = sides;
   right = record { sides = faces; are_sides = sides; right = right };
-  fair = record { sides = faces; are_sides = sides; units = (first, second, third, tt) };
+  fair = record { sides = faces; are_sides = sides; units = (first, (second, (third, tt))) };
   too_wide = λ h. too_wide (for_faces (Some ((166667, 999999) ∷ (166666, 999999) ∷ (166667, 999999) ∷ [])) h);
   too_narrow = λ h. too_narrow (for_faces (Some ((166667, 999999) ∷ (166667, 999999) ∷ (166667, 999998) ∷ [])) h);
   too_few = λ h. (for_faces (Some ((166667, 999999) ∷ (166667, 999999) ∷ [])) h).given.1.1;
