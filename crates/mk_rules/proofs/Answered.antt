@@ -21,7 +21,7 @@ use Rattle.mk_exact.proofs.ExistLimits.{limits_judge}
 use Rattle.mk_exact.proofs.ExistMarkets.{price_exists, least_gain_exists, right_limits_exist}
 use Rattle.mk_exact.proofs.ExistOutcome.{outcome_exists}
 use Rattle.mk_command.specs.declared.command.Command.{Command}
-use Rattle.mk_command.specs.declared.command.Command.TheVariants.{User, Deposit, Withdraw, Price, Limits, Edit, Worst, Resolve, Settle}
+use Rattle.mk_command.specs.declared.command.Command.TheVariants.{User, Deposit, Withdraw, Price, Limits, Edit, Bounds, Spread, Worst, Resolve, Settle}
 use Rattle.mk_reply.specs.declared.refusal.Refusal.{Refusal}
 use Rattle.mk_reply.specs.declared.refusal.Refusal.TheVariants.{Syntax, Long, Beyond, Short}
 use Rattle.mk_reply.specs.declared.payments.Payment.{Payment}
@@ -145,6 +145,8 @@ module _ (market : Market) (now : Standing) (is_market : IsMarket market) (ready
       (edit_answer (user_number H u) asked.0 X
       (can_be_asked network H q asked.0 asked.1 refused.1.1.0 refused.1.1.1.0 refused.1.1.1.1.1.0 refused.1.1.1.1.1.1.0)
       (current_limits (last_quote now.quotes (user_number H u)) asked.0 (revision H)) refl)
+  answered (Bounds u v condition) none = absurd (cc)
+  answered (Spread u v condition to seen) none = absurd (cc)
   answered (Worst u) none = of_least (user_number H u) (λ q reply. IsWorst q market.points_per_bit reply) (λ q safe.
       let cash = cash_is_covered q market.points_per_bit safe in
       (Worsted cash.0 cash.1, record { low = cash.0; high = cash.1; printed = refl; covers = cash.2 }))

@@ -5,7 +5,7 @@ use Rattle.mk_net.specs.Asked.{Asked}
 use Rattle.mk_exact.specs.History.{Entry}
 use Rattle.mk_exact.specs.Market.{Market, network_of}
 use Rattle.mk_command.specs.declared.command.Command.{Command}
-use Rattle.mk_command.specs.declared.command.Command.TheVariants.{User, Deposit, Withdraw, Price, Limits, Edit, Worst, Resolve, Settle}
+use Rattle.mk_command.specs.declared.command.Command.TheVariants.{User, Deposit, Withdraw, Price, Limits, Edit, Bounds, Spread, Worst, Resolve, Settle}
 use Rattle.mk_reply.specs.declared.refusal.Refusal.{Refusal}
 use Rattle.mk_reply.specs.declared.reply.Reply.{Reply}
 use Rattle.mk_reply.specs.declared.reply.Reply.TheVariants.{Refused}
@@ -25,6 +25,8 @@ refused_appends P market H (Withdraw u bits) why = tt
 refused_appends P market H (Price q) why = tt
 refused_appends P market H (Limits u q) why = tt
 refused_appends P market H (Edit u q X seen) why = tt
+refused_appends P market H (Bounds u v condition) why = tt
+refused_appends P market H (Spread u v condition to seen) why = tt
 refused_appends P market H (Worst u) why = tt
 refused_appends P market H (Resolve p) why = tt
 refused_appends P market H Settle why = tt

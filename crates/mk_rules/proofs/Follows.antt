@@ -15,7 +15,7 @@ use Rattle.mk_exact.specs.Factors.{factor_with, least_gain}
 use Rattle.mk_exact.specs.Market.{Market, network_of}
 use Rattle.mk_exact.proofs.ExistBounds.{fair_pair_fits}
 use Rattle.mk_command.specs.declared.command.Command.{Command}
-use Rattle.mk_command.specs.declared.command.Command.TheVariants.{User, Deposit, Withdraw, Price, Limits, Edit, Worst, Resolve, Settle}
+use Rattle.mk_command.specs.declared.command.Command.TheVariants.{User, Deposit, Withdraw, Price, Limits, Edit, Bounds, Spread, Worst, Resolve, Settle}
 use Rattle.mk_reply.specs.declared.refusal.Refusal.{Refusal}
 use Rattle.mk_reply.specs.declared.refusal.Refusal.TheVariants.{Memory}
 use Rattle.mk_reply.specs.declared.reply.Reply.{Reply}
@@ -77,6 +77,8 @@ module _ (market : Market) (H : List Entry) where
       let judged = value_of _ (question_named (network_of market H) q) h in
       judged_appends (MayFollow market H) market H u q X seen judged.0 reply (current_limits (last_quote quotes (user_number H u)) judged.0 (revision H))
       (trade_follows u q X seen judged.0 reply judged.1 (has_room market.max_trades (length (trades H)) refused.1.1.1.1.1.1.1.1.1.0)) judged.2
+  answer_follows quotes (Bounds u v condition) reply text none h = absurd h
+  answer_follows quotes (Spread u v condition to seen) reply text none h = absurd h
   answer_follows quotes (Worst u) reply text none h =
       reply_appends (MayFollow market H) market H (Worst u) reply _ (value_of _ (least_gain (network_of market H) H (user_number H u) always) h).2.printed tt
   answer_follows quotes (Resolve p) reply text none h = reply_appends (MayFollow market H) market H (Resolve p) reply _ h (resolves (pair_named (network_of market H) p))
@@ -114,6 +116,8 @@ joins_by_name (OfCommand (Withdraw u bits)) text = tt
 joins_by_name (OfCommand (Price q)) text = tt
 joins_by_name (OfCommand (Limits u q)) text = tt
 joins_by_name (OfCommand (Edit u q X seen)) text = tt
+joins_by_name (OfCommand (Bounds u v condition)) text = tt
+joins_by_name (OfCommand (Spread u v condition to seen)) text = tt
 joins_by_name (OfCommand (Worst u)) text = tt
 joins_by_name (OfCommand (Resolve p)) text = tt
 joins_by_name (OfCommand Settle) text = tt

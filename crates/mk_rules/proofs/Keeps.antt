@@ -19,7 +19,7 @@ use Rattle.mk_exact.proofs.Single.{empty_sound}
 use Rattle.mk_exact.proofs.Sums.{each-append}
 use Rattle.mk_exact.proofs.Range.{empty_proper, proper_next, fair_pair_is_safe}
 use Rattle.mk_command.specs.declared.command.Command.{Command}
-use Rattle.mk_command.specs.declared.command.Command.TheVariants.{User, Deposit, Withdraw, Price, Limits, Edit, Worst, Resolve, Settle}
+use Rattle.mk_command.specs.declared.command.Command.TheVariants.{User, Deposit, Withdraw, Price, Limits, Edit, Bounds, Spread, Worst, Resolve, Settle}
 use Rattle.mk_reply.specs.declared.refusal.Refusal.{Refusal}
 use Rattle.mk_reply.specs.declared.refusal.Refusal.TheVariants.{Memory}
 use Rattle.mk_reply.specs.declared.reply.Reply.{Reply}
@@ -119,6 +119,8 @@ answer_fits market H quotes (Price q) reply none h = let price = value_of _ (que
 answer_fits market H quotes (Limits u q) reply none h = let limits = value_of _ (question_named (network_of market H) q) h in
     reply_appends (Fits market H) market H (Limits u q) reply _ limits.2.printed tt
 answer_fits market H quotes (Edit u q X seen) reply none h = edit_fits market H quotes u q X seen reply none h
+answer_fits market H quotes (Bounds u v condition) reply none h = absurd h
+answer_fits market H quotes (Spread u v condition to seen) reply none h = absurd h
 answer_fits market H quotes (Worst u) reply none h = let worst = value_of _ (least_gain (network_of market H) H (user_number H u) always) h in
     reply_appends (Fits market H) market H (Worst u) reply _ worst.2.printed tt
 answer_fits market H quotes (Resolve p) reply none h = resolve_fits market H p reply none h

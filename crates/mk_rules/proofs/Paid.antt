@@ -16,7 +16,7 @@ use Rattle.mk_exact.specs.Market.{Market, network_of}
 use Rattle.mk_exact.specs.Laws.{IsWithinCash, ArePayments, LossIsBounded}
 use Rattle.mk_exact.proofs.Gains.{settlement_bounded}
 use Rattle.mk_command.specs.declared.command.Command.{Command}
-use Rattle.mk_command.specs.declared.command.Command.TheVariants.{User, Deposit, Withdraw, Price, Limits, Edit, Worst, Resolve, Settle}
+use Rattle.mk_command.specs.declared.command.Command.TheVariants.{User, Deposit, Withdraw, Price, Limits, Edit, Bounds, Spread, Worst, Resolve, Settle}
 use Rattle.mk_reply.specs.declared.refusal.Refusal.{Refusal}
 use Rattle.mk_reply.specs.declared.payments.Payment.{Payment}
 use Rattle.mk_reply.specs.declared.reply.Reply.{Reply}
@@ -94,6 +94,8 @@ module _ (market : Market) (H : List Entry) (quotes : Quotes) (at : ℕ) (paymen
   settles_alone (Edit u q X seen) h =
       let judged = value_of _ (question_named (network_of market H) q) h in
       absurd (edit_settles_not (network_of market H) H (user_number H u) judged.0 X at payments (current_limits (last_quote quotes (user_number H u)) judged.0 (revision H)) judged.2)
+  settles_alone (Bounds u v condition) h = absurd h
+  settles_alone (Spread u v condition to seen) h = absurd h
   settles_alone (Worst u) h = let e = (value_of _ (least_gain (network_of market H) H (user_number H u) always) h).2.printed in absurd (cc)
   settles_alone (Resolve p) h = absurd (cc)
   settles_alone Settle h = refl

@@ -16,9 +16,9 @@ use Rattle.mk_exact.specs.Sides.{AreRightLimits}
 use Rattle.mk_exact.specs.Market.{Market, network_of}
 use Rattle.mk_exact.proofs.After.{users_kept, users_more}
 use Rattle.mk_command.specs.declared.command.Command.{Command}
-use Rattle.mk_command.specs.declared.command.Command.TheVariants.{User, Deposit, Withdraw, Price, Limits, Edit, Worst, Resolve, Settle}
+use Rattle.mk_command.specs.declared.command.Command.TheVariants.{User, Deposit, Withdraw, Price, Limits, Edit, Bounds, Spread, Worst, Resolve, Settle}
 use Rattle.mk_reply.specs.declared.refusal.Refusal.{Refusal}
-use Rattle.mk_reply.specs.declared.refusal.Refusal.TheVariants.{Syntax, Long, Settled as IsSettled, User as NoUser, Exists, Users, Unknown, Twice, Stale, Resolved as IsResolved, Impossible, Wide, Range, Full, Beyond, Short, Unresolved, Memory}
+use Rattle.mk_reply.specs.declared.refusal.Refusal.TheVariants.{Syntax, Long, Settled as IsSettled, User as NoUser, Exists, Users, Unknown, Twice, Stale, Resolved as IsResolved, Impossible, Wide, Range, Full, Beyond, Short, Unresolved, NoVariable, Numbers, Sum, Outside, Memory}
 use Rattle.mk_reply.specs.declared.reply.Reply.{Reply}
 use Rattle.mk_reply.specs.declared.reply.Reply.TheVariants.{Refused}
 use Rattle.mk_rules.specs.Refusals.{question_named, user_number, stale, refusals, first_refusal}
@@ -137,6 +137,10 @@ edit_stays market H quotes u q X seen (Full held) h = refl
 edit_stays market H quotes u q X seen (Beyond limits) h = absurd h
 edit_stays market H quotes u q X seen (Short bits) h = refl
 edit_stays market H quotes u q X seen (Unresolved name) h = refl
+edit_stays market H quotes u q X seen (NoVariable name) h = refl
+edit_stays market H quotes u q X seen (Numbers given) h = refl
+edit_stays market H quotes u q X seen (Sum sum) h = refl
+edit_stays market H quotes u q X seen (Outside intervals) h = refl
 edit_stays market H quotes u q X seen Memory h = refl
 
 value_has : {X : Type 0} (P : X → Type 0) (o : Option X) (x : X) → o ≡ Some x → IfSome o P → P x
@@ -167,6 +171,8 @@ module _ (market : Market) (now : Standing) (kept : AreKept market now.history n
   refused_kept (Edit u q X seen) why h =
       stays (next_quotes market now.history now.quotes (Edit u q X seen) (Refused why))
       (subst (AreKept market now.history) (sym (edit_refused market now.history now.quotes u q X seen why h)) kept)
+  refused_kept (Bounds u v condition) why h = stays now.quotes kept
+  refused_kept (Spread u v condition to seen) why h = stays now.quotes kept
   refused_kept (Worst u) why h = stays now.quotes kept
   refused_kept (Resolve p) why h = stays now.quotes kept
   refused_kept Settle why h = stays now.quotes kept
@@ -218,6 +224,8 @@ module _ (market : Market) (now : Standing) (kept : AreKept market now.history n
       reply_kept market now (Limits u q) reply _ limits.2.printed (quoted_kept (user_number now.history u) limits.0 limits.2.limits _ limits.1 limits.2.right)
   answer_kept (Edit u q X seen) reply h = let judged = value_of _ (question_named (network_of market now.history) q) h in
       judged_kept u q X seen judged.0 reply judged.1 (current_limits (last_quote now.quotes (user_number now.history u)) judged.0 (revision now.history)) refl judged.2
+  answer_kept (Bounds u v condition) reply h = absurd h
+  answer_kept (Spread u v condition to seen) reply h = absurd h
   answer_kept (Worst u) reply h = reply_kept market now (Worst u) reply _ (value_of _ (least_gain (network_of market now.history) now.history (user_number now.history u) always) h).2.printed (stays now.quotes kept)
   answer_kept (Resolve p) reply h = reply_kept market now (Resolve p) reply _ h (after_some _ (mapped (λ (e : Entry). join_in e ≡ None) _ (λ pair. refl) (pair_named (network_of market now.history) p)))
   answer_kept Settle reply h = reply_kept market now Settle reply _ h.printed (after_some (Some Settles) refl)

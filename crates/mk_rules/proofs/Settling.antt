@@ -13,12 +13,12 @@ use Rattle.mk_exact.specs.Market.{Market, network_of}
 use Rattle.mk_exact.specs.Laws.{LossIsBounded}
 use Rattle.mk_exact.proofs.After.{users_kept, resolutions_kept, deposited_kept, withdrawn_kept}
 use Rattle.mk_command.specs.declared.command.Command.{Command}
-use Rattle.mk_command.specs.declared.command.Command.TheVariants.{User, Deposit, Withdraw, Price, Limits, Edit, Worst, Resolve, Settle}
+use Rattle.mk_command.specs.declared.command.Command.TheVariants.{User, Deposit, Withdraw, Price, Limits, Edit, Bounds, Spread, Worst, Resolve, Settle}
 use Rattle.mk_reply.specs.declared.refusal.Refusal.{Refusal}
-use Rattle.mk_reply.specs.declared.refusal.Refusal.TheVariants.{Settled as SettledBefore}
+use Rattle.mk_reply.specs.declared.refusal.Refusal.TheVariants.{Syntax, Settled as SettledBefore}
 use Rattle.mk_reply.specs.declared.payments.Payment.{Payment}
 use Rattle.mk_reply.specs.declared.reply.Reply.{Reply}
-use Rattle.mk_reply.specs.declared.reply.Reply.TheVariants.{Joined, Deposited, Withdrawn, Price as Priced, Limits as Limited, Traded, Worst as Worsted, Resolved, Settled, Refused}
+use Rattle.mk_reply.specs.declared.reply.Reply.TheVariants.{Joined, Deposited, Withdrawn, Price as Priced, Limits as Limited, Traded, Bounded, Spreaded, Worst as Worsted, Resolved, Settled, Refused}
 use Rattle.mk_rules.specs.Refusals.{first_refusal}
 use Rattle.mk_rules.specs.Quotes.{Quotes}
 use Rattle.mk_rules.specs.Answers.{IsAnswer, IsAllowed, entry_of, next_history}
@@ -29,17 +29,23 @@ use Rattle.mk_rules.proofs.Appended.{refused_appends}
 use Rattle.mk_rules.proofs.Keeps.{allowed_keeps}
 use Rattle.mk_rules.proofs.Paid.{line_settles, settlement_keeps}
 
--- behind a settlement each command is refused for it
-refused_behind : (market : Market) (H : List Entry) (command : Command) → is_settled H ≡ true → first_refusal market H command ≡ Some SettledBefore
-refused_behind market H (User u) s = rw s refl
-refused_behind market H (Deposit u bits) s = rw s refl
-refused_behind market H (Withdraw u bits) s = rw s refl
-refused_behind market H (Price q) s = rw s refl
-refused_behind market H (Limits u q) s = rw s refl
-refused_behind market H (Edit u q X seen) s = rw s refl
-refused_behind market H (Worst u) s = rw s refl
-refused_behind market H (Resolve p) s = rw s refl
-refused_behind market H Settle s = rw s refl
+-- what a command is refused for
+abbrev IsRefusedFor : Market → List Entry → Command → Type 0
+IsRefusedFor market H command = (why : Refusal) × (first_refusal market H command ≡ Some why)
+
+-- behind a settlement each command is refused
+refused_behind : (market : Market) (H : List Entry) (command : Command) → is_settled H ≡ true → IsRefusedFor market H command
+refused_behind market H (User u) s = (SettledBefore, rw s refl)
+refused_behind market H (Deposit u bits) s = (SettledBefore, rw s refl)
+refused_behind market H (Withdraw u bits) s = (SettledBefore, rw s refl)
+refused_behind market H (Price q) s = (SettledBefore, rw s refl)
+refused_behind market H (Limits u q) s = (SettledBefore, rw s refl)
+refused_behind market H (Edit u q X seen) s = (SettledBefore, rw s refl)
+refused_behind market H (Bounds u v condition) s = (Syntax, refl)
+refused_behind market H (Spread u v condition to seen) s = (Syntax, refl)
+refused_behind market H (Worst u) s = (SettledBefore, rw s refl)
+refused_behind market H (Resolve p) s = (SettledBefore, rw s refl)
+refused_behind market H Settle s = (SettledBefore, rw s refl)
 
 none_there : {X : Type 0} (o : Option X) → IfSome o (λ _. ⊥) → o ≡ None
 none_there None h = refl
@@ -49,10 +55,11 @@ none_there (Some x) h = absurd h
 command_stays : (market : Market) (H : List Entry) (quotes : Quotes) (command : Command) (reply : Reply) → is_settled H ≡ true
     → IsAllowed market H quotes command reply → next_history market H command reply ≡ H
 command_stays market H quotes command reply s h =
-    let refused : reply ≡ Refused SettledBefore =
-    subst (λ (o : Option Refusal). MatchOption o (IsAnswer market H quotes command reply) (λ why. reply ≡ Refused why)) (refused_behind market H command s) h in
+    let behind = refused_behind market H command s in
+    let refused : reply ≡ Refused (behind.0) =
+    subst (λ (o : Option Refusal). MatchOption o (IsAnswer market H quotes command reply) (λ why. reply ≡ Refused why)) (behind.1) h in
     let none : entry_of market H command reply ≡ None = none_there (entry_of market H command reply)
-    (subst (λ (r : Reply). IfSome (entry_of market H command r) (λ _. ⊥)) (sym refused) (refused_appends (λ _. ⊥) market H command SettledBefore)) in
+    (subst (λ (r : Reply). IfSome (entry_of market H command r) (λ _. ⊥)) (sym refused) (refused_appends (λ _. ⊥) market H command (behind.0))) in
     ap (λ (o : Option Entry). H ++ option_to_list o) none ∙ append-nil H
 
 line_stays : (market : Market) (now : Standing) (line : Line) (reply : Reply) → is_settled now.history ≡ true
@@ -124,6 +131,8 @@ reply_pays market old new line (Withdrawn u bits at) lines replies stands allowe
 reply_pays market old new line (Priced low high) lines replies stands allowed run = tt
 reply_pays market old new line (Limited limits at) lines replies stands allowed run = tt
 reply_pays market old new line (Traded hit miss at) lines replies stands allowed run = tt
+reply_pays market old new line (Bounded intervals at) lines replies stands allowed run = tt
+reply_pays market old new line (Spreaded factors at) lines replies stands allowed run = tt
 reply_pays market old new line (Worsted low high) lines replies stands allowed run = tt
 reply_pays market old new line (Resolved p at) lines replies stands allowed run = tt
 reply_pays market old new line (Refused why) lines replies stands allowed run = tt

@@ -29,7 +29,7 @@ use Rattle.mk_text.specs.Numbers.{IsShort, AreLimits}
 use Rattle.mk_text.specs.Texts.{IsPairText, IsQuestionText}
 use Rattle.mk_command.specs.Commands.{IsCommand}
 use Rattle.mk_command.specs.declared.command.Command.{Command}
-use Rattle.mk_command.specs.declared.command.Command.TheVariants.{User, Deposit, Withdraw, Price, Limits, Edit, Worst, Resolve, Settle}
+use Rattle.mk_command.specs.declared.command.Command.TheVariants.{User, Deposit, Withdraw, Price, Limits, Edit, Bounds, Spread, Worst, Resolve, Settle}
 use Rattle.mk_reply.specs.Refusals.{IsRefusal}
 use Rattle.mk_reply.specs.Replies.{IsReply, IsPayment as HasText}
 use Rattle.mk_reply.specs.declared.refusal.Refusal.{Refusal}
@@ -195,6 +195,8 @@ module _ (market : Market) (now : Standing) (is_market : IsMarket market) (ready
           ),
         ),
       )
+  refusals_have (Bounds u v condition) text = (tt, tt)
+  refusals_have (Spread u v condition to seen) text = (tt, tt)
   refusals_have (Worst u) text = (faulted _ _ tt, (faulted _ _ text, tt))
   refusals_have (Resolve p) text = (faulted _ _ tt, (unknown_has network (p ∷ []) (text, tt), (faulted _ _ text.variable, tt)))
   refusals_have Settle text = (faulted _ _ tt, (unresolved_has network H is_market.network, tt))
@@ -247,6 +249,8 @@ module _ (market : Market) (now : Standing) (is_market : IsMarket market) (ready
   answer_has (Edit u q X seen) reply text none h =
       let judged = value_of _ (question_named network q) h in
       judged_has (user_number H u) judged.0 X reply (current_limits (last_quote now.quotes (user_number H u)) judged.0 (revision H)) refl judged.2
+  answer_has (Bounds u v condition) reply text none h = absurd h
+  answer_has (Spread u v condition to seen) reply text none h = absurd h
   answer_has (Worst u) reply text none h =
       let least = value_of _ (least_gain network H (user_number H u) always) h in
       let high = least_cash_fits network H (user_number H u) always least.0 market.points_per_bit least.2.low least.2.high bounded.within is_market.few_points least.1 least.2.covers in
