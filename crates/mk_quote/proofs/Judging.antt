@@ -1,12 +1,12 @@
 -- Shares inside the interval of each value are those inside of all, and their units are fair and solvent.
-use Rattle.std.proofs.Common.{◌≡◌, ℕ, zero, suc, ◌+◌, ◌<◌, ◌≤◌, List, [], ◌∷◌, ◌++◌, drop, length, get_or, Option, Some, None, sym, subst, arith, append_assoc, append-nil}
+use Rattle.std.proofs.Common.{◌≡◌, ℕ, zero, suc, ◌+◌, ◌<◌, ◌≤◌, List, [], ◌∷◌, ◌++◌, drop, length, get_or, Option, Some, None, refl, sym, ap, ◌∙◌, subst, arith, append_assoc, append-nil}
 use Rattle.std.specs.List.{AllZip, AllByRecursion}
 use Rattle.std.proofs.lemmas.List.{drop_more, drop_all}
 use Rattle.mk_exact.specs.Limits.{Side, IsFairAndSolvent, Inside}
 use Rattle.mk_spread.specs.Bounds.{AreFairUnits, Intervals, InsideEach, given_with, all_given}
 use Rattle.mk_quote.specs.declared.values.ValueQuote.{ValueQuote}
 use Rattle.mk_quote.specs.Sides.{AreBoundsOf, AreGraded, AreExact, ratio_for}
-use Rattle.mk_quote.specs.Values.{AreEachExact, AreFairForEach}
+use Rattle.mk_quote.specs.Values.{AreEachExact, AreFairForEach, ratios_for}
 use Rattle.mk_quote.specs.inner.Served.{IsServed, AreServed}
 use Rattle.mk_quote.proofs.Serving.{served_is_fair}
 use Rattle.mk_quote.proofs.Rightness.{fair_in, within}
@@ -60,6 +60,16 @@ units_taken [] (X ∷ Xs) Fs h = absurd h
 units_taken (value ∷ values) [] Fs h = absurd h
 units_taken (value ∷ values) (X ∷ Xs) [] h = absurd h
 units_taken (value ∷ values) (X ∷ Xs) (F ∷ Fs) h = (h.0, units_taken values Xs Fs h.2)
+
+-- they are the ratios that the sides give
+pub units_are_ratios : (values : List ValueQuote) (Xs Fs : List ℕ) → AreUnitsFor values Xs Fs → Fs ≡ ratios_for (sides_in_quote values) Xs
+units_are_ratios [] [] [] h = refl
+units_are_ratios [] [] (F ∷ Fs) h = absurd h
+units_are_ratios [] (X ∷ Xs) Fs h = absurd h
+units_are_ratios (value ∷ values) [] Fs h = absurd h
+units_are_ratios (value ∷ values) (X ∷ Xs) [] h = absurd h
+units_are_ratios (value ∷ values) (X ∷ Xs) (F ∷ Fs) h =
+    ap (λ (n : ℕ). n ∷ Fs) h.1 ∙ ap (λ (ns : List ℕ). ratio_for value.side X ∷ ns) (units_are_ratios values Xs Fs h.2)
 
 -- the units for a share inside are fair and solvent
 unit_fair : (small : Type 0) (value : ValueQuote) (side : Side) (X F : ℕ) → IsServed value → IsTaken value X → F ≡ ratio_for value.side X → AreBoundsOf value.side side → AreGraded value.side

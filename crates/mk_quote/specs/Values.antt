@@ -1,5 +1,5 @@
 -- The values of a variable by bounds: what is promised of a whole distribution for the exact numbers that they enclose.
-use Rattle.std.specs.Prelude.{ℕ, List, map, Option, option_map}
+use Rattle.std.specs.Prelude.{ℕ, List, [], ◌∷◌, map, Option, option_map}
 use Rattle.std.specs.List.{AllZip, AllByRecursion}
 use Rattle.arrayvec.specs.ArrayVec.{ArrayVec}
 use Rattle.mk_exact.specs.Limits.{Side}
@@ -7,7 +7,7 @@ use Rattle.mk_spread.specs.Bounds.{AreFairUnits, Intervals, AreRightBounds}
 use Rattle.mk_quote.specs.declared.side.SideBounds.{SideBounds}
 use Rattle.mk_quote.specs.declared.values.ValueBounds.{ValueBounds}
 use Rattle.mk_quote.specs.declared.values.SpreadBounds.{SpreadBounds}
-use Rattle.mk_quote.specs.Sides.{AreBoundsOf, AreGraded, AreExact}
+use Rattle.mk_quote.specs.Sides.{AreBoundsOf, AreGraded, AreExact, ratio_for}
 
 -- the side of a value
 abbrev pub side_in : SpreadBounds → ValueBounds → SideBounds
@@ -35,6 +35,11 @@ AreRightForEach values intervals = (sides : List Side) → EncloseEach values si
 -- the units are fair and solvent for these shares, for all sides that the bounds enclose
 abbrev pub AreFairForEach : List SideBounds → List ℕ → List ℕ → Type 0
 AreFairForEach values Xs Fs = (sides : List Side) → EncloseEach values sides → AreEachGraded values → AreFairUnits (AreEachExact values) sides Xs Fs
+
+-- the units for each share, at the ends that give the fewest
+abbrev pub ratios_for : List SideBounds → List ℕ → List ℕ
+ratios_for (value ∷ values) (X ∷ Xs) = ratio_for value X ∷ ratios_for values Xs
+ratios_for _ _ = []
 
 -- intervals as a list
 abbrev pub intervals_in : Option (ArrayVec (ℕ × ℕ)) → Intervals

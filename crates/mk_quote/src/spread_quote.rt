@@ -24,7 +24,7 @@ impl SpreadQuote {
     ghost use Rattle.std.specs.Prelude.{◌≡◌, ◌≤◌, ◌↔◌, MatchOption, IfSome, IsTrue, All, Some};
     ghost use Rattle.mk_exact.specs.Limits.{IsWithinRange};
     ghost use Rattle.mk_spread.specs.Bounds.{InsideEach};
-    ghost use Rattle.mk_quote.specs.Values.{sides_in, intervals_in, AreRightForEach, AreFairForEach};
+    ghost use Rattle.mk_quote.specs.Values.{sides_in, intervals_in, ratios_for, AreRightForEach, AreFairForEach};
     ghost use Rattle.mk_quote.specs.Questions.{spread_in};
     ghost use Rattle.mk_quote.specs.Spreads.{user_of, question_of, revision_of, sides_of, intervals_of, IsSpreadFor};
 
@@ -91,6 +91,7 @@ impl SpreadQuote {
     /// exactly inside the intervals, so none where there are more or fewer shares than values.
     pub fn judge(&self, xs: &[u32]) -> Option<ArrayVec<u64, 16>>
         ensures inside { MatchOption result (¬ InsideEach (intervals_of self.now) xs.now) (λ units. InsideEach (intervals_of self.now) xs.now) }
+        ensures ratios { IfSome result (λ units. units.items ≡ ratios_for (sides_of self.now) xs.now) }
         ensures fair { IfSome result (λ units. AreFairForEach (sides_of self.now) xs.now units.items) }
     {
         if xs.len() != self.values.len() {

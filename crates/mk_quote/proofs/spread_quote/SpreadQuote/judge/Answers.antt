@@ -1,7 +1,7 @@
 use Rattle.std.proofs.Common.{◌≡◌, ◌<◌, ◌≤◌, List, length, get_or, sym, ap, ◌∙◌, subst, arith}
 use Rattle.std.proofs.lemmas.Slice.Zip.{AllZip-long}
 use Rattle.mk_quote.specs.declared.values.ValueQuote.{ValueQuote}
-use Rattle.mk_quote.proofs.Judging.{IsTaken, inside_taken, taken_inside, units_taken, units_are_fair, outside_at, all_units}
+use Rattle.mk_quote.proofs.Judging.{IsTaken, inside_taken, taken_inside, units_taken, units_are_ratios, units_are_fair, outside_at, all_units}
 use Rattle.mk_quote.proofs.spread_quote.SpreadQuote.judge.Goals as goal
 
 pub returns-then-xs-len-clause-inside : goal.returns-then-xs-len-clause-inside
@@ -34,3 +34,11 @@ returns-clause-fair c =
     let units = c.loop-index.units.items in
     let past : length values ≤ c.loop-index.index = omega (arith, c.len.ensures.value, c.if-xs-len.false, c.loop-index-test.false) in
     units_are_fair values xs units c.args.self.now.served (all_units values xs units c.loop-index.index past c.loop-index-test.false c.loop-index.invariant.so_far)
+
+pub returns-clause-ratios : goal.returns-clause-ratios
+returns-clause-ratios c =
+    let values = c.args.self.now.values.items in
+    let xs = c.args.xs.now in
+    let units = c.loop-index.units.items in
+    let past : length values ≤ c.loop-index.index = omega (arith, c.len.ensures.value, c.if-xs-len.false, c.loop-index-test.false) in
+    units_are_ratios values xs units (all_units values xs units c.loop-index.index past c.loop-index-test.false c.loop-index.invariant.so_far)
