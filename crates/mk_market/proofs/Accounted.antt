@@ -1,69 +1,67 @@
 -- The accounts of a market's users after one more entry.
-use Rattle.std.specs.Prelude.{◌≡◌, ℕ, ◌+◌, ◌*◌, ◌<◌, List, [], ◌∷◌, ◌++◌, length, Bool, true, false, ◌||◌, None, slice_set, ◌⊎◌}
+use Rattle.std.specs.Prelude.{◌≡◌, ℕ, ◌+◌, ◌*◌, ◌<◌, List, [], ◌∷◌, ◌++◌, length, true, false, None, slice_set, ◌⊎◌}
 use Rattle.std.specs.List.{AllByRecursion}
 use Rattle.std.proofs.Common.{inl, inr, refl, sym, ap, ◌∙◌, subst, arith, eq-eqb, ne_eqb}
 use Rattle.std.proofs.lemmas.Bool.{cases_eq}
 use Rattle.std.proofs.lemmas.List.{length_push, length-set, get_or-set_same, get_or-set_other, get_or_append_left, get_or_push}
-use Rattle.std.proofs.lemmas.List.Folds.{list_any-append}
 use Rattle.mk_exact.specs.History.{Entry, Join, Deposit, Withdraw, users, deposited, withdrawn, bits_in, bits_out, join_in, is_settlement, is_settled}
+use Rattle.mk_exact.specs.Market.{Market}
 use Rattle.mk_exact.proofs.After.{deposited_more, withdrawn_more, users_kept, users_more}
 use Rattle.mk_rules.specs.Bounded.{FitsTransfer}
 use Rattle.mk_cash.specs.declared.ledger.Account.{Account}
 use Rattle.mk_cash.specs.Accounts.{account_of, empty_account}
 use Rattle.mk_market.specs.Points.{IsAccount, AreAccounts}
+use Rattle.mk_market.proofs.Appends.{not_there}
 use Rattle.mk_market.proofs.Owned.{none_moved}
 
--- where the market is unsettled, it was
-settled_before : (H : List Entry) (e : Entry) → is_settled (H ++ e ∷ []) ≡ false → is_settled H ≡ false
-settled_before H e h = at (is_settled H) _ (sym (list_any-append is_settlement H (e ∷ [])) ∙ h)
-  where
-    at : (b c : Bool) → (b || c) ≡ false → b ≡ false
-    at true c h = h
-    at false c h = refl
+module _ (market : Market) (H : List Entry) (unsettled : is_settled H ≡ false) where
+  -- an entry that is no settlement leaves the market unsettled
+  still_unsettled : (e : Entry) → is_settlement e ≡ false → is_settled (H ++ e ∷ []) ≡ true → ⊥
+  still_unsettled e other settled = let no : true ≡ false = sym settled ∙ not_there H e is_settlement other ∙ unsettled in cc no
 
-module _ (b : ℕ) (H : List Entry) where
   -- an entry that moves none of the user's bits
-  account_kept : (e : Entry) (u : ℕ) (a : Account) → bits_in u e ≡ 0 → bits_out u e ≡ 0 → IsAccount b H u a → IsAccount b (H ++ e ∷ []) u a
-  account_kept e u a ins outs old =
+  account_kept : (e : Entry) (u : ℕ) (a : Account) → is_settlement e ≡ false → bits_in u e ≡ 0 → bits_out u e ≡ 0 → IsAccount market H u a → IsAccount market (H ++ e ∷ []) u a
+  account_kept e u a other ins outs old =
       let d : deposited H u ≡ deposited (H ++ e ∷ []) u = omega (arith, ins, deposited_more H e u) in
       let w : withdrawn H u ≡ withdrawn (H ++ e ∷ []) u = omega (arith, outs, withdrawn_more H e u) in
       record {
-        paid_in = old.paid_in ∙ ap (λ (n : ℕ). b * n) d;
-        taken_out = old.taken_out ∙ ap (λ (n : ℕ). b * n) w;
-        unpaid = λ h. old.unpaid (settled_before H e h);
+        paid_in = old.paid_in ∙ ap (λ (n : ℕ). market.points_per_bit * n) d;
+        taken_out = old.taken_out ∙ ap (λ (n : ℕ). market.points_per_bit * n) w;
+        unpaid = λ h. old.unpaid unsettled;
+        paid_off = λ settled. absurd (still_unsettled e other settled);
       }
 
   -- one account changes, and the entry moves nobody else's bits
-  pub accounts_set : (e : Entry) (accounts : List Account) (user : ℕ) (new : Account) → join_in e ≡ None → user < length (users H)
+  pub accounts_set : (e : Entry) (accounts : List Account) (user : ℕ) (new : Account) → is_settlement e ≡ false → join_in e ≡ None → user < length (users H)
       → ((u : ℕ) → (u ≡ user → ⊥) → (bits_in u e ≡ 0) × (bits_out u e ≡ 0))
-      → IsAccount b (H ++ e ∷ []) user new → AreAccounts b H accounts → AreAccounts b (H ++ e ∷ []) (slice_set accounts user new)
-  accounts_set e accounts user new joins within others own old = record {
+      → IsAccount market (H ++ e ∷ []) user new → AreAccounts market H accounts → AreAccounts market (H ++ e ∷ []) (slice_set accounts user new)
+  accounts_set e accounts user new other joins within others own old = record {
     one_each = length-set accounts user new ∙ old.one_each ∙ sym (ap (λ (names : List (List ℕ)). length names) (users_kept H e joins));
     each = λ u h. at u (rw (length-set accounts user new) at h) (cases_eq u user);
   }
     where
-      at : (u : ℕ) → u < length accounts → ((u ≡ user) ⊎ (u ≡ user → ⊥)) → IsAccount b (H ++ e ∷ []) u (account_of (slice_set accounts user new) u)
-      at u h (inl same) = subst (λ (v : ℕ). IsAccount b (H ++ e ∷ []) v (account_of (slice_set accounts user new) v)) (sym same)
-          (subst (IsAccount b (H ++ e ∷ []) user) (sym (get_or-set_same accounts user new empty_account (omega (arith, within, old.one_each)))) own)
-      at u h (inr other) = subst (IsAccount b (H ++ e ∷ []) u) (sym (get_or-set_other accounts user u new empty_account other))
-          (let none = others u other in account_kept e u (account_of accounts u) (none.0) (none.1) (old.each u h))
+      at : (u : ℕ) → u < length accounts → ((u ≡ user) ⊎ (u ≡ user → ⊥)) → IsAccount market (H ++ e ∷ []) u (account_of (slice_set accounts user new) u)
+      at u h (inl same) = subst (λ (v : ℕ). IsAccount market (H ++ e ∷ []) v (account_of (slice_set accounts user new) v)) (sym same)
+          (subst (IsAccount market (H ++ e ∷ []) user) (sym (get_or-set_same accounts user new empty_account (omega (arith, within, old.one_each)))) own)
+      at u h (inr apart) = subst (IsAccount market (H ++ e ∷ []) u) (sym (get_or-set_other accounts user u new empty_account apart))
+          (let none = others u apart in account_kept e u (account_of accounts u) other (none.0) (none.1) (old.each u h))
 
   -- none does
-  pub accounts_kept : (e : Entry) (accounts : List Account) → join_in e ≡ None → ((u : ℕ) → (bits_in u e ≡ 0) × (bits_out u e ≡ 0))
-      → AreAccounts b H accounts → AreAccounts b (H ++ e ∷ []) accounts
-  accounts_kept e accounts joins others old = record {
+  pub accounts_kept : (e : Entry) (accounts : List Account) → is_settlement e ≡ false → join_in e ≡ None → ((u : ℕ) → (bits_in u e ≡ 0) × (bits_out u e ≡ 0))
+      → AreAccounts market H accounts → AreAccounts market (H ++ e ∷ []) accounts
+  accounts_kept e accounts other joins others old = record {
     one_each = old.one_each ∙ sym (ap (λ (names : List (List ℕ)). length names) (users_kept H e joins));
-    each = λ u h. let none = others u in account_kept e u (account_of accounts u) (none.0) (none.1) (old.each u h);
+    each = λ u h. let none = others u in account_kept e u (account_of accounts u) other (none.0) (none.1) (old.each u h);
   }
 
   -- bits are paid in
-  pub accounts_deposited : (accounts : List Account) (user bits points : ℕ) → user < length (users H) → points ≡ b * bits → AreAccounts b H accounts
-      → AreAccounts b (H ++ Deposit user bits ∷ []) (slice_set accounts user (let before = account_of accounts user in record before { deposited = before.deposited + points }))
+  pub accounts_deposited : (accounts : List Account) (user bits points : ℕ) → user < length (users H) → points ≡ market.points_per_bit * bits → AreAccounts market H accounts
+      → AreAccounts market (H ++ Deposit user bits ∷ []) (slice_set accounts user (let before = account_of accounts user in record before { deposited = before.deposited + points }))
   accounts_deposited accounts user bits points within worth old =
-      accounts_set (Deposit user bits) accounts user (let before = account_of accounts user in record before { deposited = before.deposited + points }) refl within
+      accounts_set (Deposit user bits) accounts user (let before = account_of accounts user in record before { deposited = before.deposited + points }) refl refl within
       (λ u other. (rw (ne_eqb user u (λ same. other (sym same))) refl, refl)) own old
     where
-      account : IsAccount b H user (account_of accounts user)
+      account : IsAccount market H user (account_of accounts user)
       account = old.each user (omega (arith, within, old.one_each))
 
       ins : bits_in user (Deposit user bits) ≡ bits
@@ -75,21 +73,22 @@ module _ (b : ℕ) (H : List Entry) where
       withdrawals : withdrawn H user ≡ withdrawn (H ++ Deposit user bits ∷ []) user
       withdrawals = omega (arith, withdrawn_more H (Deposit user bits) user)
 
-      own : IsAccount b (H ++ Deposit user bits ∷ []) user (let before = account_of accounts user in record before { deposited = before.deposited + points })
+      own : IsAccount market (H ++ Deposit user bits ∷ []) user (let before = account_of accounts user in record before { deposited = before.deposited + points })
       own = record {
         paid_in = rw (deposits, account.paid_in, worth) (omega arith);
-        taken_out = account.taken_out ∙ ap (λ (n : ℕ). b * n) withdrawals;
-        unpaid = λ h. account.unpaid (settled_before H (Deposit user bits) h);
+        taken_out = account.taken_out ∙ ap (λ (n : ℕ). market.points_per_bit * n) withdrawals;
+        unpaid = λ h. account.unpaid unsettled;
+        paid_off = λ settled. absurd (still_unsettled (Deposit user bits) refl settled);
       }
 
   -- or taken out
-  pub accounts_withdrawn : (accounts : List Account) (user bits points : ℕ) → user < length (users H) → points ≡ b * bits → AreAccounts b H accounts
-      → AreAccounts b (H ++ Withdraw user bits ∷ []) (slice_set accounts user (let before = account_of accounts user in record before { withdrawn = before.withdrawn + points }))
+  pub accounts_withdrawn : (accounts : List Account) (user bits points : ℕ) → user < length (users H) → points ≡ market.points_per_bit * bits → AreAccounts market H accounts
+      → AreAccounts market (H ++ Withdraw user bits ∷ []) (slice_set accounts user (let before = account_of accounts user in record before { withdrawn = before.withdrawn + points }))
   accounts_withdrawn accounts user bits points within worth old =
-      accounts_set (Withdraw user bits) accounts user (let before = account_of accounts user in record before { withdrawn = before.withdrawn + points }) refl within
+      accounts_set (Withdraw user bits) accounts user (let before = account_of accounts user in record before { withdrawn = before.withdrawn + points }) refl refl within
       (λ u other. (refl, rw (ne_eqb user u (λ same. other (sym same))) refl)) own old
     where
-      account : IsAccount b H user (account_of accounts user)
+      account : IsAccount market H user (account_of accounts user)
       account = old.each user (omega (arith, within, old.one_each))
 
       outs : bits_out user (Withdraw user bits) ≡ bits
@@ -101,16 +100,17 @@ module _ (b : ℕ) (H : List Entry) where
       deposits : deposited H user ≡ deposited (H ++ Withdraw user bits ∷ []) user
       deposits = omega (arith, deposited_more H (Withdraw user bits) user)
 
-      own : IsAccount b (H ++ Withdraw user bits ∷ []) user (let before = account_of accounts user in record before { withdrawn = before.withdrawn + points })
+      own : IsAccount market (H ++ Withdraw user bits ∷ []) user (let before = account_of accounts user in record before { withdrawn = before.withdrawn + points })
       own = record {
-        paid_in = account.paid_in ∙ ap (λ (n : ℕ). b * n) deposits;
+        paid_in = account.paid_in ∙ ap (λ (n : ℕ). market.points_per_bit * n) deposits;
         taken_out = rw (withdrawals, account.taken_out, worth) (omega arith);
-        unpaid = λ h. account.unpaid (settled_before H (Withdraw user bits) h);
+        unpaid = λ h. account.unpaid unsettled;
+        paid_off = λ settled. absurd (still_unsettled (Withdraw user bits) refl settled);
       }
 
   -- a user joins
-  pub accounts_joined : (accounts : List Account) (name : List ℕ) → AllByRecursion (FitsTransfer (length (users H))) H → AreAccounts b H accounts
-      → AreAccounts b (H ++ Join name ∷ []) (accounts ++ empty_account ∷ [])
+  pub accounts_joined : (accounts : List Account) (name : List ℕ) → AllByRecursion (FitsTransfer (length (users H))) H → AreAccounts market H accounts
+      → AreAccounts market (H ++ Join name ∷ []) (accounts ++ empty_account ∷ [])
   accounts_joined accounts name fits old = record {
     one_each = length_push accounts empty_account ∙ ap (λ (n : ℕ). n + 1) old.one_each ∙ sym (ap (λ (names : List (List ℕ)). length names) (users_more H name) ∙ length_push (users H) name);
     each = λ u h. at u (rw (length_push accounts empty_account) at h) (cases_eq u (length accounts));
@@ -119,11 +119,16 @@ module _ (b : ℕ) (H : List Entry) where
       moved : (deposited H (length (users H)) ≡ 0) × (withdrawn H (length (users H)) ≡ 0)
       moved = none_moved (length (users H)) H fits
 
-      newcomer : IsAccount b H (length (users H)) empty_account
-      newcomer = record { paid_in = rw (moved.0) (omega arith); taken_out = rw (moved.1) (omega arith); unpaid = λ h. refl }
+      newcomer : IsAccount market H (length (users H)) empty_account
+      newcomer = record {
+        paid_in = rw (moved.0) (omega arith);
+        taken_out = rw (moved.1) (omega arith);
+        unpaid = λ h. refl;
+        paid_off = λ settled. absurd (let no : true ≡ false = sym settled ∙ unsettled in cc no);
+      }
 
-      at : (u : ℕ) → u < length accounts + 1 → ((u ≡ length accounts) ⊎ (u ≡ length accounts → ⊥)) → IsAccount b (H ++ Join name ∷ []) u (account_of (accounts ++ empty_account ∷ []) u)
-      at u h (inl same) = subst (IsAccount b (H ++ Join name ∷ []) u) (sym (get_or_push accounts empty_account empty_account u (sym same)))
-          (account_kept (Join name) u empty_account refl refl (subst (λ (v : ℕ). IsAccount b H v empty_account) (sym (same ∙ old.one_each)) newcomer))
-      at u h (inr other) = subst (IsAccount b (H ++ Join name ∷ []) u) (sym (get_or_append_left accounts (empty_account ∷ []) empty_account u (omega (arith, h, other))))
-          (account_kept (Join name) u (account_of accounts u) refl refl (old.each u (omega (arith, h, other))))
+      at : (u : ℕ) → u < length accounts + 1 → ((u ≡ length accounts) ⊎ (u ≡ length accounts → ⊥)) → IsAccount market (H ++ Join name ∷ []) u (account_of (accounts ++ empty_account ∷ []) u)
+      at u h (inl same) = subst (IsAccount market (H ++ Join name ∷ []) u) (sym (get_or_push accounts empty_account empty_account u (sym same)))
+          (account_kept (Join name) u empty_account refl refl refl (subst (λ (v : ℕ). IsAccount market H v empty_account) (sym (same ∙ old.one_each)) newcomer))
+      at u h (inr other) = subst (IsAccount market (H ++ Join name ∷ []) u) (sym (get_or_append_left accounts (empty_account ∷ []) empty_account u (omega (arith, h, other))))
+          (account_kept (Join name) u (account_of accounts u) refl refl refl (old.each u (omega (arith, h, other))))

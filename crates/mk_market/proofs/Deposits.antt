@@ -32,7 +32,7 @@ use Rattle.mk_market.proofs.Appends.{not_there, not_found}
 use Rattle.mk_market.proofs.Growing.{kept_grown}
 use Rattle.mk_market.proofs.Owned.{names_same, quotes_same, owned_one, deposit_holding, deposit_others, few_moved}
 use Rattle.mk_market.proofs.Accounted.{accounts_deposited}
-use Rattle.mk_market.proofs.Replies.{answer_allowed}
+use Rattle.mk_market.proofs.Replies.{answer_allowed, unsettled}
 
 module _ {P A Plan : Type 0} (weights_stand : P → Meaning → Type 0) (gains_stand : A → Meaning → Type 0) (plan_for : Plan → List Variable → GivenTree → Type 0)
     (file : MarketFile) (prices : P) (plan : Plan) (members : List (Member A Plan)) (accounts : List Account) (journal : JournalOf) (payments : Option (List Payment))
@@ -46,7 +46,7 @@ module _ {P A Plan : Type 0} (weights_stand : P → Meaning → Type 0) (gains_s
 
   pub points_fit : (account_of accounts user).deposited + file.points_per_bit * bits < number_limit
   points_fit =
-      let account : IsAccount file.points_per_bit journal.history user (account_of accounts user) = kept.accounts_kept.each user (omega (arith, is_user.within, kept.accounts_kept.one_each)) in
+      let account : IsAccount (market_of file) journal.history user (account_of accounts user) = kept.accounts_kept.each user (omega (arith, is_user.within, kept.accounts_kept.one_each)) in
       let most : file.points_per_bit * (deposited journal.history user + bits) ≤ 1000000 * 65536000 = mul-le-mul file.points_most bits_fit in
       omega (arith, account.paid_in, most)
 
@@ -85,7 +85,7 @@ module _ {P A Plan : Type 0} (weights_stand : P → Meaning → Type 0) (gains_s
               (subst (Owns gains_stand now) (sym (deposit_holding file.net file.tree H user bits)) (deposits (holding_of file.net file.tree H user) (kept.owns user before there) bits_fit))
               (deposit_others file.net file.tree H user bits);
           none_quoted = λ u quote at. subst (λ (qs : List (Option Quote)). slice_get qs u ≡ Some (Some quote)) same_quotes at;
-          accounts = rw paid (accounts_deposited file.points_per_bit H accounts user bits (file.points_per_bit * bits) is_user.within refl kept.accounts_kept);
+          accounts = rw paid (accounts_deposited (market_of file) H (unsettled (market_of file) H (Deposit name bits) none) accounts user bits (file.points_per_bit * bits) is_user.within refl kept.accounts_kept);
           room = λ unsettled. kept.room (sym (not_there H (Deposits user bits) is_settlement refl) ∙ unsettled);
         })
 

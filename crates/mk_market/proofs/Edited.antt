@@ -18,7 +18,7 @@ use Rattle.mk_file.specs.MarketOf.{market_of}
 use Rattle.mk_engine.specs.Meaning.{Meaning, RatioOf, with_factor}
 use Rattle.mk_beliefs.specs.Meanings.{weights_of}
 use Rattle.mk_assets.specs.declared.assets.Assets.{Assets}
-use Rattle.mk_assets.specs.Holdings.{Holding, Owns}
+use Rattle.mk_assets.specs.Holdings.{Holding}
 use Rattle.mk_cash.specs.declared.ledger.Account.{Account}
 use Rattle.mk_command.specs.declared.command.Command.{Command}
 use Rattle.mk_command.specs.declared.command.Command.TheVariants.{Limits, Edit}
@@ -30,10 +30,10 @@ use Rattle.mk_reply.specs.declared.refusal.Refusal.{Refusal}
 use Rattle.mk_reply.specs.declared.refusal.Refusal.TheVariants.{Beyond}
 use Rattle.mk_reply.specs.declared.reply.Reply.{Reply}
 use Rattle.mk_reply.specs.declared.reply.Reply.TheVariants.{Limits as Limited, Traded, Refused}
-use Rattle.mk_rules.specs.Answers.{IsAnswer, IsAllowed, IsLimits, IsTrade, IsBeyond, IsJudged, IsJudgedAfresh, with_limits}
+use Rattle.mk_rules.specs.Answers.{IsLimits, IsTrade, IsBeyond, IsJudged, IsJudgedAfresh, with_limits}
 use Rattle.mk_rules.specs.Refusals.{question_named, user_number, first_refusal}
 use Rattle.mk_rules.specs.Quotes as rules
-use Rattle.mk_rules.specs.Transcript.{Standing, OfCommand, IsAllowedFor, after}
+use Rattle.mk_rules.specs.Transcript.{OfCommand, IsAllowedFor, after}
 use Rattle.mk_rules.specs.Standings.{IsReady}
 use Rattle.mk_rules.proofs.Ready.{ready_keeps, edit_refused}
 use Rattle.mk_rules.proofs.Quoted.{same_question_is}
@@ -49,7 +49,7 @@ use Rattle.mk_market.specs.inner.Quoting.{OwnsAt, IsQuoteOf}
 use Rattle.mk_market.proofs.Accounted.{accounts_kept}
 use Rattle.mk_market.proofs.Appends.{not_there, not_found}
 use Rattle.mk_market.proofs.Growing.{is_open, kept_grown}
-use Rattle.mk_market.proofs.Replies.{answer_allowed, refusal_allowed, none_appended}
+use Rattle.mk_market.proofs.Replies.{answer_allowed, refusal_allowed, none_appended, unsettled}
 use Rattle.mk_market.proofs.Lent.{in_range, read_set, names_beside, assets_beside, quotes_set}
 
 -- ---- a refusal
@@ -76,7 +76,7 @@ edit_refused_answered old known same name q X seen why (Err found) e refusal =
 
 module _ (network : List Variable) (tree : GivenTree) (H : List Entry) (u : ℕ) (asked : Asked) (quote : Quote) (is : IsQuoteOf network tree H u asked quote) where
   pub kept_quote : IsKeptQuote network tree H u quote
-  kept_quote = record { not_later = omega (arith, is.at_present); current = λ same. is.current }
+  kept_quote = record { same_user = is.same_user; not_later = omega (arith, is.at_present); current = λ same. is.current }
 
   -- as the rules see it
   pub quoted_is : quoted quote ≡ record { says = rules.EditLimits asked (limits_of quote); at = revision H }
@@ -348,6 +348,6 @@ module _ {P A Plan : Type 0} (weights_stand : P → Meaning → Type 0) (gains_s
           names = names ∙ kept.named ∙ sym (not_found H (Trade user (ratio_in file.net asked hit miss)) join_in refl);
           owned = owned;
           none_quoted = λ u quote at. subst (λ (qs : List (Option Quote)). slice_get qs u ≡ Some (Some quote)) same_quotes at;
-          accounts = accounts_kept file.points_per_bit H (Trade user (ratio_in file.net asked hit miss)) accounts refl (λ u. (refl, refl)) kept.accounts_kept;
+          accounts = accounts_kept (market_of file) H (unsettled (market_of file) H (Edit name q X seen) none) (Trade user (ratio_in file.net asked hit miss)) accounts refl refl (λ u. (refl, refl)) kept.accounts_kept;
           room = λ unsettled. kept.room (sym (not_there H (Trade user (ratio_in file.net asked hit miss)) is_settlement refl) ∙ unsettled);
         })

@@ -44,7 +44,7 @@ pub quote_later : (network : List Variable) (tree : GivenTree) (H : List Entry) 
     → IsKeptQuote network tree H u quote → IsKeptQuote network tree (H ++ e ∷ []) u quote
 quote_later network tree H e u quote kept =
     let longer : length (H ++ e ∷ []) ≡ length H + 1 = length_push H e in
-    record { not_later = omega (arith, kept.not_later); current = λ same. absurd (omega (arith, kept.not_later)) }
+    record { same_user = kept.same_user; not_later = omega (arith, kept.not_later); current = λ same. absurd (omega (arith, kept.not_later)) }
 
 module _ {P A Plan : Type 0} (weights_stand : P → Meaning → Type 0) (gains_stand : A → Meaning → Type 0) (plan_for : Plan → List Variable → GivenTree → Type 0) where
   -- a market that is kept is open
@@ -68,7 +68,7 @@ module _ {P A Plan : Type 0} (weights_stand : P → Meaning → Type 0) (gains_s
     pub owned : (u : ℕ) (assets : Assets A Plan) → slice_get (assets_of new_members) u ≡ Some assets
         → Owns gains_stand assets (holding_of file.net file.tree (journal.history ++ e ∷ []) u)
     pub none_quoted : (u : ℕ) (quote : Quote) → slice_get (quotes_of new_members) u ≡ Some (Some quote) → slice_get (quotes_of members) u ≡ Some (Some quote)
-    pub accounts : AreAccounts file.points_per_bit (journal.history ++ e ∷ []) new_accounts
+    pub accounts : AreAccounts (market_of file) (journal.history ++ e ∷ []) new_accounts
     pub room : is_settled (journal.history ++ e ∷ []) ≡ false → new_payments ≡ Some []
 
   -- an allowed reply that appends an entry leads from a market that is kept to one that is
@@ -94,7 +94,7 @@ module _ {P A Plan : Type 0} (weights_stand : P → Meaning → Type 0) (gains_s
         owns = λ u assets at. subst (λ (H : List Entry). Owns gains_stand assets (holding_of file.net file.tree H u)) back (are.owned u assets at);
         quotes_kept = λ u quote at. subst (λ (H : List Entry). IsKeptQuote file.net file.tree H u quote) back
             (quote_later file.net file.tree journal.history e u quote (kept.quotes_kept u quote (are.none_quoted u quote at)));
-        accounts_kept = subst (λ (H : List Entry). AreAccounts file.points_per_bit H new_accounts) back are.accounts;
+        accounts_kept = subst (λ (H : List Entry). AreAccounts (market_of file) H new_accounts) back are.accounts;
         ready = subst (IsReady market) (sym next) (ready_keeps market old (OfCommand command) reply kept.ready allowed);
         bounded = subst (λ (now : Standing). IsBounded market now.history) (sym next)
             (names_keep_bounds market old (OfCommand command) reply (market_is file kept.legal) joins kept.bounded allowed);

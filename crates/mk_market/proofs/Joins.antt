@@ -31,7 +31,7 @@ use Rattle.mk_market.proofs.Appends.{not_there}
 use Rattle.mk_market.proofs.Growing.{kept_grown}
 use Rattle.mk_market.proofs.Owned.{owned_joined, none_quoted_joined}
 use Rattle.mk_market.proofs.Accounted.{accounts_joined}
-use Rattle.mk_market.proofs.Replies.{answer_allowed, refused_stays}
+use Rattle.mk_market.proofs.Replies.{answer_allowed, refused_stays, unsettled}
 
 -- where memory is wanting nothing changes
 pub memory_answered : (now : Trading) (name : List ℕ) → None ≡ first_refusal now.market now.standing.history (User name) → IsAnswered now now (User name) (Refused Memory)
@@ -82,6 +82,6 @@ module _ {P A Plan : Type 0} (weights_stand : P → Meaning → Type 0) (gains_s
           owned = rw more (owned_joined file.net file.tree H name gains_stand members assets kept.named kept.ready.stands.proper kept.bounded.transfers_fit kept.owns
               (subst (λ (ps : List Pair). Owns gains_stand assets (opening_holding file.net file.tree ps)) known_is owns));
           none_quoted = rw more (none_quoted_joined file.net file.tree H name members assets);
-          accounts = rw opened (accounts_joined file.points_per_bit H accounts name kept.bounded.transfers_fit kept.accounts_kept);
+          accounts = rw opened (accounts_joined (market_of file) H (unsettled (market_of file) H (User name) none) accounts name kept.bounded.transfers_fit kept.accounts_kept);
           room = λ unsettled. kept.room (sym (not_there H (Join name) is_settlement refl) ∙ unsettled);
         })

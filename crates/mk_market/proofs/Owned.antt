@@ -41,7 +41,7 @@ set_cases (a ∷ xs) (suc i) (suc k) y x e = later (set_cases xs i k y x e)
     later (inr h) = inr (λ same. h.0 (omega (arith, same)), h.1)
 
 -- and after a push
-push_cases : {X : Type 0} (xs : List X) (k : ℕ) (y x : X) → slice_get (xs ++ y ∷ []) k ≡ Some x → ((k ≡ length xs) × (y ≡ x)) ⊎ (slice_get xs k ≡ Some x)
+pub push_cases : {X : Type 0} (xs : List X) (k : ℕ) (y x : X) → slice_get (xs ++ y ∷ []) k ≡ Some x → ((k ≡ length xs) × (y ≡ x)) ⊎ (slice_get xs k ≡ Some x)
 push_cases [] zero y x e = inl (refl, cc)
 push_cases [] (suc k) y x e = cc
 push_cases (a ∷ xs) zero y x e = inr e

@@ -1,9 +1,10 @@
 -- Users are paid, one after another.
-use Rattle.std.specs.Prelude.{◌≡◌, ℕ, ◌+◌, ◌<◌, ◌≤◌, ◌^◌, zero, suc, List, [], ◌∷◌, ◌++◌, length, take, Option, Some, None, slice_get, slice_set, ◌⊎◌, ⊤}
+use Rattle.std.specs.Prelude.{◌≡◌, ℕ, ◌+◌, ◌<◌, ◌≤◌, ◌^◌, zero, suc, List, [], ◌∷◌, ◌++◌, length, take, Some, slice_get, slice_set, ◌⊎◌}
 use Rattle.std.specs.List.{AllZip, enumerate_from}
 use Rattle.std.proofs.Common.{refl, sym, ap, ap₂, add-zero, ◌∙◌, subst, inl, inr, arith}
 use Rattle.std.proofs.lemmas.Bool.{cases_eq}
 use Rattle.std.proofs.lemmas.List.{length-map, length_push, length-set, get_or-set_same, get_or-set_other}
+use Rattle.std.proofs.lemmas.Option.{slice_get_within}
 use Rattle.mk_cash.specs.declared.ledger.Account.{Account}
 use Rattle.mk_cash.specs.Accounts.{account_of, empty_account}
 use Rattle.mk_engine.specs.Meaning.{Meaning}
@@ -25,9 +26,10 @@ use Rattle.mk_rules.specs.Answers.{IsPayment}
 use Rattle.mk_answers.specs.Open.{IsOpen, IsFactorFor}
 use Rattle.mk_market.specs.declared.users.Member.{Member}
 use Rattle.mk_market.specs.Members.{names_of, quotes_of}
-use Rattle.mk_market.specs.inner.Paying.{HaveSameTransfers}
+use Rattle.mk_market.specs.inner.Paying.{ArePaid}
 use Rattle.mk_market.specs.inner.Quoting.{OwnsAt}
 use Rattle.mk_market.proofs.Lent.{there}
+use Rattle.mk_market.proofs.Owned.{push_cases}
 
 -- ---- one user
 
@@ -79,7 +81,7 @@ module _ {A Plan : Type 0} (gains_stand : A → Meaning → Type 0) (network : L
     pub names : names_of new ≡ names_of old
     pub quotes : quotes_of new ≡ quotes_of old
     pub owned : (u : ℕ) (h : Holding) → OwnsAt gains_stand old u h → OwnsAt gains_stand new u h
-    pub transfers : HaveSameTransfers accounts ledger
+    pub entered : ArePaid accounts ledger payments
     pub unpaid : (u : ℕ) → n ≤ u → (account_of ledger u).paid ≡ (account_of accounts u).paid
     pub made : length payments ≡ n
     pub paid : (state : List ℕ) → possible_states network H always ≡ state ∷ [] → AllZip (IsPayment H points state) (enumerate_from 0 (take n (names_of old))) payments
@@ -94,10 +96,11 @@ module _ {A Plan : Type 0} (gains_stand : A → Meaning → Type 0) (network : L
     names = same_names ∙ so_far.names;
     quotes = same_quotes ∙ so_far.quotes;
     owned = λ u h owns. still u h (so_far.owned u h owns);
-    transfers = record {
-      count = ap (λ (xs : List Account). length xs) entered ∙ length-set ledger n entry ∙ so_far.transfers.count;
-      paid_in = λ u. field_same (λ (a : Account). a.deposited) refl u ∙ so_far.transfers.paid_in u;
-      taken_out = λ u. field_same (λ (a : Account). a.withdrawn) refl u ∙ so_far.transfers.taken_out u;
+    entered = record {
+      count = ap (λ (xs : List Account). length xs) entered ∙ length-set ledger n entry ∙ so_far.entered.count;
+      paid = λ u given at. now_entered u given (push_cases payments u payment given (subst (λ (ps : List Payment). slice_get ps u ≡ Some given) pushed at));
+      paid_in = λ u. field_same (λ (a : Account). a.deposited) refl u ∙ so_far.entered.paid_in u;
+      taken_out = λ u. field_same (λ (a : Account). a.withdrawn) refl u ∙ so_far.entered.taken_out u;
     };
     unpaid = λ u later. ap (λ (xs : List Account). (account_of xs u).paid) entered
         ∙ ap (λ (a : Account). a.paid) (get_or-set_other ledger n u entry empty_account (λ same. absurd (omega (arith, same, later)))) ∙ so_far.unpaid u (omega (arith, later));
@@ -109,7 +112,7 @@ module _ {A Plan : Type 0} (gains_stand : A → Meaning → Type 0) (network : L
       entry = let account = account_of ledger n in record account { paid = account.paid + payment.paid }
 
       place : n < length ledger
-      place = omega (arith, within, one_each, so_far.transfers.count)
+      place = omega (arith, within, one_each, so_far.entered.count)
 
       field_same : (f : Account → ℕ) → f entry ≡ f (account_of ledger n) → (u : ℕ) → f (account_of new_ledger u) ≡ f (account_of ledger u)
       field_same f same u = ap (λ (xs : List Account). f (account_of xs u)) entered ∙ at (cases_eq u n)
@@ -119,6 +122,18 @@ module _ {A Plan : Type 0} (gains_stand : A → Meaning → Type 0) (network : L
               ap (λ (k : ℕ). f (account_of (slice_set ledger n entry) k)) e ∙ ap f (get_or-set_same ledger n entry empty_account place) ∙ same
               ∙ ap (λ (k : ℕ). f (account_of ledger k)) (sym e)
           at (inr other) = ap f (get_or-set_other ledger n u entry empty_account other)
+
+      now_entered : (u : ℕ) (given : Payment) → ((u ≡ length payments) × (payment ≡ given)) ⊎ (slice_get payments u ≡ Some given)
+          → (account_of new_ledger u).paid ≡ (account_of accounts u).paid + given.paid
+      now_entered u given (inl p) =
+          let here : u ≡ n = p.0 ∙ so_far.made in
+          subst (λ (v : ℕ). (account_of new_ledger v).paid ≡ (account_of accounts v).paid + given.paid) (sym here)
+          (ap (λ (xs : List Account). (account_of xs n).paid) entered ∙ ap (λ (a : Account). a.paid) (get_or-set_same ledger n entry empty_account place)
+          ∙ ap₂ (λ (k : ℕ) (now : Payment). k + now.paid) (so_far.unpaid n (omega arith)) (p.1))
+      now_entered u given (inr at) =
+          let before : u < length payments = slice_get_within payments u given at in
+          ap (λ (xs : List Account). (account_of xs u).paid) entered
+          ∙ ap (λ (a : Account). a.paid) (get_or-set_other ledger n u entry empty_account (λ same. absurd (omega (arith, same, before, so_far.made)))) ∙ so_far.entered.paid u given at
 
       now_paid : (state : List ℕ) → possible_states network H always ≡ state ∷ [] → AllZip (IsPayment H points state) (enumerate_from 0 (take (n + 1) (names_of old))) new_payments
       now_paid state one =

@@ -1,7 +1,8 @@
 -- Replies that a market allows, and those that leave its standing.
-use Rattle.std.specs.Prelude.{◌≡◌, List, [], ◌∷◌, ◌++◌, Option, Some, None, MatchOption, Result, Ok, Err, IsErrAnd}
+use Rattle.std.specs.Prelude.{◌≡◌, List, [], ◌∷◌, ◌++◌, Bool, true, false, Option, Some, None, MatchOption, Result, Ok, Err, IsErrAnd}
 use Rattle.std.proofs.Common.{refl, sym, ap, ◌∙◌, subst, append-nil}
-use Rattle.mk_exact.specs.History.{Entry}
+use Rattle.mk_net.specs.Firsts.{fault_if, or_else}
+use Rattle.mk_exact.specs.History.{Entry, is_settled}
 use Rattle.mk_exact.specs.Market.{Market}
 use Rattle.mk_command.specs.declared.command.Command.{Command}
 use Rattle.mk_command.specs.declared.command.Command.TheVariants.{User, Deposit, Withdraw, Price, Limits, Edit, Worst, Resolve, Settle}
@@ -65,3 +66,19 @@ answered_refused old known same command other why (Ok reply) e refusal = absurd 
 answered_refused old known same command other why (Err found) e refusal =
     subst (λ (w : Refusal). IsAnswered old old command (Refused w)) (sym e)
     (subst (λ (t : Trading). IsAnswered t t command (Refused why)) same (refused_answered known command why other refusal))
+
+-- where no refusal meets a command the market is unsettled
+unsettled_first : (b : Bool) (why : Refusal) (later : Option Refusal) → None ≡ or_else (fault_if b why) later → b ≡ false
+unsettled_first true why later none = absurd (cc)
+unsettled_first false why later none = refl
+
+pub unsettled : (market : Market) (H : List Entry) (command : Command) → None ≡ first_refusal market H command → is_settled H ≡ false
+unsettled market H (User u) none = unsettled_first (is_settled H) _ _ none
+unsettled market H (Deposit u bits) none = unsettled_first (is_settled H) _ _ none
+unsettled market H (Withdraw u bits) none = unsettled_first (is_settled H) _ _ none
+unsettled market H (Price q) none = unsettled_first (is_settled H) _ _ none
+unsettled market H (Limits u q) none = unsettled_first (is_settled H) _ _ none
+unsettled market H (Edit u q X seen) none = unsettled_first (is_settled H) _ _ none
+unsettled market H (Worst u) none = unsettled_first (is_settled H) _ _ none
+unsettled market H (Resolve p) none = unsettled_first (is_settled H) _ _ none
+unsettled market H Settle none = unsettled_first (is_settled H) _ _ none

@@ -1,5 +1,5 @@
 -- A variable is resolved.
-use Rattle.std.specs.Prelude.{◌≡◌, ℕ, ◌+◌, ◌<◌, ◌≤◌, List, [], ◌∷◌, ◌++◌, map, length, Option, Some, None, option_map, option_to_list, slice_get}
+use Rattle.std.specs.Prelude.{◌≡◌, ℕ, ◌+◌, ◌<◌, List, [], ◌∷◌, ◌++◌, map, length, Option, Some, None, option_map, option_to_list, slice_get}
 use Rattle.std.proofs.Common.{refl, sym, ap, ap₂, ◌∙◌, subst, arith, add-zero}
 use Rattle.std.proofs.lemmas.List.{length_push}
 use Rattle.mk_net.specs.declared.words.Pair.{Pair}
@@ -7,7 +7,7 @@ use Rattle.mk_net.specs.declared.words.PairText.{PairText}
 use Rattle.mk_net.specs.Bounds.{max_variables}
 use Rattle.mk_net.specs.Named.{pair_named}
 use Rattle.mk_net.specs.Network.{Variable}
-use Rattle.mk_exact.specs.History.{Entry, Resolve as Resolves, join_in, users, resolutions, deposited, withdrawn, revision, is_settlement}
+use Rattle.mk_exact.specs.History.{Entry, Resolve as Resolves, join_in, resolutions, deposited, withdrawn, revision, is_settlement}
 use Rattle.mk_exact.specs.Proper.{IsProper}
 use Rattle.mk_exact.proofs.After.{resolutions_more}
 use Rattle.mk_tree.specs.Given.{GivenTree}
@@ -15,7 +15,6 @@ use Rattle.mk_file.specs.declared.market_file.MarketFile.{MarketFile}
 use Rattle.mk_file.specs.MarketOf.{market_of}
 use Rattle.mk_engine.specs.Meaning.{Meaning, with_known}
 use Rattle.mk_beliefs.specs.Meanings.{gains_of}
-use Rattle.mk_assets.specs.declared.assets.Assets.{Assets}
 use Rattle.mk_assets.specs.Holdings.{Holding, Owns, with_known_pair}
 use Rattle.mk_cash.specs.declared.ledger.Account.{Account}
 use Rattle.mk_quote.specs.declared.quote.Quote.{Quote}
@@ -24,7 +23,7 @@ use Rattle.mk_reply.specs.declared.payments.Payment.{Payment}
 use Rattle.mk_reply.specs.declared.reply.Reply.{Reply}
 use Rattle.mk_reply.specs.declared.reply.Reply.TheVariants.{Resolved}
 use Rattle.mk_rules.specs.Refusals.{first_refusal}
-use Rattle.mk_rules.specs.Transcript.{Standing, OfCommand, IsAllowedFor, after}
+use Rattle.mk_rules.specs.Transcript.{OfCommand, IsAllowedFor, after}
 use Rattle.mk_rules.proofs.Keeps.{allowed_keeps}
 use Rattle.mk_rules.proofs.Revisions.{few_resolutions}
 use Rattle.mk_answers.specs.Open.{holding_of}
@@ -38,7 +37,7 @@ use Rattle.mk_market.proofs.Accounted.{accounts_kept}
 use Rattle.mk_market.proofs.Appends.{not_there, not_found}
 use Rattle.mk_market.proofs.Growing.{kept_grown}
 use Rattle.mk_market.proofs.Owned.{holding_grows}
-use Rattle.mk_market.proofs.Replies.{answer_allowed}
+use Rattle.mk_market.proofs.Replies.{answer_allowed, unsettled}
 
 -- what users hold then
 told_holding : (network : List Variable) (tree : GivenTree) (H : List Entry) (pair : Pair) (u : ℕ)
@@ -93,6 +92,6 @@ module _ {P A Plan : Type 0} (weights_stand : P → Meaning → Type 0) (gains_s
           names = names ∙ kept.named ∙ sym (not_found H (Resolves pair) join_in refl);
           owned = λ u assets at. subst (Owns gains_stand assets) (sym (told_holding file.net file.tree H pair u)) (told u (holding_of file.net file.tree H u) (kept.owns u) assets at);
           none_quoted = λ u quote at. subst (λ (qs : List (Option Quote)). slice_get qs u ≡ Some (Some quote)) same_quotes at;
-          accounts = accounts_kept file.points_per_bit H (Resolves pair) accounts refl (λ u. (refl, refl)) kept.accounts_kept;
+          accounts = accounts_kept (market_of file) H (unsettled (market_of file) H (Resolve words) none) (Resolves pair) accounts refl refl (λ u. (refl, refl)) kept.accounts_kept;
           room = λ unsettled. kept.room (sym (not_there H (Resolves pair) is_settlement refl) ∙ unsettled);
         })

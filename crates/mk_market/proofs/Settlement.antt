@@ -1,20 +1,24 @@
 -- The market is settled.
-use Rattle.std.specs.Prelude.{◌≡◌, ℕ, ◌+◌, ◌*◌, ◌<◌, List, [], ◌∷◌, ◌++◌, map, length, true, false, Option, Some, None, option_map, slice_get}
+use Rattle.std.specs.Prelude.{◌≡◌, ℕ, ◌+◌, ◌*◌, ◌<◌, zero, suc, ◌&&◌, List, [], ◌∷◌, ◌++◌, map, filter, length, true, false, Option, Some, None, option_map, slice_get}
 use Rattle.std.specs.List.{AllZip, enumerate_from}
-use Rattle.std.proofs.Common.{refl, sym, ap, ap₂, ◌∙◌, subst, arith}
+use Rattle.std.proofs.Common.{refl, sym, ap, ap₂, ◌∙◌, subst, arith, add-zero}
 use Rattle.std.proofs.lemmas.List.{length_push}
 use Rattle.mk_net.specs.Network.{Variable}
-use Rattle.mk_exact.specs.Events.{always}
+use Rattle.mk_net.specs.declared.words.Pair.{Pair}
+use Rattle.mk_exact.specs.Cash.{CoversCash}
+use Rattle.mk_exact.specs.Events.{always, holds}
 use Rattle.mk_exact.specs.Existing.{HasOutcome}
-use Rattle.mk_exact.specs.History.{Entry, Settle as Settles, join_in, users, deposited, withdrawn, revision, is_settlement, is_settled}
+use Rattle.mk_exact.specs.Factors.{Fraction, factor}
+use Rattle.mk_exact.specs.InitialWeight.{all_states}
+use Rattle.mk_exact.specs.Market.{Market, network_of}
+use Rattle.mk_exact.specs.History.{Entry, Settle as Settles, join_in, users, revision, is_settlement, is_settled}
 use Rattle.mk_exact.specs.Weight.{possible_states}
-use Rattle.mk_exact.proofs.After.{deposited_kept, withdrawn_kept, users_kept}
+use Rattle.mk_exact.proofs.After.{deposited_kept, withdrawn_kept, users_kept, resolutions_kept, trades_of_kept, factor_kept}
 use Rattle.mk_exact.proofs.ExistOutcome.{outcome_exists}
 use Rattle.mk_tree.specs.Given.{GivenTree}
 use Rattle.mk_file.specs.declared.market_file.MarketFile.{MarketFile}
 use Rattle.mk_file.specs.MarketOf.{market_of}
 use Rattle.mk_engine.specs.Meaning.{Meaning}
-use Rattle.mk_assets.specs.declared.assets.Assets.{Assets}
 use Rattle.mk_assets.specs.Holdings.{Holding, Owns}
 use Rattle.mk_cash.specs.declared.ledger.Account.{Account}
 use Rattle.mk_cash.specs.Accounts.{account_of}
@@ -24,15 +28,15 @@ use Rattle.mk_reply.specs.declared.payments.Payment.{Payment}
 use Rattle.mk_reply.specs.declared.reply.Reply.TheVariants.{Settled}
 use Rattle.mk_rules.specs.Answers.{IsPayment, IsSettlement}
 use Rattle.mk_rules.specs.Refusals.{first_refusal}
-use Rattle.mk_rules.specs.Transcript.{Standing, OfCommand, IsAllowedFor, after}
+use Rattle.mk_rules.specs.Transcript.{OfCommand, IsAllowedFor, after}
 use Rattle.mk_answers.specs.Open.{holding_of}
 use Rattle.mk_market.specs.declared.users.Member.{Member}
 use Rattle.mk_market.specs.Journals.{JournalOf}
 use Rattle.mk_market.specs.Members.{names_of, quotes_of}
-use Rattle.mk_market.specs.Points.{AreAccounts}
+use Rattle.mk_market.specs.Points.{IsPaidOff, AreAccounts}
 use Rattle.mk_market.specs.Refused.{CanBeSettled}
 use Rattle.mk_market.specs.inner.Keeping.{quoted, standing_of, IsKept}
-use Rattle.mk_market.specs.inner.Paying.{HaveSameTransfers}
+use Rattle.mk_market.specs.inner.Paying.{ArePaid}
 use Rattle.mk_market.specs.inner.Quoting.{OwnsAt}
 use Rattle.mk_market.proofs.Appends.{there, not_found}
 use Rattle.mk_market.proofs.Growing.{kept_grown}
@@ -42,18 +46,48 @@ use Rattle.mk_market.proofs.Replies.{answer_allowed}
 settled_now : (H : List Entry) → is_settled (H ++ Settles ∷ []) ≡ false → ⊥
 settled_now H h = let yes : true ≡ false = sym (there H Settles is_settlement refl) ∙ h in cc yes
 
--- payments leave what went in and out
-accounts_settled : (b : ℕ) (H : List Entry) (old new : List Account) → AreAccounts b H old → HaveSameTransfers old new → AreAccounts b (H ++ Settles ∷ []) new
-accounts_settled b H old new are same = record {
-  one_each = same.count ∙ are.one_each ∙ sym (ap (λ (names : List (List ℕ)). length names) (users_kept H Settles refl));
-  each = λ u within.
-      let before = are.each u (omega (arith, within, same.count)) in
-      record {
-        paid_in = same.paid_in u ∙ before.paid_in ∙ ap (λ (n : ℕ). b * n) (sym (deposited_kept H Settles u refl));
-        taken_out = same.taken_out u ∙ before.taken_out ∙ ap (λ (n : ℕ). b * n) (sym (withdrawn_kept H Settles u refl));
-        unpaid = λ unsettled. absurd (settled_now H unsettled);
-      };
-}
+-- where there is one payment for each name, there is one at each place
+payment_at : {A B : Type 0} (R : ℕ × A → B → Type 0) (names : List A) (pays : List B) (m u : ℕ) → AllZip R (enumerate_from m names) pays → u < length names
+    → (name : A) × (pay : B) × (slice_get pays u ≡ Some pay) × R (m + u, name) pay
+payment_at R [] pays m u h l = absurd (omega (arith, l))
+payment_at R (x ∷ xs) [] m u h l = absurd h
+payment_at R (x ∷ xs) (p ∷ ps) m zero h l = (x, p, refl, subst (λ (k : ℕ). R (k, x) p) (sym (add-zero m)) (h.0))
+payment_at R (x ∷ xs) (p ∷ ps) m (suc u) h l =
+    let later = payment_at R xs ps (m + 1) u (h.1) (omega (arith, l)) in
+    let same : m + 1 + u ≡ m + suc u = omega arith in
+    (later.0, later.1, later.2, subst (λ (k : ℕ). R (k, later.0) (later.1)) same (later.3))
+
+module _ (market : Market) (H : List Entry) (state : List ℕ) (one : possible_states (network_of market H) H always ≡ state ∷ []) (pays : List Payment)
+    (paid : AllZip (IsPayment H market.points_per_bit state) (enumerate_from 0 (users H)) pays) where
+  -- a user who was paid as it is printed is paid off
+  is_paid_off : (u : ℕ) (name : List ℕ) (payment : Payment) (points : ℕ) → points ≡ payment.paid → IsPayment H market.points_per_bit state (u, name) payment
+      → IsPaidOff market (H ++ Settles ∷ []) u points
+  is_paid_off u name payment points printed is = record {
+    state = state;
+    one_state = ap (λ (ps : List Pair). filter (λ s. holds ps s && always s) (all_states (network_of market H))) (resolutions_kept H Settles refl) ∙ one;
+    high = payment.high;
+    covers = subst (λ (low : ℕ). CoversCash (factor (H ++ Settles ∷ []) u state) market.points_per_bit low payment.high) (sym (printed ∙ is.low_end))
+        (subst (λ (q : Fraction). CoversCash q market.points_per_bit payment.low payment.high)
+        (sym (factor_kept H Settles u state (trades_of_kept H Settles u refl) refl refl)) is.covers);
+  }
+
+  -- payments that are entered leave what went in and out
+  accounts_settled : (old new : List Account) → is_settled H ≡ false → AreAccounts market H old → ArePaid old new pays → AreAccounts market (H ++ Settles ∷ []) new
+  accounts_settled old new unsettled are entered = record {
+    one_each = entered.count ∙ are.one_each ∙ sym (ap (λ (names : List (List ℕ)). length names) (users_kept H Settles refl));
+    each = λ u within.
+        let before = are.each u (omega (arith, within, entered.count)) in
+        let found = payment_at (IsPayment H market.points_per_bit state) (users H) pays 0 u paid (omega (arith, within, entered.count, are.one_each)) in
+        let same : 0 + u ≡ u = omega arith in
+        let printed : (account_of new u).paid ≡ (found.1).paid = omega (arith, entered.paid u (found.1) (found.2), before.unpaid unsettled) in
+        record {
+          paid_in = entered.paid_in u ∙ before.paid_in ∙ ap (λ (n : ℕ). market.points_per_bit * n) (sym (deposited_kept H Settles u refl));
+          taken_out = entered.taken_out u ∙ before.taken_out ∙ ap (λ (n : ℕ). market.points_per_bit * n) (sym (withdrawn_kept H Settles u refl));
+          unpaid = λ still. absurd (settled_now H still);
+          paid_off = λ _. is_paid_off u (found.0) (found.1) (account_of new u).paid printed
+              (subst (λ (k : ℕ). IsPayment H market.points_per_bit state (k, found.0) (found.1)) same (found.3));
+        };
+  }
 
 module _ {P A Plan : Type 0} (weights_stand : P → Meaning → Type 0) (gains_stand : A → Meaning → Type 0) (plan_for : Plan → List Variable → GivenTree → Type 0)
     (file : MarketFile) (prices : P) (plan : Plan) (members : List (Member A Plan)) (accounts : List Account) (journal : JournalOf) (payments : Option (List Payment))
@@ -64,16 +98,22 @@ module _ {P A Plan : Type 0} (weights_stand : P → Meaning → Type 0) (gains_s
     (paid : (state : List ℕ) → possible_states file.net journal.history always ≡ state ∷ []
     → AllZip (IsPayment journal.history file.points_per_bit state) (enumerate_from 0 (names_of members)) pays)
     (at : ℕ) (now : at ≡ revision new_journal.history) where
+  -- one state is left, and the payments are what the factors there are worth
+  outcome : HasOutcome file.net journal.history
+  outcome = outcome_exists file.net journal.history kept.legal kept.ready.stands.proper kept.ready.stands.sound can.resolved
+
+  paid_there : AllZip (IsPayment journal.history file.points_per_bit outcome.state) (enumerate_from 0 (users journal.history)) pays
+  paid_there =
+      subst (λ (names : List (List ℕ)). AllZip (IsPayment journal.history file.points_per_bit outcome.state) (enumerate_from 0 names) pays) kept.named (paid outcome.state outcome.one_state)
+
   settlement : IsSettlement file.net journal.history file.points_per_bit (Settled at pays)
-  settlement =
-      let out : HasOutcome file.net journal.history = outcome_exists file.net journal.history kept.legal kept.ready.stands.proper kept.ready.stands.sound can.resolved in
-      record {
-        state = out.state;
-        one_state = out.one_state;
-        payments = pays;
-        printed = ap (λ (n : ℕ). Settled n pays) (now ∙ ap (λ (H : List Entry). length H) history ∙ length_push journal.history Settles);
-        paid = subst (λ (names : List (List ℕ)). AllZip (IsPayment journal.history file.points_per_bit out.state) (enumerate_from 0 names) pays) kept.named (paid out.state out.one_state);
-      }
+  settlement = record {
+    state = outcome.state;
+    one_state = outcome.one_state;
+    payments = pays;
+    printed = ap (λ (n : ℕ). Settled n pays) (now ∙ ap (λ (H : List Entry). length H) history ∙ length_push journal.history Settles);
+    paid = paid_there;
+  }
 
   pub settlement_allowed : IsAllowedFor (market_of file) (standing_of journal members) (OfCommand Settle) (Settled at pays)
   settlement_allowed = answer_allowed (market_of file) (standing_of journal members) Settle (Settled at pays) none settlement
@@ -83,9 +123,9 @@ module _ {P A Plan : Type 0} (weights_stand : P → Meaning → Type 0) (gains_s
 
   -- the market is kept
   pub settlement_kept : (new_accounts : List Account) (left : Option (List Payment)) → new_journal.max_trades ≡ journal.max_trades → names_of new_members ≡ names_of members
-      → ((u : ℕ) (h : Holding) → OwnsAt gains_stand members u h → OwnsAt gains_stand new_members u h) → HaveSameTransfers accounts new_accounts
+      → ((u : ℕ) (h : Holding) → OwnsAt gains_stand members u h → OwnsAt gains_stand new_members u h) → ArePaid accounts new_accounts pays
       → IsKept weights_stand gains_stand plan_for file prices plan new_members new_accounts new_journal left
-  settlement_kept new_accounts left limit names still transfers =
+  settlement_kept new_accounts left limit names still entered =
       let H = journal.history in
       kept_grown weights_stand gains_stand plan_for file prices prices plan members new_members accounts new_accounts journal new_journal payments left
       Settles Settle (Settled at pays) tt kept settlement_allowed settlement_next
@@ -96,6 +136,6 @@ module _ {P A Plan : Type 0} (weights_stand : P → Meaning → Type 0) (gains_s
         names = names ∙ kept.named ∙ sym (not_found H Settles join_in refl);
         owned = λ u assets at. subst (Owns gains_stand assets) (sym (holding_same file.net file.tree H Settles u refl refl refl)) (still u (holding_of file.net file.tree H u) (kept.owns u) assets at);
         none_quoted = λ u quote at. subst (λ (qs : List (Option Quote)). slice_get qs u ≡ Some (Some quote)) same_quotes at;
-        accounts = accounts_settled file.points_per_bit H accounts new_accounts kept.accounts_kept transfers;
+        accounts = accounts_settled (market_of file) H outcome.state outcome.one_state pays paid_there accounts new_accounts can.unsettled kept.accounts_kept entered;
         room = λ unsettled. absurd (settled_now H unsettled);
       })

@@ -1,20 +1,18 @@
 -- A user trades a question.
-use Rattle.std.specs.Prelude.{◌≡◌, ℕ, ◌+◌, ◌<◌, ◌≤◌, List, [], ◌∷◌, ◌++◌, map, length, filter, ◌==◌, Bool, true, false, cond, not, ◌&&◌, ltb, Option, Some, None, option_map, position, is_some, slice_get, slice_index}
-use Rattle.std.specs.List.{position_or_len, count_by, list_all}
-use Rattle.std.proofs.Common.{refl, sym, ap, ap₂, add-zero, ◌∙◌, subst, arith, eq-eqb, ne_eqb, length-append}
+use Rattle.std.specs.Prelude.{◌≡◌, ℕ, ◌+◌, ◌<◌, ◌≤◌, List, [], ◌∷◌, ◌++◌, length, filter, ◌==◌, Bool, true, false, cond, not, ◌&&◌, ltb, Some, None, option_map, position, is_some, slice_index}
+use Rattle.std.specs.List.{position_or_len, list_all}
+use Rattle.std.proofs.Common.{refl, sym, ap, ap₂, add-zero, ◌∙◌, arith, eq-eqb, ne_eqb}
 use Rattle.std.proofs.lemmas.List.{length-map, length_push}
-use Rattle.std.proofs.lemmas.List.Sums.{length-filter}
 use Rattle.mk_net.specs.declared.words.Pair.{Pair}
 use Rattle.mk_net.specs.declared.sets.VarSet.{VarSet}
 use Rattle.mk_net.specs.Asked.{Asked, TradeRatio, IsUnits, ratio_pairs}
 use Rattle.mk_net.specs.Bounds.{max_values, max_market_trades}
-use Rattle.mk_net.specs.Events.{pairs_asked}
-use Rattle.mk_net.specs.Network.{Variable, IsNetwork, sizes}
+use Rattle.mk_net.specs.Network.{Variable, sizes}
 use Rattle.mk_net.specs.Named.{nobody}
 use Rattle.mk_net.specs.Sets.{is_member}
 use Rattle.mk_exact.specs.History.{Entry, UserTrade, Trade, trades, trades_of, deposited, withdrawn}
-use Rattle.mk_exact.specs.Sides.{ratio_in, traded}
-use Rattle.mk_exact.proofs.After.{trades_more, trades_of_more}
+use Rattle.mk_exact.specs.Sides.{ratio_in}
+use Rattle.mk_exact.proofs.After.{trades_more}
 use Rattle.mk_exact.proofs.Positive.{size_at, few_values_at}
 use Rattle.mk_exact.proofs.Sums.{list_all-append}
 use Rattle.mk_tree.specs.Given.{GivenTree, home, holds_event}
@@ -23,10 +21,9 @@ use Rattle.mk_engine.specs.Beliefs.{CanMultiply}
 use Rattle.mk_beliefs.specs.Meanings.{weights_of, gains_of}
 use Rattle.mk_beliefs.proofs.Grown.{weights_grow, factors_are_few}
 use Rattle.mk_assets.specs.declared.assets.Assets.{Assets}
-use Rattle.mk_assets.specs.Holdings.{Holding, Owns, CanTrade, with_trade}
+use Rattle.mk_assets.specs.Holdings.{Owns, CanTrade, with_trade}
 use Rattle.mk_rules.proofs.Traded.{ratio_fits}
 use Rattle.mk_answers.specs.Open.{IsOpen, CanBeAnswered, holding_of}
-use Rattle.mk_market.specs.inner.Quoting.{OwnsAt}
 use Rattle.mk_market.proofs.Owned.{holding_grows, holding_same}
 
 -- the same test finds the same place

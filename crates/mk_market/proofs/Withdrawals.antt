@@ -29,7 +29,7 @@ use Rattle.mk_command.specs.declared.command.Command.TheVariants.{Withdraw}
 use Rattle.mk_reply.specs.declared.payments.Payment.{Payment}
 use Rattle.mk_reply.specs.declared.reply.Reply.{Reply}
 use Rattle.mk_reply.specs.declared.reply.Reply.TheVariants.{Withdrawn, Refused}
-use Rattle.mk_rules.specs.Refusals.{first_refusal, user_number}
+use Rattle.mk_rules.specs.Refusals.{first_refusal}
 use Rattle.mk_rules.specs.Transcript.{OfCommand, IsAllowedFor, after}
 use Rattle.mk_market.specs.declared.users.Member.{Member}
 use Rattle.mk_market.specs.Journals.{JournalOf}
@@ -39,10 +39,9 @@ use Rattle.mk_market.specs.Refused.{IsUser, HasRoomForTransfer}
 use Rattle.mk_market.specs.inner.Keeping.{quoted, standing_of, IsKept}
 use Rattle.mk_market.proofs.Appends.{not_there, not_found}
 use Rattle.mk_market.proofs.Growing.{is_open, kept_grown}
-use Rattle.mk_market.proofs.Answers.{can_find, worst_kept}
 use Rattle.mk_market.proofs.Owned.{names_same, quotes_same, owned_one, withdrawal_holding, withdrawal_others, few_moved}
 use Rattle.mk_market.proofs.Accounted.{accounts_withdrawn}
-use Rattle.mk_market.proofs.Replies.{answer_allowed, none_appended}
+use Rattle.mk_market.proofs.Replies.{answer_allowed, none_appended, unsettled}
 
 module _ {P A Plan : Type 0} (weights_stand : P → Meaning → Type 0) (gains_stand : A → Meaning → Type 0) (plan_for : Plan → List Variable → GivenTree → Type 0)
     (file : MarketFile) (prices : P) (plan : Plan) (members : List (Member A Plan)) (accounts : List Account) (journal : JournalOf) (payments : Option (List Payment))
@@ -53,7 +52,7 @@ module _ {P A Plan : Type 0} (weights_stand : P → Meaning → Type 0) (gains_s
 
   pub points_fit : (account_of accounts user).withdrawn + file.points_per_bit * bits < number_limit
   points_fit =
-      let account : IsAccount file.points_per_bit journal.history user (account_of accounts user) = kept.accounts_kept.each user (omega (arith, is_user.within, kept.accounts_kept.one_each)) in
+      let account : IsAccount (market_of file) journal.history user (account_of accounts user) = kept.accounts_kept.each user (omega (arith, is_user.within, kept.accounts_kept.one_each)) in
       let most : file.points_per_bit * (withdrawn journal.history user + bits) ≤ 1000000 * 65536000 = mul-le-mul file.points_most bits_fit in
       omega (arith, account.taken_out, most)
 
@@ -132,7 +131,7 @@ module _ {P A Plan : Type 0} (weights_stand : P → Meaning → Type 0) (gains_s
                   (withdraws (holding_of file.net file.tree H user) (still (holding_of file.net file.tree H user) (kept.owns user before there)) bits_fit))
                   (withdrawal_others file.net file.tree H user bits);
               none_quoted = λ u quote at. subst (λ (qs : List (Option Quote)). slice_get qs u ≡ Some (Some quote)) same_quotes at;
-              accounts = rw paid (accounts_withdrawn file.points_per_bit H accounts user bits (file.points_per_bit * bits) is_user.within refl kept.accounts_kept);
+              accounts = rw paid (accounts_withdrawn (market_of file) H (unsettled (market_of file) H (Withdraw name bits) none) accounts user bits (file.points_per_bit * bits) is_user.within refl kept.accounts_kept);
               room = λ unsettled. kept.room (sym (not_there H (Withdraws user bits) is_settlement refl) ∙ unsettled);
             })
 

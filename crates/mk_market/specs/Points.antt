@@ -1,16 +1,29 @@
 -- The accounts of a market's users, in points.
-use Rattle.std.specs.Prelude.{◌≡◌, ℕ, ◌*◌, ◌<◌, List, length, false}
+use Rattle.std.specs.Prelude.{◌≡◌, ℕ, ◌*◌, ◌<◌, List, [], ◌∷◌, length, true, false}
+use Rattle.mk_exact.specs.Events.{always}
 use Rattle.mk_exact.specs.History.{Entry, users, deposited, withdrawn, is_settled}
+use Rattle.mk_exact.specs.Weight.{possible_states}
+use Rattle.mk_exact.specs.Factors.{factor}
+use Rattle.mk_exact.specs.Cash.{CoversCash}
+use Rattle.mk_exact.specs.Market.{Market, network_of}
 use Rattle.mk_cash.specs.declared.ledger.Account.{Account}
 use Rattle.mk_cash.specs.Accounts.{account_of}
 
--- a user's account: the points of the bits that went in and out, and nothing paid before the settlement
-pub record IsAccount (points_per_bit : ℕ) (H : List Entry) (u : ℕ) (account : Account) : Type 0 where
-  pub paid_in : account.deposited ≡ points_per_bit * deposited H u
-  pub taken_out : account.withdrawn ≡ points_per_bit * withdrawn H u
+-- a user is paid off with the low end of an interval that covers the cash of the user's factor in the one possible state
+pub record IsPaidOff (market : Market) (H : List Entry) (u points : ℕ) : Type 0 where
+  pub state : List ℕ
+  pub one_state : possible_states (network_of market H) H always ≡ state ∷ []
+  pub high : ℕ
+  pub covers : CoversCash (factor H u state) market.points_per_bit points high
+
+-- a user's account: the points of the bits that went in and out, and nothing paid before the settlement, which pays the user off
+pub record IsAccount (market : Market) (H : List Entry) (u : ℕ) (account : Account) : Type 0 where
+  pub paid_in : account.deposited ≡ market.points_per_bit * deposited H u
+  pub taken_out : account.withdrawn ≡ market.points_per_bit * withdrawn H u
   pub unpaid : is_settled H ≡ false → account.paid ≡ 0
+  pub paid_off : is_settled H ≡ true → IsPaidOff market H u account.paid
 
 -- one for each user
-pub record AreAccounts (points_per_bit : ℕ) (H : List Entry) (accounts : List Account) : Type 0 where
+pub record AreAccounts (market : Market) (H : List Entry) (accounts : List Account) : Type 0 where
   pub one_each : length accounts ≡ length (users H)
-  pub each : (u : ℕ) → u < length accounts → IsAccount points_per_bit H u (account_of accounts u)
+  pub each : (u : ℕ) → u < length accounts → IsAccount market H u (account_of accounts u)

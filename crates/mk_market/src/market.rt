@@ -67,7 +67,7 @@ impl<P: Engine<SumProd>, A: Engine<MinProd>> Market<P, A> {
 
     /// What each user deposited, withdrew and was paid.
     pub fn ledger(&self) -> &Ledger
-        ensures { AreAccounts (self.now.market).points_per_bit (self.now.standing).history result.now }
+        ensures { AreAccounts self.now.market (self.now.standing).history result.now }
     {
         &self.ledger
     }

@@ -45,12 +45,13 @@ ghost use Rattle.mk_exact.specs.Events.{always};
 ghost use Rattle.mk_exact.specs.History.{is_settled};
 ghost use Rattle.mk_exact.specs.Weight.{possible_states};
 ghost use Rattle.mk_assets.specs.Holdings.{Holding};
+ghost use Rattle.mk_file.specs.MarketOf.{market_of};
 ghost use Rattle.mk_rules.specs.Answers.{IsPayment};
 ghost use Rattle.mk_answers.specs.Open.{IsOpen, holding_of};
 ghost use Rattle.mk_market.specs.Members.{names_of, quotes_of};
 ghost use Rattle.mk_market.specs.Points.{AreAccounts};
 ghost use Rattle.mk_market.specs.inner.Quoting.{OwnsAt};
-ghost use Rattle.mk_market.specs.inner.Paying.{HaveSameTransfers};
+ghost use Rattle.mk_market.specs.inner.Paying.{ArePaid};
 
 /// Pays each user, in the order of joining.
 fn pay<A: Engine<MinProd>>(
@@ -62,14 +63,14 @@ fn pay<A: Engine<MinProd>>(
 )
     requires is_open { IsOpen file.now.net file.now.tree journal.now.history }
     requires owns { (u : ℕ) → OwnsAt A.stands_for users.old u (holding_of file.now.net file.now.tree journal.now.history u) }
-    requires accounts { AreAccounts file.now.points_per_bit journal.now.history ledger.old }
+    requires accounts { AreAccounts (market_of file.now) journal.now.history ledger.old }
     requires one_each { length ledger.old ≡ length users.old }
     requires unsettled { is_settled journal.now.history ≡ false }
     requires unpaid { payments.old ≡ [] }
     ensures assets { (u : ℕ) (h : Holding) → OwnsAt A.stands_for users.old u h → OwnsAt A.stands_for users.new u h }
     ensures names { names_of users.new ≡ names_of users.old }
     ensures quotes { quotes_of users.new ≡ quotes_of users.old }
-    ensures ledger { HaveSameTransfers ledger.old ledger.new }
+    ensures ledger { ArePaid ledger.old ledger.new payments.new }
     ensures payments { (state : List ℕ) → possible_states file.now.net journal.now.history always ≡ state ∷ []
         → AllZip (IsPayment journal.now.history file.now.points_per_bit state) (enumerate_from 0 (names_of users.old)) payments.new }
 {

@@ -15,7 +15,7 @@ use Rattle.mk_assets.specs.declared.assets.Assets.{Assets}
 use Rattle.mk_assets.specs.Holdings.{Owns}
 use Rattle.mk_cash.specs.declared.ledger.Account.{Account}
 use Rattle.mk_quote.specs.declared.quote.Quote.{Quote}
-use Rattle.mk_quote.specs.Quotes.{question_of, revision_of, limits_of, bounds_of}
+use Rattle.mk_quote.specs.Quotes.{user_of, question_of, revision_of, limits_of, bounds_of}
 use Rattle.mk_reply.specs.declared.payments.Payment.{Payment}
 use Rattle.mk_rules.specs.Quotes as rules
 use Rattle.mk_rules.specs.Transcript.{Standing}
@@ -40,8 +40,9 @@ pub record IsCurrent (network : List Variable) (tree : GivenTree) (H : List Entr
   pub answered : CanBeAnswered network tree H (question_of quote)
   pub bounds : (hit miss : Side) → AreSides network H u (question_of quote) hit miss → AreBoundsFor (bounds_of quote) (IsSmall network H) hit miss
 
--- so they do where it was made at the present revision; and it was made at no later one
+-- so they do where it was made at the present revision; it was made for this user, and at no later one
 pub record IsKeptQuote (network : List Variable) (tree : GivenTree) (H : List Entry) (u : ℕ) (quote : Quote) : Type 0 where
+  pub same_user : user_of quote ≡ u
   pub not_later : revision_of quote ≤ revision H
   pub current : revision_of quote ≡ revision H → IsCurrent network tree H u quote
 
@@ -57,7 +58,7 @@ module _ {P A Plan : Type 0} (weights_stand : P → Meaning → Type 0) (gains_s
     pub owns : (u : ℕ) (assets : Assets A Plan) → slice_get (assets_of members) u ≡ Some assets
         → Owns gains_stand assets (holding_of file.net file.tree journal.history u)
     pub quotes_kept : (u : ℕ) (quote : Quote) → slice_get (quotes_of members) u ≡ Some (Some quote) → IsKeptQuote file.net file.tree journal.history u quote
-    pub accounts_kept : AreAccounts file.points_per_bit journal.history accounts
+    pub accounts_kept : AreAccounts (market_of file) journal.history accounts
     pub ready : IsReady (market_of file) (standing_of journal members)
     pub bounded : IsBounded (market_of file) journal.history
     pub max_trades : journal.max_trades ≡ file.max_trades

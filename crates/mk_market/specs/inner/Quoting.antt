@@ -10,7 +10,7 @@ use Rattle.mk_beliefs.specs.Meanings.{weights_of}
 use Rattle.mk_assets.specs.declared.assets.Assets.{Assets}
 use Rattle.mk_assets.specs.Holdings.{Holding, Owns, CanLearn}
 use Rattle.mk_quote.specs.declared.quote.Quote.{Quote}
-use Rattle.mk_quote.specs.Quotes.{question_of, revision_of}
+use Rattle.mk_quote.specs.Quotes.{user_of, question_of, revision_of}
 use Rattle.mk_answers.specs.Open.{IsOpen, holding_of}
 use Rattle.mk_market.specs.declared.users.Member.{Member}
 use Rattle.mk_market.specs.Members.{assets_of}
@@ -27,8 +27,9 @@ pub record AreInUse {P A Plan : Type 0} (weights_stand : P → Meaning → Type 
   pub weights : weights_stand prices (weights_of network tree H)
   pub owns : (u : ℕ) → OwnsAt gains_stand members u (holding_of network tree H u)
 
--- a quote of this question, made at the present revision, whose bounds enclose both sides
+-- a quote of this question for this user, made at the present revision, whose bounds enclose both sides
 pub record IsQuoteOf (network : List Variable) (tree : GivenTree) (H : List Entry) (u : ℕ) (asked : Asked) (quote : Quote) : Type 0 where
+  pub same_user : user_of quote ≡ u
   pub question : question_of quote ≡ asked
   pub at_present : revision_of quote ≡ revision H
   pub current : IsCurrent network tree H u quote

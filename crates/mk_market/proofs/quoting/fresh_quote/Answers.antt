@@ -41,6 +41,7 @@ returns-clause-quote g c =
     let tree = c.args.file.now.tree in
     let H = c.args.journal.now.history in
     record {
+      same_user = c.make.ensures.user;
       question = c.make.ensures.question;
       at_present = c.make.ensures.revision ∙ c.revision.ensures;
       current = record {

@@ -1,5 +1,5 @@
 use Rattle.std.proofs.Common.{arith}
-use Rattle.mk_market.proofs.Told.{one_told, can_be_told, all_told}
+use Rattle.mk_market.proofs.Told.{one_told, all_told}
 use Rattle.mk_market.proofs.resolving.tell.Goals as goal
 
 pub loop-user-preserved : goal.loop-user-preserved

@@ -1,12 +1,10 @@
 use Rattle.std.proofs.Common.{◌≡◌, true, slice_index, sym, ap, ◌∙◌, subst, arith}
 use Rattle.mk_net.specs.Asked.{TradeRatio, ratio_pairs, question_ratio}
 use Rattle.mk_net.specs.Network.{sizes}
-use Rattle.mk_net.specs.Trades.{trade_ratio}
 use Rattle.mk_net.specs.declared.words.Pair.{Pair}
 use Rattle.mk_exact.specs.History.{Trade}
 use Rattle.mk_exact.specs.Sides.{ratio_in}
 use Rattle.mk_engine.specs.Beliefs.{CanMultiply}
-use Rattle.mk_engine.specs.Meaning.{Meaning, RatioOf, with_factor}
 use Rattle.mk_beliefs.specs.Meanings.{weights_of, gains_of}
 use Rattle.mk_assets.specs.Holdings.{Owns, CanTrade, with_trade}
 use Rattle.mk_answers.specs.Open.{holding_of}
