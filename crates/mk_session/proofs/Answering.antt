@@ -1,17 +1,12 @@
 -- Lines that are answered: none, one, and some behind others.
-use Rattle.std.proofs.Common.{◌≡◌, ℕ, List, [], ◌∷◌, ◌++◌, filter, true, false, Option, Result, Ok, Err, OnOk, OnErr, refl, sym, ap, ap₂, subst, ◌∙◌}
+use Rattle.std.proofs.Common.{◌≡◌, ℕ, List, [], ◌∷◌, ◌++◌, filter, true, false, refl, sym, ap, ap₂, subst, ◌∙◌}
 use Rattle.std.specs.List.{AllZip}
 use Rattle.std.proofs.lemmas.List.Elements.{filter-append}
 use Rattle.std.proofs.lemmas.Grind.{flat_map-append}
 use Rattle.std.proofs.lemmas.List.Concat.{flat_map-cons}
-use Rattle.mk_io.specs.Outside.{append_known, AddsFront}
 use Rattle.mk_io.specs.Stream.{StreamLine, is_not_blank}
 use Rattle.mk_exact.specs.Market.{Market, network_of}
 use Rattle.mk_exact.proofs.Gains.{gains_bounded}
-use Rattle.mk_command.specs.declared.command.Command.{Command}
-use Rattle.mk_command.specs.Commands.{IsCommand, command_text}
-use Rattle.mk_command.proofs.CommandLaws.{form_tells}
-use Rattle.mk_text.proofs.ReadingLaws.{whole_one}
 use Rattle.mk_reply.specs.declared.reply.Reply.{Reply}
 use Rattle.mk_rules.specs.Transcript.{Standing, opening, Line, IsAllowedFor, after, Run}
 use Rattle.mk_rules.specs.Standings.{Stands}
@@ -19,8 +14,6 @@ use Rattle.mk_rules.proofs.Keeps.{run_keeps, opening_stands}
 use Rattle.mk_rules.proofs.Settling.{run_settles}
 use Rattle.mk_session.specs.Texts.{ready_line, reply_line}
 use Rattle.mk_session.specs.Transcript.{Asks, AreReplied, AreAnswered, IsAllowedRun, Transcript}
-use Rattle.mk_session.specs.Outcome.{Adds}
-use Rattle.mk_session.specs.inner.Progress.{AreCutOff}
 
 pub no_more : {X : Type 0} (xs : List X) → xs ++ [] ≡ xs
 no_more [] = refl
@@ -118,15 +111,3 @@ transcript_of market lines end answers answered = record {
   run = allowed_run_of market lines end answered.replies answered.replied;
   printed = ap (λ (bytes : List ℕ). ready_line market ++ bytes) answered.printed;
 }
-
-pub adds_when_said : {T E : Type 0} (market : Market) (old : Standing) (lines : List StreamLine) (new : Standing) (output : List ℕ)
-    (before after : Option (List ℕ)) (said : Result T E) → AreAnswered market old lines new output
-    → OnOk said (after ≡ append_known before output) → OnOk said (Adds before after (AreAnswered market old lines new))
-adds_when_said market old lines new output before after (Ok v) answered whole = record { bytes = output; added = whole; holds = answered }
-adds_when_said market old lines new output before after (Err e) answered whole = tt
-
-pub cut_off_when_not : {T E : Type 0} (market : Market) (old : Standing) (lines : List StreamLine) (new : Standing) (output : List ℕ)
-    (before after : Option (List ℕ)) (said : Result T E) → AreAnswered market old lines new output
-    → OnErr said (AddsFront before after output) → OnErr said (AreCutOff market old lines new before after)
-cut_off_when_not market old lines new output before after (Ok v) answered front = tt
-cut_off_when_not market old lines new output before after (Err e) answered front = record { output = output; answered = answered; front = front }

@@ -1,10 +1,8 @@
 -- The count of the replies: none, one more, and all at the end.
-use Rattle.std.proofs.Common.{◌≡◌, ℕ, ◌+◌, ◌<◌, ◌≤◌, cond, Bool, true, false, All, List, [], ◌∷◌, ◌++◌, length, Option, Some, None, IfSome, IfNone, Result, Ok, Err, MatchResult, OnOk, inl, refl, sym, ap, subst, ◌∙◌, arith, length-append}
+use Rattle.std.proofs.Common.{◌≡◌, ℕ, ◌+◌, ◌≤◌, cond, Bool, true, false, All, List, [], ◌∷◌, ◌++◌, length, Option, Some, None, IfSome, IfNone, Result, Ok, Err, MatchResult, OnOk, inl, refl, sym, ap, subst, ◌∙◌, arith, length-append}
 use Rattle.std.specs.Int.{from_bool}
-use Rattle.std.specs.List.{count_by}
 use Rattle.std.proofs.lemmas.List.Elements.{All-nil, All-cons, All-append}
 use Rattle.std.proofs.lemmas.List.Sums.{sum_by_push}
-use Rattle.mk_io.specs.declared.lines.Next.{Next}
 use Rattle.mk_io.specs.declared.lines.Next.TheVariants.{End, ReadFault}
 use Rattle.mk_io.specs.Stream.{StreamLine, stream_lines, max_stream_lines, max_stream_bytes}
 use Rattle.mk_io.specs.Cutting.{Cutting, fresh, stream_left, first_size, GivesLine, Stays, Overruns, IsTooMuch, HasReadCause}
@@ -17,10 +15,9 @@ use Rattle.mk_session.specs.declared.counts.TallyFault.TheVariants.{Memory}
 use Rattle.mk_session.specs.Transcript.{AreReplied}
 use Rattle.mk_session.specs.Complete.{AreWithin}
 use Rattle.mk_session.specs.Tally.{is_trade, is_refusal, last_reply, IsRemembered, AreCounted, IsTally, TallyEnds}
-use Rattle.mk_session.specs.inner.Progress.{IsPlaced}
 use Rattle.mk_session.specs.inner.Counting.{uncounted, is_want, IsWithin, IsCounted, CountsLine, IsCountedSoFar, IsCounting}
 use Rattle.mk_session.proofs.Answering.{no_more, none_replied, then_replied, allowed_run_of}
-use Rattle.mk_session.proofs.Underway.{rest_of, are_whole, placed_next}
+use Rattle.mk_session.proofs.Underway.{are_whole, placed_next}
 use Rattle.mk_session.proofs.Endings.{past_of, risen}
 use Rattle.mk_session.proofs.Completing.{past_limits, none_rose}
 

@@ -4,33 +4,37 @@ use Rattle.mk_io.specs.declared.status.Status.{Status}
 use Rattle.mk_io.specs.declared.status.Status.TheVariants.{Done, ReadFault, WriteFault, TooMany}
 use Rattle.mk_io.specs.declared.lines.Next.{Next}
 use Rattle.mk_io.specs.declared.lines.Next.TheVariants.{Line, Long, End, ReadFault as Unread, TooMany as Overrun}
-use Rattle.mk_io.specs.Outside.{append_known, IsAtEnd, HasCause, CountsFault}
+use Rattle.mk_io.specs.Outside.{append_known, prepend_known, AddsFront, IsAtEnd, HasCause, CountsFault}
 use Rattle.mk_io.specs.Stream.{StreamLine, stream_lines, AreWholeLines, max_stream_lines, max_stream_bytes}
 use Rattle.mk_io.specs.Cutting.{Cutting, stream_left, first_size, GoesOn, GivesLine, Stays, IsAnswer, IsFreshAnswer, StopsInLine, Overruns, IsTooMuch, CountsReadFault, HasReadCause}
-use Rattle.mk_io.proofs.Told.{append_known_twice}
+use Rattle.mk_io.proofs.Told.{append_known_twice, prepend_known_twice}
 use Rattle.mk_exact.specs.Market.{Market}
 use Rattle.mk_rules.specs.Transcript.{Standing, opening}
 use Rattle.mk_session.specs.Texts.{ready_line}
 use Rattle.mk_session.specs.Transcript.{AreAnswered, Transcript}
-use Rattle.mk_session.specs.Outcome.{Adds, HasCauses, CountsNone}
-use Rattle.mk_session.specs.inner.Progress.{AreCutOff, IsBetween, IsSoFar, IsEnded}
-use Rattle.mk_session.proofs.Answering.{no_more, then_answered, transcript_of}
-use Rattle.mk_session.proofs.Underway.{rest_of, behind, are_whole, so_far_next}
+use Rattle.mk_session.specs.Outcome.{HasCauses, CountsNone}
+use Rattle.mk_session.specs.inner.Progress.{Gathers, AreGathered, IsBetween, IsSoFar, IsEnded}
+use Rattle.mk_session.proofs.Answering.{no_more, transcript_of}
+use Rattle.mk_session.proofs.Underway.{rest_of, are_whole, so_far_next, still_so_far}
 
 -- the transcript of the lines that are done
 transcript_so_far : (market : Market) (all : List ℕ) (cutting : Cutting) (source : Option (List ℕ)) (now : Standing) (before written : Option (List ℕ))
-    → (far : IsSoFar market all cutting source now before written) → Transcript market (stream_lines far.done) (ready_line market ++ far.answers.bytes)
-transcript_so_far market all cutting source now before written far =
-    transcript_of market (stream_lines far.done) now far.answers.bytes far.answers.holds
+    (waits : List ℕ) → waits ≡ [] → (far : IsSoFar market all cutting source now before written waits)
+    → Transcript market (stream_lines far.done) (ready_line market ++ far.answers.bytes)
+transcript_so_far market all cutting source now before written waits empty far =
+    let bytes = far.answers.bytes in
+    let whole : bytes ++ waits ≡ bytes = ap (λ (rest : List ℕ). bytes ++ rest) empty ∙ no_more bytes in
+    transcript_of market (stream_lines far.done) now bytes
+    (subst (λ (output : List ℕ). AreAnswered market opening (stream_lines far.done) now output) whole far.answers.holds)
 
 pub second_empty : (xs ys : List ℕ) → xs ++ ys ≡ [] → ys ≡ []
 second_empty [] ys e = e
 second_empty (x ∷ xs) ys e = absurd (cc)
 
 pub ended_done : (market : Market) (all : List ℕ) (old new : Cutting) (source rest : Option (List ℕ)) (now : Standing) (before written after : Option (List ℕ))
-    → (far : IsSoFar market all old source now before written) → far.left ≡ [] → Stays old new source rest End → after ≡ written
+    (waits : List ℕ) → waits ≡ [] → (far : IsSoFar market all old source now before written waits) → far.left ≡ [] → Stays old new source rest End → after ≡ written
     → new.given ≤ max_stream_lines → new.spent ≤ max_stream_bytes → IsEnded Done market all rest before after
-ended_done market all old new source rest now before written after far empty stays still few_lines few_bytes =
+ended_done market all old new source rest now before written after waits none_waits far empty stays still few_lines few_bytes =
     let r = rest_of old.left far.left source (sym far.known) in
     let whole : all ≡ far.done = far.bytes ∙ ap (λ (left : List ℕ). far.done ++ left) empty ∙ no_more far.done in
     let given : new.given ≡ old.given = ap (λ (x : Cutting). x.given) stays.same in
@@ -43,7 +47,7 @@ ended_done market all old new source rest now before written after far empty sta
         added = still ∙ far.answers.added;
         holds = record {
           transcript = subst (λ (bytes : List ℕ). Transcript market (stream_lines bytes) (ready_line market ++ far.answers.bytes)) (sym whole)
-              (transcript_so_far market all old source now before written far);
+              (transcript_so_far market all old source now before written waits none_waits far);
           to_the_end = second_empty old.left r.rest (sym r.parts ∙ empty);
           within_lines = subst (λ (bytes : List ℕ). length (stream_lines bytes) ≤ max_stream_lines) (sym whole) (omega (arith, far.given));
           within_bytes = omega (arith, far.spent, ap length whole);
@@ -52,9 +56,9 @@ ended_done market all old new source rest now before written after far empty sta
     }
 
 pub ended_read_fault : (market : Market) (all : List ℕ) (old new : Cutting) (source rest : Option (List ℕ)) (now : Standing) (before written after : Option (List ℕ))
-    → IsSoFar market all old source now before written → old.last ≡ None → StopsInLine new (stream_left old source) rest → after ≡ written
+    (waits : List ℕ) → waits ≡ [] → IsSoFar market all old source now before written waits → old.last ≡ None → StopsInLine new (stream_left old source) rest → after ≡ written
     → IsEnded ReadFault market all rest before after
-ended_read_fault market all old new source rest now before written after far none stops still =
+ended_read_fault market all old new source rest now before written after waits none_waits far none stops still =
     let r = rest_of stops.part far.left rest (sym far.known ∙ stops.taken) in
     record {
       rest = r.rest;
@@ -68,7 +72,7 @@ ended_read_fault market all old new source rest now before written after far non
           bytes = far.bytes ∙ ap (λ (left : List ℕ). far.done ++ left) r.parts;
           lines = are_whole old.last far.done far.left none far.between;
           no_lf = stops.no_lf;
-          transcript = transcript_so_far market all old source now before written far;
+          transcript = transcript_so_far market all old source now before written waits none_waits far;
         };
       };
     }
@@ -79,9 +83,9 @@ past_of given lines spent bytes most_lines most_bytes size e f (inl full) = inl 
 past_of given lines spent bytes most_lines most_bytes size e f (inr past) = inr (subst (λ (n : ℕ). most_bytes < n + size) f past)
 
 pub ended_too_many : (market : Market) (all : List ℕ) (old new : Cutting) (source rest : Option (List ℕ)) (now : Standing) (before written after : Option (List ℕ))
-    → IsSoFar market all old source now before written → old.last ≡ None → Overruns old new (stream_left old source) rest → after ≡ written
+    (waits : List ℕ) → waits ≡ [] → IsSoFar market all old source now before written waits → old.last ≡ None → Overruns old new (stream_left old source) rest → after ≡ written
     → IsEnded TooMany market all rest before after
-ended_too_many market all old new source rest now before written after far none over still =
+ended_too_many market all old new source rest now before written after waits none_waits far none over still =
     let r = rest_of over.part far.left rest (sym far.known ∙ over.taken) in
     let much : IsTooMuch old (over.part ++ r.rest) =
     subst (λ (left : List ℕ). IsTooMuch old left) r.parts (subst (λ (o : Option (List ℕ)). IfSome o (IsTooMuch old)) far.known over.much) in
@@ -99,14 +103,15 @@ ended_too_many market all old new source rest now before written after far none 
           more = much.more;
           past = past_of old.given (length (stream_lines far.done)) old.spent (length far.done) max_stream_lines max_stream_bytes
               (first_size (over.part ++ r.rest)) far.given far.spent much.past;
-          transcript = transcript_so_far market all old source now before written far;
+          transcript = transcript_so_far market all old source now before written waits none_waits far;
         };
       };
     }
 
-lines_broken : (done left left_parts : List ℕ) → left ≡ left_parts → AreWholeLines done ⊎ (left ≡ []) → AreWholeLines done ⊎ (left_parts ≡ [])
-lines_broken done left left_parts e (inl whole) = inl whole
-lines_broken done left left_parts e (inr none) = inr (sym e ∙ none)
+-- the bytes before a place are whole lines, or none is left behind it
+whole_or_none : (last : Option Next) (done left left_parts : List ℕ) → left ≡ left_parts → IsBetween last done left → AreWholeLines done ⊎ (left_parts ≡ [])
+whole_or_none None done left left_parts e whole = inl whole
+whole_or_none (Some last) done left left_parts e none = inr (sym e ∙ none)
 
 front_parts : (ready answers output front rest : List ℕ) → output ≡ front ++ rest
     → ready ++ (answers ++ output) ≡ (ready ++ (answers ++ front)) ++ rest
@@ -114,65 +119,88 @@ front_parts ready answers output front rest e =
     ap (λ (bytes : List ℕ). ready ++ (answers ++ bytes)) e ∙ ap (λ (bytes : List ℕ). ready ++ bytes) (sym (append_assoc answers front rest))
     ∙ sym (append_assoc ready (answers ++ front) rest)
 
--- a line was given, but of its reply only a front was written
-ended_broken : (market : Market) (all : List ℕ) (line : StreamLine) (old new : Cutting) (source rest : Option (List ℕ)) (now then : Standing)
-    (before written after : Option (List ℕ)) → old.last ≡ None → GivesLine line old new (stream_left old source) (stream_left new rest)
-    → AreCutOff market now (line ∷ []) then written after → IsSoFar market all old source now before written
-    → IsEnded WriteFault market all rest before after
-ended_broken market all line old new source rest now then before written after none gives cut far =
-    let whole = are_whole old.last far.done far.left none far.between in
-    let b = behind all far.done far.left line old new source rest far.bytes far.known whole gives in
-    let r = rest_of new.left b.left rest (sym b.known) in
-    let answers = far.answers.bytes in
-    let answered : AreAnswered market opening (stream_lines (far.done ++ gives.piece)) then (answers ++ cut.output) =
-    subst (λ (ls : List StreamLine). AreAnswered market opening ls then (answers ++ cut.output)) (sym b.lines)
-    (then_answered market opening now then (stream_lines far.done) (line ∷ []) answers cut.output far.answers.holds cut.answered) in
+-- of what waited only a front was written
+pub ended_broken : (market : Market) (all part : List ℕ) (cutting : Cutting) (source rest : Option (List ℕ)) (now : Standing)
+    (before written after : Option (List ℕ)) (waited : List ℕ) → stream_left cutting source ≡ prepend_known part rest
+    → AddsFront written after waited → IsSoFar market all cutting source now before written waited → IsEnded WriteFault market all rest before after
+ended_broken market all part cutting source rest now before written after waited taken cut far =
+    let r = rest_of part far.left rest (sym far.known ∙ taken) in
+    let bytes = far.answers.bytes in
     record {
       rest = r.rest;
       told = r.told;
       output = record {
-        bytes = answers ++ cut.front.front;
-        added = cut.front.added ∙ ap (λ (w : Option (List ℕ)). append_known w cut.front.front) far.answers.added
-            ∙ append_known_twice before answers cut.front.front;
+        bytes = bytes ++ cut.front;
+        added = cut.added ∙ ap (λ (w : Option (List ℕ)). append_known w cut.front) far.answers.added ∙ append_known_twice before bytes cut.front;
         holds = record {
-          done = far.done ++ gives.piece;
-          part = new.left;
-          bytes = b.bytes ∙ ap (λ (left : List ℕ). (far.done ++ gives.piece) ++ left) r.parts;
-          lines = lines_broken (far.done ++ gives.piece) b.left (new.left ++ r.rest) r.parts b.ends;
-          text = ready_line market ++ (answers ++ cut.output);
-          transcript = transcript_of market (stream_lines (far.done ++ gives.piece)) then (answers ++ cut.output) answered;
-          front = record { rest = cut.front.rest; parts = front_parts (ready_line market) answers cut.output cut.front.front cut.front.rest cut.front.parts };
+          done = far.done;
+          part = part;
+          bytes = far.bytes ∙ ap (λ (left : List ℕ). far.done ++ left) r.parts;
+          lines = whole_or_none cutting.last far.done far.left (part ++ r.rest) r.parts far.between;
+          text = ready_line market ++ (bytes ++ waited);
+          transcript = transcript_of market (stream_lines far.done) now (bytes ++ waited) far.answers.holds;
+          front = record { rest = cut.rest; parts = front_parts (ready_line market) bytes waited cut.front cut.rest cut.parts };
         };
       };
     }
 
+-- the same where a line was given, whose reply had no room behind what waited
+broken_behind : (market : Market) (all : List ℕ) (line : StreamLine) (old new : Cutting) (source rest : Option (List ℕ)) (now : Standing)
+    (before written after : Option (List ℕ)) (waited : List ℕ) → GivesLine line old new (stream_left old source) (stream_left new rest)
+    → AddsFront written after waited → IsSoFar market all old source now before written waited → IsEnded WriteFault market all rest before after
+broken_behind market all line old new source rest now before written after waited gives cut far =
+    ended_broken market all (gives.piece ++ new.left) old source rest now before written after waited
+    (gives.taken ∙ prepend_known_twice gives.piece new.left rest) cut far
+
 -- a line that was answered: the run goes on, one line further
 pub goes_on_after : {T E : Type 0} (said : Result T E) (ended : Option Status) (market : Market) (line : StreamLine) (old new : Cutting)
-    (source rest : Option (List ℕ)) (now then : Standing) (written after : Option (List ℕ))
+    (source rest : Option (List ℕ)) (now then : Standing) (written after : Option (List ℕ)) (waited waits : List ℕ)
     → MatchResult said (λ _. ended ≡ None) (λ _. ended ≡ Some WriteFault)
     → old.last ≡ None → GivesLine line old new (stream_left old source) (stream_left new rest)
-    → OnOk said (Adds written after (AreAnswered market now (line ∷ []) then))
-    → IfNone ended ((all : List ℕ) (before : Option (List ℕ)) → IsSoFar market all old source now before written → IsSoFar market all new rest then before after)
-goes_on_after (Ok v) ended market line old new source rest now then written after e none gives answered =
-    subst (λ (o : Option Status). IfNone o ((all : List ℕ) (before : Option (List ℕ)) → IsSoFar market all old source now before written → IsSoFar market all new rest then before after))
-    (sym e) (λ all before far. so_far_next market all line old new source rest now then before written after none gives answered far)
-goes_on_after (Err x) ended market line old new source rest now then written after e none gives answered =
-    subst (λ (o : Option Status). IfNone o ((all : List ℕ) (before : Option (List ℕ)) → IsSoFar market all old source now before written → IsSoFar market all new rest then before after))
+    → OnOk said (AreGathered market now (line ∷ []) then written after waited waits)
+    → IfNone ended ((all : List ℕ) (before : Option (List ℕ)) → IsSoFar market all old source now before written waited → IsSoFar market all new rest then before after waits)
+goes_on_after (Ok v) ended market line old new source rest now then written after waited waits e none gives answered =
+    subst (λ (o : Option Status). IfNone o ((all : List ℕ) (before : Option (List ℕ)) → IsSoFar market all old source now before written waited → IsSoFar market all new rest then before after waits))
+    (sym e) (λ all before far. so_far_next market all line old new source rest now then before written after waited waits none gives answered far)
+goes_on_after (Err x) ended market line old new source rest now then written after waited waits e none gives answered =
+    subst (λ (o : Option Status). IfNone o ((all : List ℕ) (before : Option (List ℕ)) → IsSoFar market all old source now before written waited → IsSoFar market all new rest then before after waits))
     (sym e) tt
 
--- a line whose reply was cut off: the run is broken
+-- a line whose reply had no room: the run is broken
 pub breaks_after : {T E : Type 0} (said : Result T E) (ended : Option Status) (market : Market) (line : StreamLine) (old new : Cutting)
-    (source rest : Option (List ℕ)) (now then : Standing) (written after : Option (List ℕ))
+    (source rest : Option (List ℕ)) (now : Standing) (written after : Option (List ℕ)) (waited : List ℕ)
     → MatchResult said (λ _. ended ≡ None) (λ _. ended ≡ Some WriteFault)
-    → old.last ≡ None → GivesLine line old new (stream_left old source) (stream_left new rest)
-    → OnErr said (AreCutOff market now (line ∷ []) then written after)
-    → IfSome ended (λ status. (all : List ℕ) (before : Option (List ℕ)) → IsSoFar market all old source now before written → IsEnded status market all rest before after)
-breaks_after (Ok v) ended market line old new source rest now then written after e none gives cut =
-    subst (λ (o : Option Status). IfSome o (λ status. (all : List ℕ) (before : Option (List ℕ)) → IsSoFar market all old source now before written → IsEnded status market all rest before after))
+    → GivesLine line old new (stream_left old source) (stream_left new rest) → OnErr said (AddsFront written after waited)
+    → IfSome ended (λ status. (all : List ℕ) (before : Option (List ℕ)) → IsSoFar market all old source now before written waited → IsEnded status market all rest before after)
+breaks_after (Ok v) ended market line old new source rest now written after waited e gives cut =
+    subst (λ (o : Option Status). IfSome o (λ status. (all : List ℕ) (before : Option (List ℕ)) → IsSoFar market all old source now before written waited → IsEnded status market all rest before after))
     (sym e) tt
-breaks_after (Err x) ended market line old new source rest now then written after e none gives cut =
-    subst (λ (o : Option Status). IfSome o (λ status. (all : List ℕ) (before : Option (List ℕ)) → IsSoFar market all old source now before written → IsEnded status market all rest before after))
-    (sym e) (λ all before far. ended_broken market all line old new source rest now then before written after none gives cut far)
+breaks_after (Err x) ended market line old new source rest now written after waited e gives cut =
+    subst (λ (o : Option Status). IfSome o (λ status. (all : List ℕ) (before : Option (List ℕ)) → IsSoFar market all old source now before written waited → IsEnded status market all rest before after))
+    (sym e) (λ all before far. broken_behind market all line old new source rest now before written after waited gives cut far)
+
+-- what waits was written before: the run goes on from there
+pub goes_on_from : (ended : Option Status) (market : Market) (old new : Cutting) (source rest : Option (List ℕ)) (now then : Standing)
+    (written mid after : Option (List ℕ)) (waited left waits : List ℕ) → Gathers written mid waited [] left
+    → IfNone ended ((all : List ℕ) (before : Option (List ℕ)) → IsSoFar market all old source now before mid left → IsSoFar market all new rest then before after waits)
+    → IfNone ended ((all : List ℕ) (before : Option (List ℕ)) → IsSoFar market all old source now before written waited → IsSoFar market all new rest then before after waits)
+goes_on_from None market old new source rest now then written mid after waited left waits gathers next =
+    λ all before far. next all before (still_so_far market all old source now before written mid waited left gathers far)
+goes_on_from (Some status) market old new source rest now then written mid after waited left waits gathers next = tt
+
+pub ends_from : (ended : Option Status) (market : Market) (cutting : Cutting) (source rest : Option (List ℕ)) (now : Standing)
+    (written mid after : Option (List ℕ)) (waited left : List ℕ) → Gathers written mid waited [] left
+    → IfSome ended (λ status. (all : List ℕ) (before : Option (List ℕ)) → IsSoFar market all cutting source now before mid left → IsEnded status market all rest before after)
+    → IfSome ended (λ status. (all : List ℕ) (before : Option (List ℕ)) → IsSoFar market all cutting source now before written waited → IsEnded status market all rest before after)
+ends_from None market cutting source rest now written mid after waited left gathers next = tt
+ends_from (Some status) market cutting source rest now written mid after waited left gathers next =
+    λ all before far. next all before (still_so_far market all cutting source now before written mid waited left gathers far)
+
+pub causes_from : (ended : Option Status) (inputs inputs_now sink sink_mid sink_now : ℕ) → sink_mid ≡ sink
+    → MatchOption ended (CountsNone inputs inputs_now sink_mid sink_now) (λ status. HasCauses status inputs inputs_now sink_mid sink_now)
+    → MatchOption ended (CountsNone inputs inputs_now sink sink_now) (λ status. HasCauses status inputs inputs_now sink sink_now)
+causes_from ended inputs inputs_now sink sink_mid sink_now same causes =
+    subst (λ (n : ℕ). MatchOption ended (CountsNone inputs inputs_now n sink_now) (λ status. HasCauses status inputs inputs_now n sink_now)) same causes
 
 -- the causes of a turn that read a line and said what it answers
 pub causes_after : {T E : Type 0} (said : Result T E) (ended : Option Status) (inputs inputs_now sink sink_now : ℕ)

@@ -8,6 +8,7 @@ use Rattle.mk_io.specs.Cutting.{Cutting, fresh, GoesOn}
 use Rattle.mk_io.proofs.Told.{append_known_none, prepend_known_none}
 use Rattle.mk_exact.specs.Market.{Market}
 use Rattle.mk_rules.specs.Transcript.{Standing, opening}
+use Rattle.mk_session.specs.Transcript.{AreAnswered}
 use Rattle.mk_session.specs.inner.Progress.{IsSoFar}
 use Rattle.mk_session.specs.Outcome.{CountsNone, HasCauses}
 use Rattle.mk_session.specs.inner.Loading.{IsTaken}
@@ -15,21 +16,25 @@ use Rattle.mk_session.proofs.Answering.{no_more, none_answered}
 
 -- between two lines: the market is the same, the lines go on, no fault was counted, and the run is so far
 pub record IsGoing (start market : Market) (commands : Option (List ℕ)) (lines : Cutting) (source : Option (List ℕ)) (now : Standing)
-    (before written : Option (List ℕ)) (inputs_before inputs sink_before sink : ℕ) : Type 0 where
+    (before written : Option (List ℕ)) (waits : List ℕ) (inputs_before inputs sink_before sink : ℕ) : Type 0 where
   pub same : market ≡ start
   pub goes_on : GoesOn lines.last
   pub counts : CountsNone inputs_before inputs sink_before sink
-  pub far : (all : List ℕ) → commands ≡ Some all → IsSoFar start all lines source now before written
+  pub far : (all : List ℕ) → commands ≡ Some all → IsSoFar start all lines source now before written waits
 
-pub far_at_start : (market : Market) (all : List ℕ) (source : Option (List ℕ)) (now : Standing) (before : Option (List ℕ)) → source ≡ Some all
-    → now ≡ opening → IsSoFar market all fresh source now before before
-far_at_start market all source now before told begins = record {
+pub far_at_start : (market : Market) (all : List ℕ) (source : Option (List ℕ)) (now : Standing) (before : Option (List ℕ)) (waits : List ℕ)
+    → source ≡ Some all → now ≡ opening → waits ≡ [] → IsSoFar market all fresh source now before before waits
+far_at_start market all source now before waits told begins empty = record {
   done = [];
   left = all;
   bytes = refl;
   known = prepend_known_none source ∙ told;
   between = inl refl;
-  answers = record { bytes = []; added = append_known_none before; holds = none_answered market opening now begins };
+  answers = record {
+    bytes = [];
+    added = append_known_none before;
+    holds = subst (λ (output : List ℕ). AreAnswered market opening [] now output) (sym empty) (none_answered market opening now begins);
+  };
   given = refl;
   spent = refl;
 }

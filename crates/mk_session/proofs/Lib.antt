@@ -1,4 +1,5 @@
 pub mod Answering
+pub mod Gathering
 pub mod Underway
 pub mod Endings
 pub mod Going

@@ -10,8 +10,9 @@ use Rattle.mk_exact.specs.Market.{Market}
 use Rattle.mk_rules.specs.Transcript.{Standing, opening}
 use Rattle.mk_session.specs.Transcript.{AreAnswered}
 use Rattle.mk_session.specs.Outcome.{Adds}
-use Rattle.mk_session.specs.inner.Progress.{IsBetween, IsPlaced, IsSoFar}
-use Rattle.mk_session.proofs.Answering.{then_answered}
+use Rattle.mk_session.specs.inner.Progress.{Gathers, AreGathered, IsBetween, IsPlaced, IsSoFar}
+use Rattle.mk_session.proofs.Answering.{no_more, then_answered}
+use Rattle.mk_session.proofs.Gathering.{parts_behind}
 
 -- what is left of a source behind some bytes of it that are known
 pub record IsRest (part whole : List ℕ) (source : Option (List ℕ)) : Type 0 where
@@ -92,14 +93,41 @@ placed_next all line old new source rest P Q none gives step far =
 
 -- a line was given and answered: the run has come one line further
 pub so_far_next : (market : Market) (all : List ℕ) (line : StreamLine) (old new : Cutting) (source rest : Option (List ℕ)) (now then : Standing)
-    (before written after : Option (List ℕ)) → old.last ≡ None → GivesLine line old new (stream_left old source) (stream_left new rest)
-    → Adds written after (AreAnswered market now (line ∷ []) then) → IsSoFar market all old source now before written
-    → IsSoFar market all new rest then before after
-so_far_next market all line old new source rest now then before written after none gives said far =
-    placed_next all line old new source rest (λ lines. Adds before written (AreAnswered market opening lines now))
-    (λ lines. Adds before after (AreAnswered market opening lines then)) none gives
+    (before written after : Option (List ℕ)) (waited waits : List ℕ) → old.last ≡ None
+    → GivesLine line old new (stream_left old source) (stream_left new rest)
+    → AreGathered market now (line ∷ []) then written after waited waits → IsSoFar market all old source now before written waited
+    → IsSoFar market all new rest then before after waits
+so_far_next market all line old new source rest now then before written after waited waits none gives said far =
+    let gone = said.gathers.gone in
+    placed_next all line old new source rest (λ lines. Adds before written (λ bytes. AreAnswered market opening lines now (bytes ++ waited)))
+    (λ lines. Adds before after (λ bytes. AreAnswered market opening lines then (bytes ++ waits))) none gives
     (λ lines answers. record {
-      bytes = answers.bytes ++ said.bytes;
-      added = said.added ∙ ap (λ (w : Option (List ℕ)). append_known w said.bytes) answers.added ∙ append_known_twice before answers.bytes said.bytes;
-      holds = then_answered market opening now then lines (line ∷ []) answers.bytes said.bytes answers.holds said.holds;
+      bytes = answers.bytes ++ gone;
+      added = said.gathers.added ∙ ap (λ (w : Option (List ℕ)). append_known w gone) answers.added ∙ append_known_twice before answers.bytes gone;
+      holds = subst (λ (output : List ℕ). AreAnswered market opening (lines ++ line ∷ []) then output)
+          (parts_behind answers.bytes waited said.output gone waits said.gathers.parts)
+          (then_answered market opening now then lines (line ∷ []) (answers.bytes ++ waited) said.output answers.holds said.answered);
     }) far
+
+-- some of what waits was written
+pub still_so_far : (market : Market) (all : List ℕ) (cutting : Cutting) (source : Option (List ℕ)) (now : Standing) (before written after : Option (List ℕ))
+    (waited waits : List ℕ) → Gathers written after waited [] waits → IsSoFar market all cutting source now before written waited
+    → IsSoFar market all cutting source now before after waits
+still_so_far market all cutting source now before written after waited waits gathers far =
+    let bytes = far.answers.bytes in
+    record {
+      done = far.done;
+      left = far.left;
+      bytes = far.bytes;
+      known = far.known;
+      between = far.between;
+      answers = record {
+        bytes = bytes ++ gathers.gone;
+        added = gathers.added ∙ ap (λ (w : Option (List ℕ)). append_known w gathers.gone) far.answers.added
+            ∙ append_known_twice before bytes gathers.gone;
+        holds = subst (λ (output : List ℕ). AreAnswered market opening (stream_lines far.done) now output)
+            (sym (no_more (bytes ++ waited)) ∙ parts_behind bytes waited [] gathers.gone waits gathers.parts) far.answers.holds;
+      };
+      given = far.given;
+      spent = far.spent;
+    }

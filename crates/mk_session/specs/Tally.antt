@@ -1,5 +1,5 @@
 -- The count of a run's replies.
-use Rattle.std.specs.Prelude.{◌≡◌, ◌≢◌, ℕ, ◌≤◌, List, [], ◌∷◌, length, Bool, true, false, Option, Some, None, Result, Ok, Err, All, ⊤}
+use Rattle.std.specs.Prelude.{◌≡◌, ◌≢◌, ℕ, List, [], ◌∷◌, length, Bool, true, false, Option, Some, None, Result, Ok, Err, All, ⊤}
 use Rattle.std.specs.List.{count_by}
 use Rattle.mk_io.specs.Stream.{stream_lines}
 use Rattle.mk_exact.specs.Market.{Market}

@@ -1,5 +1,5 @@
 -- The transcripts that a market allows.
-use Rattle.std.specs.Prelude.{◌≡◌, ◌≢◌, ℕ, List, ◌++◌, filter, true, All}
+use Rattle.std.specs.Prelude.{◌≡◌, ◌≢◌, ℕ, List, ◌++◌, filter, All}
 use Rattle.std.specs.List.{flat_map, AllZip}
 use Rattle.mk_io.specs.Stream.{StreamLine, text, long, is_not_blank}
 use Rattle.mk_exact.specs.Market.{Market, network_of}

@@ -2,18 +2,19 @@
 
 ghost use Rattle.std.specs.Prelude.{◌≡◌, ◌≢◌, ◌+◌, ◌≤◌, ℕ, List, [], ◌∷◌, None, Option, Some, ◌==◌, OnOk, OnErr, true, false, IfNone, IfSome, MatchOption, MatchResult};
 ghost use Rattle.std.specs.List.{list_all};
-ghost use Rattle.mk_io.specs.Outside.{HasCause, AddsFront, append_known};
+ghost use Rattle.mk_io.specs.Outside.{HasCause, AddsFront};
 ghost use Rattle.mk_io.specs.Stream.{text, long, max_stream_lines};
 ghost use Rattle.mk_io.specs.Cutting.{GoesOn};
 ghost use Rattle.mk_session.specs.Texts.{reply_line};
 ghost use Rattle.mk_rules.specs.Transcript.{opening};
-ghost use Rattle.mk_session.specs.Transcript.{AreReplied, AreAnswered};
-ghost use Rattle.mk_session.specs.Outcome.{Adds, HasCauses, CountsNone};
-ghost use Rattle.mk_session.specs.inner.Progress.{AreCutOff, IsSoFar, IsEnded};
+ghost use Rattle.mk_session.specs.Transcript.{AreReplied};
+ghost use Rattle.mk_session.specs.Outcome.{HasCauses, CountsNone};
+ghost use Rattle.mk_session.specs.inner.Progress.{Gathers, AreGathered, IsReady, IsSoFar, IsEnded};
 
 use crate::print::{LineBuffer, print_reply_line};
+use crate::waiting::{put_line, write_before_read};
 use mk_command::read_command;
-use mk_io::{Inputs, Lines, Next, Sink, SinkFailed, Status, write_all};
+use mk_io::{Inputs, Lines, Next, Sink, SinkFailed, Status};
 use mk_market::Market;
 use mk_reply::{Refusal, Reply};
 use mk_semiring::{MinProd, SumProd};
@@ -44,74 +45,81 @@ pub(crate) fn reply_to(alloc: Global, market: &mut TreeMarket, line: &[u8]) -> R
     }
 }
 
-/// Writes the line of a reply.
-fn say<S: Sink>(reply: &Reply, buffer: &mut LineBuffer, out: &mut S) -> Result<(), SinkFailed>
+/// Puts the line of a reply behind those that wait.
+fn say<S: Sink>(
+    reply: &Reply,
+    buffer: &mut LineBuffer,
+    waiting: &mut LineBuffer,
+    out: &mut S,
+) -> Result<(), SinkFailed>
     ensures cause { HasCause (S.faults out.old) (S.faults out.new) result }
-    ensures whole { OnOk result (S.written out.new ≡ append_known (S.written out.old) (reply_line reply.now)) }
-    ensures front { OnErr result (AddsFront (S.written out.old) (S.written out.new) (reply_line reply.now)) }
+    ensures gathers { OnOk result (Gathers (S.written out.old) (S.written out.new) waiting.old.bytes (reply_line reply.now) waiting.new.bytes) }
+    ensures front { OnErr result (AddsFront (S.written out.old) (S.written out.new) waiting.old.bytes) }
 {
     print_reply_line(reply, buffer);
-    write_all(out, buffer.as_bytes())
+    put_line(buffer.as_str(), waiting, out)
 }
 
-/// Answers a line that is not too long: nothing is written for a blank one.
+/// Answers a line that is not too long: a blank one has no answer.
 fn answer_text<S: Sink>(
     alloc: Global,
     market: &mut TreeMarket,
     line: &[u8],
     buffer: &mut LineBuffer,
+    waiting: &mut LineBuffer,
     out: &mut S,
 ) -> Result<(), SinkFailed>
     ensures market { market.new.market ≡ market.old.market }
     ensures cause { HasCause (S.faults out.old) (S.faults out.new) result }
-    ensures answered { OnOk result (Adds (S.written out.old) (S.written out.new)
-        (AreAnswered market.old.market market.old.standing (text line.now ∷ []) market.new.standing)) }
-    ensures cut_off { OnErr result (AreCutOff market.old.market market.old.standing (text line.now ∷ []) market.new.standing
-        (S.written out.old) (S.written out.new)) }
+    ensures answered { OnOk result (AreGathered market.old.market market.old.standing (text line.now ∷ []) market.new.standing
+        (S.written out.old) (S.written out.new) waiting.old.bytes waiting.new.bytes) }
+    ensures front { OnErr result (AddsFront (S.written out.old) (S.written out.new) waiting.old.bytes) }
 {
     if is_blank(line) {
         return Ok(());
     }
     let reply = reply_to(alloc, market, line);
-    say(&reply, buffer, out)
+    say(&reply, buffer, waiting, out)
 }
 
 /// Answers a line that is too long.
 fn answer_long<S: Sink>(
     market: &mut TreeMarket,
     buffer: &mut LineBuffer,
+    waiting: &mut LineBuffer,
     out: &mut S,
 ) -> Result<(), SinkFailed>
     ensures market { market.new.market ≡ market.old.market }
     ensures cause { HasCause (S.faults out.old) (S.faults out.new) result }
-    ensures answered { OnOk result (Adds (S.written out.old) (S.written out.new)
-        (AreAnswered market.old.market market.old.standing (long ∷ []) market.new.standing)) }
-    ensures cut_off { OnErr result (AreCutOff market.old.market market.old.standing (long ∷ []) market.new.standing
-        (S.written out.old) (S.written out.new)) }
+    ensures answered { OnOk result (AreGathered market.old.market market.old.standing (long ∷ []) market.new.standing
+        (S.written out.old) (S.written out.new) waiting.old.bytes waiting.new.bytes) }
+    ensures front { OnErr result (AddsFront (S.written out.old) (S.written out.new) waiting.old.bytes) }
 {
     let _ = market.variables();
-    say(&Reply::Refused { why: Refusal::Long }, buffer, out)
+    say(&Reply::Refused { why: Refusal::Long }, buffer, waiting, out)
 }
 
 /// Takes the next line of the stream and answers it. None where the run goes on; else how it ends.
-fn take_turn<I: Inputs, S: Sink>(
+fn answer_next<I: Inputs, S: Sink>(
     alloc: Global,
     market: &mut TreeMarket,
     lines: &mut Lines,
     inputs: &mut I,
     buffer: &mut LineBuffer,
+    waiting: &mut LineBuffer,
     out: &mut S,
 ) -> Option<Status>
-    requires { GoesOn lines.old.last }
+    requires goes_on { GoesOn lines.old.last }
+    requires ready { IsReady lines.old waiting.old.bytes }
     ensures market { market.new.market ≡ market.old.market }
     ensures goes_on { IfNone result (GoesOn lines.new.last) }
     ensures counts { IfNone result (lines.new.given ≡ lines.old.given + 1) }
-    ensures within { lines.new.given ≤ max_stream_lines }
+    ensures within { IfNone result (lines.new.given ≤ max_stream_lines) }
     ensures so_far { IfNone result ((all : List ℕ) (before : Option (List ℕ)) →
-        IsSoFar market.old.market all lines.old (I.commands inputs.old) market.old.standing before (S.written out.old) →
-        IsSoFar market.old.market all lines.new (I.commands inputs.new) market.new.standing before (S.written out.new)) }
+        IsSoFar market.old.market all lines.old (I.commands inputs.old) market.old.standing before (S.written out.old) waiting.old.bytes →
+        IsSoFar market.old.market all lines.new (I.commands inputs.new) market.new.standing before (S.written out.new) waiting.new.bytes) }
     ensures ended { IfSome result (λ status. (all : List ℕ) (before : Option (List ℕ)) →
-        IsSoFar market.old.market all lines.old (I.commands inputs.old) market.old.standing before (S.written out.old) →
+        IsSoFar market.old.market all lines.old (I.commands inputs.old) market.old.standing before (S.written out.old) waiting.old.bytes →
         IsEnded status market.old.market all (I.commands inputs.new) before (S.written out.new)) }
     ensures causes { MatchOption result
         (CountsNone (I.faults inputs.old) (I.faults inputs.new) (S.faults out.old) (S.faults out.new))
@@ -119,11 +127,44 @@ fn take_turn<I: Inputs, S: Sink>(
     ensures not_usage { IfSome result (λ status. status ≢ Status.Usage) }
 {
     match lines.next(inputs) {
-        Next::Line => end_after(answer_text(alloc, market, lines.line(), buffer, out)),
-        Next::Long => end_after(answer_long(market, buffer, out)),
+        Next::Line => end_after(answer_text(alloc, market, lines.line(), buffer, waiting, out)),
+        Next::Long => end_after(answer_long(market, buffer, waiting, out)),
         Next::End => Some(Status::Done),
         Next::ReadFault => Some(Status::ReadFault),
         Next::TooMany => Some(Status::TooMany),
+    }
+}
+
+/// Answers the next line, and writes what waits before it where more has to be read. None where the run goes on; else how it
+/// ends.
+fn take_turn<I: Inputs, S: Sink>(
+    alloc: Global,
+    market: &mut TreeMarket,
+    lines: &mut Lines,
+    inputs: &mut I,
+    buffer: &mut LineBuffer,
+    waiting: &mut LineBuffer,
+    out: &mut S,
+) -> Option<Status>
+    requires { GoesOn lines.old.last }
+    ensures market { market.new.market ≡ market.old.market }
+    ensures goes_on { IfNone result (GoesOn lines.new.last) }
+    ensures counts { IfNone result (lines.new.given ≡ lines.old.given + 1) }
+    ensures within { IfNone result (lines.new.given ≤ max_stream_lines) }
+    ensures so_far { IfNone result ((all : List ℕ) (before : Option (List ℕ)) →
+        IsSoFar market.old.market all lines.old (I.commands inputs.old) market.old.standing before (S.written out.old) waiting.old.bytes →
+        IsSoFar market.old.market all lines.new (I.commands inputs.new) market.new.standing before (S.written out.new) waiting.new.bytes) }
+    ensures ended { IfSome result (λ status. (all : List ℕ) (before : Option (List ℕ)) →
+        IsSoFar market.old.market all lines.old (I.commands inputs.old) market.old.standing before (S.written out.old) waiting.old.bytes →
+        IsEnded status market.old.market all (I.commands inputs.new) before (S.written out.new)) }
+    ensures causes { MatchOption result
+        (CountsNone (I.faults inputs.old) (I.faults inputs.new) (S.faults out.old) (S.faults out.new))
+        (λ status. HasCauses status (I.faults inputs.old) (I.faults inputs.new) (S.faults out.old) (S.faults out.new)) }
+    ensures not_usage { IfSome result (λ status. status ≢ Status.Usage) }
+{
+    match write_before_read(lines, waiting, out) {
+        Ok(()) => answer_next(alloc, market, lines, inputs, buffer, waiting, out),
+        Err(SinkFailed) => Some(Status::WriteFault),
     }
 }
 
@@ -152,8 +193,17 @@ pub fn answer_lines<I: Inputs, S: Sink>(
     ensures not_usage { result ≢ Status.Usage }
 {
     let mut lines = Lines::new();
+    let mut waiting = LineBuffer::new();
     loop {
-        if let Some(status) = take_turn(alloc, market, &mut lines, inputs, buffer, out) {
+        if let Some(status) = take_turn(
+            alloc,
+            market,
+            &mut lines,
+            inputs,
+            buffer,
+            &mut waiting,
+            out,
+        ) {
             return status;
         }
     }

@@ -7,6 +7,7 @@ mod counts;
 mod print;
 mod quiet;
 mod run;
+mod waiting;
 
 pub use counting::tally;
 pub use counts::{Tally, TallyFault};

@@ -1,5 +1,5 @@
 -- How far the count of a run's replies has come.
-use Rattle.std.specs.Prelude.{◌≡◌, ℕ, ◌<◌, ◌≤◌, List, [], ◌∷◌, ◌++◌, Option, Some, None, Result, Ok, Err, All, ⊤, Bool, true, false}
+use Rattle.std.specs.Prelude.{◌≡◌, ℕ, ◌<◌, ◌≤◌, List, [], ◌∷◌, ◌++◌, Some, None, Result, Ok, Err, All, Bool, true, false}
 use Rattle.mk_io.specs.Stream.{StreamLine}
 use Rattle.mk_io.specs.Cutting.{Cutting, GoesOn}
 use Rattle.mk_exact.specs.Market.{Market}

@@ -1,21 +1,32 @@
 -- How far a run has come: what each line leaves, and what stands between two lines.
-use Rattle.std.specs.Prelude.{◌≡◌, ℕ, List, [], ◌++◌, length, Option, Some, None}
+use Rattle.std.specs.Prelude.{◌≡◌, ℕ, List, [], ◌++◌, length, Option, Some, None, ◌⊎◌}
 use Rattle.mk_io.specs.declared.status.Status.{Status}
 use Rattle.mk_io.specs.declared.lines.Next.{Next}
-use Rattle.mk_io.specs.Outside.{AddsFront}
+use Rattle.mk_io.specs.Outside.{append_known}
 use Rattle.mk_io.specs.Stream.{StreamLine, stream_lines, AreWholeLines}
-use Rattle.mk_io.specs.Cutting.{Cutting, stream_left}
+use Rattle.mk_io.specs.Cutting.{Cutting, HoldsLine, stream_left}
 use Rattle.mk_exact.specs.Market.{Market}
 use Rattle.mk_rules.specs.Transcript.{Standing, opening}
 use Rattle.mk_session.specs.Texts.{ready_line}
 use Rattle.mk_session.specs.Transcript.{AreAnswered}
 use Rattle.mk_session.specs.Outcome.{Adds, Serves}
 
--- some lines are answered, but of the output only a front is written
-pub record AreCutOff (market : Market) (old : Standing) (lines : List StreamLine) (new : Standing) (before after : Option (List ℕ)) : Type 0 where
+-- some bytes came behind those that waited, and a first part of them all was written; the others wait
+pub record Gathers (before after : Option (List ℕ)) (waited bytes waits : List ℕ) : Type 0 where
+  pub gone : List ℕ
+  pub added : after ≡ append_known before gone
+  pub parts : waited ++ bytes ≡ gone ++ waits
+
+-- some lines are answered, and their answers are written or wait
+pub record AreGathered (market : Market) (old : Standing) (lines : List StreamLine) (new : Standing) (before after : Option (List ℕ))
+    (waited waits : List ℕ) : Type 0 where
   pub output : List ℕ
   pub answered : AreAnswered market old lines new output
-  pub front : AddsFront before after output
+  pub gathers : Gathers before after waited output waits
+
+-- the next line is there without a read, or nothing waits
+abbrev pub IsReady : Cutting → List ℕ → Type 0
+IsReady cutting waits = HoldsLine cutting ⊎ (waits ≡ [])
 
 -- where no answer stays, the bytes before the place are whole lines; where one does, nothing is left
 abbrev pub IsBetween : Option Next → List ℕ → List ℕ → Type 0
@@ -33,10 +44,10 @@ pub record IsPlaced (all : List ℕ) (cutting : Cutting) (source : Option (List 
   pub given : cutting.given ≡ length (stream_lines done)
   pub spent : cutting.spent ≡ length done
 
--- the lines before the place are answered, and the answers are written
-abbrev pub IsSoFar : Market → List ℕ → Cutting → Option (List ℕ) → Standing → Option (List ℕ) → Option (List ℕ) → Type 0
-IsSoFar market all cutting source now before written =
-    IsPlaced all cutting source (λ lines. Adds before written (AreAnswered market opening lines now))
+-- the lines before the place are answered, and the answers are written but for the last bytes, which wait
+abbrev pub IsSoFar : Market → List ℕ → Cutting → Option (List ℕ) → Standing → Option (List ℕ) → Option (List ℕ) → List ℕ → Type 0
+IsSoFar market all cutting source now before written waits =
+    IsPlaced all cutting source (λ lines. Adds before written (λ gone. AreAnswered market opening lines now (gone ++ waits)))
 
 -- the end of a run whose ready line is written
 pub record IsEnded (status : Status) (market : Market) (all : List ℕ) (source before written : Option (List ℕ)) : Type 0 where

@@ -5,7 +5,7 @@ use Rattle.mk_session.proofs.answer.answer_lines.Given as goal
 
 abbrev pub invariant-loop-status : goal.invariant-loop-status
 invariant-loop-status g l = IsGoing l.fn.market.market l.market.market (g.I.Inputs.commands l.fn.inputs) l.lines (g.I.Inputs.commands l.inputs)
-    l.market.standing (g.S.Sink.written l.fn.out) (g.S.Sink.written l.out) (g.I.Inputs.faults l.fn.inputs) (g.I.Inputs.faults l.inputs)
+    l.market.standing (g.S.Sink.written l.fn.out) (g.S.Sink.written l.out) l.waiting.bytes (g.I.Inputs.faults l.fn.inputs) (g.I.Inputs.faults l.inputs)
     (g.S.Sink.faults l.fn.out) (g.S.Sink.faults l.out)
 
 abbrev pub decreases-loop-status : goal.decreases-loop-status
