@@ -34,6 +34,7 @@ impl<P: Engine<SumProd>, A: Engine<MinProd>> Market<P, A> {
                 to,
                 at,
             } => self.edit(user, question, *to, *at),
+            Command::Bounds { .. } | Command::Spread { .. } => Err(Refusal::Syntax),
             Command::Worst { user } => self.worst(user),
             Command::Resolve { pair } => self.resolve(pair),
             Command::Settle => self.settle(),
