@@ -16,6 +16,9 @@ use crate::times::times_cells;
 use mk_cell::Cell;
 use mk_semiring::Semiring;
 
+/// The ones of a short list, whose arrays cost little to write.
+const FEW: usize = 8;
+
 /// The ones that are added at a time.
 const BLOCK: usize = 64;
 
@@ -64,6 +67,7 @@ pub(crate) fn copy_over<T: Copy>(from: &[T], to: &mut Vec<T>)
     ensures room { vec_capacity to.old ≤ vec_capacity to.new }
 {
     to.clear();
+    // It finds room, so it succeeds.
     let _ = to.extend_from_slice(from);
 }
 
@@ -175,12 +179,15 @@ pub(crate) fn plus_of_ones<R: Semiring>(count: usize) -> Cell
     ensures { (xs : List ℕ) → length xs ≡ count → (k : ℕ) (f : ℕ → ℕ) (n : ℕ) → All (λ c. StandsAt k one_digits one_exponent (f c) n) xs
         → Stands k result (plus_over R.plus_of 0 f xs) (n + 2 * count) }
 {
-    if count <= BLOCK {
-        return plus_of_few::<R>(count);
+    if count <= FEW {
+        plus_of_few::<R, FEW>(count)
+    } else if count <= BLOCK {
+        plus_of_few::<R, BLOCK>(count)
+    } else {
+        let block = plus_of_few::<R, BLOCK>(BLOCK);
+        let rest = plus_of_few::<R, BLOCK>(count % BLOCK);
+        plus_of_blocks::<R>(block, count / BLOCK, rest)
     }
-    let block = plus_of_few::<R>(BLOCK);
-    let rest = plus_of_few::<R>(count % BLOCK);
-    plus_of_blocks::<R>(block, count / BLOCK, rest)
 }
 
 /// The plus of so many equal blocks and of what is left.
@@ -198,14 +205,15 @@ fn plus_of_blocks<R: Semiring>(block: Cell, full: usize, rest: Cell) -> Cell
     R::over(&digits[..full + 1], &exponents[..full + 1])
 }
 
-/// The plus of the ones of one block.
-fn plus_of_few<R: Semiring>(count: usize) -> Cell
-    requires { count ≤ 64 }
+/// The plus of at most so many ones.
+fn plus_of_few<R: Semiring, const N: usize>(count: usize) -> Cell
+    requires few { count ≤ N }
+    requires small { N ≤ 64 }
     ensures { (xs : List ℕ) → length xs ≡ count → (k : ℕ) (f : ℕ → ℕ) (n : ℕ) → All (λ c. StandsAt k one_digits one_exponent (f c) n) xs
         → Stands k result (plus_over R.plus_of 0 f xs) (n + count) }
 {
     let one = one();
-    let digits = [one.digits; BLOCK];
-    let exponents = [one.exponent; BLOCK];
+    let digits = [one.digits; N];
+    let exponents = [one.exponent; N];
     R::over(&digits[..count], &exponents[..count])
 }

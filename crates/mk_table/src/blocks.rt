@@ -9,6 +9,9 @@ ghost use Rattle.mk_table.specs.inner.Parts.{HaveRoom, StandListed, block_of};
 use mk_cell::Cell;
 use mk_semiring::Semiring;
 
+/// The cells of a short list, which are gathered in arrays that cost little to clear.
+const FEW: usize = 8;
+
 /// The cells of a block, and the blocks of a list.
 const BLOCK: usize = 64;
 
@@ -53,11 +56,33 @@ pub(crate) fn plus_at<R: Semiring>(
     ensures { (k : ℕ) (f : ℕ → ℕ) (n : ℕ) → StandListed k digits.now exponents.now f n base offsets.now
         → Stands k result (plus_over R.plus_of 0 (λ c. f (base + c)) offsets.now) (n + 2 * length offsets.now) }
 {
+    if offsets.len() <= FEW {
+        plus_of_block::<R, FEW>(digits, exponents, base, offsets)
+    } else if offsets.len() <= BLOCK {
+        plus_of_block::<R, BLOCK>(digits, exponents, base, offsets)
+    } else {
+        plus_by_blocks::<R>(digits, exponents, base, offsets)
+    }
+}
+
+/// The plus of the cells that lie so far from a base, which are more than a block has: the plus of the plus of each block.
+fn plus_by_blocks<R: Semiring>(
+    digits: &[u64],
+    exponents: &[u32],
+    base: usize,
+    offsets: &[u16],
+) -> Cell
+    requires few { length offsets.now ≤ max_clique_cells }
+    requires within { All (λ c. base + c < length digits.now) offsets.now }
+    requires room { (k : ℕ) × HaveRoom k digits.now exponents.now (2 * length offsets.now) }
+    ensures { (k : ℕ) (f : ℕ → ℕ) (n : ℕ) → StandListed k digits.now exponents.now f n base offsets.now
+        → Stands k result (plus_over R.plus_of 0 (λ c. f (base + c)) offsets.now) (n + 2 * length offsets.now) }
+{
     let blocks = offsets.len().div_ceil(BLOCK);
     let mut block_digits = [0u64; BLOCK];
     let mut block_exponents = [0u32; BLOCK];
     for block in 0..blocks {
-        let cell = plus_of_block::<R>(digits, exponents, base, block_of(offsets, block));
+        let cell = plus_of_block::<R, BLOCK>(digits, exponents, base, block_of(offsets, block));
         block_digits[block] = cell.digits;
         block_exponents[block] = cell.exponent;
     }
@@ -74,22 +99,23 @@ fn block_of(offsets: &[u16], block: usize) -> &[u16]
     &rest[..BLOCK.min(rest.len())]
 }
 
-/// The plus of the cells of one block.
-fn plus_of_block<R: Semiring>(
+/// The plus of at most so many cells that lie so far from a base.
+fn plus_of_block<R: Semiring, const N: usize>(
     digits: &[u64],
     exponents: &[u32],
     base: usize,
     offsets: &[u16],
 ) -> Cell
-    requires few { length offsets.now ≤ 64 }
+    requires few { length offsets.now ≤ N }
+    requires small { N ≤ 64 }
     requires within { All (λ c. base + c < length digits.now) offsets.now }
     requires cells { AreCells digits.now exponents.now }
     ensures { (k : ℕ) (f : ℕ → ℕ) (n : ℕ) → StandListed k digits.now exponents.now f n base offsets.now
         → Stands k result (plus_over R.plus_of 0 (λ c. f (base + c)) offsets.now) (n + length offsets.now) }
 {
     let count = offsets.len();
-    let mut block_digits = [0u64; BLOCK];
-    let mut block_exponents = [0u32; BLOCK];
+    let mut block_digits = [0u64; N];
+    let mut block_exponents = [0u32; N];
     for place in 0..count {
         let cell = base + offsets[place] as usize;
         block_digits[place] = digits[cell];

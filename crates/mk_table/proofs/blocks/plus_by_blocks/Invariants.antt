@@ -2,7 +2,7 @@ use Rattle.std.proofs.Common.{◌≡◌, ℕ, ◌+◌, ◌<◌, length, slice_in
 use Rattle.mk_exact.specs.States.{plus_over}
 use Rattle.mk_cell.specs.Cell.{StandsAt}
 use Rattle.mk_table.specs.inner.Parts.{StandListed, block_of}
-use Rattle.mk_table.proofs.blocks.plus_at.Given as goal
+use Rattle.mk_table.proofs.blocks.plus_by_blocks.Given as goal
 
 abbrev pub invariant-loop-block : goal.invariant-loop-block
 invariant-loop-block g l = record {
