@@ -10,7 +10,8 @@ ghost use Rattle.mk_sums.specs.There.{share_there};
 ghost use Rattle.mk_cell.specs.Cell.{IsCell, Stands};
 ghost use Rattle.mk_table.specs.Scopes.{LiesIn, HasEvent, HasOneEach, HasSized, Rising, cells_in, has_variable};
 ghost use Rattle.mk_table.specs.Cells.{values_at, cell_in, cells_where};
-ghost use Rattle.mk_table.specs.inner.Parts.{IsFull, HaveRoom, IsTimes, IsTimesCell, IsChanged, IsAmong, IsRestricted, cells_at};
+ghost use Rattle.mk_table.specs.inner.Parts.{IsFull, HaveRoom, IsTimes, IsTimesCell, IsChanged, IsAmong, IsInRun, IsRestricted, cells_at};
+ghost use Rattle.mk_table.specs.inner.Strides.{runs_of};
 
 use crate::part::Places;
 use crate::picked::{share_of, units_for};
@@ -104,34 +105,50 @@ pub(crate) fn times_cells(
         (λ c. c < cells_in places.now.whole) digits.old exponents.old digits.new exponents.new }
     ensures lies_in { LiesIn places.now.part places.now.whole }
 {
-    let (bases, offsets) = places.lists();
+    let (bases, offsets, run) = places.lists();
     for place in 0..bases.len() {
         let other = Cell {
             digits: other_digits[place],
             exponent: other_exponents[place],
         };
-        times_listed(digits, exponents, bases[place] as usize, offsets, other);
+        times_runs(digits, exponents, bases[place] as usize, offsets, run, other);
     }
 }
 
-/// Multiplies the cells that lie so far from a base.
-fn times_listed(
+/// Multiplies the runs of cells that begin so far from a base.
+fn times_runs(
     digits: &mut [u64],
     exponents: &mut [u32],
     base: usize,
     offsets: &[u16],
+    run: usize,
     other: Cell,
 )
-    requires within { All (λ c. c < length digits.old) (cells_at base offsets.now) }
-    requires within_exponents { All (λ c. c < length exponents.old) (cells_at base offsets.now) }
-    requires rising { Rising (cells_at base offsets.now) }
-    requires cells { All (λ c. IsCell (slice_index digits.old c) (slice_index exponents.old c)) (cells_at base offsets.now) }
+    requires within { All (λ c. c < length digits.old) (cells_at base (runs_of run offsets.now)) }
+    requires within_exponents { All (λ c. c < length exponents.old) (cells_at base (runs_of run offsets.now)) }
+    requires rising { Rising (cells_at base (runs_of run offsets.now)) }
+    requires cells { All (λ c. IsCell (slice_index digits.old c) (slice_index exponents.old c)) (cells_at base (runs_of run offsets.now)) }
     requires other { IsCell other.digits other.exponent }
     ensures { IsChanged (λ c d e x y. IsTimesCell d e other.digits other.exponent x y)
-        (IsAmong (cells_at base offsets.now) (length offsets.now)) digits.old exponents.old digits.new exponents.new }
+        (IsAmong (cells_at base (runs_of run offsets.now)) (length (runs_of run offsets.now))) digits.old exponents.old digits.new exponents.new }
 {
     for place in 0..offsets.len() {
-        let cell = base + offsets[place] as usize;
+        let first = base + offsets[place] as usize;
+        times_run(digits, exponents, first, run, other);
+    }
+}
+
+/// Multiplies cells that lie side by side.
+#[inline]
+fn times_run(digits: &mut [u64], exponents: &mut [u32], first: usize, run: usize, other: Cell)
+    requires within { first + run ≤ length digits.old }
+    requires within_exponents { first + run ≤ length exponents.old }
+    requires cells { (i : ℕ) → i < run → IsCell (slice_index digits.old (first + i)) (slice_index exponents.old (first + i)) }
+    requires other { IsCell other.digits other.exponent }
+    ensures { IsChanged (λ c d e x y. IsTimesCell d e other.digits other.exponent x y) (IsInRun first run)
+        digits.old exponents.old digits.new exponents.new }
+{
+    for cell in first..first + run {
         times_at(digits, exponents, cell, other);
     }
 }

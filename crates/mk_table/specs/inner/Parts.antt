@@ -66,6 +66,11 @@ pub record IsChanged (R : ℕ → ℕ → ℕ → ℕ → ℕ → Type 0) (reach
 abbrev pub IsAmong : List ℕ → ℕ → ℕ → Type 0
 IsAmong xs n c = (k : ℕ) × (k < n) × (slice_index xs k ≡ c)
 
+-- one of so many numbers from the first on
+pub record IsInRun (first count c : ℕ) : Type 0 where
+  pub from : first ≤ c
+  pub below : c < first + count
+
 -- what a restriction makes of a cell that it keeps, or does not keep
 pub record IsRestricted (kept : Bool) (digits exponent new_digits new_exponent : ℕ) : Type 0 where
   pub same_digits : kept ≡ true → new_digits ≡ digits
@@ -77,13 +82,14 @@ pub record IsRestricted (kept : Bool) (digits exponent new_digits new_exponent :
 abbrev pub cells_at : ℕ → List ℕ → List ℕ
 cells_at base offsets = map (λ c. base + c) offsets
 
--- a base in the whole for each cell of a part: the cells with its values lie there and so far from it
-pub record ArePlaces (part whole : ScopeOf) (bases offsets : List ℕ) : Type 0 where
+-- a base in the whole for each cell of a part: the cells with its values lie there and so far from it, in runs
+pub record ArePlaces (part whole : ScopeOf) (bases offsets : List ℕ) (run : ℕ) : Type 0 where
   pub is_whole : IsScope whole
   pub lies_in : LiesIn part whole
   pub one_each : length bases ≡ cells_in part
   pub onto : (d : ℕ) → d < cells_in part → cells_at (slice_index bases d) offsets ≡ cells_onto part whole d
   pub few : length offsets ≤ cells_in whole
+  pub some : 1 ≤ run
 
 -- a block of a list of cells
 abbrev pub block_of : List ℕ → ℕ → List ℕ
