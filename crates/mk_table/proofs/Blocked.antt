@@ -14,10 +14,10 @@ use Rattle.mk_cell.specs.inner.Laws.{all_have_room}
 use Rattle.mk_table.specs.inner.Parts.{HaveRoom, StandListed, block_of}
 
 module _ (plus : ℕ → ℕ → ℕ) (law : Lawful plus) where
-  is_plus : IsPlus plus 0
+  pub is_plus : IsPlus plus 0
   is_plus = record { assoc = law.associates; comm = law.commutes; neutral = law.neutral }
 
-  plus_over_push : (f : ℕ → ℕ) (xs : List ℕ) (x : ℕ) → plus (plus_over plus 0 f xs) (f x) ≡ plus_over plus 0 f (xs ++ x ∷ [])
+  pub plus_over_push : (f : ℕ → ℕ) (xs : List ℕ) (x : ℕ) → plus (plus_over plus 0 f xs) (f x) ≡ plus_over plus 0 f (xs ++ x ∷ [])
   plus_over_push f xs x =
       ap (plus (plus_over plus 0 f xs)) (sym (law.commutes (f x) 0 ∙ law.neutral (f x))) ∙ sym (plus_over-append plus 0 is_plus f xs (x ∷ []))
 

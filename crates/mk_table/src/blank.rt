@@ -151,7 +151,15 @@ pub(crate) fn plus_of_each<R: Semiring>(
         put_everywhere(out_digits, out_exponents, cell, bases.len());
     } else {
         fill(out_digits, out_exponents, bases.len());
-        plus_at_each::<R>(digits, exponents, bases, offsets, run, out_digits, out_exponents);
+        plus_at_each::<R>(
+            digits,
+            exponents,
+            bases,
+            offsets,
+            run,
+            out_digits,
+            out_exponents,
+        );
     }
 }
 

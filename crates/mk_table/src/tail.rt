@@ -1,6 +1,6 @@
 //! The variables of a scope that change fastest.
 
-ghost use Rattle.std.specs.Prelude.{ℕ, List};
+ghost use Rattle.std.specs.Prelude.{◌≡◌, ℕ, List};
 ghost use Rattle.mk_table.specs.Scopes.{ScopeOf};
 ghost use Rattle.mk_table.specs.inner.Strides.{IsTail};
 
@@ -17,7 +17,8 @@ pub(crate) struct Tail {
 
 /// None of the variables: each cell is a run.
 pub(crate) fn no_tail() -> Tail
-    ensures { (scope : ScopeOf) (values : ℕ → List ℕ) → IsTail scope values result.variables result.cells }
+    ensures single { result.cells ≡ 1 }
+    ensures tail { (scope : ScopeOf) (values : ℕ → List ℕ) → IsTail scope values result.variables result.cells }
 {
     Tail {
         variables: 0,

@@ -10,7 +10,7 @@ ghost use Rattle.mk_sums.specs.There.{share_there};
 ghost use Rattle.mk_cell.specs.Cell.{IsCell, Stands};
 ghost use Rattle.mk_table.specs.Scopes.{LiesIn, HasEvent, HasOneEach, HasSized, Rising, cells_in, has_variable};
 ghost use Rattle.mk_table.specs.Cells.{values_at, cell_in, cells_where};
-ghost use Rattle.mk_table.specs.inner.Parts.{IsFull, HaveRoom, IsTimes, IsTimesCell, IsChanged, IsAmong, IsInRun, IsRestricted, cells_at};
+ghost use Rattle.mk_table.specs.inner.Parts.{IsFull, HaveRoom, IsTimes, IsTimesCell, IsChanged, IsAmong, IsBetween, IsOfRuns, IsRestricted, cells_at};
 ghost use Rattle.mk_table.specs.inner.Strides.{runs_of};
 
 use crate::part::Places;
@@ -111,7 +111,14 @@ pub(crate) fn times_cells(
             digits: other_digits[place],
             exponent: other_exponents[place],
         };
-        times_runs(digits, exponents, bases[place] as usize, offsets, run, other);
+        times_runs(
+            digits,
+            exponents,
+            bases[place] as usize,
+            offsets,
+            run,
+            other,
+        );
     }
 }
 
@@ -124,13 +131,14 @@ fn times_runs(
     run: usize,
     other: Cell,
 )
+    requires some { 1 ≤ run }
     requires within { All (λ c. c < length digits.old) (cells_at base (runs_of run offsets.now)) }
     requires within_exponents { All (λ c. c < length exponents.old) (cells_at base (runs_of run offsets.now)) }
     requires rising { Rising (cells_at base (runs_of run offsets.now)) }
     requires cells { All (λ c. IsCell (slice_index digits.old c) (slice_index exponents.old c)) (cells_at base (runs_of run offsets.now)) }
     requires other { IsCell other.digits other.exponent }
-    ensures { IsChanged (λ c d e x y. IsTimesCell d e other.digits other.exponent x y)
-        (IsAmong (cells_at base (runs_of run offsets.now)) (length (runs_of run offsets.now))) digits.old exponents.old digits.new exponents.new }
+    ensures { IsChanged (λ c d e x y. IsTimesCell d e other.digits other.exponent x y) (IsOfRuns base run offsets.now (length offsets.now))
+        digits.old exponents.old digits.new exponents.new }
 {
     for place in 0..offsets.len() {
         let first = base + offsets[place] as usize;
@@ -143,9 +151,9 @@ fn times_runs(
 fn times_run(digits: &mut [u64], exponents: &mut [u32], first: usize, run: usize, other: Cell)
     requires within { first + run ≤ length digits.old }
     requires within_exponents { first + run ≤ length exponents.old }
-    requires cells { (i : ℕ) → i < run → IsCell (slice_index digits.old (first + i)) (slice_index exponents.old (first + i)) }
+    requires cells { (c : ℕ) → IsBetween first (first + run) c → IsCell (slice_index digits.old c) (slice_index exponents.old c) }
     requires other { IsCell other.digits other.exponent }
-    ensures { IsChanged (λ c d e x y. IsTimesCell d e other.digits other.exponent x y) (IsInRun first run)
+    ensures { IsChanged (λ c d e x y. IsTimesCell d e other.digits other.exponent x y) (IsBetween first (first + run))
         digits.old exponents.old digits.new exponents.new }
 {
     for cell in first..first + run {

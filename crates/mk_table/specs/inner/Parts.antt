@@ -66,10 +66,14 @@ pub record IsChanged (R : ℕ → ℕ → ℕ → ℕ → ℕ → Type 0) (reach
 abbrev pub IsAmong : List ℕ → ℕ → ℕ → Type 0
 IsAmong xs n c = (k : ℕ) × (k < n) × (slice_index xs k ≡ c)
 
--- one of so many numbers from the first on
-pub record IsInRun (first count c : ℕ) : Type 0 where
+-- one of the numbers from the first on, below the end
+pub record IsBetween (first end c : ℕ) : Type 0 where
   pub from : first ≤ c
-  pub below : c < first + count
+  pub below : c < end
+
+-- a cell of one of the first n runs, which begin so far from a base
+abbrev pub IsOfRuns : ℕ → ℕ → List ℕ → ℕ → ℕ → Type 0
+IsOfRuns base run offsets n c = (k : ℕ) × (k < n) × IsBetween (base + slice_index offsets k) (base + slice_index offsets k + run) c
 
 -- what a restriction makes of a cell that it keeps, or does not keep
 pub record IsRestricted (kept : Bool) (digits exponent new_digits new_exponent : ℕ) : Type 0 where

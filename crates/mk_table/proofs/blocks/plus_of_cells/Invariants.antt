@@ -1,5 +1,5 @@
 use Rattle.std.proofs.Common.{◌≡◌, ℕ, ◌+◌, ◌<◌, length, slice_index}
-use Rattle.mk_table.proofs.blocks.plus_of_block.Given as goal
+use Rattle.mk_table.proofs.blocks.plus_of_cells.Given as goal
 
 abbrev pub invariant-loop-place : goal.invariant-loop-place
 invariant-loop-place g l = record {
