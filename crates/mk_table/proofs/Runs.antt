@@ -13,7 +13,7 @@ use Rattle.mk_exact.proofs.Sums.{plus_over-flat_map}
 use Rattle.mk_cell.specs.Passes.{plus_below}
 use Rattle.mk_cell.specs.Cell.{AllStand, AreCells, IsCell, StandsAt}
 use Rattle.mk_table.specs.Scopes.{Rising}
-use Rattle.mk_table.specs.inner.Parts.{HaveRoom, StandListed, IsBetween, IsOfRuns, cells_at, block_of}
+use Rattle.mk_table.specs.inner.Parts.{HaveRoom, StandListed, IsAmong, IsBetween, IsOfRuns, cells_at, block_of}
 use Rattle.mk_table.specs.inner.Strides.{repeated, runs_of}
 use Rattle.mk_table.proofs.Members.{range_more, rising_at}
 use Rattle.mk_table.proofs.Blocked.{is_plus, plus_over_push, block_within}
@@ -253,3 +253,26 @@ steps_of_blocks run r blocks l h =
 
 pub more_runs_steps : (run a b : ℕ) → a ≤ b → a * (2 * run - 1) ≤ b * (2 * run - 1)
 more_runs_steps run a b l = block_runs_few (2 * run - 1) a b l
+
+-- ---- cells that lie so far from a base
+
+pub at_place : (base : ℕ) (offsets : List ℕ) (i : ℕ) → i < length offsets → base + slice_index offsets i ≡ slice_index (cells_at base offsets) i
+at_place base offsets i l = sym (get_or-map (λ c. base + c) offsets i 0 0 l)
+
+pub all_at : (P : ℕ → Type 0) (base : ℕ) (offsets : List ℕ) (i : ℕ) → All P (cells_at base offsets) → i < length offsets → P (base + slice_index offsets i)
+all_at P base offsets i h l = subst P (sym (at_place base offsets i l)) (h i 0 (omega (arith, l, length-map offsets (λ c. base + c))))
+
+-- no cell comes twice
+pub apart_at : (base : ℕ) (offsets : List ℕ) (i : ℕ) → Rising (cells_at base offsets) → i < length offsets → (k : ℕ) → k < i → slice_index (cells_at base offsets) k ≡ slice_index (cells_at base offsets) i → ⊥
+apart_at base offsets i r l k m e =
+    let b = rising_at (cells_at base offsets) r k i m (omega (arith, l, length-map offsets (λ c. base + c))) in
+    omega (arith, b, e)
+
+-- runs of one cell
+pub is_of_single : (base run : ℕ) (offsets : List ℕ) (c : ℕ) → run ≡ 1 → IsOfRuns base run offsets (length offsets) c → IsAmong (cells_at base offsets) (length offsets) c
+is_of_single base run offsets c one p =
+    let l = p.1 in let f = p.2.from in let b = p.2.below in let e = at_place base offsets p.0 l in (p.0, l, omega (arith, one, e, f, b))
+
+pub single_is_of : (base run : ℕ) (offsets : List ℕ) (c : ℕ) → run ≡ 1 → IsAmong (cells_at base offsets) (length offsets) c → IsOfRuns base run offsets (length offsets) c
+single_is_of base run offsets c one p =
+    let l = p.1 in let i = p.2 in let e = at_place base offsets p.0 l in (p.0, l, record { from = omega (arith, i, e); below = omega (arith, one, i, e) })

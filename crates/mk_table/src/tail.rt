@@ -5,7 +5,7 @@ ghost use Rattle.mk_table.specs.Scopes.{ScopeOf};
 ghost use Rattle.mk_table.specs.inner.Strides.{IsTail};
 
 /// The least cells of a run that are worth a pass of their own.
-const LEAST_RUN: usize = 8;
+const LEAST_RUN: usize = 16;
 
 /// How many of a scope's last variables may have each of their values, and how many cells they have. These cells lie side by
 /// side, and so they do for each value of the variables before: they are a run.

@@ -111,7 +111,7 @@ pub(crate) fn times_cells(
             digits: other_digits[place],
             exponent: other_exponents[place],
         };
-        times_runs(
+        times_far(
             digits,
             exponents,
             bases[place] as usize,
@@ -123,6 +123,53 @@ pub(crate) fn times_cells(
 }
 
 /// Multiplies the runs of cells that begin so far from a base.
+fn times_far(
+    digits: &mut [u64],
+    exponents: &mut [u32],
+    base: usize,
+    offsets: &[u16],
+    run: usize,
+    other: Cell,
+)
+    requires some { 1 ≤ run }
+    requires within { All (λ c. c < length digits.old) (cells_at base (runs_of run offsets.now)) }
+    requires within_exponents { All (λ c. c < length exponents.old) (cells_at base (runs_of run offsets.now)) }
+    requires rising { Rising (cells_at base (runs_of run offsets.now)) }
+    requires cells { All (λ c. IsCell (slice_index digits.old c) (slice_index exponents.old c)) (cells_at base (runs_of run offsets.now)) }
+    requires other { IsCell other.digits other.exponent }
+    ensures { IsChanged (λ c d e x y. IsTimesCell d e other.digits other.exponent x y) (IsOfRuns base run offsets.now (length offsets.now))
+        digits.old exponents.old digits.new exponents.new }
+{
+    if run == 1 {
+        times_listed(digits, exponents, base, offsets, other);
+    } else {
+        times_runs(digits, exponents, base, offsets, run, other);
+    }
+}
+
+/// Multiplies the cells that lie so far from a base.
+fn times_listed(
+    digits: &mut [u64],
+    exponents: &mut [u32],
+    base: usize,
+    offsets: &[u16],
+    other: Cell,
+)
+    requires within { All (λ c. c < length digits.old) (cells_at base offsets.now) }
+    requires within_exponents { All (λ c. c < length exponents.old) (cells_at base offsets.now) }
+    requires rising { Rising (cells_at base offsets.now) }
+    requires cells { All (λ c. IsCell (slice_index digits.old c) (slice_index exponents.old c)) (cells_at base offsets.now) }
+    requires other { IsCell other.digits other.exponent }
+    ensures { IsChanged (λ c d e x y. IsTimesCell d e other.digits other.exponent x y)
+        (IsAmong (cells_at base offsets.now) (length offsets.now)) digits.old exponents.old digits.new exponents.new }
+{
+    for place in 0..offsets.len() {
+        let cell = base + offsets[place] as usize;
+        times_at(digits, exponents, cell, other);
+    }
+}
+
+/// Multiplies runs of many cells that begin so far from a base.
 fn times_runs(
     digits: &mut [u64],
     exponents: &mut [u32],

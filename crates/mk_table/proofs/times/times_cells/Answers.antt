@@ -9,30 +9,30 @@ use Rattle.mk_table.proofs.Kept.{cell_within}
 use Rattle.mk_table.proofs.Placed.{IsBefore, placed_each, placed_rising, message_more}
 use Rattle.mk_table.proofs.times.times_cells.Goals as goal
 
-pub times_runs-requires-clause-within : goal.times_runs-requires-clause-within
-times_runs-requires-clause-within c =
+pub times_far-requires-clause-within : goal.times_far-requires-clause-within
+times_far-requires-clause-within c =
     let d = c.loop-place.place in let part = c.args.places.now.part in let whole = c.args.places.now.whole in
     let l : d < cells_in part = omega (arith, c.lists-run.ensures.one_each, c.loop-place-test.true) in
     let long : length c.loop-place.digits ≡ cells_in whole = omega (arith, c.loop-place.invariant.as_many_digits, c.requires.full.as_many_digits) in
     subst (λ n. All (λ k. k < n) (cells_at (slice_index c.lists-run.result.0.now d) (runs_of c.lists-run.result.2 c.lists-run.result.1.now))) (sym long)
     (placed_each part whole c.lists-run.result.0.now c.lists-run.result.1.now c.lists-run.result.2 c.lists-run.ensures d l (λ k. k < cells_in whole) (λ k m e. m))
 
-pub times_runs-requires-clause-within_exponents : goal.times_runs-requires-clause-within_exponents
-times_runs-requires-clause-within_exponents c =
+pub times_far-requires-clause-within_exponents : goal.times_far-requires-clause-within_exponents
+times_far-requires-clause-within_exponents c =
     let d = c.loop-place.place in let part = c.args.places.now.part in let whole = c.args.places.now.whole in
     let l : d < cells_in part = omega (arith, c.lists-run.ensures.one_each, c.loop-place-test.true) in
     let long : length c.loop-place.exponents ≡ cells_in whole = omega (arith, c.loop-place.invariant.as_many_exponents, c.requires.full.as_many_exponents) in
     subst (λ n. All (λ k. k < n) (cells_at (slice_index c.lists-run.result.0.now d) (runs_of c.lists-run.result.2 c.lists-run.result.1.now))) (sym long)
     (placed_each part whole c.lists-run.result.0.now c.lists-run.result.1.now c.lists-run.result.2 c.lists-run.ensures d l (λ k. k < cells_in whole) (λ k m e. m))
 
-pub times_runs-requires-clause-rising : goal.times_runs-requires-clause-rising
-times_runs-requires-clause-rising c =
+pub times_far-requires-clause-rising : goal.times_far-requires-clause-rising
+times_far-requires-clause-rising c =
     let d = c.loop-place.place in let part = c.args.places.now.part in
     let l : d < cells_in part = omega (arith, c.lists-run.ensures.one_each, c.loop-place-test.true) in
     placed_rising part c.args.places.now.whole c.lists-run.result.0.now c.lists-run.result.1.now c.lists-run.result.2 c.lists-run.ensures d l
 
-pub times_runs-requires-clause-cells : goal.times_runs-requires-clause-cells
-times_runs-requires-clause-cells c =
+pub times_far-requires-clause-cells : goal.times_far-requires-clause-cells
+times_far-requires-clause-cells c =
     let d = c.loop-place.place in let part = c.args.places.now.part in let whole = c.args.places.now.whole in
     let l : d < cells_in part = omega (arith, c.lists-run.ensures.one_each, c.loop-place-test.true) in
     placed_each part whole c.lists-run.result.0.now c.lists-run.result.1.now c.lists-run.result.2 c.lists-run.ensures d l (λ k. IsCell (slice_index c.loop-place.digits k) (slice_index c.loop-place.exponents k))
@@ -40,8 +40,8 @@ times_runs-requires-clause-cells c =
     left_cell _ (IsBefore part whole d) c.args.digits.now c.args.exponents.now c.loop-place.digits c.loop-place.exponents c.requires.room.0 1 k c.requires.room.1 c.loop-place.invariant
     (λ p. omega (arith, p.1, e)) (omega (arith, m, c.requires.full.as_many_digits)))
 
-pub times_runs-requires-clause-other : goal.times_runs-requires-clause-other
-times_runs-requires-clause-other c =
+pub times_far-requires-clause-other : goal.times_far-requires-clause-other
+times_far-requires-clause-other c =
     room_cell c.args.other_digits.now c.args.other_exponents.now c.requires.other_room.0 1 c.loop-place.place c.requires.other_room.1
     (omega (arith, c.requires.other_full.as_many_digits, c.lists-run.ensures.one_each, c.loop-place-test.true))
 
@@ -50,7 +50,7 @@ loop-place-preserved c =
     let d = c.loop-place.place in let part = c.args.places.now.part in
     let l : d < cells_in part = omega (arith, c.lists-run.ensures.one_each, c.loop-place-test.true) in
     message_more part c.args.places.now.whole c.lists-run.result.0.now c.lists-run.result.1.now c.lists-run.result.2 c.lists-run.ensures d l c.args.other_digits.now c.args.other_exponents.now c.args.digits.now c.args.exponents.now
-    c.loop-place.digits c.loop-place.exponents c.times_runs.new.digits c.times_runs.new.exponents c.loop-place.invariant c.times_runs.ensures
+    c.loop-place.digits c.loop-place.exponents c.times_far.new.digits c.times_far.new.exponents c.loop-place.invariant c.times_far.ensures
 
 pub returns-clause-changed : goal.returns-clause-changed
 returns-clause-changed c =
