@@ -14,9 +14,10 @@ ghost use Rattle.mk_table.specs.Tables.{HasNumbers, HasRoom, is_untouched};
 
 use crate::blank::{copy_over, fill, one, plus_of_each, plus_of_listed, times_held};
 use crate::part::Places;
+use crate::picked::RATIO_SHIFT;
 use crate::scope::Scope;
 use crate::strides::CellList;
-use crate::times::{RATIO_SHIFT, keep_value, times_shares, times_units};
+use crate::times::{keep_value, times_shares, times_units};
 use crate::touched::{beside, either, is_untouched_by, within};
 use mk_cell::Cell;
 use mk_net::{Event, Network, NoMemory, Pair, Ratio};

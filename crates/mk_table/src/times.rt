@@ -14,13 +14,10 @@ ghost use Rattle.mk_table.specs.inner.Parts.{IsFull, HaveRoom, IsTimes, IsTimesC
 ghost use Rattle.mk_table.specs.inner.Strides.{runs_of};
 
 use crate::part::Places;
-use crate::picked::{share_of, units_for};
+use crate::picked::{share_of, unit_cells};
 use crate::scope::Scope;
 use mk_cell::Cell;
 use mk_net::{Network, Pair, Ratio};
-
-/// The places of two by which the units of a ratio are shifted.
-pub(crate) const RATIO_SHIFT: u32 = 40;
 
 /// Multiplies one cell.
 #[inline]
@@ -81,10 +78,15 @@ pub(crate) fn times_units(
     ensures { IsChanged (λ c d e x y. IsTimes d e 40 (units_of (trade_ratio ratio.now) (values_at scope.now c ratio.now.variable)) 0 x y)
         (IsAmong chosen.now (length chosen.now)) digits.old exponents.old digits.new exponents.new }
 {
+    let units = unit_cells(ratio);
     for place in 0..chosen.len() {
         let cell = chosen[place] as usize;
-        let units = units_for(ratio, scope.value(cell, ratio.variable));
-        times_at(digits, exponents, cell, Cell::of_whole(units, RATIO_SHIFT));
+        let value = scope.value(cell, ratio.variable) as usize;
+        let other = Cell {
+            digits: units.digits[value],
+            exponent: units.exponents[value],
+        };
+        times_at(digits, exponents, cell, other);
     }
 }
 

@@ -54,6 +54,13 @@ pub record IsTimes (digits exponent shift number steps new_digits new_exponent :
 pub record IsTimesCell (digits exponent other_digits other_exponent new_digits new_exponent : ℕ) : Type 0 where
   pub times : (k w p : ℕ) → StandsAt k other_digits other_exponent w p → IsTimes digits exponent k w p new_digits new_exponent
 
+-- the cells of the units of a ratio, one for each value of its variable, of 16 at most
+pub record AreUnitCells (units digits exponents : List ℕ) : Type 0 where
+  pub few : length units ≤ 16
+  pub long : length digits ≡ 16
+  pub long_too : length exponents ≡ 16
+  pub stand : (v : ℕ) → v < length units → StandsAt 40 (slice_index digits v) (slice_index exponents v) (slice_index units v) 0
+
 -- Of two arrays the cells that are reached are changed as R says, and the others are as they were.
 pub record IsChanged (R : ℕ → ℕ → ℕ → ℕ → ℕ → Type 0) (reached : ℕ → Type 0) (old_digits old_exponents digits exponents : List ℕ) : Type 0 where
   pub as_many_digits : length digits ≡ length old_digits

@@ -1,4 +1,4 @@
-use Rattle.std.proofs.Common.{◌≡◌, ◌<◌, ℕ, List, All, length, slice_index, ap, subst, ◌∙◌}
+use Rattle.std.proofs.Common.{◌<◌, ℕ, List, All, length, slice_index, ap, subst, ◌∙◌}
 use Rattle.mk_cell.specs.Cell.{IsCell}
 use Rattle.mk_table.specs.Scopes.{Rising}
 use Rattle.mk_table.specs.inner.Parts.{IsTimesCell, IsAmong, IsOfRuns, cells_at}
