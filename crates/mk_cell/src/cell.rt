@@ -79,7 +79,8 @@ pub(crate) fn rounded(total: u128, exponent: u32) -> Cell
 
 /// The first 64 digits of a product of full digits, and the places that had to be made up: 0 or 1.
 ///
-/// It makes no choice, which costs less than one that is guessed wrong every other time.
+/// It makes no choice, which costs less than one that is guessed wrong every other time. The next digit is added to the doubled
+/// ones: where both are read off the product, the compiler makes one shift of all its digits of them, which costs more.
 #[inline]
 fn leading_digits(product: u128) -> (u64, u32)
     requires { 0 < product → 2 ^ 126 ≤ product }
@@ -88,8 +89,9 @@ fn leading_digits(product: u128) -> (u64, u32)
     ensures made_up { result.1 ≤ 1 }
 {
     let high = (product >> 64) as u64;
-    let half = ((product >> 63) & u64::MAX as u128) as u64;
+    let next = ((product >> 63) & 1) as u64;
     let made_up = !high >> 63;
+    let half = high.wrapping_add(high).wrapping_add(next);
     (pick(high, half, made_up), made_up as u32)
 }
 

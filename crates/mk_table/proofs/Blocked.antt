@@ -10,13 +10,14 @@ use Rattle.mk_exact.specs.States.{plus_over}
 use Rattle.mk_exact.proofs.Sums.{IsPlus, plus_over-append}
 use Rattle.mk_cell.specs.Passes.{plus_below}
 use Rattle.mk_cell.specs.Cell.{AllStand, AreCells, IsCell, StandsAt}
-use Rattle.mk_table.specs.inner.Parts.{StandListed, block_of}
+use Rattle.mk_cell.specs.inner.Laws.{all_have_room}
+use Rattle.mk_table.specs.inner.Parts.{HaveRoom, StandListed, block_of}
 
 module _ (plus : ℕ → ℕ → ℕ) (law : Lawful plus) where
-  is_plus : IsPlus plus 0
+  pub is_plus : IsPlus plus 0
   is_plus = record { assoc = law.associates; comm = law.commutes; neutral = law.neutral }
 
-  plus_over_push : (f : ℕ → ℕ) (xs : List ℕ) (x : ℕ) → plus (plus_over plus 0 f xs) (f x) ≡ plus_over plus 0 f (xs ++ x ∷ [])
+  pub plus_over_push : (f : ℕ → ℕ) (xs : List ℕ) (x : ℕ) → plus (plus_over plus 0 f xs) (f x) ≡ plus_over plus 0 f (xs ++ x ∷ [])
   plus_over_push f xs x =
       ap (plus (plus_over plus 0 f xs)) (sym (law.commutes (f x) 0 ∙ law.neutral (f x))) ∙ sym (plus_over-append plus 0 is_plus f xs (x ∷ []))
 
@@ -91,6 +92,12 @@ gathered_cells at count d e gd ge h a = record {
       let p : i < count = omega (arith, h.long) in
       subst (λ y. IsCell y (slice_index ge i)) (sym (h.digits_are i p)) (subst (λ y. IsCell (slice_index d (at i)) y) (sym (h.exponents_are i p)) (a.each (at i) (h.within i p)));
 }
+
+-- what stands with room to spare is cells
+pub cells_of_room : (k more : ℕ) (d e : List ℕ) → HaveRoom k d e more → AreCells d e
+cells_of_room k more d e room =
+    let f = room.few_steps in
+    all_have_room k d e room.numbers room.steps room.small_shift (omega arith) room.same_length room.stand
 
 -- the first cells of two arrays
 pub first_stand : (k : ℕ) (d e : List ℕ) (f : ℕ → ℕ) (n count : ℕ) → count ≤ length d → ((i : ℕ) → i < count → StandsAt k (slice_index d i) (slice_index e i) (f i) n) → AllStand k (take count d) (take count e) f n

@@ -1,11 +1,11 @@
 -- Cells of two arrays that are changed one after the other, and what they stand for then.
-use Rattle.std.proofs.Common.{◌≡◌, ℕ, ◌+◌, ◌*◌, ◌^◌, ◌<◌, Bool, true, false, cond, ◌⊎◌, inl, inr, List, length, slice_index, slice_set, refl, sym, ap, subst, ◌∙◌, arith, zero-mul, get_or-set_other, get_or-set_same}
+use Rattle.std.proofs.Common.{◌≡◌, ℕ, ◌+◌, ◌*◌, ◌^◌, ◌<◌, ◌≤◌, Bool, true, false, cond, ◌⊎◌, inl, inr, List, length, slice_index, slice_set, refl, sym, ap, subst, ◌∙◌, arith, zero-mul, get_or-set_other, get_or-set_same}
 use Rattle.std.proofs.Math.ListN.{length-set}
 use Rattle.std.proofs.lemmas.Bool.{cases_eq, cases_Bool}
 use Rattle.mk_cell.specs.Cell.{bias, IsLowerEnd, IsCell, StandsAt, AllStand}
 use Rattle.mk_cell.specs.inner.LowerEnd.{lower_same, lower_more}
 use Rattle.mk_cell.specs.inner.Laws.{has_room, untouched_stands}
-use Rattle.mk_table.specs.inner.Parts.{HaveRoom, IsTimes, IsChanged, IsAmong, IsRestricted}
+use Rattle.mk_table.specs.inner.Parts.{HaveRoom, IsTimes, IsChanged, IsAmong, IsBetween, IsRestricted}
 
 module _ (R : ℕ → ℕ → ℕ → ℕ → ℕ → Type 0) where
   -- the cell at n is written, by what was read there
@@ -69,6 +69,20 @@ module _ (R : ℕ → ℕ → ℕ → ℕ → ℕ → Type 0) where
       (subst (λ (ys : List ℕ). IsChanged R (λ c. c < n + 1) od oe (slice_set d n (slice_index nd n)) ys) (sym j)
       (changed_below od oe d e n (slice_index nd n) (slice_index ne n) l m h made))
 
+  -- the same from a first cell on
+  pub written_between : (first : ℕ) (od oe d e nd ne : List ℕ) (n : ℕ) → first ≤ n → n < length od → n < length oe → IsChanged R (IsBetween first n) od oe d e
+      → nd ≡ slice_set d n (slice_index nd n) → ne ≡ slice_set e n (slice_index ne n) → R n (slice_index d n) (slice_index e n) (slice_index nd n) (slice_index ne n)
+      → IsChanged R (IsBetween first (n + 1)) od oe nd ne
+  written_between first od oe d e nd ne n b l m h i j made =
+      subst (λ (ys : List ℕ). IsChanged R (IsBetween first (n + 1)) od oe ys ne) (sym i)
+      (subst (λ (ys : List ℕ). IsChanged R (IsBetween first (n + 1)) od oe (slice_set d n (slice_index nd n)) ys) (sym j)
+      (changed_more (IsBetween first n) (IsBetween first (n + 1)) od oe d e n (slice_index nd n) (slice_index ne n) (λ c p. splits c p (cases_eq c n))
+      (λ c p. record { from = p.from; below = let q = p.below in omega (arith, q) }) (record { from = b; below = omega arith }) (λ p. let q = p.below in omega (arith, q)) l m h made))
+    where
+      splits : (c : ℕ) → IsBetween first (n + 1) c → ((c ≡ n) ⊎ (c ≡ n → ⊥)) → IsBetween first n c ⊎ (c ≡ n)
+      splits c p (inl e) = inr e
+      splits c p (inr e) = inl (record { from = p.from; below = let q = p.below in omega (arith, q, e) })
+
   -- one more of the chosen cells, which were not reached before
   pub written_among : (chosen od oe d e nd ne : List ℕ) (i n : ℕ) → n ≡ slice_index chosen i → ((k : ℕ) → k < i → slice_index chosen k ≡ slice_index chosen i → ⊥)
       → n < length od → n < length oe → IsChanged R (IsAmong chosen i) od oe d e
@@ -86,6 +100,16 @@ module _ (R : ℕ → ℕ → ℕ → ℕ → ℕ → Type 0) where
           at : ((p.0 ≡ i) ⊎ (p.0 ≡ i → ⊥)) → IsAmong chosen i c ⊎ (c ≡ n)
           at (inl j) = inr (sym p.2 ∙ ap (slice_index chosen) j ∙ sym is)
           at (inr j) = inl (p.0, omega (arith, p.1, j), p.2)
+
+-- no cell
+pub changed_none : (R : ℕ → ℕ → ℕ → ℕ → ℕ → Type 0) (reached : ℕ → Type 0) (d e : List ℕ) → ((c : ℕ) → reached c → ⊥) → IsChanged R reached d e d e
+changed_none R reached d e none = record {
+  as_many_digits = refl;
+  as_many_exponents = refl;
+  done = λ c p. absurd (none c p);
+  digits_left = λ c p. refl;
+  exponents_left = λ c p. refl;
+}
 
 -- the same cells, changed as Q says where that is what R says
 pub changed_as : (Q R : ℕ → ℕ → ℕ → ℕ → ℕ → Type 0) (reached : ℕ → Type 0) (od oe d e : List ℕ) → ((c a b x y : ℕ) → reached c → Q c a b x y → R c a b x y) → IsChanged Q reached od oe d e → IsChanged R reached od oe d e

@@ -18,3 +18,5 @@ pub mod Untouched
 pub mod Owned
 pub mod Filled
 pub mod OnesSum
+pub mod Runs
+pub mod Ready

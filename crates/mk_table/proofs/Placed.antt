@@ -1,34 +1,26 @@
 -- Cells that lie so far from a base: those of a whole that have the values of one cell of a part, and of one part's cell after the other.
 use Rattle.std.proofs.Common.{◌≡◌, ℕ, ◌+◌, ◌<◌, true, ◌==◌, ◌⊎◌, inl, inr, List, length, slice_index, All, sym, subst, arith, eq-eqb}
 use Rattle.std.proofs.lemmas.Bool.{cases_eq, eqb-true}
-use Rattle.std.proofs.lemmas.List.{length-map, get_or-map}
 use Rattle.std.proofs.lemmas.List.Elements.{All-weaker}
 use Rattle.mk_table.specs.Scopes.{ScopeOf, Rising, cells_in}
 use Rattle.mk_table.specs.Cells.{cell_in, cells_onto}
-use Rattle.mk_table.specs.inner.Parts.{IsChanged, IsAmong, IsTimesCell, ArePlaces, cells_at}
+use Rattle.mk_table.specs.inner.Parts.{IsChanged, IsAmong, IsTimesCell, IsOfRuns, ArePlaces, cells_at}
+use Rattle.mk_table.specs.inner.Strides.{runs_of}
 use Rattle.mk_table.proofs.Changes.{changed_as, changed_then}
 use Rattle.mk_table.proofs.Chosen.{among_chosen, chosen_pass, chosen_rising}
-use Rattle.mk_table.proofs.Members.{rising_at}
-
-pub at_place : (base : ℕ) (offsets : List ℕ) (i : ℕ) → i < length offsets → base + slice_index offsets i ≡ slice_index (cells_at base offsets) i
-at_place base offsets i l = sym (get_or-map (λ c. base + c) offsets i 0 0 l)
-
-pub all_at : (P : ℕ → Type 0) (base : ℕ) (offsets : List ℕ) (i : ℕ) → All P (cells_at base offsets) → i < length offsets → P (base + slice_index offsets i)
-all_at P base offsets i h l = subst P (sym (at_place base offsets i l)) (h i 0 (omega (arith, l, length-map offsets (λ c. base + c))))
-
--- no cell comes twice
-pub apart_at : (base : ℕ) (offsets : List ℕ) (i : ℕ) → Rising (cells_at base offsets) → i < length offsets → (k : ℕ) → k < i → slice_index (cells_at base offsets) k ≡ slice_index (cells_at base offsets) i → ⊥
-apart_at base offsets i r l k m e =
-    let b = rising_at (cells_at base offsets) r k i m (omega (arith, l, length-map offsets (λ c. base + c))) in
-    omega (arith, b, e)
+use Rattle.mk_table.proofs.Runs.{all_of_runs, runs_of_all}
 
 -- the cells that have the values of the part's cells before one
 abbrev pub IsBefore : ScopeOf → ScopeOf → ℕ → ℕ → Type 0
 IsBefore part whole d c = (c < cells_in whole) × (cell_in part whole c < d)
 
-module _ (part whole : ScopeOf) (bases offsets : List ℕ) (are : ArePlaces part whole bases offsets) (d : ℕ) (l : d < cells_in part) where
+module _ (part whole : ScopeOf) (bases offsets : List ℕ) (run : ℕ) (are : ArePlaces part whole bases (runs_of run offsets) run) (d : ℕ) (l : d < cells_in part) where
   abbrev here : List ℕ
-  here = cells_at (slice_index bases d) offsets
+  here = cells_at (slice_index bases d) (runs_of run offsets)
+
+  -- the cells of its runs
+  abbrev reached : ℕ → Type 0
+  reached = IsOfRuns (slice_index bases d) run offsets (length offsets)
 
   pub placed_each : (P : ℕ → Type 0) → ((c : ℕ) → c < cells_in whole → cell_in part whole c ≡ d → P c) → All P here
   placed_each P h =
@@ -39,28 +31,27 @@ module _ (part whole : ScopeOf) (bases offsets : List ℕ) (are : ArePlaces part
   pub placed_rising : Rising here
   placed_rising = subst (λ (ys : List ℕ). Rising ys) (sym (are.onto d l)) (chosen_rising (λ c. cell_in part whole c == d) (cells_in whole))
 
-  there : (c : ℕ) → c < cells_in whole → cell_in part whole c ≡ d → IsAmong here (length offsets) c
+  there : (c : ℕ) → c < cells_in whole → cell_in part whole c ≡ d → reached c
   there c m e =
       let p = subst (λ (ys : List ℕ). IsAmong ys (length ys) c) (sym (are.onto d l)) (among_chosen (λ k. cell_in part whole k == d) (cells_in whole) c m (eq-eqb (cell_in part whole c) d e)) in
-      (p.0, omega (arith, p.1, length-map offsets (λ k. slice_index bases d + k)), p.2)
+      subst reached p.2 (runs_of_all reached (slice_index bases d) run offsets (λ i k c b. (i, k, b)) p.0 0 p.1)
 
-  among_here : (c : ℕ) → IsAmong here (length offsets) c → (c < cells_in whole) × (cell_in part whole c ≡ d)
+  among_here : (c : ℕ) → reached c → (c < cells_in whole) × (cell_in part whole c ≡ d)
   among_here c p =
-      let a = placed_each (λ k. (k < cells_in whole) × (cell_in part whole k ≡ d)) (λ k m e. (m, e)) in
-      subst (λ k. (k < cells_in whole) × (cell_in part whole k ≡ d)) p.2 (a p.0 0 (omega (arith, p.1, length-map offsets (λ k. slice_index bases d + k))))
+      all_of_runs (λ k. (k < cells_in whole) × (cell_in part whole k ≡ d)) (slice_index bases d) run offsets (placed_each (λ k. (k < cells_in whole) × (cell_in part whole k ≡ d)) (λ k m e. (m, e))) p.0 p.1 c p.2
 
   -- a cell of a message multiplies the cells that have its values
   pub message_more : (md me od oe d_now e_now nd ne : List ℕ)
       → IsChanged (λ c a b x y. IsTimesCell a b (slice_index md (cell_in part whole c)) (slice_index me (cell_in part whole c)) x y) (IsBefore part whole d) od oe d_now e_now
-      → IsChanged (λ c a b x y. IsTimesCell a b (slice_index md d) (slice_index me d) x y) (IsAmong here (length offsets)) d_now e_now nd ne
+      → IsChanged (λ c a b x y. IsTimesCell a b (slice_index md d) (slice_index me d) x y) reached d_now e_now nd ne
       → IsChanged (λ c a b x y. IsTimesCell a b (slice_index md (cell_in part whole c)) (slice_index me (cell_in part whole c)) x y) (IsBefore part whole (d + 1)) od oe nd ne
   message_more md me od oe d_now e_now nd ne h k =
-      changed_then (λ c a b x y. IsTimesCell a b (slice_index md (cell_in part whole c)) (slice_index me (cell_in part whole c)) x y) (IsBefore part whole d) (IsAmong here (length offsets)) (IsBefore part whole (d + 1))
+      changed_then (λ c a b x y. IsTimesCell a b (slice_index md (cell_in part whole c)) (slice_index me (cell_in part whole c)) x y) (IsBefore part whole d) reached (IsBefore part whole (d + 1))
       od oe d_now e_now nd ne (λ c p. splits c p (cases_eq (cell_in part whole c) d)) (λ c p. (p.0, omega (arith, p.1)))
       (λ c p. let q = among_here c p in (q.0, omega (arith, q.1))) (λ c p q. let r = among_here c p in omega (arith, r.1, q.1)) h
       (changed_as (λ c a b x y. IsTimesCell a b (slice_index md d) (slice_index me d) x y) (λ c a b x y. IsTimesCell a b (slice_index md (cell_in part whole c)) (slice_index me (cell_in part whole c)) x y)
-      (IsAmong here (length offsets)) d_now e_now nd ne (λ c a b x y p made. subst (λ i. IsTimesCell a b (slice_index md i) (slice_index me i) x y) (sym (among_here c p).1) made) k)
+      reached d_now e_now nd ne (λ c a b x y p made. subst (λ i. IsTimesCell a b (slice_index md i) (slice_index me i) x y) (sym (among_here c p).1) made) k)
     where
-      splits : (c : ℕ) → IsBefore part whole (d + 1) c → ((cell_in part whole c ≡ d) ⊎ (cell_in part whole c ≡ d → ⊥)) → IsBefore part whole d c ⊎ IsAmong here (length offsets) c
+      splits : (c : ℕ) → IsBefore part whole (d + 1) c → ((cell_in part whole c ≡ d) ⊎ (cell_in part whole c ≡ d → ⊥)) → IsBefore part whole d c ⊎ reached c
       splits c p (inl e) = inr (there c p.0 e)
       splits c p (inr n) = inl (p.0, omega (arith, p.1, n))

@@ -9,12 +9,16 @@ ghost use Rattle.mk_table.specs.Scopes.{LiesIn, cells_in};
 ghost use Rattle.mk_table.specs.Cells.{cell_in};
 ghost use Rattle.mk_table.specs.inner.Blank.{one_digits, one_exponent, filled};
 ghost use Rattle.mk_table.specs.inner.Parts.{AreBlankOrFull, AreHeld, HaveRoom, IsChanged, IsTimesCell, StandListed};
+ghost use Rattle.mk_table.specs.inner.Strides.{runs_of};
 
 use crate::blocks::{plus_at, plus_at_each};
 use crate::part::Places;
 use crate::times::times_cells;
 use mk_cell::Cell;
 use mk_semiring::Semiring;
+
+/// The ones of a short list, whose arrays cost little to write.
+const FEW: usize = 8;
 
 /// The ones that are added at a time.
 const BLOCK: usize = 64;
@@ -64,6 +68,7 @@ pub(crate) fn copy_over<T: Copy>(from: &[T], to: &mut Vec<T>)
     ensures room { vec_capacity to.old ≤ vec_capacity to.new }
 {
     to.clear();
+    // It finds room, so it succeeds.
     let _ = to.extend_from_slice(from);
 }
 
@@ -117,55 +122,67 @@ pub(crate) fn times_held(
     times_cells(digits, exponents, places, other_digits, other_exponents);
 }
 
-/// Puts into each cell of a table the plus of the cells that lie so far from the cell's base. Of a blank table the plus is
-/// made once, and the other table is blank where it is 1.
+/// Puts into each cell of a table the plus of the runs of cells that begin so far from the cell's base. Of a blank table the
+/// plus is made once, and the other table is blank where it is 1.
 pub(crate) fn plus_of_each<R: Semiring>(
     digits: &[u64],
     exponents: &[u32],
     cells: usize,
     bases: &[u16],
     offsets: &[u16],
+    run: usize,
     out_digits: &mut Vec<u64>,
     out_exponents: &mut Vec<u32>,
 )
-    requires few { length offsets.now ≤ max_clique_cells }
+    requires some { 1 ≤ run }
+    requires few { length (runs_of run offsets.now) ≤ max_clique_cells }
     requires whole { AreBlankOrFull cells digits.now exponents.now }
-    requires within { (b : ℕ) → b < length bases.now → All (λ c. slice_index bases.now b + c < cells) offsets.now }
-    requires room { (k : ℕ) × HaveRoom k (filled one_digits cells digits.now) (filled one_exponent cells exponents.now) (2 * length offsets.now) }
+    requires within { (b : ℕ) → b < length bases.now → All (λ c. slice_index bases.now b + c < cells) (runs_of run offsets.now) }
+    requires room { (k : ℕ) × HaveRoom k (filled one_digits cells digits.now) (filled one_exponent cells exponents.now) (2 * length (runs_of run offsets.now)) }
     requires out { AreHeld (length bases.now) out_digits.old.items out_exponents.old.items (vec_capacity out_digits.old) (vec_capacity out_exponents.old) }
     ensures stand { (b : ℕ) → b < length bases.now → (k : ℕ) (f : ℕ → ℕ) (n : ℕ)
-        → StandListed k (filled one_digits cells digits.now) (filled one_exponent cells exponents.now) f n (slice_index bases.now b) offsets.now
+        → StandListed k (filled one_digits cells digits.now) (filled one_exponent cells exponents.now) f n (slice_index bases.now b) (runs_of run offsets.now)
         → StandsAt k (slice_index (filled one_digits (length bases.now) out_digits.new.items) b) (slice_index (filled one_exponent (length bases.now) out_exponents.new.items) b)
-        (plus_over R.plus_of 0 (λ c. f (slice_index bases.now b + c)) offsets.now) (n + 2 * length offsets.now) }
+        (plus_over R.plus_of 0 (λ c. f (slice_index bases.now b + c)) (runs_of run offsets.now)) (n + 2 * length (runs_of run offsets.now)) }
     ensures held { AreHeld (length bases.now) out_digits.new.items out_exponents.new.items (vec_capacity out_digits.new) (vec_capacity out_exponents.new) }
 {
     if digits.len() < cells {
-        let cell = plus_of_ones::<R>(offsets.len());
+        let cell = plus_of_ones::<R>(offsets.len() * run);
         put_everywhere(out_digits, out_exponents, cell, bases.len());
     } else {
         fill(out_digits, out_exponents, bases.len());
-        plus_at_each::<R>(digits, exponents, bases, offsets, out_digits, out_exponents);
+        plus_at_each::<R>(
+            digits,
+            exponents,
+            bases,
+            offsets,
+            run,
+            out_digits,
+            out_exponents,
+        );
     }
 }
 
-/// The plus of listed cells. Of a blank table no cell is read.
+/// The plus of runs of cells, by the first cell of each. Of a blank table no cell is read.
 pub(crate) fn plus_of_listed<R: Semiring>(
     digits: &[u64],
     exponents: &[u32],
     cells: usize,
-    listed: &[u16],
+    firsts: &[u16],
+    run: usize,
 ) -> Cell
-    requires few { length listed.now ≤ max_clique_cells }
+    requires some { 1 ≤ run }
+    requires few { length (runs_of run firsts.now) ≤ max_clique_cells }
     requires whole { AreBlankOrFull cells digits.now exponents.now }
-    requires within { All (λ c. 0 + c < cells) listed.now }
-    requires room { (k : ℕ) × HaveRoom k (filled one_digits cells digits.now) (filled one_exponent cells exponents.now) (2 * length listed.now) }
-    ensures { (k : ℕ) (f : ℕ → ℕ) (n : ℕ) → StandListed k (filled one_digits cells digits.now) (filled one_exponent cells exponents.now) f n 0 listed.now
-        → Stands k result (plus_over R.plus_of 0 (λ c. f (0 + c)) listed.now) (n + 2 * length listed.now) }
+    requires within { All (λ c. 0 + c < cells) (runs_of run firsts.now) }
+    requires room { (k : ℕ) × HaveRoom k (filled one_digits cells digits.now) (filled one_exponent cells exponents.now) (2 * length (runs_of run firsts.now)) }
+    ensures { (k : ℕ) (f : ℕ → ℕ) (n : ℕ) → StandListed k (filled one_digits cells digits.now) (filled one_exponent cells exponents.now) f n 0 (runs_of run firsts.now)
+        → Stands k result (plus_over R.plus_of 0 (λ c. f (0 + c)) (runs_of run firsts.now)) (n + 2 * length (runs_of run firsts.now)) }
 {
     if digits.len() < cells {
-        plus_of_ones::<R>(listed.len())
+        plus_of_ones::<R>(firsts.len() * run)
     } else {
-        plus_at::<R>(digits, exponents, 0, listed)
+        plus_at::<R>(digits, exponents, 0, firsts, run)
     }
 }
 
@@ -175,12 +192,15 @@ pub(crate) fn plus_of_ones<R: Semiring>(count: usize) -> Cell
     ensures { (xs : List ℕ) → length xs ≡ count → (k : ℕ) (f : ℕ → ℕ) (n : ℕ) → All (λ c. StandsAt k one_digits one_exponent (f c) n) xs
         → Stands k result (plus_over R.plus_of 0 f xs) (n + 2 * count) }
 {
-    if count <= BLOCK {
-        return plus_of_few::<R>(count);
+    if count <= FEW {
+        plus_of_few::<R, FEW>(count)
+    } else if count <= BLOCK {
+        plus_of_few::<R, BLOCK>(count)
+    } else {
+        let block = plus_of_few::<R, BLOCK>(BLOCK);
+        let rest = plus_of_few::<R, BLOCK>(count % BLOCK);
+        plus_of_blocks::<R>(block, count / BLOCK, rest)
     }
-    let block = plus_of_few::<R>(BLOCK);
-    let rest = plus_of_few::<R>(count % BLOCK);
-    plus_of_blocks::<R>(block, count / BLOCK, rest)
 }
 
 /// The plus of so many equal blocks and of what is left.
@@ -198,14 +218,15 @@ fn plus_of_blocks<R: Semiring>(block: Cell, full: usize, rest: Cell) -> Cell
     R::over(&digits[..full + 1], &exponents[..full + 1])
 }
 
-/// The plus of the ones of one block.
-fn plus_of_few<R: Semiring>(count: usize) -> Cell
-    requires { count ≤ 64 }
+/// The plus of at most so many ones.
+fn plus_of_few<R: Semiring, const N: usize>(count: usize) -> Cell
+    requires few { count ≤ N }
+    requires small { N ≤ 64 }
     ensures { (xs : List ℕ) → length xs ≡ count → (k : ℕ) (f : ℕ → ℕ) (n : ℕ) → All (λ c. StandsAt k one_digits one_exponent (f c) n) xs
         → Stands k result (plus_over R.plus_of 0 f xs) (n + count) }
 {
     let one = one();
-    let digits = [one.digits; BLOCK];
-    let exponents = [one.exponent; BLOCK];
+    let digits = [one.digits; N];
+    let exponents = [one.exponent; N];
     R::over(&digits[..count], &exponents[..count])
 }

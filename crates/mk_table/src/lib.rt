@@ -8,6 +8,7 @@ mod picked;
 mod scope;
 mod strides;
 mod table;
+mod tail;
 mod times;
 mod touched;
 

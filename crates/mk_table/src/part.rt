@@ -3,6 +3,7 @@
 ghost use Rattle.std.specs.Prelude.{◌≡◌, IfOk};
 ghost use Rattle.mk_table.specs.Scopes.{LiesIn, cells_in};
 ghost use Rattle.mk_table.specs.inner.Parts.{ArePlaces};
+ghost use Rattle.mk_table.specs.inner.Strides.{runs_of};
 
 use crate::scope::Scope;
 use crate::strides::CellList;
@@ -12,24 +13,27 @@ use std::marker::Model;
 use std::rc::Rc;
 
 /// Where the cells of a part lie in a whole: for each cell of the part the first cell of the whole with its values, and how far
-/// the others with these values lie from it. They are the same distances for each cell of the part.
+/// from it the runs of cells with these values begin. They are the same distances for each cell of the part. The cells of a run
+/// lie side by side.
 #[derive(Drop)]
 pub struct Places {
     whole: Rc<Scope>,
     part: Rc<Scope>,
     bases: Vec<u16>,
     offsets: Vec<u16>,
+    run: usize,
 }
 
 impl Model for Places {
     ghost use Rattle.mk_table.specs.Scopes.{PlacesOf};
     ghost use Rattle.mk_table.specs.inner.Parts.{ArePlaces};
+    ghost use Rattle.mk_table.specs.inner.Strides.{runs_of};
 
     ghost Value = { PlacesOf };
 
     ghost view = { λ p. record { whole = p.whole.value; part = p.part.value } };
 
-    ghost invariant = { λ p. ArePlaces p.part.value p.whole.value p.bases.items p.offsets.items };
+    ghost invariant = { λ p. ArePlaces p.part.value p.whole.value p.bases.items (runs_of p.run p.offsets.items) p.run };
 }
 
 impl Places {
@@ -40,12 +44,13 @@ impl Places {
     {
         let mut bases = CellList::new();
         let mut offsets = CellList::new();
-        whole.cells_onto(part, &mut bases, &mut offsets);
+        let run = whole.cells_onto(part, &mut bases, &mut offsets);
         Ok(Places {
             whole: whole.clone()?,
             part: part.clone()?,
             bases: Vec::from_slice(alloc, &bases)?,
             offsets: Vec::from_slice(alloc, &offsets)?,
+            run,
         })
     }
 
@@ -64,10 +69,10 @@ impl Places {
         self.part.cells()
     }
 
-    /// The first cell of the whole for each cell of the part, and how far the others lie from it.
-    pub(crate) fn lists(&self) -> (&[u16], &[u16])
-        ensures { ArePlaces self.now.part self.now.whole result.0.now result.1.now }
+    /// The first cell of the whole for each cell of the part, how far from it the runs begin, and how many cells each run has.
+    pub(crate) fn lists(&self) -> (&[u16], &[u16], usize)
+        ensures { ArePlaces self.now.part self.now.whole result.0.now (runs_of result.2 result.1.now) result.2 }
     {
-        (&self.bases, &self.offsets)
+        (&self.bases, &self.offsets, self.run)
     }
 }

@@ -6,17 +6,34 @@ ghost use Rattle.mk_net.specs.Named.{variable_at};
 ghost use Rattle.mk_sums.specs.There.{row_there, share_there};
 ghost use Rattle.mk_table.specs.Scopes.{HasSized, cells_in};
 ghost use Rattle.mk_table.specs.Cells.{values_at};
+ghost use Rattle.mk_table.specs.inner.Parts.{AreUnitCells};
 
 use crate::scope::Scope;
+use mk_cell::Cell;
 use mk_net::{Network, Ratio};
 
-/// The units for a value of the ratio's variable.
-#[inline]
-pub(crate) fn units_for(ratio: &Ratio, value: u32) -> u64
-    requires { value < length ratio.now.factors.items }
-    ensures { result ≡ slice_index ratio.now.factors.items value }
+/// The places of two by which the units of a ratio are shifted.
+pub(crate) const RATIO_SHIFT: u32 = 40;
+
+/// The cells of the units of a ratio, by the value of its variable.
+#[derive(Clone, Copy)]
+pub(crate) struct UnitCells {
+    pub(crate) digits: [u64; 16],
+    pub(crate) exponents: [u32; 16],
+}
+
+/// The cell of the units for each value of the ratio's variable.
+pub(crate) fn unit_cells(ratio: &Ratio) -> UnitCells
+    ensures { AreUnitCells ratio.now.factors.items result.digits result.exponents }
 {
-    ratio.factors[value as usize]
+    let mut digits = [0u64; 16];
+    let mut exponents = [0u32; 16];
+    for value in 0..ratio.factors.len() {
+        let cell = Cell::of_whole(ratio.factors[value], RATIO_SHIFT);
+        digits[value] = cell.digits;
+        exponents[value] = cell.exponent;
+    }
+    UnitCells { digits, exponents }
 }
 
 /// The number of the row that a cell picks for a variable.

@@ -1,6 +1,6 @@
 //! The scope of a table.
 
-ghost use Rattle.std.specs.Prelude.{◌≡◌, ℕ, ◌+◌, ◌<◌, ◌≤◌, ◌*◌, ◌/◌, ◌%◌, List, [], ◌++◌, All, map, length, slice_index, true, IfOk, OnOk};
+ghost use Rattle.std.specs.Prelude.{◌≡◌, ℕ, ◌+◌, ◌<◌, ◌≤◌, ◌*◌, ◌/◌, ◌%◌, List, [], ◌++◌, All, map, length, slice_index, true, false, IfOk, OnOk};
 ghost use Rattle.mk_net.specs.Bounds.{max_clique_cells, max_values, max_variables};
 ghost use Rattle.mk_net.specs.Sets.{is_member};
 ghost use Rattle.mk_net.specs.Network.{sizes, IsNetwork};
@@ -10,9 +10,10 @@ ghost use Rattle.mk_exact.specs.States.{numbers_below};
 ghost use Rattle.mk_table.specs.Scopes.{IsScope, LiesIn, Rising, scope_of, size_in, cells_in, has_variable, HasEvent};
 ghost use Rattle.mk_table.specs.Cells.{values_at, cells_where, cells_onto};
 ghost use Rattle.mk_table.specs.inner.Columns.{HaveColumns};
-ghost use Rattle.mk_table.specs.inner.Strides.{cells_with, values_moved};
+ghost use Rattle.mk_table.specs.inner.Strides.{IsTail, cells_with, runs_of, values_let, values_moved};
 
-use crate::strides::{CellList, begin, is_moved, take_moved, take_values};
+use crate::strides::{CellList, begin, is_free, is_moved, take_moved, take_values};
+use crate::tail::{Tail, long_tail, no_tail};
 use mk_net::{Event, Network, NoMemory, VarSet};
 use std::alloc::Global;
 use std::marker::Model;
@@ -71,53 +72,120 @@ impl Scope {
     }
 
     /// Lists the cells where an event holds, in rising order.
-    ///
-    /// The list grows variable by variable, the last first: what is listed so far comes again a stride further on for each
-    /// value that the variable may have.
     pub fn cells_where(&self, event: &Event, cells: &mut CellList)
         requires { HasEvent self.now event.now }
         ensures cells { cells.new.items ≡ cells_where self.now event.now }
         ensures few { length cells.new.items ≤ cells_in self.now }
         ensures scope { IsScope self.now }
     {
+        let _ = self.cells();
+        self.firsts_where(event, no_tail(), cells);
+    }
+
+    /// Lists the first cells of the runs where an event holds, in rising order, and says how many cells each run has. They lie
+    /// side by side.
+    pub(crate) fn runs_where(&self, event: &Event, firsts: &mut CellList) -> usize
+        requires { HasEvent self.now event.now }
+        ensures cells { runs_of result firsts.new.items ≡ cells_where self.now event.now }
+        ensures few { length (cells_where self.now event.now) ≤ cells_in self.now }
+        ensures some { 1 ≤ result }
+        ensures scope { IsScope self.now }
+    {
+        let _ = self.cells();
+        let tail = self.free_tail(event);
+        self.firsts_where(event, tail, firsts);
+        tail.cells
+    }
+
+    /// Lists the cells where an event holds and each variable of a tail has its first value.
+    ///
+    /// The list grows variable by variable, the last first: what is listed so far comes again a stride further on for each
+    /// value that the variable may have.
+    fn firsts_where(&self, event: &Event, tail: Tail, firsts: &mut CellList)
+        requires event { HasEvent self.now event.now }
+        requires tail { IsTail self.now (values_let self.now event.now) tail.variables tail.cells }
+        ensures { runs_of tail.cells firsts.new.items ≡ cells_where self.now event.now }
+    {
         let pairs = event.pairs();
-        let mut stride = 1;
-        begin(cells);
-        for passed in 0..self.variables.len() {
+        let mut stride = tail.cells;
+        begin(firsts);
+        for passed in tail.variables..self.variables.len() {
             let place = self.variables.len() - 1 - passed;
             let size = self.sizes[place] as usize;
-            take_values(cells, stride, size, pairs, self.variables[place]);
+            take_values(firsts, stride, size, pairs, self.variables[place]);
             stride *= size;
         }
     }
 
-    /// Lists the first cell with the values of each cell of a part, and how far the others with these values lie from it.
-    pub(crate) fn cells_onto(&self, part: &Scope, bases: &mut CellList, offsets: &mut CellList)
+    /// The last variables, if an event speaks of none of them.
+    fn free_tail(&self, event: &Event) -> Tail
+        ensures { IsTail self.now (values_let self.now event.now) result.variables result.cells }
+    {
+        let pairs = event.pairs();
+        let mut cells = 1;
+        for passed in 0..self.variables.len() {
+            let place = self.variables.len() - 1 - passed;
+            if !is_free(pairs, self.variables[place]) {
+                return long_tail(passed, cells);
+            }
+            cells *= self.sizes[place] as usize;
+        }
+        long_tail(self.variables.len(), cells)
+    }
+
+    /// Lists the first cell with the values of each cell of a part, and how far from it the runs of cells with these values
+    /// begin; says how many cells each run has. They lie side by side.
+    pub(crate) fn cells_onto(
+        &self,
+        part: &Scope,
+        bases: &mut CellList,
+        offsets: &mut CellList,
+    ) -> usize
         requires { LiesIn part.now self.now }
         ensures bases { length bases.new.items ≡ cells_in part.now }
         ensures onto { (d : ℕ) → d < cells_in part.now
-            → map (λ c. slice_index bases.new.items d + c) offsets.new.items ≡ cells_onto part.now self.now d }
-        ensures few { length offsets.new.items ≤ cells_in self.now }
+            → map (λ c. slice_index bases.new.items d + c) (runs_of result offsets.new.items) ≡ cells_onto part.now self.now d }
+        ensures few { length (runs_of result offsets.new.items) ≤ cells_in self.now }
+        ensures some { 1 ≤ result }
         ensures scope { IsScope self.now }
     {
         let _ = (part.cells(), self.cells());
-        self.cells_moved(part, true, bases);
-        self.cells_moved(part, false, offsets);
+        let tail = self.tail_outside(part);
+        self.cells_moved(part, true, no_tail(), bases);
+        self.cells_moved(part, false, tail, offsets);
+        tail.cells
     }
 
-    /// Lists the cells where each variable has its first value, but for those that a part has, or those that it has not.
-    fn cells_moved(&self, part: &Scope, inside: bool, cells: &mut CellList)
-        ensures { cells.new.items ≡ cells_with (size_in self.now) (values_moved self.now part.now inside) self.now.variables }
+    /// Lists the cells where each variable has its first value, but for those that a part has, or those that it has not. Of
+    /// a tail each has its first value.
+    fn cells_moved(&self, part: &Scope, inside: bool, tail: Tail, cells: &mut CellList)
+        requires { IsTail self.now (values_moved self.now part.now inside) tail.variables tail.cells }
+        ensures { runs_of tail.cells cells.new.items ≡ cells_with (size_in self.now) (values_moved self.now part.now inside) self.now.variables }
     {
-        let mut stride = 1;
+        let mut stride = tail.cells;
         begin(cells);
-        for passed in 0..self.variables.len() {
+        for passed in tail.variables..self.variables.len() {
             let place = self.variables.len() - 1 - passed;
             let size = self.sizes[place] as usize;
             let has = part.has(self.variables[place]);
             take_moved(cells, stride, size, is_moved(has, inside));
             stride *= size;
         }
+    }
+
+    /// The last variables, if a part has none of them.
+    fn tail_outside(&self, part: &Scope) -> Tail
+        ensures { IsTail self.now (values_moved self.now part.now false) result.variables result.cells }
+    {
+        let mut cells = 1;
+        for passed in 0..self.variables.len() {
+            let place = self.variables.len() - 1 - passed;
+            if part.has(self.variables[place]) {
+                return long_tail(passed, cells);
+            }
+            cells *= self.sizes[place] as usize;
+        }
+        long_tail(self.variables.len(), cells)
     }
 
     /// Whether the scope has a variable.

@@ -69,6 +69,17 @@ pub(crate) fn is_moved(has: bool, inside: bool) -> bool
     if inside { has } else { !has }
 }
 
+/// Whether the pairs let a variable have each value.
+pub(crate) fn is_free(pairs: &[Pair], variable: u32) -> bool
+    requires { IsEvent pairs.now }
+    ensures { result ≡ true → (v : ℕ) → lets pairs.now variable v ≡ true }
+{
+    match value_in(pairs, variable) {
+        Some(_) => false,
+        None => true,
+    }
+}
+
 /// The value that the pairs give a variable.
 fn value_in(pairs: &[Pair], variable: u32) -> Option<u32>
     requires { IsEvent pairs.now }

@@ -14,9 +14,10 @@ ghost use Rattle.mk_table.specs.Tables.{HasNumbers, HasRoom, is_untouched};
 
 use crate::blank::{copy_over, fill, one, plus_of_each, plus_of_listed, times_held};
 use crate::part::Places;
+use crate::picked::RATIO_SHIFT;
 use crate::scope::Scope;
 use crate::strides::CellList;
-use crate::times::{RATIO_SHIFT, keep_value, times_shares, times_units};
+use crate::times::{keep_value, times_shares, times_units};
 use crate::touched::{beside, either, is_untouched_by, within};
 use mk_cell::Cell;
 use mk_net::{Event, Network, NoMemory, Pair, Ratio};
@@ -212,13 +213,14 @@ impl<R: Semiring> Table<R> {
         ensures numbers { (f : ℕ → ℕ) (n : ℕ) → HasNumbers self.now f n
             → HasNumbers out.new (λ d. plus_over R.plus_of 0 f (cells_onto out.old.scope self.now.scope d)) (n + 2 * cells_in self.now.scope) }
     {
-        let (bases, offsets) = places.lists();
+        let (bases, offsets, run) = places.lists();
         plus_of_each::<R>(
             &self.digits,
             &self.exponents,
             self.scope.cells(),
             bases,
             offsets,
+            run,
             &mut out.digits,
             &mut out.exponents,
         );
@@ -236,8 +238,14 @@ impl<R: Semiring> Table<R> {
         ensures own { is_untouched self.now event.now ≡ true → (f : ℕ → ℕ) (n : ℕ) → HasNumbers self.now f n
             → IsOwnOf self.now.shift result (plus_over R.plus_of 0 f (cells_where self.now.scope event.now)) (n + 2 * cells_in self.now.scope) }
     {
-        self.scope.cells_where(event, chosen);
-        plus_of_listed::<R>(&self.digits, &self.exponents, self.scope.cells(), chosen)
+        let run = self.scope.runs_where(event, chosen);
+        plus_of_listed::<R>(
+            &self.digits,
+            &self.exponents,
+            self.scope.cells(),
+            chosen,
+            run,
+        )
     }
 
     /// Whether no ratio touched a cell where an event holds, as the table knows: it keeps no event of touched cells, or that

@@ -10,16 +10,14 @@ ghost use Rattle.mk_sums.specs.There.{share_there};
 ghost use Rattle.mk_cell.specs.Cell.{IsCell, Stands};
 ghost use Rattle.mk_table.specs.Scopes.{LiesIn, HasEvent, HasOneEach, HasSized, Rising, cells_in, has_variable};
 ghost use Rattle.mk_table.specs.Cells.{values_at, cell_in, cells_where};
-ghost use Rattle.mk_table.specs.inner.Parts.{IsFull, HaveRoom, IsTimes, IsTimesCell, IsChanged, IsAmong, IsRestricted, cells_at};
+ghost use Rattle.mk_table.specs.inner.Parts.{IsFull, HaveRoom, IsTimes, IsTimesCell, IsChanged, IsAmong, IsBetween, IsOfRuns, IsRestricted, cells_at};
+ghost use Rattle.mk_table.specs.inner.Strides.{runs_of};
 
 use crate::part::Places;
-use crate::picked::{share_of, units_for};
+use crate::picked::{share_of, unit_cells};
 use crate::scope::Scope;
 use mk_cell::Cell;
 use mk_net::{Network, Pair, Ratio};
-
-/// The places of two by which the units of a ratio are shifted.
-pub(crate) const RATIO_SHIFT: u32 = 40;
 
 /// Multiplies one cell.
 #[inline]
@@ -80,10 +78,15 @@ pub(crate) fn times_units(
     ensures { IsChanged (λ c d e x y. IsTimes d e 40 (units_of (trade_ratio ratio.now) (values_at scope.now c ratio.now.variable)) 0 x y)
         (IsAmong chosen.now (length chosen.now)) digits.old exponents.old digits.new exponents.new }
 {
+    let units = unit_cells(ratio);
     for place in 0..chosen.len() {
         let cell = chosen[place] as usize;
-        let units = units_for(ratio, scope.value(cell, ratio.variable));
-        times_at(digits, exponents, cell, Cell::of_whole(units, RATIO_SHIFT));
+        let value = scope.value(cell, ratio.variable) as usize;
+        let other = Cell {
+            digits: units.digits[value],
+            exponent: units.exponents[value],
+        };
+        times_at(digits, exponents, cell, other);
     }
 }
 
@@ -104,13 +107,45 @@ pub(crate) fn times_cells(
         (λ c. c < cells_in places.now.whole) digits.old exponents.old digits.new exponents.new }
     ensures lies_in { LiesIn places.now.part places.now.whole }
 {
-    let (bases, offsets) = places.lists();
+    let (bases, offsets, run) = places.lists();
     for place in 0..bases.len() {
         let other = Cell {
             digits: other_digits[place],
             exponent: other_exponents[place],
         };
-        times_listed(digits, exponents, bases[place] as usize, offsets, other);
+        times_far(
+            digits,
+            exponents,
+            bases[place] as usize,
+            offsets,
+            run,
+            other,
+        );
+    }
+}
+
+/// Multiplies the runs of cells that begin so far from a base.
+fn times_far(
+    digits: &mut [u64],
+    exponents: &mut [u32],
+    base: usize,
+    offsets: &[u16],
+    run: usize,
+    other: Cell,
+)
+    requires some { 1 ≤ run }
+    requires within { All (λ c. c < length digits.old) (cells_at base (runs_of run offsets.now)) }
+    requires within_exponents { All (λ c. c < length exponents.old) (cells_at base (runs_of run offsets.now)) }
+    requires rising { Rising (cells_at base (runs_of run offsets.now)) }
+    requires cells { All (λ c. IsCell (slice_index digits.old c) (slice_index exponents.old c)) (cells_at base (runs_of run offsets.now)) }
+    requires other { IsCell other.digits other.exponent }
+    ensures { IsChanged (λ c d e x y. IsTimesCell d e other.digits other.exponent x y) (IsOfRuns base run offsets.now (length offsets.now))
+        digits.old exponents.old digits.new exponents.new }
+{
+    if run == 1 {
+        times_listed(digits, exponents, base, offsets, other);
+    } else {
+        times_runs(digits, exponents, base, offsets, run, other);
     }
 }
 
@@ -132,6 +167,45 @@ fn times_listed(
 {
     for place in 0..offsets.len() {
         let cell = base + offsets[place] as usize;
+        times_at(digits, exponents, cell, other);
+    }
+}
+
+/// Multiplies runs of many cells that begin so far from a base.
+fn times_runs(
+    digits: &mut [u64],
+    exponents: &mut [u32],
+    base: usize,
+    offsets: &[u16],
+    run: usize,
+    other: Cell,
+)
+    requires some { 1 ≤ run }
+    requires within { All (λ c. c < length digits.old) (cells_at base (runs_of run offsets.now)) }
+    requires within_exponents { All (λ c. c < length exponents.old) (cells_at base (runs_of run offsets.now)) }
+    requires rising { Rising (cells_at base (runs_of run offsets.now)) }
+    requires cells { All (λ c. IsCell (slice_index digits.old c) (slice_index exponents.old c)) (cells_at base (runs_of run offsets.now)) }
+    requires other { IsCell other.digits other.exponent }
+    ensures { IsChanged (λ c d e x y. IsTimesCell d e other.digits other.exponent x y) (IsOfRuns base run offsets.now (length offsets.now))
+        digits.old exponents.old digits.new exponents.new }
+{
+    for place in 0..offsets.len() {
+        let first = base + offsets[place] as usize;
+        times_run(digits, exponents, first, run, other);
+    }
+}
+
+/// Multiplies cells that lie side by side.
+#[inline]
+fn times_run(digits: &mut [u64], exponents: &mut [u32], first: usize, run: usize, other: Cell)
+    requires within { first + run ≤ length digits.old }
+    requires within_exponents { first + run ≤ length exponents.old }
+    requires cells { (c : ℕ) → IsBetween first (first + run) c → IsCell (slice_index digits.old c) (slice_index exponents.old c) }
+    requires other { IsCell other.digits other.exponent }
+    ensures { IsChanged (λ c d e x y. IsTimesCell d e other.digits other.exponent x y) (IsBetween first (first + run))
+        digits.old exponents.old digits.new exponents.new }
+{
+    for cell in first..first + run {
         times_at(digits, exponents, cell, other);
     }
 }

@@ -54,6 +54,13 @@ pub record IsTimes (digits exponent shift number steps new_digits new_exponent :
 pub record IsTimesCell (digits exponent other_digits other_exponent new_digits new_exponent : ℕ) : Type 0 where
   pub times : (k w p : ℕ) → StandsAt k other_digits other_exponent w p → IsTimes digits exponent k w p new_digits new_exponent
 
+-- the cells of the units of a ratio, one for each value of its variable, of 16 at most
+pub record AreUnitCells (units digits exponents : List ℕ) : Type 0 where
+  pub few : length units ≤ 16
+  pub long : length digits ≡ 16
+  pub long_too : length exponents ≡ 16
+  pub stand : (v : ℕ) → v < length units → StandsAt 40 (slice_index digits v) (slice_index exponents v) (slice_index units v) 0
+
 -- Of two arrays the cells that are reached are changed as R says, and the others are as they were.
 pub record IsChanged (R : ℕ → ℕ → ℕ → ℕ → ℕ → Type 0) (reached : ℕ → Type 0) (old_digits old_exponents digits exponents : List ℕ) : Type 0 where
   pub as_many_digits : length digits ≡ length old_digits
@@ -66,6 +73,15 @@ pub record IsChanged (R : ℕ → ℕ → ℕ → ℕ → ℕ → Type 0) (reach
 abbrev pub IsAmong : List ℕ → ℕ → ℕ → Type 0
 IsAmong xs n c = (k : ℕ) × (k < n) × (slice_index xs k ≡ c)
 
+-- one of the numbers from the first on, below the end
+pub record IsBetween (first end c : ℕ) : Type 0 where
+  pub from : first ≤ c
+  pub below : c < end
+
+-- a cell of one of the first n runs, which begin so far from a base
+abbrev pub IsOfRuns : ℕ → ℕ → List ℕ → ℕ → ℕ → Type 0
+IsOfRuns base run offsets n c = (k : ℕ) × (k < n) × IsBetween (base + slice_index offsets k) (base + slice_index offsets k + run) c
+
 -- what a restriction makes of a cell that it keeps, or does not keep
 pub record IsRestricted (kept : Bool) (digits exponent new_digits new_exponent : ℕ) : Type 0 where
   pub same_digits : kept ≡ true → new_digits ≡ digits
@@ -77,13 +93,14 @@ pub record IsRestricted (kept : Bool) (digits exponent new_digits new_exponent :
 abbrev pub cells_at : ℕ → List ℕ → List ℕ
 cells_at base offsets = map (λ c. base + c) offsets
 
--- a base in the whole for each cell of a part: the cells with its values lie there and so far from it
-pub record ArePlaces (part whole : ScopeOf) (bases offsets : List ℕ) : Type 0 where
+-- a base in the whole for each cell of a part: the cells with its values lie there and so far from it, in runs
+pub record ArePlaces (part whole : ScopeOf) (bases offsets : List ℕ) (run : ℕ) : Type 0 where
   pub is_whole : IsScope whole
   pub lies_in : LiesIn part whole
   pub one_each : length bases ≡ cells_in part
   pub onto : (d : ℕ) → d < cells_in part → cells_at (slice_index bases d) offsets ≡ cells_onto part whole d
   pub few : length offsets ≤ cells_in whole
+  pub some : 1 ≤ run
 
 -- a block of a list of cells
 abbrev pub block_of : List ℕ → ℕ → List ℕ

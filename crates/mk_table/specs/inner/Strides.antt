@@ -1,6 +1,6 @@
 -- Cells that are found by strides: variable by variable, the last first.
-use Rattle.std.specs.Prelude.{ℕ, ◌+◌, ◌*◌, Bool, not, ◌||◌, ◌==◌, if◌then◌else◌, List, [], ◌∷◌, map, filter}
-use Rattle.std.specs.List.{flat_map, list_all}
+use Rattle.std.specs.Prelude.{◌≡◌, ℕ, ◌+◌, ◌-◌, ◌*◌, ◌≤◌, Bool, not, ◌||◌, ◌==◌, if◌then◌else◌, List, [], ◌∷◌, map, filter, length, drop}
+use Rattle.std.specs.List.{flat_map, list_all, range_with_len}
 use Rattle.mk_net.specs.declared.words.Pair.{Pair}
 use Rattle.mk_exact.specs.States.{numbers_below}
 use Rattle.mk_sums.specs.Cells.{cells}
@@ -30,3 +30,13 @@ is_moved part inside x = if inside then has_variable part x else not (has_variab
 -- each value of a variable that moves, and the first one of another
 abbrev pub values_moved : ScopeOf → ScopeOf → Bool → ℕ → List ℕ
 values_moved whole part inside x = if is_moved part inside x then numbers_below (size_in whole x) else 0 ∷ []
+
+-- the cells of runs that lie side by side, by the first cell of each run
+abbrev pub runs_of : ℕ → List ℕ → List ℕ
+runs_of run firsts = flat_map (λ c. range_with_len c run) firsts
+
+-- the last variables of a scope may have each of their values, so that their cells are the first ones, side by side
+pub record IsTail (scope : ScopeOf) (values : ℕ → List ℕ) (count run : ℕ) : Type 0 where
+  pub within : count ≤ length scope.variables
+  pub counted : run ≡ cells (size_in scope) (drop (length scope.variables - count) scope.variables)
+  pub free : cells_with (size_in scope) values (drop (length scope.variables - count) scope.variables) ≡ numbers_below run

@@ -1,12 +1,20 @@
-use Rattle.std.proofs.Common.{◌≡◌, ℕ, ◌+◌, ◌*◌, List, length, slice_index, refl, arith, ap, subst, sym, ◌∙◌}
+use Rattle.std.proofs.Common.{◌≡◌, ℕ, ◌+◌, ◌*◌, List, length, slice_index, arith, ap, subst, sym, ◌∙◌}
 use Rattle.std.specs.Vec.{with_items}
 use Rattle.std.proofs.lemmas.List.{get_or-replicate}
 use Rattle.mk_exact.specs.States.{plus_over}
 use Rattle.mk_cell.specs.Cell.{StandsAt}
 use Rattle.mk_table.specs.inner.Blank.{one_digits, one_exponent, filled}
 use Rattle.mk_table.proofs.Filled.{all_blank, full_room, full_listed, held_items, held_after}
+use Rattle.mk_table.specs.inner.Strides.{runs_of}
 use Rattle.mk_table.proofs.OnesSum.{ones_listed}
+use Rattle.mk_table.proofs.Runs.{length-runs}
 use Rattle.mk_table.proofs.blank.plus_of_each.Goals as goal
+
+pub overflow_mul-offsets : goal.overflow_mul-offsets
+overflow_mul-offsets g c = let e = length-runs c.args.run c.args.offsets.now in omega (arith, e, c.requires.few)
+
+pub plus_of_ones-cell-requires : goal.plus_of_ones-cell-requires
+plus_of_ones-cell-requires g c = let e = length-runs c.args.run c.args.offsets.now in omega (arith, e, c.requires.few)
 
 pub plus_at_each-requires-clause-room : goal.plus_at_each-requires-clause-room
 plus_at_each-requires-clause-room g c =
@@ -20,10 +28,11 @@ plus_at_each-requires-clause-exponents g c = omega (arith, c.deref_mut-else-digi
 
 pub returns-then-digits-cells-clause-stand : goal.returns-then-digits-cells-clause-stand
 returns-then-digits-cells-clause-stand g c = λ b l k f n h.
-    let d = c.args.digits.now in let e = c.args.exponents.now in let offsets = c.args.offsets.now in let count = length c.args.bases.now in
+    let d = c.args.digits.now in let e = c.args.exponents.now in let offsets = runs_of c.args.run c.args.offsets.now in let count = length c.args.bases.now in
     let base = slice_index c.args.bases.now b in let R = g.R.Semiring in let cell = c.plus_of_ones-cell.result in
     let blank = all_blank c.args.cells d e c.requires.whole c.if-digits-cells.true in
-    let made = c.plus_of_ones-cell.ensures offsets refl k (λ j. f (base + j)) n (ones_listed k c.args.cells d e blank.0 blank.1 f n base offsets (c.requires.within b l) h) in
+    let made = subst (λ m. StandsAt k cell.digits cell.exponent (plus_over R.plus_of 0 (λ j. f (base + j)) offsets) (n + 2 * m)) (sym (length-runs c.args.run c.args.offsets.now))
+    (c.plus_of_ones-cell.ensures offsets (length-runs c.args.run c.args.offsets.now) k (λ j. f (base + j)) n (ones_listed k c.args.cells d e blank.0 blank.1 f n base offsets (c.requires.within b l) h)) in
     let i : cell.digits ≡ slice_index (filled one_digits count c.put_everywhere.new.digits.items) b =
     sym (ap (λ (ys : List ℕ). slice_index ys b) c.put_everywhere.ensures.digits ∙ get_or-replicate count b cell.digits 0 l) in
     let j : cell.exponent ≡ slice_index (filled one_exponent count c.put_everywhere.new.exponents.items) b =
@@ -33,7 +42,7 @@ returns-then-digits-cells-clause-stand g c = λ b l k f n h.
 
 pub returns-else-digits-cells-clause-stand : goal.returns-else-digits-cells-clause-stand
 returns-else-digits-cells-clause-stand g c = λ b l k f n h.
-    let offsets = c.args.offsets.now in let count = length c.args.bases.now in
+    let offsets = runs_of c.args.run c.args.offsets.now in let count = length c.args.bases.now in
     let base = slice_index c.args.bases.now b in let R = g.R.Semiring in
     let nd = c.plus_at_each.new.out_digits in let ne = c.plus_at_each.new.out_exponents in
     let made = c.plus_at_each.ensures.stand b l k f n (full_listed c.args.cells c.args.digits.now c.args.exponents.now c.requires.whole c.if-digits-cells.false k f n base offsets h) in

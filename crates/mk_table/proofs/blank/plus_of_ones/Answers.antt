@@ -13,9 +13,13 @@ use Rattle.mk_table.proofs.blank.plus_of_ones.Goals as goal
 few_cell : (q x count : ℕ) (plus : ℕ → ℕ → ℕ) → count ≤ 64 → StandsAt 0 q x (plus_over {X = ℕ} plus 0 (λ c. 1) (replicate count 0)) (0 + count) → IsCell q x
 few_cell q x count plus h s = has_room 0 q x _ (0 + count) (omega arith) (omega (arith, h)) s
 
+pub returns-then-count-le-FEW : goal.returns-then-count-le-FEW
+returns-then-count-le-FEW g c = λ xs l k f n a.
+    stands_with_more k _ _ _ (n + c.args.count) (n + 2 * c.args.count) (omega arith) (c.plus_of_few.ensures xs l k f n a)
+
 pub returns-then-count-le-BLOCK : goal.returns-then-count-le-BLOCK
 returns-then-count-le-BLOCK g c = λ xs l k f n a.
-    stands_with_more k _ _ _ (n + c.args.count) (n + 2 * c.args.count) (omega arith) (c.plus_of_few.ensures xs l k f n a)
+    stands_with_more k _ _ _ (n + c.args.count) (n + 2 * c.args.count) (omega arith) (c.plus_of_few-then-count-le-BLOCK.ensures xs l k f n a)
 
 pub plus_of_blocks-requires-clause-block : goal.plus_of_blocks-requires-clause-block
 plus_of_blocks-requires-clause-block g c =
@@ -25,8 +29,8 @@ pub plus_of_blocks-requires-clause-rest : goal.plus_of_blocks-requires-clause-re
 plus_of_blocks-requires-clause-rest g c =
     few_cell _ _ (c.args.count % 64) g.R.Semiring.plus_of (omega arith) (c.plus_of_few-rest.ensures (replicate (c.args.count % 64) 0) (length-replicate {A = ℕ} (c.args.count % 64) 0) 0 (λ j. 1) 0 (λ i z l. one_stands))
 
-pub returns : goal.returns
-returns g c = λ xs l k f n a.
+pub returns-else-count-le-BLOCK : goal.returns-else-count-le-BLOCK
+returns-else-count-le-BLOCK g c = λ xs l k f n a.
     let R = g.R.Semiring in let count = c.args.count in
     let blocks = count / 64 in let rest = count % 64 in
     let split : length xs ≡ blocks * 64 + rest = omega (arith, l) in

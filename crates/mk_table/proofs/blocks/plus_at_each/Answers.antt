@@ -3,6 +3,7 @@ use Rattle.std.proofs.Math.ListN.{length-set}
 use Rattle.mk_exact.specs.States.{plus_over}
 use Rattle.mk_cell.specs.Cell.{StandsAt}
 use Rattle.mk_table.specs.inner.Parts.{StandListed}
+use Rattle.mk_table.specs.inner.Strides.{runs_of}
 use Rattle.mk_table.proofs.Blocked.{written_next}
 use Rattle.mk_table.proofs.blocks.plus_at_each.Goals as goal
 
@@ -14,8 +15,8 @@ loop-place-preserved g c =
       long = length-set c.loop-place.out_digits b cell.digits ∙ c.loop-place.invariant.long;
       long_too = length-set c.loop-place.out_exponents b cell.exponent ∙ c.loop-place.invariant.long_too;
       stand = written_next
-          (λ i q x. (k : ℕ) (f : ℕ → ℕ) (n : ℕ) → StandListed k c.args.digits.now c.args.exponents.now f n (slice_index c.args.bases.now i) c.args.offsets.now
-          → StandsAt k q x (plus_over R.plus_of 0 (λ j. f (slice_index c.args.bases.now i + j)) c.args.offsets.now) (n + 2 * length c.args.offsets.now))
+          (λ i q x. (k : ℕ) (f : ℕ → ℕ) (n : ℕ) → StandListed k c.args.digits.now c.args.exponents.now f n (slice_index c.args.bases.now i) (runs_of c.args.run c.args.offsets.now)
+          → StandsAt k q x (plus_over R.plus_of 0 (λ j. f (slice_index c.args.bases.now i + j)) (runs_of c.args.run c.args.offsets.now)) (n + 2 * length (runs_of c.args.run c.args.offsets.now)))
           b cell.digits cell.exponent c.loop-place.out_digits c.loop-place.out_exponents
           (omega (arith, l, c.loop-place.invariant.long)) (omega (arith, l, c.loop-place.invariant.long_too)) c.loop-place.invariant.stand c.plus_at-cell.ensures;
     }

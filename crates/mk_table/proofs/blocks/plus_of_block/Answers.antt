@@ -1,26 +1,25 @@
-use Rattle.std.proofs.Common.{◌+◌, ℕ, length, take, slice_index, arith, subst}
+use Rattle.std.proofs.Common.{◌≡◌, ◌+◌, ◌-◌, ◌*◌, ◌<◌, ℕ, List, All, length, arith, ap, subst, sym, ◌∙◌}
+use Rattle.mk_exact.specs.States.{plus_over}
 use Rattle.mk_cell.specs.Cell.{StandsAt}
-use Rattle.mk_cell.specs.Passes.{plus_below}
-use Rattle.mk_table.proofs.Blocked.{AreGathered, gathered_first, gathered_stand, gathered_cells, gathered_all}
+use Rattle.mk_table.specs.inner.Parts.{StandListed}
+use Rattle.mk_table.specs.inner.Strides.{runs_of}
+use Rattle.mk_table.proofs.Blocked.{cells_of_room}
+use Rattle.mk_table.proofs.Runs.{runs_single}
 use Rattle.mk_table.proofs.blocks.plus_of_block.Goals as goal
 
-pub over-requires : goal.over-requires
-over-requires g c =
-    let at : ℕ → ℕ = λ k. c.args.base + slice_index c.args.offsets.now k in
-    let count = length c.args.offsets.now in
-    gathered_cells at count c.args.digits.now c.args.exponents.now (take count c.loop-place.block_digits) (take count c.loop-place.block_exponents)
-    (gathered_first at count c.args.digits.now c.args.exponents.now c.loop-place.block_digits c.loop-place.block_exponents (omega (arith, c.requires.few, c.loop-place.invariant.long)) (omega (arith, c.requires.few, c.loop-place.invariant.long_too))
-    (λ k l. c.requires.within k 0 l) (λ k l. c.loop-place.invariant.digits k (omega (arith, c.loop-place-test.false))) (λ k l. c.loop-place.invariant.exponents k (omega (arith, c.loop-place-test.false))))
-    c.requires.cells
+pub plus_of_cells-requires-clause-within : goal.plus_of_cells-requires-clause-within
+plus_of_cells-requires-clause-within g c =
+    subst (λ (ys : List ℕ). All (λ k. c.args.base + k < length c.args.digits.now) ys) (ap (λ r. runs_of r c.args.offsets.now) c.if-run-eq1.true ∙ runs_single c.args.offsets.now) c.requires.within
 
-pub returns : goal.returns
-returns g c = λ k f n a.
-    let R = g.R.Semiring in
-    let at : ℕ → ℕ = λ i. c.args.base + slice_index c.args.offsets.now i in
-    let count = length c.args.offsets.now in
-    let are : AreGathered at count c.args.digits.now c.args.exponents.now (take count c.loop-place.block_digits) (take count c.loop-place.block_exponents) =
-    gathered_first at count c.args.digits.now c.args.exponents.now c.loop-place.block_digits c.loop-place.block_exponents (omega (arith, c.requires.few, c.loop-place.invariant.long)) (omega (arith, c.requires.few, c.loop-place.invariant.long_too))
-    (λ i l. c.requires.within i 0 l) (λ i l. c.loop-place.invariant.digits i (omega (arith, c.loop-place-test.false))) (λ i l. c.loop-place.invariant.exponents i (omega (arith, c.loop-place-test.false))) in
-    let made = c.over.ensures k (λ i. f (at i)) n (gathered_stand at count c.args.digits.now c.args.exponents.now _ _ are k f n (λ i l. a.listed i 0 l)) in
-    let same = subst (λ m. StandsAt k c.over.result.digits c.over.result.exponent (plus_below R.plus_of m (λ i. f (at i))) (n + m)) are.long made in
-    subst (λ v. StandsAt k c.over.result.digits c.over.result.exponent v (n + count)) (gathered_all R.plus_of g.met.R.Semiring.lawful (λ i. f (c.args.base + i)) c.args.offsets.now) same
+pub plus_of_cells-requires-clause-cells : goal.plus_of_cells-requires-clause-cells
+plus_of_cells-requires-clause-cells g c = cells_of_room c.requires.room.0 _ _ _ c.requires.room.1
+
+pub returns-then-run-eq1 : goal.returns-then-run-eq1
+returns-then-run-eq1 g c = λ k f n a.
+    let R = g.R.Semiring in let xs = c.args.offsets.now in let base = c.args.base in
+    let one : runs_of c.args.run xs ≡ xs = ap (λ r. runs_of r xs) c.if-run-eq1.true ∙ runs_single xs in
+    let made = c.plus_of_cells.ensures k f n (subst (λ (ys : List ℕ). StandListed k c.args.digits.now c.args.exponents.now f n base ys) one a) in
+    let steps : n + length xs ≡ n + length xs * (2 * c.args.run - 1) =
+    let e : 2 * c.args.run - 1 ≡ 1 = omega (arith, c.if-run-eq1.true) in let t : length xs * (2 * c.args.run - 1) ≡ length xs * 1 = ap (λ r. length xs * r) e in omega (arith, t) in
+    subst (λ m. StandsAt k c.plus_of_cells.result.digits c.plus_of_cells.result.exponent (plus_over R.plus_of 0 (λ j. f (base + j)) (runs_of c.args.run xs)) m) steps
+    (subst (λ (ys : List ℕ). StandsAt k c.plus_of_cells.result.digits c.plus_of_cells.result.exponent (plus_over R.plus_of 0 (λ j. f (base + j)) ys) (n + length xs)) (sym one) made)

@@ -2,7 +2,7 @@ use Rattle.std.proofs.Common.{◌+◌, ◌<◌, length, slice_index, arith, ◌�
 use Rattle.mk_cell.specs.Cell.{IsCell}
 use Rattle.mk_table.specs.inner.Parts.{IsTimesCell, IsAmong, cells_at}
 use Rattle.mk_table.proofs.Changes.{cell_left, written_among}
-use Rattle.mk_table.proofs.Placed.{at_place, all_at, apart_at}
+use Rattle.mk_table.proofs.Runs.{at_place, all_at, apart_at}
 use Rattle.mk_table.proofs.times.times_listed.Goals as goal
 
 pub times_at-requires-clause-within : goal.times_at-requires-clause-within

@@ -1,4 +1,4 @@
-use Rattle.std.proofs.Common.{◌≡◌, ◌<◌, ℕ, List, Bool, length, slice_index, subst, sym, ap, arith, ◌∙◌}
+use Rattle.std.proofs.Common.{◌≡◌, ◌<◌, ℕ, List, Bool, length, slice_index, subst, sym, ap, arith}
 use Rattle.mk_net.specs.Trades.{trade_ratio}
 use Rattle.mk_exact.specs.Ratios.{units_of}
 use Rattle.mk_sums.specs.There.{holds_there}
@@ -15,21 +15,30 @@ use Rattle.mk_table.proofs.times.times_units.Goals as goal
 cell_below : (chosen : List ℕ) (passes : List ℕ) (n i : ℕ) → chosen ≡ passes → ((k : ℕ) → k < length passes → slice_index passes k < n) → i < length chosen → slice_index chosen i < n
 cell_below chosen passes n i e h l = subst (λ (ys : List ℕ). i < length ys → slice_index ys i < n) (sym e) (h i) l
 
-pub value-requires-clause-cell : goal.value-requires-clause-cell
-value-requires-clause-cell c =
+pub value-value-requires-clause-cell : goal.value-value-requires-clause-cell
+value-value-requires-clause-cell c =
     let scope = c.args.scope.now in
     cell_below c.args.chosen.now _ (cells_in scope) c.loop-place.place c.requires.chosen (chosen_below (λ k. holds_there c.args.ratio.now.condition (values_at scope k)) (cells_in scope)) (omega (arith, c.loop-place-test.true))
 
-pub value-requires-clause-variable : goal.value-requires-clause-variable
-value-requires-clause-variable c =
+pub value-value-requires-clause-variable : goal.value-value-requires-clause-variable
+value-value-requires-clause-variable c =
     event_last c.args.scope.now c.args.ratio.now.condition (record { variable = c.args.ratio.now.variable; value = 0 }) c.requires.event
 
-pub units_for-units-requires : goal.units_for-units-requires
-units_for-units-requires c =
+pub bounds-units-value : goal.bounds-units-value
+bounds-units-value c =
     let scope = c.args.scope.now in
     let l = cell_below c.args.chosen.now _ (cells_in scope) c.loop-place.place c.requires.chosen (chosen_below (λ k. holds_there c.args.ratio.now.condition (values_at scope k)) (cells_in scope)) (omega (arith, c.loop-place-test.true)) in
-    let below = place_of_units scope (trade_ratio c.args.ratio.now) c.requires.event c.requires.one_each (slice_index c.args.chosen.now c.loop-place.place) l in
-    rw c.value.ensures below
+    let below : c.value-value.result < length c.args.ratio.now.factors.items =
+    let b = place_of_units scope (trade_ratio c.args.ratio.now) c.requires.event c.requires.one_each (slice_index c.args.chosen.now c.loop-place.place) l in rw c.value-value.ensures b in
+    omega (arith, below, c.unit_cells-units.ensures.few)
+
+pub bounds-units-value-in-loop-place : goal.bounds-units-value-in-loop-place
+bounds-units-value-in-loop-place c =
+    let scope = c.args.scope.now in
+    let l = cell_below c.args.chosen.now _ (cells_in scope) c.loop-place.place c.requires.chosen (chosen_below (λ k. holds_there c.args.ratio.now.condition (values_at scope k)) (cells_in scope)) (omega (arith, c.loop-place-test.true)) in
+    let below : c.value-value.result < length c.args.ratio.now.factors.items =
+    let b = place_of_units scope (trade_ratio c.args.ratio.now) c.requires.event c.requires.one_each (slice_index c.args.chosen.now c.loop-place.place) l in rw c.value-value.ensures b in
+    omega (arith, below, c.unit_cells-units.ensures.few)
 
 pub times_at-requires-clause-within : goal.times_at-requires-clause-within
 times_at-requires-clause-within c =
@@ -59,7 +68,12 @@ times_at-requires-clause-cell c =
     (λ p. new p.0 p.1 p.2) (omega (arith, l, c.requires.full.as_many_digits))
 
 pub times_at-requires-clause-other : goal.times_at-requires-clause-other
-times_at-requires-clause-other c = whole_cell 40 _ _ _ (omega arith) c.of_whole.ensures
+times_at-requires-clause-other c =
+    let scope = c.args.scope.now in
+    let l = cell_below c.args.chosen.now _ (cells_in scope) c.loop-place.place c.requires.chosen (chosen_below (λ k. holds_there c.args.ratio.now.condition (values_at scope k)) (cells_in scope)) (omega (arith, c.loop-place-test.true)) in
+    let below : c.value-value.result < length c.args.ratio.now.factors.items =
+    let b = place_of_units scope (trade_ratio c.args.ratio.now) c.requires.event c.requires.one_each (slice_index c.args.chosen.now c.loop-place.place) l in rw c.value-value.ensures b in
+    whole_cell 40 _ _ _ (omega arith) (c.unit_cells-units.ensures.stand c.value-value.result below)
 
 pub loop-place-preserved : goal.loop-place-preserved
 loop-place-preserved c =
@@ -69,8 +83,10 @@ loop-place-preserved c =
     let cell = slice_index c.args.chosen.now i in
     let l = cell_below c.args.chosen.now _ (cells_in scope) i c.requires.chosen (chosen_below passes (cells_in scope)) m in
     let units : ℕ → ℕ = λ k. units_of (trade_ratio c.args.ratio.now) (values_at scope k c.args.ratio.now.variable) in
-    let e : c.units_for-units.result ≡ units cell = c.units_for-units.ensures ∙ ap (λ v. slice_index c.args.ratio.now.factors.items v) c.value.ensures in
+    let below : c.value-value.result < length c.args.ratio.now.factors.items = let b = place_of_units scope (trade_ratio c.args.ratio.now) c.requires.event c.requires.one_each cell l in rw c.value-value.ensures b in
+    let made = c.unit_cells-units.ensures.stand c.value-value.result below in
     written_among (λ k d e x y. IsTimes d e 40 (units k) 0 x y) c.args.chosen.now c.args.digits.now c.args.exponents.now c.loop-place.digits c.loop-place.exponents c.times_at.new.digits c.times_at.new.exponents
     i cell (omega arith) (new_cell c.args.chosen.now _ i c.requires.chosen (chosen_apart passes (cells_in scope)) m)
     (omega (arith, l, c.requires.full.as_many_digits)) (omega (arith, l, c.requires.full.as_many_exponents)) c.loop-place.invariant c.times_at.ensures.digits c.times_at.ensures.exponents
-    (c.times_at.ensures.times 40 (units cell) 0 (subst (λ w. StandsAt 40 c.of_whole.result.digits c.of_whole.result.exponent w 0) e c.of_whole.ensures))
+    (c.times_at.ensures.times 40 (units cell) 0
+    (subst (λ w. StandsAt 40 (slice_index c.unit_cells-units.result.digits c.value-value.result) (slice_index c.unit_cells-units.result.exponents c.value-value.result) w 0) (ap (λ v. slice_index c.args.ratio.now.factors.items v) c.value-value.ensures) made))

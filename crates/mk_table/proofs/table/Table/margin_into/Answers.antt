@@ -7,6 +7,7 @@ use Rattle.mk_table.specs.inner.Parts.{AreNumbers}
 use Rattle.std.specs.Prelude.{List, Option}
 use Rattle.mk_net.specs.declared.words.Pair.{Pair}
 use Rattle.mk_table.specs.inner.Touched.{IsWithin}
+use Rattle.mk_table.specs.inner.Strides.{runs_of}
 use Rattle.mk_table.specs.inner.Blank.{one_digits, one_exponent, filled}
 use Rattle.mk_table.proofs.Whole.{table_full, parts_of, parts_room, parts_numbers, parts_full, onto_within, touched_cells, margin_numbers, has_written}
 use Rattle.mk_table.proofs.Filled.{at_most, filled_length}
@@ -14,32 +15,32 @@ use Rattle.mk_table.proofs.table.Table.margin_into.Goals as goal
 
 pub plus_of_each-requires-clause-within : goal.plus_of_each-requires-clause-within
 plus_of_each-requires-clause-within g c = λ b l.
-    let part = c.args.places.now.part in let whole = c.args.places.now.whole in let bases = c.lists.result.0.now in let offsets = c.lists.result.1.now in
+    let part = c.args.places.now.part in let whole = c.args.places.now.whole in let bases = c.lists-run.result.0.now in let offsets = runs_of c.lists-run.result.2 c.lists-run.result.1.now in
     let whole_is : whole ≡ c.args.self.now.scope = ap (λ (s : PlacesOf). s.whole) c.requires.places in
     let count : c.cells.result ≡ cells_in whole = c.cells.ensures.cells ∙ ap cells_in c.deref-3.ensures ∙ ap (λ (t : TableOf). cells_in t.scope) c.self.view_is ∙ ap cells_in (sym whole_is) in
-    rw count (onto_within part whole (slice_index bases b) offsets b (c.lists.ensures.onto b (omega (arith, l, c.lists.ensures.one_each))))
+    rw count (onto_within part whole (slice_index bases b) offsets b (c.lists-run.ensures.onto b (omega (arith, l, c.lists-run.ensures.one_each))))
 
 pub plus_of_each-requires-clause-room : goal.plus_of_each-requires-clause-room
 plus_of_each-requires-clause-room g c =
-    let part = c.args.places.now.part in let whole = c.args.places.now.whole in let bases = c.lists.result.0.now in let offsets = c.lists.result.1.now in
+    let part = c.args.places.now.part in let whole = c.args.places.now.whole in let bases = c.lists-run.result.0.now in let offsets = runs_of c.lists-run.result.2 c.lists-run.result.1.now in
     let whole_is : whole ≡ c.args.self.now.scope = ap (λ (s : PlacesOf). s.whole) c.requires.places in
     let parts = parts_of _ c.args.self.now whole (filled one_digits c.cells.result c.deref.result.now) (filled one_exponent c.cells.result c.deref-2.result.now)
     c.self.view_is (table_full _ _ _ _ _ _ c.self.invariant) c.self.invariant.there (whole_is ∙ sym (ap (λ (t : TableOf). t.scope) c.self.view_is))
     (ap (λ k. filled one_digits k c.deref.result.now) (c.cells.ensures.cells ∙ ap cells_in c.deref-3.ensures) ∙ ap (filled one_digits (cells_in c.self.inside.scope.value)) c.deref.ensures.value)
     (ap (λ k. filled one_exponent k c.deref-2.result.now) (c.cells.ensures.cells ∙ ap cells_in c.deref-3.ensures) ∙ ap (filled one_exponent (cells_in c.self.inside.scope.value)) c.deref-2.ensures.value) in
-    let few : length offsets ≤ cells_in c.args.self.now.scope = let s = ap cells_in whole_is in omega (arith, s, c.lists.ensures.few) in
+    let few : length offsets ≤ cells_in c.args.self.now.scope = let s = ap cells_in whole_is in omega (arith, s, c.lists-run.ensures.few) in
     parts_room _ _ _ _ _ parts (2 * cells_in c.args.self.now.scope) (2 * length offsets) c.requires.room (omega (arith, few))
 
 pub returns-clause-numbers : goal.returns-clause-numbers
 returns-clause-numbers g c = λ f n h.
-    let part = c.args.places.now.part in let whole = c.args.places.now.whole in let bases = c.lists.result.0.now in let offsets = c.lists.result.1.now in
+    let part = c.args.places.now.part in let whole = c.args.places.now.whole in let bases = c.lists-run.result.0.now in let offsets = runs_of c.lists-run.result.2 c.lists-run.result.1.now in
     let whole_is : whole ≡ c.args.self.now.scope = ap (λ (s : PlacesOf). s.whole) c.requires.places in
     let parts = parts_of _ c.args.self.now whole (filled one_digits c.cells.result c.deref.result.now) (filled one_exponent c.cells.result c.deref-2.result.now)
     c.self.view_is (table_full _ _ _ _ _ _ c.self.invariant) c.self.invariant.there (whole_is ∙ sym (ap (λ (t : TableOf). t.scope) c.self.view_is))
     (ap (λ k. filled one_digits k c.deref.result.now) (c.cells.ensures.cells ∙ ap cells_in c.deref-3.ensures) ∙ ap (filled one_digits (cells_in c.self.inside.scope.value)) c.deref.ensures.value)
     (ap (λ k. filled one_exponent k c.deref-2.result.now) (c.cells.ensures.cells ∙ ap cells_in c.deref-3.ensures) ∙ ap (filled one_exponent (cells_in c.self.inside.scope.value)) c.deref-2.ensures.value) in
     let out_is : part ≡ c.out.inside.scope.value = ap (λ (s : PlacesOf). s.part) c.requires.places ∙ sym (ap (λ (t : TableOf). t.scope) c.out.view_is) in
-    let R = g.R.Semiring in let are = c.lists.ensures in let part_is : part ≡ c.args.out.now.scope = ap (λ (s : PlacesOf). s.part) c.requires.places in
+    let R = g.R.Semiring in let are = c.lists-run.ensures in let part_is : part ≡ c.args.out.now.scope = ap (λ (s : PlacesOf). s.part) c.requires.places in
     let nd = filled one_digits (length bases) c.plus_of_each.new.out_digits.items in let ne = filled one_exponent (length bases) c.plus_of_each.new.out_exponents.items in
     let long : length nd ≡ cells_in part =
     filled_length one_digits (length bases) c.plus_of_each.new.out_digits.items ((at_most (length bases) c.plus_of_each.new.out_digits.items c.plus_of_each.new.out_exponents.items c.plus_of_each.ensures.held.whole).0) ∙ are.one_each in

@@ -1,11 +1,11 @@
 use Rattle.std.proofs.Common.{◌≡◌, ◌-◌, drop, length}
 use Rattle.mk_sums.specs.Cells.{cells}
 use Rattle.mk_table.specs.Scopes.{size_in}
-use Rattle.mk_table.specs.inner.Strides.{cells_with, values_let}
-use Rattle.mk_table.proofs.scope.Scope.cells_where.Given as goal
+use Rattle.mk_table.specs.inner.Strides.{cells_with, runs_of, values_let}
+use Rattle.mk_table.proofs.scope.Scope.firsts_where.Given as goal
 
 abbrev pub invariant-loop-passed : goal.invariant-loop-passed
 invariant-loop-passed l = record {
   stride : l.stride ≡ cells (size_in l.self) (drop (length l.self.variables - l.passed) l.self.variables);
-  cells : l.cells.items ≡ cells_with (size_in l.self) (values_let l.self l.event) (drop (length l.self.variables - l.passed) l.self.variables);
+  cells : runs_of l.fn.tail.cells l.firsts.items ≡ cells_with (size_in l.self) (values_let l.self l.event) (drop (length l.self.variables - l.passed) l.self.variables);
 }
