@@ -92,11 +92,8 @@ fn withdraw(reader: &mut Reader) -> Option<Command>
 fn price(reader: &mut Reader) -> Option<Command>
     ensures { Finds result reader.new (read_price reader.old) }
 {
-    // A `?` would copy the question, of some 600 bytes, twice.
-    match reader.question() {
-        Some(question) => Some(Command::Price { question }),
-        None => None,
-    }
+    let question = reader.question()?;
+    Some(Command::Price { question })
 }
 
 #[tactic(auto, unfolding(crate::specs::inner::Reading::read_limits))]
