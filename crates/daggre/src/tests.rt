@@ -271,19 +271,22 @@ fn expect_failed_writes(
     alloc: Global,
     commands: &[u8],
     whole: &[u8],
+    piece: usize,
     written: &[usize],
-) -> Result<(), AllocError> {
+) -> Result<(), AllocError>
+    requires { 1 ≤ piece }
+{
     let words = ["run", "m.toml"];
     let market = text_of(alloc, COIN)?;
     let mut call = 1u64;
     for count in written {
-        let ended = run(alloc, &words, &market, commands, 16, (&[], &[call]))?;
+        let ended = run(alloc, &words, &market, commands, piece, (&[], &[call]))?;
         expect_front(rt, &ended, whole, *count);
         assert!(rt; ended.status == Status::WriteFault);
         assert_eq!(rt; ended.out.calls(), call);
         call = call.saturating_add(1);
     }
-    let ended = run(alloc, &words, &market, commands, 16, (&[], &[call]))?;
+    let ended = run(alloc, &words, &market, commands, piece, (&[], &[call]))?;
     assert!(rt; ended.out.written() == whole);
     assert!(rt; ended.status == Status::Done);
     Ok(())
@@ -303,11 +306,16 @@ fn each_read_fails_in_turn(rt: HostRuntime) -> Result<(), Fail> {
 
 #[test]
 fn each_write_fails_in_turn(rt: HostRuntime) -> Result<(), Fail> {
-    // The ready line takes one write of at most 16 bytes, each price three, and the refusal one.
+    // Reads of 16 bytes bring one line at a time: the ready line takes one write of at most 16 bytes, each price three, and the
+    // refusal one.
     let priced = [0, 12, 28, 44, 45, 61, 77, 78, 94, 110, 111, 127, 143, 144];
-    expect_failed_writes(&rt, rt.alloc(), PRICES, PRICED, &priced)?;
+    expect_failed_writes(&rt, rt.alloc(), PRICES, PRICED, 16, &priced)?;
     // The ready line (12 bytes) and the user's (16) take one write each; limits (27) and the deposit (21) take two.
     let limited = [0, 12, 28, 44, 55, 71, 76, 92];
-    expect_failed_writes(&rt, rt.alloc(), LIMITS, LIMITED, &limited)?;
+    expect_failed_writes(&rt, rt.alloc(), LIMITS, LIMITED, 16, &limited)?;
+    // The first read of 64 bytes brings three whole lines, so that their 99 bytes are written together; the second ends the fourth
+    // line, and the last one has no LF, so that its refusal waits for the end.
+    let together = [0, 12, 76, 111, 144];
+    expect_failed_writes(&rt, rt.alloc(), PRICES, PRICED, 64, &together)?;
     Ok(())
 }
