@@ -252,9 +252,10 @@ fn check_places(
     requires { LiesIn part.now.value whole.now.value }
 {
     let places = Places::of(alloc, whole, part)?;
-    let (first, others) = places.lists();
+    let (first, others, run) = places.lists();
     assert_eq!(rt; first, bases);
     assert_eq!(rt; others, offsets);
+    assert_eq!(rt; run, 1);
     Ok(())
 }
 
@@ -346,25 +347,28 @@ fn check_ones<R: Semiring>(rt: &impl Abort, alloc: Global, two: u64) -> Result<(
     Ok(())
 }
 
-/// The plus of no cell, of one, and of as many as fill a block, one block and more, two, and a table.
-fn check_plus<R: Semiring>(rt: &impl Abort, numbers: &[u64; 6]) {
+/// The plus of no cell, of one, of as many as a short list has and of one more, of as many as fill a block, one block and
+/// more, two, and a table.
+fn check_plus<R: Semiring>(rt: &impl Abort, numbers: &[u64; 8]) {
     check(rt, plus_of_ones::<R>(0), numbers[0], 0);
     check(rt, plus_of_ones::<R>(1), numbers[1], 0);
-    check(rt, plus_of_ones::<R>(64), numbers[2], 0);
-    check(rt, plus_of_ones::<R>(65), numbers[3], 0);
-    check(rt, plus_of_ones::<R>(128), numbers[4], 0);
-    check(rt, plus_of_ones::<R>(4096), numbers[5], 0);
+    check(rt, plus_of_ones::<R>(8), numbers[2], 0);
+    check(rt, plus_of_ones::<R>(9), numbers[3], 0);
+    check(rt, plus_of_ones::<R>(64), numbers[4], 0);
+    check(rt, plus_of_ones::<R>(65), numbers[5], 0);
+    check(rt, plus_of_ones::<R>(128), numbers[6], 0);
+    check(rt, plus_of_ones::<R>(4096), numbers[7], 0);
 }
 
 #[test]
 fn sums_of_ones(rt: HostRuntime) -> Result<(), Fail> {
-    check_plus::<SumProd>(&rt, &[0, 1, 64, 65, 128, 4096]);
+    check_plus::<SumProd>(&rt, &[0, 1, 8, 9, 64, 65, 128, 4096]);
     check_ones::<SumProd>(&rt, rt.alloc(), 2)
 }
 
 #[test]
 fn minima_of_ones(rt: HostRuntime) -> Result<(), Fail> {
-    check_plus::<MinProd>(&rt, &[0, 1, 1, 1, 1, 1]);
+    check_plus::<MinProd>(&rt, &[0, 1, 1, 1, 1, 1, 1, 1]);
     check_ones::<MinProd>(&rt, rt.alloc(), 1)
 }
 
