@@ -5,7 +5,7 @@ use Rattle.mk_net.specs.Firsts.{fault_if, or_else}
 use Rattle.mk_exact.specs.History.{Entry, is_settled}
 use Rattle.mk_exact.specs.Market.{Market}
 use Rattle.mk_command.specs.declared.command.Command.{Command}
-use Rattle.mk_command.specs.declared.command.Command.TheVariants.{User, Deposit, Withdraw, Price, Limits, Edit, Worst, Resolve, Settle}
+use Rattle.mk_command.specs.declared.command.Command.TheVariants.{User, Deposit, Withdraw, Price, Limits, Edit, Bounds, Spread, Worst, Resolve, Settle}
 use Rattle.mk_reply.specs.declared.refusal.Refusal.{Refusal}
 use Rattle.mk_reply.specs.declared.reply.Reply.{Reply}
 use Rattle.mk_reply.specs.declared.reply.Reply.TheVariants.{Refused}
@@ -47,6 +47,8 @@ refused_stays market now (Withdraw user bits) why h = none_appended market now (
 refused_stays market now (Price question) why h = none_appended market now (Price question) (Refused why) refl refl
 refused_stays market now (Limits user question) why h = none_appended market now (Limits user question) (Refused why) refl refl
 refused_stays market now (Edit user question to at) why h = absurd h
+refused_stays market now (Bounds user variable condition) why h = none_appended market now (Bounds user variable condition) (Refused why) refl refl
+refused_stays market now (Spread user variable condition to at) why h = none_appended market now (Spread user variable condition to at) (Refused why) refl refl
 refused_stays market now (Worst user) why h = none_appended market now (Worst user) (Refused why) refl refl
 refused_stays market now (Resolve pair) why h = none_appended market now (Resolve pair) (Refused why) refl refl
 refused_stays market now Settle why h = none_appended market now Settle (Refused why) refl refl
@@ -79,6 +81,8 @@ unsettled market H (Withdraw u bits) none = unsettled_first (is_settled H) _ _ n
 unsettled market H (Price q) none = unsettled_first (is_settled H) _ _ none
 unsettled market H (Limits u q) none = unsettled_first (is_settled H) _ _ none
 unsettled market H (Edit u q X seen) none = unsettled_first (is_settled H) _ _ none
+unsettled market H (Bounds u v condition) none = absurd (cc)
+unsettled market H (Spread u v condition to seen) none = absurd (cc)
 unsettled market H (Worst u) none = unsettled_first (is_settled H) _ _ none
 unsettled market H (Resolve p) none = unsettled_first (is_settled H) _ _ none
 unsettled market H Settle none = unsettled_first (is_settled H) _ _ none
