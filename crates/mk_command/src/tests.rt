@@ -107,6 +107,70 @@ fn reads_and_prints_questions(rt: HostRuntime) {
     both_ways(&rt, "edit alice rain=yes | coin=heads to 0 at 0", command);
 }
 
+fn condition(pairs: &[PairText]) -> ArrayVec<PairText, 8> {
+    let mut condition = ArrayVec::new();
+    for pair in pairs {
+        let _ = condition.try_push(*pair);
+    }
+    condition
+}
+
+fn numbers(list: &[u32]) -> ArrayVec<u32, 16> {
+    let mut numbers = ArrayVec::new();
+    for number in list {
+        let _ = numbers.try_push(*number);
+    }
+    numbers
+}
+
+#[test]
+fn reads_and_prints_whole_distributions(rt: HostRuntime) {
+    let user = name(&rt, b"alice");
+    let variable = name(&rt, b"die");
+    let pairs = [pair(&rt, b"rain", b"yes"), pair(&rt, b"to", b"at")];
+    for (given, text) in [
+        (condition(&[]), "bounds alice die"),
+        (condition(&pairs), "bounds alice die | rain=yes, to=at"),
+    ] {
+        let command = Command::Bounds {
+            user,
+            variable,
+            condition: given,
+        };
+        both_ways(&rt, text, command);
+    }
+    let sixteen = [1u32; 16];
+    for (given, to, at, text) in [
+        (
+            condition(&[]),
+            numbers(&[200_000, 300_000, 500_000]),
+            None,
+            "spread alice die to 200000 300000 500000",
+        ),
+        (
+            condition(&pairs),
+            numbers(&[0, 999_999_999]),
+            Some(7),
+            "spread alice die | rain=yes, to=at to 0 999999999 at 7",
+        ),
+        (
+            condition(&[]),
+            numbers(&sixteen),
+            Some(0),
+            "spread alice die to 1 1 1 1 1 1 1 1 1 1 1 1 1 1 1 1 at 0",
+        ),
+    ] {
+        let command = Command::Spread {
+            user,
+            variable,
+            condition: given,
+            to,
+            at,
+        };
+        both_ways(&rt, text, command);
+    }
+}
+
 #[test]
 fn reads_and_prints_the_longest(rt: HostRuntime) {
     let user = name(&rt, LONGEST_NAME);
@@ -173,6 +237,21 @@ fn reads_nothing_else(rt: HostRuntime) {
         "edit alice coin=heads to 1 at",
         "edit alice coin=heads to 1 at 01",
         "edit alice coin=heads to 1 at 2 at 3",
+        "bounds alice",
+        "bounds alice die=one",
+        "bounds alice die at 1",
+        "spread alice die",
+        "spread alice die to",
+        "spread alice die to 1",
+        "spread alice die to 1 at 2",
+        "spread alice die to 1  2",
+        "spread alice die to 1 02",
+        "spread alice die to 1 2 ",
+        "spread alice die to 1 2 at",
+        "spread alice die to 1 2 at 3 4",
+        "spread alice die to 1 1000000000",
+        "spread alice die to 1 1 1 1 1 1 1 1 1 1 1 1 1 1 1 1 1",
+        "spread alice die=one to 1 2",
         "worst",
         "resolve coin",
         "resolve coin=heads | rain=yes",

@@ -1,10 +1,10 @@
 use crate::payments::{Payment, Payments};
 use crate::print::print_reply;
 use crate::read::read_reply;
-use crate::refusal::Refusal;
+use crate::refusal::{Intervals, Refusal};
 use crate::reply::Reply;
 use crate::unread::Unread;
-use arrayvec::ArrayString;
+use arrayvec::{ArrayString, ArrayVec};
 use mk_net::{Name, PairText};
 use std::alloc::Global;
 use std::process::Abort;
@@ -103,6 +103,73 @@ fn reads_and_prints_answers(rt: HostRuntime) -> Result<(), Fail> {
         (0, MOST, "worst 0..9223372036854775807"),
     ] {
         both_ways(&rt, rt.alloc(), text, Reply::Worst { low, high })?;
+    }
+    Ok(())
+}
+
+fn intervals(list: &[(u32, u32)]) -> Option<Intervals> {
+    let mut intervals = ArrayVec::new();
+    for interval in list {
+        let _ = intervals.try_push(*interval);
+    }
+    Some(intervals)
+}
+
+fn factors(list: &[u64]) -> ArrayVec<u64, 16> {
+    let mut factors = ArrayVec::new();
+    for factor in list {
+        let _ = factors.try_push(*factor);
+    }
+    factors
+}
+
+#[test]
+fn reads_and_prints_whole_distributions(rt: HostRuntime) -> Result<(), Fail> {
+    let die = [(166_667, 999_999), (1, 1), (2, 3)];
+    let sixteen = [(1u32, 999_999u32); 16];
+    for (intervals, at, text) in [
+        (None, 0, "bounds none at 0"),
+        (intervals(&die), 2, "bounds 166667..999999 1..1 2..3 at 2"),
+        (
+            intervals(&sixteen),
+            MOST,
+            "bounds 1..999999 1..999999 1..999999 1..999999 1..999999 1..999999 1..999999 1..999999 1..999999 1..999999 1..999999 1..999999 1..999999 1..999999 1..999999 1..999999 at 9223372036854775807",
+        ),
+    ] {
+        both_ways(&rt, rt.alloc(), text, Reply::Bounded { intervals, at })?;
+    }
+    let row = [659_707_636_373, 989_561_454_559, 1_649_264_143_135];
+    for (factors, at, text) in [
+        (
+            factors(&row),
+            3,
+            "spread 659707636373 989561454559 1649264143135 at 3",
+        ),
+        (
+            factors(&[1, MOST]),
+            0,
+            "spread 1 9223372036854775807 at 0",
+        ),
+    ] {
+        both_ways(&rt, rt.alloc(), text, Reply::Spreaded { factors, at })?;
+    }
+    let variable = name(&rt, b"dice");
+    for (why, text) in [
+        (Refusal::NoVariable { variable }, "refused variable dice"),
+        (Refusal::Numbers { given: 2 }, "refused numbers 2"),
+        (Refusal::Sum { sum: 900_000 }, "refused sum 900000"),
+        (
+            Refusal::Outside {
+                intervals: intervals(&die),
+            },
+            "refused outside 166667..999999 1..1 2..3",
+        ),
+        (
+            Refusal::Outside { intervals: None },
+            "refused outside none",
+        ),
+    ] {
+        both_ways(&rt, rt.alloc(), text, Reply::Refused { why })?;
     }
     Ok(())
 }
@@ -226,6 +293,23 @@ fn reads_nothing_else(rt: HostRuntime) -> Result<(), Fail> {
         "trade 0 1 at 1",
         "trade 1 0 at 1",
         "trade 1 9223372036854775808 at 1",
+        "bounds 1..2 at 1",
+        "bounds 0..1 1..2 at 1",
+        "bounds 2..1 1..2 at 1",
+        "bounds 1..2 1..1000000 at 1",
+        "bounds 1..2 1..2",
+        "bounds none",
+        "spread 1 at 1",
+        "spread 0 1 at 1",
+        "spread 1 9223372036854775808 at 1",
+        "spread 1 2",
+        "spread 1 1 1 1 1 1 1 1 1 1 1 1 1 1 1 1 1 at 1",
+        "refused numbers 1000000000",
+        "refused sum 1000000000",
+        "refused sum 01",
+        "refused outside 1..2",
+        "refused outside 1..2 1..2 at 1",
+        "refused variable",
         "worst 1",
         "worst 1...2",
         "worst 1..2 at 1",
