@@ -145,11 +145,7 @@ fn reads_and_prints_whole_distributions(rt: HostRuntime) -> Result<(), Fail> {
             3,
             "spread 659707636373 989561454559 1649264143135 at 3",
         ),
-        (
-            factors(&[1, MOST]),
-            0,
-            "spread 1 9223372036854775807 at 0",
-        ),
+        (factors(&[1, MOST]), 0, "spread 1 9223372036854775807 at 0"),
     ] {
         both_ways(&rt, rt.alloc(), text, Reply::Spreaded { factors, at })?;
     }
@@ -164,10 +160,7 @@ fn reads_and_prints_whole_distributions(rt: HostRuntime) -> Result<(), Fail> {
             },
             "refused outside 166667..999999 1..1 2..3",
         ),
-        (
-            Refusal::Outside { intervals: None },
-            "refused outside none",
-        ),
+        (Refusal::Outside { intervals: None }, "refused outside none"),
     ] {
         both_ways(&rt, rt.alloc(), text, Reply::Refused { why })?;
     }
