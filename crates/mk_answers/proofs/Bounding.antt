@@ -56,7 +56,7 @@ pub record IsFoundOf (e : Enclosure) (small : Type 0) (number : ℕ) : Type 0 wh
   pub graded : IsGradedWithin e (2 ^ 17)
   pub exact : small → IsExact e
 
-found_of : (e : Enclosure) (small : Type 0) (n : ℕ) → IsBeliefIn (Present e) small n → IsFoundOf e small n
+pub found_of : (e : Enclosure) (small : Type 0) (n : ℕ) → IsBeliefIn (Present e) small n → IsFoundOf e small n
 found_of e small n b = record { encloses = b.encloses; graded = record { grade = max_side_grade; small = omega arith; has = b.grade.0 }; exact = b.exact }
 
 sum_found : (a b sum : Enclosure) (small : Type 0) (v w n : ℕ) → IsSumOf a b sum → IsBeliefIn (Present a) small v → IsBeliefIn (Present b) small w
@@ -92,10 +92,10 @@ side_parts network H u asked test side h = at (least_gain network H u test) h
     at (Some g) e = (g, refl, e)
 
 -- the bounds of one side
-record BoundsSide (bounds : SideBounds) (small : Type 0) (side : Side) : Type 0 where
-  bounded : AreBoundsOf bounds side
-  graded : AreGraded bounds
-  exact : small → AreExact bounds
+pub record BoundsSide (bounds : SideBounds) (small : Type 0) (side : Side) : Type 0 where
+  pub bounded : AreBoundsOf bounds side
+  pub graded : AreGraded bounds
+  pub exact : small → AreExact bounds
 
 module _ (network : List Variable) (H : List Entry) (u : ℕ) (asked : Asked) (test : List ℕ → Bool) (part whole : Enclosure) (f : Factor)
     (part_in : IsFoundOf part (IsSmall network H) (total network H test)) (whole_in : IsFoundOf whole (IsSmall network H) (total network H (holds asked.condition)))
@@ -111,7 +111,7 @@ module _ (network : List Variable) (H : List Entry) (u : ℕ) (asked : Asked) (t
         exact = λ s. record { part = part_in.exact s; whole = whole_in.exact s; gain = of.exact s };
       }
 
-  bounds_side : (side : Side) → IsSide network H u asked test side → BoundsSide (record { part = part; whole = whole; factor = f }) (IsSmall network H) side
+  pub bounds_side : (side : Side) → IsSide network H u asked test side → BoundsSide (record { part = part; whole = whole; factor = f }) (IsSmall network H) side
   bounds_side side h =
       let parts = side_parts network H u asked test side h in
       subst (BoundsSide (record { part = part; whole = whole; factor = f }) (IsSmall network H)) (sym (parts.2)) (at_gain (parts.0) (parts.1))

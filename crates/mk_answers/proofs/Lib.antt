@@ -5,4 +5,5 @@ pub mod Parts
 pub mod Weights
 pub mod Least
 pub mod Bounding
+pub mod Valued
 pub mod Staged

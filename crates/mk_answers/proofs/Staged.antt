@@ -29,13 +29,14 @@ use Rattle.mk_exact.proofs.ExistMarkets.{sides_exist}
 use Rattle.mk_tree.specs.Given.{GivenTree, home}
 use Rattle.mk_tree.specs.Checked.{IsTreeOf}
 use Rattle.mk_engine.specs.Meaning.{Meaning, RowsOf, RatioOf, with_factor, max_factors}
-use Rattle.mk_engine.proofs.Found.{home_with}
+use Rattle.mk_engine.specs.Cases.{pairs_with}
+use Rattle.mk_engine.proofs.Found.{home_with, has_home}
 use Rattle.mk_quote.specs.declared.bounds.Bounds.{Bounds}
 use Rattle.mk_quote.specs.Bounds.{AreFairAndSolvent}
 use Rattle.mk_beliefs.specs.Meanings.{weights_of, gains_of}
 use Rattle.mk_beliefs.proofs.Grown.{weights_grow, gains_grow, factors_are_few}
 use Rattle.mk_assets.specs.Holdings.{with_trade, with_deposit, opening_holding}
-use Rattle.mk_answers.specs.Open.{IsOpen, CanBeAnswered, AreBoundsFor, holding_of}
+use Rattle.mk_answers.specs.Open.{IsOpen, CanBeAnswered, CanBeSpreadHere, AreBoundsFor, holding_of}
 use Rattle.mk_answers.specs.inner.Stages.{IsFit, first_rows}
 use Rattle.mk_answers.proofs.Weaker.{fair_by_bounds}
 
@@ -83,6 +84,21 @@ module _ (network : List Variable) (tree : GivenTree) (H : List Entry) (asked : 
     };
     home = fit.home;
   }
+
+  -- and so can the question about every value of its variable
+  pub spread_answered : CanBeSpreadHere network tree H (record { variable = asked.target.variable; condition = asked.condition })
+  spread_answered =
+      let can = answered.can_ask in
+      record {
+        can_spread = record {
+          in_range = record { variable = can.in_range.target.variable; condition = can.in_range.condition };
+          apart = can.apart;
+          variable_apart = can.target_apart;
+          unresolved = can.unresolved;
+          agrees = can.agrees;
+        };
+        home = λ value. has_home tree asked value (pairs_with asked value) refl fit.home;
+      }
 
 -- ---- the ratio of an edit
 

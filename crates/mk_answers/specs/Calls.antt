@@ -8,7 +8,8 @@ use Rattle.mk_engine.specs.Meaning.{Meaning}
 use Rattle.mk_beliefs.specs.Meanings.{weights_of}
 use Rattle.mk_assets.specs.declared.assets.Assets.{Assets}
 use Rattle.mk_assets.specs.Holdings.{Owns}
-use Rattle.mk_answers.specs.Open.{IsOpen, CanBeAnswered, holding_of}
+use Rattle.mk_spread.specs.Spreads.{SpreadAsked}
+use Rattle.mk_answers.specs.Open.{IsOpen, CanBeAnswered, CanBeSpreadHere, holding_of}
 
 -- the engine has the weights of a market in use, where the question can be answered
 pub record CanPrice {E : Type 0} (stands_for : E → Meaning → Type 0) (prices : E) (asked : Asked) : Type 0 where
@@ -41,3 +42,16 @@ pub record CanBound {E A P : Type 0} (stands_for : E → Meaning → Type 0) (ow
   pub is_open : IsOpen network tree history
   pub answered : CanBeAnswered network tree history asked
   pub sized : values ≡ slice_index (sizes network) asked.target.variable
+
+-- so it is where the question is about every value of a variable
+pub record CanBoundSpread {E A P : Type 0} (stands_for : E → Meaning → Type 0) (owned_for : A → Meaning → Type 0) (prices : E) (assets : Assets A P)
+    (spread : SpreadAsked) (values : ℕ) : Type 0 where
+  pub network : List Variable
+  pub tree : GivenTree
+  pub history : List Entry
+  pub user : ℕ
+  pub stands : stands_for prices (weights_of network tree history)
+  pub owns : Owns owned_for assets (holding_of network tree history user)
+  pub is_open : IsOpen network tree history
+  pub answered : CanBeSpreadHere network tree history spread
+  pub sized : values ≡ slice_index (sizes network) spread.variable

@@ -14,8 +14,12 @@ use Rattle.mk_tree.specs.Checked.{IsTreeOf}
 use Rattle.mk_enclose.specs.declared.factor.Factor.{Factor}
 use Rattle.mk_enclose.specs.Enclosure.{IsExact, IsGradedWithin}
 use Rattle.mk_enclose.specs.Factor.{StandsFor}
+use Rattle.mk_spread.specs.Spreads.{SpreadAsked, asked_of}
+use Rattle.mk_spread.specs.Markets.{CanBeSpread}
 use Rattle.mk_quote.specs.declared.bounds.Bounds.{Bounds}
+use Rattle.mk_quote.specs.declared.side.SideBounds.{SideBounds}
 use Rattle.mk_quote.specs.Bounds.{EncloseSides, AreAllGraded, AreAllExact}
+use Rattle.mk_quote.specs.Values.{EncloseEach, AreEachGraded, AreEachExact}
 use Rattle.mk_beliefs.specs.Meanings.{gains_of}
 use Rattle.mk_assets.specs.Holdings.{Holding}
 
@@ -36,11 +40,22 @@ pub record CanBeAnswered (network : List Variable) (tree : GivenTree) (H : List 
   pub can_ask : CanBeAsked network H asked
   pub home : is_some (home tree (pairs_asked asked)) ≡ true
 
+-- a distribution that can be asked about, and each of whose values has a home with the condition
+pub record CanBeSpreadHere (network : List Variable) (tree : GivenTree) (H : List Entry) (spread : SpreadAsked) : Type 0 where
+  pub can_spread : CanBeSpread network H spread
+  pub home : (value : ℕ) → is_some (home tree (pairs_asked (asked_of spread value))) ≡ true
+
 -- the bounds enclose both sides, with their grades, and are exact in the small case
 pub record AreBoundsFor (bounds : Bounds) (small : Type 0) (hit miss : Side) : Type 0 where
   pub sides : EncloseSides bounds hit miss
   pub graded : AreAllGraded bounds
   pub exact : small → AreAllExact bounds
+
+-- the bounds of all values enclose their sides, with their grades, and are exact in the small case
+pub record AreSideBoundsFor (values : List SideBounds) (small : Type 0) (exact_sides : List Side) : Type 0 where
+  pub sides : EncloseEach values exact_sides
+  pub graded : AreEachGraded values
+  pub exact : small → AreEachExact values
 
 -- the factor stands for the fraction, with its grade, and is exact in the small case
 pub record IsFactorFor (factor : Factor) (small : Type 0) (q : Fraction) : Type 0 where

@@ -6,12 +6,12 @@ ghost use Rattle.mk_tree.specs.Checked.{IsTreeOf};
 ghost use Rattle.mk_beliefs.specs.Meanings.{weights_of};
 ghost use Rattle.mk_answers.specs.inner.Stages.{IsStage, IsFit};
 
-use crate::{bounds_of, least_of, most_bits, price_of};
+use crate::{bounds_of, least_of, most_bits, price_of, spread_bounds_of};
 use mk_assets::Assets;
 use mk_cash::cash;
 use mk_engine::Engine;
 use mk_net::{Network, NoMemory, Question, Ratio};
-use mk_quote::Quote;
+use mk_quote::{Quote, SpreadQuestion, SpreadQuote};
 use mk_semiring::{MinProd, SumProd};
 use mk_tree::Tree;
 use std::alloc::Global;
@@ -88,6 +88,23 @@ pub fn numbers_of<P: Engine<SumProd>, A: Engine<MinProd>>(
         cash: cash(&least, POINTS_PER_BIT),
         most: most_bits(&least),
     }
+}
+
+/// The quote of every value of a question's variable, under its condition.
+pub fn spread_of<P: Engine<SumProd>, A: Engine<MinProd>>(
+    prices: &mut P,
+    assets: &mut Assets<A>,
+    net: &Network,
+    tree: &Tree,
+    asked: &Question,
+    values: u32,
+) -> Option<SpreadQuote>
+    requires stage { IsStage P.stands_for A.stands_for prices.old assets.old net.now tree.now }
+    requires fit { IsFit net.now tree.now asked.now values }
+{
+    let spread = SpreadQuestion::make(asked.target().variable, asked.condition())?;
+    let bounds = spread_bounds_of(prices, assets, &spread, values);
+    Some(SpreadQuote::make(0, spread, 0, &bounds))
 }
 
 /// Makes an edit, and gives its units. None where it is outside the limits, or there were enough trades.

@@ -10,7 +10,7 @@ ghost use Rattle.mk_tree.specs.Checked.{IsTreeOf};
 ghost use Rattle.mk_joint.specs.inner.Joints.{joint_states};
 ghost use Rattle.mk_answers.specs.inner.Stages.{IsStage, IsFit};
 
-use crate::stage::{Numbers, edit, numbers_of, opened};
+use crate::stage::{Numbers, edit, numbers_of, opened, spread_of};
 use mk_assets::Assets;
 use mk_engine::Engine;
 use mk_joint::JointEngine;
@@ -362,12 +362,45 @@ fn coin(rt: HostRuntime) -> Result<(), Fail> {
     run_joint(&rt, alloc, vec![in alloc; coin]?, 1, &COIN)
 }
 
+fn make_die(alloc: Global) -> Result<Vec<VariableDraft>, Fail> {
+    let rows: &[&[i64]] = &[&[333_333, 333_333, 333_334]];
+    let die = variable(alloc, "die", &["low", "mid", "high"], &[], rows)?;
+    Ok(vec![in alloc; die]?)
+}
+
 #[test]
 fn die(rt: HostRuntime) -> Result<(), Fail> {
     let alloc = rt.alloc();
-    let rows: &[&[i64]] = &[&[333_333, 333_333, 333_334]];
-    let die = variable(alloc, "die", &["low", "mid", "high"], &[], rows)?;
-    run_joint(&rt, alloc, vec![in alloc; die]?, 3, &DIE)
+    run_joint(&rt, alloc, make_die(alloc)?, 3, &DIE)
+}
+
+/// Every value of the die at once, for a user who has paid in one bit.
+#[test]
+fn die_spread(rt: HostRuntime) -> Result<(), Fail> {
+    let alloc = rt.alloc();
+    let example = make_example(alloc, make_die(alloc)?)?;
+    let (asked, values) = question(&rt, &example, &DIE[0]);
+    let (mut prices, mut assets) = opened::<JointEngine<SumProd>, JointEngine<MinProd>>(
+        alloc,
+        &example.net,
+        &example.tree,
+        1,
+    )?;
+    let quote = spread_of(
+        &mut prices,
+        &mut assets,
+        &example.net,
+        &example.tree,
+        &asked,
+        values,
+    );
+    let quote = quote.expect(&rt, "a quote");
+    let intervals = quote.intervals().expect(&rt, "intervals");
+    assert!(rt; intervals.as_slice() == &[(166_667, 999_999); 3][..]);
+    let units = quote.judge(&[200_000, 300_000, 500_000]);
+    let units = units.expect(&rt, "inside");
+    assert!(rt; units.as_slice() == &[659_707_636_373, 989_561_454_559, 1_649_264_143_135][..]);
+    Ok(())
 }
 
 #[test]

@@ -1,9 +1,18 @@
 -- Beliefs in what is possible.
-use Rattle.std.specs.Prelude.{ℕ, ◌+◌, ◌≤◌}
+use Rattle.std.specs.Prelude.{◌≡◌, ℕ, ◌+◌, ◌≤◌, List, Some}
 use Rattle.mk_net.specs.Bounds.{max_values}
+use Rattle.mk_net.specs.Network.{Variable}
+use Rattle.mk_net.specs.Asked.{Asked}
+use Rattle.mk_exact.specs.Events.{with_target}
+use Rattle.mk_exact.specs.Factors.{factor_with, least_gain}
+use Rattle.mk_exact.specs.History.{Entry}
+use Rattle.mk_exact.specs.Weight.{total, IsSmall}
 use Rattle.mk_semiring.specs.declared.held.Held.{Held}
+use Rattle.mk_semiring.specs.declared.held.Held.TheVariants.{Present}
 use Rattle.mk_semiring.specs.Held.{HeldEncloses, HasHeldGrade, IsHeldExact}
 use Rattle.mk_engine.specs.Meaning.{max_factors, max_grade}
+use Rattle.mk_quote.specs.declared.values.ValueBounds.{ValueBounds}
+use Rattle.mk_answers.specs.Open.{IsFactorFor}
 
 -- the belief encloses a number that is not zero
 pub record IsThere (belief : Held) : Type 0 where
@@ -20,3 +29,8 @@ pub record IsBeliefIn (belief : Held) (small : Type 0) (number : ℕ) : Type 0 w
   pub encloses : HeldEncloses belief number
   pub grade : HasHeldGrade belief max_side_grade
   pub exact : small → IsHeldExact belief
+
+-- the bounds of the value that a question asks about: on the weight of its states, and on the user's least factor over them
+pub record AreValueBoundsOf (network : List Variable) (H : List Entry) (u : ℕ) (asked : Asked) (value : ValueBounds) : Type 0 where
+  pub part : IsBeliefIn (Present value.part) (IsSmall network H) (total network H (with_target asked))
+  pub factor : (g : ℕ) → least_gain network H u (with_target asked) ≡ Some g → IsFactorFor value.factor (IsSmall network H) (factor_with H u g)
