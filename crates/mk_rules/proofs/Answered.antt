@@ -2,6 +2,7 @@
 use Rattle.std.proofs.Common.{◌≡◌, ℕ, ◌+◌, ◌<◌, ◌⊎◌, inl, inr, true, false, List, [], ◌∷◌, Option, Some, None, IsSomeAnd, MatchOption, length, refl, sym, subst}
 use Rattle.std.specs.Prelude.{⊤}
 use Rattle.std.specs.List.{AllByRecursion, AllZip, enumerate_from}
+use Rattle.arrayvec.specs.ArrayVec.{ArrayVec}
 use Rattle.mk_net.specs.declared.words.QuestionText.{QuestionText}
 use Rattle.mk_net.specs.Events.{speaks_of, AreApart}
 use Rattle.mk_net.specs.Network.{Variable}
@@ -20,22 +21,28 @@ use Rattle.mk_exact.proofs.ExistNumbers.{cash_is_covered, withdrawal_is_judged, 
 use Rattle.mk_exact.proofs.ExistLimits.{limits_judge}
 use Rattle.mk_exact.proofs.ExistMarkets.{price_exists, least_gain_exists, right_limits_exist}
 use Rattle.mk_exact.proofs.ExistOutcome.{outcome_exists}
+use Rattle.mk_spread.specs.Spreads.{SpreadAsked}
+use Rattle.mk_spread.specs.Bounds.{Intervals, InsideEach}
+use Rattle.mk_spread.specs.Markets.{AreRightBoundsOf, HasFairList, CanBeSpread}
+use Rattle.mk_spread.proofs.Exist.{right_bounds_exist, bounds_judge}
 use Rattle.mk_command.specs.declared.command.Command.{Command}
 use Rattle.mk_command.specs.declared.command.Command.TheVariants.{User, Deposit, Withdraw, Price, Limits, Edit, Bounds, Spread, Worst, Resolve, Settle}
 use Rattle.mk_reply.specs.declared.refusal.Refusal.{Refusal}
-use Rattle.mk_reply.specs.declared.refusal.Refusal.TheVariants.{Syntax, Long, Beyond, Short}
+use Rattle.mk_reply.specs.declared.refusal.Refusal.TheVariants.{Syntax, Long, Beyond, Outside, Short}
 use Rattle.mk_reply.specs.declared.payments.Payment.{Payment}
 use Rattle.mk_reply.specs.declared.reply.Reply.{Reply}
-use Rattle.mk_reply.specs.declared.reply.Reply.TheVariants.{Joined, Deposited, Withdrawn, Price as Priced, Limits as Limited, Traded, Worst as Worsted, Resolved, Settled, Refused}
-use Rattle.mk_rules.specs.Refusals.{pairs_of, names_in, question_named, user_number, unknown, twice, resolved, impossible, refusals, first_refusal}
-use Rattle.mk_rules.specs.Quotes.{Interval, last_quote, current_limits}
-use Rattle.mk_rules.specs.Answers.{IsTrade, IsJudged, IsJudgedAfresh, IsWithdrawal, IsPrice, IsLimits, IsWorst, IsPayment, IsSettlement, IsAnswer}
+use Rattle.mk_reply.specs.declared.reply.Reply.TheVariants.{Joined, Deposited, Withdrawn, Price as Priced, Limits as Limited, Traded, Bounded, Spreaded, Worst as Worsted, Resolved, Settled, Refused}
+use Rattle.mk_reply.specs.Refusals.{given_in}
+use Rattle.mk_rules.specs.Refusals.{pairs_of, names_in, question_named, spread_named, user_number, unknown, twice, resolved, impossible, refusals, first_refusal}
+use Rattle.mk_rules.specs.Quotes.{Interval, last_quote, current_limits, current_bounds}
+use Rattle.mk_rules.specs.Answers.{IsTrade, IsJudged, IsJudgedAfresh, IsSpreadTrade, IsSpreadJudged, IsSpreadJudgedAfresh, IsOutside, IsWithdrawal, IsPrice, IsLimits, IsBounds, IsWorst, IsPayment, IsSettlement, IsAnswer}
 use Rattle.mk_rules.specs.Transcript.{Standing, Line, OfCommand, NoCommand, LongLine, after}
 use Rattle.mk_rules.specs.Standings.{IsMarket, IsReady}
 use Rattle.mk_rules.specs.Laws.{HasReply, HasRun}
 use Rattle.mk_rules.proofs.Unrefused.{none_applies, question_exists, question_known, target_named, not_resolved, condition_agrees, all_resolved}
 use Rattle.mk_rules.proofs.Apart.{condition_apart, target_apart}
-use Rattle.mk_rules.proofs.Quoted.{current_right}
+use Rattle.mk_rules.proofs.Spreadable.{spread_exists, can_be_spread}
+use Rattle.mk_rules.proofs.Quoted.{current_right, current_bounds_right}
 use Rattle.mk_rules.proofs.Ready.{ready_keeps}
 
 -- a question that meets no refusal can be asked
@@ -61,9 +68,8 @@ module _ (market : Market) (now : Standing) (is_market : IsMarket market) (ready
   abbrev HasAnswer : Command → Type 0
   HasAnswer command = (reply : Reply) × IsAnswer market now.history now.quotes command reply
 
-  of_question : (q : QuestionText) (P : Asked → Reply → Type 0) (asked : Asked) → question_named network q ≡ Some asked → (reply : Reply) × P asked reply
-      → (reply : Reply) × IsSomeAnd (question_named network q) (λ asked. P asked reply)
-  of_question q P asked named (reply, h) = (reply, subst (λ (o : Option Asked). IsSomeAnd o (λ asked. P asked reply)) (sym named) h)
+  of_named : {X : Type 0} (o : Option X) (P : X → Reply → Type 0) (x : X) → o ≡ Some x → (reply : Reply) × P x reply → (reply : Reply) × IsSomeAnd o (λ x. P x reply)
+  of_named o P x named (reply, h) = (reply, subst (λ (o : Option _). IsSomeAnd o (λ x. P x reply)) (sym named) h)
 
   withdrawal : (u : List ℕ) (bits : ℕ) (q : Fraction) → IsSafeFactor q → (reply : Reply) × IsWithdrawal (IsSmall network H) q u bits (revision H + 1) reply
   withdrawal u bits q safe = at (withdrawal_is_judged q bits safe)
@@ -107,6 +113,55 @@ module _ (market : Market) (now : Standing) (is_market : IsMarket market) (ready
   edit_answer u asked X can None e = judged_afresh u asked X can
   edit_answer u asked X can (Some limits) e = judged u asked X limits (current_right market H u asked limits (last_quote now.quotes u) (ready.quotes_right u) e)
 
+  spread_at : (u : ℕ) (spread : SpreadAsked) (Xs : List ℕ) → HasFairList network H u spread Xs → (reply : Reply) × IsSpreadTrade network H u spread Xs reply
+  spread_at u spread Xs (Fs, fair) =
+      (Spreaded (record { items = Fs }) (revision H + 1), record { factors = record { items = Fs }; printed = refl; fair = fair })
+
+  -- bounds as a reply holds them
+  boxed : (intervals : Intervals) → (box : Option (ArrayVec (ℕ × ℕ))) × (given_in box ≡ intervals)
+  boxed None = (None, refl)
+  boxed (Some given) = (Some (record { items = given }), refl)
+
+  outside_at : (intervals : Intervals) (Xs : List ℕ) → ¬ InsideEach intervals Xs → (reply : Reply) × IsOutside intervals Xs reply
+  outside_at intervals Xs outside =
+      let box = boxed intervals in
+      (Refused (Outside box.0), record { outside = outside; box = box.0; given = box.1; printed = refl })
+
+  bounds_at : (u : ℕ) (spread : SpreadAsked) → CanBeSpread network H spread → (reply : Reply) × IsBounds network H u spread reply
+  bounds_at u spread can =
+      let bounds = right_bounds_exist network H u spread is_market.network ready.stands.proper ready.stands.sound can in
+      let box = boxed bounds.0 in
+      (Bounded box.0 (revision H), record { box = box.0; printed = refl; right = subst (AreRightBoundsOf network H u spread) (sym box.1) bounds.1 })
+
+  -- by bounds that were quoted
+  spread_judged : (u : ℕ) (spread : SpreadAsked) (Xs : List ℕ) (intervals : Intervals) → AreRightBoundsOf network H u spread intervals
+      → (reply : Reply) × IsSpreadJudged network H u spread Xs intervals reply
+  spread_judged u spread Xs intervals right = at (bounds_judge network H u spread intervals Xs right)
+    where
+      at : ((InsideEach intervals Xs × HasFairList network H u spread Xs) ⊎ (¬ InsideEach intervals Xs)) → (reply : Reply) × IsSpreadJudged network H u spread Xs intervals reply
+      at (inl (inside, list)) = let trade = spread_at u spread Xs list in (trade.0, inl (inside, trade.1))
+      at (inr outside) = let refused = outside_at intervals Xs outside in (refused.0, inr refused.1)
+
+  -- by bounds made for this reply
+  spread_afresh : (u : ℕ) (spread : SpreadAsked) (Xs : List ℕ) → CanBeSpread network H spread → (reply : Reply) × IsSpreadJudgedAfresh network H u spread Xs reply
+  spread_afresh u spread Xs can = at bounds.0 bounds.1 (bounds_judge network H u spread bounds.0 Xs bounds.1)
+    where
+      bounds : (intervals : Intervals) × AreRightBoundsOf network H u spread intervals
+      bounds = right_bounds_exist network H u spread is_market.network ready.stands.proper ready.stands.sound can
+
+      at : (intervals : Intervals) → AreRightBoundsOf network H u spread intervals → ((InsideEach intervals Xs × HasFairList network H u spread Xs) ⊎ (¬ InsideEach intervals Xs))
+          → (reply : Reply) × IsSpreadJudgedAfresh network H u spread Xs reply
+      at intervals right (inl (inside, list)) = let trade = spread_at u spread Xs list in (trade.0, inl trade.1)
+      at intervals right (inr outside) =
+          let refused = outside_at intervals Xs outside in
+          (refused.0, inr (record { intervals = intervals; right = right; outside = refused.1 }))
+
+  spread_answer : (u : ℕ) (spread : SpreadAsked) (Xs : List ℕ) → CanBeSpread network H spread → (o : Option Intervals) → current_bounds (last_quote now.quotes u) spread (revision H) ≡ o
+      → (reply : Reply) × MatchOption o (IsSpreadJudgedAfresh network H u spread Xs reply) (λ intervals. IsSpreadJudged network H u spread Xs intervals reply)
+  spread_answer u spread Xs can None e = spread_afresh u spread Xs can
+  spread_answer u spread Xs can (Some intervals) e =
+      spread_judged u spread Xs intervals (current_bounds_right market H u spread intervals (last_quote now.quotes u) (ready.quotes_right u) e)
+
   -- a payment for each user who is counted from n on
   payments_from : (s : List ℕ) → ((u : ℕ) → IsSafeFactor (factor H u s)) → (n : ℕ) (names : List (List ℕ))
       → (payments : List Payment) × AllZip (IsPayment H market.points_per_bit s) (enumerate_from n names) payments
@@ -130,23 +185,35 @@ module _ (market : Market) (now : Standing) (is_market : IsMarket market) (ready
       let refused = none_applies (refusals market H (Price q)) none in
       let asked = question_exists network q refused.1.0 in
       let price = price_exists network H asked.0 is_market.network ready.stands.proper (can_be_asked network H q asked.0 asked.1 refused.1.0 refused.1.1.0 refused.1.1.1.0 refused.1.1.1.1.0) in
-      of_question q (IsPrice network H) asked.0 asked.1 (Priced price.low price.high, record { low = price.low; high = price.high; printed = refl; covers = price.covers })
+      of_named (question_named network q) (IsPrice network H) asked.0 asked.1 (Priced price.low price.high, record { low = price.low; high = price.high; printed = refl; covers = price.covers })
   answered (Limits u q) none =
       let refused = none_applies (refusals market H (Limits u q)) none in
       let asked = question_exists network q refused.1.1.0 in
       let limits = right_limits_exist network H (user_number H u) asked.0 is_market.network ready.stands.proper ready.stands.sound
       (can_be_asked network H q asked.0 asked.1 refused.1.1.0 refused.1.1.1.0 refused.1.1.1.1.0 refused.1.1.1.1.1.0) in
-      of_question q (IsLimits network H (user_number H u)) asked.0 asked.1 (Limited limits.0 (revision H), record { limits = limits.0; printed = refl; right = limits.1 })
+      of_named (question_named network q) (IsLimits network H (user_number H u)) asked.0 asked.1 (Limited limits.0 (revision H), record { limits = limits.0; printed = refl; right = limits.1 })
   answered (Edit u q X seen) none =
       let refused = none_applies (refusals market H (Edit u q X seen)) none in
       let asked = question_exists network q refused.1.1.0 in
-      of_question q (λ asked reply. MatchOption (current_limits (last_quote now.quotes (user_number H u)) asked (revision H))
+      of_named (question_named network q) (λ asked reply. MatchOption (current_limits (last_quote now.quotes (user_number H u)) asked (revision H))
       (IsJudgedAfresh network H (user_number H u) asked X reply) (λ limits. IsJudged network H (user_number H u) asked X limits reply)) asked.0 asked.1
       (edit_answer (user_number H u) asked.0 X
       (can_be_asked network H q asked.0 asked.1 refused.1.1.0 refused.1.1.1.0 refused.1.1.1.1.1.0 refused.1.1.1.1.1.1.0)
       (current_limits (last_quote now.quotes (user_number H u)) asked.0 (revision H)) refl)
-  answered (Bounds u v condition) none = absurd (cc)
-  answered (Spread u v condition to seen) none = absurd (cc)
+  answered (Bounds u v condition) none =
+      let refused = none_applies (refusals market H (Bounds u v condition)) none in
+      let spread = spread_exists network v condition.items refused.1.1.0 in
+      of_named (spread_named network v condition.items) (IsBounds network H (user_number H u)) spread.0 spread.1
+      (bounds_at (user_number H u) spread.0
+      (can_be_spread network H v condition.items spread.0 spread.1 refused.1.1.1.1.0 refused.1.1.1.1.1.0 refused.1.1.1.1.1.1.0))
+  answered (Spread u v condition to seen) none =
+      let refused = none_applies (refusals market H (Spread u v condition to seen)) none in
+      let spread = spread_exists network v condition.items refused.1.1.0 in
+      of_named (spread_named network v condition.items) (λ spread reply. MatchOption (current_bounds (last_quote now.quotes (user_number H u)) spread (revision H))
+      (IsSpreadJudgedAfresh network H (user_number H u) spread to.items reply) (λ intervals. IsSpreadJudged network H (user_number H u) spread to.items intervals reply)) spread.0 spread.1
+      (spread_answer (user_number H u) spread.0 to.items
+      (can_be_spread network H v condition.items spread.0 spread.1 refused.1.1.1.1.0 refused.1.1.1.1.1.1.0 refused.1.1.1.1.1.1.1.0)
+      (current_bounds (last_quote now.quotes (user_number H u)) spread.0 (revision H)) refl)
   answered (Worst u) none = of_least (user_number H u) (λ q reply. IsWorst q market.points_per_bit reply) (λ q safe.
       let cash = cash_is_covered q market.points_per_bit safe in
       (Worsted cash.0 cash.1, record { low = cash.0; high = cash.1; printed = refl; covers = cash.2 }))

@@ -1,9 +1,13 @@
 -- The entry that a reply appends.
 use Rattle.std.proofs.Common.{◌≡◌, ℕ, inl, inr, List, Option, Some, None, IfSome, MatchOption, sym, subst}
+use Rattle.arrayvec.specs.ArrayVec.{ArrayVec}
+use Rattle.mk_net.specs.declared.words.PairText.{PairText}
 use Rattle.mk_net.specs.declared.words.QuestionText.{QuestionText}
 use Rattle.mk_net.specs.Asked.{Asked}
 use Rattle.mk_exact.specs.History.{Entry}
 use Rattle.mk_exact.specs.Market.{Market, network_of}
+use Rattle.mk_spread.specs.Spreads.{SpreadAsked}
+use Rattle.mk_spread.specs.Bounds.{Intervals}
 use Rattle.mk_command.specs.declared.command.Command.{Command}
 use Rattle.mk_command.specs.declared.command.Command.TheVariants.{User, Deposit, Withdraw, Price, Limits, Edit, Bounds, Spread, Worst, Resolve, Settle}
 use Rattle.mk_reply.specs.declared.refusal.Refusal.{Refusal}
@@ -11,7 +15,7 @@ use Rattle.mk_reply.specs.declared.reply.Reply.{Reply}
 use Rattle.mk_reply.specs.declared.reply.Reply.TheVariants.{Refused}
 use Rattle.mk_rules.specs.Refusals.{user_number}
 use Rattle.mk_rules.specs.Quotes.{Interval}
-use Rattle.mk_rules.specs.Answers.{IsTrade, IsJudged, IsJudgedAfresh, entry_of}
+use Rattle.mk_rules.specs.Answers.{IsTrade, IsJudged, IsJudgedAfresh, IsSpreadTrade, IsSpreadJudged, IsSpreadJudgedAfresh, entry_of}
 
 -- the entry has a property, if there is one
 abbrev pub Appends : (Entry → Type 0) → Market → List Entry → Command → Reply → Type 0
@@ -45,3 +49,13 @@ judged_appends P market H u q X seen asked reply None fits (inl trade) = fits tr
 judged_appends P market H u q X seen asked reply None fits (inr beyond) = reply_appends P market H (Edit u q X seen) reply _ beyond.beyond.printed tt
 judged_appends P market H u q X seen asked reply (Some limits) fits (inl trade) = fits trade.1
 judged_appends P market H u q X seen asked reply (Some limits) fits (inr beyond) = reply_appends P market H (Edit u q X seen) reply _ beyond.printed tt
+
+-- and so does a spread
+pub spread_appends : (P : Entry → Type 0) (market : Market) (H : List Entry) (u v : List ℕ) (condition : ArrayVec PairText) (to : ArrayVec ℕ) (seen : Option ℕ) (spread : SpreadAsked) (reply : Reply)
+    (o : Option Intervals) → (IsSpreadTrade (network_of market H) H (user_number H u) spread to.items reply → Appends P market H (Spread u v condition to seen) reply)
+    → MatchOption o (IsSpreadJudgedAfresh (network_of market H) H (user_number H u) spread to.items reply)
+    (λ intervals. IsSpreadJudged (network_of market H) H (user_number H u) spread to.items intervals reply) → Appends P market H (Spread u v condition to seen) reply
+spread_appends P market H u v condition to seen spread reply None fits (inl trade) = fits trade
+spread_appends P market H u v condition to seen spread reply None fits (inr outside) = reply_appends P market H (Spread u v condition to seen) reply _ outside.outside.printed tt
+spread_appends P market H u v condition to seen spread reply (Some intervals) fits (inl trade) = fits trade.1
+spread_appends P market H u v condition to seen spread reply (Some intervals) fits (inr outside) = reply_appends P market H (Spread u v condition to seen) reply _ outside.printed tt

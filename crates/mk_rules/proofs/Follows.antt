@@ -3,7 +3,9 @@ use Rattle.std.proofs.Common.{◌≡◌, ℕ, ◌+◌, ◌<◌, ◌⊎◌, inl, 
 use Rattle.std.specs.Prelude.{option_to_list, option_map}
 use Rattle.std.specs.List.{AllByRecursion, count_by}
 use Rattle.std.proofs.lemmas.Bool.{leb-false}
-use Rattle.mk_net.specs.Bounds.{max_users, max_transfers, max_transfer_bits}
+use Rattle.arrayvec.specs.ArrayVec.{ArrayVec}
+use Rattle.mk_net.specs.Bounds.{max_users, max_transfers, max_transfer_bits, number_limit}
+use Rattle.mk_net.specs.declared.words.PairText.{PairText}
 use Rattle.mk_net.specs.declared.words.QuestionText.{QuestionText}
 use Rattle.mk_net.specs.Name.{IsName}
 use Rattle.mk_net.specs.Named.{pair_named}
@@ -14,20 +16,22 @@ use Rattle.mk_exact.specs.Weight.{IsSmall}
 use Rattle.mk_exact.specs.Factors.{factor_with, least_gain}
 use Rattle.mk_exact.specs.Market.{Market, network_of}
 use Rattle.mk_exact.proofs.ExistBounds.{fair_pair_fits}
+use Rattle.mk_spread.specs.Spreads.{SpreadAsked}
+use Rattle.mk_spread.proofs.Listed.{each_units}
 use Rattle.mk_command.specs.declared.command.Command.{Command}
 use Rattle.mk_command.specs.declared.command.Command.TheVariants.{User, Deposit, Withdraw, Price, Limits, Edit, Bounds, Spread, Worst, Resolve, Settle}
 use Rattle.mk_reply.specs.declared.refusal.Refusal.{Refusal}
 use Rattle.mk_reply.specs.declared.refusal.Refusal.TheVariants.{Memory}
 use Rattle.mk_reply.specs.declared.reply.Reply.{Reply}
 use Rattle.mk_reply.specs.declared.reply.Reply.TheVariants.{Joined, Refused}
-use Rattle.mk_rules.specs.Refusals.{question_named, user_number, no_user, range, full, refusals, first_refusal}
-use Rattle.mk_rules.specs.Quotes.{Quotes, last_quote, current_limits}
-use Rattle.mk_rules.specs.Answers.{IsTrade, IsWithdrawal, IsAnswer, IsAllowed, entry_of}
+use Rattle.mk_rules.specs.Refusals.{question_named, spread_named, user_number, no_user, range, full, refusals, first_refusal}
+use Rattle.mk_rules.specs.Quotes.{Quotes, last_quote, current_limits, current_bounds}
+use Rattle.mk_rules.specs.Answers.{IsTrade, IsSpreadTrade, IsWithdrawal, IsAnswer, IsAllowed, entry_of}
 use Rattle.mk_rules.specs.Transcript.{Standing, Line, OfCommand, NoCommand, LongLine, IsAllowedFor, after, Run}
 use Rattle.mk_rules.specs.Standings.{IsMarket}
 use Rattle.mk_rules.specs.Bounded.{IsLine, JoinsByName, IsTransferOf, IsBounded}
 use Rattle.mk_rules.proofs.Options.{value_of}
-use Rattle.mk_rules.proofs.Appended.{Appends, refused_appends, reply_appends, judged_appends}
+use Rattle.mk_rules.proofs.Appended.{Appends, refused_appends, reply_appends, judged_appends, spread_appends}
 use Rattle.mk_rules.proofs.Unrefused.{none_applies, not_faulted, user_in_range, number_in_range}
 use Rattle.mk_rules.proofs.Bounds.{MayFollow, entry_bounded}
 
@@ -62,6 +66,13 @@ module _ (market : Market) (H : List Entry) where
   trade_follows u q X seen asked reply named few trade = reply_appends (MayFollow market H) market H (Edit u q X seen) reply _ trade.printed
       (rw named (fair_pair_fits (network_of market H) H (user_number H u) asked X trade.hit trade.miss trade.fair, few))
 
+  -- a spread is one trade more
+  spread_follows : (u v : List ℕ) (condition : ArrayVec PairText) (to : ArrayVec ℕ) (seen : Option ℕ) (spread : SpreadAsked) (reply : Reply)
+      → spread_named (network_of market H) v condition.items ≡ Some spread → length (trades H) < market.max_trades
+      → IsSpreadTrade (network_of market H) H (user_number H u) spread to.items reply → Follows (Spread u v condition to seen) reply
+  spread_follows u v condition to seen spread reply named few trade = reply_appends (MayFollow market H) market H (Spread u v condition to seen) reply _ trade.printed
+      (rw named (each_units (λ units. units < number_limit) (IsSmall (network_of market H) H) (λ side X F h. h.fair.fits) trade.fair.sides to.items trade.factors.items trade.fair.units, few))
+
   answer_follows : (quotes : Quotes) (command : Command) (reply : Reply) → JoinsByName (OfCommand command) → first_refusal market H command ≡ None → IsAnswer market H quotes command reply → Follows command reply
   answer_follows quotes (User u) reply text none h = user_follows u reply text none h
   answer_follows quotes (Deposit u bits) reply text none h =
@@ -77,8 +88,13 @@ module _ (market : Market) (H : List Entry) where
       let judged = value_of _ (question_named (network_of market H) q) h in
       judged_appends (MayFollow market H) market H u q X seen judged.0 reply (current_limits (last_quote quotes (user_number H u)) judged.0 (revision H))
       (trade_follows u q X seen judged.0 reply judged.1 (has_room market.max_trades (length (trades H)) refused.1.1.1.1.1.1.1.1.1.0)) judged.2
-  answer_follows quotes (Bounds u v condition) reply text none h = absurd h
-  answer_follows quotes (Spread u v condition to seen) reply text none h = absurd h
+  answer_follows quotes (Bounds u v condition) reply text none h =
+      reply_appends (MayFollow market H) market H (Bounds u v condition) reply _ (value_of _ (spread_named (network_of market H) v condition.items) h).2.printed tt
+  answer_follows quotes (Spread u v condition to seen) reply text none h =
+      let refused = none_applies (refusals market H (Spread u v condition to seen)) none in
+      let judged = value_of _ (spread_named (network_of market H) v condition.items) h in
+      spread_appends (MayFollow market H) market H u v condition to seen judged.0 reply (current_bounds (last_quote quotes (user_number H u)) judged.0 (revision H))
+      (spread_follows u v condition to seen judged.0 reply judged.1 (has_room market.max_trades (length (trades H)) refused.1.1.1.1.1.1.1.1.1.1.1.1.0)) judged.2
   answer_follows quotes (Worst u) reply text none h =
       reply_appends (MayFollow market H) market H (Worst u) reply _ (value_of _ (least_gain (network_of market H) H (user_number H u) always) h).2.printed tt
   answer_follows quotes (Resolve p) reply text none h = reply_appends (MayFollow market H) market H (Resolve p) reply _ h (resolves (pair_named (network_of market H) p))

@@ -1,19 +1,23 @@
--- An edit under limits that were quoted is a trade exactly inside of them.
+-- An edit under limits that were quoted is a trade exactly inside of them, and so is a spread under bounds that were.
 use Rattle.std.proofs.Common.{◌≡◌, ℕ, inl, inr, List, Option, Some, None, sym, subst}
 use Rattle.std.specs.Prelude.{◌↔◌}
+use Rattle.arrayvec.specs.ArrayVec.{ArrayVec}
+use Rattle.mk_net.specs.declared.words.PairText.{PairText}
 use Rattle.mk_net.specs.declared.words.QuestionText.{QuestionText}
 use Rattle.mk_net.specs.Network.{Variable}
 use Rattle.mk_net.specs.Asked.{Asked}
 use Rattle.mk_exact.specs.History.{Entry, revision}
 use Rattle.mk_exact.specs.Limits.{Inside}
 use Rattle.mk_exact.specs.Market.{Market, network_of}
-use Rattle.mk_command.specs.declared.command.Command.TheVariants.{Edit}
+use Rattle.mk_spread.specs.Spreads.{SpreadAsked}
+use Rattle.mk_spread.specs.Bounds.{Intervals, InsideEach}
+use Rattle.mk_command.specs.declared.command.Command.TheVariants.{Edit, Spread}
 use Rattle.mk_reply.specs.declared.refusal.Refusal.{Refusal}
 use Rattle.mk_reply.specs.declared.reply.Reply.{Reply}
 use Rattle.mk_reply.specs.declared.reply.Reply.TheVariants.{Refused}
-use Rattle.mk_rules.specs.Refusals.{question_named, user_number, first_refusal}
-use Rattle.mk_rules.specs.Quotes.{Interval, last_quote, current_limits}
-use Rattle.mk_rules.specs.Answers.{IsJudged}
+use Rattle.mk_rules.specs.Refusals.{question_named, spread_named, user_number, first_refusal}
+use Rattle.mk_rules.specs.Quotes.{Interval, last_quote, current_limits, current_bounds}
+use Rattle.mk_rules.specs.Answers.{IsJudged, IsSpreadJudged}
 use Rattle.mk_rules.specs.Transcript.{Standing, OfCommand, IsAllowedFor}
 use Rattle.mk_rules.specs.Laws.{IsTraded}
 use Rattle.mk_rules.proofs.Options.{at_none, at_some, at_value}
@@ -32,3 +36,20 @@ judged_exactly market now u q X seen asked limits reply none named current h =
     traded_inside (network_of market now.history) now.history (user_number now.history u) asked X limits reply
     (at_some _ _ (current_limits (last_quote now.quotes (user_number now.history u)) asked (revision now.history)) limits current
     (at_value _ (question_named (network_of market now.history) q) asked named (at_none (λ (why : Refusal). reply ≡ Refused why) (first_refusal market now.history (Edit u q X seen)) none h)))
+
+pub spread_traded_inside : (network : List Variable) (H : List Entry) (u : ℕ) (spread : SpreadAsked) (Xs : List ℕ) (intervals : Intervals) (reply : Reply)
+    → IsSpreadJudged network H u spread Xs intervals reply → IsTraded reply ↔ InsideEach intervals Xs
+spread_traded_inside network H u spread Xs intervals reply (inl (inside, trade)) = (λ traded. inside, λ inside. subst IsTraded (sym trade.printed) tt)
+spread_traded_inside network H u spread Xs intervals reply (inr refused) =
+    (λ traded. absurd (subst IsTraded refused.printed traded), λ inside. absurd (refused.outside inside))
+
+pub spread_judged_exactly : (market : Market) (now : Standing) (u v : List ℕ) (condition : ArrayVec PairText) (to : ArrayVec ℕ) (seen : Option ℕ) (spread : SpreadAsked)
+    (intervals : Intervals) (reply : Reply) → first_refusal market now.history (Spread u v condition to seen) ≡ None
+    → spread_named (network_of market now.history) v condition.items ≡ Some spread
+    → current_bounds (last_quote now.quotes (user_number now.history u)) spread (revision now.history) ≡ Some intervals
+    → IsAllowedFor market now (OfCommand (Spread u v condition to seen)) reply → IsTraded reply ↔ InsideEach intervals to.items
+spread_judged_exactly market now u v condition to seen spread intervals reply none named current h =
+    spread_traded_inside (network_of market now.history) now.history (user_number now.history u) spread to.items intervals reply
+    (at_some _ _ (current_bounds (last_quote now.quotes (user_number now.history u)) spread (revision now.history)) intervals current
+    (at_value _ (spread_named (network_of market now.history) v condition.items) spread named
+    (at_none (λ (why : Refusal). reply ≡ Refused why) (first_refusal market now.history (Spread u v condition to seen)) none h)))

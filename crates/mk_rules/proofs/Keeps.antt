@@ -1,7 +1,8 @@
 -- What an allowed reply keeps.
-use Rattle.std.proofs.Common.{◌≡◌, ℕ, ◌+◌, ◌-◌, ◌<◌, ◌≤◌, ◌⊎◌, inl, inr, false, List, [], ◌∷◌, ◌++◌, Option, Some, None, IfSome, MatchOption, length, refl, sym, subst, arith, append-nil}
+use Rattle.std.proofs.Common.{◌≡◌, ℕ, ◌+◌, ◌-◌, ◌<◌, ◌≤◌, ◌⊎◌, inl, inr, false, List, [], ◌∷◌, ◌++◌, Option, Some, None, IfSome, MatchOption, length, sum, refl, sym, subst, arith, append-nil}
 use Rattle.std.specs.Prelude.{option_to_list}
 use Rattle.std.specs.List.{AllByRecursion}
+use Rattle.arrayvec.specs.ArrayVec.{ArrayVec}
 use Rattle.mk_net.specs.declared.words.PairText.{PairText}
 use Rattle.mk_net.specs.declared.words.QuestionText.{QuestionText}
 use Rattle.mk_net.specs.Bounds.{million}
@@ -18,20 +19,24 @@ use Rattle.mk_exact.proofs.Next.{sound_next}
 use Rattle.mk_exact.proofs.Single.{empty_sound}
 use Rattle.mk_exact.proofs.Sums.{each-append}
 use Rattle.mk_exact.proofs.Range.{empty_proper, proper_next, fair_pair_is_safe}
+use Rattle.mk_spread.specs.Spreads.{SpreadAsked, IsSpreadOf}
+use Rattle.mk_spread.proofs.Fair.{fair_list_is_ratio}
+use Rattle.mk_spread.proofs.Safe.{fair_list_is_safe}
 use Rattle.mk_command.specs.declared.command.Command.{Command}
 use Rattle.mk_command.specs.declared.command.Command.TheVariants.{User, Deposit, Withdraw, Price, Limits, Edit, Bounds, Spread, Worst, Resolve, Settle}
 use Rattle.mk_reply.specs.declared.refusal.Refusal.{Refusal}
 use Rattle.mk_reply.specs.declared.refusal.Refusal.TheVariants.{Memory}
 use Rattle.mk_reply.specs.declared.reply.Reply.{Reply}
 use Rattle.mk_reply.specs.declared.reply.Reply.TheVariants.{Joined, Resolved, Refused}
-use Rattle.mk_rules.specs.Refusals.{question_named, variables_in, is_wide, user_number, refusals, first_refusal}
-use Rattle.mk_rules.specs.Quotes.{Quotes, last_quote, current_limits}
-use Rattle.mk_rules.specs.Answers.{IsTrade, IsWithdrawal, IsAnswer, IsAllowed, entry_of}
+use Rattle.mk_rules.specs.Refusals.{question_named, spread_named, variables_in, is_wide, user_number, refusals, first_refusal}
+use Rattle.mk_rules.specs.Quotes.{Quotes, last_quote, current_limits, current_bounds}
+use Rattle.mk_rules.specs.Answers.{IsTrade, IsSpreadTrade, IsWithdrawal, IsAnswer, IsAllowed, entry_of}
 use Rattle.mk_rules.specs.Transcript.{Standing, Line, OfCommand, NoCommand, LongLine, IsAllowedFor, after, Run}
 use Rattle.mk_rules.specs.Standings.{IsInClique, Stands}
 use Rattle.mk_rules.proofs.Options.{value_of}
-use Rattle.mk_rules.proofs.Appended.{Appends, refused_appends, reply_appends, judged_appends}
+use Rattle.mk_rules.proofs.Appended.{Appends, refused_appends, reply_appends, judged_appends, spread_appends}
 use Rattle.mk_rules.proofs.Unrefused.{none_applies, user_in_range, number_in_range, pair_known, question_known, not_resolved, not_wide}
+use Rattle.mk_rules.proofs.Spreads.{spread_is, spread_not_wide, sum_is_million}
 use Rattle.mk_rules.proofs.Traded.{ratio_fits}
 
 -- an entry that may be appended
@@ -81,6 +86,17 @@ trade_fits market H u q X seen asked reply named user fits narrow most trade = r
   narrow = narrow;
 }))
 
+spread_trade_fits : (market : Market) (H : List Entry) (u v : List ℕ) (condition : ArrayVec PairText) (to : ArrayVec ℕ) (seen : Option ℕ) (spread : SpreadAsked) (reply : Reply)
+    → spread_named (network_of market H) v condition.items ≡ Some spread → user_number H u < length (users H) → IsSpreadOf (network_of market H) spread
+    → is_wide (cliques_of market H) (spread.variable ∷ variables_in spread.condition) ≡ false → sum to.items ≤ million
+    → IsSpreadTrade (network_of market H) H (user_number H u) spread to.items reply → AppendsFit market H (Spread u v condition to seen) reply
+spread_trade_fits market H u v condition to seen spread reply named user fits narrow most trade =
+    reply_appends (Fits market H) market H (Spread u v condition to seen) reply _ trade.printed (rw named (record {
+      acceptable = fair_list_is_safe (network_of market H) H (user_number H u) spread to.items trade.factors.items fits.variable trade.fair most;
+      in_range = record { user = user; ratio = fair_list_is_ratio (network_of market H) H (user_number H u) spread to.items trade.factors.items trade.fair fits };
+      narrow = narrow;
+    }))
+
 -- a command that meets no refusal of the table
 IsUnrefused : Market → List Entry → Command → Type 0
 IsUnrefused market H command = first_refusal market H command ≡ None
@@ -95,6 +111,18 @@ edit_fits market H quotes u q X seen reply none h =
     judged_appends (Fits market H) market H u q X seen judged.0 reply (current_limits (last_quote quotes (user_number H u)) judged.0 (revision H))
     (trade_fits market H u q X seen judged.0 reply judged.1 (user_in_range H u refused.1.0) (question_known network q judged.0 refused.1.1.0 judged.1)
     (not_wide market H q judged.0 judged.1 refused.1.1.1.1.1.1.1.0) (number_in_range (million - 1) X refused.1.1.1.1.1.1.1.1.0).1) judged.2
+
+spread_fits : (market : Market) (H : List Entry) (quotes : Quotes) (u v : List ℕ) (condition : ArrayVec PairText) (to : ArrayVec ℕ) (seen : Option ℕ) (reply : Reply)
+    → IsUnrefused market H (Spread u v condition to seen) → IsAnswer market H quotes (Spread u v condition to seen) reply → AppendsFit market H (Spread u v condition to seen) reply
+unfolding IsUnrefused
+spread_fits market H quotes u v condition to seen reply none h =
+    let network = network_of market H in
+    let refused = none_applies (refusals market H (Spread u v condition to seen)) none in
+    let judged = value_of _ (spread_named network v condition.items) h in
+    let million_in_all = sum_is_million to.items refused.1.1.1.1.1.1.1.1.1.1.1.0 in
+    spread_appends (Fits market H) market H u v condition to seen judged.0 reply (current_bounds (last_quote quotes (user_number H u)) judged.0 (revision H))
+    (spread_trade_fits market H u v condition to seen judged.0 reply judged.1 (user_in_range H u refused.1.0) (spread_is network v condition.items judged.0 judged.1)
+    (spread_not_wide market H v condition.items judged.0 judged.1 refused.1.1.1.1.1.1.1.1.0) (omega (arith, million_in_all))) judged.2
 
 resolve_fits : (market : Market) (H : List Entry) (p : PairText) (reply : Reply)
     → IsUnrefused market H (Resolve p) → reply ≡ Resolved p (revision H + 1) → AppendsFit market H (Resolve p) reply
@@ -119,8 +147,9 @@ answer_fits market H quotes (Price q) reply none h = let price = value_of _ (que
 answer_fits market H quotes (Limits u q) reply none h = let limits = value_of _ (question_named (network_of market H) q) h in
     reply_appends (Fits market H) market H (Limits u q) reply _ limits.2.printed tt
 answer_fits market H quotes (Edit u q X seen) reply none h = edit_fits market H quotes u q X seen reply none h
-answer_fits market H quotes (Bounds u v condition) reply none h = absurd h
-answer_fits market H quotes (Spread u v condition to seen) reply none h = absurd h
+answer_fits market H quotes (Bounds u v condition) reply none h = let bounds = value_of _ (spread_named (network_of market H) v condition.items) h in
+    reply_appends (Fits market H) market H (Bounds u v condition) reply _ bounds.2.printed tt
+answer_fits market H quotes (Spread u v condition to seen) reply none h = spread_fits market H quotes u v condition to seen reply none h
 answer_fits market H quotes (Worst u) reply none h = let worst = value_of _ (least_gain (network_of market H) H (user_number H u) always) h in
     reply_appends (Fits market H) market H (Worst u) reply _ worst.2.printed tt
 answer_fits market H quotes (Resolve p) reply none h = resolve_fits market H p reply none h

@@ -1,6 +1,8 @@
 pub mod Options
 pub mod Unrefused
+pub mod Spreads
 pub mod Apart
+pub mod Spreadable
 pub mod Traded
 pub mod Appended
 pub mod Keeps

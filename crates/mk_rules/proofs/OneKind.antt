@@ -1,9 +1,12 @@
 -- In the small case a fair and solvent pair has the exact floors, and so right limits hold its share: an edit has one kind of
--- allowed reply.
+-- allowed reply. So has a spread, since right bounds hold the shares of a fair and solvent list.
 use Rattle.std.proofs.Common.{◌≡◌, ℕ, ◌-◌, ◌*◌, ◌/◌, ◌^◌, ◌<◌, ◌≤◌, inl, inr, List, Option, Some, None, IsSomeAnd, MatchOption, Bool, ◌∙◌, sym, subst, arith}
 use Rattle.std.specs.Prelude.{◌↔◌}
+use Rattle.std.specs.List.{AllByRecursion}
 use Rattle.std.proofs.Math.Nat.{div-eq_of_lt-le}
 use Rattle.mk_net.specs.Bounds.{million}
+use Rattle.arrayvec.specs.ArrayVec.{ArrayVec}
+use Rattle.mk_net.specs.declared.words.PairText.{PairText}
 use Rattle.mk_net.specs.declared.words.QuestionText.{QuestionText}
 use Rattle.mk_net.specs.Network.{Variable}
 use Rattle.mk_net.specs.Asked.{Asked}
@@ -16,19 +19,23 @@ use Rattle.mk_exact.specs.Factors.{factor_with, least_gain}
 use Rattle.mk_exact.specs.Prices.{price_where, IsSolvent}
 use Rattle.mk_exact.specs.Limits.{Side, IsFairAndSolvent, IsFloorSolvent}
 use Rattle.mk_exact.specs.Sides.{IsSide}
+use Rattle.mk_spread.specs.Spreads.{SpreadAsked}
+use Rattle.mk_spread.specs.Bounds.{Intervals}
+use Rattle.mk_spread.proofs.Agree.{fair_list_is_inside}
 use Rattle.mk_command.specs.declared.command.Command.{Command}
-use Rattle.mk_command.specs.declared.command.Command.TheVariants.{Edit}
+use Rattle.mk_command.specs.declared.command.Command.TheVariants.{Edit, Spread}
 use Rattle.mk_reply.specs.declared.refusal.Refusal.{Refusal}
 use Rattle.mk_reply.specs.declared.reply.Reply.{Reply}
 use Rattle.mk_reply.specs.declared.reply.Reply.TheVariants.{Refused}
-use Rattle.mk_rules.specs.Refusals.{question_named, user_number, refusals, first_refusal}
-use Rattle.mk_rules.specs.Quotes.{Interval, last_quote, current_limits}
-use Rattle.mk_rules.specs.Answers.{IsTrade, IsBeyond, IsBeyondRight, IsJudged, IsJudgedAfresh, IsAnswer}
+use Rattle.mk_rules.specs.Refusals.{question_named, spread_named, user_number, refusals, first_refusal}
+use Rattle.mk_rules.specs.Quotes.{Interval, last_quote, current_limits, current_bounds}
+use Rattle.mk_rules.specs.Answers.{IsTrade, IsBeyond, IsBeyondRight, IsJudged, IsJudgedAfresh, IsSpreadTrade, IsOutside, IsOutsideRight, IsSpreadJudged, IsSpreadJudgedAfresh, IsAnswer}
 use Rattle.mk_rules.specs.Transcript.{Standing, OfCommand, IsAllowedFor}
 use Rattle.mk_rules.specs.Laws.{IsTraded}
 use Rattle.mk_rules.proofs.Options.{value_of, at_none, at_some, at_value}
 use Rattle.mk_rules.proofs.Unrefused.{none_applies, number_in_range}
-use Rattle.mk_rules.proofs.Judged.{traded_inside}
+use Rattle.mk_rules.proofs.Spreads.{numbers_in_range}
+use Rattle.mk_rules.proofs.Judged.{traded_inside, spread_traded_inside}
 
 -- a question has one side of each kind
 one_side : (network : List Variable) (H : List Entry) (u : ℕ) (asked : Asked) (test : List ℕ → Bool) (a b : Side)
@@ -92,6 +99,45 @@ one_kind market now u q X seen first second small none a b =
     (current_limits (last_quote now.quotes (user_number now.history u)) judged.0 (revision now.history)) judged.2
     (at_value _ (question_named (network_of market now.history) q) judged.0 judged.1
     (at_none (λ (why : Refusal). second ≡ Refused why) (first_refusal market now.history (Edit u q X seen)) none b))
+
+-- the shares of a spread that is a trade are inside of all right bounds
+not_outside : (network : List Variable) (H : List Entry) (u : ℕ) (spread : SpreadAsked) (Xs : List ℕ) (first second : Reply)
+    → IsSmall network H → AllByRecursion (λ X. (1 ≤ X) × (X ≤ 999999)) Xs → IsSpreadTrade network H u spread Xs first → IsOutsideRight network H u spread Xs second → ⊥
+not_outside network H u spread Xs first second small in_range trade refused =
+    refused.outside.outside (fair_list_is_inside network H u spread refused.intervals Xs trade.factors.items small in_range refused.right trade.fair)
+
+not_spread : (intervals : Intervals) (Xs : List ℕ) (reply : Reply) → IsOutside intervals Xs reply → IsTraded reply → ⊥
+not_spread intervals Xs reply outside traded = subst IsTraded outside.printed traded
+
+module _ (network : List Variable) (H : List Entry) (u : ℕ) (spread : SpreadAsked) (Xs : List ℕ) (small : IsSmall network H)
+    (in_range : AllByRecursion (λ X. (1 ≤ X) × (X ≤ 999999)) Xs) where
+  spread_afresh : (first second : Reply) → IsSpreadJudgedAfresh network H u spread Xs first → IsSpreadJudgedAfresh network H u spread Xs second → IsTraded first → IsTraded second
+  spread_afresh first second a (inl trade) traded = subst IsTraded (sym trade.printed) tt
+  spread_afresh first second (inl trade) (inr refused) traded = absurd (not_outside network H u spread Xs first second small in_range trade refused)
+  spread_afresh first second (inr other) (inr refused) traded = absurd (not_spread other.intervals Xs first other.outside traded)
+
+  spread_of_kind : (first second : Reply) (o : Option Intervals)
+      → MatchOption o (IsSpreadJudgedAfresh network H u spread Xs first) (λ intervals. IsSpreadJudged network H u spread Xs intervals first)
+      → MatchOption o (IsSpreadJudgedAfresh network H u spread Xs second) (λ intervals. IsSpreadJudged network H u spread Xs intervals second) → IsTraded first ↔ IsTraded second
+  spread_of_kind first second None a b = (spread_afresh first second a b, spread_afresh second first b a)
+  spread_of_kind first second (Some intervals) a b =
+      let one = spread_traded_inside network H u spread Xs intervals first a in
+      let other = spread_traded_inside network H u spread Xs intervals second b in
+      (λ traded. other.1 (one.0 traded), λ traded. one.1 (other.0 traded))
+
+pub spread_one_kind : (market : Market) (now : Standing) (u v : List ℕ) (condition : ArrayVec PairText) (to : ArrayVec ℕ) (seen : Option ℕ) (first second : Reply)
+    → IsSmall (network_of market now.history) now.history → first_refusal market now.history (Spread u v condition to seen) ≡ None
+    → IsAllowedFor market now (OfCommand (Spread u v condition to seen)) first → IsAllowedFor market now (OfCommand (Spread u v condition to seen)) second
+    → IsTraded first ↔ IsTraded second
+spread_one_kind market now u v condition to seen first second small none a b =
+    let refused = none_applies (refusals market now.history (Spread u v condition to seen)) none in
+    let shares = numbers_in_range (million - 1) to.items refused.1.1.1.1.1.1.1.1.1.1.0 in
+    let judged = value_of _ (spread_named (network_of market now.history) v condition.items)
+    (at_none (λ (why : Refusal). first ≡ Refused why) (first_refusal market now.history (Spread u v condition to seen)) none a) in
+    spread_of_kind (network_of market now.history) now.history (user_number now.history u) judged.0 to.items small shares first second
+    (current_bounds (last_quote now.quotes (user_number now.history u)) judged.0 (revision now.history)) judged.2
+    (at_value _ (spread_named (network_of market now.history) v condition.items) judged.0 judged.1
+    (at_none (λ (why : Refusal). second ≡ Refused why) (first_refusal market now.history (Spread u v condition to seen)) none b))
 
 pub one_refusal : (market : Market) (now : Standing) (command : Command) (why : Refusal) (reply : Reply) → first_refusal market now.history command ≡ Some why
     → IsAllowedFor market now (OfCommand command) reply ↔ (reply ≡ Refused why)

@@ -15,15 +15,17 @@ use Rattle.mk_exact.specs.Factors.{Fraction, factor, factor_with, least_gain}
 use Rattle.mk_exact.specs.Market.{Market, network_of}
 use Rattle.mk_exact.specs.Laws.{IsWithinCash, ArePayments, LossIsBounded}
 use Rattle.mk_exact.proofs.Gains.{settlement_bounded}
+use Rattle.mk_spread.specs.Spreads.{SpreadAsked}
+use Rattle.mk_spread.specs.Bounds.{Intervals}
 use Rattle.mk_command.specs.declared.command.Command.{Command}
 use Rattle.mk_command.specs.declared.command.Command.TheVariants.{User, Deposit, Withdraw, Price, Limits, Edit, Bounds, Spread, Worst, Resolve, Settle}
 use Rattle.mk_reply.specs.declared.refusal.Refusal.{Refusal}
 use Rattle.mk_reply.specs.declared.payments.Payment.{Payment}
 use Rattle.mk_reply.specs.declared.reply.Reply.{Reply}
 use Rattle.mk_reply.specs.declared.reply.Reply.TheVariants.{Settled, Refused}
-use Rattle.mk_rules.specs.Refusals.{question_named, user_number, first_refusal}
-use Rattle.mk_rules.specs.Quotes.{Interval, Quotes, last_quote, current_limits}
-use Rattle.mk_rules.specs.Answers.{IsPayment, IsSettlement, IsJudged, IsJudgedAfresh, IsWithdrawal, IsAnswer}
+use Rattle.mk_rules.specs.Refusals.{question_named, spread_named, user_number, first_refusal}
+use Rattle.mk_rules.specs.Quotes.{Interval, Quotes, last_quote, current_limits, current_bounds}
+use Rattle.mk_rules.specs.Answers.{IsPayment, IsSettlement, IsJudged, IsJudgedAfresh, IsSpreadJudged, IsSpreadJudgedAfresh, IsWithdrawal, IsAnswer}
 use Rattle.mk_rules.specs.Transcript.{Standing, Line, OfCommand, NoCommand, LongLine, IsAllowedFor}
 use Rattle.mk_rules.specs.Standings.{Stands}
 use Rattle.mk_rules.specs.Laws.{paid_by, CostsAtMost}
@@ -81,6 +83,13 @@ edit_settles_not network H u asked X at payments None (inr beyond) = let e = bey
 edit_settles_not network H u asked X at payments (Some limits) (inl trade) = let e = trade.1.printed in cc
 edit_settles_not network H u asked X at payments (Some limits) (inr beyond) = let e = beyond.printed in cc
 
+spread_settles_not : (network : List Variable) (H : List Entry) (u : ℕ) (spread : SpreadAsked) (Xs : List ℕ) (at : ℕ) (payments : List Payment) (o : Option Intervals)
+    → MatchOption o (IsSpreadJudgedAfresh network H u spread Xs (settling at payments)) (λ intervals. IsSpreadJudged network H u spread Xs intervals (settling at payments)) → ⊥
+spread_settles_not network H u spread Xs at payments None (inl trade) = let e = trade.printed in cc
+spread_settles_not network H u spread Xs at payments None (inr outside) = let e = outside.outside.printed in cc
+spread_settles_not network H u spread Xs at payments (Some intervals) (inl trade) = let e = trade.1.printed in cc
+spread_settles_not network H u spread Xs at payments (Some intervals) (inr outside) = let e = outside.printed in cc
+
 module _ (market : Market) (H : List Entry) (quotes : Quotes) (at : ℕ) (payments : List Payment) where
   settles_alone : (command : Command) → IsAnswer market H quotes command (settling at payments) → command ≡ Settle
   settles_alone (User u) (inl e) = absurd (cc)
@@ -94,8 +103,11 @@ module _ (market : Market) (H : List Entry) (quotes : Quotes) (at : ℕ) (paymen
   settles_alone (Edit u q X seen) h =
       let judged = value_of _ (question_named (network_of market H) q) h in
       absurd (edit_settles_not (network_of market H) H (user_number H u) judged.0 X at payments (current_limits (last_quote quotes (user_number H u)) judged.0 (revision H)) judged.2)
-  settles_alone (Bounds u v condition) h = absurd h
-  settles_alone (Spread u v condition to seen) h = absurd h
+  settles_alone (Bounds u v condition) h = let e = (value_of _ (spread_named (network_of market H) v condition.items) h).2.printed in absurd (cc)
+  settles_alone (Spread u v condition to seen) h =
+      let judged = value_of _ (spread_named (network_of market H) v condition.items) h in
+      absurd (spread_settles_not (network_of market H) H (user_number H u) judged.0 to.items at payments
+      (current_bounds (last_quote quotes (user_number H u)) judged.0 (revision H)) judged.2)
   settles_alone (Worst u) h = let e = (value_of _ (least_gain (network_of market H) H (user_number H u) always) h).2.printed in absurd (cc)
   settles_alone (Resolve p) h = absurd (cc)
   settles_alone Settle h = refl

@@ -8,7 +8,10 @@ use Rattle.mk_net.specs.Asked.{Asked}
 use Rattle.mk_exact.specs.History.{Entry, revision}
 use Rattle.mk_exact.specs.Sides.{AreRightLimits}
 use Rattle.mk_exact.specs.Market.{Market, network_of}
-use Rattle.mk_rules.specs.Quotes.{Interval, Quoted, EditLimits, Quote, Quotes, last_quote, same_pair, same_question, limits_in, current_limits}
+use Rattle.mk_spread.specs.Spreads.{SpreadAsked}
+use Rattle.mk_spread.specs.Bounds.{Intervals}
+use Rattle.mk_spread.specs.Markets.{AreRightBoundsOf}
+use Rattle.mk_rules.specs.Quotes.{Interval, Quoted, EditLimits, SpreadBounds, Quote, Quotes, last_quote, same_pair, same_question, same_spread, limits_in, bounds_in, current_limits, current_bounds}
 use Rattle.mk_rules.specs.Standings.{IsRightQuote}
 
 -- something holds of each user's last quote
@@ -54,6 +57,12 @@ same_question_is a b h =
     let parts = and_parts (same_pair a.target b.target) (pointwise same_pair a.condition b.condition) h in
     ap₂ (λ (p : Pair) (ps : List Pair). record { target = p; condition = ps }) (same_pair_is a.target b.target parts.0) (same_pairs_are a.condition b.condition parts.1)
 
+-- and the same spread is
+pub same_spread_is : (a b : SpreadAsked) → same_spread a b ≡ true → a ≡ b
+same_spread_is a b h =
+    let parts = and_parts (a.variable == b.variable) (pointwise same_pair a.condition b.condition) h in
+    ap₂ (λ (variable : ℕ) (ps : List Pair). record { variable = variable; condition = ps }) (eqb-true a.variable b.variable parts.0) (same_pairs_are a.condition b.condition parts.1)
+
 -- limits that a right quote holds for a question at the present revision are right
 module _ (market : Market) (H : List Entry) (u : ℕ) (asked : Asked) (limits : Interval) where
   abbrev AreRightHere : Asked → Interval → Type 0
@@ -69,7 +78,33 @@ module _ (market : Market) (H : List Entry) (u : ℕ) (asked : Asked) (limits : 
       → cond b (limits_in says asked) None ≡ Some limits → AreRightHere asked limits
   of_quote (EditLimits question held) at false e right h = cc
   of_quote (EditLimits question held) at true e right h = of_question question held (same_question question asked) refl (right.right (eqb-true at (revision H) e)) h
+  of_quote (SpreadBounds spread held) at false e right h = cc
+  of_quote (SpreadBounds spread held) at true e right h = cc
 
   pub current_right : (o : Option Quote) → IfSome o (IsRightQuote market H u) → current_limits o asked (revision H) ≡ Some limits → AreRightLimits (network_of market H) H u asked limits
   current_right None right h = cc
   current_right (Some quote) right h = of_quote quote.says quote.at (quote.at == revision H) refl right h
+
+-- and so are the bounds that it holds for a spread
+module _ (market : Market) (H : List Entry) (u : ℕ) (spread : SpreadAsked) (intervals : Intervals) where
+  abbrev AreBoundsHere : SpreadAsked → Intervals → Type 0
+  AreBoundsHere asked held = AreRightBoundsOf (network_of market H) H u asked held
+
+  of_spread : (asked : SpreadAsked) (held : Intervals) (b : Bool) → same_spread asked spread ≡ b → AreBoundsHere asked held → cond b (Some held) None ≡ Some intervals
+      → AreBoundsHere spread intervals
+  of_spread asked held false e right h = cc
+  of_spread asked held true e right h =
+      let same : held ≡ intervals = cc in
+      subst (λ (given : Intervals). AreBoundsHere spread given) same (subst (λ (a : SpreadAsked). AreBoundsHere a held) (same_spread_is asked spread e) right)
+
+  bounds_of_quote : (says : Quoted) (at : ℕ) (b : Bool) → (at == revision H) ≡ b → IsRightQuote market H u (record { says = says; at = at })
+      → cond b (bounds_in says spread) None ≡ Some intervals → AreBoundsHere spread intervals
+  bounds_of_quote (EditLimits question held) at false e right h = cc
+  bounds_of_quote (EditLimits question held) at true e right h = cc
+  bounds_of_quote (SpreadBounds asked held) at false e right h = cc
+  bounds_of_quote (SpreadBounds asked held) at true e right h = of_spread asked held (same_spread asked spread) refl (right.right (eqb-true at (revision H) e)) h
+
+  pub current_bounds_right : (o : Option Quote) → IfSome o (IsRightQuote market H u) → current_bounds o spread (revision H) ≡ Some intervals
+      → AreRightBoundsOf (network_of market H) H u spread intervals
+  current_bounds_right None right h = cc
+  current_bounds_right (Some quote) right h = bounds_of_quote quote.says quote.at (quote.at == revision H) refl right h

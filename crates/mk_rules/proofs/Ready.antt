@@ -1,8 +1,9 @@
 -- An allowed reply leads from a ready standing to a ready one.
 use Rattle.std.proofs.Common.{◌≡◌, ℕ, zero, suc, ◌+◌, inl, inr, Bool, true, false, List, [], ◌∷◌, ◌++◌, map, length, Option, Some, None, IfSome, MatchOption, refl, sym, ap, ◌∙◌, subst, arith, append-nil, length-append}
-use Rattle.std.specs.Prelude.{option_map, option_to_list, slice_set, ⊤}
+use Rattle.std.specs.Prelude.{option_map, option_and_then, option_to_list, slice_set, ⊤}
 use Rattle.std.specs.List.{AllByRecursion}
 use Rattle.std.proofs.lemmas.List.{length-set, length-map}
+use Rattle.arrayvec.specs.ArrayVec.{ArrayVec}
 use Rattle.mk_net.specs.declared.words.PairText.{PairText}
 use Rattle.mk_net.specs.declared.words.QuestionText.{QuestionText}
 use Rattle.mk_net.specs.Named.{pair_named}
@@ -13,22 +14,25 @@ use Rattle.mk_exact.specs.History.{Entry, Join, Deposit as Deposits, Withdraw as
 use Rattle.mk_exact.specs.Weight.{IsSmall}
 use Rattle.mk_exact.specs.Factors.{factor_with, least_gain}
 use Rattle.mk_exact.specs.Sides.{AreRightLimits}
-use Rattle.mk_exact.specs.Market.{Market, network_of}
+use Rattle.mk_exact.specs.Market.{Market, network_of, cliques_of}
 use Rattle.mk_exact.proofs.After.{users_kept, users_more}
+use Rattle.mk_spread.specs.Spreads.{SpreadAsked}
+use Rattle.mk_spread.specs.Bounds.{Intervals}
+use Rattle.mk_spread.specs.Markets.{AreRightBoundsOf}
 use Rattle.mk_command.specs.declared.command.Command.{Command}
 use Rattle.mk_command.specs.declared.command.Command.TheVariants.{User, Deposit, Withdraw, Price, Limits, Edit, Bounds, Spread, Worst, Resolve, Settle}
 use Rattle.mk_reply.specs.declared.refusal.Refusal.{Refusal}
-use Rattle.mk_reply.specs.declared.refusal.Refusal.TheVariants.{Syntax, Long, Settled as IsSettled, User as NoUser, Exists, Users, Unknown, Twice, Stale, Resolved as IsResolved, Impossible, Wide, Range, Full, Beyond, Short, Unresolved, NoVariable, Numbers, Sum, Outside, Memory}
+use Rattle.mk_reply.specs.declared.refusal.Refusal.TheVariants.{Unknown, Twice, Impossible, Range, Beyond, Outside}
 use Rattle.mk_reply.specs.declared.reply.Reply.{Reply}
 use Rattle.mk_reply.specs.declared.reply.Reply.TheVariants.{Refused}
-use Rattle.mk_rules.specs.Refusals.{question_named, user_number, stale, refusals, first_refusal}
-use Rattle.mk_rules.specs.Quotes.{Interval, EditLimits, Quote, Quotes, no_quotes, last_quote, current_limits}
-use Rattle.mk_rules.specs.Answers.{IsTrade, IsJudged, IsJudgedAfresh, IsBeyond, IsWithdrawal, IsAnswer, IsAllowed, next_quotes}
+use Rattle.mk_rules.specs.Refusals.{variables_in, question_named, spread_named, user_number, stale, wide, refusals, first_refusal}
+use Rattle.mk_rules.specs.Quotes.{Interval, Quoted, EditLimits, SpreadBounds, Quote, Quotes, no_quotes, last_quote, current_limits, current_bounds}
+use Rattle.mk_rules.specs.Answers.{IsTrade, IsJudged, IsJudgedAfresh, IsBeyond, IsSpreadTrade, IsSpreadJudged, IsSpreadJudgedAfresh, IsOutside, IsWithdrawal, IsAnswer, IsAllowed, next_quotes}
 use Rattle.mk_rules.specs.Transcript.{Standing, opening, Line, OfCommand, NoCommand, LongLine, IsAllowedFor, after, Run}
-use Rattle.mk_rules.specs.Standings.{Stands, IsRightQuote, IsReady}
+use Rattle.mk_rules.specs.Standings.{Stands, IsRight, IsRightQuote, IsReady}
 use Rattle.mk_rules.proofs.Options.{value_of}
 use Rattle.mk_rules.proofs.Keeps.{allowed_keeps, opening_stands}
-use Rattle.mk_rules.proofs.Quoted.{Each, each_set, each_pushed, each_weaker, current_right}
+use Rattle.mk_rules.proofs.Quoted.{Each, each_set, each_pushed, each_weaker, current_right, current_bounds_right}
 
 -- what is known of the quotes beside a history
 record AreKept (market : Market) (H : List Entry) (quotes : Quotes) : Type 0 where
@@ -72,34 +76,44 @@ mapped : {X Y : Type 0} (P : Y → Type 0) (f : X → Y) → ((x : X) → P (f x
 mapped P f each None = tt
 mapped P f each (Some x) = each x
 
--- no refusal of the table carries limits
-CarriesNoLimits : Refusal → Type 0
-CarriesNoLimits (Beyond limits) = ⊥
-CarriesNoLimits _ = ⊤
+-- no refusal of the table carries limits or bounds
+CarriesNoQuote : Refusal → Type 0
+CarriesNoQuote (Beyond limits) = ⊥
+CarriesNoQuote (Outside intervals) = ⊥
+CarriesNoQuote _ = ⊤
 
-faulted : (test : Bool) (why : Refusal) → CarriesNoLimits why → IfSome (fault_if test why) CarriesNoLimits
+faulted : (test : Bool) (why : Refusal) → CarriesNoQuote why → IfSome (fault_if test why) CarriesNoQuote
 faulted true why h = h
 faulted false why h = tt
 
-first_carries_none : (faults : List (Option Refusal)) → AllByRecursion (λ o. IfSome o CarriesNoLimits) faults → IfSome (first_of faults) CarriesNoLimits
+first_carries_none : (faults : List (Option Refusal)) → AllByRecursion (λ o. IfSome o CarriesNoQuote) faults → IfSome (first_of faults) CarriesNoQuote
 first_carries_none [] h = tt
 first_carries_none (None ∷ later) h = first_carries_none later h.1
 first_carries_none (Some why ∷ later) h = h.0
 
-stale_carries_none : (H : List Entry) (seen : Option ℕ) → IfSome (stale H seen) CarriesNoLimits
-unfolding CarriesNoLimits
+stale_carries_none : (H : List Entry) (seen : Option ℕ) → IfSome (stale H seen) CarriesNoQuote
+unfolding CarriesNoQuote
 stale_carries_none H None = tt
 stale_carries_none H (Some named) = faulted _ _ tt
 
-pair_carries_none : (f : PairText → Refusal) → ((p : PairText) → CarriesNoLimits (f p)) → (o : Option PairText) → IfSome (option_map f o) CarriesNoLimits
-pair_carries_none f each o = mapped CarriesNoLimits f each o
+pair_carries_none : (f : PairText → Refusal) → ((p : PairText) → CarriesNoQuote (f p)) → (o : Option PairText) → IfSome (option_map f o) CarriesNoQuote
+pair_carries_none f each o = mapped CarriesNoQuote f each o
 
-name_carries_none : (f : List ℕ → Refusal) → ((name : List ℕ) → CarriesNoLimits (f name)) → (o : Option (List ℕ)) → IfSome (option_map f o) CarriesNoLimits
-name_carries_none f each o = mapped CarriesNoLimits f each o
+name_carries_none : (f : List ℕ → Refusal) → ((name : List ℕ) → CarriesNoQuote (f name)) → (o : Option (List ℕ)) → IfSome (option_map f o) CarriesNoQuote
+name_carries_none f each o = mapped CarriesNoQuote f each o
+
+number_carries_none : (f : ℕ → Refusal) → ((n : ℕ) → CarriesNoQuote (f n)) → (o : Option ℕ) → IfSome (option_map f o) CarriesNoQuote
+number_carries_none f each o = mapped CarriesNoQuote f each o
+
+wide_carries_none : (cliques : List (List ℕ)) (o : Option SpreadAsked)
+    → IfSome (option_and_then (λ (spread : SpreadAsked). wide cliques (spread.variable ∷ variables_in spread.condition)) o) CarriesNoQuote
+unfolding CarriesNoQuote
+wide_carries_none cliques None = tt
+wide_carries_none cliques (Some spread) = faulted _ _ tt
 
 edit_carries_none : (market : Market) (H : List Entry) (u : List ℕ) (q : QuestionText) (X : ℕ) (seen : Option ℕ)
-    → AllByRecursion (λ o. IfSome o CarriesNoLimits) (refusals market H (Edit u q X seen))
-unfolding CarriesNoLimits
+    → AllByRecursion (λ o. IfSome o CarriesNoQuote) (refusals market H (Edit u q X seen))
+unfolding CarriesNoQuote
 edit_carries_none market H u q X seen = (
   faulted _ _ tt,
   (
@@ -117,31 +131,49 @@ edit_carries_none market H u q X seen = (
   ),
 )
 
-edit_stays : (market : Market) (H : List Entry) (quotes : Quotes) (u : List ℕ) (q : QuestionText) (X : ℕ) (seen : Option ℕ) (why : Refusal) → CarriesNoLimits why
+spread_carries_none : (market : Market) (H : List Entry) (u v : List ℕ) (condition : ArrayVec PairText) (to : ArrayVec ℕ) (seen : Option ℕ)
+    → AllByRecursion (λ o. IfSome o CarriesNoQuote) (refusals market H (Spread u v condition to seen))
+unfolding CarriesNoQuote
+spread_carries_none market H u v condition to seen = (
+  faulted _ _ tt,
+  (
+    faulted _ _ tt,
+    (
+      faulted _ _ tt,
+      (
+        pair_carries_none Unknown (λ p. tt) _,
+        (
+          name_carries_none Twice (λ name. tt) _,
+          (
+            stale_carries_none H seen,
+            (
+              faulted _ _ tt,
+              (
+                pair_carries_none Impossible (λ p. tt) _,
+                (
+                  wide_carries_none (cliques_of market H) _,
+                  (faulted _ _ tt, (number_carries_none Range (λ n. tt) _, (faulted _ _ tt, (faulted _ _ tt, tt)))),
+                ),
+              ),
+            ),
+          ),
+        ),
+      ),
+    ),
+  ),
+)
+
+edit_stays : (market : Market) (H : List Entry) (quotes : Quotes) (u : List ℕ) (q : QuestionText) (X : ℕ) (seen : Option ℕ) (why : Refusal) → CarriesNoQuote why
     → next_quotes market H quotes (Edit u q X seen) (Refused why) ≡ quotes
-unfolding CarriesNoLimits
-edit_stays market H quotes u q X seen Syntax h = refl
-edit_stays market H quotes u q X seen Long h = refl
-edit_stays market H quotes u q X seen IsSettled h = refl
-edit_stays market H quotes u q X seen (NoUser name) h = refl
-edit_stays market H quotes u q X seen (Exists name) h = refl
-edit_stays market H quotes u q X seen (Users held) h = refl
-edit_stays market H quotes u q X seen (Unknown pair) h = refl
-edit_stays market H quotes u q X seen (Twice name) h = refl
-edit_stays market H quotes u q X seen (Stale named now) h = refl
-edit_stays market H quotes u q X seen (IsResolved name) h = refl
-edit_stays market H quotes u q X seen (Impossible pair) h = refl
-edit_stays market H quotes u q X seen Wide h = refl
-edit_stays market H quotes u q X seen (Range n) h = refl
-edit_stays market H quotes u q X seen (Full held) h = refl
+unfolding CarriesNoQuote
 edit_stays market H quotes u q X seen (Beyond limits) h = absurd h
-edit_stays market H quotes u q X seen (Short bits) h = refl
-edit_stays market H quotes u q X seen (Unresolved name) h = refl
-edit_stays market H quotes u q X seen (NoVariable name) h = refl
-edit_stays market H quotes u q X seen (Numbers given) h = refl
-edit_stays market H quotes u q X seen (Sum sum) h = refl
-edit_stays market H quotes u q X seen (Outside intervals) h = refl
-edit_stays market H quotes u q X seen Memory h = refl
+edit_stays market H quotes u q X seen why h = refl
+
+spread_stays : (market : Market) (H : List Entry) (quotes : Quotes) (u v : List ℕ) (condition : ArrayVec PairText) (to : ArrayVec ℕ) (seen : Option ℕ) (why : Refusal)
+    → CarriesNoQuote why → next_quotes market H quotes (Spread u v condition to seen) (Refused why) ≡ quotes
+unfolding CarriesNoQuote
+spread_stays market H quotes u v condition to seen (Outside intervals) h = absurd h
+spread_stays market H quotes u v condition to seen why h = refl
 
 value_has : {X : Type 0} (P : X → Type 0) (o : Option X) (x : X) → o ≡ Some x → IfSome o P → P x
 value_has P o x e h = subst (λ (o : Option _). IfSome o P) e h
@@ -151,7 +183,14 @@ pub edit_refused : (market : Market) (H : List Entry) (quotes : Quotes) (u : Lis
     → first_refusal market H (Edit u q X seen) ≡ Some why → next_quotes market H quotes (Edit u q X seen) (Refused why) ≡ quotes
 edit_refused market H quotes u q X seen why h =
     edit_stays market H quotes u q X seen why
-    (value_has CarriesNoLimits _ why h (first_carries_none (refusals market H (Edit u q X seen)) (edit_carries_none market H u q X seen)))
+    (value_has CarriesNoQuote _ why h (first_carries_none (refusals market H (Edit u q X seen)) (edit_carries_none market H u q X seen)))
+
+-- and those of a spread
+pub spread_refused : (market : Market) (H : List Entry) (quotes : Quotes) (u v : List ℕ) (condition : ArrayVec PairText) (to : ArrayVec ℕ) (seen : Option ℕ) (why : Refusal)
+    → first_refusal market H (Spread u v condition to seen) ≡ Some why → next_quotes market H quotes (Spread u v condition to seen) (Refused why) ≡ quotes
+spread_refused market H quotes u v condition to seen why h =
+    spread_stays market H quotes u v condition to seen why
+    (value_has CarriesNoQuote _ why h (first_carries_none (refusals market H (Spread u v condition to seen)) (spread_carries_none market H u v condition to seen)))
 
 module _ (market : Market) (now : Standing) (kept : AreKept market now.history now.quotes) where
   stays : (quotes : Quotes) → AreKept market now.history quotes → AreKept market (now.history ++ []) quotes
@@ -172,17 +211,31 @@ module _ (market : Market) (now : Standing) (kept : AreKept market now.history n
       stays (next_quotes market now.history now.quotes (Edit u q X seen) (Refused why))
       (subst (AreKept market now.history) (sym (edit_refused market now.history now.quotes u q X seen why h)) kept)
   refused_kept (Bounds u v condition) why h = stays now.quotes kept
-  refused_kept (Spread u v condition to seen) why h = stays now.quotes kept
+  refused_kept (Spread u v condition to seen) why h =
+      stays (next_quotes market now.history now.quotes (Spread u v condition to seen) (Refused why))
+      (subst (AreKept market now.history) (sym (spread_refused market now.history now.quotes u v condition to seen why h)) kept)
   refused_kept (Worst u) why h = stays now.quotes kept
   refused_kept (Resolve p) why h = stays now.quotes kept
   refused_kept Settle why h = stays now.quotes kept
 
-  -- limits that are right are quoted
-  quoted_kept : (n : ℕ) (asked : Asked) (limits : Interval) (o : Option Asked) → o ≡ Some asked → AreRightLimits (network_of market now.history) now.history n asked limits
-      → AreKept market (now.history ++ []) (slice_set now.quotes n (option_map (λ (asked : Asked). record { says = EditLimits asked limits; at = revision now.history }) o))
-  quoted_kept n asked limits o named right =
-      rw named (stays _ (after_quote market now.history now.quotes kept n (Some (record { says = EditLimits asked limits; at = revision now.history }))
-      (record { not_later = omega arith; right = λ same. right })))
+  -- what is right is quoted
+  quoted_kept : (n : ℕ) (said : Option Quoted) → IfSome said (IsRight market now.history n)
+      → AreKept market (now.history ++ []) (slice_set now.quotes n (option_map (λ (says : Quoted). record { says = says; at = revision now.history }) said))
+  quoted_kept n said right = stays _ (after_quote market now.history now.quotes kept n _ (quote_right said right))
+    where
+      quote_right : (said : Option Quoted) → IfSome said (IsRight market now.history n)
+          → IfSome (option_map (λ (says : Quoted). record { says = says; at = revision now.history }) said) (IsRightQuote market now.history n)
+      quote_right None right = tt
+      quote_right (Some says) right = record { not_later = omega arith; right = λ same. right }
+
+  limits_right : (n : ℕ) (asked : Asked) (limits : Interval) (o : Option Asked) → o ≡ Some asked → AreRightLimits (network_of market now.history) now.history n asked limits
+      → IfSome (option_map (λ (asked : Asked). EditLimits asked limits) o) (IsRight market now.history n)
+  limits_right n asked limits o named right = rw named right
+
+  bounds_right : (n : ℕ) (spread : SpreadAsked) (intervals : Intervals) (o : Option SpreadAsked) → o ≡ Some spread
+      → AreRightBoundsOf (network_of market now.history) now.history n spread intervals
+      → IfSome (option_map (λ (spread : SpreadAsked). SpreadBounds spread intervals) o) (IsRight market now.history n)
+  bounds_right n spread intervals o named right = rw named right
 
   withdrawal_kept : (u : List ℕ) (bits g : ℕ) (reply : Reply) → IsWithdrawal (IsSmall (network_of market now.history) now.history) (factor_with now.history (user_number now.history u) g) u bits (revision now.history + 1) reply
       → KeptAfter market now (Withdraw u bits) reply
@@ -200,7 +253,7 @@ module _ (market : Market) (now : Standing) (kept : AreKept market now.history n
       → AreRightLimits (network_of market now.history) now.history (user_number now.history u) asked limits → IsBeyond limits X reply → KeptAfter market now (Edit u q X seen) reply
   unfolding KeptAfter
   beyond_kept u q X seen asked limits reply named right beyond = reply_kept market now (Edit u q X seen) reply _ beyond.printed
-      (quoted_kept (user_number now.history u) asked limits _ named right)
+      (quoted_kept (user_number now.history u) _ (limits_right (user_number now.history u) asked limits _ named right))
 
   judged_kept : (u : List ℕ) (q : QuestionText) (X : ℕ) (seen : Option ℕ) (asked : Asked) (reply : Reply) → question_named (network_of market now.history) q ≡ Some asked
       → (o : Option Interval) → current_limits (last_quote now.quotes (user_number now.history u)) asked (revision now.history) ≡ o
@@ -212,6 +265,36 @@ module _ (market : Market) (now : Standing) (kept : AreKept market now.history n
   judged_kept u q X seen asked reply named (Some limits) e (inr beyond) = beyond_kept u q X seen asked limits reply named
       (current_right market now.history (user_number now.history u) asked limits (last_quote now.quotes (user_number now.history u)) (kept.right (user_number now.history u)) e) beyond
 
+  spread_kept : (u v : List ℕ) (condition : ArrayVec PairText) (to : ArrayVec ℕ) (seen : Option ℕ) (n : ℕ) (spread : SpreadAsked) (reply : Reply)
+      → IsSpreadTrade (network_of market now.history) now.history n spread to.items reply → KeptAfter market now (Spread u v condition to seen) reply
+  unfolding KeptAfter
+  spread_kept u v condition to seen n spread reply trade = reply_kept market now (Spread u v condition to seen) reply _ trade.printed
+      (after_some _ (mapped (λ (e : Entry). join_in e ≡ None) _ (λ spread. refl) (spread_named (network_of market now.history) v condition.items)))
+
+  outside_kept : (u v : List ℕ) (condition : ArrayVec PairText) (to : ArrayVec ℕ) (seen : Option ℕ) (spread : SpreadAsked) (intervals : Intervals) (reply : Reply)
+      → spread_named (network_of market now.history) v condition.items ≡ Some spread
+      → AreRightBoundsOf (network_of market now.history) now.history (user_number now.history u) spread intervals → IsOutside intervals to.items reply
+      → KeptAfter market now (Spread u v condition to seen) reply
+  unfolding KeptAfter
+  outside_kept u v condition to seen spread intervals reply named right outside = reply_kept market now (Spread u v condition to seen) reply _ outside.printed
+      (quoted_kept (user_number now.history u) _ (bounds_right (user_number now.history u) spread _ _ named
+      (subst (AreRightBoundsOf (network_of market now.history) now.history (user_number now.history u) spread) (sym outside.given) right)))
+
+  spread_judged_kept : (u v : List ℕ) (condition : ArrayVec PairText) (to : ArrayVec ℕ) (seen : Option ℕ) (spread : SpreadAsked) (reply : Reply)
+      → spread_named (network_of market now.history) v condition.items ≡ Some spread
+      → (o : Option Intervals) → current_bounds (last_quote now.quotes (user_number now.history u)) spread (revision now.history) ≡ o
+      → MatchOption o (IsSpreadJudgedAfresh (network_of market now.history) now.history (user_number now.history u) spread to.items reply)
+      (λ intervals. IsSpreadJudged (network_of market now.history) now.history (user_number now.history u) spread to.items intervals reply)
+      → KeptAfter market now (Spread u v condition to seen) reply
+  spread_judged_kept u v condition to seen spread reply named None e (inl trade) = spread_kept u v condition to seen (user_number now.history u) spread reply trade
+  spread_judged_kept u v condition to seen spread reply named None e (inr afresh) =
+      outside_kept u v condition to seen spread afresh.intervals reply named afresh.right afresh.outside
+  spread_judged_kept u v condition to seen spread reply named (Some intervals) e (inl trade) =
+      spread_kept u v condition to seen (user_number now.history u) spread reply trade.1
+  spread_judged_kept u v condition to seen spread reply named (Some intervals) e (inr outside) = outside_kept u v condition to seen spread intervals reply named
+      (current_bounds_right market now.history (user_number now.history u) spread intervals (last_quote now.quotes (user_number now.history u))
+      (kept.right (user_number now.history u)) e) outside
+
   answer_kept : (command : Command) (reply : Reply) → IsAnswer market now.history now.quotes command reply → KeptAfter market now command reply
   unfolding KeptAfter
   answer_kept (User u) reply (inl e) = reply_kept market now (User u) reply _ e (after_join market now.history now.quotes kept u)
@@ -221,11 +304,16 @@ module _ (market : Market) (now : Standing) (kept : AreKept market now.history n
       withdrawal_kept u bits least.0 reply least.2
   answer_kept (Price q) reply h = reply_kept market now (Price q) reply _ (value_of _ (question_named (network_of market now.history) q) h).2.printed (stays now.quotes kept)
   answer_kept (Limits u q) reply h = let limits = value_of _ (question_named (network_of market now.history) q) h in
-      reply_kept market now (Limits u q) reply _ limits.2.printed (quoted_kept (user_number now.history u) limits.0 limits.2.limits _ limits.1 limits.2.right)
+      reply_kept market now (Limits u q) reply _ limits.2.printed (quoted_kept (user_number now.history u) _
+      (limits_right (user_number now.history u) limits.0 limits.2.limits _ limits.1 limits.2.right))
   answer_kept (Edit u q X seen) reply h = let judged = value_of _ (question_named (network_of market now.history) q) h in
       judged_kept u q X seen judged.0 reply judged.1 (current_limits (last_quote now.quotes (user_number now.history u)) judged.0 (revision now.history)) refl judged.2
-  answer_kept (Bounds u v condition) reply h = absurd h
-  answer_kept (Spread u v condition to seen) reply h = absurd h
+  answer_kept (Bounds u v condition) reply h = let bounds = value_of _ (spread_named (network_of market now.history) v condition.items) h in
+      reply_kept market now (Bounds u v condition) reply _ bounds.2.printed (quoted_kept (user_number now.history u) _
+      (bounds_right (user_number now.history u) bounds.0 _ _ bounds.1 bounds.2.right))
+  answer_kept (Spread u v condition to seen) reply h = let judged = value_of _ (spread_named (network_of market now.history) v condition.items) h in
+      spread_judged_kept u v condition to seen judged.0 reply judged.1
+      (current_bounds (last_quote now.quotes (user_number now.history u)) judged.0 (revision now.history)) refl judged.2
   answer_kept (Worst u) reply h = reply_kept market now (Worst u) reply _ (value_of _ (least_gain (network_of market now.history) now.history (user_number now.history u) always) h).2.printed (stays now.quotes kept)
   answer_kept (Resolve p) reply h = reply_kept market now (Resolve p) reply _ h (after_some _ (mapped (λ (e : Entry). join_in e ≡ None) _ (λ pair. refl) (pair_named (network_of market now.history) p)))
   answer_kept Settle reply h = reply_kept market now Settle reply _ h.printed (after_some (Some Settles) refl)

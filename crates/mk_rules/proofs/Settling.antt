@@ -1,5 +1,5 @@
 -- The payments of a settlement stay within the bound by the history that a run leaves.
-use Rattle.std.proofs.Common.{◌≡◌, ℕ, ◌+◌, ◌*◌, ◌^◌, ◌≤◌, true, false, Bool, ◌||◌, List, [], ◌∷◌, ◌++◌, Option, Some, None, IfSome, MatchOption, All, length, filter, sum, sum_by, refl, sym, ap, ap₂, ◌∙◌, subst, append-nil}
+use Rattle.std.proofs.Common.{◌≡◌, ℕ, ◌+◌, ◌*◌, ◌^◌, ◌≤◌, true, false, Bool, ◌||◌, List, [], ◌∷◌, ◌++◌, Option, Some, None, IfSome, MatchOption, All, length, filter, sum, sum_by, refl, sym, ap, ◌∙◌, subst, append-nil}
 use Rattle.std.specs.Prelude.{option_to_list, ◌&&◌}
 use Rattle.std.proofs.Math.Path.{fun_ext}
 use Rattle.std.proofs.lemmas.List.Elements.{All-nil, All-cons}
@@ -7,15 +7,13 @@ use Rattle.mk_net.specs.declared.words.Pair.{Pair}
 use Rattle.mk_exact.specs.InitialWeight.{all_states, initial_weight, initial_total}
 use Rattle.mk_exact.specs.Events.{holds, always}
 use Rattle.mk_exact.specs.States.{numbers_below}
-use Rattle.mk_exact.specs.History.{Entry, Settle as Settles, is_settlement, is_settled, users, resolutions, deposited, withdrawn}
-use Rattle.mk_exact.specs.Weight.{possible_states}
-use Rattle.mk_exact.specs.Market.{Market, network_of}
-use Rattle.mk_exact.specs.Laws.{LossIsBounded}
+use Rattle.mk_exact.specs.History.{Entry, Settle as Settles, is_settlement, is_settled, users, deposited, withdrawn}
+use Rattle.mk_exact.specs.Market.{Market}
 use Rattle.mk_exact.proofs.After.{users_kept, resolutions_kept, deposited_kept, withdrawn_kept}
 use Rattle.mk_command.specs.declared.command.Command.{Command}
 use Rattle.mk_command.specs.declared.command.Command.TheVariants.{User, Deposit, Withdraw, Price, Limits, Edit, Bounds, Spread, Worst, Resolve, Settle}
 use Rattle.mk_reply.specs.declared.refusal.Refusal.{Refusal}
-use Rattle.mk_reply.specs.declared.refusal.Refusal.TheVariants.{Syntax, Settled as SettledBefore}
+use Rattle.mk_reply.specs.declared.refusal.Refusal.TheVariants.{Settled as SettledBefore}
 use Rattle.mk_reply.specs.declared.payments.Payment.{Payment}
 use Rattle.mk_reply.specs.declared.reply.Reply.{Reply}
 use Rattle.mk_reply.specs.declared.reply.Reply.TheVariants.{Joined, Deposited, Withdrawn, Price as Priced, Limits as Limited, Traded, Bounded, Spreaded, Worst as Worsted, Resolved, Settled, Refused}
@@ -41,8 +39,8 @@ refused_behind market H (Withdraw u bits) s = (SettledBefore, rw s refl)
 refused_behind market H (Price q) s = (SettledBefore, rw s refl)
 refused_behind market H (Limits u q) s = (SettledBefore, rw s refl)
 refused_behind market H (Edit u q X seen) s = (SettledBefore, rw s refl)
-refused_behind market H (Bounds u v condition) s = (Syntax, refl)
-refused_behind market H (Spread u v condition to seen) s = (Syntax, refl)
+refused_behind market H (Bounds u v condition) s = (SettledBefore, rw s refl)
+refused_behind market H (Spread u v condition to seen) s = (SettledBefore, rw s refl)
 refused_behind market H (Worst u) s = (SettledBefore, rw s refl)
 refused_behind market H (Resolve p) s = (SettledBefore, rw s refl)
 refused_behind market H Settle s = (SettledBefore, rw s refl)

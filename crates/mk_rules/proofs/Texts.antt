@@ -1,17 +1,19 @@
 -- In a ready standing an allowed reply to a line that is a text has a text.
-use Rattle.std.proofs.Common.{◌≡◌, ℕ, ◌+◌, ◌*◌, ◌^◌, ◌<◌, ◌≤◌, ◌⊎◌, inl, inr, Bool, true, false, cond, List, [], ◌∷◌, length, Option, Some, None, IfSome, MatchOption, refl, sym, ◌∙◌, subst, arith, mul-le-mul_right}
-use Rattle.std.specs.Prelude.{option_map, find}
+use Rattle.std.proofs.Common.{◌≡◌, ℕ, ◌+◌, ◌*◌, ◌^◌, ◌<◌, ◌≤◌, ◌⊎◌, inl, inr, Bool, true, false, cond, List, [], ◌∷◌, ◌++◌, length, sum, Option, Some, None, IfSome, MatchOption, refl, sym, ◌∙◌, subst, arith, mul-le-mul_right}
+use Rattle.std.specs.Prelude.{option_map, option_and_then, find, All}
 use Rattle.std.specs.List.{AllByRecursion, AllZip, enumerate_from, list_any}
 use Rattle.std.proofs.lemmas.Bool.{cases_lt}
 use Rattle.std.proofs.lemmas.List.Elements.{All-from_recursion, recursion_from_All}
 use Rattle.std.proofs.lemmas.List.FromFn.{length-enumerate_from}
+use Rattle.std.proofs.lemmas.List.Sums.{sum_by-le}
 use Rattle.std.proofs.lemmas.Slice.Zip.{AllZip-long}
+use Rattle.arrayvec.specs.ArrayVec.{ArrayVec}
 use Rattle.mk_net.specs.declared.words.PairText.{PairText}
 use Rattle.mk_net.specs.declared.words.QuestionText.{QuestionText}
 use Rattle.mk_net.specs.Name.{IsName}
 use Rattle.mk_net.specs.Texts.{same_text}
 use Rattle.mk_net.specs.Network.{Variable, IsNetwork}
-use Rattle.mk_net.specs.Asked.{Asked}
+use Rattle.mk_net.specs.Asked.{Asked, IsUnits}
 use Rattle.mk_net.specs.Firsts.{fault_if, first_of}
 use Rattle.mk_exact.specs.Events.{always}
 use Rattle.mk_exact.specs.History.{Entry, users, revision}
@@ -20,32 +22,39 @@ use Rattle.mk_exact.specs.Factors.{Fraction, factor, factor_with, least_gain}
 use Rattle.mk_exact.specs.Limits.{IsWithinRange}
 use Rattle.mk_exact.specs.Prices.{CoversPrice, exact_price}
 use Rattle.mk_exact.specs.Sides.{AreRightLimits}
-use Rattle.mk_exact.specs.Market.{Market, network_of}
+use Rattle.mk_exact.specs.Market.{Market, network_of, cliques_of}
 use Rattle.mk_exact.specs.Cash.{CoversCash}
 use Rattle.mk_exact.specs.Existing.{IsPositivePrice}
 use Rattle.mk_exact.proofs.ExistBounds.{cash_fits, least_cash_fits}
+use Rattle.mk_exact.proofs.Sums.{each_weaker}
 use Rattle.mk_exact.proofs.ExistMarkets.{price_exists}
-use Rattle.mk_text.specs.Numbers.{IsShort, AreLimits}
-use Rattle.mk_text.specs.Texts.{IsPairText, IsQuestionText}
+use Rattle.mk_spread.specs.Spreads.{SpreadAsked}
+use Rattle.mk_spread.specs.Bounds.{Intervals}
+use Rattle.mk_spread.specs.Markets.{AreRightBoundsOf}
+use Rattle.mk_spread.proofs.Exist.{right_bounds_fit}
+use Rattle.mk_spread.proofs.Fair.{fair_list_fits}
+use Rattle.mk_text.specs.Numbers.{IsShort, AreLimits, IsInterval, AreIntervals}
+use Rattle.mk_text.specs.Texts.{IsPairText, IsCondition, IsQuestionText}
 use Rattle.mk_command.specs.Commands.{IsCommand}
 use Rattle.mk_command.specs.declared.command.Command.{Command}
 use Rattle.mk_command.specs.declared.command.Command.TheVariants.{User, Deposit, Withdraw, Price, Limits, Edit, Bounds, Spread, Worst, Resolve, Settle}
-use Rattle.mk_reply.specs.Refusals.{IsRefusal}
-use Rattle.mk_reply.specs.Replies.{IsReply, IsPayment as HasText}
+use Rattle.mk_reply.specs.Refusals.{given_in, IsRefusal}
+use Rattle.mk_reply.specs.Replies.{IsReply, IsRatio, IsPayment as HasText}
 use Rattle.mk_reply.specs.declared.refusal.Refusal.{Refusal}
-use Rattle.mk_reply.specs.declared.refusal.Refusal.TheVariants.{Unknown, Twice, Impossible, Unresolved}
+use Rattle.mk_reply.specs.declared.refusal.Refusal.TheVariants.{Unknown, Twice, Impossible, Range, Unresolved}
 use Rattle.mk_reply.specs.declared.payments.Payment.{Payment}
 use Rattle.mk_reply.specs.declared.reply.Reply.{Reply}
 use Rattle.mk_reply.specs.declared.reply.Reply.TheVariants.{Refused}
-use Rattle.mk_rules.specs.Refusals.{pairs_of, names_in, question_named, user_number, first_repeat, unknown, twice, stale, impossible, unresolved, refusals, first_refusal}
-use Rattle.mk_rules.specs.Quotes.{Interval, last_quote, current_limits}
-use Rattle.mk_rules.specs.Answers.{IsTrade, IsJudged, IsJudgedAfresh, IsWithdrawal, IsPayment, IsSettlement, IsAnswer, IsAllowed}
+use Rattle.mk_rules.specs.Refusals.{pairs_of, names_in, variables_in, question_named, spread_named, user_number, first_repeat, settled, no_user, no_variable, unknown, twice, stale, resolved, impossible, wide, wide_spread, numbers, ranges, sums, trades_full, unresolved, refusals, first_refusal}
+use Rattle.mk_rules.specs.Quotes.{Interval, last_quote, current_limits, current_bounds}
+use Rattle.mk_rules.specs.Answers.{IsTrade, IsJudged, IsJudgedAfresh, IsSpreadTrade, IsOutside, IsSpreadJudged, IsSpreadJudgedAfresh, IsWithdrawal, IsPayment, IsSettlement, IsAnswer, IsAllowed}
 use Rattle.mk_rules.specs.Transcript.{Standing, Line, OfCommand, NoCommand, LongLine, IsAllowedFor}
 use Rattle.mk_rules.specs.Standings.{IsMarket, IsReady}
 use Rattle.mk_rules.specs.Bounded.{IsLine, IsBounded}
 use Rattle.mk_rules.proofs.Options.{value_of}
 use Rattle.mk_rules.proofs.Unrefused.{none_applies}
-use Rattle.mk_rules.proofs.Quoted.{current_right}
+use Rattle.mk_rules.proofs.Spreads.{spread_is, numbers_in_range}
+use Rattle.mk_rules.proofs.Quoted.{current_right, current_bounds_right}
 use Rattle.mk_rules.proofs.Revisions.{revision_fits}
 use Rattle.mk_rules.proofs.Answered.{can_be_asked}
 
@@ -57,6 +66,17 @@ first_has : (faults : List (Option Refusal)) → AllByRecursion (λ o. IfSome o 
 first_has [] h = tt
 first_has (None ∷ later) h = first_has later h.1
 first_has (Some why ∷ later) h = h.0
+
+-- several faults before others
+first_then : (faults later : List (Option Refusal)) → AllByRecursion (λ o. IfSome o IsRefusal) faults → IfSome (first_of later) IsRefusal → IfSome (first_of (faults ++ later)) IsRefusal
+first_then [] later h k = k
+first_then (None ∷ faults) later h k = first_then faults later h.1 k
+first_then (Some why ∷ faults) later h k = h.0
+
+-- faults that come only where one does not apply
+then_has : (o : Option Refusal) (later : List (Option Refusal)) → IfSome o IsRefusal → (o ≡ None → IfSome (first_of later) IsRefusal) → IfSome (first_of (o ∷ later)) IsRefusal
+then_has None later h k = k refl
+then_has (Some why) later h k = h
 
 -- the first that passes a test is one of the list
 found_has : {X : Type 0} (P : X → Type 0) (test : X → Bool) (xs : List X) → AllByRecursion P xs → IfSome (find test xs) P
@@ -91,6 +111,10 @@ pair_names (p ∷ pairs) h = (h.0.variable, pair_names pairs h.1)
 pairs_are : (q : QuestionText) → IsQuestionText q → AllByRecursion IsPairText (pairs_of q)
 pairs_are q h = (h.target, recursion_from_All IsPairText q.condition.items h.condition.each)
 
+-- and those of a condition
+condition_pairs : (pairs : List PairText) → IsCondition pairs → AllByRecursion IsPairText pairs
+condition_pairs pairs h = recursion_from_All IsPairText pairs h.each
+
 unknown_has : (network : List Variable) (pairs : List PairText) → AllByRecursion IsPairText pairs → IfSome (unknown network pairs) IsRefusal
 unknown_has network pairs h = pair_fault Unknown (λ p text. text) _ (found_has IsPairText _ pairs h)
 
@@ -100,9 +124,32 @@ impossible_has network H pairs h = pair_fault Impossible (λ p text. text) _ (fo
 twice_has : (pairs : List PairText) → AllByRecursion IsPairText pairs → IfSome (twice (names_in pairs)) IsRefusal
 twice_has pairs h = name_fault _ (repeat_has [] (names_in pairs) (pair_names pairs h))
 
+-- a variable before the pairs of a condition
+names_have : (v : List ℕ) (pairs : List PairText) → IsName v → AllByRecursion IsPairText pairs → IfSome (twice (v ∷ names_in pairs)) IsRefusal
+names_have v pairs named h = name_fault _ (repeat_has [] (v ∷ names_in pairs) (named, pair_names pairs h))
+
 stale_has : (H : List Entry) (seen : Option ℕ) → revision H + 1 < 2 ^ 63 → IfSome seen IsShort → IfSome (stale H seen) IsRefusal
 stale_has H None fits short = tt
 stale_has H (Some named) fits short = faulted _ _ (omega (arith, short), omega (arith, fits))
+
+number_fault : (o : Option ℕ) → IfSome o IsShort → IfSome (option_map Range o) IsRefusal
+number_fault None h = tt
+number_fault (Some n) h = omega (arith, h)
+
+ranges_have : (most : ℕ) (numbers : List ℕ) → AllByRecursion IsShort numbers → IfSome (ranges most numbers) IsRefusal
+ranges_have most numbers h = number_fault _ (found_has IsShort _ numbers h)
+
+-- numbers below a million make no more than a million for each
+few_millions : (numbers : List ℕ) → AllByRecursion (λ n. (1 ≤ n) × (n ≤ 999999)) numbers → sum numbers ≤ length numbers * 999999
+few_millions numbers h = sum_by-le (λ n. n) 999999 numbers
+    (All-from_recursion (λ n. n ≤ 999999) numbers (each_weaker (λ n. (1 ≤ n) × (n ≤ 999999)) (λ n. n ≤ 999999) (λ n inside. inside.1) numbers h))
+
+wide_spread_has : (market : Market) (H : List Entry) (v : List ℕ) (pairs : List PairText) → IfSome (wide_spread market H v pairs) IsRefusal
+wide_spread_has market H v pairs = at (spread_named (network_of market H) v pairs)
+  where
+    at : (o : Option SpreadAsked) → IfSome (option_and_then (λ (spread : SpreadAsked). wide (cliques_of market H) (spread.variable ∷ variables_in spread.condition)) o) IsRefusal
+    at None = tt
+    at (Some spread) = faulted _ _ tt
 
 -- the variables of a network, counted from n on, have names
 numbered_named : (n : ℕ) (vs : List Variable) → AllByRecursion (λ (v : Variable). IsName v.name) vs → AllByRecursion (λ (numbered : ℕ × Variable). IsName (numbered.1).name) (enumerate_from n vs)
@@ -127,6 +174,17 @@ limits_have (Some (low, high)) h = record { positive = h.0; ordered = h.1; below
 
 right_limits_have : (network : List Variable) (H : List Entry) (u : ℕ) (asked : Asked) (limits : Interval) → AreRightLimits network H u asked limits → AreLimits limits
 right_limits_have network H u asked limits h = limits_have limits h.right.in_range
+
+-- and so have bounds
+interval_has : (interval : ℕ × ℕ) → IsWithinRange (Some interval) → IsInterval interval
+interval_has (low, high) h = record { positive = h.0; ordered = h.1; below = h.2 }
+
+right_bounds_have : (network : List Variable) (H : List Entry) (u : ℕ) (spread : SpreadAsked) (intervals : Intervals) → IsNetwork network → spread.variable < length network
+    → AreRightBoundsOf network H u spread intervals → AreIntervals intervals
+right_bounds_have network H u spread None net within right = tt
+right_bounds_have network H u spread (Some given) net within right =
+    let fit = right_bounds_fit network H u spread given net within right in
+    record { two = fit.0.two; few = fit.0.few; each = λ k d inside. interval_has _ (fit.1 k d inside) }
 
 -- the low end of a price is no more than one
 low_at_most_one : (small : Type 0) (price : Fraction) (low high : ℕ) → IsPositivePrice price → CoversPrice small price low high → low ≤ 10 ^ 10
@@ -165,18 +223,55 @@ module _ (market : Market) (now : Standing) (is_market : IsMarket market) (ready
   next : revision H + 1 < 2 ^ 63
   next = revision_fits market H is_market ready.stands bounded
 
-  refusals_have : (command : Command) → IsCommand command → AllByRecursion (λ o. IfSome o IsRefusal) (refusals market H command)
-  refusals_have (User u) text = (faulted _ _ tt, (faulted _ _ text, (faulted _ _ refl, tt)))
-  refusals_have (Deposit u bits) text = (faulted _ _ tt, (faulted _ _ text.0, (faulted _ _ (omega (arith, text.1)), (faulted _ _ (omega arith), tt))))
-  refusals_have (Withdraw u bits) text = (faulted _ _ tt, (faulted _ _ text.0, (faulted _ _ (omega (arith, text.1)), (faulted _ _ (omega arith), tt))))
-  refusals_have (Price q) text =
+  -- where its numbers are in range, their sum is short
+  spread_refused : (u v : List ℕ) (condition : ArrayVec PairText) (to : ArrayVec ℕ) (seen : Option ℕ) → IsCommand (Spread u v condition to seen)
+      → IfSome (first_refusal market H (Spread u v condition to seen)) IsRefusal
+  spread_refused u v condition to seen text =
+      let pairs = condition_pairs condition.items text.2 in
+      first_then
+      (settled H ∷ no_user H u ∷ no_variable network v ∷ unknown network condition.items ∷ twice (v ∷ names_in condition.items) ∷ stale H seen
+      ∷ resolved network H v ∷ impossible network H condition.items ∷ wide_spread market H v condition.items ∷ numbers network v to.items ∷ [])
+      (ranges 999999 to.items ∷ sums to.items ∷ trades_full market H ∷ []) (
+        faulted _ _ tt,
+        (
+          faulted _ _ text.0,
+          (
+            faulted _ _ text.1,
+            (
+              unknown_has network condition.items pairs,
+              (
+                names_have v condition.items text.1 pairs,
+                (
+                  stale_has H seen next text.4,
+                  (
+                    faulted _ _ text.1,
+                    (impossible_has network H condition.items pairs, (wide_spread_has market H v condition.items, (faulted _ _ (omega (arith, text.3.few)), tt))),
+                  ),
+                ),
+              ),
+            ),
+          ),
+        ),
+      )
+      (then_has (ranges 999999 to.items) (sums to.items ∷ trades_full market H ∷ []) (ranges_have 999999 to.items (recursion_from_All IsShort to.items text.3.each)) (λ within.
+      let most = few_millions to.items (numbers_in_range 999999 to.items within) in
+      first_has (sums to.items ∷ trades_full market H ∷ []) (faulted _ _ (omega (arith, most, text.3.few)), (faulted _ _ (omega (arith, is_market.few_trades)), tt))))
+
+  refused_has : (command : Command) → IsCommand command → IfSome (first_refusal market H command) IsRefusal
+  refused_has (User u) text = first_has (refusals market H (User u)) (faulted _ _ tt, (faulted _ _ text, (faulted _ _ refl, tt)))
+  refused_has (Deposit u bits) text = first_has (refusals market H (Deposit u bits)) (faulted _ _ tt, (faulted _ _ text.0, (faulted _ _ (omega (arith, text.1)), (faulted _ _ (omega arith), tt))))
+  refused_has (Withdraw u bits) text = first_has (refusals market H (Withdraw u bits)) (faulted _ _ tt, (faulted _ _ text.0, (faulted _ _ (omega (arith, text.1)), (faulted _ _ (omega arith), tt))))
+  refused_has (Price q) text =
       let pairs = pairs_are q text in
+      first_has (refusals market H (Price q))
       (faulted _ _ tt, (unknown_has network (pairs_of q) pairs, (twice_has (pairs_of q) pairs, (faulted _ _ pairs.0.variable, (impossible_has network H q.condition.items pairs.1, (faulted _ _ tt, tt))))))
-  refusals_have (Limits u q) text =
+  refused_has (Limits u q) text =
       let pairs = pairs_are q text.1 in
+      first_has (refusals market H (Limits u q))
       (faulted _ _ tt, (faulted _ _ text.0, (unknown_has network (pairs_of q) pairs, (twice_has (pairs_of q) pairs, (faulted _ _ pairs.0.variable, (impossible_has network H q.condition.items pairs.1, (faulted _ _ tt, tt)))))))
-  refusals_have (Edit u q X seen) text =
-      let pairs = pairs_are q text.1 in (
+  refused_has (Edit u q X seen) text =
+      let pairs = pairs_are q text.1 in
+      first_has (refusals market H (Edit u q X seen)) (
         faulted _ _ tt,
         (
           faulted _ _ text.0,
@@ -195,14 +290,31 @@ module _ (market : Market) (now : Standing) (is_market : IsMarket market) (ready
           ),
         ),
       )
-  refusals_have (Bounds u v condition) text = (tt, tt)
-  refusals_have (Spread u v condition to seen) text = (tt, tt)
-  refusals_have (Worst u) text = (faulted _ _ tt, (faulted _ _ text, tt))
-  refusals_have (Resolve p) text = (faulted _ _ tt, (unknown_has network (p ∷ []) (text, tt), (faulted _ _ text.variable, tt)))
-  refusals_have Settle text = (faulted _ _ tt, (unresolved_has network H is_market.network, tt))
+  refused_has (Bounds u v condition) text =
+      let pairs = condition_pairs condition.items text.2 in
+      first_has (refusals market H (Bounds u v condition)) (
+        faulted _ _ tt,
+        (
+          faulted _ _ text.0,
+          (
+            faulted _ _ text.1,
+            (
+              unknown_has network condition.items pairs,
+              (
+                names_have v condition.items text.1 pairs,
+                (faulted _ _ text.1, (impossible_has network H condition.items pairs, (wide_spread_has market H v condition.items, tt))),
+              ),
+            ),
+          ),
+        ),
+      )
+  refused_has (Spread u v condition to seen) text = spread_refused u v condition to seen text
+  refused_has (Worst u) text = first_has (refusals market H (Worst u)) (faulted _ _ tt, (faulted _ _ text, tt))
+  refused_has (Resolve p) text = first_has (refusals market H (Resolve p)) (faulted _ _ tt, (unknown_has network (p ∷ []) (text, tt), (faulted _ _ text.variable, tt)))
+  refused_has Settle text = first_has (refusals market H Settle) (faulted _ _ tt, (unresolved_has network H is_market.network, tt))
 
   refusal_has : (command : Command) (why : Refusal) → IsCommand command → first_refusal market H command ≡ Some why → IsRefusal why
-  refusal_has command why text e = subst (λ (o : Option Refusal). IfSome o IsRefusal) e (first_has (refusals market H command) (refusals_have command text))
+  refusal_has command why text e = subst (λ (o : Option Refusal). IfSome o IsRefusal) e (refused_has command text)
 
   trade_has : (u : ℕ) (asked : Asked) (X : ℕ) (reply : Reply) → IsTrade network H u asked X reply → IsReply reply
   trade_has u asked X reply trade = reply_has reply _ trade.printed (
@@ -218,6 +330,26 @@ module _ (market : Market) (now : Standing) (is_market : IsMarket market) (ready
   judged_has u asked X reply (Some limits) e (inl trade) = trade_has u asked X reply trade.1
   judged_has u asked X reply (Some limits) e (inr beyond) = reply_has reply _ beyond.printed
       (right_limits_have network H u asked limits (current_right market H u asked limits (last_quote now.quotes u) (ready.quotes_right u) e))
+
+  spread_trade_has : (u : ℕ) (spread : SpreadAsked) (Xs : List ℕ) (reply : Reply) → spread.variable < length network → IsSpreadTrade network H u spread Xs reply → IsReply reply
+  spread_trade_has u spread Xs reply within trade =
+      let fit = fair_list_fits network H u spread Xs trade.factors.items trade.fair is_market.network within in
+      let each : All IsRatio trade.factors.items = λ k d inside. let units : IsUnits _ = fit.1 k d inside in record { positive = units.positive; below = units.fits } in
+      reply_has reply _ trade.printed (record { two = fit.0.two; few = fit.0.few; each = each }, next)
+
+  outside_has : (u : ℕ) (spread : SpreadAsked) (intervals : Intervals) (Xs : List ℕ) (reply : Reply) → spread.variable < length network
+      → AreRightBoundsOf network H u spread intervals → IsOutside intervals Xs reply → IsReply reply
+  outside_has u spread intervals Xs reply within right outside = reply_has reply _ outside.printed
+      (subst AreIntervals (sym outside.given) (right_bounds_have network H u spread intervals is_market.network within right))
+
+  spread_judged_has : (u : ℕ) (spread : SpreadAsked) (Xs : List ℕ) (reply : Reply) → spread.variable < length network
+      → (o : Option Intervals) → current_bounds (last_quote now.quotes u) spread (revision H) ≡ o
+      → MatchOption o (IsSpreadJudgedAfresh network H u spread Xs reply) (λ intervals. IsSpreadJudged network H u spread Xs intervals reply) → IsReply reply
+  spread_judged_has u spread Xs reply within None e (inl trade) = spread_trade_has u spread Xs reply within trade
+  spread_judged_has u spread Xs reply within None e (inr outside) = outside_has u spread outside.intervals Xs reply within outside.right outside.outside
+  spread_judged_has u spread Xs reply within (Some intervals) e (inl trade) = spread_trade_has u spread Xs reply within trade.1
+  spread_judged_has u spread Xs reply within (Some intervals) e (inr outside) = outside_has u spread intervals Xs reply within
+      (current_bounds_right market H u spread intervals (last_quote now.quotes u) (ready.quotes_right u) e) outside
 
   withdrawal_has : (u : List ℕ) (bits g : ℕ) (reply : Reply) → IsName u → IsShort bits → IsWithdrawal (IsSmall network H) (factor_with H (user_number H u) g) u bits (revision H + 1) reply → IsReply reply
   withdrawal_has u bits g reply named short (inl taken) = reply_has reply _ taken.1 (named, omega (arith, short), next)
@@ -249,8 +381,14 @@ module _ (market : Market) (now : Standing) (is_market : IsMarket market) (ready
   answer_has (Edit u q X seen) reply text none h =
       let judged = value_of _ (question_named network q) h in
       judged_has (user_number H u) judged.0 X reply (current_limits (last_quote now.quotes (user_number H u)) judged.0 (revision H)) refl judged.2
-  answer_has (Bounds u v condition) reply text none h = absurd h
-  answer_has (Spread u v condition to seen) reply text none h = absurd h
+  answer_has (Bounds u v condition) reply text none h =
+      let bounds = value_of _ (spread_named network v condition.items) h in
+      let within = (spread_is network v condition.items bounds.0 bounds.1).variable in
+      reply_has reply _ bounds.2.printed (right_bounds_have network H (user_number H u) bounds.0 (given_in bounds.2.box) is_market.network within bounds.2.right, omega (arith, next))
+  answer_has (Spread u v condition to seen) reply text none h =
+      let judged = value_of _ (spread_named network v condition.items) h in
+      let within = (spread_is network v condition.items judged.0 judged.1).variable in
+      spread_judged_has (user_number H u) judged.0 to.items reply within (current_bounds (last_quote now.quotes (user_number H u)) judged.0 (revision H)) refl judged.2
   answer_has (Worst u) reply text none h =
       let least = value_of _ (least_gain network H (user_number H u) always) h in
       let high = least_cash_fits network H (user_number H u) always least.0 market.points_per_bit least.2.low least.2.high bounded.within is_market.few_points least.1 least.2.covers in

@@ -1,6 +1,7 @@
 -- The replies that a market allows to a command, the entry that a reply appends, and the quotes that it sets.
 use Rattle.std.specs.Prelude.{◌≡◌, ℕ, ◌+◌, ◌<◌, List, [], ◌∷◌, ◌++◌, Option, Some, None, option_map, option_to_list, IsSomeAnd, MatchOption, slice_set, ◌⊎◌}
 use Rattle.std.specs.List.{AllZip, enumerate_from}
+use Rattle.mk_net.specs.declared.words.PairText.{PairText}
 use Rattle.mk_net.specs.declared.words.QuestionText.{QuestionText}
 use Rattle.mk_net.specs.Network.{Variable}
 use Rattle.mk_net.specs.Named.{pair_named}
@@ -15,14 +16,19 @@ use Rattle.mk_exact.specs.Limits.{Inside}
 use Rattle.mk_exact.specs.Sides.{AreRightLimits, IsFairPair, ratio_in}
 use Rattle.mk_exact.specs.Accepted.{Covers, IsMost}
 use Rattle.mk_exact.specs.Market.{Market, network_of}
+use Rattle.mk_spread.specs.Spreads.{SpreadAsked, spread_ratio}
+use Rattle.mk_spread.specs.Bounds.{Intervals, InsideEach}
+use Rattle.mk_spread.specs.Markets.{AreRightBoundsOf, IsFairList}
+use Rattle.arrayvec.specs.ArrayVec.{ArrayVec}
 use Rattle.mk_command.specs.declared.command.Command.{Command}
 use Rattle.mk_command.specs.declared.command.Command.TheVariants.{User, Deposit, Withdraw, Price, Limits, Edit, Bounds, Spread, Worst, Resolve, Settle}
-use Rattle.mk_reply.specs.declared.refusal.Refusal.TheVariants.{Beyond, Short, Memory}
+use Rattle.mk_reply.specs.declared.refusal.Refusal.TheVariants.{Beyond, Outside, Short, Memory}
 use Rattle.mk_reply.specs.declared.payments.Payment.{Payment}
 use Rattle.mk_reply.specs.declared.reply.Reply.{Reply}
-use Rattle.mk_reply.specs.declared.reply.Reply.TheVariants.{Joined, Deposited, Withdrawn, Price as Priced, Limits as Limited, Traded, Worst as Worsted, Resolved, Settled, Refused}
-use Rattle.mk_rules.specs.Refusals.{question_named, user_number, first_refusal}
-use Rattle.mk_rules.specs.Quotes.{Interval, EditLimits, Quotes, last_quote, current_limits}
+use Rattle.mk_reply.specs.declared.reply.Reply.TheVariants.{Joined, Deposited, Withdrawn, Price as Priced, Limits as Limited, Traded, Bounded, Spreaded, Worst as Worsted, Resolved, Settled, Refused}
+use Rattle.mk_reply.specs.Refusals.{given_in}
+use Rattle.mk_rules.specs.Refusals.{question_named, spread_named, user_number, first_refusal}
+use Rattle.mk_rules.specs.Quotes.{Interval, Quoted, EditLimits, SpreadBounds, Quotes, last_quote, current_limits, current_bounds}
 
 -- a trade with a fair and solvent pair
 pub record IsTrade (network : List Variable) (H : List Entry) (u : ℕ) (asked : Asked) (X : ℕ) (reply : Reply) : Type 0 where
@@ -50,6 +56,34 @@ pub record IsBeyondRight (network : List Variable) (H : List Entry) (u : ℕ) (a
 abbrev pub IsJudgedAfresh : List Variable → List Entry → ℕ → Asked → ℕ → Reply → Type 0
 IsJudgedAfresh network H u asked X reply = IsTrade network H u asked X reply ⊎ IsBeyondRight network H u asked X reply
 
+-- a trade of a whole distribution, with a fair and solvent list
+pub record IsSpreadTrade (network : List Variable) (H : List Entry) (u : ℕ) (spread : SpreadAsked) (Xs : List ℕ) (reply : Reply) : Type 0 where
+  pub factors : ArrayVec ℕ
+  pub printed : reply ≡ Spreaded factors (revision H + 1)
+  pub fair : IsFairList network H u spread Xs factors.items
+
+-- bounds that the shares are outside of
+pub record IsOutside (intervals : Intervals) (Xs : List ℕ) (reply : Reply) : Type 0 where
+  pub outside : ¬ InsideEach intervals Xs
+  pub box : Option (ArrayVec (ℕ × ℕ))
+  pub given : given_in box ≡ intervals
+  pub printed : reply ≡ Refused (Outside box)
+
+-- a spread that is judged by bounds that were quoted: inside it is a trade, outside a refusal with these bounds
+abbrev pub IsSpreadJudged : List Variable → List Entry → ℕ → SpreadAsked → List ℕ → Intervals → Reply → Type 0
+IsSpreadJudged network H u spread Xs intervals reply =
+    (InsideEach intervals Xs × IsSpreadTrade network H u spread Xs reply) ⊎ IsOutside intervals Xs reply
+
+-- right bounds that the shares are outside of
+pub record IsOutsideRight (network : List Variable) (H : List Entry) (u : ℕ) (spread : SpreadAsked) (Xs : List ℕ) (reply : Reply) : Type 0 where
+  pub intervals : Intervals
+  pub right : AreRightBoundsOf network H u spread intervals
+  pub outside : IsOutside intervals Xs reply
+
+-- a spread that is judged by bounds made for this reply
+abbrev pub IsSpreadJudgedAfresh : List Variable → List Entry → ℕ → SpreadAsked → List ℕ → Reply → Type 0
+IsSpreadJudgedAfresh network H u spread Xs reply = IsSpreadTrade network H u spread Xs reply ⊎ IsOutsideRight network H u spread Xs reply
+
 -- a withdrawal that is too much, with the bits that may be taken out
 pub record IsShort (small : Type 0) (q : Fraction) (bits : ℕ) (reply : Reply) : Type 0 where
   pub most : ℕ
@@ -74,6 +108,12 @@ pub record IsLimits (network : List Variable) (H : List Entry) (u : ℕ) (asked 
   pub printed : reply ≡ Limited limits (revision H)
   pub right : AreRightLimits network H u asked limits
 
+-- right bounds
+pub record IsBounds (network : List Variable) (H : List Entry) (u : ℕ) (spread : SpreadAsked) (reply : Reply) : Type 0 where
+  pub box : Option (ArrayVec (ℕ × ℕ))
+  pub printed : reply ≡ Bounded box (revision H)
+  pub right : AreRightBoundsOf network H u spread (given_in box)
+
 -- an interval that covers the cash of a factor
 pub record IsWorst (q : Fraction) (points_per_bit : ℕ) (reply : Reply) : Type 0 where
   pub low : ℕ
@@ -95,7 +135,7 @@ pub record IsSettlement (network : List Variable) (H : List Entry) (points_per_b
   pub printed : reply ≡ Settled (revision H + 1) payments
   pub paid : AllZip (IsPayment H points_per_bit state) (enumerate_from 0 (users H)) payments
 
--- the replies to a command that meets no refusal of the table, but perhaps `beyond`, `short` or want of memory
+-- the replies to a command that meets no refusal of the table, but perhaps `beyond`, `outside`, `short` or want of memory
 abbrev pub IsAnswer : Market → List Entry → Quotes → Command → Reply → Type 0
 IsAnswer market H quotes (User u) reply = (reply ≡ Joined u (revision H + 1)) ⊎ (reply ≡ Refused Memory)
 IsAnswer market H quotes (Deposit u bits) reply = reply ≡ Deposited u bits (revision H + 1)
@@ -114,8 +154,14 @@ IsAnswer market H quotes (Edit u q X seen) reply =
     let n = user_number H u in
     IsSomeAnd (question_named network q) (λ asked. MatchOption (current_limits (last_quote quotes n) asked (revision H))
     (IsJudgedAfresh network H n asked X reply) (λ limits. IsJudged network H n asked X limits reply))
-IsAnswer market H quotes (Bounds u v condition) reply = ⊥
-IsAnswer market H quotes (Spread u v condition to seen) reply = ⊥
+IsAnswer market H quotes (Bounds u v condition) reply =
+    let network = network_of market H in
+    IsSomeAnd (spread_named network v condition.items) (λ spread. IsBounds network H (user_number H u) spread reply)
+IsAnswer market H quotes (Spread u v condition to seen) reply =
+    let network = network_of market H in
+    let n = user_number H u in
+    IsSomeAnd (spread_named network v condition.items) (λ spread. MatchOption (current_bounds (last_quote quotes n) spread (revision H))
+    (IsSpreadJudgedAfresh network H n spread to.items reply) (λ intervals. IsSpreadJudged network H n spread to.items intervals reply))
 IsAnswer market H quotes (Worst u) reply =
     let n = user_number H u in
     IsSomeAnd (least_gain (network_of market H) H n always) (λ g. IsWorst (factor_with H n g) market.points_per_bit reply)
@@ -135,6 +181,8 @@ entry_of market H (Withdraw u bits) (Withdrawn _ _ _) = Some (Withdraws (user_nu
 entry_of market H (Edit u q X seen) (Traded hit miss _) =
     let network = network_of market H in
     option_map (λ asked. Trade (user_number H u) (ratio_in network asked hit miss)) (question_named network q)
+entry_of market H (Spread u v condition to seen) (Spreaded factors _) =
+    option_map (λ spread. Trade (user_number H u) (spread_ratio spread factors.items)) (spread_named (network_of market H) v condition.items)
 entry_of market H (Resolve p) (Resolved _ _) = option_map Resolves (pair_named (network_of market H) p)
 entry_of market H Settle (Settled _ _) = Some Settles
 entry_of market H _ _ = None
@@ -142,15 +190,24 @@ entry_of market H _ _ = None
 abbrev pub next_history : Market → List Entry → Command → Reply → List Entry
 next_history market H command reply = H ++ option_to_list (entry_of market H command reply)
 
--- the quotes once a user was quoted these limits of a question at this revision
-abbrev pub with_limits : Market → List Entry → Quotes → List ℕ → QuestionText → Interval → Quotes
-with_limits market H quotes u q limits =
-    slice_set quotes (user_number H u)
-    (option_map (λ asked. record { says = EditLimits asked limits; at = revision H }) (question_named (network_of market H) q))
+-- the quotes once a user was quoted this at this revision
+abbrev pub with_quote : List Entry → Quotes → List ℕ → Option Quoted → Quotes
+with_quote H quotes u said = slice_set quotes (user_number H u) (option_map (λ says. record { says = says; at = revision H }) said)
 
--- a new user has no quote, `limits` and `beyond` set the user's, and nothing else changes one
+-- the quotes once a user was quoted these limits of a question
+abbrev pub with_limits : Market → List Entry → Quotes → List ℕ → QuestionText → Interval → Quotes
+with_limits market H quotes u q limits = with_quote H quotes u (option_map (λ asked. EditLimits asked limits) (question_named (network_of market H) q))
+
+-- the quotes once a user was quoted these bounds of a spread
+abbrev pub with_bounds : Market → List Entry → Quotes → List ℕ → List ℕ → List PairText → Intervals → Quotes
+with_bounds market H quotes u v pairs intervals =
+    with_quote H quotes u (option_map (λ spread. SpreadBounds spread intervals) (spread_named (network_of market H) v pairs))
+
+-- a new user has no quote, `limits`, `beyond`, `bounds` and `outside` set the user's, and nothing else changes one
 abbrev pub next_quotes : Market → List Entry → Quotes → Command → Reply → Quotes
 next_quotes market H quotes (User u) (Joined _ _) = quotes ++ None ∷ []
 next_quotes market H quotes (Limits u q) (Limited limits _) = with_limits market H quotes u q limits
 next_quotes market H quotes (Edit u q X seen) (Refused (Beyond limits)) = with_limits market H quotes u q limits
+next_quotes market H quotes (Bounds u v condition) (Bounded box _) = with_bounds market H quotes u v condition.items (given_in box)
+next_quotes market H quotes (Spread u v condition to seen) (Refused (Outside box)) = with_bounds market H quotes u v condition.items (given_in box)
 next_quotes market H quotes _ _ = quotes

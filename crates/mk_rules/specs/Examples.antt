@@ -1,4 +1,4 @@
--- Refusals, replies, quotes and a short run in three small markets.
+-- Refusals, replies, quotes and a short run in small markets.
 use Rattle.std.specs.Prelude.{◌≡◌, ℕ, List, [], ◌∷◌, ◌++◌, map, replicate, codes, Option, Some, None}
 use Rattle.std.specs.List.{range_with_len}
 use Rattle.mk_net.specs.declared.words.PairText.{PairText}
@@ -6,7 +6,7 @@ use Rattle.mk_net.specs.declared.words.QuestionText.{QuestionText}
 use Rattle.mk_net.specs.Asked.{Asked}
 use Rattle.mk_exact.specs.History.{Entry, Join, Deposit as Deposits, Withdraw as Withdraws, Resolve as Resolves, Settle as Settles}
 use Rattle.mk_exact.specs.Market.{Market}
-use Rattle.mk_exact.specs.Examples.{coin, weather, chain, is, ask, alice, deposited_one, heads_taken, rain_taken}
+use Rattle.mk_exact.specs.Examples.{coin, die, weather, chain, is, ask, alice, deposited_one, heads_taken, rain_taken}
 use Rattle.mk_command.specs.declared.command.Command.TheVariants.{User, Deposit, Withdraw, Price, Limits, Edit, Worst, Resolve, Settle}
 use Rattle.mk_reply.specs.declared.refusal.Refusal.TheVariants.{Settled as IsSettled, User as NoUser, Exists, Users, Unknown, Twice, Stale, Resolved, Impossible, Wide, Range, Full, Beyond, Short, Unresolved, Memory}
 use Rattle.mk_reply.specs.declared.payments.Payment.{Payment}
@@ -18,12 +18,15 @@ use Rattle.mk_rules.specs.Answers.{IsAllowed, next_history, next_quotes}
 use Rattle.mk_rules.specs.Standings.{IsMarket}
 use Rattle.mk_rules.specs.Transcript.{Standing, opening, Line, OfCommand, Run}
 
--- a coin; a coin whose market takes one trade; the weather; and a chain of three
+-- a coin; a coin whose market takes one trade; a die; the weather; and a chain of three
 abbrev pub coin_market : Market
 coin_market = record { network = coin; cliques = (0 ∷ []) ∷ []; points_per_bit = 100; max_trades = 1000 }
 
 abbrev pub one_trade : Market
 one_trade = record { network = coin; cliques = (0 ∷ []) ∷ []; points_per_bit = 100; max_trades = 1 }
+
+abbrev pub die_market : Market
+die_market = record { network = die; cliques = (0 ∷ []) ∷ []; points_per_bit = 100; max_trades = 1000 }
 
 abbrev pub weather_market : Market
 weather_market = record { network = weather; cliques = (0 ∷ 1 ∷ []) ∷ (0 ∷ []) ∷ []; points_per_bit = 100; max_trades = 1000 }
@@ -87,6 +90,7 @@ dry = rain_taken ++ Resolves (is 0 1) ∷ []
 pub record AreMarkets : Type 0 where
   pub coin_is : IsMarket coin_market
   pub one_is : IsMarket one_trade
+  pub die_is : IsMarket die_market
   pub weather_is : IsMarket weather_market
   pub chain_is : IsMarket chain_market
 

@@ -1,6 +1,8 @@
 -- The laws of the market's rules. Each is the contract of a function of this crate, and so proved.
 use Rattle.std.specs.Prelude.{◌≡◌, ℕ, ◌≤◌, List, [], ◌∷◌, ◌++◌, length, map, All, Option, Some, None, ⊤, ◌↔◌}
 use Rattle.std.specs.List.{AllByRecursion}
+use Rattle.arrayvec.specs.ArrayVec.{ArrayVec}
+use Rattle.mk_net.specs.declared.words.PairText.{PairText}
 use Rattle.mk_net.specs.declared.words.QuestionText.{QuestionText}
 use Rattle.mk_net.specs.Asked.{Asked}
 use Rattle.mk_exact.specs.Events.{always}
@@ -8,16 +10,18 @@ use Rattle.mk_exact.specs.History.{Entry, revision}
 use Rattle.mk_exact.specs.Weight.{possible_states, IsSmall}
 use Rattle.mk_exact.specs.Market.{Market, network_of}
 use Rattle.mk_exact.specs.Limits.{Inside}
+use Rattle.mk_spread.specs.Spreads.{SpreadAsked}
+use Rattle.mk_spread.specs.Bounds.{Intervals, InsideEach}
 use Rattle.mk_exact.specs.Laws.{GainsAreBounded, LossIsBounded}
 use Rattle.mk_command.specs.declared.command.Command.{Command}
-use Rattle.mk_command.specs.declared.command.Command.TheVariants.{Edit}
+use Rattle.mk_command.specs.declared.command.Command.TheVariants.{Edit, Spread}
 use Rattle.mk_reply.specs.Replies.{IsReply}
 use Rattle.mk_reply.specs.declared.refusal.Refusal.{Refusal}
 use Rattle.mk_reply.specs.declared.payments.Payment.{Payment}
 use Rattle.mk_reply.specs.declared.reply.Reply.{Reply}
-use Rattle.mk_reply.specs.declared.reply.Reply.TheVariants.{Traded, Settled, Refused}
-use Rattle.mk_rules.specs.Refusals.{question_named, user_number, first_refusal}
-use Rattle.mk_rules.specs.Quotes.{Interval, no_quotes, last_quote, current_limits}
+use Rattle.mk_reply.specs.declared.reply.Reply.TheVariants.{Traded, Spreaded, Settled, Refused}
+use Rattle.mk_rules.specs.Refusals.{question_named, spread_named, user_number, first_refusal}
+use Rattle.mk_rules.specs.Quotes.{Interval, no_quotes, last_quote, current_limits, current_bounds}
 use Rattle.mk_rules.specs.Transcript.{Standing, opening, Line, OfCommand, IsAllowedFor, after, Run}
 use Rattle.mk_rules.specs.Standings.{IsMarket, Stands, IsReady}
 use Rattle.mk_rules.specs.Bounded.{IsLine, JoinsByName, IsBounded}
@@ -134,9 +138,10 @@ abbrev pub RunSettles : Type 0
 RunSettles = (market : Market) (new : Standing) (lines : List Line) (replies : List Reply)
     → Run market opening lines replies new → All (PaysWithin market new.history) replies
 
--- the reply to an edit is a trade
+-- the reply to an edit or a spread is a trade
 abbrev pub IsTraded : Reply → Type 0
 IsTraded (Traded hit miss at) = ⊤
+IsTraded (Spreaded factors at) = ⊤
 IsTraded _ = ⊥
 
 -- an edit that no refusal of the table meets, and whose user was quoted limits for it at this revision, is a trade exactly where its
@@ -148,6 +153,14 @@ JudgedExactly = (market : Market) (now : Standing) (u : List ℕ) (q : QuestionT
     → current_limits (last_quote now.quotes (user_number now.history u)) asked (revision now.history) ≡ Some limits
     → IsAllowedFor market now (OfCommand (Edit u q X seen)) reply → IsTraded reply ↔ Inside limits X
 
+-- and so is a spread whose user was quoted bounds for it
+abbrev pub SpreadJudgedExactly : Type 0
+SpreadJudgedExactly = (market : Market) (now : Standing) (u v : List ℕ) (condition : ArrayVec PairText) (to : ArrayVec ℕ) (seen : Option ℕ) (spread : SpreadAsked)
+    (intervals : Intervals) (reply : Reply) → first_refusal market now.history (Spread u v condition to seen) ≡ None
+    → spread_named (network_of market now.history) v condition.items ≡ Some spread
+    → current_bounds (last_quote now.quotes (user_number now.history u)) spread (revision now.history) ≡ Some intervals
+    → IsAllowedFor market now (OfCommand (Spread u v condition to seen)) reply → IsTraded reply ↔ InsideEach intervals to.items
+
 -- a refusal of the table is the one allowed reply
 abbrev pub OneRefusal : Type 0
 OneRefusal = (market : Market) (now : Standing) (command : Command) (why : Refusal) (reply : Reply) → first_refusal market now.history command ≡ Some why
@@ -158,4 +171,11 @@ abbrev pub OneKind : Type 0
 OneKind = (market : Market) (now : Standing) (u : List ℕ) (q : QuestionText) (X : ℕ) (seen : Option ℕ) (first second : Reply)
     → IsSmall (network_of market now.history) now.history → first_refusal market now.history (Edit u q X seen) ≡ None
     → IsAllowedFor market now (OfCommand (Edit u q X seen)) first → IsAllowedFor market now (OfCommand (Edit u q X seen)) second
+    → IsTraded first ↔ IsTraded second
+
+-- and so are those to a spread
+abbrev pub SpreadOneKind : Type 0
+SpreadOneKind = (market : Market) (now : Standing) (u v : List ℕ) (condition : ArrayVec PairText) (to : ArrayVec ℕ) (seen : Option ℕ) (first second : Reply)
+    → IsSmall (network_of market now.history) now.history → first_refusal market now.history (Spread u v condition to seen) ≡ None
+    → IsAllowedFor market now (OfCommand (Spread u v condition to seen)) first → IsAllowedFor market now (OfCommand (Spread u v condition to seen)) second
     → IsTraded first ↔ IsTraded second

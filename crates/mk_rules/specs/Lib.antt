@@ -6,3 +6,4 @@ pub mod Standings
 pub mod Bounded
 pub mod Laws
 pub mod Examples
+pub mod SpreadExamples

@@ -1,5 +1,5 @@
 -- The refusals that come in every history, and their order. Each answers a refusal or none.
-use Rattle.std.specs.Prelude.{ℕ, ◌-◌, List, [], ◌∷◌, length, map, Bool, false, ◌&&◌, not, ◌==◌, nat_le, if◌then◌else◌, is_none, Option, Some, None, option_map, find}
+use Rattle.std.specs.Prelude.{ℕ, ◌-◌, List, [], ◌∷◌, length, map, sum, Bool, false, ◌&&◌, not, ◌==◌, nat_le, if◌then◌else◌, is_none, Option, Some, None, option_map, option_and_then, find}
 use Rattle.std.specs.List.{list_all, list_any, position_or_len, enumerate_from, filter_map, count_by}
 use Rattle.mk_net.specs.declared.words.Pair.{Pair}
 use Rattle.mk_net.specs.declared.words.PairText.{PairText}
@@ -13,10 +13,11 @@ use Rattle.mk_net.specs.Events.{speaks_of}
 use Rattle.mk_net.specs.Firsts.{fault_if, first_of}
 use Rattle.mk_exact.specs.History.{Entry, users, trades, resolutions, is_settled, is_transfer, revision}
 use Rattle.mk_exact.specs.Market.{Market, network_of, cliques_of}
+use Rattle.mk_spread.specs.Spreads.{SpreadAsked}
 use Rattle.mk_command.specs.declared.command.Command.{Command}
 use Rattle.mk_command.specs.declared.command.Command.TheVariants.{User, Deposit, Withdraw, Price, Limits, Edit, Bounds, Spread, Worst, Resolve, Settle}
 use Rattle.mk_reply.specs.declared.refusal.Refusal.{Refusal}
-use Rattle.mk_reply.specs.declared.refusal.Refusal.TheVariants.{Syntax, Settled, User as NoUser, Exists, Users, Unknown, Twice, Stale, Resolved, Impossible, Wide, Range, Full, Unresolved}
+use Rattle.mk_reply.specs.declared.refusal.Refusal.TheVariants.{Settled, User as NoUser, Exists, Users, Unknown, Twice, Stale, Resolved, Impossible, Wide, Range, Full, Unresolved, NoVariable, Numbers, Sum}
 
 -- the pairs of a question as they are written, the target first
 abbrev pub pairs_of : QuestionText → List PairText
@@ -38,6 +39,11 @@ known_pairs network pairs = filter_map (pair_named network) pairs
 abbrev pub question_named : List Variable → QuestionText → Option Asked
 question_named network q =
     option_map (λ t. record { target = t; condition = known_pairs network q.condition.items }) (pair_named network q.target)
+
+-- a question about every value of a variable, in the network's numbers; where the variable is unknown there is none
+abbrev pub spread_named : List Variable → List ℕ → List PairText → Option SpreadAsked
+spread_named network v pairs =
+    option_map (λ (numbered : ℕ × Variable). record { variable = numbered.0; condition = known_pairs network pairs }) (variable_named network v)
 
 -- a user's number, from 0 in the order of joining
 abbrev pub user_number : List Entry → List ℕ → ℕ
@@ -82,6 +88,9 @@ users_full H = fault_if (nat_le max_users (length (users H))) (Users max_users)
 abbrev pub unknown : List Variable → List PairText → Option Refusal
 unknown network pairs = option_map Unknown (find (λ p. is_none (pair_named network p)) pairs)
 
+abbrev pub no_variable : List Variable → List ℕ → Option Refusal
+no_variable network v = fault_if (is_none (variable_named network v)) (NoVariable v)
+
 abbrev pub twice : List (List ℕ) → Option Refusal
 twice names = option_map Twice (first_repeat [] names)
 
@@ -102,9 +111,26 @@ wide cliques variables = fault_if (is_wide cliques variables) Wide
 abbrev pub wide_question : Market → List Entry → QuestionText → Option Refusal
 wide_question market H q = wide (cliques_of market H) (variables_in (known_pairs (network_of market H) (pairs_of q)))
 
+-- so is one about every value of a variable where that and the variables of the condition are
+abbrev pub wide_spread : Market → List Entry → List ℕ → List PairText → Option Refusal
+wide_spread market H v pairs = option_and_then (λ (spread : SpreadAsked). wide (cliques_of market H) (spread.variable ∷ variables_in spread.condition))
+    (spread_named (network_of market H) v pairs)
+
 -- a number is 1 to a most
 abbrev pub range : ℕ → ℕ → Option Refusal
 range most n = fault_if (not (nat_le 1 n && nat_le n most)) (Range n)
+
+-- the first number that is not
+abbrev pub ranges : ℕ → List ℕ → Option Refusal
+ranges most numbers = option_map Range (find (λ n. not (nat_le 1 n && nat_le n most)) numbers)
+
+-- a distribution has another number of numbers than its variable has values
+abbrev pub numbers : List Variable → List ℕ → List ℕ → Option Refusal
+numbers network v to = fault_if (passes (λ (numbered : ℕ × Variable). not (length to == length (numbered.1).values)) (variable_named network v)) (Numbers (length to))
+
+-- the numbers do not make a million
+abbrev pub sums : List ℕ → Option Refusal
+sums to = fault_if (not (sum to == million)) (Sum (sum to))
 
 -- as many are held as may be
 abbrev pub full : ℕ → ℕ → Option Refusal
@@ -122,8 +148,7 @@ unresolved network H =
     option_map (λ (numbered : ℕ × Variable). Unresolved (numbered.1).name)
     (find (λ (numbered : ℕ × Variable). not (is_resolved H (numbered.0))) (enumerate_from 0 network))
 
--- what each command is refused for, in this order; a question or an edit of a whole distribution is not served yet, and refused as
--- the text of no command
+-- what each command is refused for, in this order
 abbrev pub refusals : Market → List Entry → Command → List (Option Refusal)
 refusals market H (User u) = settled H ∷ exists H u ∷ users_full H ∷ []
 refusals market H (Deposit u bits) = settled H ∷ no_user H u ∷ range max_transfer_bits bits ∷ transfers_full H ∷ []
@@ -141,8 +166,15 @@ refusals market H (Edit u q to seen) =
     settled H ∷ no_user H u ∷ unknown network (pairs_of q) ∷ twice (names_in (pairs_of q)) ∷ stale H seen
     ∷ resolved network H q.target.variable ∷ impossible network H q.condition.items ∷ wide_question market H q
     ∷ range (million - 1) to ∷ trades_full market H ∷ []
-refusals market H (Bounds u v condition) = Some Syntax ∷ []
-refusals market H (Spread u v condition to seen) = Some Syntax ∷ []
+refusals market H (Bounds u v condition) =
+    let network = network_of market H in
+    settled H ∷ no_user H u ∷ no_variable network v ∷ unknown network condition.items ∷ twice (v ∷ names_in condition.items)
+    ∷ resolved network H v ∷ impossible network H condition.items ∷ wide_spread market H v condition.items ∷ []
+refusals market H (Spread u v condition to seen) =
+    let network = network_of market H in
+    settled H ∷ no_user H u ∷ no_variable network v ∷ unknown network condition.items ∷ twice (v ∷ names_in condition.items)
+    ∷ stale H seen ∷ resolved network H v ∷ impossible network H condition.items ∷ wide_spread market H v condition.items
+    ∷ numbers network v to.items ∷ ranges (million - 1) to.items ∷ sums to.items ∷ trades_full market H ∷ []
 refusals market H (Worst u) = settled H ∷ no_user H u ∷ []
 refusals market H (Resolve p) =
     let network = network_of market H in

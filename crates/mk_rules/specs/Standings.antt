@@ -10,7 +10,8 @@ use Rattle.mk_exact.specs.Sound.{IsSound}
 use Rattle.mk_exact.specs.Sides.{AreRightLimits}
 use Rattle.mk_exact.specs.Market.{Market, network_of, cliques_of}
 use Rattle.mk_rules.specs.Refusals.{variables_in, is_wide}
-use Rattle.mk_rules.specs.Quotes.{Quoted, EditLimits, Quote, last_quote}
+use Rattle.mk_spread.specs.Markets.{AreRightBoundsOf}
+use Rattle.mk_rules.specs.Quotes.{Quoted, EditLimits, SpreadBounds, Quote, last_quote}
 use Rattle.mk_rules.specs.Transcript.{Standing}
 
 -- what a market file that is accepted gives: a network, and two numbers within their limits
@@ -38,6 +39,7 @@ pub record Stands (market : Market) (H : List Entry) : Type 0 where
 -- what a quote of the present revision says to a user is right
 abbrev pub IsRight : Market → List Entry → ℕ → Quoted → Type 0
 IsRight market H u (EditLimits asked limits) = AreRightLimits (network_of market H) H u asked limits
+IsRight market H u (SpreadBounds spread intervals) = AreRightBoundsOf (network_of market H) H u spread intervals
 
 -- a quote was made at the present revision, and then it is right, or at an earlier one
 pub record IsRightQuote (market : Market) (H : List Entry) (u : ℕ) (quote : Quote) : Type 0 where

@@ -1,7 +1,9 @@
-//! The rules at work in three small markets.
+//! The rules at work in small markets.
 ghost use Rattle.mk_rules.specs.Examples.{AreMarkets, AreRefused, ComeInOrder, AreAnswered, AreCurrent, IsTakenOut, IsWorstPaid, IsResolved, IsPaid, IsJudgedByNewLimits, RunsThrough};
+ghost use Rattle.mk_rules.specs.SpreadExamples.{AreSpreadsRefused, SpreadsComeInOrder, AreSpreadsCurrent, AreSpreadsAnswered};
 
 use mk_exact::{example_cash, example_limits, example_networks};
+use mk_spread::example_bounds;
 
 /// The markets of these examples are markets.
 pub fn example_markets()
@@ -67,4 +69,26 @@ pub fn example_run()
 {
     example_limits();
     example_cash();
+}
+
+/// Each refusal of a spread where it comes first, and commands that meet none.
+pub fn example_spread_refusals()
+    ensures { AreSpreadsRefused }
+{}
+
+/// For each two neighbours among the refusals of bounds and of a spread, that the first of them comes where both apply.
+pub fn example_spread_order()
+    ensures { SpreadsComeInOrder }
+{}
+
+/// When a quote judges a spread; one of bounds judges no edit, and one of limits no spread.
+pub fn example_spread_quotes()
+    ensures { AreSpreadsCurrent }
+{}
+
+/// Bounds of a die and spreads over its faces that are allowed, and replies that are not.
+pub fn example_spreads()
+    ensures { AreSpreadsAnswered }
+{
+    example_bounds();
 }

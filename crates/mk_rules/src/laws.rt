@@ -1,5 +1,5 @@
 //! What allowed replies keep.
-ghost use Rattle.mk_rules.specs.Laws.{AllowedKeeps, RunKeeps, RunStands, UnquotedIsReady, ReadyKeeps, RunKeepsReady, RunIsReady, AlwaysAnswered, RunsExist, StateStaysPossible, BoundedKeeps, NamesKeepBounds, RunStaysBounded, RepliesHaveTexts, RunsJoin, RunIsBounded, SettlementKeeps, RunSettles, JudgedExactly, OneRefusal, OneKind};
+ghost use Rattle.mk_rules.specs.Laws.{AllowedKeeps, RunKeeps, RunStands, UnquotedIsReady, ReadyKeeps, RunKeepsReady, RunIsReady, AlwaysAnswered, RunsExist, StateStaysPossible, BoundedKeeps, NamesKeepBounds, RunStaysBounded, RepliesHaveTexts, RunsJoin, RunIsBounded, SettlementKeeps, RunSettles, JudgedExactly, SpreadJudgedExactly, OneRefusal, OneKind, SpreadOneKind};
 
 /// An allowed reply leads from a sound history to a sound one, whatever the line, and users, pairs and units stay in range.
 pub fn allowed_keeps()
@@ -98,6 +98,11 @@ pub fn judged_exactly()
     ensures { JudgedExactly }
 {}
 
+/// And so is a spread under bounds that were quoted.
+pub fn spread_judged_exactly()
+    ensures { SpreadJudgedExactly }
+{}
+
 /// Where a refusal of the table applies, it is the one reply that is allowed.
 pub fn one_refusal()
     ensures { OneRefusal }
@@ -106,4 +111,9 @@ pub fn one_refusal()
 /// In the small case an edit has one allowed kind of reply: trades, or refusals.
 pub fn one_kind()
     ensures { OneKind }
+{}
+
+/// And so has a spread.
+pub fn spread_one_kind()
+    ensures { SpreadOneKind }
 {}

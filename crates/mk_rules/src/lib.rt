@@ -8,12 +8,14 @@ mod laws;
 
 pub use examples::{
     example_answers, example_judged_afresh, example_markets, example_order, example_quotes,
-    example_refusals, example_resolution, example_run, example_settlement, example_withdrawal,
+    example_refusals, example_resolution, example_run, example_settlement, example_spread_order,
+    example_spread_quotes, example_spread_refusals, example_spreads, example_withdrawal,
     example_worst,
 };
 pub use laws::{
     allowed_keeps, always_answered, bounded_keeps, judged_exactly, names_keep_bounds, one_kind,
     one_refusal, ready_keeps, replies_have_texts, run_is_bounded, run_is_ready, run_keeps,
     run_keeps_ready, run_settles, run_stands, run_stays_bounded, runs_exist, runs_join,
-    settlement_keeps, state_stays_possible, unquoted_is_ready,
+    settlement_keeps, spread_judged_exactly, spread_one_kind, state_stays_possible,
+    unquoted_is_ready,
 };

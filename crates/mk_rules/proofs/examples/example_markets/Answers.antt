@@ -14,6 +14,7 @@ returns c =
     record {
       coin_is = market _ _ 1000 are.coin_is (omega arith) (omega arith);
       one_is = market _ _ 1 are.coin_is (omega arith) (omega arith);
+      die_is = market _ _ 1000 are.die_is (omega arith) (omega arith);
       weather_is = market _ _ 1000 are.weather_is (omega arith) (omega arith);
       chain_is = market _ _ 1000 are.chain_is (omega arith) (omega arith);
     }
