@@ -23,7 +23,7 @@ use Rattle.mk_beliefs.specs.Meanings.{weights_of}
 use Rattle.mk_assets.specs.declared.assets.Assets.{Assets}
 use Rattle.mk_assets.specs.Holdings.{Holding, Owns}
 use Rattle.mk_cash.specs.declared.ledger.Account.{Account}
-use Rattle.mk_quote.specs.declared.quote.Quote.{Quote}
+use Rattle.mk_market.specs.declared.last_quote.LastQuote.{LastQuote}
 use Rattle.mk_command.specs.declared.command.Command.TheVariants.{Price, Worst}
 use Rattle.mk_reply.specs.declared.payments.Payment.{Payment}
 use Rattle.mk_reply.specs.declared.reply.Reply.TheVariants.{Price as Priced, Worst as Worsted}
@@ -108,7 +108,7 @@ module _ {P A Plan : Type 0} (weights_stand : P → Meaning → Type 0) (gains_s
 
     pub worst_next : (low high : ℕ) → standing_of journal (with_assets members user now) ≡ after (market_of file) (standing_of journal members) (OfCommand (Worst name)) (Worsted low high)
     worst_next low high =
-        ap (λ (qs : List (Option Quote)). record { history = journal.history; quotes = map (option_map quoted) qs }) (quotes_same members user before now there)
+        ap (λ (qs : List (Option LastQuote)). record { history = journal.history; quotes = map (option_map quoted) qs }) (quotes_same members user before now there)
         ∙ none_appended (market_of file) (standing_of journal members) (Worst name) (Worsted low high) refl refl
 
     pub worst_kept : ((h : Holding) → Owns gains_stand before h → Owns gains_stand now h)

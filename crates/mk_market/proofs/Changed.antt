@@ -5,7 +5,7 @@ use Rattle.std.proofs.lemmas.List.{length-set, map-set}
 use Rattle.std.proofs.lemmas.Option.{slice_get-get_or, slice_get-map, get_or_from_slice_get}
 use Rattle.std.proofs.Math.Seq.{map-set_same}
 use Rattle.mk_assets.specs.declared.assets.Assets.{Assets}
-use Rattle.mk_quote.specs.declared.quote.Quote.{Quote}
+use Rattle.mk_market.specs.declared.last_quote.LastQuote.{LastQuote}
 use Rattle.mk_market.specs.declared.users.Member.{Member}
 use Rattle.mk_market.specs.Members.{names_of, assets_of, quotes_of, with_member, with_quote, with_assets}
 use Rattle.mk_market.specs.inner.Enrolled.{IsEnrolled}
@@ -58,13 +58,13 @@ module _ {E P X : Type 0} (f : Member E P → X) (change : Member E P → Member
 
 -- what callers read of users of whom one was given a quote, or had the assets written to
 module _ {E P : Type 0} (members : List (Member E P)) (user : ℕ) where
-  pub names_quoted : (quote : Quote) → names_of (with_quote members user quote) ≡ names_of members
+  pub names_quoted : (quote : LastQuote) → names_of (with_quote members user quote) ≡ names_of members
   names_quoted quote = kept_by (λ (m : Member E P). m.name) _ members user (λ m. refl)
 
-  pub assets_quoted : (quote : Quote) → assets_of (with_quote members user quote) ≡ assets_of members
+  pub assets_quoted : (quote : LastQuote) → assets_of (with_quote members user quote) ≡ assets_of members
   assets_quoted quote = kept_by (λ (m : Member E P). m.assets) _ members user (λ m. refl)
 
-  pub quotes_quoted : (quote : Quote) → user < length members → quotes_of (with_quote members user quote) ≡ slice_set (quotes_of members) user (Some quote)
+  pub quotes_quoted : (quote : LastQuote) → user < length members → quotes_of (with_quote members user quote) ≡ slice_set (quotes_of members) user (Some quote)
   quotes_quoted quote within = set_by (λ (m : Member E P). m.quote) _ members user (Some quote) (λ m. refl) within
 
   pub names_written : (assets : Assets E P) → names_of (with_assets members user assets) ≡ names_of members

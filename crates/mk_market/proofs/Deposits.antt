@@ -14,7 +14,7 @@ use Rattle.mk_assets.specs.declared.assets.Assets.{Assets}
 use Rattle.mk_assets.specs.Holdings.{Holding, Owns, CanDeposit, max_bits, with_deposit}
 use Rattle.mk_cash.specs.declared.ledger.Account.{Account}
 use Rattle.mk_cash.specs.Accounts.{account_of}
-use Rattle.mk_quote.specs.declared.quote.Quote.{Quote}
+use Rattle.mk_market.specs.declared.last_quote.LastQuote.{LastQuote}
 use Rattle.mk_command.specs.declared.command.Command.TheVariants.{Deposit}
 use Rattle.mk_reply.specs.declared.payments.Payment.{Payment}
 use Rattle.mk_reply.specs.declared.reply.Reply.{Reply}
@@ -64,7 +64,7 @@ module _ {P A Plan : Type 0} (weights_stand : P → Meaning → Type 0) (gains_s
 
     next : standing_of new_journal (with_assets members user now) ≡ after (market_of file) (standing_of journal members) (OfCommand (Deposit name bits)) reply
     unfolding reply
-    next = ap₂ (λ (H : List Entry) (qs : List (Option Quote)). record { history = H; quotes = map (option_map quoted) qs })
+    next = ap₂ (λ (H : List Entry) (qs : List (Option LastQuote)). record { history = H; quotes = map (option_map quoted) qs })
         (history ∙ ap (λ (v : ℕ). journal.history ++ Deposits v bits ∷ []) is_user.number) same_quotes
 
     -- the market is kept
@@ -84,7 +84,7 @@ module _ {P A Plan : Type 0} (weights_stand : P → Meaning → Type 0) (gains_s
           owned = owned_one file.net file.tree H gains_stand members user before now (Deposits user bits) there kept.owns
               (subst (Owns gains_stand now) (sym (deposit_holding file.net file.tree H user bits)) (deposits (holding_of file.net file.tree H user) (kept.owns user before there) bits_fit))
               (deposit_others file.net file.tree H user bits);
-          none_quoted = λ u quote at. subst (λ (qs : List (Option Quote)). slice_get qs u ≡ Some (Some quote)) same_quotes at;
+          none_quoted = λ u quote at. subst (λ (qs : List (Option LastQuote)). slice_get qs u ≡ Some (Some quote)) same_quotes at;
           accounts = rw paid (accounts_deposited (market_of file) H (unsettled (market_of file) H (Deposit name bits) none) accounts user bits (file.points_per_bit * bits) is_user.within refl kept.accounts_kept);
           room = λ unsettled. kept.room (sym (not_there H (Deposits user bits) is_settlement refl) ∙ unsettled);
         })

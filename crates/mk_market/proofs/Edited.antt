@@ -1,26 +1,21 @@
 -- A user is quoted limits, or an edit is judged by them.
-use Rattle.std.specs.Prelude.{◌≡◌, ℕ, ◌+◌, ◌<◌, ◌==◌, List, [], ◌∷◌, ◌++◌, ◌⊎◌, Bool, true, false, if◌then◌else◌, length, map, Option, Some, None, option_map, option_and_then, option_to_list, MatchOption, IsSomeAnd, Result, Ok, Err, IsErrAnd, ⊤, slice_get, slice_set}
-use Rattle.std.proofs.Common.{refl, sym, ap, ap₂, ◌∙◌, subst, inl, inr, arith, append-nil}
+use Rattle.std.specs.Prelude.{◌≡◌, ℕ, ◌+◌, ◌==◌, List, [], ◌∷◌, ◌++◌, Bool, true, false, if◌then◌else◌, length, map, Option, Some, None, option_map, option_and_then, option_to_list, MatchOption, IsSomeAnd, Result, Ok, Err, IsErrAnd, ⊤, slice_get}
+use Rattle.std.proofs.Common.{refl, sym, ap, ap₂, ◌∙◌, subst, inl, inr, arith}
 use Rattle.std.proofs.lemmas.Bool.{eqb-true}
-use Rattle.std.proofs.lemmas.List.{map-set, length_push}
+use Rattle.std.proofs.lemmas.List.{length_push}
 use Rattle.std.proofs.lemmas.Option.{slice_get-map}
 use Rattle.mk_net.specs.declared.words.QuestionText.{QuestionText}
 use Rattle.mk_net.specs.Network.{Variable}
 use Rattle.mk_net.specs.Asked.{Asked, IsUnits}
-use Rattle.mk_exact.specs.History.{Entry, Trade, join_in, users, revision, is_settlement}
+use Rattle.mk_exact.specs.History.{Entry, Trade, revision}
 use Rattle.mk_exact.specs.Limits.{Inside}
-use Rattle.mk_exact.specs.Market.{Market, network_of}
 use Rattle.mk_exact.specs.Sides.{AreRightLimits, IsFairPair, ratio_in}
 use Rattle.mk_exact.proofs.ExistMarkets.{sides_exist}
 use Rattle.mk_tree.specs.Given.{GivenTree}
 use Rattle.mk_file.specs.declared.market_file.MarketFile.{MarketFile}
 use Rattle.mk_file.specs.MarketOf.{market_of}
-use Rattle.mk_engine.specs.Meaning.{Meaning, RatioOf, with_factor}
-use Rattle.mk_beliefs.specs.Meanings.{weights_of}
-use Rattle.mk_assets.specs.declared.assets.Assets.{Assets}
-use Rattle.mk_assets.specs.Holdings.{Holding}
+use Rattle.mk_engine.specs.Meaning.{Meaning}
 use Rattle.mk_cash.specs.declared.ledger.Account.{Account}
-use Rattle.mk_command.specs.declared.command.Command.{Command}
 use Rattle.mk_command.specs.declared.command.Command.TheVariants.{Limits, Edit}
 use Rattle.mk_quote.specs.declared.quote.Quote.{Quote}
 use Rattle.mk_quote.specs.Bounds.{AreRightFor, AreFairAndSolvent}
@@ -30,27 +25,26 @@ use Rattle.mk_reply.specs.declared.refusal.Refusal.{Refusal}
 use Rattle.mk_reply.specs.declared.refusal.Refusal.TheVariants.{Beyond}
 use Rattle.mk_reply.specs.declared.reply.Reply.{Reply}
 use Rattle.mk_reply.specs.declared.reply.Reply.TheVariants.{Limits as Limited, Traded, Refused}
-use Rattle.mk_rules.specs.Answers.{IsLimits, IsTrade, IsBeyond, IsJudged, IsJudgedAfresh, with_limits}
+use Rattle.mk_rules.specs.Answers.{IsLimits, IsTrade, IsBeyond, IsJudged, IsJudgedAfresh, with_limits, with_quote}
 use Rattle.mk_rules.specs.Refusals.{question_named, user_number, first_refusal}
 use Rattle.mk_rules.specs.Quotes as rules
 use Rattle.mk_rules.specs.Transcript.{OfCommand, IsAllowedFor, after}
-use Rattle.mk_rules.specs.Standings.{IsReady}
-use Rattle.mk_rules.proofs.Ready.{ready_keeps, edit_refused}
+use Rattle.mk_rules.proofs.Ready.{edit_refused}
 use Rattle.mk_rules.proofs.Quoted.{same_question_is}
-use Rattle.mk_answers.specs.Open.{IsOpen, holding_of}
+use Rattle.mk_answers.specs.Open.{IsOpen}
 use Rattle.mk_answers.proofs.Weaker.{right_by_bounds, fair_by_bounds}
+use Rattle.mk_market.specs.declared.last_quote.LastQuote.{LastQuote}
+use Rattle.mk_market.specs.declared.last_quote.LastQuote.TheVariants.{Limits as LastLimits, Bounds as LastBounds}
 use Rattle.mk_market.specs.declared.users.Member.{Member}
 use Rattle.mk_market.specs.Journals.{JournalOf}
-use Rattle.mk_market.specs.Members.{names_of, assets_of, quotes_of, with_quote}
+use Rattle.mk_market.specs.Members.{quotes_of}
 use Rattle.mk_market.specs.Refused.{IsUser, IsQuestionFor}
 use Rattle.mk_market.specs.Trading.{Trading, IsAnswered, reply_of}
 use Rattle.mk_market.specs.inner.Keeping.{quoted, standing_of, IsKeptQuote, IsKept}
-use Rattle.mk_market.specs.inner.Quoting.{OwnsAt, IsQuoteOf}
-use Rattle.mk_market.proofs.Accounted.{accounts_kept}
-use Rattle.mk_market.proofs.Appends.{not_there, not_found}
-use Rattle.mk_market.proofs.Growing.{is_open, kept_grown}
-use Rattle.mk_market.proofs.Replies.{answer_allowed, refusal_allowed, none_appended, unsettled}
-use Rattle.mk_market.proofs.Lent.{in_range, read_set, names_beside, assets_beside, quotes_set}
+use Rattle.mk_market.specs.inner.Quoting.{IsQuoteOf}
+use Rattle.mk_market.proofs.Growing.{is_open}
+use Rattle.mk_market.proofs.Quotes.{trading, AreQuoted, quote_said, standing_quoted}
+use Rattle.mk_market.proofs.Replies.{answer_allowed, refusal_allowed, none_appended}
 
 -- ---- a refusal
 
@@ -75,11 +69,11 @@ edit_refused_answered old known same name q X seen why (Err found) e refusal =
 -- ---- a quote
 
 module _ (network : List Variable) (tree : GivenTree) (H : List Entry) (u : ℕ) (asked : Asked) (quote : Quote) (is : IsQuoteOf network tree H u asked quote) where
-  pub kept_quote : IsKeptQuote network tree H u quote
+  pub kept_quote : IsKeptQuote network tree H u (LastLimits quote)
   kept_quote = record { same_user = is.same_user; not_later = omega (arith, is.at_present); current = λ same. is.current }
 
   -- as the rules see it
-  pub quoted_is : quoted quote ≡ record { says = rules.EditLimits asked (limits_of quote); at = revision H }
+  pub quoted_is : quoted (LastLimits quote) ≡ record { says = rules.EditLimits asked (limits_of quote); at = revision H }
   quoted_is = ap₂ (λ (a : Asked) (n : ℕ). record { says = rules.EditLimits a (limits_of quote); at = n }) is.question is.at_present
 
   module _ (open_for : IsOpen network tree H) where
@@ -97,34 +91,10 @@ module _ (network : List Variable) (tree : GivenTree) (H : List Entry) (u : ℕ)
         subst (λ (a : Asked). IsFairPair network H u a X hit miss) is.question
         (fair_by_bounds network H u (question_of quote) (bounds_of quote) has.hit has.miss has.sides (is.current.bounds has.hit has.miss has.sides) X hit miss fair)
 
-some_is : {X : Type 0} (x y : X) → Some x ≡ Some y → x ≡ y
-some_is x y e = cc
-
--- what holds of each last quote holds once one more was set of which it holds
-each_set : (P : ℕ → Quote → Type 0) (user : ℕ) (quote : Quote) (qs : List (Option Quote)) → P user quote → ((u : ℕ) (held : Quote) → slice_get qs u ≡ Some (Some held) → P u held)
-    → (u : ℕ) (held : Quote) → slice_get (slice_set qs user (Some quote)) u ≡ Some (Some held) → P u held
-each_set P user quote qs new old u held at = by (read_set qs user u (Some quote) (Some held) at)
-  where
-    by : ((u ≡ user) × (Some held ≡ Some quote)) ⊎ (slice_get qs u ≡ Some (Some held)) → P u held
-    by (inl p) = subst (λ (n : ℕ). P n held) (sym (p.0)) (subst (P user) (sym (some_is held quote (p.1))) new)
-    by (inr e) = old u held e
-
--- ---- quotes in the standing
-
-module _ {A Plan : Type 0} (market : Market) (tree : GivenTree) (H : List Entry) (members mid : List (Member A Plan)) (same_quotes : quotes_of mid ≡ quotes_of members) (user : ℕ)
-    (within : user < length mid) (asked : Asked) (quote : Quote) (is : IsQuoteOf (network_of market H) tree H user asked quote) (name : List ℕ) (q : QuestionText)
-    (numbered : user ≡ user_number H name) (named : question_named (network_of market H) q ≡ Some asked) where
-  -- the user was quoted its limits
-  pub limits_quoted : map (option_map quoted) (quotes_of (with_quote mid user quote)) ≡ with_limits market H (map (option_map quoted) (quotes_of members)) name q (limits_of quote)
-  limits_quoted =
-      ap (map (option_map quoted)) (quotes_set mid user quote within ∙ ap (λ (qs : List (Option Quote)). slice_set qs user (Some quote)) same_quotes)
-      ∙ map-set (option_map quoted) (quotes_of members) user (Some quote)
-      ∙ ap₂ (λ (n : ℕ) (o : Option rules.Quote). slice_set (map (option_map quoted) (quotes_of members)) n o) numbered
-      (ap (λ (said : rules.Quote). Some said) (quoted_is (network_of market H) tree H user asked quote is)
-      ∙ sym (ap (option_map (λ (a : Asked). record { says = rules.EditLimits a (limits_of quote); at = revision H })) named))
+-- ---- limits in the standing
 
 -- the limits that the rules find in a user's last quote
-current_in : Option (Option Quote) → Asked → ℕ → Option rules.Interval
+current_in : Option (Option LastQuote) → Asked → ℕ → Option rules.Interval
 current_in o asked now = rules.current_limits (option_and_then (λ held. held) (option_map (option_map quoted) o)) asked now
 
 -- are those of the quote that judges
@@ -145,15 +115,22 @@ module _ (asked : Asked) (now : ℕ) (quote : Quote) where
       in_question held (rules.same_question (question_of held) asked)
       (λ same. sym (h refl (record { same_question = same_question_is (question_of held) asked same; same_revision = at refl })))
 
-  current_is : (o : Option (Option Quote)) → ((held : Quote) → o ≡ Some (Some held) → IsFor held asked now → quote ≡ held) → TheSame (current_in o asked now)
+  -- bounds of a spread hold none
+  none_in : (b : Bool) → TheSame (if b then None else None)
+  unfolding TheSame
+  none_in false = tt
+  none_in true = tt
+
+  current_is : (o : Option (Option LastQuote)) → ((held : Quote) → o ≡ Some (Some (LastLimits held)) → IsFor held asked now → quote ≡ held) → TheSame (current_in o asked now)
   unfolding TheSame current_in
   current_is None h = tt
   current_is (Some None) h = tt
-  current_is (Some (Some held)) h = in_quote held (revision_of held == now) (λ same for. h held refl for) (λ same. eqb-true (revision_of held) now same)
+  current_is (Some (Some (LastLimits held))) h = in_quote held (revision_of held == now) (λ same for. h held refl for) (λ same. eqb-true (revision_of held) now same)
+  current_is (Some (Some (LastBounds held))) h = none_in _
 
 -- an edit is judged by a quote: by its limits, where the user was quoted them
 pub judged_by : {A Plan : Type 0} (members : List (Member A Plan)) (user : ℕ) (asked : Asked) (now : ℕ) (quote : Quote)
-    → ((held : Quote) → slice_get (quotes_of members) user ≡ Some (Some held) → IsFor held asked now → quote ≡ held)
+    → ((held : Quote) → slice_get (quotes_of members) user ≡ Some (Some (LastLimits held)) → IsFor held asked now → quote ≡ held)
     → (Afresh : Type 0) (By : rules.Interval → Type 0) → Afresh → By (limits_of quote)
     → MatchOption (rules.current_limits (rules.last_quote (map (option_map quoted) (quotes_of members)) user) asked now) Afresh By
 unfolding current_in TheSame
@@ -169,7 +146,7 @@ judged_by members user asked now quote last Afresh By afresh by =
 -- an edit that no refusal of the table meets is answered as the quote judges it
 module _ {A Plan : Type 0} (file : MarketFile) (journal : JournalOf) (members : List (Member A Plan)) (name : List ℕ) (user : ℕ) (is_user : IsUser journal.history name user)
     (q : QuestionText) (asked : Asked) (is_question : IsQuestionFor (market_of file) file.tree journal.history q asked) (quote : Quote)
-    (last : (held : Quote) → slice_get (quotes_of members) user ≡ Some (Some held) → IsFor held asked (revision journal.history) → quote ≡ held) where
+    (last : (held : Quote) → slice_get (quotes_of members) user ≡ Some (Some (LastLimits held)) → IsFor held asked (revision journal.history) → quote ≡ held) where
   pub edit_allowed : (X : ℕ) (seen : Option ℕ) (reply : Reply) → None ≡ first_refusal (market_of file) journal.history (Edit name q X seen)
       → IsJudgedAfresh file.net journal.history user asked X reply → IsJudged file.net journal.history user asked X (limits_of quote) reply
       → IsAllowedFor (market_of file) (standing_of journal members) (OfCommand (Edit name q X seen)) reply
@@ -187,58 +164,20 @@ module _ {A Plan : Type 0} (file : MarketFile) (journal : JournalOf) (members : 
 
 -- ---- the market
 
--- a market as its callers see it
-abbrev pub trading : {A Plan : Type 0} → MarketFile → JournalOf → List (Member A Plan) → Trading
-trading file journal members = record { market = market_of file; standing = standing_of journal members }
-
 module _ {P A Plan : Type 0} (weights_stand : P → Meaning → Type 0) (gains_stand : A → Meaning → Type 0) (plan_for : Plan → List Variable → GivenTree → Type 0)
-    (file : MarketFile) (prices new_prices : P) (plan : Plan) (members mid new_members : List (Member A Plan)) (accounts : List Account) (journal : JournalOf)
+    (file : MarketFile) (prices : P) (plan : Plan) (members new_members : List (Member A Plan)) (accounts : List Account) (journal : JournalOf)
     (payments : Option (List Payment)) (kept : IsKept weights_stand gains_stand plan_for file prices plan members accounts journal payments)
-    (same_names : names_of mid ≡ names_of members) (same_quotes : quotes_of mid ≡ quotes_of members)
     (name : List ℕ) (user : ℕ) (is_user : IsUser journal.history name user) (q : QuestionText) (asked : Asked)
     (is_question : IsQuestionFor (market_of file) file.tree journal.history q asked)
-    (quote : Quote) (is : IsQuoteOf file.net file.tree journal.history user asked quote) (set : new_members ≡ with_quote mid user quote) where
-  within : user < length mid
-  within = in_range mid (users journal.history) user (same_names ∙ kept.named) is_user.within
-
-  quotes_kept_then : (u : ℕ) (held : Quote) → slice_get (quotes_of new_members) u ≡ Some (Some held) → IsKeptQuote file.net file.tree journal.history u held
-  quotes_kept_then u held at =
-      each_set (IsKeptQuote file.net file.tree journal.history) user quote (quotes_of members) (kept_quote file.net file.tree journal.history user asked quote is) kept.quotes_kept u held
-      (subst (λ (qs : List (Option Quote)). slice_get qs u ≡ Some (Some held))
-      (ap quotes_of set ∙ quotes_set mid user quote within ∙ ap (λ (qs : List (Option Quote)). slice_set qs user (Some quote)) same_quotes) at)
-
-  ready_then : (command : Command) (reply : Reply) → IsAnswered (trading file journal members) (trading file journal new_members) command reply → IsReady (market_of file) (standing_of journal new_members)
-  ready_then command reply answered =
-      subst (IsReady (market_of file)) (sym answered.next) (ready_keeps (market_of file) (standing_of journal members) (OfCommand command) reply kept.ready answered.allowed)
-
-  -- a market that was kept is kept beside a new quote, where its answer is allowed
-  pub kept_quoted : (still_prices : (m : Meaning) → weights_stand prices m → weights_stand new_prices m)
-      → (still_assets : (u : ℕ) (h : Holding) → OwnsAt gains_stand members u h → OwnsAt gains_stand mid u h)
-      → (command : Command) (reply : Reply) → IsAnswered (trading file journal members) (trading file journal new_members) command reply
-      → IsKept weights_stand gains_stand plan_for file new_prices plan new_members accounts journal payments
-  kept_quoted still_prices still_assets command reply answered = record {
-    legal = kept.legal;
-    tree = kept.tree;
-    planned = kept.planned;
-    prices_stand = still_prices (weights_of file.net file.tree journal.history) kept.prices_stand;
-    named = ap names_of set ∙ names_beside mid user quote ∙ same_names ∙ kept.named;
-    owns = λ u assets at.
-        still_assets u (holding_of file.net file.tree journal.history u) (kept.owns u) assets
-        (subst (λ (xs : List (Assets A Plan)). slice_get xs u ≡ Some assets) (ap assets_of set ∙ assets_beside mid user quote) at);
-    quotes_kept = quotes_kept_then;
-    accounts_kept = kept.accounts_kept;
-    ready = ready_then command reply answered;
-    bounded = kept.bounded;
-    max_trades = kept.max_trades;
-    room = kept.room;
-  }
-
+    (quote : Quote) (is : IsQuoteOf file.net file.tree journal.history user asked quote) (are : AreQuoted gains_stand members new_members user (LastLimits quote)) where
   next_quoted : standing_of journal new_members
       ≡ record { history = journal.history ++ []; quotes = with_limits (market_of file) journal.history (map (option_map quoted) (quotes_of members)) name q (limits_of quote) }
   next_quoted =
-      ap (standing_of journal) set
-      ∙ ap₂ (λ (H : List Entry) (qs : rules.Quotes). record { history = H; quotes = qs }) (sym (append-nil journal.history))
-      (limits_quoted (market_of file) file.tree journal.history members mid same_quotes user within asked quote is name q is_user.number is_question.named)
+      standing_quoted journal new_members _
+      (quote_said journal.history members new_members name user (LastLimits quote) (rules.EditLimits asked (limits_of quote)) is_user.number
+      (quoted_is file.net file.tree journal.history user asked quote is) are.quotes
+      ∙ sym (ap (λ (o : Option Asked). with_quote journal.history (map (option_map quoted) (quotes_of members)) name (option_map (λ (a : Asked). rules.EditLimits a (limits_of quote)) o))
+      is_question.named))
 
   open_for : IsOpen file.net file.tree journal.history
   open_for = is_open weights_stand gains_stand plan_for file prices plan members accounts journal payments kept
@@ -267,7 +206,7 @@ module _ {P A Plan : Type 0} (weights_stand : P → Meaning → Type 0) (gains_s
   -- an edit that is outside of the quote's limits
   pub beyond_answered : (X : ℕ) (seen : Option ℕ) (limits : Option (ℕ × ℕ)) → None ≡ first_refusal (market_of file) journal.history (Edit name q X seen)
       → limits ≡ limits_of quote → AreRightFor (bounds_of quote) limits → ¬ Inside (limits_of quote) X
-      → ((held : Quote) → slice_get (quotes_of members) user ≡ Some (Some held) → IsFor held asked (revision journal.history) → quote ≡ held)
+      → ((held : Quote) → slice_get (quotes_of members) user ≡ Some (Some (LastLimits held)) → IsFor held asked (revision journal.history) → quote ≡ held)
       → IsAnswered (trading file journal members) (trading file journal new_members) (Edit name q X seen) (Refused (Beyond limits))
   beyond_answered X seen limits none its right outside last =
       let reply = Refused (Beyond (limits_of quote)) in
@@ -288,17 +227,11 @@ module _ {P A Plan : Type 0} (weights_stand : P → Meaning → Type 0) (gains_s
 
 -- ---- a trade
 
-module _ {P A Plan : Type 0} (weights_stand : P → Meaning → Type 0) (gains_stand : A → Meaning → Type 0) (plan_for : Plan → List Variable → GivenTree → Type 0)
-    (file : MarketFile) (prices : P) (plan : Plan) (members : List (Member A Plan)) (accounts : List Account) (journal : JournalOf)
-    (payments : Option (List Payment)) (kept : IsKept weights_stand gains_stand plan_for file prices plan members accounts journal payments)
-    (name : List ℕ) (user : ℕ) (is_user : IsUser journal.history name user) (q : QuestionText) (asked : Asked)
-    (is_question : IsQuestionFor (market_of file) file.tree journal.history q asked)
+module _ (file : MarketFile) (journal : JournalOf) (open_for : IsOpen file.net file.tree journal.history) (name : List ℕ) (user : ℕ) (is_user : IsUser journal.history name user)
+    (q : QuestionText) (asked : Asked) (is_question : IsQuestionFor (market_of file) file.tree journal.history q asked)
     (quote : Quote) (is : IsQuoteOf file.net file.tree journal.history user asked quote) (X hit miss : ℕ) (fair : AreFairAndSolvent (bounds_of quote) X hit miss) where
-  opened : IsOpen file.net file.tree journal.history
-  opened = is_open weights_stand gains_stand plan_for file prices plan members accounts journal payments kept
-
   pair : IsFairPair file.net journal.history user asked X hit miss
-  pair = fair_pair file.net file.tree journal.history user asked quote is opened X hit miss fair
+  pair = fair_pair file.net file.tree journal.history user asked quote is open_for X hit miss fair
 
   -- both numbers are units
   pub hit_units : IsUnits hit
@@ -307,12 +240,12 @@ module _ {P A Plan : Type 0} (weights_stand : P → Meaning → Type 0) (gains_s
   pub miss_units : IsUnits miss
   miss_units = record { positive = pair.miss_units.fair.positive; fits = pair.miss_units.fair.fits }
 
-  module _ (seen : Option ℕ) (none : None ≡ first_refusal (market_of file) journal.history (Edit name q X seen)) (inside : Inside (limits_of quote) X)
-      (last : (held : Quote) → slice_get (quotes_of members) user ≡ Some (Some held) → IsFor held asked (revision journal.history) → quote ≡ held)
-      (new_members : List (Member A Plan)) (new_journal : JournalOf)
+  module _ {A Plan : Type 0} (members new_members : List (Member A Plan)) (new_journal : JournalOf) (seen : Option ℕ)
+      (none : None ≡ first_refusal (market_of file) journal.history (Edit name q X seen)) (inside : Inside (limits_of quote) X)
+      (last : (held : Quote) → slice_get (quotes_of members) user ≡ Some (Some (LastLimits held)) → IsFor held asked (revision journal.history) → quote ≡ held)
       (history : new_journal.history ≡ journal.history ++ Trade user (ratio_in file.net asked hit miss) ∷ []) (same_quotes : quotes_of new_members ≡ quotes_of members)
       (at : ℕ) (now : at ≡ revision new_journal.history) where
-    trade_allowed : IsAllowedFor (market_of file) (standing_of journal members) (OfCommand (Edit name q X seen)) (Traded hit miss at)
+    pub trade_allowed : IsAllowedFor (market_of file) (standing_of journal members) (OfCommand (Edit name q X seen)) (Traded hit miss at)
     trade_allowed =
         let later : at ≡ revision journal.history + 1
         = now ∙ ap (λ (H : List Entry). length H) history ∙ length_push journal.history (Trade user (ratio_in file.net asked hit miss)) in
@@ -320,9 +253,9 @@ module _ {P A Plan : Type 0} (weights_stand : P → Meaning → Type 0) (gains_s
         = record { hit = hit; miss = miss; printed = ap (λ (n : ℕ). Traded hit miss n) later; fair = pair } in
         edit_allowed file journal members name user is_user q asked is_question quote last X seen (Traded hit miss at) none (inl trade) (inl (inside, trade))
 
-    trade_next : standing_of new_journal new_members ≡ after (market_of file) (standing_of journal members) (OfCommand (Edit name q X seen)) (Traded hit miss at)
+    pub trade_next : standing_of new_journal new_members ≡ after (market_of file) (standing_of journal members) (OfCommand (Edit name q X seen)) (Traded hit miss at)
     trade_next =
-        ap₂ (λ (H : List Entry) (qs : List (Option Quote)). record { history = H; quotes = map (option_map quoted) qs })
+        ap₂ (λ (H : List Entry) (qs : List (Option LastQuote)). record { history = H; quotes = map (option_map quoted) qs })
         (history
         ∙ ap (λ (o : Option Asked). journal.history ++ option_to_list (option_map (λ (a : Asked). Trade user (ratio_in file.net a hit miss)) o)) (sym is_question.named)
         ∙ ap (λ (n : ℕ). journal.history ++ option_to_list (option_map (λ (a : Asked). Trade n (ratio_in file.net a hit miss)) (question_named file.net q))) is_user.number)
@@ -330,24 +263,3 @@ module _ {P A Plan : Type 0} (weights_stand : P → Meaning → Type 0) (gains_s
 
     pub trade_answered : IsAnswered (trading file journal members) (trading file new_journal new_members) (Edit name q X seen) (Traded hit miss at)
     trade_answered = record { same_market = refl; allowed = trade_allowed; next = trade_next }
-
-    pub trade_kept : (new_prices : P) → new_journal.max_trades ≡ journal.max_trades
-        → ((m : Meaning) → weights_stand prices m → weights_stand new_prices (with_factor (RatioOf (ratio_in file.net asked hit miss)) m))
-        → names_of new_members ≡ names_of members
-        → ((u : ℕ) → OwnsAt gains_stand new_members u (holding_of file.net file.tree (journal.history ++ Trade user (ratio_in file.net asked hit miss) ∷ []) u))
-        → IsKept weights_stand gains_stand plan_for file new_prices plan new_members accounts new_journal payments
-    trade_kept new_prices limit grown names owned =
-        let e : Entry = Trade user (ratio_in file.net asked hit miss) in
-        let H = journal.history in
-        kept_grown weights_stand gains_stand plan_for file prices new_prices plan members new_members accounts accounts journal new_journal payments payments
-        e (Edit name q X seen) (Traded hit miss at) tt kept trade_allowed trade_next
-        (record {
-          history = history;
-          limit = limit;
-          prices_grown = grown;
-          names = names ∙ kept.named ∙ sym (not_found H (Trade user (ratio_in file.net asked hit miss)) join_in refl);
-          owned = owned;
-          none_quoted = λ u quote at. subst (λ (qs : List (Option Quote)). slice_get qs u ≡ Some (Some quote)) same_quotes at;
-          accounts = accounts_kept (market_of file) H (unsettled (market_of file) H (Edit name q X seen) none) (Trade user (ratio_in file.net asked hit miss)) accounts refl refl (λ u. (refl, refl)) kept.accounts_kept;
-          room = λ unsettled. kept.room (sym (not_there H (Trade user (ratio_in file.net asked hit miss)) is_settlement refl) ∙ unsettled);
-        })

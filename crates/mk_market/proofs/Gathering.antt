@@ -13,7 +13,7 @@ use Rattle.mk_net.specs.Firsts.{fault_if, or_else}
 use Rattle.mk_net.specs.Network.{Variable}
 use Rattle.mk_net.specs.Named.{pair_named, variable_at, variable_named}
 use Rattle.mk_net.specs.Texts.{same_text}
-use Rattle.mk_net.proofs.Named.{pair_variable_name, pair_variable_in_range, pair_value_in_range}
+use Rattle.mk_net.proofs.Named.{pair_variable_in_range, pair_value_in_range}
 use Rattle.mk_net.proofs.SameText.{same_text_of_equal, equal_of_same_text}
 use Rattle.mk_exact.specs.Proper.{IsPairOf}
 use Rattle.mk_reply.specs.declared.refusal.Refusal.{Refusal}
@@ -21,6 +21,7 @@ use Rattle.mk_reply.specs.declared.refusal.Refusal.TheVariants.{Unknown, Twice}
 use Rattle.mk_rules.specs.Refusals.{pairs_of, names_in, known_pairs, question_named, first_repeat, unknown, twice}
 use Rattle.mk_rules.proofs.Unrefused.{variable_known}
 use Rattle.mk_market.specs.inner.Gathered.{IsGathered}
+use Rattle.mk_market.proofs.KnownVariables.{IsNumberOf, name_of_number}
 
 -- the variables of some pairs, the last first, before some names
 unfoldable pub onto : List (List ℕ) → List PairText → List (List ℕ)
@@ -50,7 +51,7 @@ known_more network (p ∷ ps) (suc k) d y h named =
     at None = refl
     at (Some z) = refl
 
-speaks_more : (condition : List Pair) (y : Pair) (v : ℕ) → speaks_of (condition ++ y ∷ []) v ≡ (speaks_of condition v || (v == y.variable))
+pub speaks_more : (condition : List Pair) (y : Pair) (v : ℕ) → speaks_of (condition ++ y ∷ []) v ≡ (speaks_of condition v || (v == y.variable))
 speaks_more [] y v = at (v == y.variable)
   where
     at : (b : Bool) → (b || false) ≡ b
@@ -78,43 +79,40 @@ last_unspoken (x ∷ condition) y h = at (y.variable == x.variable) refl (speaks
 
 module _ (network : List Variable) where
   -- known names are the same text exactly where they have the same number
-  names_agree : (a b : PairText) (x y : Pair) → pair_named network a ≡ Some x → pair_named network b ≡ Some y → same_text a.variable b.variable ≡ (x.variable == y.variable)
-  names_agree a b x y e f = at (x.variable == y.variable) refl (same_text a.variable b.variable) refl
+  names_agree : (a b : List ℕ) (x y : ℕ) → IsNumberOf network a x → IsNumberOf network b y → same_text a b ≡ (x == y)
+  names_agree a b x y e f = at (x == y) refl (same_text a b) refl
     where
-      equal : x.variable ≡ y.variable → a.variable ≡ b.variable
-      equal h = sym (pair_variable_name network a x (sym e)) ∙ ap (λ (k : ℕ). (variable_at network k).name) h ∙ pair_variable_name network b y (sym f)
+      equal : x ≡ y → a ≡ b
+      equal h = sym (name_of_number network a x e.0 e.1) ∙ ap (λ (k : ℕ). (variable_at network k).name) h ∙ name_of_number network b y f.0 f.1
 
-      one_number : a.variable ≡ b.variable → x.variable ≡ y.variable
-      one_number h =
-          let first = variable_known network a x e in
-          let second = variable_known network b y f in
-          number (sym first.1 ∙ ap (variable_named network) h ∙ second.1)
+      one_number : a ≡ b → x ≡ y
+      one_number h = number (sym e.1 ∙ ap (variable_named network) h ∙ f.1)
         where
           number : {i j : ℕ} {v w : Variable} → ◌≡◌ {A = Option (ℕ × Variable)} (Some (i, v)) (Some (j, w)) → i ≡ j
           number {i = i} h = ap (λ (o : Option (ℕ × Variable)). elim o [ None ↦ i | Some r ↦ r.0 ]) h
 
-      at : (s : Bool) → (x.variable == y.variable) ≡ s → (t : Bool) → same_text a.variable b.variable ≡ t → same_text a.variable b.variable ≡ s
-      at true i t j = same_text_of_equal a.variable b.variable (equal (eqb-true x.variable y.variable i))
-      at false i true j = absurd (let one = eq-eqb x.variable y.variable (one_number (equal_of_same_text a.variable b.variable j)) in cc)
+      at : (s : Bool) → (x == y) ≡ s → (t : Bool) → same_text a b ≡ t → same_text a b ≡ s
+      at true i t j = same_text_of_equal a b (equal (eqb-true x y i))
+      at false i true j = absurd (let one = eq-eqb x y (one_number (equal_of_same_text a b j)) in cc)
       at false i false j = j
 
   -- a name that is known stands among the target's and the earlier ones exactly where its variable does
-  pub AreMatched : List PairText → ℕ → List Pair → PairText → Pair → Type 0
+  pub AreMatched : List PairText → ℕ → List Pair → List ℕ → ℕ → Type 0
   AreMatched pairs k condition t x = (p : PairText) (z : Pair) → pair_named network p ≡ Some z
-      → list_any (same_text p.variable) (onto (t.variable ∷ []) (take k pairs)) ≡ ((z.variable == x.variable) || speaks_of condition z.variable)
+      → list_any (same_text p.variable) (onto (t ∷ []) (take k pairs)) ≡ ((z.variable == x) || speaks_of condition z.variable)
 
   -- the first repeat behind a target, where so many pairs were gathered
-  pub FirstAt : List PairText → ℕ → List Pair → Option (List ℕ) → PairText → Pair → Type 0
-  FirstAt pairs k condition repeated t x = first_repeat (t.variable ∷ []) (names_in pairs)
-      ≡ cond (speaks_of condition x.variable) (Some t.variable) (or_else repeated (first_repeat (onto (t.variable ∷ []) (take k pairs)) (names_in (drop k pairs))))
+  pub FirstAt : List PairText → ℕ → List Pair → Option (List ℕ) → List ℕ → ℕ → Type 0
+  FirstAt pairs k condition repeated t x = first_repeat (t ∷ []) (names_in pairs)
+      ≡ cond (speaks_of condition x) (Some t) (or_else repeated (first_repeat (onto (t ∷ []) (take k pairs)) (names_in (drop k pairs))))
 
   -- what is gathered of the first k pairs, each of which is known
   pub record IsGatheredTo (pairs : List PairText) (k : ℕ) (condition : List Pair) (repeated : Option (List ℕ)) : Type 0 where
     pub few : length condition ≤ k
     pub unknown : find (λ p. is_none (pair_named network p)) (drop k pairs) ≡ find (λ p. is_none (pair_named network p)) pairs
     pub whole : IfNone repeated (condition ≡ known_pairs network (take k pairs))
-    pub matched : (t : PairText) (x : Pair) → pair_named network t ≡ Some x → IfNone repeated (AreMatched pairs k condition t x)
-    pub first : (t : PairText) (x : Pair) → pair_named network t ≡ Some x → FirstAt pairs k condition repeated t x
+    pub matched : (t : List ℕ) (x : ℕ) → IsNumberOf network t x → IfNone repeated (AreMatched pairs k condition t x)
+    pub first : (t : List ℕ) (x : ℕ) → IsNumberOf network t x → FirstAt pairs k condition repeated t x
 
   pub gathered_none : (pairs : List PairText) → IsGatheredTo pairs 0 [] None
   unfolding AreMatched FirstAt onto
@@ -122,7 +120,7 @@ module _ (network : List Variable) where
     few = omega arith;
     unknown = refl;
     whole = refl;
-    matched = λ t x e p z f. ap (λ (b : Bool). b || false) (names_agree p t z x f e);
+    matched = λ t x e p z f. ap (λ (b : Bool). b || false) (names_agree p.variable t z.variable x (variable_known network p z f) e);
     first = λ t x e. refl;
   }
 
@@ -141,14 +139,14 @@ module _ (network : List Variable) where
       → condition ≡ known_pairs network (take k pairs) → condition ++ y ∷ [] ≡ known_pairs network (take (suc k) pairs)
   whole_next pairs k d y condition h named e = ap (λ (ps : List Pair). ps ++ y ∷ []) e ∙ sym (known_more network pairs k d y h named)
 
-  matched_next : (pairs : List PairText) (k : ℕ) (d : PairText) (y : Pair) (condition : List Pair) (t : PairText) (x : Pair) → k < length pairs
+  matched_next : (pairs : List PairText) (k : ℕ) (d : PairText) (y : Pair) (condition : List Pair) (t : List ℕ) (x : ℕ) → k < length pairs
       → pair_named network (slice_index_or pairs k d) ≡ Some y → AreMatched pairs k condition t x → AreMatched pairs (suc k) (condition ++ y ∷ []) t x
   unfolding AreMatched
   matched_next pairs k d y condition t x h named matched p z f =
-      ap (λ (names : List (List ℕ)). list_any (same_text p.variable) names) (onto_more (t.variable ∷ []) pairs k d h)
-      ∙ ap₂ (λ a b. a || b) (names_agree p (slice_index_or pairs k d) z y f named) (matched p z f)
-      ∙ swap (z.variable == y.variable) (z.variable == x.variable) (speaks_of condition z.variable)
-      ∙ ap (λ (b : Bool). (z.variable == x.variable) || b) (sym (speaks_more condition y z.variable))
+      ap (λ (names : List (List ℕ)). list_any (same_text p.variable) names) (onto_more (t ∷ []) pairs k d h)
+      ∙ ap₂ (λ a b. a || b) (names_agree p.variable (slice_index_or pairs k d).variable z.variable y.variable (variable_known network p z f) (variable_known network (slice_index_or pairs k d) y named)) (matched p z f)
+      ∙ swap (z.variable == y.variable) (z.variable == x) (speaks_of condition z.variable)
+      ∙ ap (λ (b : Bool). (z.variable == x) || b) (sym (speaks_more condition y z.variable))
     where
       swap : (a b c : Bool) → (a || (b || c)) ≡ (b || (c || a))
       swap true true c = refl
@@ -159,60 +157,60 @@ module _ (network : List Variable) where
       swap false false false = refl
 
   -- a pair whose variable stands already is repeated first, unless the target's was
-  repeated_now : (pairs : List PairText) (k : ℕ) (d : PairText) (y : Pair) (condition : List Pair) (t : PairText) (x : Pair) → k < length pairs
+  repeated_now : (pairs : List PairText) (k : ℕ) (d : PairText) (y : Pair) (condition : List Pair) (t : List ℕ) (x : ℕ) → k < length pairs
       → pair_named network (slice_index_or pairs k d) ≡ Some y → AreMatched pairs k condition t x → speaks_of condition y.variable ≡ true
       → FirstAt pairs k condition None t x → FirstAt pairs (suc k) condition (Some (slice_index_or pairs k d).variable) t x
   unfolding AreMatched FirstAt
   repeated_now pairs k d y condition t x h named matched spoken first =
-      first ∙ ap (λ (o : Option (List ℕ)). cond (speaks_of condition x.variable) (Some t.variable) o)
-      (repeat_here (onto (t.variable ∷ []) (take k pairs)) pairs k d h
-      ∙ ap (λ (b : Bool). cond b (Some (slice_index_or pairs k d).variable) (first_repeat ((slice_index_or pairs k d).variable ∷ onto (t.variable ∷ []) (take k pairs)) (names_in (drop (suc k) pairs)))) stands)
+      first ∙ ap (λ (o : Option (List ℕ)). cond (speaks_of condition x) (Some t) o)
+      (repeat_here (onto (t ∷ []) (take k pairs)) pairs k d h
+      ∙ ap (λ (b : Bool). cond b (Some (slice_index_or pairs k d).variable) (first_repeat ((slice_index_or pairs k d).variable ∷ onto (t ∷ []) (take k pairs)) (names_in (drop (suc k) pairs)))) stands)
     where
       always : (a b : Bool) → b ≡ true → (a || b) ≡ true
       always true b h = refl
       always false b h = h
 
-      stands : list_any (same_text (slice_index_or pairs k d).variable) (onto (t.variable ∷ []) (take k pairs)) ≡ true
-      stands = matched (slice_index_or pairs k d) y named ∙ always (y.variable == x.variable) (speaks_of condition y.variable) spoken
+      stands : list_any (same_text (slice_index_or pairs k d).variable) (onto (t ∷ []) (take k pairs)) ≡ true
+      stands = matched (slice_index_or pairs k d) y named ∙ always (y.variable == x) (speaks_of condition y.variable) spoken
 
   -- a pair whose variable does not stand yet is put at the end
-  put_now : (pairs : List PairText) (k : ℕ) (d : PairText) (y : Pair) (condition : List Pair) (t : PairText) (x : Pair) → k < length pairs
-      → pair_named network t ≡ Some x → pair_named network (slice_index_or pairs k d) ≡ Some y → AreMatched pairs k condition t x → speaks_of condition y.variable ≡ false
+  put_now : (pairs : List PairText) (k : ℕ) (d : PairText) (y : Pair) (condition : List Pair) (t : List ℕ) (x : ℕ) → k < length pairs
+      → IsNumberOf network t x → pair_named network (slice_index_or pairs k d) ≡ Some y → AreMatched pairs k condition t x → speaks_of condition y.variable ≡ false
       → FirstAt pairs k condition None t x → FirstAt pairs (suc k) (condition ++ y ∷ []) None t x
   unfolding AreMatched FirstAt
   put_now pairs k d y condition t x h target named matched unspoken first =
-      first ∙ ap (λ (o : Option (List ℕ)). cond (speaks_of condition x.variable) (Some t.variable) o)
-      (repeat_here (onto (t.variable ∷ []) (take k pairs)) pairs k d h
-      ∙ ap (λ (b : Bool). cond b (Some (slice_index_or pairs k d).variable) (first_repeat ((slice_index_or pairs k d).variable ∷ onto (t.variable ∷ []) (take k pairs)) (names_in (drop (suc k) pairs)))) stands)
-      ∙ at (speaks_of condition x.variable) (y.variable == x.variable) _ refl
-      ∙ ap₂ (λ (b : Bool) (names : List (List ℕ)). cond b (Some t.variable) (first_repeat names (names_in (drop (suc k) pairs)))) (sym (speaks_more condition y x.variable))
-      (sym (onto_more (t.variable ∷ []) pairs k d h))
+      first ∙ ap (λ (o : Option (List ℕ)). cond (speaks_of condition x) (Some t) o)
+      (repeat_here (onto (t ∷ []) (take k pairs)) pairs k d h
+      ∙ ap (λ (b : Bool). cond b (Some (slice_index_or pairs k d).variable) (first_repeat ((slice_index_or pairs k d).variable ∷ onto (t ∷ []) (take k pairs)) (names_in (drop (suc k) pairs)))) stands)
+      ∙ at (speaks_of condition x) (y.variable == x) _ refl
+      ∙ ap₂ (λ (b : Bool) (names : List (List ℕ)). cond b (Some t) (first_repeat names (names_in (drop (suc k) pairs)))) (sym (speaks_more condition y x))
+      (sym (onto_more (t ∷ []) pairs k d h))
     where
       or_false : (a b : Bool) → b ≡ false → (a || b) ≡ a
       or_false true b h = refl
       or_false false b h = h
 
-      stands : list_any (same_text (slice_index_or pairs k d).variable) (onto (t.variable ∷ []) (take k pairs)) ≡ (y.variable == x.variable)
-      stands = matched (slice_index_or pairs k d) y named ∙ or_false (y.variable == x.variable) (speaks_of condition y.variable) unspoken
+      stands : list_any (same_text (slice_index_or pairs k d).variable) (onto (t ∷ []) (take k pairs)) ≡ (y.variable == x)
+      stands = matched (slice_index_or pairs k d) y named ∙ or_false (y.variable == x) (speaks_of condition y.variable) unspoken
 
-      turned : (b : Bool) → (y.variable == x.variable) ≡ b → (x.variable == y.variable) ≡ b
-      turned true e = eq-eqb x.variable y.variable (sym (eqb-true y.variable x.variable e))
-      turned false e = other (x.variable == y.variable) refl
+      turned : (b : Bool) → (y.variable == x) ≡ b → (x == y.variable) ≡ b
+      turned true e = eq-eqb x y.variable (sym (eqb-true y.variable x e))
+      turned false e = other (x == y.variable) refl
         where
-          other : (c : Bool) → (x.variable == y.variable) ≡ c → (x.variable == y.variable) ≡ false
-          other true i = absurd (let same = eq-eqb y.variable x.variable (sym (eqb-true x.variable y.variable i)) in cc)
+          other : (c : Bool) → (x == y.variable) ≡ c → (x == y.variable) ≡ false
+          other true i = absurd (let same = eq-eqb y.variable x (sym (eqb-true x y.variable i)) in cc)
           other false i = i
 
-      same_name : (y.variable == x.variable) ≡ true → (slice_index_or pairs k d).variable ≡ t.variable
-      same_name e = equal_of_same_text (slice_index_or pairs k d).variable t.variable (names_agree (slice_index_or pairs k d) t y x named target ∙ e)
+      same_name : (y.variable == x) ≡ true → (slice_index_or pairs k d).variable ≡ t
+      same_name e = equal_of_same_text (slice_index_or pairs k d).variable t (names_agree (slice_index_or pairs k d).variable t y.variable x (variable_known network (slice_index_or pairs k d) y named) target ∙ e)
 
-      at : (a b : Bool) (later : Option (List ℕ)) → (y.variable == x.variable) ≡ b
-          → cond a (Some t.variable) (cond b (Some (slice_index_or pairs k d).variable) later) ≡ cond (a || (x.variable == y.variable)) (Some t.variable) later
+      at : (a b : Bool) (later : Option (List ℕ)) → (y.variable == x) ≡ b
+          → cond a (Some t) (cond b (Some (slice_index_or pairs k d).variable) later) ≡ cond (a || (x == y.variable)) (Some t) later
       at true b later e = refl
       at false true later e = rw (turned true e) (ap (λ (name : List ℕ). Some name) (same_name e))
       at false false later e = rw (turned false e) refl
 
-  repeated_stays : (pairs : List PairText) (k : ℕ) (condition : List Pair) (name : List ℕ) (t : PairText) (x : Pair)
+  repeated_stays : (pairs : List PairText) (k : ℕ) (condition : List Pair) (name : List ℕ) (t : List ℕ) (x : ℕ)
       → FirstAt pairs k condition (Some name) t x → FirstAt pairs (suc k) condition (Some name) t x
   unfolding FirstAt
   repeated_stays pairs k condition name t x h = h
@@ -274,7 +272,7 @@ module _ (network : List Variable) where
   gathered_all pairs k condition repeated e short g = record {
     few = omega (arith, g.few);
     whole = ended repeated (ap (λ (ps : List PairText). known_pairs network ps) (ap (λ (n : ℕ). take n pairs) e ∙ take_all pairs)) g.whole;
-    first = λ t x i. g.first t x i ∙ ap (λ (o : Option (List ℕ)). cond (speaks_of condition x.variable) (Some t.variable) o) (last t repeated);
+    first = λ t x v i. g.first t x (v, i) ∙ ap (λ (o : Option (List ℕ)). cond (speaks_of condition x) (Some t) o) (last t repeated);
   }
     where
       ended : {before after : List Pair} (o : Option (List ℕ)) → before ≡ after → IfNone o (condition ≡ before) → IfNone o (condition ≡ after)
@@ -289,8 +287,8 @@ module _ (network : List Variable) where
       drop_all [] = refl
       drop_all (p ∷ ps) = drop_all ps
 
-      last : (t : PairText) (o : Option (List ℕ)) → or_else o (first_repeat (onto (t.variable ∷ []) (take k pairs)) (names_in (drop k pairs))) ≡ o
-      last t None = ap (λ (ps : List PairText). first_repeat (onto (t.variable ∷ []) (take k pairs)) (names_in ps)) (ap (λ (n : ℕ). drop n pairs) e ∙ drop_all pairs)
+      last : (t : List ℕ) (o : Option (List ℕ)) → or_else o (first_repeat (onto (t ∷ []) (take k pairs)) (names_in (drop k pairs))) ≡ o
+      last t None = ap (λ (ps : List PairText). first_repeat (onto (t ∷ []) (take k pairs)) (names_in ps)) (ap (λ (n : ℕ). drop n pairs) e ∙ drop_all pairs)
       last t (Some name) = refl
 
 -- a pair that is known is one of the network
@@ -311,7 +309,7 @@ pub refused_for : (network : List Variable) (q : QuestionText) (target : Pair) (
 refused_for network q target ps condition repeated named same known g =
     ap (λ (o : Option Refusal). or_else o (twice (names_in (pairs_of q)))) (all_known network q target ps named same known)
     ∙ ap (λ (rest : List PairText). option_map Twice (first_repeat (q.target.variable ∷ []) (names_in rest))) (sym same)
-    ∙ ap (option_map Twice) (g.first q.target target named)
+    ∙ ap (option_map Twice) (g.first q.target.variable target.variable (variable_known network q.target target named).0 (variable_known network q.target target named).1)
 
 pub question_is : (network : List Variable) (q : QuestionText) (target : Pair) (ps : List PairText) (asked : Asked) (condition : List Pair) (repeated : Option (List ℕ)) → pair_named network q.target ≡ Some target
     → ps ≡ q.condition.items → IsGathered network ps condition repeated → repeated ≡ None → asked ≡ record { target = target; condition = condition } → question_named network q ≡ Some asked

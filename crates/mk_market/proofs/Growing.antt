@@ -13,7 +13,7 @@ use Rattle.mk_beliefs.proofs.Grown.{weights_grow}
 use Rattle.mk_assets.specs.declared.assets.Assets.{Assets}
 use Rattle.mk_assets.specs.Holdings.{Holding, Owns}
 use Rattle.mk_cash.specs.declared.ledger.Account.{Account}
-use Rattle.mk_quote.specs.declared.quote.Quote.{Quote}
+use Rattle.mk_market.specs.declared.last_quote.LastQuote.{LastQuote}
 use Rattle.mk_command.specs.declared.command.Command.{Command}
 use Rattle.mk_reply.specs.declared.payments.Payment.{Payment}
 use Rattle.mk_reply.specs.declared.reply.Reply.{Reply}
@@ -40,7 +40,7 @@ market_is file legal = record {
 }
 
 -- after an entry a quote is of an earlier revision
-pub quote_later : (network : List Variable) (tree : GivenTree) (H : List Entry) (e : Entry) (u : ℕ) (quote : Quote)
+pub quote_later : (network : List Variable) (tree : GivenTree) (H : List Entry) (e : Entry) (u : ℕ) (quote : LastQuote)
     → IsKeptQuote network tree H u quote → IsKeptQuote network tree (H ++ e ∷ []) u quote
 quote_later network tree H e u quote kept =
     let longer : length (H ++ e ∷ []) ≡ length H + 1 = length_push H e in
@@ -67,7 +67,7 @@ module _ {P A Plan : Type 0} (weights_stand : P → Meaning → Type 0) (gains_s
     pub names : names_of new_members ≡ users (journal.history ++ e ∷ [])
     pub owned : (u : ℕ) (assets : Assets A Plan) → slice_get (assets_of new_members) u ≡ Some assets
         → Owns gains_stand assets (holding_of file.net file.tree (journal.history ++ e ∷ []) u)
-    pub none_quoted : (u : ℕ) (quote : Quote) → slice_get (quotes_of new_members) u ≡ Some (Some quote) → slice_get (quotes_of members) u ≡ Some (Some quote)
+    pub none_quoted : (u : ℕ) (quote : LastQuote) → slice_get (quotes_of new_members) u ≡ Some (Some quote) → slice_get (quotes_of members) u ≡ Some (Some quote)
     pub accounts : AreAccounts (market_of file) (journal.history ++ e ∷ []) new_accounts
     pub room : is_settled (journal.history ++ e ∷ []) ≡ false → new_payments ≡ Some []
 
@@ -125,9 +125,9 @@ module _ {P A Plan : Type 0} (weights_stand : P → Meaning → Type 0) (gains_s
     owns = λ u assets at.
         let own = are.owned_still u assets at in
         own.2 (holding_of file.net file.tree journal.history u) (kept.owns u (own.0) (own.1));
-    quotes_kept = λ u quote at. kept.quotes_kept u quote (subst (λ (qs : List (Option Quote)). slice_get qs u ≡ Some (Some quote)) are.quotes_still at);
+    quotes_kept = λ u quote at. kept.quotes_kept u quote (subst (λ (qs : List (Option LastQuote)). slice_get qs u ≡ Some (Some quote)) are.quotes_still at);
     accounts_kept = kept.accounts_kept;
-    ready = subst (λ (qs : List (Option Quote)). IsReady (market_of file) (record { history = journal.history; quotes = map (option_map quoted) qs })) (sym are.quotes_still) kept.ready;
+    ready = subst (λ (qs : List (Option LastQuote)). IsReady (market_of file) (record { history = journal.history; quotes = map (option_map quoted) qs })) (sym are.quotes_still) kept.ready;
     bounded = kept.bounded;
     max_trades = kept.max_trades;
     room = kept.room;

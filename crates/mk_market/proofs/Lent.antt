@@ -7,7 +7,7 @@ use Rattle.std.proofs.Math.Seq.{map-set_same}
 use Rattle.mk_engine.specs.Meaning.{Meaning}
 use Rattle.mk_assets.specs.declared.assets.Assets.{Assets}
 use Rattle.mk_assets.specs.Holdings.{Holding, Owns}
-use Rattle.mk_quote.specs.declared.quote.Quote.{Quote}
+use Rattle.mk_market.specs.declared.last_quote.LastQuote.{LastQuote}
 use Rattle.mk_market.specs.declared.users.Member.{Member}
 use Rattle.mk_market.specs.Members.{names_of, assets_of, quotes_of, with_member, with_assets, with_quote}
 use Rattle.mk_market.specs.inner.Quoting.{OwnsAt}
@@ -69,13 +69,13 @@ module _ {E P : Type 0} (members : List (Member E P)) (user : ℕ) where
   pub assets_set : (assets : Assets E P) → user < length members → assets_of (with_assets members user assets) ≡ slice_set (assets_of members) user assets
   assets_set assets within = field_set (λ (m : Member E P). m.assets) (λ (m : Member E P). record m { assets = assets }) assets within (λ m. refl)
 
-  pub names_beside : (quote : Quote) → names_of (with_quote members user quote) ≡ names_of members
+  pub names_beside : (quote : LastQuote) → names_of (with_quote members user quote) ≡ names_of members
   names_beside quote = field_stays (λ (m : Member E P). m.name) (λ (m : Member E P). record m { quote = Some quote }) (λ m. refl)
 
-  pub assets_beside : (quote : Quote) → assets_of (with_quote members user quote) ≡ assets_of members
+  pub assets_beside : (quote : LastQuote) → assets_of (with_quote members user quote) ≡ assets_of members
   assets_beside quote = field_stays (λ (m : Member E P). m.assets) (λ (m : Member E P). record m { quote = Some quote }) (λ m. refl)
 
-  pub quotes_set : (quote : Quote) → user < length members → quotes_of (with_quote members user quote) ≡ slice_set (quotes_of members) user (Some quote)
+  pub quotes_set : (quote : LastQuote) → user < length members → quotes_of (with_quote members user quote) ≡ slice_set (quotes_of members) user (Some quote)
   quotes_set quote within = field_set (λ (m : Member E P). m.quote) (λ (m : Member E P). record m { quote = Some quote }) (Some quote) within (λ m. refl)
 
   module _ (gains_stand : E → Meaning → Type 0) (within : user < length members) (lent assets : Assets E P) (read : slice_get (assets_of members) user ≡ Some lent) where

@@ -1,12 +1,17 @@
 pub mod Changed
 pub mod Appends
 pub mod Counts
+pub mod KnownVariables
 pub mod Gathering
 pub mod Refusing
+pub mod SpreadRefusals
 pub mod NamesKept
 pub mod Growing
 pub mod Lent
+pub mod Quotes
 pub mod Edited
+pub mod Judging
+pub mod Spreads
 pub mod Owned
 pub mod Accounted
 pub mod Replies
@@ -15,6 +20,7 @@ pub mod Joins
 pub mod Answers
 pub mod Openings
 pub mod Traded
+pub mod Trades
 pub mod Withdrawals
 pub mod Told
 pub mod Resolved

@@ -16,7 +16,7 @@ use Rattle.mk_beliefs.specs.Meanings.{gains_of, grown_for}
 use Rattle.mk_beliefs.proofs.Grown.{gains_grow, newcomer_has_none}
 use Rattle.mk_assets.specs.declared.assets.Assets.{Assets}
 use Rattle.mk_assets.specs.Holdings.{Holding, Owns, opening_holding, with_deposit, with_withdrawal}
-use Rattle.mk_quote.specs.declared.quote.Quote.{Quote}
+use Rattle.mk_market.specs.declared.last_quote.LastQuote.{LastQuote}
 use Rattle.mk_rules.specs.Bounded.{FitsTransfer}
 use Rattle.mk_rules.proofs.Bounds.{count_first}
 use Rattle.mk_answers.specs.Open.{holding_of}
@@ -225,10 +225,10 @@ module _ (network : List Variable) (tree : GivenTree) (H : List Entry) (name : L
       each (inr h) = subst (Owns stands_for x) (sym (join_others u)) (owns u x h)
 
   -- a newcomer was quoted nothing
-  pub none_quoted_joined : {E Plan : Type 0} (members : List (Member E Plan)) (assets : Assets E Plan) (u : ℕ) (quote : Quote)
+  pub none_quoted_joined : {E Plan : Type 0} (members : List (Member E Plan)) (assets : Assets E Plan) (u : ℕ) (quote : LastQuote)
       → slice_get (quotes_of (members ++ new_member name assets ∷ [])) u ≡ Some (Some quote) → slice_get (quotes_of members) u ≡ Some (Some quote)
   none_quoted_joined {E} {Plan} members assets u quote at =
-      each (push_cases (quotes_of members) u None (Some quote) (subst (λ (qs : List (Option Quote)). slice_get qs u ≡ Some (Some quote)) (map-append (λ (m : Member E Plan). m.quote) members (new_member name assets ∷ [])) at))
+      each (push_cases (quotes_of members) u None (Some quote) (subst (λ (qs : List (Option LastQuote)). slice_get qs u ≡ Some (Some quote)) (map-append (λ (m : Member E Plan). m.quote) members (new_member name assets ∷ [])) at))
     where
       each : ((u ≡ length (quotes_of members)) × (None ≡ Some quote)) ⊎ (slice_get (quotes_of members) u ≡ Some (Some quote)) → slice_get (quotes_of members) u ≡ Some (Some quote)
       each (inl h) = let no : None ≡ Some quote = h.1 in cc

@@ -17,7 +17,7 @@ use Rattle.mk_net.specs.Network.{Variable}
 use Rattle.mk_net.specs.Named.{pair_named, variable_at}
 use Rattle.mk_net.specs.Sets.{is_member}
 use Rattle.mk_exact.specs.History.{Entry}
-use Rattle.mk_exact.specs.Proper.{IsPairOf, IsQuestionOf}
+use Rattle.mk_exact.specs.Proper.{IsPairOf}
 use Rattle.mk_tree.specs.Given.{GivenTree, home, holds_event}
 use Rattle.mk_tree.specs.Tests.{members}
 use Rattle.mk_file.specs.declared.market_file.MarketFile.{MarketFile}
@@ -28,6 +28,19 @@ use Rattle.mk_reply.specs.declared.refusal.Refusal.TheVariants.{Unknown, Wide, U
 use Rattle.mk_rules.specs.Refusals.{pairs_of, names_in, variables_in, known_pairs, question_named, is_resolved, contradicts, passes, is_wide, unknown, resolved, impossible, wide_question, unresolved, twice, settled, no_user, stale, range, trades_full, first_refusal}
 use Rattle.mk_rules.proofs.Unrefused.{not_mapped, question_known, target_named, not_resolved, condition_agrees}
 use Rattle.mk_market.specs.Refused.{refusal_in, IsQuestionFor}
+
+-- one that applies is the first, where those before it do not
+pub applies : {F : Type 0} (one : Option F) (later : List (Option F)) (why : F) → Some why ≡ one → Some why ≡ first_of (one ∷ later)
+applies None later why h = cc
+applies (Some x) later why h = h
+
+pub passed : {F : Type 0} (one : Option F) (later : List (Option F)) (found : Option F) → None ≡ one → found ≡ first_of later → found ≡ first_of (one ∷ later)
+passed None later found e h = h
+passed (Some x) later found e h = cc
+
+pub first_of_one : {F : Type 0} (one : Option F) → one ≡ first_of (one ∷ [])
+first_of_one None = refl
+first_of_one (Some x) = refl
 
 -- the first variable that is not resolved, from a number on
 unfoldable pub open_from : List Entry → List Variable → ℕ → Option (ℕ × Variable)
@@ -142,10 +155,6 @@ contradicted_is network H ps pairs d known e =
 pub one_each : (network : List Variable) (ps words : List PairText) (pairs : List Pair) → unknown network ps ≡ None → pairs ≡ known_pairs network ps → words ≡ ps → length pairs ≡ length words
 one_each network ps words pairs known e f = rw (e, f) (one_known_each network ps (all_known_of network ps known))
 
--- the variables of a question, the target's first
-abbrev asked_variables : Asked → List ℕ
-asked_variables asked = asked.target.variable ∷ variables_in asked.condition
-
 -- the pairs of a question that is known
 pairs_known : (network : List Variable) (q : QuestionText) (asked : Asked) → question_named network q ≡ Some asked → known_pairs network (pairs_of q) ≡ asked.target ∷ asked.condition
 pairs_known network q asked named =
@@ -201,6 +210,13 @@ among m x a (suc n) h k = at (cases_eq a x) (m a) refl (λ d. among m x (a + 1) 
     at (inr d) true is later = rw (differs (a == x) refl d) (later d)
     at (inr d) false is later = later d
 
+no_home : (tree : GivenTree) (event : List Pair) → is_none (position (holds_event event) tree.cliques) ≡ is_none (home tree event)
+no_home tree event = at (position (holds_event event) tree.cliques)
+  where
+    at : (o : Option ℕ) → is_none o ≡ is_none (option_map (λ (k : ℕ). k + 1) o)
+    at None = refl
+    at (Some k) = refl
+
 module _ (network : List Variable) where
   holds_same : (set : VarSet) (pairs : List Pair) → AllByRecursion (IsPairOf network) pairs
       → list_all (λ x. list_any (λ v. v == x) (members network set)) (variables_in pairs) ≡ holds_event pairs set
@@ -216,36 +232,29 @@ module _ (network : List Variable) where
       swap false true c = refl
       swap false false c = refl
 
-  abbrev covers : Asked → List ℕ → Bool
-  covers asked clique = list_all (λ x. list_any (λ v. v == x) clique) (asked_variables asked)
+  abbrev covers : List ℕ → List ℕ → Bool
+  covers variables clique = list_all (λ x. list_any (λ v. v == x) clique) variables
 
-  covers_same : (set : VarSet) (asked : Asked) → IsQuestionOf network asked → covers asked (members network set) ≡ holds_event (pairs_asked asked) set
-  covers_same set asked fits = holds_same set (asked.target ∷ asked.condition) (fits.target, fits.condition) ∙ target_last set asked.condition asked.target
+  module _ (pairs : List Pair) (target : Pair) (inside : target.variable < length network) (fits : AllByRecursion (IsPairOf network) pairs) where
+    covers_same : (set : VarSet) → covers (target.variable ∷ variables_in pairs) (members network set) ≡ holds_event (pairs ++ target ∷ []) set
+    covers_same set = ap₂ (λ a b. a && b) (among (is_member set) target.variable 0 (length network) (omega arith) (omega (arith, inside))) (holds_same set pairs fits) ∙ target_last set pairs target
 
-  some_covers : (cliques : List VarSet) (asked : Asked) → IsQuestionOf network asked
-      → list_any (covers asked) (map (members network) cliques) ≡ list_any (holds_event (pairs_asked asked)) cliques
-  some_covers [] asked fits = refl
-  some_covers (set ∷ cliques) asked fits = ap₂ (λ a b. a || b) (covers_same set asked fits) (some_covers cliques asked fits)
+    some_covers : (cliques : List VarSet) → list_any (covers (target.variable ∷ variables_in pairs)) (map (members network) cliques) ≡ list_any (holds_event (pairs ++ target ∷ [])) cliques
+    some_covers [] = refl
+    some_covers (set ∷ cliques) = ap₂ (λ a b. a || b) (covers_same set) (some_covers cliques)
 
-  wide_is : (cliques : List VarSet) (asked : Asked) → IsQuestionOf network asked
-      → is_wide (map (members network) cliques) (asked_variables asked) ≡ is_none (position (holds_event (pairs_asked asked)) cliques)
-  wide_is cliques asked fits = ap not (some_covers cliques asked fits) ∙ no_place (holds_event (pairs_asked asked)) cliques
-
-no_home : (tree : GivenTree) (event : List Pair) → is_none (position (holds_event event) tree.cliques) ≡ is_none (home tree event)
-no_home tree event = at (position (holds_event event) tree.cliques)
-  where
-    at : (o : Option ℕ) → is_none o ≡ is_none (option_map (λ (k : ℕ). k + 1) o)
-    at None = refl
-    at (Some k) = refl
+    -- variables are wide exactly where pairs of theirs have no home
+    pub wide_is : (tree : GivenTree) → is_wide (map (members network) tree.cliques) (target.variable ∷ variables_in pairs) ≡ is_none (home tree (pairs ++ target ∷ []))
+    wide_is tree = ap not (some_covers tree.cliques) ∙ no_place (holds_event (pairs ++ target ∷ [])) tree.cliques ∙ no_home tree (pairs ++ target ∷ [])
 
 -- a question is refused as wide exactly where it has no home
 pub wide_is_homeless : (file : MarketFile) (H : List Entry) (q : QuestionText) (asked : Asked) → question_named file.net q ≡ Some asked → unknown file.net (pairs_of q) ≡ None
     → wide_question (market_of file) H q ≡ fault_if (is_none (home file.tree (pairs_asked asked))) Wide
 wide_is_homeless file H q asked named known =
     ap (λ (ps : List Pair). fault_if (is_wide (map (members file.net) file.tree.cliques) (variables_in ps)) Wide) (pairs_known file.net q asked named)
-    ∙ ap (λ (b : Bool). fault_if b Wide) (wide_is file.net file.tree.cliques asked (question_known file.net q asked known named) ∙ no_home file.tree (pairs_asked asked))
+    ∙ (let fits = question_known file.net q asked known named in ap (λ (b : Bool). fault_if b Wide) (wide_is file.net asked.condition asked.target fits.target.variable fits.condition file.tree))
 
-has_home : (o : Option ℕ) → fault_if (is_none o) Wide ≡ None → is_some o ≡ true
+pub has_home : (o : Option ℕ) → fault_if (is_none o) Wide ≡ None → is_some o ≡ true
 has_home None h = cc
 has_home (Some k) h = refl
 
@@ -290,6 +299,25 @@ pairs_are network q asked condition words named e f = e ∙ (target_named networ
 
 pub slice_known : (network : List Variable) (q : QuestionText) (words : List PairText) → words ≡ q.condition.items → unknown network (pairs_of q) ≡ None → unknown network words ≡ None
 slice_known network q words e known = ap (unknown network) e ∙ others_known network q.target q.condition.items known
+
+-- what a question is refused for by its target, and by its condition
+module _ (file : MarketFile) (H : List Entry) (q : QuestionText) where
+  pub question_resolved : (why : Refusal) → Some why ≡ resolved file.net H q.target.variable
+      → Some why ≡ first_of (resolved file.net H q.target.variable ∷ impossible file.net H q.condition.items ∷ wide_question (market_of file) H q ∷ [])
+  question_resolved why h = applies (resolved file.net H q.target.variable) (impossible file.net H q.condition.items ∷ wide_question (market_of file) H q ∷ []) why h
+
+  pub question_impossible : (why : Refusal) → None ≡ resolved file.net H q.target.variable → Some why ≡ impossible file.net H q.condition.items
+      → Some why ≡ first_of (resolved file.net H q.target.variable ∷ impossible file.net H q.condition.items ∷ wide_question (market_of file) H q ∷ [])
+  question_impossible why e h =
+      passed (resolved file.net H q.target.variable) (impossible file.net H q.condition.items ∷ wide_question (market_of file) H q ∷ []) (Some why) e
+      (applies (impossible file.net H q.condition.items) (wide_question (market_of file) H q ∷ []) why h)
+
+-- what a resolution is refused for at last
+pub resolution_refused : (network : List Variable) (H : List Entry) (p : PairText) (found : Option Refusal) → None ≡ settled H → None ≡ unknown network (p ∷ []) → found ≡ resolved network H p.variable
+    → found ≡ first_of (settled H ∷ unknown network (p ∷ []) ∷ resolved network H p.variable ∷ [])
+resolution_refused network H p found e f h =
+    passed (settled H) (unknown network (p ∷ []) ∷ resolved network H p.variable ∷ []) found e
+    (passed (unknown network (p ∷ [])) (resolved network H p.variable ∷ []) found f (h ∙ first_of_one (resolved network H p.variable)))
 
 -- a refusal behind five that do not apply
 refused_sixth : (settled user unknown twice stale free agreed wide later : Option Refusal) (why : Refusal) → None ≡ settled → None ≡ user → None ≡ or_else unknown twice → None ≡ stale

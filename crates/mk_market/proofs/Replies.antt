@@ -34,13 +34,14 @@ none_appended market now command reply no_entry same =
     ∙ ap (λ (qs : Rattle.mk_rules.specs.Quotes.Quotes). record { history = now.history ++ []; quotes = qs }) same
     ∙ ap (λ (H : List Entry). record { history = H; quotes = now.quotes }) (append-nil now.history))
 
--- every command but an edit
-abbrev pub IsNoEdit : Command → Type 0
-IsNoEdit (Edit user question to at) = ⊥
-IsNoEdit _ = Unit {0}
+-- every command but an edit and a spread
+abbrev pub IsNoTrade : Command → Type 0
+IsNoTrade (Edit user question to at) = ⊥
+IsNoTrade (Spread user variable condition to at) = ⊥
+IsNoTrade _ = Unit {0}
 
 -- leaves the standing where it is refused
-pub refused_stays : (market : Market) (now : Standing) (command : Command) (why : Refusal) → IsNoEdit command → now ≡ after market now (OfCommand command) (Refused why)
+pub refused_stays : (market : Market) (now : Standing) (command : Command) (why : Refusal) → IsNoTrade command → now ≡ after market now (OfCommand command) (Refused why)
 refused_stays market now (User user) why h = none_appended market now (User user) (Refused why) refl refl
 refused_stays market now (Deposit user bits) why h = none_appended market now (Deposit user bits) (Refused why) refl refl
 refused_stays market now (Withdraw user bits) why h = none_appended market now (Withdraw user bits) (Refused why) refl refl
@@ -48,12 +49,12 @@ refused_stays market now (Price question) why h = none_appended market now (Pric
 refused_stays market now (Limits user question) why h = none_appended market now (Limits user question) (Refused why) refl refl
 refused_stays market now (Edit user question to at) why h = absurd h
 refused_stays market now (Bounds user variable condition) why h = none_appended market now (Bounds user variable condition) (Refused why) refl refl
-refused_stays market now (Spread user variable condition to at) why h = none_appended market now (Spread user variable condition to at) (Refused why) refl refl
+refused_stays market now (Spread user variable condition to at) why h = absurd h
 refused_stays market now (Worst user) why h = none_appended market now (Worst user) (Refused why) refl refl
 refused_stays market now (Resolve pair) why h = none_appended market now (Resolve pair) (Refused why) refl refl
 refused_stays market now Settle why h = none_appended market now Settle (Refused why) refl refl
 
-refused_answered : (old : Trading) (command : Command) (why : Refusal) → IsNoEdit command → Some why ≡ first_refusal old.market old.standing.history command
+refused_answered : (old : Trading) (command : Command) (why : Refusal) → IsNoTrade command → Some why ≡ first_refusal old.market old.standing.history command
     → IsAnswered old old command (Refused why)
 refused_answered old command why other e = record {
   same_market = refl;
@@ -62,12 +63,17 @@ refused_answered old command why other e = record {
 }
 
 -- so does the market
-pub answered_refused : (old known : Trading) → known ≡ old → (command : Command) → IsNoEdit command → (why : Refusal) (result : Result Reply Refusal) → IsErrAnd result (λ e. e ≡ why)
+pub answered_refused : (old known : Trading) → known ≡ old → (command : Command) → IsNoTrade command → (why : Refusal) (result : Result Reply Refusal) → IsErrAnd result (λ e. e ≡ why)
     → Some why ≡ first_refusal known.market known.standing.history command → IsAnswered old old command (reply_of result)
 answered_refused old known same command other why (Ok reply) e refusal = absurd e
 answered_refused old known same command other why (Err found) e refusal =
     subst (λ (w : Refusal). IsAnswered old old command (Refused w)) (sym e)
     (subst (λ (t : Trading). IsAnswered t t command (Refused why)) same (refused_answered known command why other refusal))
+
+-- an error is replied as a refusal
+pub error_replied : (result : Result Reply Refusal) (why : Refusal) → IsErrAnd result (λ e. e ≡ why) → Refused why ≡ reply_of result
+error_replied (Ok reply) why e = absurd e
+error_replied (Err found) why e = ap (λ (w : Refusal). Refused w) (sym e)
 
 -- where no refusal meets a command the market is unsettled
 unsettled_first : (b : Bool) (why : Refusal) (later : Option Refusal) → None ≡ or_else (fault_if b why) later → b ≡ false
@@ -81,8 +87,8 @@ unsettled market H (Withdraw u bits) none = unsettled_first (is_settled H) _ _ n
 unsettled market H (Price q) none = unsettled_first (is_settled H) _ _ none
 unsettled market H (Limits u q) none = unsettled_first (is_settled H) _ _ none
 unsettled market H (Edit u q X seen) none = unsettled_first (is_settled H) _ _ none
-unsettled market H (Bounds u v condition) none = absurd (cc)
-unsettled market H (Spread u v condition to seen) none = absurd (cc)
+unsettled market H (Bounds u v condition) none = unsettled_first (is_settled H) _ _ none
+unsettled market H (Spread u v condition to seen) none = unsettled_first (is_settled H) _ _ none
 unsettled market H (Worst u) none = unsettled_first (is_settled H) _ _ none
 unsettled market H (Resolve p) none = unsettled_first (is_settled H) _ _ none
 unsettled market H Settle none = unsettled_first (is_settled H) _ _ none

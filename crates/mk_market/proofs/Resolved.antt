@@ -17,7 +17,7 @@ use Rattle.mk_engine.specs.Meaning.{Meaning, with_known}
 use Rattle.mk_beliefs.specs.Meanings.{gains_of}
 use Rattle.mk_assets.specs.Holdings.{Holding, Owns, with_known_pair}
 use Rattle.mk_cash.specs.declared.ledger.Account.{Account}
-use Rattle.mk_quote.specs.declared.quote.Quote.{Quote}
+use Rattle.mk_market.specs.declared.last_quote.LastQuote.{LastQuote}
 use Rattle.mk_command.specs.declared.command.Command.TheVariants.{Resolve}
 use Rattle.mk_reply.specs.declared.payments.Payment.{Payment}
 use Rattle.mk_reply.specs.declared.reply.Reply.{Reply}
@@ -84,14 +84,14 @@ module _ {P A Plan : Type 0} (weights_stand : P → Meaning → Type 0) (gains_s
         let H = journal.history in
         kept_grown weights_stand gains_stand plan_for file prices new_prices plan members new_members accounts accounts journal new_journal payments payments
         (Resolves pair) (Resolve words) reply tt kept allowed
-        (ap₂ (λ (H : List Entry) (qs : List (Option Quote)). record { history = H; quotes = map (option_map quoted) qs }) (history ∙ sym longer) same_quotes)
+        (ap₂ (λ (H : List Entry) (qs : List (Option LastQuote)). record { history = H; quotes = map (option_map quoted) qs }) (history ∙ sym longer) same_quotes)
         (record {
           history = history;
           limit = limit;
           prices_grown = known;
           names = names ∙ kept.named ∙ sym (not_found H (Resolves pair) join_in refl);
           owned = λ u assets at. subst (Owns gains_stand assets) (sym (told_holding file.net file.tree H pair u)) (told u (holding_of file.net file.tree H u) (kept.owns u) assets at);
-          none_quoted = λ u quote at. subst (λ (qs : List (Option Quote)). slice_get qs u ≡ Some (Some quote)) same_quotes at;
+          none_quoted = λ u quote at. subst (λ (qs : List (Option LastQuote)). slice_get qs u ≡ Some (Some quote)) same_quotes at;
           accounts = accounts_kept (market_of file) H (unsettled (market_of file) H (Resolve words) none) (Resolves pair) accounts refl refl (λ u. (refl, refl)) kept.accounts_kept;
           room = λ unsettled. kept.room (sym (not_there H (Resolves pair) is_settlement refl) ∙ unsettled);
         })

@@ -22,7 +22,7 @@ use Rattle.mk_engine.specs.Meaning.{Meaning}
 use Rattle.mk_assets.specs.Holdings.{Holding, Owns}
 use Rattle.mk_cash.specs.declared.ledger.Account.{Account}
 use Rattle.mk_cash.specs.Accounts.{account_of}
-use Rattle.mk_quote.specs.declared.quote.Quote.{Quote}
+use Rattle.mk_market.specs.declared.last_quote.LastQuote.{LastQuote}
 use Rattle.mk_command.specs.declared.command.Command.TheVariants.{Settle}
 use Rattle.mk_reply.specs.declared.payments.Payment.{Payment}
 use Rattle.mk_reply.specs.declared.reply.Reply.TheVariants.{Settled}
@@ -119,7 +119,7 @@ module _ {P A Plan : Type 0} (weights_stand : P → Meaning → Type 0) (gains_s
   settlement_allowed = answer_allowed (market_of file) (standing_of journal members) Settle (Settled at pays) none settlement
 
   pub settlement_next : standing_of new_journal new_members ≡ after (market_of file) (standing_of journal members) (OfCommand Settle) (Settled at pays)
-  settlement_next = ap₂ (λ (H : List Entry) (qs : List (Option Quote)). record { history = H; quotes = map (option_map quoted) qs }) history same_quotes
+  settlement_next = ap₂ (λ (H : List Entry) (qs : List (Option LastQuote)). record { history = H; quotes = map (option_map quoted) qs }) history same_quotes
 
   -- the market is kept
   pub settlement_kept : (new_accounts : List Account) (left : Option (List Payment)) → new_journal.max_trades ≡ journal.max_trades → names_of new_members ≡ names_of members
@@ -135,7 +135,7 @@ module _ {P A Plan : Type 0} (weights_stand : P → Meaning → Type 0) (gains_s
         prices_grown = λ m stands. stands;
         names = names ∙ kept.named ∙ sym (not_found H Settles join_in refl);
         owned = λ u assets at. subst (Owns gains_stand assets) (sym (holding_same file.net file.tree H Settles u refl refl refl)) (still u (holding_of file.net file.tree H u) (kept.owns u) assets at);
-        none_quoted = λ u quote at. subst (λ (qs : List (Option Quote)). slice_get qs u ≡ Some (Some quote)) same_quotes at;
+        none_quoted = λ u quote at. subst (λ (qs : List (Option LastQuote)). slice_get qs u ≡ Some (Some quote)) same_quotes at;
         accounts = accounts_settled (market_of file) H outcome.state outcome.one_state pays paid_there accounts new_accounts can.unsettled kept.accounts_kept entered;
         room = λ unsettled. absurd (settled_now H unsettled);
       })

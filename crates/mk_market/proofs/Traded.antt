@@ -1,16 +1,17 @@
--- A user trades a question.
+-- A user trades.
 use Rattle.std.specs.Prelude.{◌≡◌, ℕ, ◌+◌, ◌<◌, ◌≤◌, List, [], ◌∷◌, ◌++◌, length, filter, ◌==◌, Bool, true, false, cond, not, ◌&&◌, ltb, Some, None, option_map, position, is_some, slice_index}
 use Rattle.std.specs.List.{position_or_len, list_all}
 use Rattle.std.proofs.Common.{refl, sym, ap, ap₂, add-zero, ◌∙◌, arith, eq-eqb, ne_eqb}
 use Rattle.std.proofs.lemmas.List.{length-map, length_push}
 use Rattle.mk_net.specs.declared.words.Pair.{Pair}
 use Rattle.mk_net.specs.declared.sets.VarSet.{VarSet}
-use Rattle.mk_net.specs.Asked.{Asked, TradeRatio, IsUnits, ratio_pairs}
+use Rattle.mk_net.specs.Asked.{Asked, TradeRatio, ratio_pairs}
 use Rattle.mk_net.specs.Bounds.{max_values, max_market_trades}
-use Rattle.mk_net.specs.Network.{Variable, sizes}
+use Rattle.mk_net.specs.Network.{Variable, IsNetwork, sizes}
 use Rattle.mk_net.specs.Named.{nobody}
 use Rattle.mk_net.specs.Sets.{is_member}
 use Rattle.mk_exact.specs.History.{Entry, UserTrade, Trade, trades, trades_of, deposited, withdrawn}
+use Rattle.mk_exact.specs.Proper.{IsQuestionOf, IsRatioOf}
 use Rattle.mk_exact.specs.Sides.{ratio_in}
 use Rattle.mk_exact.proofs.After.{trades_more}
 use Rattle.mk_exact.proofs.Positive.{size_at, few_values_at}
@@ -22,8 +23,7 @@ use Rattle.mk_beliefs.specs.Meanings.{weights_of, gains_of}
 use Rattle.mk_beliefs.proofs.Grown.{weights_grow, factors_are_few}
 use Rattle.mk_assets.specs.declared.assets.Assets.{Assets}
 use Rattle.mk_assets.specs.Holdings.{Owns, CanTrade, with_trade}
-use Rattle.mk_rules.proofs.Traded.{ratio_fits}
-use Rattle.mk_answers.specs.Open.{IsOpen, CanBeAnswered, holding_of}
+use Rattle.mk_answers.specs.Open.{CanBeAnswered, holding_of}
 use Rattle.mk_market.proofs.Owned.{holding_grows, holding_same}
 
 -- the same test finds the same place
@@ -45,66 +45,67 @@ same_home t condition a b same =
         ∙ ap (λ (v : ℕ). list_all (λ (p : Pair). is_member set p.variable) condition && (is_member set v && true)) same
         ∙ sym (list_all-append (λ (p : Pair). is_member set p.variable) condition (b ∷ []))
 
-module _ (network : List Variable) (tree : GivenTree) (H : List Entry) (open_for : IsOpen network tree H) (asked : Asked) (answered : CanBeAnswered network tree H asked) where
-  pub two_values : (values : ℕ) → values ≡ slice_index (sizes network) asked.target.variable → 2 ≤ values
-  two_values values sized =
+-- the variable of a question has 2 to 16 values
+module _ (network : List Variable) (legal : IsNetwork network) (asked : Asked) (fits : IsQuestionOf network asked) (values : ℕ) (sized : values ≡ slice_index (sizes network) asked.target.variable) where
+  pub two_values : 2 ≤ values
+  two_values =
       let v = asked.target.variable in
-      omega (arith, sized, size_at network open_for.legal v answered.can_ask.in_range.target.variable, (open_for.legal.each v nobody answered.can_ask.in_range.target.variable).two_values)
+      omega (arith, sized, size_at network legal v fits.target.variable, (legal.each v nobody fits.target.variable).two_values)
 
-  pub few_values : (values : ℕ) → values ≡ slice_index (sizes network) asked.target.variable → values ≤ max_values
-  few_values values sized = omega (arith, sized, few_values_at network open_for.legal asked.target.variable answered.can_ask.in_range.target.variable)
+  pub few_values : values ≤ max_values
+  few_values = omega (arith, sized, few_values_at network legal asked.target.variable fits.target.variable)
 
-  module _ (hit miss : ℕ) (hit_units : IsUnits hit) (miss_units : IsUnits miss) where
-    -- a ratio has the home of its question
-    pub home_of_ratio : is_some (home tree (ratio_pairs (ratio_in network asked hit miss))) ≡ true
-    home_of_ratio =
-        ap is_some (same_home tree asked.condition (record { variable = asked.target.variable; value = 0 }) asked.target refl) ∙ answered.home
+-- the ratio of an edit has the home of its question
+pub home_of_ratio : (network : List Variable) (tree : GivenTree) (H : List Entry) (asked : Asked) → CanBeAnswered network tree H asked → (hit miss : ℕ)
+    → is_some (home tree (ratio_pairs (ratio_in network asked hit miss))) ≡ true
+home_of_ratio network tree H asked answered hit miss =
+    ap is_some (same_home tree asked.condition (record { variable = asked.target.variable; value = 0 }) asked.target refl) ∙ answered.home
 
-    module _ (user : ℕ) (few : length (trades H) < max_market_trades) where
-      few_after : length (trades (H ++ Trade user (ratio_in network asked hit miss) ∷ [])) ≤ max_market_trades
-      few_after =
-          let one = ap (λ (ts : List UserTrade). length ts) (trades_more H user (ratio_in network asked hit miss)) in
-          let more = length_push (trades H) (record { user = user; ratio = ratio_in network asked hit miss }) in
-          omega (arith, one, more, few)
+module _ (network : List Variable) (tree : GivenTree) (H : List Entry) (legal : IsNetwork network) (user : ℕ) (ratio : TradeRatio) (fits : IsRatioOf network ratio)
+    (few : length (trades H) < max_market_trades) where
+  few_after : length (trades (H ++ Trade user ratio ∷ [])) ≤ max_market_trades
+  few_after =
+      let one = ap (λ (ts : List UserTrade). length ts) (trades_more H user ratio) in
+      let more = length_push (trades H) (record { user = user; ratio = ratio }) in
+      omega (arith, one, more, few)
 
-      pub can_multiply : {E : Type 0} (stands_for : E → Meaning → Type 0) (engine : E) → stands_for engine (weights_of network tree H)
-          → CanMultiply stands_for engine (ratio_in network asked hit miss)
-      can_multiply stands_for engine stands = record {
-        meaning = weights_of network tree H;
-        stands = stands;
-        in_range = ratio_fits network asked hit miss answered.can_ask.in_range hit_units.positive miss_units.positive;
-        room = room;
-      }
+  pub can_multiply : {E : Type 0} (stands_for : E → Meaning → Type 0) (engine : E) → stands_for engine (weights_of network tree H) → CanMultiply stands_for engine ratio
+  can_multiply stands_for engine stands = record {
+    meaning = weights_of network tree H;
+    stands = stands;
+    in_range = fits;
+    room = room;
+  }
+    where
+      room : length (weights_of network tree H).factors < max_factors
+      room =
+          let all = (factors_are_few network tree (H ++ Trade user ratio ∷ []) user legal few_after).0 in
+          let same = ap (λ (m : Meaning). length m.factors) (weights_grow network tree H (Trade user ratio)) in
+          let one = length_push (weights_of network tree H).factors (RatioOf ratio) in
+          omega (arith, all, same, one)
+
+  pub can_trade : {E Plan : Type 0} (stands_for : E → Meaning → Type 0) (assets : Assets E Plan) → Owns stands_for assets (holding_of network tree H user)
+      → CanTrade stands_for assets ratio
+  can_trade stands_for assets owns = record {
+    holding = holding_of network tree H user;
+    owns = owns;
+    in_range = fits;
+    room = room;
+  }
+    where
+      part : {X : Type 0} (p : X → Bool) (xs : List X) → length (filter p xs) ≤ length xs
+      part p [] = omega arith
+      part {X} p (x ∷ xs) = at (p x) (part p xs)
         where
-          room : length (weights_of network tree H).factors < max_factors
-          room =
-              let all = (factors_are_few network tree (H ++ Trade user (ratio_in network asked hit miss) ∷ []) user open_for.legal few_after).0 in
-              let same = ap (λ (m : Meaning). length m.factors) (weights_grow network tree H (Trade user (ratio_in network asked hit miss))) in
-              let one = length_push (weights_of network tree H).factors (RatioOf (ratio_in network asked hit miss)) in
-              omega (arith, all, same, one)
+          at : (b : Bool) → length (filter p xs) ≤ length xs → length (cond b (x ∷ filter p xs) (filter p xs)) ≤ length (x ∷ xs)
+          at true l = omega arith
+          at false l = omega arith
 
-      pub can_trade : {E Plan : Type 0} (stands_for : E → Meaning → Type 0) (assets : Assets E Plan) → Owns stands_for assets (holding_of network tree H user)
-          → CanTrade stands_for assets (ratio_in network asked hit miss)
-      can_trade stands_for assets owns = record {
-        holding = holding_of network tree H user;
-        owns = owns;
-        in_range = ratio_fits network asked hit miss answered.can_ask.in_range hit_units.positive miss_units.positive;
-        room = room;
-      }
-        where
-          part : {X : Type 0} (p : X → Bool) (xs : List X) → length (filter p xs) ≤ length xs
-          part p [] = omega arith
-          part {X} p (x ∷ xs) = at (p x) (part p xs)
-            where
-              at : (b : Bool) → length (filter p xs) ≤ length xs → length (cond b (x ∷ filter p xs) (filter p xs)) ≤ length (x ∷ xs)
-              at true l = omega arith
-              at false l = omega arith
-
-          room : length (holding_of network tree H user).meaning.factors < max_market_trades
-          room =
-              let same = length-map (trades_of H user) (λ (t : UserTrade). RatioOf t.ratio) in
-              let own = part (λ (t : UserTrade). t.user == user) (trades H) in
-              omega (arith, same, own, few)
+      room : length (holding_of network tree H user).meaning.factors < max_market_trades
+      room =
+          let same = length-map (trades_of H user) (λ (t : UserTrade). RatioOf t.ratio) in
+          let own = part (λ (t : UserTrade). t.user == user) (trades H) in
+          omega (arith, same, own, few)
 
 -- what users hold after a trade
 module _ (network : List Variable) (tree : GivenTree) (H : List Entry) (user : ℕ) (ratio : TradeRatio) where

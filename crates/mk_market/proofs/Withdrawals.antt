@@ -24,7 +24,7 @@ use Rattle.mk_assets.specs.declared.assets.Assets.{Assets}
 use Rattle.mk_assets.specs.Holdings.{Holding, Owns, CanWithdraw, max_bits, with_withdrawal}
 use Rattle.mk_cash.specs.declared.ledger.Account.{Account}
 use Rattle.mk_cash.specs.Accounts.{account_of}
-use Rattle.mk_quote.specs.declared.quote.Quote.{Quote}
+use Rattle.mk_market.specs.declared.last_quote.LastQuote.{LastQuote}
 use Rattle.mk_command.specs.declared.command.Command.TheVariants.{Withdraw}
 use Rattle.mk_reply.specs.declared.payments.Payment.{Payment}
 use Rattle.mk_reply.specs.declared.reply.Reply.{Reply}
@@ -109,7 +109,7 @@ module _ {P A Plan : Type 0} (weights_stand : P → Meaning → Type 0) (gains_s
 
         next : standing_of new_journal (with_assets members user now) ≡ after (market_of file) (standing_of journal members) (OfCommand (Withdraw name bits)) reply
         unfolding reply
-        next = ap₂ (λ (H : List Entry) (qs : List (Option Quote)). record { history = H; quotes = map (option_map quoted) qs })
+        next = ap₂ (λ (H : List Entry) (qs : List (Option LastQuote)). record { history = H; quotes = map (option_map quoted) qs })
             (history ∙ ap (λ (v : ℕ). journal.history ++ Withdraws v bits ∷ []) is_user.number) same_quotes
 
         -- the market is kept
@@ -130,7 +130,7 @@ module _ {P A Plan : Type 0} (weights_stand : P → Meaning → Type 0) (gains_s
                   (subst (Owns gains_stand now) (sym (withdrawal_holding file.net file.tree H user bits))
                   (withdraws (holding_of file.net file.tree H user) (still (holding_of file.net file.tree H user) (kept.owns user before there)) bits_fit))
                   (withdrawal_others file.net file.tree H user bits);
-              none_quoted = λ u quote at. subst (λ (qs : List (Option Quote)). slice_get qs u ≡ Some (Some quote)) same_quotes at;
+              none_quoted = λ u quote at. subst (λ (qs : List (Option LastQuote)). slice_get qs u ≡ Some (Some quote)) same_quotes at;
               accounts = rw paid (accounts_withdrawn (market_of file) H (unsettled (market_of file) H (Withdraw name bits) none) accounts user bits (file.points_per_bit * bits) is_user.within refl kept.accounts_kept);
               room = λ unsettled. kept.room (sym (not_there H (Withdraws user bits) is_settlement refl) ∙ unsettled);
             })
@@ -147,5 +147,5 @@ module _ {P A Plan : Type 0} (weights_stand : P → Meaning → Type 0) (gains_s
 
     pub short_next : (now : Assets A Plan) (most : ℕ) → standing_of journal (with_assets members user now) ≡ after (market_of file) (standing_of journal members) (OfCommand (Withdraw name bits)) (Refused (Short most))
     short_next now most =
-        ap (λ (qs : List (Option Quote)). record { history = journal.history; quotes = map (option_map quoted) qs }) (quotes_same members user before now there)
+        ap (λ (qs : List (Option LastQuote)). record { history = journal.history; quotes = map (option_map quoted) qs }) (quotes_same members user before now there)
         ∙ none_appended (market_of file) (standing_of journal members) (Withdraw name bits) (Refused (Short most)) refl refl

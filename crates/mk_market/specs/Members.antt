@@ -1,7 +1,7 @@
 -- What is read of the users of a market, and how it changes.
 use Rattle.std.specs.Prelude.{ℕ, List, map, Option, Some, None, option_map, unwrap_or, slice_get, slice_set}
 use Rattle.mk_assets.specs.declared.assets.Assets.{Assets}
-use Rattle.mk_quote.specs.declared.quote.Quote.{Quote}
+use Rattle.mk_market.specs.declared.last_quote.LastQuote.{LastQuote}
 use Rattle.mk_market.specs.declared.users.Member.{Member}
 
 module _ {E P : Type 0} where
@@ -18,7 +18,7 @@ module _ {E P : Type 0} where
   assets_of members = map (λ (m : Member E P). m.assets) members
 
   -- the last quotes in the same order
-  abbrev pub quotes_of : List (Member E P) → List (Option Quote)
+  abbrev pub quotes_of : List (Member E P) → List (Option LastQuote)
   quotes_of members = map (λ (m : Member E P). m.quote) members
 
   -- the same users, of whom one changed
@@ -26,7 +26,7 @@ module _ {E P : Type 0} where
   with_member change members user = unwrap_or (option_map (λ (m : Member E P). slice_set members user (change m)) (slice_get members user)) members
 
   -- a quote is one user's last
-  abbrev pub with_quote : List (Member E P) → ℕ → Quote → List (Member E P)
+  abbrev pub with_quote : List (Member E P) → ℕ → LastQuote → List (Member E P)
   with_quote members user quote = with_member (λ (m : Member E P). record m { quote = Some quote }) members user
 
   -- one user's assets are these

@@ -1,6 +1,7 @@
 -- What a call refuses, and what one that is not refused found.
 use Rattle.std.specs.List.{count_by}
 use Rattle.std.specs.Prelude.{◌≡◌, ℕ, ◌<◌, ◌≤◌, List, length, true, false, Option, Some, None, Result, Ok, Err}
+use Rattle.mk_net.specs.declared.words.PairText.{PairText}
 use Rattle.mk_net.specs.declared.words.QuestionText.{QuestionText}
 use Rattle.mk_net.specs.declared.words.Pair.{Pair}
 use Rattle.mk_net.specs.Bounds.{max_users, max_transfers, max_transfer_bits, million}
@@ -9,11 +10,12 @@ use Rattle.mk_net.specs.Asked.{Asked}
 use Rattle.mk_exact.specs.History.{Entry, users, trades, is_transfer, is_settled}
 use Rattle.mk_exact.specs.Proper.{IsPairOf}
 use Rattle.mk_exact.specs.Market.{Market, network_of}
+use Rattle.mk_spread.specs.Spreads.{SpreadAsked}
 use Rattle.mk_tree.specs.Given.{GivenTree}
 use Rattle.mk_reply.specs.declared.refusal.Refusal.{Refusal}
-use Rattle.mk_rules.specs.Refusals.{question_named, user_number, has_joined, is_resolved}
+use Rattle.mk_rules.specs.Refusals.{question_named, spread_named, user_number, has_joined, is_resolved}
 use Rattle.mk_market.specs.Journals.{JournalOf}
-use Rattle.mk_answers.specs.Open.{CanBeAnswered}
+use Rattle.mk_answers.specs.Open.{CanBeAnswered, CanBeSpreadHere}
 
 -- what a call refuses for
 abbrev pub refusal_in : {T : Type 0} → Result T Refusal → Option Refusal
@@ -30,6 +32,11 @@ pub record IsUser (H : List Entry) (name : List ℕ) (u : ℕ) : Type 0 where
 pub record IsQuestionFor (market : Market) (tree : GivenTree) (H : List Entry) (q : QuestionText) (asked : Asked) : Type 0 where
   pub named : question_named (network_of market H) q ≡ Some asked
   pub answered : CanBeAnswered (network_of market H) tree H asked
+
+-- so is a question about every value of a variable
+pub record IsSpreadQuestionFor (market : Market) (tree : GivenTree) (H : List Entry) (v : List ℕ) (condition : List PairText) (spread : SpreadAsked) : Type 0 where
+  pub named : spread_named (network_of market H) v condition ≡ Some spread
+  pub answered : CanBeSpreadHere (network_of market H) tree H spread
 
 -- nobody has the name, and a user more may join
 pub record HasRoomForUser (H : List Entry) (name : List ℕ) : Type 0 where

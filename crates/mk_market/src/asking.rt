@@ -6,11 +6,14 @@ ghost use Rattle.mk_net.specs.Events.{speaks_of};
 ghost use Rattle.mk_net.specs.Firsts.{fault_if, or_else};
 ghost use Rattle.mk_net.specs.Named.{pair_named};
 ghost use Rattle.mk_exact.specs.Proper.{IsPairOf, IsQuestionOf};
-ghost use Rattle.mk_rules.specs.Refusals.{pairs_of, names_in, question_named, unknown, twice};
+ghost use Rattle.mk_spread.specs.Spreads.{IsSpreadOf};
+ghost use Rattle.mk_quote.specs.Questions.{spread_in};
+ghost use Rattle.mk_rules.specs.Refusals.{pairs_of, names_in, question_named, spread_named, unknown, no_variable, twice};
 ghost use Rattle.mk_market.specs.Refused.{refusal_in};
 ghost use Rattle.mk_market.specs.inner.Gathered.{IsGathered};
 
 use mk_net::{Event, Name, Network, Pair, PairText, Question, QuestionText};
+use mk_quote::SpreadQuestion;
 use mk_reply::Refusal;
 
 /// The numbers of a pair. It is refused where the network does not know the pair.
@@ -74,6 +77,37 @@ pub fn ask(net: &Network, question: &QuestionText) -> Result<Question, Refusal>
     let Some(asked) = Question::make(target, found.condition) else {
         return Err(Refusal::Twice {
             variable: question.target.variable,
+        });
+    };
+    match found.repeated {
+        Some(variable) => Err(Refusal::Twice { variable }),
+        None => Ok(asked),
+    }
+}
+
+/// The question about every value of a variable that the words ask, in the numbers of the network. It is refused where the
+/// network does not know the variable, then for the first pair of the condition that it does not know, and else for the
+/// first variable that occurs a second time.
+pub fn ask_spread(
+    net: &Network,
+    variable: &Name,
+    condition: &[PairText],
+) -> Result<SpreadQuestion, Refusal>
+    requires { length condition.now ≤ max_condition }
+    ensures refusal { refusal_in result
+        ≡ or_else (no_variable net.now variable.now) (or_else (unknown net.now condition.now) (twice (variable.now ∷ names_in condition.now))) }
+    ensures named { IfOk result (λ asked. spread_named net.now variable.now condition.now ≡ Some (spread_in asked)) }
+    ensures in_range { IfOk result (λ asked. IsSpreadOf net.now (spread_in asked)) }
+{
+    let Some(number) = net.find_variable(variable) else {
+        return Err(Refusal::NoVariable {
+            variable: *variable,
+        });
+    };
+    let found = gather(net, condition)?;
+    let Some(asked) = SpreadQuestion::make(number, found.condition) else {
+        return Err(Refusal::Twice {
+            variable: *variable,
         });
     };
     match found.repeated {

@@ -1,9 +1,10 @@
 //! Edits of questions, and their limits.
 
+use crate::last_quote::LastQuote;
 use crate::market::Market;
 use crate::quoting::{fresh_quote, present_quote};
 use crate::refusals::{refuse_edit, refuse_limits};
-use crate::trading::trade;
+use crate::trading::{ratio_of_edit, trade};
 use mk_engine::Engine;
 use mk_net::{Name, QuestionText};
 use mk_reply::{Refusal, Reply};
@@ -26,7 +27,7 @@ impl<P: Engine<SumProd>, A: Engine<MinProd>> Market<P, A> {
             user,
             &asked,
         );
-        self.users.set_quote(user, quote);
+        self.users.set_quote(user, LastQuote::Limits { quote });
         Ok(Reply::Limits {
             limits: quote.limits(),
             at: self.journal.revision(),
@@ -63,19 +64,18 @@ impl<P: Engine<SumProd>, A: Engine<MinProd>> Market<P, A> {
             &asked,
         );
         let Some(units) = quote.judge(to) else {
-            self.users.set_quote(user, quote);
+            self.users.set_quote(user, LastQuote::Limits { quote });
             return Err(Refusal::Beyond {
                 limits: quote.limits(),
             });
         };
+        let ratio = ratio_of_edit(&self.file.net, &asked, units);
         trade(
-            &self.file,
             &mut self.prices,
             &mut self.users,
             &mut self.journal,
             user,
-            &asked,
-            units,
+            ratio,
         );
         Ok(Reply::Traded {
             hit: units.0,

@@ -7,21 +7,26 @@ mod editing;
 mod entry;
 mod joining;
 mod journal;
+mod last_quote;
 mod market;
 mod opening;
 mod pricing;
 mod quoting;
 mod refusals;
+mod refusing_spreads;
 mod resolving;
 mod settling;
+mod spread_quoting;
+mod spreading;
 mod trading;
 mod transfers;
 mod users;
 mod withdrawing;
 
-pub use asking::{ask, known};
+pub use asking::{ask, ask_spread, known};
 pub use entry::Entry;
 pub use journal::Journal;
+pub use last_quote::LastQuote;
 pub use market::Market;
 pub use users::{Member, Users};
 

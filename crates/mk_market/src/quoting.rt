@@ -8,10 +8,11 @@ ghost use Rattle.mk_quote.specs.declared.quote.Quote.{Quote as Held};
 ghost use Rattle.mk_quote.specs.Quotes.{IsFor};
 ghost use Rattle.mk_answers.specs.Open.{CanBeAnswered};
 ghost use Rattle.mk_market.specs.Members.{names_of, quotes_of};
-ghost use Rattle.mk_market.specs.inner.Keeping.{IsKeptQuote};
+ghost use Rattle.mk_market.specs.inner.Keeping.{AreKeptQuotes};
 ghost use Rattle.mk_market.specs.inner.Quoting.{OwnsAt, AreInUse, IsQuoteOf};
 
 use crate::journal::Journal;
+use crate::last_quote::LastQuote;
 use crate::users::Users;
 use mk_answers::bounds_of;
 use mk_engine::Engine;
@@ -52,15 +53,13 @@ pub(crate) fn last_quote<A: Engine<MinProd>>(
     revision: u64,
 ) -> Option<Quote>
     requires { user < length users.now }
-    ensures some { IfSome result (λ quote. slice_get (quotes_of users.now) user ≡ Some (Some quote)) }
+    ensures some { IfSome result (λ quote. slice_get (quotes_of users.now) user ≡ Some (Some (LastQuote.Limits quote))) }
     ensures its { IfSome result (λ quote. IsFor quote asked.now revision) }
-    ensures none { IfNone result ((quote : Held) → slice_get (quotes_of users.now) user ≡ Some (Some quote) → ¬ IsFor quote asked.now revision) }
+    ensures none { IfNone result ((quote : Held) → slice_get (quotes_of users.now) user ≡ Some (Some (LastQuote.Limits quote)) → ¬ IsFor quote asked.now revision) }
 {
-    let quote = users.quote(user)?;
-    if quote.is_for(asked, revision) {
-        Some(*quote)
-    } else {
-        None
+    match users.quote(user) {
+        Some(LastQuote::Limits { quote }) if quote.is_for(asked, revision) => Some(*quote),
+        _ => None,
     }
 }
 
@@ -75,7 +74,7 @@ pub(crate) fn present_quote<P: Engine<SumProd>, A: Engine<MinProd>>(
     asked: &Question,
 ) -> Quote
     requires in_use { AreInUse P.stands_for A.stands_for file.now.net file.now.tree journal.now.history prices.old users.old }
-    requires quotes { (u : ℕ) (quote : Held) → slice_get (quotes_of users.old) u ≡ Some (Some quote) → IsKeptQuote file.now.net file.now.tree journal.now.history u quote }
+    requires quotes { AreKeptQuotes file.now.net file.now.tree journal.now.history (quotes_of users.old) }
     requires user { user < length users.old }
     requires answered { CanBeAnswered file.now.net file.now.tree journal.now.history asked.now }
     ensures prices { (m : Meaning) → P.stands_for prices.old m → P.stands_for prices.new m }
@@ -83,7 +82,7 @@ pub(crate) fn present_quote<P: Engine<SumProd>, A: Engine<MinProd>>(
     ensures names { names_of users.new ≡ names_of users.old }
     ensures quotes { quotes_of users.new ≡ quotes_of users.old }
     ensures quote { IsQuoteOf file.now.net file.now.tree journal.now.history user asked.now result }
-    ensures last { (quote : Held) → slice_get (quotes_of users.old) user ≡ Some (Some quote) → IsFor quote asked.now (revision journal.now.history) → result ≡ quote }
+    ensures last { (quote : Held) → slice_get (quotes_of users.old) user ≡ Some (Some (LastQuote.Limits quote)) → IsFor quote asked.now (revision journal.now.history) → result ≡ quote }
 {
     match last_quote(users, user, asked, journal.revision()) {
         Some(quote) => quote,

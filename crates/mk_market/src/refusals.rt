@@ -1,11 +1,10 @@
 //! What each command is refused for, first to last.
 
-ghost use Rattle.std.specs.Prelude.{◌≡◌, ◌≤◌, ◌<◌, ◌-◌, ℕ, List, [], ◌∷◌, length, is_none, Some, None, IfOk, IfSome, position};
+ghost use Rattle.std.specs.Prelude.{◌≡◌, ◌≤◌, ◌<◌, ℕ, List, [], ◌∷◌, length, is_none, Some, None, IfOk, IfSome, position};
 ghost use Rattle.std.specs.List.{count_by};
 ghost use Rattle.mk_net.specs.Bounds.{max_users, max_transfers, max_transfer_bits, million};
-ghost use Rattle.mk_net.specs.Events.{pairs_asked, speaks_of};
 ghost use Rattle.mk_net.specs.Firsts.{fault_if, first_of};
-ghost use Rattle.mk_net.specs.Named.{pair_named};
+ghost use Rattle.mk_net.specs.Named.{pair_named, variable_named};
 ghost use Rattle.mk_net.specs.Network.{Variable};
 ghost use Rattle.mk_exact.specs.History as history;
 ghost use Rattle.mk_exact.specs.Market.{Market};
@@ -35,7 +34,7 @@ const MAX_TRANSFERS: u32 = 65_536;
 const MAX_TRANSFER_BITS: u32 = 1_000;
 
 /// The most millionths to which a price may be moved.
-const MAX_SHARE: u32 = 999_999;
+pub(crate) const MAX_SHARE: u32 = 999_999;
 
 /// What `user` is refused for: a settlement, a user of the name, and as many users as a market holds.
 pub(crate) fn refuse_user<A: Engine<MinProd>>(
@@ -164,7 +163,7 @@ pub(crate) fn refuse_resolve(
 {
     not_settled(journal)?;
     let pair = known(&file.net, words)?;
-    not_resolved(journal, words, pair)?;
+    not_resolved(journal, &words.variable, pair.variable)?;
     Ok(pair)
 }
 
@@ -191,19 +190,19 @@ fn can_be_answered(
         ∷ rules.wide_question (market_of file.now) journal.now.history question.now ∷ []) }
     ensures question { IfOk result (λ _. IsQuestionFor (market_of file.now) file.now.tree journal.now.history question.now asked.now) }
 {
-    not_resolved(journal, &question.target, asked.target())?;
+    not_resolved(journal, &question.target.variable, asked.target().variable)?;
     agrees(journal, &asked.condition(), question.condition.as_slice())?;
-    not_wide(&file.tree, asked)
+    not_wide(&file.tree, &asked.event())
 }
 
 /// Refuses where a test passes.
-fn refuse_if(test: bool, why: Refusal) -> Result<(), Refusal>
+pub(crate) fn refuse_if(test: bool, why: Refusal) -> Result<(), Refusal>
     ensures { refusal_in result ≡ fault_if test why }
 {
     if test { Err(why) } else { Ok(()) }
 }
 
-fn not_settled(journal: &Journal) -> Result<(), Refusal>
+pub(crate) fn not_settled(journal: &Journal) -> Result<(), Refusal>
     ensures { refusal_in result ≡ rules.settled journal.now.history }
 {
     refuse_if(journal.is_settled(), Refusal::Settled)
@@ -224,14 +223,14 @@ fn room_for_user(journal: &Journal) -> Result<(), Refusal>
     )
 }
 
-fn find_user<A: Engine<MinProd>>(users: &Users<A>, name: &Name) -> Result<u32, Refusal>
+pub(crate) fn find_user<A: Engine<MinProd>>(users: &Users<A>, name: &Name) -> Result<u32, Refusal>
     ensures refusal { (H : List history.Entry) → names_of users.now ≡ history.users H → refusal_in result ≡ rules.no_user H name.now }
     ensures user { (H : List history.Entry) → names_of users.now ≡ history.users H → IfOk result (λ user. IsUser H name.now user) }
 {
     users.find(name).ok_or(Refusal::User { user: *name })
 }
 
-fn in_range(number: u32, most: u32) -> Result<(), Refusal>
+pub(crate) fn in_range(number: u32, most: u32) -> Result<(), Refusal>
     ensures { refusal_in result ≡ rules.range most number }
 {
     refuse_if(number < 1 || number > most, Refusal::Range { number })
@@ -248,7 +247,7 @@ fn room_for_transfer(journal: &Journal) -> Result<(), Refusal>
     )
 }
 
-fn room_for_trade(journal: &Journal) -> Result<(), Refusal>
+pub(crate) fn room_for_trade(journal: &Journal) -> Result<(), Refusal>
     ensures { refusal_in result ≡ rules.full journal.now.max_trades (length (history.trades journal.now.history)) }
 {
     refuse_if(
@@ -260,7 +259,7 @@ fn room_for_trade(journal: &Journal) -> Result<(), Refusal>
 }
 
 /// A revision that is named is to be the present one.
-fn not_stale(journal: &Journal, at: Option<u32>) -> Result<(), Refusal>
+pub(crate) fn not_stale(journal: &Journal, at: Option<u32>) -> Result<(), Refusal>
     ensures { refusal_in result ≡ rules.stale journal.now.history at }
 {
     match at {
@@ -272,20 +271,23 @@ fn not_stale(journal: &Journal, at: Option<u32>) -> Result<(), Refusal>
     }
 }
 
-/// The variable of a pair, which the words name, is not to be resolved.
-fn not_resolved(journal: &Journal, words: &PairText, pair: Pair) -> Result<(), Refusal>
-    ensures { (network : List Variable) → pair_named network words.now ≡ Some pair → refusal_in result ≡ rules.resolved network journal.now.history words.now.variable }
+/// A variable of a name is not to be resolved.
+pub(crate) fn not_resolved(journal: &Journal, name: &Name, variable: u32) -> Result<(), Refusal>
+    ensures { (network : List Variable) (named : Variable) → variable_named network name.now ≡ Some (variable, named)
+        → refusal_in result ≡ rules.resolved network journal.now.history name.now }
 {
     refuse_if(
-        journal.is_resolved(pair.variable),
-        Refusal::Resolved {
-            variable: words.variable,
-        },
+        journal.is_resolved(variable),
+        Refusal::Resolved { variable: *name },
     )
 }
 
 /// No resolution is to contradict a pair of a condition, which the words name.
-fn agrees(journal: &Journal, condition: &Event, words: &[PairText]) -> Result<(), Refusal>
+pub(crate) fn agrees(
+    journal: &Journal,
+    condition: &Event,
+    words: &[PairText],
+) -> Result<(), Refusal>
     requires one_each { length condition.now ≡ length words.now }
     ensures { (network : List Variable) → rules.unknown network words.now ≡ None → condition.now ≡ rules.known_pairs network words.now
         → refusal_in result ≡ rules.impossible network journal.now.history words.now }
@@ -304,11 +306,11 @@ fn first_contradicted(journal: &Journal, pairs: &[Pair]) -> Option<usize>
     pairs.iter().position(|pair| journal.contradicts(*pair))
 }
 
-/// A clique is to hold the question.
-fn not_wide(tree: &Tree, asked: &Question) -> Result<(), Refusal>
-    ensures { refusal_in result ≡ fault_if (is_none (home tree.now (pairs_asked asked.now))) Refusal.Wide }
+/// A clique is to hold the event of a question.
+pub(crate) fn not_wide(tree: &Tree, event: &Event) -> Result<(), Refusal>
+    ensures { refusal_in result ≡ fault_if (is_none (home tree.now event.now)) Refusal.Wide }
 {
-    refuse_if(tree.home(&asked.event()).is_none(), Refusal::Wide)
+    refuse_if(tree.home(event).is_none(), Refusal::Wide)
 }
 
 /// Each variable is to be resolved.

@@ -3,7 +3,7 @@
 ghost use Rattle.std.specs.Prelude.{◌≡◌, [], length, slice_index};
 ghost use Rattle.mk_net.specs.Network.{sizes};
 
-use crate::{Entry, Journal, Users};
+use crate::{Entry, Journal, LastQuote, Users};
 use mk_assets::Assets;
 use mk_enclose::{Enclosure, Factor};
 use mk_engine::Engine;
@@ -146,7 +146,7 @@ fn one() -> Factor {
 }
 
 /// A quote of even odds.
-fn quote(rt: &impl Abort, user: u32) -> Quote {
+fn quote(rt: &impl Abort, user: u32) -> LastQuote {
     let bounds = Bounds {
         hit: Enclosure::exact(1),
         miss: Enclosure::exact(1),
@@ -154,7 +154,9 @@ fn quote(rt: &impl Abort, user: u32) -> Quote {
         hit_factor: one(),
         miss_factor: one(),
     };
-    Quote::make(user, rain(rt), 3, &bounds)
+    LastQuote::Limits {
+        quote: Quote::make(user, rain(rt), 3, &bounds),
+    }
 }
 
 /// Users of these names, who own nothing.

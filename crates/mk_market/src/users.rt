@@ -6,11 +6,11 @@ ghost use Rattle.mk_net.specs.Bounds.{max_users};
 ghost use Rattle.mk_net.specs.Texts.{same_text};
 ghost use Rattle.mk_market.specs.Members.{new_member, names_of, assets_of, quotes_of, with_quote};
 
+use crate::last_quote::LastQuote;
 use indexmap::IndexSet;
 use mk_assets::Assets;
 use mk_engine::Engine;
 use mk_net::{Name, NoMemory};
-use mk_quote::Quote;
 use mk_semiring::MinProd;
 use std::alloc::Global;
 use std::marker::Model;
@@ -20,7 +20,7 @@ use std::marker::Model;
 pub struct Member<A: Engine<MinProd>> {
     pub name: Name,
     pub assets: Assets<A>,
-    pub quote: Option<Quote>,
+    pub quote: Option<LastQuote>,
 }
 
 /// The users in the order of joining; each is found by name.
@@ -35,7 +35,7 @@ impl<A: Engine<MinProd>> Model for Users<A> {
     ghost use Rattle.mk_market.specs.declared.users.Member.{Member};
     ghost use Rattle.mk_market.specs.inner.Enrolled.{IsEnrolled};
     ghost use Rattle.std.specs.Coded.{codes};
-    ghost use Rattle.mk_quote.specs.contracts.quote.Quote as quote;
+    ghost use Rattle.mk_market.specs.contracts.last_quote.LastQuote as quote;
 
     ghost Value = { List (Member A A.Plan) };
 
@@ -87,7 +87,7 @@ impl<A: Engine<MinProd>> Users<A> {
     }
 
     /// A user's last quote.
-    pub fn quote(&self, user: u32) -> Option<&Quote>
+    pub fn quote(&self, user: u32) -> Option<&LastQuote>
         requires { user < length self.now }
         ensures { slice_get (quotes_of self.now) user ≡ Some (option_copied result) }
     {
@@ -95,7 +95,7 @@ impl<A: Engine<MinProd>> Users<A> {
     }
 
     /// Keeps a quote as a user's last one.
-    pub fn set_quote(&mut self, user: u32, quote: Quote)
+    pub fn set_quote(&mut self, user: u32, quote: LastQuote)
         requires { user < length self.old }
         ensures { self.new ≡ with_quote self.old user quote }
     {

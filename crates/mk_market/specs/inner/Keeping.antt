@@ -3,6 +3,7 @@ use Rattle.std.specs.Prelude.{◌≡◌, ℕ, ◌≤◌, List, [], map, false, O
 use Rattle.mk_net.specs.Network.{Variable, IsNetwork}
 use Rattle.mk_exact.specs.Limits.{Side}
 use Rattle.mk_exact.specs.Sides.{AreSides}
+use Rattle.mk_spread.specs.Markets.{AreValueSides}
 use Rattle.mk_exact.specs.Weight.{IsSmall}
 use Rattle.mk_exact.specs.History.{Entry, users, revision, is_settled}
 use Rattle.mk_tree.specs.Given.{GivenTree}
@@ -15,21 +16,35 @@ use Rattle.mk_assets.specs.declared.assets.Assets.{Assets}
 use Rattle.mk_assets.specs.Holdings.{Owns}
 use Rattle.mk_cash.specs.declared.ledger.Account.{Account}
 use Rattle.mk_quote.specs.declared.quote.Quote.{Quote}
+use Rattle.mk_quote.specs.declared.spread_quote.SpreadQuote.{SpreadQuote}
 use Rattle.mk_quote.specs.Quotes.{user_of, question_of, revision_of, limits_of, bounds_of}
+use Rattle.mk_quote.specs.Spreads as spreads
 use Rattle.mk_reply.specs.declared.payments.Payment.{Payment}
 use Rattle.mk_rules.specs.Quotes as rules
 use Rattle.mk_rules.specs.Transcript.{Standing}
 use Rattle.mk_rules.specs.Standings.{IsReady}
 use Rattle.mk_rules.specs.Bounded.{IsBounded}
-use Rattle.mk_answers.specs.Open.{CanBeAnswered, AreBoundsFor, holding_of}
+use Rattle.mk_answers.specs.Open.{CanBeAnswered, CanBeSpreadHere, AreBoundsFor, AreSideBoundsFor, holding_of}
+use Rattle.mk_market.specs.declared.last_quote.LastQuote.{LastQuote}
+use Rattle.mk_market.specs.declared.last_quote.LastQuote.TheVariants.{Limits, Bounds}
 use Rattle.mk_market.specs.declared.users.Member.{Member}
 use Rattle.mk_market.specs.Journals.{JournalOf}
 use Rattle.mk_market.specs.Members.{names_of, quotes_of, assets_of}
 use Rattle.mk_market.specs.Points.{AreAccounts}
 
+-- the user and the revision of a quote
+abbrev pub user_in : LastQuote → ℕ
+user_in (Limits quote) = user_of quote
+user_in (Bounds quote) = spreads.user_of quote
+
+abbrev pub revision_in : LastQuote → ℕ
+revision_in (Limits quote) = revision_of quote
+revision_in (Bounds quote) = spreads.revision_of quote
+
 -- a quote as the rules of the market see it
-abbrev pub quoted : Quote → rules.Quote
-quoted quote = record { says = rules.EditLimits (question_of quote) (limits_of quote); at = revision_of quote }
+abbrev pub quoted : LastQuote → rules.Quote
+quoted (Limits quote) = record { says = rules.EditLimits (question_of quote) (limits_of quote); at = revision_of quote }
+quoted (Bounds quote) = record { says = rules.SpreadBounds (spreads.question_of quote) (spreads.intervals_of quote); at = spreads.revision_of quote }
 
 -- what a journal and the users leave
 abbrev pub standing_of : {E P : Type 0} → JournalOf → List (Member E P) → Standing
@@ -40,11 +55,26 @@ pub record IsCurrent (network : List Variable) (tree : GivenTree) (H : List Entr
   pub answered : CanBeAnswered network tree H (question_of quote)
   pub bounds : (hit miss : Side) → AreSides network H u (question_of quote) hit miss → AreBoundsFor (bounds_of quote) (IsSmall network H) hit miss
 
+-- the bounds of a quote enclose the side of each value of its variable, and its question can be answered
+pub record IsSpreadCurrent (network : List Variable) (tree : GivenTree) (H : List Entry) (u : ℕ) (quote : SpreadQuote) : Type 0 where
+  pub answered : CanBeSpreadHere network tree H (spreads.question_of quote)
+  pub bounds : (sides : List Side) → AreValueSides network H u (spreads.question_of quote) sides
+      → AreSideBoundsFor (spreads.sides_of quote) (IsSmall network H) sides
+
+-- the bounds of a quote enclose what they are bounds of
+abbrev pub IsLastCurrent : List Variable → GivenTree → List Entry → ℕ → LastQuote → Type 0
+IsLastCurrent network tree H u (Limits quote) = IsCurrent network tree H u quote
+IsLastCurrent network tree H u (Bounds quote) = IsSpreadCurrent network tree H u quote
+
 -- so they do where it was made at the present revision; it was made for this user, and at no later one
-pub record IsKeptQuote (network : List Variable) (tree : GivenTree) (H : List Entry) (u : ℕ) (quote : Quote) : Type 0 where
-  pub same_user : user_of quote ≡ u
-  pub not_later : revision_of quote ≤ revision H
-  pub current : revision_of quote ≡ revision H → IsCurrent network tree H u quote
+pub record IsKeptQuote (network : List Variable) (tree : GivenTree) (H : List Entry) (u : ℕ) (quote : LastQuote) : Type 0 where
+  pub same_user : user_in quote ≡ u
+  pub not_later : revision_in quote ≤ revision H
+  pub current : revision_in quote ≡ revision H → IsLastCurrent network tree H u quote
+
+-- so is each last quote
+abbrev pub AreKeptQuotes : List Variable → GivenTree → List Entry → List (Option LastQuote) → Type 0
+AreKeptQuotes network tree H quotes = (u : ℕ) (quote : LastQuote) → slice_get quotes u ≡ Some (Some quote) → IsKeptQuote network tree H u quote
 
 -- the engines, the users and the ledger are as the history leaves them, and the history stands
 module _ {P A Plan : Type 0} (weights_stand : P → Meaning → Type 0) (gains_stand : A → Meaning → Type 0) (plan_for : Plan → List Variable → GivenTree → Type 0) where
@@ -57,7 +87,7 @@ module _ {P A Plan : Type 0} (weights_stand : P → Meaning → Type 0) (gains_s
     pub named : names_of members ≡ users journal.history
     pub owns : (u : ℕ) (assets : Assets A Plan) → slice_get (assets_of members) u ≡ Some assets
         → Owns gains_stand assets (holding_of file.net file.tree journal.history u)
-    pub quotes_kept : (u : ℕ) (quote : Quote) → slice_get (quotes_of members) u ≡ Some (Some quote) → IsKeptQuote file.net file.tree journal.history u quote
+    pub quotes_kept : AreKeptQuotes file.net file.tree journal.history (quotes_of members)
     pub accounts_kept : AreAccounts (market_of file) journal.history accounts
     pub ready : IsReady (market_of file) (standing_of journal members)
     pub bounded : IsBounded (market_of file) journal.history

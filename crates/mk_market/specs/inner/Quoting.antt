@@ -1,20 +1,34 @@
 -- What a quote, and a trade by it, leave of the parts of a market.
-use Rattle.std.specs.Prelude.{◌≡◌, ℕ, List, Some, slice_get}
+use Rattle.std.specs.Prelude.{◌≡◌, ℕ, ◌<◌, ◌≤◌, List, length, true, Option, Some, is_some, slice_get, slice_set}
+use Rattle.arrayvec.specs.ArrayVec.{ArrayVec}
 use Rattle.mk_net.specs.Network.{Variable}
-use Rattle.mk_net.specs.Asked.{Asked}
+use Rattle.mk_net.specs.Asked.{Asked, TradeRatio, ratio_pairs}
+use Rattle.mk_net.specs.Bounds.{max_market_trades}
 use Rattle.mk_net.specs.declared.words.Pair.{Pair}
-use Rattle.mk_exact.specs.History.{Entry, revision}
-use Rattle.mk_tree.specs.Given.{GivenTree}
+use Rattle.mk_exact.specs.History.{Entry, trades, revision}
+use Rattle.mk_exact.specs.Proper.{IsRatioOf}
+use Rattle.mk_spread.specs.Spreads.{SpreadAsked}
+use Rattle.mk_spread.specs.Bounds.{InsideEach}
+use Rattle.mk_tree.specs.Given.{GivenTree, home}
 use Rattle.mk_engine.specs.Meaning.{Meaning}
 use Rattle.mk_beliefs.specs.Meanings.{weights_of}
 use Rattle.mk_assets.specs.declared.assets.Assets.{Assets}
 use Rattle.mk_assets.specs.Holdings.{Holding, Owns, CanLearn}
 use Rattle.mk_quote.specs.declared.quote.Quote.{Quote}
+use Rattle.mk_quote.specs.declared.spread_quote.SpreadQuote.{SpreadQuote}
 use Rattle.mk_quote.specs.Quotes.{user_of, question_of, revision_of}
+use Rattle.mk_quote.specs.Spreads as spreads
+use Rattle.mk_quote.specs.Values.{AreFairForEach, AreRightForEach}
+use Rattle.mk_reply.specs.declared.refusal.Refusal.{Refusal}
+use Rattle.mk_reply.specs.declared.refusal.Refusal.TheVariants.{Outside}
+use Rattle.mk_reply.specs.Refusals.{given_in}
 use Rattle.mk_answers.specs.Open.{IsOpen, holding_of}
+use Rattle.mk_market.specs.declared.last_quote.LastQuote.{LastQuote}
+use Rattle.mk_market.specs.declared.last_quote.LastQuote.TheVariants.{Bounds}
 use Rattle.mk_market.specs.declared.users.Member.{Member}
+use Rattle.mk_market.specs.Journals.{JournalOf}
 use Rattle.mk_market.specs.Members.{assets_of}
-use Rattle.mk_market.specs.inner.Keeping.{IsCurrent}
+use Rattle.mk_market.specs.inner.Keeping.{IsCurrent, IsSpreadCurrent}
 
 -- the assets of one user stand for a holding
 abbrev pub OwnsAt : {A Plan : Type 0} → (A → Meaning → Type 0) → List (Member A Plan) → ℕ → Holding → Type 0
@@ -33,6 +47,61 @@ pub record IsQuoteOf (network : List Variable) (tree : GivenTree) (H : List Entr
   pub question : question_of quote ≡ asked
   pub at_present : revision_of quote ≡ revision H
   pub current : IsCurrent network tree H u quote
+
+-- so is one of a spread, whose bounds enclose the side of each value
+pub record IsSpreadQuoteOf (network : List Variable) (tree : GivenTree) (H : List Entry) (u : ℕ) (spread : SpreadAsked) (quote : SpreadQuote) : Type 0 where
+  pub same_user : spreads.user_of quote ≡ u
+  pub question : spreads.question_of quote ≡ spread
+  pub at_present : spreads.revision_of quote ≡ revision H
+  pub current : IsSpreadCurrent network tree H u quote
+
+-- one that judges a spread: the user's last quote where that is of this spread and of the present revision
+pub record IsJudge (network : List Variable) (tree : GivenTree) (H : List Entry) (u : ℕ) (spread : SpreadAsked) (quotes : List (Option LastQuote))
+    (quote : SpreadQuote) : Type 0 where
+  pub its : IsSpreadQuoteOf network tree H u spread quote
+  pub last : (held : SpreadQuote) → slice_get quotes u ≡ Some (Some (Bounds held)) → spreads.IsSpreadFor held spread (revision H) → quote ≡ held
+
+-- shares inside of a quote, with the units for them
+pub record IsInside (quote : SpreadQuote) (Xs Fs : List ℕ) : Type 0 where
+  pub inside : InsideEach (spreads.intervals_of quote) Xs
+  pub fair : AreFairForEach (spreads.sides_of quote) Xs Fs
+
+-- shares outside of it, with the refusal that prints its intervals
+pub record IsOutside (quote : SpreadQuote) (Xs : List ℕ) (why : Refusal) : Type 0 where
+  pub outside : ¬ InsideEach (spreads.intervals_of quote) Xs
+  pub box : Option (ArrayVec (ℕ × ℕ))
+  pub printed : why ≡ Outside box
+  pub given : given_in box ≡ spreads.intervals_of quote
+  pub right : AreRightForEach (spreads.sides_of quote) (given_in box)
+
+-- a spread that its judge takes leaves the last quotes
+pub record IsTaken (network : List Variable) (tree : GivenTree) (H : List Entry) (u : ℕ) (spread : SpreadAsked) (quotes new_quotes : List (Option LastQuote))
+    (Xs Fs : List ℕ) : Type 0 where
+  pub quote : SpreadQuote
+  pub judge : IsJudge network tree H u spread quotes quote
+  pub is_inside : IsInside quote Xs Fs
+  pub same_quotes : new_quotes ≡ quotes
+
+-- one that its judge turns down has the judge as the user's last quote
+pub record IsTurnedDown (network : List Variable) (tree : GivenTree) (H : List Entry) (u : ℕ) (spread : SpreadAsked) (quotes new_quotes : List (Option LastQuote))
+    (Xs : List ℕ) (why : Refusal) : Type 0 where
+  pub quote : SpreadQuote
+  pub judge : IsJudge network tree H u spread quotes quote
+  pub is_outside : IsOutside quote Xs why
+  pub quote_set : new_quotes ≡ slice_set quotes u (Some (Bounds quote))
+
+-- a trade that can be made: some market is in use, its user has assets there, its ratio is of the network and has a home, and there
+-- is room for one more
+pub record CanBeMade {P A Plan : Type 0} (weights_stand : P → Meaning → Type 0) (gains_stand : A → Meaning → Type 0) (prices : P) (members : List (Member A Plan))
+    (journal : JournalOf) (user : ℕ) (ratio : TradeRatio) : Type 0 where
+  pub network : List Variable
+  pub tree : GivenTree
+  pub in_use : AreInUse weights_stand gains_stand network tree journal.history prices members
+  pub within : user < length members
+  pub in_range : IsRatioOf network ratio
+  pub home : is_some (home tree (ratio_pairs ratio)) ≡ true
+  pub room : length (trades journal.history) < journal.max_trades
+  pub few : journal.max_trades ≤ max_market_trades
 
 -- each user's assets can learn a pair
 abbrev pub CanBeTold : {A Plan : Type 0} → (A → Meaning → Type 0) → List (Member A Plan) → Pair → Type 0

@@ -1,0 +1,118 @@
+-- A user's last quote is set.
+use Rattle.std.specs.Prelude.{◌≡◌, ℕ, ◌<◌, List, [], ◌++◌, ◌⊎◌, length, map, Option, Some, option_map, slice_get, slice_set}
+use Rattle.std.proofs.Common.{sym, ap, ap₂, ◌∙◌, subst, inl, inr, arith, append-nil}
+use Rattle.std.proofs.lemmas.List.{length-map, map-set}
+use Rattle.mk_net.specs.Network.{Variable}
+use Rattle.mk_exact.specs.History.{Entry, revision}
+use Rattle.mk_tree.specs.Given.{GivenTree}
+use Rattle.mk_file.specs.declared.market_file.MarketFile.{MarketFile}
+use Rattle.mk_file.specs.MarketOf.{market_of}
+use Rattle.mk_engine.specs.Meaning.{Meaning}
+use Rattle.mk_beliefs.specs.Meanings.{weights_of}
+use Rattle.mk_assets.specs.declared.assets.Assets.{Assets}
+use Rattle.mk_assets.specs.Holdings.{Holding}
+use Rattle.mk_cash.specs.declared.ledger.Account.{Account}
+use Rattle.mk_command.specs.declared.command.Command.{Command}
+use Rattle.mk_reply.specs.declared.payments.Payment.{Payment}
+use Rattle.mk_reply.specs.declared.reply.Reply.{Reply}
+use Rattle.mk_rules.specs.Answers as rules
+use Rattle.mk_rules.specs.Refusals.{user_number}
+use Rattle.mk_rules.specs.Quotes.{Quoted, Quote, Quotes}
+use Rattle.mk_rules.specs.Transcript.{OfCommand}
+use Rattle.mk_rules.specs.Standings.{IsReady}
+use Rattle.mk_rules.proofs.Ready.{ready_keeps}
+use Rattle.mk_answers.specs.Open.{holding_of}
+use Rattle.mk_market.specs.declared.last_quote.LastQuote.{LastQuote}
+use Rattle.mk_market.specs.declared.users.Member.{Member}
+use Rattle.mk_market.specs.Journals.{JournalOf}
+use Rattle.mk_market.specs.Members.{names_of, assets_of, quotes_of, with_quote}
+use Rattle.mk_market.specs.Trading.{Trading, IsAnswered}
+use Rattle.mk_market.specs.inner.Keeping.{quoted, standing_of, IsKeptQuote, AreKeptQuotes, IsKept}
+use Rattle.mk_market.specs.inner.Quoting.{OwnsAt}
+use Rattle.mk_market.proofs.Lent.{in_range, read_set, names_beside, assets_beside, quotes_set}
+
+-- a market as its callers see it
+abbrev pub trading : {A Plan : Type 0} → MarketFile → JournalOf → List (Member A Plan) → Trading
+trading file journal members = record { market = market_of file; standing = standing_of journal members }
+
+some_is : {X : Type 0} (x y : X) → Some x ≡ Some y → x ≡ y
+some_is x y e = cc
+
+-- what holds of each last quote holds once one more was set of which it holds
+each_set : (P : ℕ → LastQuote → Type 0) (user : ℕ) (quote : LastQuote) (qs : List (Option LastQuote)) → P user quote
+    → ((u : ℕ) (held : LastQuote) → slice_get qs u ≡ Some (Some held) → P u held)
+    → (u : ℕ) (held : LastQuote) → slice_get (slice_set qs user (Some quote)) u ≡ Some (Some held) → P u held
+each_set P user quote qs new old u held at = by (read_set qs user u (Some quote) (Some held) at)
+  where
+    by : ((u ≡ user) × (Some held ≡ Some quote)) ⊎ (slice_get qs u ≡ Some (Some held)) → P u held
+    by (inl p) = subst (λ (n : ℕ). P n held) (sym (p.0)) (subst (P user) (sym (some_is held quote (p.1))) new)
+    by (inr e) = old u held e
+
+-- users of whom one was quoted this, and whose assets stand for what they stood for
+pub record AreQuoted {A Plan : Type 0} (gains_stand : A → Meaning → Type 0) (members new_members : List (Member A Plan)) (user : ℕ) (quote : LastQuote) : Type 0 where
+  pub names : names_of new_members ≡ names_of members
+  pub quotes : quotes_of new_members ≡ slice_set (quotes_of members) user (Some quote)
+  pub assets : (u : ℕ) (h : Holding) → OwnsAt gains_stand members u h → OwnsAt gains_stand new_members u h
+
+-- where the quote was set beside other assets
+pub quote_was_set : {A Plan : Type 0} (gains_stand : A → Meaning → Type 0) (members mid new_members : List (Member A Plan)) (user : ℕ) (quote : LastQuote)
+    → names_of mid ≡ names_of members → quotes_of mid ≡ quotes_of members → ((u : ℕ) (h : Holding) → OwnsAt gains_stand members u h → OwnsAt gains_stand mid u h)
+    → user < length members → new_members ≡ with_quote mid user quote → AreQuoted gains_stand members new_members user quote
+quote_was_set {A} {Plan} gains_stand members mid new_members user quote same_names same_quotes still within set = record {
+  names = ap names_of set ∙ names_beside mid user quote ∙ same_names;
+  quotes = ap quotes_of set ∙ quotes_set mid user quote within_mid ∙ ap (λ (qs : List (Option LastQuote)). slice_set qs user (Some quote)) same_quotes;
+  assets = λ u h owns assets at.
+      still u h owns assets (subst (λ (xs : List (Assets A Plan)). slice_get xs u ≡ Some assets) (ap assets_of set ∙ assets_beside mid user quote) at);
+}
+  where
+    within_mid : user < length mid
+    within_mid =
+        let named : length (names_of members) ≡ length members = length-map members (λ (m : Member A Plan). m.name) in
+        in_range mid (names_of members) user same_names (omega (arith, within, named))
+
+-- in the standing the user was quoted what the quote says
+pub quote_said : {A Plan : Type 0} (H : List Entry) (members new_members : List (Member A Plan)) (name : List ℕ) (user : ℕ) (quote : LastQuote) (said : Quoted)
+    → user ≡ user_number H name → quoted quote ≡ record { says = said; at = revision H } → quotes_of new_members ≡ slice_set (quotes_of members) user (Some quote)
+    → map (option_map quoted) (quotes_of new_members) ≡ rules.with_quote H (map (option_map quoted) (quotes_of members)) name (Some said)
+quote_said H members new_members name user quote said numbered says set =
+    ap (map (option_map quoted)) set
+    ∙ map-set (option_map quoted) (quotes_of members) user (Some quote)
+    ∙ ap₂ (λ (n : ℕ) (q : Quote). slice_set (map (option_map quoted) (quotes_of members)) n (Some q)) numbered says
+
+-- and the history is the same
+pub standing_quoted : {A Plan : Type 0} (journal : JournalOf) (new_members : List (Member A Plan)) (quotes : Quotes) → map (option_map quoted) (quotes_of new_members) ≡ quotes
+    → standing_of journal new_members ≡ record { history = journal.history ++ []; quotes = quotes }
+standing_quoted journal new_members quotes said =
+    ap₂ (λ (H : List Entry) (qs : Quotes). record { history = H; quotes = qs }) (sym (append-nil journal.history)) said
+
+module _ {P A Plan : Type 0} (weights_stand : P → Meaning → Type 0) (gains_stand : A → Meaning → Type 0) (plan_for : Plan → List Variable → GivenTree → Type 0)
+    (file : MarketFile) (prices new_prices : P) (plan : Plan) (members new_members : List (Member A Plan)) (accounts : List Account) (journal : JournalOf)
+    (payments : Option (List Payment)) (kept : IsKept weights_stand gains_stand plan_for file prices plan members accounts journal payments)
+    (user : ℕ) (quote : LastQuote) (is : IsKeptQuote file.net file.tree journal.history user quote) (are : AreQuoted gains_stand members new_members user quote) where
+  quotes_kept_then : AreKeptQuotes file.net file.tree journal.history (quotes_of new_members)
+  quotes_kept_then =
+      subst (AreKeptQuotes file.net file.tree journal.history) (sym are.quotes)
+      (each_set (IsKeptQuote file.net file.tree journal.history) user quote (quotes_of members) is kept.quotes_kept)
+
+  ready_then : (command : Command) (reply : Reply) → IsAnswered (trading file journal members) (trading file journal new_members) command reply → IsReady (market_of file) (standing_of journal new_members)
+  ready_then command reply answered =
+      subst (IsReady (market_of file)) (sym answered.next) (ready_keeps (market_of file) (standing_of journal members) (OfCommand command) reply kept.ready answered.allowed)
+
+  -- a market that was kept is kept beside a new quote, where its answer is allowed
+  pub kept_quoted : ((m : Meaning) → weights_stand prices m → weights_stand new_prices m)
+      → (command : Command) (reply : Reply) → IsAnswered (trading file journal members) (trading file journal new_members) command reply
+      → IsKept weights_stand gains_stand plan_for file new_prices plan new_members accounts journal payments
+  kept_quoted still_prices command reply answered = record {
+    legal = kept.legal;
+    tree = kept.tree;
+    planned = kept.planned;
+    prices_stand = still_prices (weights_of file.net file.tree journal.history) kept.prices_stand;
+    named = are.names ∙ kept.named;
+    owns = λ u. are.assets u (holding_of file.net file.tree journal.history u) (kept.owns u);
+    quotes_kept = quotes_kept_then;
+    accounts_kept = kept.accounts_kept;
+    ready = ready_then command reply answered;
+    bounded = kept.bounded;
+    max_trades = kept.max_trades;
+    room = kept.room;
+  }

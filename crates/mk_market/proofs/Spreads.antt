@@ -1,0 +1,295 @@
+-- A user is quoted bounds, or a spread is judged by them.
+use Rattle.std.specs.Prelude.{◌≡◌, ℕ, ◌+◌, ◌==◌, List, [], ◌∷◌, ◌++◌, Bool, true, false, if◌then◌else◌, length, map, All, Option, Some, None, option_map, option_and_then, option_to_list, MatchOption, IsSomeAnd, Result, Ok, Err, IsErrAnd, ⊤, is_some, slice_get, slice_set}
+use Rattle.std.proofs.Common.{refl, sym, ap, ap₂, ◌∙◌, subst, inl, inr, arith}
+use Rattle.std.proofs.lemmas.Bool.{eqb-true}
+use Rattle.std.proofs.lemmas.List.{length_push}
+use Rattle.std.proofs.lemmas.Option.{slice_get-map}
+use Rattle.arrayvec.specs.ArrayVec.{ArrayVec}
+use Rattle.mk_net.specs.declared.words.PairText.{PairText}
+use Rattle.mk_net.specs.Network.{Variable}
+use Rattle.mk_net.specs.Asked.{IsUnits, ratio_pairs}
+use Rattle.mk_exact.specs.History.{Entry, Trade, revision}
+use Rattle.mk_exact.specs.Proper.{IsRatioOf}
+use Rattle.mk_exact.specs.Weight.{IsSmall}
+use Rattle.mk_spread.specs.Spreads.{SpreadAsked, spread_ratio}
+use Rattle.mk_spread.specs.Bounds.{Intervals, InsideEach}
+use Rattle.mk_spread.specs.Existing.{HasValueSides}
+use Rattle.mk_spread.specs.Laws.{AreOfValues}
+use Rattle.mk_spread.specs.Markets.{AreRightBoundsOf, IsFairList}
+use Rattle.mk_spread.proofs.Exist.{value_sides_exist}
+use Rattle.mk_spread.proofs.Fair.{fair_list_is_ratio, fair_list_fits}
+use Rattle.mk_spread.proofs.When.{units_when, bounds_when}
+use Rattle.mk_tree.specs.Given.{GivenTree, home}
+use Rattle.mk_file.specs.declared.market_file.MarketFile.{MarketFile}
+use Rattle.mk_file.specs.MarketOf.{market_of}
+use Rattle.mk_engine.specs.Meaning.{Meaning}
+use Rattle.mk_cash.specs.declared.ledger.Account.{Account}
+use Rattle.mk_command.specs.declared.command.Command.TheVariants.{Bounds, Spread}
+use Rattle.mk_quote.specs.declared.spread_quote.SpreadQuote.{SpreadQuote}
+use Rattle.mk_quote.specs.Values.{AreEachExact, AreRightForEach, AreFairForEach}
+use Rattle.mk_quote.specs.Spreads.{question_of, revision_of, sides_of, intervals_of, IsSpreadFor}
+use Rattle.mk_reply.specs.declared.payments.Payment.{Payment}
+use Rattle.mk_reply.specs.declared.refusal.Refusal.{Refusal}
+use Rattle.mk_reply.specs.declared.refusal.Refusal.TheVariants.{Outside}
+use Rattle.mk_reply.specs.declared.reply.Reply.{Reply}
+use Rattle.mk_reply.specs.declared.reply.Reply.TheVariants.{Bounded, Spreaded, Refused}
+use Rattle.mk_reply.specs.Refusals.{given_in}
+use Rattle.mk_rules.specs.Answers.{IsBounds, IsSpreadTrade, IsOutside as PrintsOutside, IsSpreadJudged, IsSpreadJudgedAfresh, with_bounds, with_quote}
+use Rattle.mk_rules.specs.Refusals.{spread_named, user_number, first_refusal}
+use Rattle.mk_rules.specs.Quotes as rules
+use Rattle.mk_rules.specs.Transcript.{OfCommand, IsAllowedFor, after}
+use Rattle.mk_rules.proofs.Ready.{spread_refused}
+use Rattle.mk_rules.proofs.Quoted.{same_spread_is}
+use Rattle.mk_answers.specs.Open.{IsOpen, AreSideBoundsFor}
+use Rattle.mk_market.specs.declared.last_quote.LastQuote.{LastQuote}
+use Rattle.mk_market.specs.declared.last_quote.LastQuote.TheVariants.{Limits as LastLimits, Bounds as LastBounds}
+use Rattle.mk_market.specs.declared.users.Member.{Member}
+use Rattle.mk_market.specs.Journals.{JournalOf}
+use Rattle.mk_market.specs.Members.{quotes_of}
+use Rattle.mk_market.specs.Refused.{IsUser, IsSpreadQuestionFor}
+use Rattle.mk_market.specs.Trading.{Trading, IsAnswered, reply_of}
+use Rattle.mk_market.specs.inner.Keeping.{quoted, standing_of, IsKeptQuote, IsKept}
+use Rattle.mk_market.specs.inner.Quoting.{IsSpreadQuoteOf, IsOutside}
+use Rattle.mk_market.proofs.Growing.{is_open}
+use Rattle.mk_market.proofs.Quotes.{trading, quote_said, standing_quoted}
+use Rattle.mk_market.proofs.Replies.{answer_allowed, refusal_allowed, none_appended}
+
+-- ---- a refusal
+
+-- a spread that a refusal of the table meets leaves the standing
+refused_answered : (old : Trading) (name v : List ℕ) (condition : ArrayVec PairText) (to : ArrayVec ℕ) (seen : Option ℕ) (why : Refusal)
+    → Some why ≡ first_refusal old.market old.standing.history (Spread name v condition to seen) → IsAnswered old old (Spread name v condition to seen) (Refused why)
+refused_answered old name v condition to seen why e = record {
+  same_market = refl;
+  allowed = refusal_allowed old.market old.standing (Spread name v condition to seen) why e;
+  next = none_appended old.market old.standing (Spread name v condition to seen) (Refused why) refl
+      (spread_refused old.market old.standing.history old.standing.quotes name v condition to seen why (sym e));
+}
+
+pub spread_refused_answered : (old known : Trading) → known ≡ old → (name v : List ℕ) (condition : ArrayVec PairText) (to : ArrayVec ℕ) (seen : Option ℕ) (why : Refusal)
+    (result : Result Reply Refusal) → IsErrAnd result (λ e. e ≡ why) → Some why ≡ first_refusal known.market known.standing.history (Spread name v condition to seen)
+    → IsAnswered old old (Spread name v condition to seen) (reply_of result)
+spread_refused_answered old known same name v condition to seen why (Ok reply) e refusal = absurd e
+spread_refused_answered old known same name v condition to seen why (Err found) e refusal =
+    subst (λ (w : Refusal). IsAnswered old old (Spread name v condition to seen) (Refused w)) (sym e)
+    (subst (λ (t : Trading). IsAnswered t t (Spread name v condition to seen) (Refused why)) same (refused_answered known name v condition to seen why refusal))
+
+-- the question of a slice of words is that of their list
+pub question_for : (file : MarketFile) (H : List Entry) (v : List ℕ) (words : List PairText) (condition : ArrayVec PairText) (spread : SpreadAsked) → words ≡ condition.items
+    → IsSpreadQuestionFor (market_of file) file.tree H v words spread → IsSpreadQuestionFor (market_of file) file.tree H v condition.items spread
+question_for file H v words condition spread same is = subst (λ (pairs : List PairText). IsSpreadQuestionFor (market_of file) file.tree H v pairs spread) same is
+
+-- ---- a quote
+
+module _ (network : List Variable) (tree : GivenTree) (H : List Entry) (u : ℕ) (spread : SpreadAsked) (quote : SpreadQuote) (is : IsSpreadQuoteOf network tree H u spread quote) where
+  pub kept_quote : IsKeptQuote network tree H u (LastBounds quote)
+  kept_quote = record { same_user = is.same_user; not_later = omega (arith, is.at_present); current = λ same. is.current }
+
+  -- as the rules see it
+  pub quoted_is : quoted (LastBounds quote) ≡ record { says = rules.SpreadBounds spread (intervals_of quote); at = revision H }
+  quoted_is = ap₂ (λ (s : SpreadAsked) (n : ℕ). record { says = rules.SpreadBounds s (intervals_of quote); at = n }) is.question is.at_present
+
+  module _ (open_for : IsOpen network tree H) where
+    has_sides : HasValueSides network H u (question_of quote)
+    has_sides = value_sides_exist network H u (question_of quote) open_for.legal open_for.proper open_for.sound is.current.answered.can_spread
+
+    enclosed : AreSideBoundsFor (sides_of quote) (IsSmall network H) has_sides.sides
+    enclosed = is.current.bounds has_sides.sides has_sides.are_sides
+
+    -- its bounds are right
+    pub right_bounds : (intervals : Intervals) → AreRightForEach (sides_of quote) intervals → AreRightBoundsOf network H u spread intervals
+    right_bounds intervals right =
+        subst (λ (s : SpreadAsked). AreRightBoundsOf network H u s intervals) is.question (record {
+          sides = has_sides.sides;
+          are_sides = has_sides.are_sides;
+          right = bounds_when (IsSmall network H) (AreEachExact (sides_of quote)) enclosed.exact has_sides.sides intervals (right has_sides.sides enclosed.sides enclosed.graded);
+        })
+
+    -- and the units that it gives are a fair list
+    pub fair_list : (Xs Fs : List ℕ) → AreFairForEach (sides_of quote) Xs Fs → IsFairList network H u spread Xs Fs
+    fair_list Xs Fs fair =
+        subst (λ (s : SpreadAsked). IsFairList network H u s Xs Fs) is.question (record {
+          sides = has_sides.sides;
+          are_sides = has_sides.are_sides;
+          units = units_when (IsSmall network H) (AreEachExact (sides_of quote)) enclosed.exact has_sides.sides Xs Fs (fair has_sides.sides enclosed.sides enclosed.graded);
+        })
+
+-- ---- bounds in the standing
+
+-- the bounds that the rules find in a user's last quote
+current_in : Option (Option LastQuote) → SpreadAsked → ℕ → Option Intervals
+current_in o spread now = rules.current_bounds (option_and_then (λ held. held) (option_map (option_map quoted) o)) spread now
+
+-- are those of the quote that judges
+module _ (spread : SpreadAsked) (now : ℕ) (quote : SpreadQuote) where
+  TheSame : Option Intervals → Type 0
+  TheSame o = MatchOption o ⊤ (λ (intervals : Intervals). intervals ≡ intervals_of quote)
+
+  in_question : (held : SpreadQuote) (b : Bool) → (b ≡ true → held ≡ quote) → TheSame (if b then Some (intervals_of held) else None)
+  unfolding TheSame
+  in_question held false h = tt
+  in_question held true h = ap intervals_of (h refl)
+
+  in_quote : (held : SpreadQuote) (b : Bool) → (b ≡ true → IsSpreadFor held spread now → quote ≡ held) → (b ≡ true → revision_of held ≡ now)
+      → TheSame (if b then rules.bounds_in (rules.SpreadBounds (question_of held) (intervals_of held)) spread else None)
+  unfolding TheSame
+  in_quote held false h at = tt
+  in_quote held true h at =
+      in_question held (rules.same_spread (question_of held) spread)
+      (λ same. sym (h refl (record { same_question = same_spread_is (question_of held) spread same; same_revision = at refl })))
+
+  -- limits of an edit hold none
+  none_in : (b : Bool) → TheSame (if b then None else None)
+  unfolding TheSame
+  none_in false = tt
+  none_in true = tt
+
+  current_is : (o : Option (Option LastQuote)) → ((held : SpreadQuote) → o ≡ Some (Some (LastBounds held)) → IsSpreadFor held spread now → quote ≡ held) → TheSame (current_in o spread now)
+  unfolding TheSame current_in
+  current_is None h = tt
+  current_is (Some None) h = tt
+  current_is (Some (Some (LastLimits held))) h = none_in _
+  current_is (Some (Some (LastBounds held))) h = in_quote held (revision_of held == now) (λ same for. h held refl for) (λ same. eqb-true (revision_of held) now same)
+
+-- a spread is judged by a quote: by its bounds, where the user was quoted them
+judged_by : {A Plan : Type 0} (members : List (Member A Plan)) (user : ℕ) (spread : SpreadAsked) (now : ℕ) (quote : SpreadQuote)
+    → ((held : SpreadQuote) → slice_get (quotes_of members) user ≡ Some (Some (LastBounds held)) → IsSpreadFor held spread now → quote ≡ held)
+    → (Afresh : Type 0) (By : Intervals → Type 0) → Afresh → By (intervals_of quote)
+    → MatchOption (rules.current_bounds (rules.last_quote (map (option_map quoted) (quotes_of members)) user) spread now) Afresh By
+unfolding current_in TheSame
+judged_by members user spread now quote last Afresh By afresh by =
+    subst (λ (o : Option (Option rules.Quote)). MatchOption (rules.current_bounds (option_and_then (λ held. held) o) spread now) Afresh By)
+    (sym (slice_get-map (option_map quoted) (quotes_of members) user))
+    (at (current_in (slice_get (quotes_of members) user) spread now) (current_is spread now quote (slice_get (quotes_of members) user) last))
+  where
+    at : (o : Option Intervals) → MatchOption o ⊤ (λ (intervals : Intervals). intervals ≡ intervals_of quote) → MatchOption o Afresh By
+    at None h = afresh
+    at (Some intervals) h = subst By (sym h) by
+
+-- a spread that no refusal of the table meets is answered as the quote judges it
+module _ {A Plan : Type 0} (file : MarketFile) (journal : JournalOf) (members : List (Member A Plan)) (name : List ℕ) (user : ℕ) (is_user : IsUser journal.history name user)
+    (v : List ℕ) (condition : ArrayVec PairText) (spread : SpreadAsked)
+    (is_question : IsSpreadQuestionFor (market_of file) file.tree journal.history v condition.items spread) (quote : SpreadQuote)
+    (last : (held : SpreadQuote) → slice_get (quotes_of members) user ≡ Some (Some (LastBounds held)) → IsSpreadFor held spread (revision journal.history) → quote ≡ held) where
+  pub spread_allowed : (to : ArrayVec ℕ) (seen : Option ℕ) (reply : Reply) → None ≡ first_refusal (market_of file) journal.history (Spread name v condition to seen)
+      → IsSpreadJudgedAfresh file.net journal.history user spread to.items reply → IsSpreadJudged file.net journal.history user spread to.items (intervals_of quote) reply
+      → IsAllowedFor (market_of file) (standing_of journal members) (OfCommand (Spread name v condition to seen)) reply
+  spread_allowed to seen reply none afresh by =
+      let H = journal.history in
+      let quotes : rules.Quotes = map (option_map quoted) (quotes_of members) in
+      answer_allowed (market_of file) (standing_of journal members) (Spread name v condition to seen) reply none
+      (subst (λ (o : Option SpreadAsked). IsSomeAnd o (λ spread. MatchOption (rules.current_bounds (rules.last_quote quotes (user_number H name)) spread (revision H))
+      (IsSpreadJudgedAfresh file.net H (user_number H name) spread to.items reply) (λ intervals. IsSpreadJudged file.net H (user_number H name) spread to.items intervals reply)))
+      (sym is_question.named)
+      (subst (λ (n : ℕ). MatchOption (rules.current_bounds (rules.last_quote quotes n) spread (revision H))
+      (IsSpreadJudgedAfresh file.net H n spread to.items reply) (λ intervals. IsSpreadJudged file.net H n spread to.items intervals reply))
+      is_user.number
+      (judged_by members user spread (revision H) quote last (IsSpreadJudgedAfresh file.net H user spread to.items reply)
+      (λ intervals. IsSpreadJudged file.net H user spread to.items intervals reply) afresh by)))
+
+-- ---- the market
+
+module _ {P A Plan : Type 0} (weights_stand : P → Meaning → Type 0) (gains_stand : A → Meaning → Type 0) (plan_for : Plan → List Variable → GivenTree → Type 0)
+    (file : MarketFile) (prices : P) (plan : Plan) (members new_members : List (Member A Plan)) (accounts : List Account) (journal : JournalOf)
+    (payments : Option (List Payment)) (kept : IsKept weights_stand gains_stand plan_for file prices plan members accounts journal payments)
+    (name : List ℕ) (user : ℕ) (is_user : IsUser journal.history name user) (v : List ℕ) (condition : ArrayVec PairText) (spread : SpreadAsked)
+    (is_question : IsSpreadQuestionFor (market_of file) file.tree journal.history v condition.items spread) (quote : SpreadQuote)
+    (is : IsSpreadQuoteOf file.net file.tree journal.history user spread quote)
+    (new_quotes : quotes_of new_members ≡ slice_set (quotes_of members) user (Some (LastBounds quote))) where
+  next_quoted : (intervals : Intervals) → intervals ≡ intervals_of quote → standing_of journal new_members
+      ≡ record { history = journal.history ++ []; quotes = with_bounds (market_of file) journal.history (map (option_map quoted) (quotes_of members)) name v condition.items intervals }
+  next_quoted intervals given =
+      standing_quoted journal new_members _
+      (quote_said journal.history members new_members name user (LastBounds quote) (rules.SpreadBounds spread (intervals_of quote)) is_user.number
+      (quoted_is file.net file.tree journal.history user spread quote is) new_quotes
+      ∙ ap (λ (i : Intervals). with_quote journal.history (map (option_map quoted) (quotes_of members)) name (Some (rules.SpreadBounds spread i))) (sym given)
+      ∙ sym (ap (λ (o : Option SpreadAsked). with_quote journal.history (map (option_map quoted) (quotes_of members)) name (option_map (λ (s : SpreadAsked). rules.SpreadBounds s intervals) o))
+      is_question.named))
+
+  open_for : IsOpen file.net file.tree journal.history
+  open_for = is_open weights_stand gains_stand plan_for file prices plan members accounts journal payments kept
+
+  right_for : (intervals : Intervals) → AreRightForEach (sides_of quote) intervals → AreRightBoundsOf file.net journal.history user spread intervals
+  right_for intervals right = right_bounds file.net file.tree journal.history user spread quote is open_for intervals right
+
+  -- the bounds of a spread
+  pub bounds_answered : (box : Option (ArrayVec (ℕ × ℕ))) (at : ℕ) → None ≡ first_refusal (market_of file) journal.history (Bounds name v condition)
+      → given_in box ≡ intervals_of quote → AreRightForEach (sides_of quote) (given_in box) → at ≡ revision journal.history
+      → IsAnswered (trading file journal members) (trading file journal new_members) (Bounds name v condition) (Bounded box at)
+  bounds_answered box at none given right now = record {
+    same_market = refl;
+    allowed = answer_allowed (market_of file) (standing_of journal members) (Bounds name v condition) (Bounded box at) none
+        (subst (λ (o : Option SpreadAsked). IsSomeAnd o (λ s. IsBounds file.net journal.history (user_number journal.history name) s (Bounded box at))) (sym is_question.named)
+        (record {
+          box = box;
+          printed = ap (λ (n : ℕ). Bounded box n) now;
+          right = subst (λ (n : ℕ). AreRightBoundsOf file.net journal.history n spread (given_in box)) is_user.number (right_for (given_in box) right);
+        }));
+    next = next_quoted (given_in box) given;
+  }
+
+  -- a spread that is outside of the quote's bounds
+  pub outside_answered : (to : ArrayVec ℕ) (seen : Option ℕ) (why : Refusal) → None ≡ first_refusal (market_of file) journal.history (Spread name v condition to seen)
+      → IsOutside quote to.items why
+      → ((held : SpreadQuote) → slice_get (quotes_of members) user ≡ Some (Some (LastBounds held)) → IsSpreadFor held spread (revision journal.history) → quote ≡ held)
+      → IsAnswered (trading file journal members) (trading file journal new_members) (Spread name v condition to seen) (Refused why)
+  outside_answered to seen why none out last =
+      let reply = Refused (Outside out.box) in
+      let printed : Refused why ≡ reply = ap (λ (w : Refusal). Refused w) out.printed in
+      let outside : PrintsOutside (intervals_of quote) to.items reply = record { outside = out.outside; box = out.box; given = out.given; printed = refl } in
+      subst (IsAnswered (trading file journal members) (trading file journal new_members) (Spread name v condition to seen)) (sym printed)
+      (record {
+        same_market = refl;
+        allowed = spread_allowed file journal members name user is_user v condition spread is_question quote last to seen reply none
+            (inr (record {
+              intervals = intervals_of quote;
+              right = right_for (intervals_of quote) (subst (AreRightForEach (sides_of quote)) out.given out.right);
+              outside = outside;
+            }))
+            (inr outside);
+        next = next_quoted (given_in out.box) out.given;
+      })
+
+-- ---- a trade
+
+module _ (file : MarketFile) (journal : JournalOf) (open_for : IsOpen file.net file.tree journal.history) (name : List ℕ) (user : ℕ) (is_user : IsUser journal.history name user)
+    (v : List ℕ) (condition : ArrayVec PairText) (spread : SpreadAsked)
+    (is_question : IsSpreadQuestionFor (market_of file) file.tree journal.history v condition.items spread) (quote : SpreadQuote)
+    (is : IsSpreadQuoteOf file.net file.tree journal.history user spread quote) (to factors : ArrayVec ℕ) (fair : AreFairForEach (sides_of quote) to.items factors.items) where
+  list : IsFairList file.net journal.history user spread to.items factors.items
+  list = fair_list file.net file.tree journal.history user spread quote is open_for to.items factors.items fair
+
+  -- there are units for each value
+  pub of_values : AreOfValues factors.items × All IsUnits factors.items
+  of_values = fair_list_fits file.net journal.history user spread to.items factors.items list open_for.legal is_question.answered.can_spread.in_range.variable
+
+  -- the ratio is the network's, and has a home
+  pub ratio_is : IsRatioOf file.net (spread_ratio spread factors.items)
+  ratio_is = fair_list_is_ratio file.net journal.history user spread to.items factors.items list is_question.answered.can_spread.in_range
+
+  pub ratio_has_home : is_some (home file.tree (ratio_pairs (spread_ratio spread factors.items))) ≡ true
+  ratio_has_home = is_question.answered.home 0
+
+  module _ {A Plan : Type 0} (members new_members : List (Member A Plan)) (new_journal : JournalOf) (seen : Option ℕ)
+      (none : None ≡ first_refusal (market_of file) journal.history (Spread name v condition to seen)) (inside : InsideEach (intervals_of quote) to.items)
+      (last : (held : SpreadQuote) → slice_get (quotes_of members) user ≡ Some (Some (LastBounds held)) → IsSpreadFor held spread (revision journal.history) → quote ≡ held)
+      (history : new_journal.history ≡ journal.history ++ Trade user (spread_ratio spread factors.items) ∷ []) (same_quotes : quotes_of new_members ≡ quotes_of members)
+      (at : ℕ) (now : at ≡ revision new_journal.history) where
+    pub spread_trade_allowed : IsAllowedFor (market_of file) (standing_of journal members) (OfCommand (Spread name v condition to seen)) (Spreaded factors at)
+    spread_trade_allowed =
+        let later : at ≡ revision journal.history + 1
+        = now ∙ ap (λ (H : List Entry). length H) history ∙ length_push journal.history (Trade user (spread_ratio spread factors.items)) in
+        let trade : IsSpreadTrade file.net journal.history user spread to.items (Spreaded factors at)
+        = record { factors = factors; printed = ap (λ (n : ℕ). Spreaded factors n) later; fair = list } in
+        spread_allowed file journal members name user is_user v condition spread is_question quote last to seen (Spreaded factors at) none (inl trade) (inl (inside, trade))
+
+    pub spread_trade_next : standing_of new_journal new_members ≡ after (market_of file) (standing_of journal members) (OfCommand (Spread name v condition to seen)) (Spreaded factors at)
+    spread_trade_next =
+        ap₂ (λ (H : List Entry) (qs : List (Option LastQuote)). record { history = H; quotes = map (option_map quoted) qs })
+        (history
+        ∙ ap (λ (o : Option SpreadAsked). journal.history ++ option_to_list (option_map (λ (s : SpreadAsked). Trade user (spread_ratio s factors.items)) o)) (sym is_question.named)
+        ∙ ap (λ (n : ℕ). journal.history ++ option_to_list (option_map (λ (s : SpreadAsked). Trade n (spread_ratio s factors.items)) (spread_named file.net v condition.items))) is_user.number)
+        same_quotes
+
+    pub spread_trade_answered : IsAnswered (trading file journal members) (trading file new_journal new_members) (Spread name v condition to seen) (Spreaded factors at)
+    spread_trade_answered = record { same_market = refl; allowed = spread_trade_allowed; next = spread_trade_next }

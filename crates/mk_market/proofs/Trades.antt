@@ -1,0 +1,86 @@
+-- A market in which a user trades.
+use Rattle.std.specs.Prelude.{◌≡◌, ℕ, ◌<◌, List, [], ◌∷◌, ◌++◌, length, Option, Some, None, slice_get, true, is_some}
+use Rattle.std.proofs.Common.{refl, sym, ◌∙◌, subst, arith}
+use Rattle.mk_net.specs.Network.{Variable}
+use Rattle.mk_net.specs.Asked.{TradeRatio, ratio_pairs}
+use Rattle.mk_exact.specs.History.{Trade, join_in, users, trades, is_settlement}
+use Rattle.mk_exact.specs.Proper.{IsRatioOf}
+use Rattle.mk_tree.specs.Given.{GivenTree, home}
+use Rattle.mk_file.specs.declared.market_file.MarketFile.{MarketFile}
+use Rattle.mk_file.specs.MarketOf.{market_of}
+use Rattle.mk_engine.specs.Meaning.{Meaning, RatioOf, with_factor}
+use Rattle.mk_assets.specs.Holdings.{Holding}
+use Rattle.mk_cash.specs.declared.ledger.Account.{Account}
+use Rattle.mk_command.specs.declared.command.Command.{Command}
+use Rattle.mk_reply.specs.declared.payments.Payment.{Payment}
+use Rattle.mk_reply.specs.declared.reply.Reply.{Reply}
+use Rattle.mk_rules.specs.Refusals.{first_refusal}
+use Rattle.mk_rules.specs.Transcript.{OfCommand, IsAllowedFor, after}
+use Rattle.mk_rules.specs.Bounded.{JoinsByName}
+use Rattle.mk_answers.specs.Open.{holding_of}
+use Rattle.mk_market.specs.declared.last_quote.LastQuote.{LastQuote}
+use Rattle.mk_market.specs.declared.users.Member.{Member}
+use Rattle.mk_market.specs.Journals.{JournalOf}
+use Rattle.mk_market.specs.Members.{names_of, quotes_of}
+use Rattle.mk_market.specs.inner.Keeping.{standing_of, IsKept}
+use Rattle.mk_market.specs.inner.Quoting.{OwnsAt, AreInUse, CanBeMade}
+use Rattle.mk_market.proofs.Accounted.{accounts_kept}
+use Rattle.mk_market.proofs.Appends.{not_there, not_found}
+use Rattle.mk_market.proofs.Growing.{is_open, kept_grown}
+use Rattle.mk_market.proofs.Lent.{in_range}
+use Rattle.mk_market.proofs.Replies.{unsettled}
+
+module _ {P A Plan : Type 0} (weights_stand : P → Meaning → Type 0) (gains_stand : A → Meaning → Type 0) (plan_for : Plan → List Variable → GivenTree → Type 0)
+    (file : MarketFile) (prices : P) (plan : Plan) (members : List (Member A Plan)) (accounts : List Account) (journal : JournalOf)
+    (payments : Option (List Payment)) (kept : IsKept weights_stand gains_stand plan_for file prices plan members accounts journal payments) where
+  -- a market that is kept is in use, and so it is by what stands for all that its parts stood for
+  pub in_use : (new_prices : P) (new_members : List (Member A Plan)) → ((m : Meaning) → weights_stand prices m → weights_stand new_prices m)
+      → ((u : ℕ) (h : Holding) → OwnsAt gains_stand members u h → OwnsAt gains_stand new_members u h)
+      → AreInUse weights_stand gains_stand file.net file.tree journal.history new_prices new_members
+  in_use new_prices new_members still_prices still_assets = record {
+    is_open = is_open weights_stand gains_stand plan_for file prices plan members accounts journal payments kept;
+    weights = still_prices _ kept.prices_stand;
+    owns = λ u. still_assets u _ (kept.owns u);
+  }
+
+  module _ (user : ℕ) (within : user < length (users journal.history)) (ratio : TradeRatio) where
+    -- a trade of a ratio of the network that has a home can be made there
+    pub can_be_made : (new_prices : P) (new_members : List (Member A Plan)) → ((m : Meaning) → weights_stand prices m → weights_stand new_prices m)
+        → ((u : ℕ) (h : Holding) → OwnsAt gains_stand members u h → OwnsAt gains_stand new_members u h) → names_of new_members ≡ names_of members
+        → IsRatioOf file.net ratio → is_some (home file.tree (ratio_pairs ratio)) ≡ true → length (trades journal.history) < journal.max_trades
+        → CanBeMade weights_stand gains_stand new_prices new_members journal user ratio
+    can_be_made new_prices new_members still_prices still_assets same_names fits has_home room = record {
+      network = file.net;
+      tree = file.tree;
+      in_use = in_use new_prices new_members still_prices still_assets;
+      within = in_range new_members (users journal.history) user (same_names ∙ kept.named) within;
+      in_range = fits;
+      home = has_home;
+      room = room;
+      few = omega (arith, kept.max_trades, file.trades_most);
+    }
+
+    -- and where the reply to it is allowed the market is kept
+    pub trade_kept : (command : Command) (reply : Reply) → JoinsByName (OfCommand command) → None ≡ first_refusal (market_of file) journal.history command
+        → (new_members : List (Member A Plan)) (new_journal : JournalOf) → IsAllowedFor (market_of file) (standing_of journal members) (OfCommand command) reply
+        → standing_of new_journal new_members ≡ after (market_of file) (standing_of journal members) (OfCommand command) reply
+        → new_journal.history ≡ journal.history ++ Trade user ratio ∷ [] → quotes_of new_members ≡ quotes_of members
+        → (new_prices : P) → new_journal.max_trades ≡ journal.max_trades
+        → ((m : Meaning) → weights_stand prices m → weights_stand new_prices (with_factor (RatioOf ratio) m))
+        → names_of new_members ≡ names_of members
+        → ((u : ℕ) → OwnsAt gains_stand new_members u (holding_of file.net file.tree (journal.history ++ Trade user ratio ∷ []) u))
+        → IsKept weights_stand gains_stand plan_for file new_prices plan new_members accounts new_journal payments
+    trade_kept command reply joins none new_members new_journal allowed next history same_quotes new_prices limit grown names owned =
+        let H = journal.history in
+        kept_grown weights_stand gains_stand plan_for file prices new_prices plan members new_members accounts accounts journal new_journal payments payments
+        (Trade user ratio) command reply joins kept allowed next
+        (record {
+          history = history;
+          limit = limit;
+          prices_grown = grown;
+          names = names ∙ kept.named ∙ sym (not_found H (Trade user ratio) join_in refl);
+          owned = owned;
+          none_quoted = λ u quote at. subst (λ (qs : List (Option LastQuote)). slice_get qs u ≡ Some (Some quote)) same_quotes at;
+          accounts = accounts_kept (market_of file) H (unsettled (market_of file) H command none) (Trade user ratio) accounts refl refl (λ u. (refl, refl)) kept.accounts_kept;
+          room = λ unsettled. kept.room (sym (not_there H (Trade user ratio) is_settlement refl) ∙ unsettled);
+        })

@@ -1,0 +1,170 @@
+//! What `bounds` and `spread` are refused for, first to last.
+
+ghost use Rattle.std.specs.Prelude.{◌≡◌, ◌≤◌, ◌<◌, ◌-◌, ◌^◌, ℕ, List, [], ◌∷◌, length, sum, Some, None, IfOk};
+ghost use Rattle.arrayvec.specs.ArrayVec.{ArrayVec};
+ghost use Rattle.mk_net.specs.declared.words.PairText.{PairText};
+ghost use Rattle.mk_net.specs.Bounds.{max_condition, max_values, million};
+ghost use Rattle.mk_net.specs.Events.{IsEvent, pairs_asked};
+ghost use Rattle.mk_net.specs.Firsts.{first_of};
+ghost use Rattle.mk_net.specs.Named.{variable_named};
+ghost use Rattle.mk_net.specs.Network.{Variable};
+ghost use Rattle.mk_exact.specs.History as history;
+ghost use Rattle.mk_spread.specs.Spreads.{asked_of};
+ghost use Rattle.mk_file.specs.MarketOf.{market_of};
+ghost use Rattle.mk_command.specs.declared.command.Command.TheVariants as command;
+ghost use Rattle.mk_quote.specs.Questions.{spread_in};
+ghost use Rattle.mk_rules.specs.Refusals as rules;
+ghost use Rattle.mk_market.specs.Members.{names_of};
+ghost use Rattle.mk_market.specs.Refused.{refusal_in, IsUser, IsSpreadQuestionFor};
+
+use crate::asking::ask_spread;
+use crate::journal::Journal;
+use crate::refusals::{
+    MAX_SHARE, agrees, find_user, in_range, not_resolved, not_settled, not_stale, not_wide,
+    refuse_if, room_for_trade,
+};
+use crate::users::Users;
+use mk_engine::Engine;
+use mk_file::MarketFile;
+use mk_net::{Event, Name, Network, Pair, PairText};
+use mk_quote::SpreadQuestion;
+use mk_reply::Refusal;
+use mk_semiring::MinProd;
+
+/// The sum of the shares of a whole distribution.
+const MILLION: u32 = 1_000_000;
+
+/// What `bounds` is refused for: a settlement, an unknown user, a variable that is unknown, a pair of the condition that
+/// is, a variable that occurs twice, one that is asked about and resolved, a condition that a resolution contradicts, and
+/// a question that no clique holds.
+pub(crate) fn refuse_bounds<A: Engine<MinProd>>(
+    file: &MarketFile,
+    journal: &Journal,
+    users: &Users<A>,
+    name: &Name,
+    variable: &Name,
+    condition: &[PairText],
+) -> Result<(u32, SpreadQuestion), Refusal>
+    requires few { length condition.now ≤ max_condition }
+    requires named { names_of users.now ≡ history.users journal.now.history }
+    ensures refusal { (pairs : ArrayVec PairText) → pairs.items ≡ condition.now
+        → refusal_in result ≡ rules.first_refusal (market_of file.now) journal.now.history (command.Bounds name.now variable.now pairs) }
+    ensures user { IfOk result (λ found. IsUser journal.now.history name.now found.0) }
+    ensures question { IfOk result (λ found. IsSpreadQuestionFor (market_of file.now) file.now.tree journal.now.history variable.now condition.now (spread_in found.1)) }
+{
+    not_settled(journal)?;
+    let user = find_user(users, name)?;
+    let asked = ask_spread(&file.net, variable, condition)?;
+    can_be_spread(file, journal, variable, condition, &asked)?;
+    Ok((user, asked))
+}
+
+/// What `spread` is refused for before its bounds are looked at: as `bounds`, behind a variable that occurs twice for a
+/// revision that is not the present one, and at last for shares that are no distribution of the variable, and for as many
+/// trades as the market takes.
+pub(crate) fn refuse_spread<A: Engine<MinProd>>(
+    file: &MarketFile,
+    journal: &Journal,
+    users: &Users<A>,
+    name: &Name,
+    variable: &Name,
+    condition: &[PairText],
+    to: &[u32],
+    at: Option<u32>,
+) -> Result<(u32, SpreadQuestion), Refusal>
+    requires few_pairs { length condition.now ≤ max_condition }
+    requires few_shares { length to.now ≤ max_values }
+    requires named { names_of users.now ≡ history.users journal.now.history }
+    requires max_trades { journal.now.max_trades ≡ file.now.max_trades }
+    ensures refusal { (pairs : ArrayVec PairText) (shares : ArrayVec ℕ) → pairs.items ≡ condition.now → shares.items ≡ to.now
+        → refusal_in result ≡ rules.first_refusal (market_of file.now) journal.now.history (command.Spread name.now variable.now pairs shares at) }
+    ensures user { IfOk result (λ found. IsUser journal.now.history name.now found.0) }
+    ensures question { IfOk result (λ found. IsSpreadQuestionFor (market_of file.now) file.now.tree journal.now.history variable.now condition.now (spread_in found.1)) }
+    ensures room { IfOk result (λ _. length (history.trades journal.now.history) < journal.now.max_trades) }
+{
+    not_settled(journal)?;
+    let user = find_user(users, name)?;
+    let asked = ask_spread(&file.net, variable, condition)?;
+    not_stale(journal, at)?;
+    can_be_spread(file, journal, variable, condition, &asked)?;
+    is_distribution(&file.net, asked.variable, to)?;
+    room_for_trade(journal)?;
+    Ok((user, asked))
+}
+
+/// Refuses a spread that is asked by its variable, its condition and its cliques, in this order.
+fn can_be_spread(
+    file: &MarketFile,
+    journal: &Journal,
+    variable: &Name,
+    condition: &[PairText],
+    asked: &SpreadQuestion,
+) -> Result<(), Refusal>
+    requires named { rules.spread_named file.now.net variable.now condition.now ≡ Some (spread_in asked.now) }
+    requires known { rules.unknown file.now.net condition.now ≡ None }
+    ensures refusal { refusal_in result ≡ first_of (rules.resolved file.now.net journal.now.history variable.now
+        ∷ rules.impossible file.now.net journal.now.history condition.now
+        ∷ rules.wide_spread (market_of file.now) journal.now.history variable.now condition.now ∷ []) }
+    ensures question { IfOk result (λ _. IsSpreadQuestionFor (market_of file.now) file.now.tree journal.now.history variable.now condition.now (spread_in asked.now)) }
+{
+    not_resolved(journal, variable, asked.variable)?;
+    agrees(journal, &asked.condition, condition)?;
+    not_wide(&file.tree, &event_of(asked))
+}
+
+/// The condition's pairs, and the variable with its first value. A clique that holds them holds each value.
+fn event_of(asked: &SpreadQuestion) -> Event
+    ensures pairs { result ≡ pairs_asked (asked_of (spread_in asked.now) 0) }
+    ensures event { IsEvent (pairs_asked (asked_of (spread_in asked.now) 0)) }
+{
+    let first = Pair {
+        variable: asked.variable,
+        value: 0,
+    };
+    match asked.condition.with(first) {
+        Some(event) => event,
+        None => asked.condition,
+    }
+}
+
+/// There is to be one share for each value, each of 1 to 999,999, and a million of all.
+fn is_distribution(net: &Network, variable: u32, to: &[u32]) -> Result<(), Refusal>
+    requires variable { variable < length net.now }
+    requires few { length to.now ≤ max_values }
+    ensures { (name : List ℕ) (named : Variable) → variable_named net.now name ≡ Some (variable, named)
+        → refusal_in result ≡ first_of (rules.numbers net.now name to.now ∷ rules.ranges (million - 1) to.now ∷ rules.sums to.now ∷ []) }
+{
+    one_for_each(net, variable, to)?;
+    all_in_range(to, MAX_SHARE)?;
+    is_million(to)
+}
+
+/// As many numbers are to be given as the variable has values.
+fn one_for_each(net: &Network, variable: u32, to: &[u32]) -> Result<(), Refusal>
+    requires variable { variable < length net.now }
+    requires few { length to.now ≤ max_values }
+    ensures { (name : List ℕ) (named : Variable) → variable_named net.now name ≡ Some (variable, named)
+        → refusal_in result ≡ rules.numbers net.now name to.now }
+{
+    let given = to.len() as u32;
+    refuse_if(given != net.values(variable), Refusal::Numbers { given })
+}
+
+/// Each number is to be in range.
+fn all_in_range(numbers: &[u32], most: u32) -> Result<(), Refusal>
+    ensures { refusal_in result ≡ rules.ranges most numbers.now }
+{
+    for number in numbers {
+        in_range(*number, most)?;
+    }
+    Ok(())
+}
+
+/// The numbers are to make a million.
+fn is_million(to: &[u32]) -> Result<(), Refusal>
+    requires { sum to.now < 2 ^ 32 }
+    ensures { refusal_in result ≡ rules.sums to.now }
+{
+    let sum = to.iter().sum();
+    refuse_if(sum != MILLION, Refusal::Sum { sum })
+}

@@ -1,0 +1,112 @@
+//! The quotes by which spreads are judged.
+
+ghost use Rattle.std.specs.Prelude.{◌≡◌, ◌<◌, ℕ, length, Some, slice_get, IfSome, IfNone, MatchResult};
+ghost use Rattle.mk_engine.specs.Meaning.{Meaning};
+ghost use Rattle.mk_assets.specs.Holdings.{Holding};
+ghost use Rattle.mk_quote.specs.declared.spread_quote.SpreadQuote.{SpreadQuote as Held};
+ghost use Rattle.mk_quote.specs.Questions.{spread_in};
+ghost use Rattle.mk_quote.specs.Spreads.{IsSpreadFor};
+ghost use Rattle.mk_answers.specs.Open.{CanBeSpreadHere};
+ghost use Rattle.mk_market.specs.Members.{names_of, quotes_of};
+ghost use Rattle.mk_market.specs.inner.Keeping.{AreKeptQuotes};
+ghost use Rattle.mk_market.specs.inner.Quoting.{OwnsAt, AreInUse, IsSpreadQuoteOf, IsInside, IsOutside, IsTaken, IsTurnedDown};
+
+use crate::journal::Journal;
+use crate::last_quote::LastQuote;
+use crate::users::Users;
+use arrayvec::ArrayVec;
+use mk_answers::spread_bounds_of;
+use mk_engine::Engine;
+use mk_file::MarketFile;
+use mk_quote::{SpreadQuestion, SpreadQuote};
+use mk_reply::Refusal;
+use mk_semiring::{MinProd, SumProd};
+
+/// A quote of a spread for a user at the present revision, made anew. The engine and the assets stand for what they
+/// stood for.
+pub(crate) fn fresh_spread_quote<P: Engine<SumProd>, A: Engine<MinProd>>(
+    file: &MarketFile,
+    prices: &mut P,
+    users: &mut Users<A>,
+    journal: &Journal,
+    user: u32,
+    asked: &SpreadQuestion,
+) -> SpreadQuote
+    requires in_use { AreInUse P.stands_for A.stands_for file.now.net file.now.tree journal.now.history prices.old users.old }
+    requires user { user < length users.old }
+    requires answered { CanBeSpreadHere file.now.net file.now.tree journal.now.history (spread_in asked.now) }
+    ensures prices { (m : Meaning) → P.stands_for prices.old m → P.stands_for prices.new m }
+    ensures assets { (u : ℕ) (h : Holding) → OwnsAt A.stands_for users.old u h → OwnsAt A.stands_for users.new u h }
+    ensures names { names_of users.new ≡ names_of users.old }
+    ensures quotes { quotes_of users.new ≡ quotes_of users.old }
+    ensures quote { IsSpreadQuoteOf file.now.net file.now.tree journal.now.history user (spread_in asked.now) result }
+{
+    let values = file.net.values(asked.variable);
+    let bounds = spread_bounds_of(prices, users.assets(user), asked, values);
+    SpreadQuote::make(user, *asked, journal.revision(), &bounds)
+}
+
+/// A user's last quote, where it was made for a spread at a revision.
+fn last_spread_quote<'a, A: Engine<MinProd>>(
+    users: &'a Users<A>,
+    user: u32,
+    asked: &SpreadQuestion,
+    revision: u64,
+) -> Option<&'a SpreadQuote>
+    requires { user < length users.now }
+    ensures some { IfSome result (λ quote. slice_get (quotes_of users.now) user ≡ Some (Some (LastQuote.Bounds quote.now))) }
+    ensures its { IfSome result (λ quote. IsSpreadFor quote.now (spread_in asked.now) revision) }
+    ensures none { IfNone result ((quote : Held) → slice_get (quotes_of users.now) user ≡ Some (Some (LastQuote.Bounds quote)) → ¬ IsSpreadFor quote (spread_in asked.now) revision) }
+{
+    match users.quote(user) {
+        Some(LastQuote::Bounds { quote }) if quote.is_for(asked, revision) => Some(quote),
+        _ => None,
+    }
+}
+
+/// The units for some shares where they are inside of a quote, and else a refusal with its intervals.
+fn judged_by(quote: &SpreadQuote, shares: &[u32]) -> Result<ArrayVec<u64, 16>, Refusal>
+    ensures { MatchResult result (λ units. IsInside quote.now shares.now units.items) (λ why. IsOutside quote.now shares.now why) }
+{
+    match quote.judge(shares) {
+        Some(units) => Ok(units),
+        None => Err(Refusal::Outside {
+            intervals: quote.intervals(),
+        }),
+    }
+}
+
+/// Judges the shares of a spread by the user's last quote, where that is of this spread and of the present revision, and
+/// else by one made anew, which a refusal leaves as the last. The engine and the assets stand for what they stood for.
+pub(crate) fn judge_spread<P: Engine<SumProd>, A: Engine<MinProd>>(
+    file: &MarketFile,
+    prices: &mut P,
+    users: &mut Users<A>,
+    journal: &Journal,
+    user: u32,
+    asked: &SpreadQuestion,
+    shares: &[u32],
+) -> Result<ArrayVec<u64, 16>, Refusal>
+    requires in_use { AreInUse P.stands_for A.stands_for file.now.net file.now.tree journal.now.history prices.old users.old }
+    requires quotes { AreKeptQuotes file.now.net file.now.tree journal.now.history (quotes_of users.old) }
+    requires user { user < length users.old }
+    requires answered { CanBeSpreadHere file.now.net file.now.tree journal.now.history (spread_in asked.now) }
+    ensures prices { (m : Meaning) → P.stands_for prices.old m → P.stands_for prices.new m }
+    ensures assets { (u : ℕ) (h : Holding) → OwnsAt A.stands_for users.old u h → OwnsAt A.stands_for users.new u h }
+    ensures names { names_of users.new ≡ names_of users.old }
+    ensures judged { MatchResult result
+        (λ units. IsTaken file.now.net file.now.tree journal.now.history user (spread_in asked.now) (quotes_of users.old) (quotes_of users.new) shares.now units.items)
+        (λ why. IsTurnedDown file.now.net file.now.tree journal.now.history user (spread_in asked.now) (quotes_of users.old) (quotes_of users.new) shares.now why) }
+{
+    if let Some(quote) = last_spread_quote(users, user, asked, journal.revision()) {
+        return judged_by(quote, shares);
+    }
+    let quote = fresh_spread_quote(file, prices, users, journal, user, asked);
+    match judged_by(&quote, shares) {
+        Ok(units) => Ok(units),
+        Err(why) => {
+            users.set_quote(user, LastQuote::Bounds { quote });
+            Err(why)
+        }
+    }
+}
