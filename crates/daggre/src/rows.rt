@@ -175,7 +175,7 @@ const LATE_PARENT: &[&str] = &[
 ];
 
 /// Markets that are served.
-pub const SERVED: [Row; 21] = [
+pub const SERVED: [Row; 22] = [
     Row {
         market: THIRTEEN_COINS,
         commands: "",
@@ -300,6 +300,12 @@ pub const SERVED: [Row; 21] = [
         market: COIN,
         commands: "user alice\nlimits alice coin=heads\ndeposit alice 1\nlimits alice coin=heads\nedit alice coin=heads to 0\nedit alice coin=heads to 1000000\n",
         output: "ready 1 100\nuser alice at 1\nlimits 500000..500000 at 1\ndeposit alice 1 at 2\nlimits 250000..750000 at 2\nrefused range 0\nrefused range 1000000\n",
+        status: Status::Done,
+    },
+    Row {
+        market: DIE,
+        commands: "user alice\ndeposit alice 1\nbounds alice die\nspread alice die to 500000 500000\nspread alice die to 200000 300000 400000\nspread alice die to 100000 400000 500000\nspread alice die to 200000 300000 500000\nprice die=low\nprice die=mid\nbounds alice dice\n",
+        output: "ready 1 100\nuser alice at 1\ndeposit alice 1 at 2\nbounds 166667..999999 166667..999999 166667..999999 at 2\nrefused numbers 2\nrefused sum 900000\nrefused outside 166667..999999 166667..999999 166667..999999\nspread 659707636373 989561454559 1649264143135 at 3\nprice 0.2000000000..0.2000000001\nprice 0.2999999999..0.3000000000\nrefused variable dice\n",
         status: Status::Done,
     },
 ];

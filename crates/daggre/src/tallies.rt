@@ -18,7 +18,7 @@ struct CountedRun {
 }
 
 /// In the last row alice pays in 100 points, and has 100 * log2(0.6 / 0.5) = 26.3 more where heads comes.
-const COINS: [CountedRun; 5] = [
+const COINS: [CountedRun; 6] = [
     CountedRun {
         commands: "",
         counts: (0, 0, 0),
@@ -38,6 +38,11 @@ const COINS: [CountedRun; 5] = [
         commands: "price coin=side\nprice coin\nprice coin=tails",
         counts: (3, 0, 2),
         last: "price 0.5000000000..0.5000000000\n",
+    },
+    CountedRun {
+        commands: "user alice\ndeposit alice 1\nspread alice coin to 500000\nspread alice coin to 600000 400000\nspread alice coin to 1 2",
+        counts: (5, 1, 2),
+        last: "refused sum 3\n",
     },
     CountedRun {
         commands: "user alice\n\ndeposit alice 1\n   \nedit alice coin=heads to 600000\nedit alice coin=heads to 999999\nresolve coin=heads\nsettle",

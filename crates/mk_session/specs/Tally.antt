@@ -7,7 +7,7 @@ use Rattle.mk_file.specs.declared.fault.FileFault.{FileFault}
 use Rattle.mk_file.specs.declared.fault.FileFault.TheVariants.{Memory as FileMemory}
 use Rattle.mk_reply.specs.declared.refusal.Refusal.TheVariants.{Memory as OutOfMemory}
 use Rattle.mk_reply.specs.declared.reply.Reply.{Reply}
-use Rattle.mk_reply.specs.declared.reply.Reply.TheVariants.{Traded, Refused}
+use Rattle.mk_reply.specs.declared.reply.Reply.TheVariants.{Traded, Spreaded, Refused}
 use Rattle.mk_rules.specs.Transcript.{Standing}
 use Rattle.mk_session.specs.declared.counts.Tally.{Tally}
 use Rattle.mk_session.specs.declared.counts.TallyFault.{TallyFault}
@@ -15,8 +15,10 @@ use Rattle.mk_session.specs.declared.counts.TallyFault.TheVariants.{Market as Re
 use Rattle.mk_session.specs.Transcript.{IsAllowedRun}
 use Rattle.mk_session.specs.Complete.{AreWithin}
 
+-- an edit of a question or of a whole distribution was made
 abbrev pub is_trade : Reply → Bool
 is_trade (Traded hit miss at) = true
+is_trade (Spreaded factors at) = true
 is_trade _ = false
 
 abbrev pub is_refusal : Reply → Bool

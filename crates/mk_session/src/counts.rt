@@ -58,7 +58,7 @@ impl Tally {
 fn is_traded(reply: &Reply) -> bool
     ensures { result ≡ is_trade reply.now }
 {
-    matches!(reply, Reply::Traded { .. })
+    matches!(reply, Reply::Traded { .. } | Reply::Spreaded { .. })
 }
 
 /// Whether a reply refuses its line.
