@@ -11,6 +11,8 @@ use mk_net::Syntax;
 use mk_text::{Item, Reader, several};
 
 /// The command of which these bytes are the text. Syntax where they are the text of no command.
+// It and its forms are calls of their own: within one another, each line would clear and move the words of every form.
+#[inline(never)]
 pub fn read_command(line: &[u8]) -> Result<Command, Syntax>
     ensures found { IfOk result (λ c. IsCommand c × (line.now ≡ command_text c)) }
     ensures none { OnErr result ((c : Command) → IsCommand c → line.now ≢ command_text c) }
@@ -66,6 +68,7 @@ fn command(reader: &mut Reader) -> Option<Command>
     None
 }
 
+#[inline(never)]
 #[tactic(auto, unfolding(crate::specs::inner::Reading::read_user))]
 fn user(reader: &mut Reader) -> Option<Command>
     ensures { Finds result reader.new (read_user reader.old) }
@@ -74,6 +77,7 @@ fn user(reader: &mut Reader) -> Option<Command>
     Some(Command::User { user })
 }
 
+#[inline(never)]
 #[tactic(auto, unfolding(crate::specs::inner::Reading::read_deposit))]
 fn deposit(reader: &mut Reader) -> Option<Command>
     ensures { Finds result reader.new (read_deposit reader.old) }
@@ -84,6 +88,7 @@ fn deposit(reader: &mut Reader) -> Option<Command>
     Some(Command::Deposit { user, bits })
 }
 
+#[inline(never)]
 #[tactic(auto, unfolding(crate::specs::inner::Reading::read_withdraw))]
 fn withdraw(reader: &mut Reader) -> Option<Command>
     ensures { Finds result reader.new (read_withdraw reader.old) }
@@ -94,6 +99,7 @@ fn withdraw(reader: &mut Reader) -> Option<Command>
     Some(Command::Withdraw { user, bits })
 }
 
+#[inline(never)]
 #[tactic(auto, unfolding(crate::specs::inner::Reading::read_price))]
 fn price(reader: &mut Reader) -> Option<Command>
     ensures { Finds result reader.new (read_price reader.old) }
@@ -102,6 +108,7 @@ fn price(reader: &mut Reader) -> Option<Command>
     Some(Command::Price { question })
 }
 
+#[inline(never)]
 #[tactic(auto, unfolding(crate::specs::inner::Reading::read_limits))]
 fn limits(reader: &mut Reader) -> Option<Command>
     ensures { Finds result reader.new (read_limits reader.old) }
@@ -112,6 +119,7 @@ fn limits(reader: &mut Reader) -> Option<Command>
     Some(Command::Limits { user, question })
 }
 
+#[inline(never)]
 #[tactic(auto, unfolding(crate::specs::inner::Reading::read_edit))]
 fn edit(reader: &mut Reader) -> Option<Command>
     ensures { Finds result reader.new (read_edit reader.old) }
@@ -130,6 +138,7 @@ fn edit(reader: &mut Reader) -> Option<Command>
     })
 }
 
+#[inline(never)]
 #[tactic(auto, unfolding(crate::specs::inner::Reading::read_bounds))]
 fn bounds(reader: &mut Reader) -> Option<Command>
     ensures { Finds result reader.new (read_bounds reader.old) }
@@ -145,6 +154,7 @@ fn bounds(reader: &mut Reader) -> Option<Command>
     })
 }
 
+#[inline(never)]
 #[tactic(auto, unfolding(crate::specs::inner::Reading::read_spread))]
 fn spread(reader: &mut Reader) -> Option<Command>
     ensures { Finds result reader.new (read_spread reader.old) }
@@ -176,6 +186,7 @@ fn revision(reader: &mut Reader) -> Option<Option<u32>>
     Some(Some(at))
 }
 
+#[inline(never)]
 #[tactic(auto, unfolding(crate::specs::inner::Reading::read_worst))]
 fn worst(reader: &mut Reader) -> Option<Command>
     ensures { Finds result reader.new (read_worst reader.old) }
@@ -184,6 +195,7 @@ fn worst(reader: &mut Reader) -> Option<Command>
     Some(Command::Worst { user })
 }
 
+#[inline(never)]
 #[tactic(auto, unfolding(crate::specs::inner::Reading::read_resolve))]
 fn resolve(reader: &mut Reader) -> Option<Command>
     ensures { Finds result reader.new (read_resolve reader.old) }

@@ -11,6 +11,7 @@ impl<P: Engine<SumProd>, A: Engine<MinProd>> Market<P, A> {
     ghost use Rattle.mk_market.specs.Trading.{IsAnswered, reply_of};
 
     /// Answers a command. Only a user who joins takes memory, all of it before anything changes.
+    #[inline(never)]
     pub fn apply(&mut self, alloc: Global, command: &Command) -> Reply
         ensures { IsAnswered self.old self.new command.now result }
     {
@@ -57,6 +58,7 @@ ghost use Rattle.std.specs.Prelude.{◌≡◌};
 ghost use Rattle.mk_market.specs.Trading.{reply_of};
 
 /// The reply of an answer, or of a refusal.
+#[inline(never)]
 fn reply_of(answered: Result<Reply, Refusal>) -> Reply
     ensures { result ≡ reply_of answered }
 {
