@@ -1,5 +1,6 @@
 pub mod Bearing
 pub mod Serving
+pub mod Spanning
 pub mod Reaching
 pub mod Rightness
 pub mod Spreading

@@ -1,10 +1,11 @@
 -- Both sides of a question by bounds: which shares they allow, and what they promise of the exact numbers.
-use Rattle.std.specs.Prelude.{ℕ, ◌-◌, ◌≤◌, ◌↔◌, Option}
+use Rattle.std.specs.Prelude.{ℕ, ◌-◌, ◌≤◌, ◌↔◌, Bool, ◌&&◌, Option}
 use Rattle.mk_net.specs.Bounds.{million}
 use Rattle.mk_exact.specs.Limits.{Side, IsFairAndSolvent, Inside, AreRight}
 use Rattle.mk_quote.specs.declared.side.SideBounds.{SideBounds}
 use Rattle.mk_quote.specs.declared.bounds.Bounds.{Bounds}
-use Rattle.mk_quote.specs.Sides.{AreBoundsOf, AreGraded, AreExact, Serves}
+use Rattle.mk_quote.specs.Spans.{span}
+use Rattle.mk_quote.specs.Sides.{AreBoundsOf, AreGraded, AreExact, Serves, is_served}
 
 -- the sides of the target and of the other values
 abbrev pub hit_side : Bounds → SideBounds
@@ -30,6 +31,14 @@ pub record AreAllExact (bounds : Bounds) : Type 0 where
 -- the units for X serve the one side, and those for the rest of a million the other
 abbrev pub Allows : Bounds → ℕ → Type 0
 Allows bounds X = Serves (hit_side bounds) X × Serves (miss_side bounds) (million - X)
+
+-- the same as a test
+abbrev pub is_allowed : Bounds → ℕ → Bool
+is_allowed bounds X = is_served (hit_side bounds) X && is_served (miss_side bounds) (million - X)
+
+-- the least and the greatest share that the bounds allow
+abbrev pub limits_for : Bounds → Option (ℕ × ℕ)
+limits_for bounds = span (is_allowed bounds) 999999
 
 -- limits that hold exactly what the bounds allow
 abbrev pub Limit : Bounds → Option (ℕ × ℕ) → Type 0

@@ -1,3 +1,4 @@
+pub mod Spans
 pub mod Sides
 pub mod Laws
 pub mod Bounds

@@ -1,5 +1,5 @@
 -- One side of a question by bounds: the units that an edit of it trades for, and whether they serve.
-use Rattle.std.specs.Prelude.{ℕ, ◌+◌, ◌*◌, ◌/◌, ◌^◌, ◌<◌, ◌≤◌}
+use Rattle.std.specs.Prelude.{ℕ, ◌+◌, ◌*◌, ◌/◌, ◌^◌, ◌<◌, ◌≤◌, Bool, ltb, leb, ◌&&◌, Option}
 use Rattle.mk_net.specs.Bounds.{number_limit, million}
 use Rattle.mk_exact.specs.Ratios.{unit}
 use Rattle.mk_exact.specs.Limits.{Side}
@@ -7,6 +7,7 @@ use Rattle.mk_enclose.specs.declared.factor.Factor.{Factor}
 use Rattle.mk_enclose.specs.Enclosure.{lower_of, upper_of, Encloses, IsExact, IsGradedWithin}
 use Rattle.mk_enclose.specs.Factor.{paid_in, taken_out, StandsFor}
 use Rattle.mk_quote.specs.declared.side.SideBounds.{SideBounds}
+use Rattle.mk_quote.specs.Spans.{span}
 
 -- the bounds enclose the price and the least factor of a side, and its price is at most one
 pub record AreBoundsOf (bounds : SideBounds) (side : Side) : Type 0 where
@@ -39,3 +40,13 @@ pub record Bears (factor : Factor) (ratio : ℕ) : Type 0 where
 pub record Serves (bounds : SideBounds) (X : ℕ) : Type 0 where
   pub fits : ratio_for bounds X < number_limit
   pub borne : Bears bounds.factor (ratio_for bounds X)
+
+-- the same as a test
+abbrev pub is_served : SideBounds → ℕ → Bool
+is_served bounds X =
+    ltb (ratio_for bounds X) number_limit
+    && leb (2 ^ (40 * (bounds.factor.trades + 1) + taken_out bounds.factor.net)) (ratio_for bounds X * lower_of bounds.factor.gain * 2 ^ paid_in bounds.factor.net)
+
+-- the least and the greatest share that serve the side
+abbrev pub interval_for : SideBounds → Option (ℕ × ℕ)
+interval_for bounds = span (is_served bounds) 999999

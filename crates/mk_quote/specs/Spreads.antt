@@ -3,6 +3,7 @@ use Rattle.std.specs.Prelude.{◌≡◌, ℕ, List, map}
 use Rattle.mk_spread.specs.Spreads.{SpreadAsked}
 use Rattle.mk_spread.specs.Bounds.{Intervals, all_given}
 use Rattle.mk_quote.specs.declared.side.SideBounds.{SideBounds}
+use Rattle.mk_quote.specs.Sides.{interval_for}
 use Rattle.mk_quote.specs.Questions.{spread_in}
 use Rattle.mk_quote.specs.declared.spread_quote.SpreadQuote.{SpreadQuote}
 
@@ -17,11 +18,11 @@ revision_of quote = quote.revision
 
 -- the side of each value, by bounds
 abbrev pub sides_of : SpreadQuote → List SideBounds
-sides_of quote = map (λ value. value.side) quote.values.items
+sides_of quote = quote.sides.items
 
 -- the interval of each value, where each has one
 abbrev pub intervals_of : SpreadQuote → Intervals
-intervals_of quote = all_given (map (λ value. value.interval) quote.values.items)
+intervals_of quote = all_given (map interval_for (sides_of quote))
 
 -- it was made for this question, at this revision
 pub record IsSpreadFor (quote : SpreadQuote) (spread : SpreadAsked) (revision : ℕ) : Type 0 where

@@ -3,7 +3,7 @@ ghost use Rattle.std.specs.Prelude.{◌≡◌, ℕ, ◌-◌, ◌≤◌, MatchOpt
 ghost use Rattle.mk_net.specs.Bounds.{million};
 ghost use Rattle.mk_exact.specs.Limits.{IsWithinRange};
 ghost use Rattle.mk_quote.specs.Sides.{ratio_for};
-ghost use Rattle.mk_quote.specs.Bounds.{hit_side, miss_side, Allows, Limit, AreFairAndSolvent, AreRightFor};
+ghost use Rattle.mk_quote.specs.Bounds.{hit_side, miss_side, Allows, Limit, limits_for, AreFairAndSolvent, AreRightFor};
 
 use crate::SideBounds;
 use mk_enclose::{Enclosure, Factor};
@@ -44,6 +44,7 @@ impl Bounds {
 
     /// The least and the greatest share that `judge` takes. None where it takes none.
     pub fn limits(&self) -> Option<(u32, u32)>
+        ensures value { result ≡ limits_for self.now }
         ensures in_range { IsWithinRange result }
         ensures limit { Limit self.now result }
         ensures right { AreRightFor self.now result }

@@ -1,8 +1,8 @@
 //! The shares that serve one side of a question.
-ghost use Rattle.std.specs.Prelude.{◌≡◌, ℕ, ◌≤◌, ◌↔◌, min, IsTrue};
+ghost use Rattle.std.specs.Prelude.{◌≡◌, ℕ, ◌≤◌, ◌↔◌, min, IsTrue, MatchOption, IfSome};
 ghost use Rattle.mk_net.specs.Bounds.{number_limit};
 ghost use Rattle.mk_exact.specs.Limits.{Inside, IsWithinRange};
-ghost use Rattle.mk_quote.specs.Sides.{ratio_for, Serves};
+ghost use Rattle.mk_quote.specs.Sides.{ratio_for, Serves, interval_for};
 ghost use Rattle.mk_quote.specs.inner.Reached.{Reaches};
 
 use crate::SideBounds;
@@ -27,6 +27,15 @@ impl SideBounds {
     /// The least and the greatest share, in parts in a million, that `judge` takes: it takes all between them, and no
     /// other from 1 to 999,999. None where it takes none.
     pub fn interval(&self) -> Option<(u32, u32)>
+        ensures value { result ≡ interval_for self.now }
+        ensures in_range { IsWithinRange result }
+        ensures serves { (X : ℕ) → 1 ≤ X → X ≤ 999999 → Inside result X ↔ Serves self.now X }
+    {
+        self.served()
+    }
+
+    /// The shares that serve: from the least that the factor bears to the last before those that are too many.
+    fn served(&self) -> Option<(u32, u32)>
         ensures in_range { IsWithinRange result }
         ensures serves { (X : ℕ) → 1 ≤ X → X ≤ 999999 → Inside result X ↔ Serves self.now X }
     {
@@ -37,6 +46,17 @@ impl SideBounds {
         } else {
             None
         }
+    }
+
+    /// The units for a share, which may be any number. None exactly outside of the interval.
+    pub(crate) fn judge_share(&self, x: u32) -> Option<u64>
+        ensures inside { MatchOption result (¬ Inside (interval_for self.now) x) (λ units. Inside (interval_for self.now) x) }
+        ensures units { IfSome result (λ units. units ≡ ratio_for self.now x) }
+    {
+        if x < 1 || x >= MILLION {
+            return None;
+        }
+        self.judge(x)
     }
 
     /// The least share whose units reach a bound, or a million where none does.

@@ -1,22 +1,17 @@
 //! The quote that a user was given last.
 ghost use Rattle.std.specs.Prelude.{◌≡◌, ◌↔◌, IsTrue};
-ghost use Rattle.mk_exact.specs.Limits.{IsWithinRange};
-ghost use Rattle.mk_quote.specs.Bounds.{Limit};
-ghost use Rattle.mk_quote.specs.inner.Props.{limit-prop, range-prop};
 
 use crate::Bounds;
 use mk_net::{Event, Question};
 
-/// A question of a user at a revision of the market, with its bounds and the limits that were printed for it.
+/// A question of a user at a revision of the market, with its bounds. They decide its limits, which are searched for only
+/// when they are asked for.
 #[derive(Clone, Copy, Debug)]
 pub struct Quote {
     user: u32,
     question: Question,
     revision: u64,
     bounds: Bounds,
-    limits: Option<(u32, u32)>,
-    ghost in_range: { IsWithinRange limits } by { range-prop limits },
-    ghost limit: { Limit bounds limits } by { limit-prop bounds limits },
 }
 
 impl Quote {
@@ -27,7 +22,7 @@ impl Quote {
     ghost use Rattle.mk_quote.specs.Bounds.{hit_side, miss_side, AreFairAndSolvent, AreRightFor};
     ghost use Rattle.mk_quote.specs.Quotes.{user_of, question_of, revision_of, bounds_of, limits_of, IsFor};
 
-    /// The quote of a question for a user, with the limits that its bounds give.
+    /// The quote of a question for a user.
     pub fn make(user: u32, question: Question, revision: u64, bounds: &Bounds) -> Quote
         ensures user { user_of result ≡ user }
         ensures question { question_of result ≡ question }
@@ -39,7 +34,6 @@ impl Quote {
             question,
             revision,
             bounds: *bounds,
-            limits: bounds.limits(),
         }
     }
 
@@ -56,7 +50,7 @@ impl Quote {
         ensures in_range { IsWithinRange result }
         ensures right { AreRightFor (bounds_of self.now) result }
     {
-        self.limits
+        self.bounds.limits()
     }
 
     /// Whether it was made for this question, with its condition in the same order, at this revision.

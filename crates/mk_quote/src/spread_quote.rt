@@ -1,23 +1,19 @@
 //! The quote of a whole distribution that a user was given last.
-ghost use Rattle.mk_quote.specs.inner.Served.{AreServed};
-ghost use Rattle.mk_quote.specs.inner.Props.{served-prop};
 
-use crate::values::ValueQuote;
 use crate::{SideBounds, SpreadBounds, SpreadQuestion};
 use arrayvec::ArrayVec;
 
 /// For each value of a variable the least and the greatest share, in parts in a million, that an edit may set.
 pub type Intervals = ArrayVec<(u32, u32), 16>;
 
-/// A question of a user about a whole distribution, at a revision of the market, with the side of each value and the
-/// intervals that were printed for it.
+/// A question of a user about a whole distribution, at a revision of the market, with the side of each value. They decide
+/// its intervals, which are searched for only when they are asked for.
 #[derive(Debug, Drop)]
 pub struct SpreadQuote {
     user: u32,
     question: SpreadQuestion,
     revision: u64,
-    values: ArrayVec<ValueQuote, 16>,
-    ghost served: { AreServed values.items } by { served-prop values.items },
+    sides: ArrayVec<SideBounds, 16>,
 }
 
 impl SpreadQuote {
@@ -28,7 +24,7 @@ impl SpreadQuote {
     ghost use Rattle.mk_quote.specs.Questions.{spread_in};
     ghost use Rattle.mk_quote.specs.Spreads.{user_of, question_of, revision_of, sides_of, intervals_of, IsSpreadFor};
 
-    /// The quote of a question for a user, with the intervals that its bounds give.
+    /// The quote of a question for a user.
     pub fn make(
         user: u32,
         question: SpreadQuestion,
@@ -40,23 +36,19 @@ impl SpreadQuote {
         ensures revision { revision_of result ≡ revision }
         ensures sides { sides_of result ≡ sides_in bounds.now }
     {
-        let mut values = ArrayVec::new();
+        let mut sides = ArrayVec::new();
         for value in bounds.parts.as_slice() {
-            let side = SideBounds {
+            sides.push(SideBounds {
                 part: value.part,
                 whole: bounds.whole,
                 factor: value.factor,
-            };
-            values.push(ValueQuote {
-                side,
-                interval: side.interval(),
             });
         }
         SpreadQuote {
             user,
             question,
             revision,
-            values,
+            sides,
         }
     }
 
@@ -74,8 +66,8 @@ impl SpreadQuote {
         ensures right { AreRightForEach (sides_of self.now) (intervals_in result) }
     {
         let mut intervals = ArrayVec::new();
-        for value in self.values.as_slice() {
-            intervals.push(value.interval?);
+        for side in self.sides.as_slice() {
+            intervals.push(side.interval()?);
         }
         Some(intervals)
     }
@@ -94,12 +86,12 @@ impl SpreadQuote {
         ensures ratios { IfSome result (λ units. units.items ≡ ratios_for (sides_of self.now) xs.now) }
         ensures fair { IfSome result (λ units. AreFairForEach (sides_of self.now) xs.now units.items) }
     {
-        if xs.len() != self.values.len() {
+        if xs.len() != self.sides.len() {
             return None;
         }
         let mut units = ArrayVec::new();
         for index in 0..xs.len() {
-            units.push(self.values[index].judge(xs[index])?);
+            units.push(self.sides[index].judge_share(xs[index])?);
         }
         Some(units)
     }

@@ -33,43 +33,13 @@ pub struct SpreadBounds {
     pub parts: ArrayVec<ValueBounds, 16>,
 }
 
-/// One value of a quote: its side, and the shares that serve it.
-#[derive(Clone, Copy, Debug)]
-pub struct ValueQuote {
-    pub side: SideBounds,
-    pub interval: Option<(u32, u32)>,
-}
-
-impl ValueQuote {
-    ghost use Rattle.std.specs.Prelude.{◌≡◌, MatchOption, IfSome};
-    ghost use Rattle.mk_exact.specs.Limits.{Inside};
-    ghost use Rattle.mk_quote.specs.Sides.{ratio_for};
-    ghost use Rattle.mk_quote.specs.inner.Served.{IsServed};
-
-    /// The units for a share of this value. None exactly outside of its interval.
-    pub fn judge(&self, x: u32) -> Option<u64>
-        requires { IsServed self.now }
-        ensures inside { MatchOption result (¬ Inside self.now.interval x) (λ units. Inside self.now.interval x) }
-        ensures units { IfSome result (λ units. units ≡ ratio_for self.now.side x) }
-    {
-        let (low, high) = self.interval?;
-        if x < low || x > high {
-            return None;
-        }
-        self.side.judge(x)
-    }
-}
-
-/// A value without shares, which fills the unused places of a list.
-impl Default for ValueQuote {
-    fn default() -> ValueQuote {
-        ValueQuote {
-            side: SideBounds {
-                part: Enclosure::exact(1),
-                whole: Enclosure::exact(1),
-                factor: blank_factor(),
-            },
-            interval: None,
+/// A side of weight and factor one, which fills the unused places of a list.
+impl Default for SideBounds {
+    fn default() -> SideBounds {
+        SideBounds {
+            part: Enclosure::exact(1),
+            whole: Enclosure::exact(1),
+            factor: blank_factor(),
         }
     }
 }

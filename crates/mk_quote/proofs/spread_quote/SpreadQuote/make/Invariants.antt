@@ -1,11 +1,6 @@
 use Rattle.std.proofs.Common.{◌≡◌, map, take}
 use Rattle.mk_quote.specs.Values.{side_in}
-use Rattle.mk_quote.specs.inner.Served.{AreServed}
-use Rattle.mk_quote.proofs.Spreading.{sides_in_quote}
 use Rattle.mk_quote.proofs.spread_quote.SpreadQuote.make.Given as goal
 
 abbrev pub invariant-loop-value : goal.invariant-loop-value
-invariant-loop-value l = record {
-  sides : sides_in_quote (l.values).items ≡ map (side_in l.bounds) (take l.value-index l.value-items);
-  served : AreServed (l.values).items;
-}
+invariant-loop-value l = (l.sides).items ≡ map (side_in l.bounds) (take l.value-index l.value-items)
