@@ -12,12 +12,11 @@ use Rattle.std.proofs.lemmas.Str.Parse.{digit_from_value}
 use Rattle.mk_net.specs.Name.{IsName, is_name, is_name_byte, max_name_bytes, begins_with_letter}
 use Rattle.mk_net.specs.declared.words.PairText.{PairText}
 use Rattle.mk_net.specs.declared.words.QuestionText.{QuestionText}
-use Rattle.mk_net.specs.Bounds.{max_values}
 use Rattle.mk_text.specs.Joined.{items_text, spaced, AreSeveral}
 use Rattle.mk_text.specs.Numbers.{places, price_text, IsPrice, units, limits_text, AreLimits, IsWithinLimits, range_text, IsInterval, interval_text, AreIntervals, intervals_text, IsShort}
 use Rattle.mk_text.specs.Texts.{IsPairText, pair_text, IsCondition, condition_text, IsQuestionText, question_text}
 use Rattle.mk_text.specs.Words.{word, behind_word, EndsWord, after}
-use Rattle.mk_text.specs.Reading.{Read, made, passed, given, never, items, read_name, read_written, read_number, read_pair, more_pairs, read_condition, read_question, read_price, read_range, read_interval, read_limits, read_short, read_units, before_revision, more_spaced, read_several, read_intervals, number_written}
+use Rattle.mk_text.specs.Reading.{Read, made, given, never, items, read_name, read_written, read_number, read_pair, more_pairs, read_condition, read_question, read_price, read_range, read_interval, read_limits, read_short, read_units, before_revision, more_spaced, read_several, read_intervals, number_written}
 use Rattle.mk_text.proofs.WordLemmas.{word_splits, word_of, behind_word_of, both_true}
 use Rattle.mk_text.proofs.NumberLemmas.{IsWriting, decimal_writing, places_writing, digits_in_word, number_found, number_is}
 use Rattle.mk_text.proofs.ReadingLaws.{Took, took_same, Reads, Added, EndsItems, BothFit, both_text, behind_text, items_takes, items_again, fronted, reads_same, IsMade, both_reads, behind_reads, made_reads, passed_reads, passing, either_cases, either_here, either_else}

@@ -6,7 +6,7 @@ use Rattle.std.proofs.Math.Seq.{take-append_seam, drop-append_seam}
 use Rattle.std.proofs.lemmas.List.{take-append-drop}
 use Rattle.std.proofs.lemmas.List.Sums.{prefix_len_is}
 use Rattle.std.proofs.lemmas.Option.{none-some, same_Some}
-use Rattle.std.proofs.lemmas.Bool.{eqb-true, eq-eqb}
+use Rattle.std.proofs.lemmas.Bool.{eqb-true, eq-eqb, ne_eqb}
 use Rattle.mk_net.specs.Name.{is_name_byte}
 use Rattle.mk_text.specs.Words.{word_len, word, behind_word, EndsWord, after}
 
@@ -75,3 +75,14 @@ nothing_behind text bytes (Some rest) e without = absurd (without rest (after_be
 -- a text that does not stand at the front
 pub after_nothing : (text bytes : List ℕ) → ((rest : List ℕ) → bytes ≡ text ++ rest → ⊥) → after text bytes ≡ None
 after_nothing text bytes without = nothing_behind text bytes (after text bytes) refl without
+
+not_behind_first : (text bytes : List ℕ) (same : Bool) → same ≡ false → cond same (after text bytes) None ≡ None
+not_behind_first text bytes true h = cc
+not_behind_first text bytes false h = refl
+
+-- nothing follows a text that begins with another byte
+pub after_otherwise : (text bytes : List ℕ) → 0 < length text → 0 < length bytes → (get_or bytes 0 0 ≡ get_or text 0 0 → ⊥) → after text bytes ≡ None
+unfolding after
+after_otherwise [] bytes some there other = absurd (omega arith)
+after_otherwise (b ∷ text) [] some there other = absurd (omega arith)
+after_otherwise (b ∷ text) (c ∷ bytes) some there other = not_behind_first text bytes (eqb b c) (ne_eqb b c (λ same. other (sym same)))

@@ -1,6 +1,6 @@
 //! Reading names, numbers, pairs and questions from the front of some bytes.
 
-ghost use Rattle.std.specs.Prelude.{◌≡◌, ◌<◌, ◌≤◌, ◌^◌, false, IfSome, Some, None, is_some, option_map, if◌then◌else◌, ◌==◌, length, take, drop};
+ghost use Rattle.std.specs.Prelude.{◌≡◌, ◌<◌, ◌≤◌, ◌^◌, true, false, IfSome, Some, None, is_some, option_map, if◌then◌else◌, ◌==◌, length, take, drop};
 ghost use Rattle.mk_text.specs.Words.{word, word_len, behind_word, after, IsRestOf};
 ghost use Rattle.mk_text.specs.Reading.{Finds, read_name, read_number, read_pair, read_condition, more_pairs, read_question, read_price, read_range, read_interval, read_limits};
 ghost use Rattle.arrayvec.specs.ArrayVec.{array_vec_len};
@@ -58,6 +58,9 @@ impl<'a> Reader<'a> {
         ensures kept { result ≡ false → self.new ≡ self.old }
         ensures rest { IsRestOf self.new self.old }
     {
+        if begin_otherwise(self.left, text) {
+            return false;
+        }
         match self.left.strip_prefix(text) {
             Some(left) => {
                 self.left = left;
@@ -213,4 +216,15 @@ impl<'a> Reader<'a> {
         self.left = &bytes[size..];
         &bytes[..size]
     }
+}
+
+/// Whether the first byte of a text is another than that of some bytes: most texts that are not the next are told by it,
+/// without a call.
+fn begin_otherwise(bytes: &[u8], text: &[u8]) -> bool
+    ensures { result ≡ true → after text.now bytes.now ≡ None }
+{
+    if bytes.is_empty() || text.is_empty() {
+        return false;
+    }
+    bytes[0] != text[0]
 }

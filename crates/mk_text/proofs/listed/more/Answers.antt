@@ -1,4 +1,4 @@
-use Rattle.std.proofs.Common.{◌≡◌, ◌-◌, ◌+◌, [], ◌∷◌, codes, arith, sym, ap, ◌∙◌, length-append, inl, inr, is_some, refl}
+use Rattle.std.proofs.Common.{◌≡◌, ◌-◌, ◌+◌, [], ◌∷◌, codes, arith, sym, ◌∙◌, length-append, inl, inr, refl}
 use Rattle.mk_text.proofs.ReadingLaws.{items_over, items_halted, items_next, items_full}
 use Rattle.mk_text.specs.Reading.{more_spaced, before_revision}
 use Rattle.mk_text.proofs.Rests.{rest_of_rest}

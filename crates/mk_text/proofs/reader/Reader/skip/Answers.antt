@@ -21,3 +21,9 @@ returns-in-Some-clause-rest c =
 
 pub returns-in-None-clause-rest : goal.returns-in-None-clause-rest
 returns-in-None-clause-rest c = rw (← c.self.view_is) (rest_all c.self.inside.left.now)
+
+pub returns-then-begin_otherwise-clause-passed : goal.returns-then-begin_otherwise-clause-passed
+returns-then-begin_otherwise-clause-passed c = rw (← c.self.view_is) (c.begin_otherwise.ensures c.if-begin_otherwise.true)
+
+pub returns-then-begin_otherwise-clause-rest : goal.returns-then-begin_otherwise-clause-rest
+returns-then-begin_otherwise-clause-rest c = rw (← c.self.view_is) (rest_all c.self.inside.left.now)
