@@ -40,6 +40,8 @@ impl Pending {
     }
 
     /// Whether a byte is there, after a read where none was.
+    // Asked for each byte of a line, so within the loop that asks; the read is a call of its own.
+    #[inline(always)]
     pub fn refill<I: Inputs>(&mut self, inputs: &mut I) -> Result<bool, InputFailed>
         ensures cause { HasCause (I.faults inputs.old) (I.faults inputs.new) result }
         ensures bytes { Refills self.old self.new (I.commands inputs.old) (I.commands inputs.new) result }
@@ -51,6 +53,17 @@ impl Pending {
         if self.from < self.to {
             return Ok(true);
         }
+        self.read_more(inputs)
+    }
+
+    // A read where no byte was.
+    #[inline(never)]
+    fn read_more<I: Inputs>(&mut self, inputs: &mut I) -> Result<bool, InputFailed>
+        requires { length self.old ≡ 0 }
+        ensures cause { HasCause (I.faults inputs.old) (I.faults inputs.new) result }
+        ensures bytes { Refills self.old self.new (I.commands inputs.old) (I.commands inputs.new) result }
+        ensures rest { LeavesRest (I.market inputs.old) (I.market inputs.new) (I.file inputs.old) (I.file inputs.new) }
+    {
         self.from = 0;
         self.to = 0;
         let count = inputs.read_commands(&mut self.buf)?;
