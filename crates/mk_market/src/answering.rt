@@ -55,6 +55,7 @@ impl<P: Engine<SumProd>, A: Engine<MinProd>> Market<P, A> {
 }
 
 ghost use Rattle.std.specs.Prelude.{◌≡◌};
+ghost use Rattle.mk_reply.specs.declared.reply.Reply.TheVariants.{Refused};
 ghost use Rattle.mk_market.specs.Trading.{reply_of};
 
 /// The reply of an answer, or of a refusal.
@@ -64,6 +65,14 @@ fn reply_of(answered: Result<Reply, Refusal>) -> Reply
 {
     match answered {
         Ok(reply) => reply,
-        Err(why) => Reply::Refused { why },
+        Err(why) => refused(why),
     }
+}
+
+/// The reply of a refusal. It is a call of its own: beside an answer, both would be moved word by word.
+#[inline(never)]
+fn refused(why: Refusal) -> Reply
+    ensures { result ≡ Refused why }
+{
+    Reply::Refused { why }
 }
