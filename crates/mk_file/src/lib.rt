@@ -16,8 +16,3 @@ pub use fault::FileFault;
 pub use market_file::MarketFile;
 pub use print::print_fault;
 pub use read::read_market;
-
-#[cfg(test)]
-mod print_tests;
-#[cfg(test)]
-mod tests;

@@ -29,8 +29,3 @@ pub use journal::Journal;
 pub use last_quote::LastQuote;
 pub use market::Market;
 pub use users::{Member, Users};
-
-#[cfg(test)]
-mod market_tests;
-#[cfg(test)]
-mod tests;

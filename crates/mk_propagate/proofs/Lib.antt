@@ -15,4 +15,3 @@ pub mod Messages
 pub mod Sending
 pub mod Believing
 pub mod Marks
-pub mod Ready

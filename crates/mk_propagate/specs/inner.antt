@@ -4,4 +4,3 @@ pub mod Gathered
 pub mod Shaped
 pub mod Passes
 pub mod Ones
-pub mod Some

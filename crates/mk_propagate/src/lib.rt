@@ -9,6 +9,3 @@ mod shape;
 
 pub use flow::Flow;
 pub use shape::Shape;
-
-#[cfg(test)]
-mod tests;

@@ -4,7 +4,6 @@ pub mod Kept
 pub mod Writing
 pub mod Opened
 pub mod Rows
-pub mod Examples
 pub mod Changes
 pub mod Chosen
 pub mod Blocked

@@ -16,6 +16,3 @@ pub use part::Places;
 pub use scope::Scope;
 pub use strides::CellList;
 pub use table::Table;
-
-#[cfg(test)]
-mod tests;

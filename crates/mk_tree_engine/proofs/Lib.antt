@@ -7,4 +7,3 @@ pub mod Marking
 pub mod Placed
 pub mod Believing
 pub mod Numbers
-pub mod Ratios

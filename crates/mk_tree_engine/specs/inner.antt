@@ -1,4 +1,3 @@
 -- What only proofs and private contracts cite.
 pub mod Marks
 pub mod Passes
-pub mod Some

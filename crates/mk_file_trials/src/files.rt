@@ -1,0 +1,371 @@
+//! Market files with one fault or two, whose answers an independent program computed, and what is printed of them.
+
+use arrayvec::ArrayString;
+use mk_file::{FileFault, print_fault, read_market};
+use mk_net::VarSet;
+use std::alloc::Global;
+use std::process::Abort;
+use std::test::Fail;
+
+const COIN: &str = "points_per_bit = 100
+max_trades = 77
+cliques = [['coin']]
+links = []
+
+[[variable]]
+name = 'coin'
+values = ['heads', 'tails']
+parents = []
+rows = [[500000, 500000]]
+";
+
+/// Each variable with another number of values and of parents.
+const THREE: &str = "points_per_bit = 100
+max_trades = 77
+cliques = [['a', 'b', 'c'], ['a', 'b'], ['a']]
+links = [1, 2]
+
+[[variable]]
+name = 'a'
+values = ['a1', 'a2']
+parents = []
+rows = [[400000, 600000]]
+
+[[variable]]
+name = 'b'
+values = ['b1', 'b2', 'b3']
+parents = ['a']
+rows = [[10, 20, 999970], [30, 40, 999930]]
+
+[[variable]]
+name = 'c'
+values = ['c1', 'c2']
+parents = ['a', 'b']
+rows = [[1, 999999], [2, 999998], [3, 999997], [4, 999996], [5, 999995], [6, 999994]]
+";
+
+/// Its cliques are linked in a row.
+const CHAIN: &str = "points_per_bit = 100
+max_trades = 77
+cliques = [['a', 'b'], ['b', 'c'], ['c']]
+links = [1, 2]
+
+[[variable]]
+name = 'a'
+values = ['up', 'down']
+parents = []
+rows = [[500000, 500000]]
+
+[[variable]]
+name = 'b'
+values = ['up', 'down']
+parents = ['a']
+rows = [[600000, 400000], [300000, 700000]]
+
+[[variable]]
+name = 'c'
+values = ['up', 'down']
+parents = ['b']
+rows = [[800000, 200000], [100000, 900000]]
+";
+
+/// Its second clique holds the first variable alone.
+const WEATHER: &str = "points_per_bit = 100
+max_trades = 77
+cliques = [['season', 'rain'], ['season']]
+links = [1]
+
+[[variable]]
+name = 'season'
+values = ['wet', 'dry']
+parents = []
+rows = [[400000, 600000]]
+
+[[variable]]
+name = 'rain'
+values = ['yes', 'no']
+parents = ['season']
+rows = [[700000, 300000], [100000, 900000]]
+";
+
+/// A variable stands in two cliques that are linked through one without it.
+const APART: &str = "points_per_bit = 100
+max_trades = 77
+cliques = [['a'], ['b'], ['a']]
+links = [1, 2]
+
+[[variable]]
+name = 'a'
+values = ['up', 'down']
+parents = []
+rows = [[500000, 500000]]
+
+[[variable]]
+name = 'b'
+values = ['up', 'down']
+parents = []
+rows = [[500000, 500000]]
+";
+
+const NAMES: [&str; 13] = [
+    "a", "b", "c", "d", "e", "f", "g", "h", "i", "j", "k", "l", "m",
+];
+
+const NUMBERS: &str = "points_per_bit = 100\nmax_trades = 77\n";
+
+const SIDES: &str = "values = ['up', 'down']\nparents = []\nrows = [[500000, 500000]]\n";
+
+/// Edits of each file, and what is printed of it then.
+const OF_COIN: &str = r#"100 -> 0x64 => accepted
+77 -> 1_000 # trades => accepted
+points_per_bit -> "points_per_bit" => accepted
+'coin' -> "coin" => accepted
+links = [] -> links = []\nfees = [1, 'two'] => accepted
+[[variable]]\nname = 'coin'\nvalues = ['heads', 'tails']\nparents = []\nrows = [[500000, 500000]]\n -> variable = [{ name = 'coin', values = ['a', 'b'], parents = [], rows = [[1, 999999]] }] => accepted
+100 -> 1000000 => accepted
+77 -> 65536 => accepted
+77 -> 1 => accepted
+'coin' -> 'c234567890_234567890_234567890_2' => accepted
+['heads', 'tails']\nparents = []\nrows = [[500000, 500000]] -> ['a', 'b', 'c', 'd']\nparents = []\nrows = [[1, 2, 3, 999994]] => accepted
+points_per_bit -> points per bit => refused market toml
+100 -> 9223372036854775808 => refused market toml
+100 -> 00100 => refused market toml
+links = [] -> links = []\nlinks = [] => refused market toml
+[[variable]] -> variable = []\n[[variable]] => refused market toml
+[[variable]] -> [variable] => refused market type variable 0
+[[variable]]\n -> variable = ['coin']\n => refused market type variable 0
+[[variable]]\nname = 'coin'\nvalues = ['heads', 'tails']\nparents = []\nrows = [[500000, 500000]]\n -> variable = [] => refused market count variable 0 0
+100 -> 100.0 => refused market type points_per_bit 0
+100 -> 2026-11-27 => refused market type points_per_bit 0
+100 -> true => refused market type points_per_bit 0
+100 -> { whole = 100 } => refused market type points_per_bit 0
+max_trades = -> max_trades.whole = => refused market type max_trades 0
+'heads', 'tails' -> 'heads', 1 => refused market type values 1
+[[500000, 500000]] -> [[500000, 500000], 1] => refused market type rows 1
+500000]] -> 5e5]] => refused market type rows 1
+['coin'] -> [['coin']] => refused market type cliques 0
+links = [] -> links = [[]] => refused market type links 0
+parents = [] -> parents = '' => refused market type parents 1
+points_per_bit -> points => refused market missing points_per_bit 0
+max_trades -> trades => refused market missing max_trades 0
+[[variable]] -> [[variables]] => refused market missing variable 0
+cliques -> clique => refused market missing cliques 0
+links -> link => refused market missing links 0
+100 -> 0 => refused market count points_per_bit 0 0
+100 -> 1000001 => refused market count points_per_bit 0 1000001
+100 -> -9223372036854775808 => refused market count points_per_bit 0 -9223372036854775808
+100 -> 9223372036854775807 => refused market count points_per_bit 0 9223372036854775807
+77 -> 0 => refused market count max_trades 0 0
+77 -> 65537 => refused market count max_trades 0 65537
+[['coin']] -> [] => refused market count cliques 0 0
+links = [] -> links = [1] => refused market count links 0 1
+[['coin']] -> [['coin'], ['coin']] => refused market count links 0 0
+['coin'] -> [] => refused market count cliques 1 0
+'heads', 'tails' -> 'heads' => refused market count values 1 1
+'heads', 'tails' -> 'a', 'b', 'c', 'd', 'e', 'f', 'g', 'h', 'i', 'j', 'k', 'l', 'm', 'n', 'o', 'p', 'q' => refused market count values 1 17
+parents = [] -> parents = ['a', 'b', 'c', 'd', 'e', 'f', 'g', 'h', 'i'] => refused market count parents 1 9
+'coin' -> 'c234567890_234567890_234567890_23' => refused market name 1
+tails -> täils => refused market name 1
+coin ->  => refused market name 1
+heads -> _heads => refused market name 1"#;
+
+const OF_THREE: &str = r#"name = 'a' -> nome = 'a' => refused market missing name 1
+values = ['b1 -> valves = ['b1 => refused market missing values 2
+parents = ['a', 'b'] -> parent = ['a', 'b'] => refused market missing parents 3
+rows = [[1, -> row = [[1, => refused market missing rows 3
+'a1', 'a2' -> 'a1' => refused market count values 1 1
+parents = ['a'] -> parents = ['a', 'b', 'c', 'd', 'e', 'f', 'g', 'h', 'i'] => refused market count parents 2 9
+'c1', 'c2' ->  => refused market count values 3 0
+name = 'a' -> name = 'A' => refused market name 1
+'b3' -> 'b-3' => refused market name 2
+'c2' -> '' => refused market name 3
+'a2' -> 'a1' => refused market repeat 1
+name = 'b' -> name = 'a' => refused market repeat 2
+name = 'c' -> name = 'a' => refused market repeat 3
+'b3' -> 'b1' => refused market repeat 2
+parents = [] -> parents = ['a'] => refused market parent 1
+parents = ['a'] -> parents = ['c'] => refused market parent 2
+parents = ['a', 'b'] -> parents = ['a', 'a'] => refused market parent 3
+600000]] -> 600000], [1, 999999]] => refused market rows 1 2
+], [30, 40, 999930] -> ] => refused market rows 2 1
+, [6, 999994]] -> ] => refused market rows 3 5
+400000, 600000 ->  => refused market width 1 1 0
+30, 40, 999930 -> 30, 40, 999929, 1 => refused market width 2 2 4
+6, 999994 -> 6 => refused market width 3 6 1
+400000, 600000 -> 0, 1000000 => refused market entry 1 1 1
+30, 40, 999930 -> 30, 1000001, 40 => refused market entry 2 2 2
+6, 999994 -> 6, -1 => refused market entry 3 6 2
+400000, 600000 -> 400000, 600001 => refused market sum 1 1 1000001
+30, 40, 999930 -> 30, 40, 999929 => refused market sum 2 2 999999
+6, 999994 -> 1000000, 1000000 => refused market sum 3 6 2000000
+[['a', 'b', 'c'] -> [['a', 'b', 'd'] => refused market clique 1
+['a', 'b'], -> ['b', 'b'], => refused market clique 2
+['a']] -> ['A']] => refused market clique 3
+[['a', 'b', 'c'] -> [['a', 'b', 'c', 'a'] => refused market clique 1
+['a']]\n -> ['a', 'a']]\n => refused market clique 3
+links = [1, 2] -> links = [0, 2] => refused market link 2
+links = [1, 2] -> links = [2, 2] => refused market link 2
+links = [1, 2] -> links = [1, 3] => refused market link 3
+links = [1, 2] -> links = [1, -1] => refused market link 3
+links = [1, 2] -> links = [1, 4294967297] => refused market link 3
+cliques = [['a', 'b', 'c'], ['a', 'b'], ['a']] -> cliques = [['b'], ['c'], ['b']] => refused market cover 1
+cliques = [['a', 'b', 'c'], ['a', 'b'], ['a']] -> cliques = [['a', 'c'], ['a'], ['b']] => refused market cover 2
+cliques = [['a', 'b', 'c'], ['a', 'b'], ['a']] -> cliques = [['a', 'b'], ['c'], ['a', 'c']] => refused market cover 3
+cliques = [['a', 'b', 'c'], ['a', 'b'], ['a']] -> cliques = [['a', 'b'], ['c'], ['a']] => refused market cover 3
+cliques = [['a', 'b', 'c'], ['a', 'b'], ['a']] -> cliques = [['a', 'b', 'c'], ['b'], ['a']] => refused market running 1
+cliques = [['a', 'b', 'c'], ['a', 'b'], ['a']] -> cliques = [['a', 'b', 'c'], ['a'], ['b']] => refused market running 2
+cliques = [['a', 'b', 'c'], ['a', 'b'], ['a']] -> cliques = [['a', 'b', 'c'], ['a'], ['c']] => refused market running 3
+['a']]\n -> ['a', 'a']]\n; links = [1, 2] -> links = [2, 1] => refused market clique 3
+links = [1, 2] -> links = [1, 3]; cliques = [['a', 'b', 'c'], ['a', 'b'], ['a']] -> cliques = [['b'], ['c'], ['b']] => refused market link 3
+77 -> true; 100 -> 100 100 => refused market toml
+points_per_bit -> points; 77 -> true => refused market missing points_per_bit 0
+max_trades -> trades; 100 -> true => refused market type points_per_bit 0
+name = 'b' -> name = 2; rows = [[4 -> row = [[4 => refused market missing rows 1
+rows = [[4 -> row = [[4; name = 'b' -> name = 2 => refused market missing rows 1
+rows = [[1, -> row = [[1,; 100 -> 0 => refused market missing rows 3
+'c1', 'c2' -> 'c1', 2; 'a1', 'a2' -> 'a1' => refused market type values 3
+77 -> 0; 100 -> 0 => refused market count points_per_bit 0 0
+'a1', 'a2' -> 'a1'; links = [1, 2] -> links = [1] => refused market count links 0 1
+'a1', 'a2' -> 'a1'; cliques = [['a', 'b', 'c'] -> cliques = [[] => refused market count values 1 1
+parents = ['a', 'b'] -> parents = ['a', 'b', 'c', 'd', 'e', 'f', 'g', 'h', 'i']; 'b1', 'b2', 'b3' -> 'b1' => refused market count values 2 1
+'c1', 'c2' -> 'c1'; name = 'a' -> name = 'A' => refused market count values 3 1
+cliques = [['a', 'b', 'c'] -> cliques = [[]; name = 'a' -> name = 'A' => refused market count cliques 1 0
+'c2' -> 'C2'; 'a2' -> 'a1' => refused market name 3
+'c2' -> 'c1'; parents = [] -> parents = ['a'] => refused market repeat 3
+parents = ['a', 'b'] -> parents = ['a', 'd']; [[400000, 600000]] -> [] => refused market parent 3
+, [6, 999994]] -> ]; 400000, 600000 -> 1000000 => refused market rows 3 5
+6, 999994 -> 6; 400000, 600000 -> 0, 1000000 => refused market width 3 6 1
+6, 999994 -> 6, -1; 400000, 600000 -> 400000, 600001 => refused market entry 3 6 2
+6, 999994 -> 6, 6; [['a', 'b', 'c'] -> [['a', 'b', 'd'] => refused market sum 3 6 12"#;
+
+const OF_CHAIN: &str = r#"['b', 'c'] -> ['c', 'b'] => accepted
+links = [1, 2] -> links = [1, 1] => refused market running 3"#;
+
+const OF_WEATHER: &str = r#"77 -> 78 => accepted
+'rain'], ['season']] -> 'rain'], ['rain']] => accepted"#;
+
+const OF_APART: &str = r#"77 -> 78 => refused market running 1
+[['a'], ['b'], ['a']]\nlinks = [1, 2] -> [['a'], ['b']]\nlinks = [1] => accepted
+links = [1, 2] -> links = [1, 1] => accepted"#;
+
+const OF_THIRTEEN: &str =
+    r#"], ]\nlinks = [] -> ], ['b'], ['a']]\nlinks = [1, 2] => refused market running 1
+'m', ], ]\nlinks = [] -> ], ['m']]\nlinks = [1] => accepted"#;
+
+/// A file with some parts replaced, as `old -> new; old -> new`. What ends a line is written `\n`.
+fn edited(alloc: Global, base: &str, edits: &str) -> Result<String, Fail> {
+    let mut text = String::from_str(alloc, base)?;
+    let edits = edits.replace(alloc, "\\n", "\n")?;
+    for edit in edits.split("; ") {
+        let (old, new) = edit.split_once(" -> ").ok_or("no arrow")?;
+        text = text.replace(alloc, old, new)?;
+    }
+    Ok(text)
+}
+
+/// A file of as many coins and cliques, each clique with all the coins and linked to the first.
+fn coins(alloc: Global, variables: usize, cliques: usize) -> Result<String, Fail> {
+    let mut names = String::new(alloc);
+    let mut tables = String::new(alloc);
+    for name in NAMES.iter().take(variables) {
+        names.push_str(&format!(in alloc; "'{name}', ")?)?;
+        tables.push_str(&format!(in alloc; "[[variable]]\nname = '{name}'\n{SIDES}")?)?;
+    }
+    let mut lists = String::new(alloc);
+    let mut links = String::new(alloc);
+    for number in 0..cliques {
+        lists.push_str(&format!(in alloc; "[{names}], ")?)?;
+        if number > 0 {
+            links.push_str("1, ")?;
+        }
+    }
+    Ok(format!(in alloc; "{NUMBERS}cliques = [{lists}]\nlinks = [{links}]\n{tables}")?)
+}
+
+/// Stops unless this is printed of a file.
+fn expect(rt: &impl Abort, alloc: Global, bytes: &[u8], printed: &str, edits: &str) {
+    let mut line = ArrayString::new();
+    match read_market(alloc, bytes) {
+        Ok(_) => line.push_str("accepted"),
+        Err(FileFault::Memory) => line.push_str("no memory"),
+        Err(fault) => print_fault(&fault, &mut line),
+    }
+    assert_eq!(rt; line.as_str(), printed, "at {edits}");
+}
+
+/// Stops unless each line of edits gives a file its answer.
+fn expect_each(rt: &impl Abort, alloc: Global, base: &str, cases: &str) -> Result<(), Fail> {
+    for case in cases.split("\n") {
+        let (edits, printed) = case.split_once(" => ").ok_or("no answer")?;
+        let text = edited(alloc, base, edits)?;
+        expect(rt, alloc, text.as_bytes(), printed, edits);
+    }
+    Ok(())
+}
+
+#[test]
+fn edited_files(rt: HostRuntime) -> Result<(), Fail> {
+    for (base, cases) in [
+        (COIN, OF_COIN),
+        (THREE, OF_THREE),
+        (CHAIN, OF_CHAIN),
+        (WEATHER, OF_WEATHER),
+        (APART, OF_APART),
+    ] {
+        expect_each(&rt, rt.alloc(), base, cases)?;
+    }
+    Ok(())
+}
+
+#[test]
+fn counts_of_cliques_and_cells(rt: HostRuntime) -> Result<(), Fail> {
+    let alloc = rt.alloc();
+    for (variables, cliques, printed) in [
+        (1, 256, "accepted"),
+        (1, 257, "refused market count cliques 0 257"),
+        (4, 256, "accepted"),
+        (5, 1, "accepted"),
+        (12, 8, "accepted"),
+        (12, 9, "refused market cells 9"),
+        (13, 1, "refused market cells 1"),
+    ] {
+        let text = coins(alloc, variables, cliques)?;
+        expect(&rt, alloc, text.as_bytes(), printed, "coins");
+    }
+    let large = coins(alloc, 13, 1)?;
+    expect_each(&rt, alloc, large.as_str(), OF_THIRTEEN)
+}
+
+#[test]
+fn what_is_no_document(rt: HostRuntime) -> Result<(), Fail> {
+    let alloc = rt.alloc();
+    let long = vec![in alloc; b'='; 1_048_577]?;
+    let blank = vec![in alloc; b' '; 1_048_576]?;
+    for (bytes, printed) in [
+        (b"points_per_bit = ".as_slice(), "refused market toml"),
+        (b"a = \"\xff\"\n".as_slice(), "refused market toml"),
+        (long.as_slice(), "refused market long"),
+        (blank.as_slice(), "refused market missing points_per_bit 0"),
+    ] {
+        expect(&rt, alloc, bytes, printed, "no document");
+    }
+    Ok(())
+}
+
+#[test]
+fn reads_a_chain(rt: HostRuntime) -> Result<(), Fail> {
+    let file = read_market(rt.alloc(), CHAIN.as_bytes())?;
+    assert_eq!(rt; (file.points_per_bit, file.max_trades), (100, 77));
+    assert_eq!(rt; file.net.variables(), 3);
+    assert_eq!(rt; file.net.name(0).bytes(), b"a".as_slice());
+    assert_eq!(rt; file.net.values(0), 2);
+    assert_eq!(rt; file.net.value_name(0, 1).bytes(), b"down".as_slice());
+    assert_eq!(rt; file.net.parents(2), [1].as_slice());
+    assert_eq!(rt; file.tree.cliques(), 3);
+    assert_eq!(rt; (file.tree.link(1), file.tree.link(3)), (None, Some(2)));
+    for (clique, first, last) in [(1, 0, 1), (2, 1, 2), (3, 2, 2)] {
+        let set = file.tree.clique(clique);
+        assert_eq!(rt; set, VarSet::empty().with(first).with(last));
+    }
+    Ok(())
+}

@@ -1,0 +1,217 @@
+//! Markets from their files: runs of commands with their replies, and what a market keeps of them.
+
+ghost use Rattle.std.specs.Prelude.{◌≡◌};
+
+use arrayvec::ArrayString;
+use mk_command::read_command;
+use mk_file::read_market;
+use mk_market::Market;
+use mk_reply::print_reply;
+use mk_semiring::{MinProd, SumProd};
+use mk_tree_engine::TreeEngine;
+use std::alloc::Global;
+use std::process::Abort;
+use std::test::Fail;
+
+type TreeMarket = Market<TreeEngine<SumProd>, TreeEngine<MinProd>>;
+
+/// A market file, and a run on it: each line is a command and its reply.
+#[derive(Clone, Copy)]
+struct Sample {
+    file: &'static str,
+    run: &'static str,
+}
+
+/// One coin.
+fn coin() -> Sample {
+    Sample {
+        file: "points_per_bit = 100
+max_trades = 1000
+cliques = [['coin']]
+links = []
+
+[[variable]]
+name = 'coin'
+values = ['heads', 'tails']
+parents = []
+rows = [[500000, 500000]]
+",
+        run: "user alice -> user alice at 1
+worst alice -> worst 0..0
+deposit alice 1 -> deposit alice 1 at 2
+worst alice -> worst 100..100
+user alice -> refused exists alice
+worst bob -> refused user bob
+deposit alice 1001 -> refused range 1001
+user bob -> user bob at 3
+price coin=heads -> price 0.5000000000..0.5000000000
+price coin=edge -> refused name coin=edge",
+    }
+}
+
+/// A coin that takes one trade.
+fn one_trade() -> Sample {
+    Sample {
+        file: "points_per_bit = 100
+max_trades = 1
+cliques = [['coin']]
+links = []
+
+[[variable]]
+name = 'coin'
+values = ['heads', 'tails']
+parents = []
+rows = [[500000, 500000]]
+",
+        run: "user alice -> user alice at 1
+deposit alice 1 -> deposit alice 1 at 2
+edit alice coin=heads to 0 -> refused range 0
+edit alice coin=heads to 1000000 -> refused range 1000000
+deposit alice 1001 -> refused range 1001
+withdraw alice 0 -> refused range 0
+user alice -> refused exists alice
+edit alice coin=heads to 600000 -> trade 1319413953331 879609302220 at 3
+edit alice coin=heads to 500000 -> refused full 1
+user bob -> user bob at 4
+edit bob coin=heads to 600000 at 3 -> refused stale 3 4
+limits bobby coin=heads -> refused user bobby
+resolve coin=heads -> resolve coin=heads at 5
+price coin=heads -> refused resolved coin
+resolve coin=tails -> refused resolved coin
+settle -> settle at 6, alice 126..126 paid 126, bob 0..0 paid 0
+price coin=heads -> refused settled
+worst bobby -> refused settled",
+    }
+}
+
+/// Its second clique holds the first variable alone.
+fn weather() -> Sample {
+    Sample {
+        file: "points_per_bit = 100
+max_trades = 1000
+cliques = [['season', 'rain'], ['season']]
+links = [1]
+
+[[variable]]
+name = 'season'
+values = ['wet', 'dry']
+parents = []
+rows = [[400000, 600000]]
+
+[[variable]]
+name = 'rain'
+values = ['yes', 'no']
+parents = ['season']
+rows = [[700000, 300000], [100000, 900000]]
+",
+        run: "user ann -> user ann at 1
+deposit ann 1 -> deposit ann 1 at 2
+edit ann rain=yes | season=wet to 800000 -> trade 1256584717458 733007751850 at 3
+price rain=yes | season=dry -> price 0.1000000000..0.1000000000
+resolve season=dry -> resolve season=dry at 4
+price rain=yes | season=wet -> refused impossible season=wet
+price season=wet -> refused resolved season
+resolve rain=snow -> refused name rain=snow
+settle -> refused open rain",
+    }
+}
+
+/// Its cliques are linked in a row.
+fn chain() -> Sample {
+    Sample {
+        file: "points_per_bit = 100
+max_trades = 1000
+cliques = [['a', 'b'], ['b', 'c'], ['c']]
+links = [1, 2]
+
+[[variable]]
+name = 'a'
+values = ['up', 'down']
+parents = []
+rows = [[500000, 500000]]
+
+[[variable]]
+name = 'b'
+values = ['up', 'down']
+parents = ['a']
+rows = [[600000, 400000], [300000, 700000]]
+
+[[variable]]
+name = 'c'
+values = ['up', 'down']
+parents = ['b']
+rows = [[800000, 200000], [100000, 900000]]
+",
+        run: "price c=up | a=up -> refused wide
+price c=left -> refused name c=left
+price c=up | b=up, c=down -> refused twice c
+edit zed c=up | a=up to 500000 -> refused user zed
+price a=up | a=down, b=left -> refused name b=left
+price a=up | b=up, b=down, a=down -> refused twice b
+price a=up | b=up, a=up, b=up -> refused twice a
+price d=up | a=left -> refused name d=up",
+    }
+}
+
+/// Applies a command, and stops unless this is its reply.
+fn expect_reply(
+    rt: &impl Abort,
+    alloc: Global,
+    market: &mut TreeMarket,
+    line: &str,
+    expected: &str,
+) {
+    let Ok(command) = read_command(line.as_bytes()) else {
+        assert!(rt; false, "{line} is no command");
+        return;
+    };
+    let reply = market.apply(alloc, &command);
+    let mut text = ArrayString::new();
+    print_reply(&reply, &mut text);
+    assert_eq!(rt; text.as_str(), expected, "to {line}");
+}
+
+/// Opens a market of a file, and expects each reply of a run.
+fn expect_run(rt: &impl Abort, alloc: Global, file: &str, run: &str) -> Result<TreeMarket, Fail> {
+    let file = read_market(alloc, file.as_bytes())?;
+    let mut market = TreeMarket::start(alloc, file)?;
+    for line in run.split("\n") {
+        let (command, reply) = line.split_once(" -> ").ok_or("no arrow")?;
+        expect_reply(rt, alloc, &mut market, command, reply);
+    }
+    Ok(market)
+}
+
+#[test]
+fn coin_market(rt: HostRuntime) -> Result<(), Fail> {
+    let sample = coin();
+    let market = expect_run(&rt, rt.alloc(), sample.file, sample.run)?;
+    assert_eq!(rt; (market.variables(), market.points_per_bit()), (1, 100));
+    assert_eq!(rt; market.history().len(), 3);
+    Ok(())
+}
+
+#[test]
+fn each_refusal_has_its_words(rt: HostRuntime) -> Result<(), Fail> {
+    for sample in [one_trade(), weather(), chain()] {
+        let _ = expect_run(&rt, rt.alloc(), sample.file, sample.run)?;
+    }
+    Ok(())
+}
+
+/// As many users join as may, and then one more.
+fn joinings(alloc: Global) -> Result<String, Fail> {
+    let mut run = String::new(alloc);
+    for number in 1..257u32 {
+        run.push_str(&format!(in alloc; "user u{number} -> user u{number} at {number}\n")?)?;
+    }
+    run.push_str("user u257 -> refused users 256")?;
+    Ok(run)
+}
+
+#[test]
+fn the_257th_user_is_refused(rt: HostRuntime) -> Result<(), Fail> {
+    let run = joinings(rt.alloc())?;
+    let _ = expect_run(&rt, rt.alloc(), coin().file, &run)?;
+    Ok(())
+}

@@ -1,4 +1,0 @@
-use Rattle.mk_propagate.proofs.tests.in_second.Goals as goal
-
-pub again-pair-requires : goal.again-pair-requires
-again-pair-requires g c = (_, _, c.know-2.ensures.ready (c.around-message.ensures _ _ c.know.ensures.some))

@@ -1,8 +1,0 @@
-use Rattle.std.proofs.Common.{arith, lit<}
-use Rattle.mk_table.proofs.Examples.{room_of}
-use Rattle.mk_table.proofs.tests.ones_times_ones.Goals as goal
-
-pub returns-clause-room : goal.returns-clause-room
-returns-clause-room g c =
-    room_of c.times_message.new.self _ _ 12 (c.times_message.ensures.numbers _ _ _ _ c.in_ok-table.ensures.ones c.in_ok-message.ensures.ones) (lit< tt)
-    (omega (arith, c.times_message.ensures.shift, c.in_ok-table.ensures.shift, c.in_ok-message.ensures.shift))

@@ -1,0 +1,15 @@
+use Rattle.mk_propagate.proofs.Passed.{still_placed}
+use Rattle.mk_tree_trials.proofs.flows.away.Goals as goal
+
+pub returns : goal.returns
+returns g c = λ network count collected.
+    let some = collected.some in
+    record {
+      some = record {
+        placing = some.placing;
+        has = still_placed c.args.flow.now c.distribute.new.self c.distribute.ensures.kept some.placing some.has;
+        of_network = some.of_network;
+        counted = some.counted;
+      };
+      right = λ i h. c.distribute.ensures.right some.placing some.has collected.towards i c.args.clique h;
+    }

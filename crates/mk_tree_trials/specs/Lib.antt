@@ -1,0 +1,3 @@
+pub mod Weather
+pub mod Placed
+pub mod Used

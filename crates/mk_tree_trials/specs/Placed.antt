@@ -1,0 +1,22 @@
+-- What the trials keep of a flow.
+use Rattle.std.specs.Prelude.{◌≡◌, ℕ, List, length}
+use Rattle.mk_net.specs.Network.{Variable}
+use Rattle.mk_propagate.specs.Placings.{Placing}
+use Rattle.mk_propagate.specs.Flows.{FlowOf, HasPlaced, AreRightTowards, AreRightInto}
+
+-- so many factors of a network are placed
+pub record HasSome (flow : FlowOf) (network : List Variable) (count : ℕ) : Type 0 where
+  pub placing : Placing
+  pub has : HasPlaced flow placing
+  pub of_network : placing.network ≡ network
+  pub counted : length placing.factors ≡ count
+
+-- so many factors of a network are placed, and each message towards a clique is right
+pub record IsCollected (plus : ℕ → ℕ → ℕ) (flow : FlowOf) (network : List Variable) (count clique : ℕ) : Type 0 where
+  pub some : HasSome flow network count
+  pub towards : AreRightTowards plus flow some.placing clique
+
+-- so many factors of a network are placed, and each message into a clique is right
+pub record IsReady (plus : ℕ → ℕ → ℕ) (flow : FlowOf) (network : List Variable) (count clique : ℕ) : Type 0 where
+  pub some : HasSome flow network count
+  pub right : AreRightInto plus flow some.placing clique

@@ -1,0 +1,184 @@
+//! What engines are told and asked, each after so many changes, and how many messages that makes.
+
+ghost use Rattle.std.specs.Prelude.{◌+◌, ◌<◌};
+ghost use Rattle.std.specs.List.{AllByRecursion};
+ghost use Rattle.mk_net.specs.Trades.{trade_ratio};
+ghost use Rattle.mk_exact.specs.Proper.{IsPairOf, IsQuestionOf, IsRatioOf};
+ghost use Rattle.mk_tree_trials.specs.Used.{IsInUse};
+
+use crate::fixtures::{chain, chain_tree, check};
+use mk_engine::Engine;
+use mk_net::{Event, Network, Pair, Question, Ratio};
+use mk_semiring::{Semiring, SumProd};
+use mk_tree_engine::TreeEngine;
+use std::process::Abort;
+use std::test::Fail;
+
+/// A pair, and another that it is asked or traded under, where there is one.
+#[derive(Clone, Copy)]
+pub(crate) struct About(pub(crate) Pair, pub(crate) Option<Pair>);
+
+/// What an engine is told: the rows of a variable, a trade by two numbers of units, or a known pair.
+#[derive(Clone, Copy)]
+pub(crate) enum Change {
+    Rows(u32),
+    Traded(About, u64, u64),
+    Known(Pair),
+}
+
+/// The pairs of the first values of variables.
+pub(crate) const A: Pair = Pair {
+    variable: 0,
+    value: 0,
+};
+
+pub(crate) const B: Pair = Pair {
+    variable: 1,
+    value: 0,
+};
+
+pub(crate) const C: Pair = Pair {
+    variable: 2,
+    value: 0,
+};
+
+/// Stops unless the pair is one of the network's.
+fn check_pair(rt: &impl Abort, net: &Network, pair: Pair)
+    ensures { IsPairOf net.now pair }
+{
+    assert!(rt; pair.variable < net.variables());
+    assert!(rt; pair.value < net.values(pair.variable));
+}
+
+/// The event of no pair, or of one.
+fn condition(rt: &impl Abort, net: &Network, given: Option<Pair>) -> Event
+    ensures { AllByRecursion (IsPairOf net.now) result }
+{
+    let Some(pair) = given else {
+        return Event::empty();
+    };
+    check_pair(rt, net, pair);
+    Event::empty().with(pair).expect(rt, "a pair")
+}
+
+pub(crate) fn event(rt: &impl Abort, net: &Network, about: &About) -> Event
+    ensures { AllByRecursion (IsPairOf net.now) result }
+{
+    check_pair(rt, net, about.0);
+    let condition = condition(rt, net, about.1);
+    condition.with(about.0).expect(rt, "two pairs")
+}
+
+fn question(rt: &impl Abort, net: &Network, about: &About) -> Question
+    ensures { IsQuestionOf net.now result }
+{
+    let condition = condition(rt, net, about.1);
+    check_pair(rt, net, about.0);
+    Question::make(about.0, condition).expect(rt, "a question")
+}
+
+/// The ratio of a trade.
+pub(crate) fn ratio(rt: &impl Abort, net: &Network, about: &About, hit: u64, miss: u64) -> Ratio
+    ensures { IsRatioOf net.now (trade_ratio result) }
+{
+    let asked = question(rt, net, about);
+    let target = asked.target();
+    let values = net.values(target.variable);
+    assert!(rt; 2 <= values);
+    assert!(rt; values <= 16);
+    assert!(rt; 1 <= hit);
+    assert!(rt; hit < 1 << 62);
+    assert!(rt; 1 <= miss);
+    assert!(rt; miss < 1 << 62);
+    Ratio::of_question(&asked, values, hit, miss)
+}
+
+/// Tells an engine, after so many changes.
+pub(crate) fn tell<R: Semiring, E: Engine<R>>(
+    rt: &impl Abort,
+    engine: &mut E,
+    net: &Network,
+    change: &Change,
+    before: u32,
+)
+    requires used { IsInUse E.stands_for engine.old net.now before }
+    requires few { before < 100 }
+    ensures { IsInUse E.stands_for engine.new net.now (before + 1) }
+{
+    match *change {
+        Change::Rows(variable) => {
+            assert!(rt; variable < net.variables());
+            engine.weigh(net, variable);
+        }
+        Change::Traded(about, hit, miss) => {
+            let ratio = ratio(rt, net, &about, hit, miss);
+            assert!(rt; engine.fits(&ratio.event()));
+            engine.multiply(&ratio);
+        }
+        Change::Known(pair) => {
+            check_pair(rt, net, pair);
+            engine.know(pair);
+        }
+    }
+}
+
+/// The belief in an event, after so many changes.
+pub(crate) fn ask<R: Semiring, E: Engine<R>>(
+    rt: &impl Abort,
+    engine: &mut E,
+    net: &Network,
+    about: &About,
+    before: u32,
+) -> R::Value
+    requires { IsInUse E.stands_for engine.old net.now before }
+    ensures { IsInUse E.stands_for engine.new net.now before }
+{
+    let event = event(rt, net, about);
+    assert!(rt; engine.fits(&event));
+    engine.belief(&event)
+}
+
+#[test]
+fn only_stale_messages_are_made(rt: HostRuntime) -> Result<(), Fail> {
+    let alloc = rt.alloc();
+    let net = chain(alloc)?;
+    let tree = chain_tree(&rt, alloc, &net)?;
+    let plan = TreeEngine::<SumProd>::plan(alloc, &net, &tree)?;
+    let mut engine = TreeEngine::<SumProd>::start(alloc, &plan)?;
+    tell(&rt, &mut engine, &net, &Change::Rows(0), 0);
+    tell(&rt, &mut engine, &net, &Change::Rows(1), 1);
+    tell(&rt, &mut engine, &net, &Change::Rows(2), 2);
+    let (b, c) = (About(B, None), About(C, None));
+    check(
+        &rt,
+        &ask(&rt, &mut engine, &net, &c, 3),
+        415_000_000_000_000_000,
+    );
+    assert_eq!(rt; engine.computed(), 2);
+    check(
+        &rt,
+        &ask(&rt, &mut engine, &net, &c, 3),
+        415_000_000_000_000_000,
+    );
+    assert_eq!(rt; engine.computed(), 2);
+    tell(
+        &rt,
+        &mut engine,
+        &net,
+        &Change::Traded(About(A, None), 2, 3),
+        3,
+    );
+    check(
+        &rt,
+        &ask(&rt, &mut engine, &net, &c, 4),
+        985_000_000_000_000_000,
+    );
+    assert_eq!(rt; engine.computed(), 3);
+    check(
+        &rt,
+        &ask(&rt, &mut engine, &net, &b, 4),
+        1_050_000_000_000_000_000,
+    );
+    assert_eq!(rt; engine.computed(), 4);
+    Ok(())
+}

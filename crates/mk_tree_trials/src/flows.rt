@@ -1,0 +1,297 @@
+//! Messages and beliefs on a chain of three variables, by numbers worked out by hand.
+
+ghost use Rattle.std.specs.Prelude.{◌≡◌, ℕ, ◌+◌, ◌<◌, [], ◌∷◌, List, length, IfOk};
+ghost use Rattle.std.specs.List.{list_all};
+ghost use Rattle.mk_net.specs.Network.{Variable};
+ghost use Rattle.mk_net.specs.Sets.{is_member};
+ghost use Rattle.mk_net.specs.Trades.{trade_ratio};
+ghost use Rattle.mk_tree.specs.Given.{clique_at, holds_event};
+ghost use Rattle.mk_tree.specs.Tests.{holds_family};
+ghost use Rattle.mk_propagate.specs.Shapes.{IsShapeFor, IsClique};
+ghost use Rattle.mk_tree_trials.specs.Placed.{HasSome, IsCollected, IsReady};
+
+use crate::fixtures::{chain, chain_tree, check, only};
+use mk_net::{Event, Network, Pair, Question, Ratio, VarSet};
+use mk_propagate::{Flow, Shape};
+use mk_semiring::{Held, MinProd, Semiring, SumProd};
+use mk_tree::Tree;
+use std::alloc::Global;
+use std::process::Abort;
+use std::rc::Rc;
+use std::test::Fail;
+
+const B_UP: Pair = Pair {
+    variable: 1,
+    value: 0,
+};
+
+const C_UP: Pair = Pair {
+    variable: 2,
+    value: 0,
+};
+
+/// The shape of a tree of the cliques {a, b}, {b, c} and {c}.
+fn shape_of(rt: &impl Abort, alloc: Global, net: &Network) -> Result<Rc<Shape>, Fail>
+    ensures { IfOk result (λ shape. IsShapeFor shape.value net.now) }
+{
+    let tree = chain_tree(rt, alloc, net)?;
+    let shape = Shape::of(alloc, net, &tree)?;
+    Ok(Rc::new(alloc, shape)?)
+}
+
+/// Whether a set has each of some variables.
+fn has_all(set: &VarSet, variables: &[u32]) -> bool
+    ensures { result ≡ list_all (is_member set.now) variables.now }
+{
+    variables.iter().all(|variable| set.has(*variable))
+}
+
+/// Whether a clique holds a variable and its parents.
+fn holds_family(net: &Network, tree: &Tree, clique: u32, variable: u32) -> bool
+    requires clique { IsClique tree.now clique }
+    requires variable { variable < length net.now }
+    ensures { result ≡ holds_family net.now variable (clique_at tree.now clique) }
+{
+    let set = tree.clique(clique);
+    set.has(variable) && has_all(&set, net.parents(variable))
+}
+
+/// Whether a clique holds each variable of an event.
+fn holds_event(tree: &Tree, clique: u32, event: &Event) -> bool
+    requires { IsClique tree.now clique }
+    ensures { result ≡ holds_event event.now (clique_at tree.now clique) }
+{
+    let set = tree.clique(clique);
+    event.pairs().iter().all(|pair| set.has(pair.variable))
+}
+
+/// Stops unless the shape has the clique.
+fn expect_clique(rt: &impl Abort, shape: &Shape, clique: u32)
+    ensures { IsClique shape.now.tree clique }
+{
+    assert!(rt; clique >= 1);
+    assert!(rt; clique <= shape.cliques());
+}
+
+/// Places the rows of a variable, after so many factors.
+fn place<R: Semiring>(
+    rt: &impl Abort,
+    flow: &mut Flow<R>,
+    clique: u32,
+    net: &Network,
+    variable: u32,
+    before: u32,
+)
+    requires some { HasSome flow.old net.now before }
+    requires few { before < 10 }
+    ensures some { HasSome flow.new net.now (before + 1) }
+    ensures ready { IsReady R.plus_of flow.old net.now before clique → IsReady R.plus_of flow.new net.now (before + 1) clique }
+{
+    expect_clique(rt, flow.shape(), clique);
+    assert!(rt; variable < net.variables());
+    assert!(rt; holds_family(net, flow.shape().tree(), clique, variable));
+    flow.times_rows(clique, net, variable);
+}
+
+/// A flow in which the rows of all variables are placed.
+fn placed<R: Semiring>(
+    rt: &impl Abort,
+    alloc: Global,
+    net: &Network,
+    shape: &Rc<Shape>,
+) -> Result<Flow<R>, Fail>
+    requires { IsShapeFor shape.now.value net.now }
+    ensures { IfOk result (λ flow. HasSome flow net.now 3) }
+{
+    let mut flow = Flow::start(alloc, shape)?;
+    place(rt, &mut flow, 1, net, 0, 0);
+    place(rt, &mut flow, 1, net, 1, 1);
+    place(rt, &mut flow, 2, net, 2, 2);
+    Ok(flow)
+}
+
+/// The belief in an event, read in a clique with the messages into it as they are.
+fn again<R: Semiring>(rt: &impl Abort, flow: &mut Flow<R>, clique: u32, event: &Event) -> R::Value
+    requires { (network : List Variable) × (count : ℕ) × IsReady R.plus_of flow.old network count clique }
+    ensures { flow.new ≡ flow.old }
+{
+    expect_clique(rt, flow.shape(), clique);
+    assert!(rt; holds_event(flow.shape().tree(), clique, event));
+    flow.read(clique, event)
+}
+
+/// Makes the messages towards a clique.
+fn towards<R: Semiring>(rt: &impl Abort, flow: &mut Flow<R>, clique: u32)
+    requires { (network : List Variable) × (count : ℕ) × HasSome flow.old network count }
+    ensures { (network : List Variable) (count : ℕ) → HasSome flow.old network count → IsCollected R.plus_of flow.new network count clique }
+{
+    expect_clique(rt, flow.shape(), clique);
+    flow.collect(clique);
+}
+
+/// Makes the messages away from a clique.
+fn away<R: Semiring>(rt: &impl Abort, flow: &mut Flow<R>, clique: u32)
+    requires { (network : List Variable) × (count : ℕ) × IsCollected R.plus_of flow.old network count clique }
+    ensures { (network : List Variable) (count : ℕ) → IsCollected R.plus_of flow.old network count clique → IsReady R.plus_of flow.new network count clique }
+{
+    expect_clique(rt, flow.shape(), clique);
+    flow.distribute(clique);
+}
+
+/// The beliefs in an event, read in a clique once the messages towards it are made, and once those away from it are.
+fn around<R: Semiring>(
+    rt: &impl Abort,
+    flow: &mut Flow<R>,
+    clique: u32,
+    event: &Event,
+) -> (R::Value, R::Value)
+    requires { (network : List Variable) × (count : ℕ) × HasSome flow.old network count }
+    ensures { (network : List Variable) (count : ℕ) → HasSome flow.old network count → IsReady R.plus_of flow.new network count clique }
+{
+    towards(rt, flow, clique);
+    let before = again(rt, flow, clique, event);
+    away(rt, flow, clique);
+    (before, again(rt, flow, clique, event))
+}
+
+/// A trade on b.
+fn trade(rt: &impl Abort) -> Ratio
+    ensures { trade_ratio result ≡ record { variable = 1; condition = []; factors = 2 ∷ 3 ∷ [] } }
+{
+    let question = Question::make(B_UP, Event::empty()).expect(rt, "a question");
+    Ratio::of_question(&question, 2, 2, 3)
+}
+
+/// Places the trade in the second clique, after three factors.
+fn multiply<R: Semiring>(rt: &impl Abort, flow: &mut Flow<R>, net: &Network)
+    requires { HasSome flow.old net.now 3 }
+    ensures some { HasSome flow.new net.now 4 }
+    ensures ready { IsReady R.plus_of flow.old net.now 3 2 → IsReady R.plus_of flow.new net.now 4 2 }
+{
+    assert!(rt; net.variables() == 3);
+    assert!(rt; net.values(1) == 2);
+    expect_clique(rt, flow.shape(), 2);
+    assert!(rt; flow.shape().tree().clique(2).has(1));
+    flow.times_ratio(2, &trade(rt));
+}
+
+/// Places a known pair, after four factors.
+fn know<R: Semiring>(rt: &impl Abort, flow: &mut Flow<R>, clique: u32, net: &Network, pair: Pair)
+    requires { HasSome flow.old net.now 4 }
+    ensures some { HasSome flow.new net.now 4 }
+    ensures ready { IsReady R.plus_of flow.old net.now 4 clique → IsReady R.plus_of flow.new net.now 4 clique }
+{
+    expect_clique(rt, flow.shape(), clique);
+    assert!(rt; pair.variable < net.variables());
+    assert!(rt; pair.value < net.values(pair.variable));
+    assert!(rt; flow.shape().tree().clique(clique).has(pair.variable));
+    flow.restrict(clique, pair);
+}
+
+/// The beliefs that b is up, read in the first clique: with the rows of a and messages of ones, after the messages away, again with
+/// nothing changed, with the rows of b placed there, and with those of c placed in the second clique and the message from it.
+fn in_first<R: Semiring>(
+    rt: &impl Abort,
+    alloc: Global,
+) -> Result<(R::Value, R::Value, R::Value, R::Value, R::Value, R::Value), Fail> {
+    let net = chain(alloc)?;
+    let shape = shape_of(rt, alloc, &net)?;
+    let up = only(rt, B_UP);
+    let mut flow = Flow::<R>::start(alloc, &shape)?;
+    place(rt, &mut flow, 1, &net, 0, 0);
+    let (first, away) = around(rt, &mut flow, 1, &up);
+    let same = again(rt, &mut flow, 1, &up);
+    place(rt, &mut flow, 1, &net, 1, 1);
+    let rows = again(rt, &mut flow, 1, &up);
+    place(rt, &mut flow, 2, &net, 2, 2);
+    let (message, last) = around(rt, &mut flow, 1, &up);
+    assert_eq!(rt; flow.computed(), 8);
+    Ok((first, away, same, rows, message, last))
+}
+
+/// The beliefs in all states, read in the second clique: at first, after the messages away, with the trade placed there, with c known
+/// in the third clique and the message from it, after the messages away, and with b known in the second.
+fn in_second<R: Semiring>(
+    rt: &impl Abort,
+    alloc: Global,
+) -> Result<(R::Value, R::Value, R::Value, R::Value, R::Value, R::Value), Fail> {
+    let net = chain(alloc)?;
+    let shape = shape_of(rt, alloc, &net)?;
+    let all = Event::empty();
+    let mut flow = placed::<R>(rt, alloc, &net, &shape)?;
+    let (first, away) = around(rt, &mut flow, 2, &all);
+    multiply(rt, &mut flow, &net);
+    let ratio = again(rt, &mut flow, 2, &all);
+    know(rt, &mut flow, 3, &net, C_UP);
+    let (message, sent) = around(rt, &mut flow, 2, &all);
+    know(rt, &mut flow, 2, &net, B_UP);
+    let pair = again(rt, &mut flow, 2, &all);
+    assert_eq!(rt; flow.computed(), 8);
+    Ok((first, away, ratio, message, sent, pair))
+}
+
+/// Stops unless the values are these numbers, exactly.
+fn check_all(rt: &impl Abort, held: &[Held], numbers: &[u64]) {
+    assert_eq!(rt; held.len(), numbers.len());
+    for (value, n) in held.iter().zip(numbers) {
+        check(rt, value, *n);
+    }
+}
+
+#[test]
+fn sums(rt: HostRuntime) -> Result<(), Fail> {
+    let alloc = rt.alloc();
+    // Over the values of a, in parts per million, and of c: 2 * 500,000 * 2. With b's rows 500,000 * (600,000 + 300,000) * 2, and
+    // with c's, which have 1,000,000 in place of the last 2.
+    let first = [
+        2_000_000,
+        2_000_000,
+        2_000_000,
+        900_000_000_000,
+        450_000_000_000_000_000,
+        450_000_000_000_000_000,
+    ];
+    let (a, b, c, d, e, f) = in_first::<SumProd>(&rt, alloc)?;
+    check_all(&rt, &[a, b, c, d, e, f], &first);
+    // b is up at 0.45 and down at 0.55. The trade gives 2 * 0.45 + 3 * 0.55; with c up 0.9 * 0.8 + 1.65 * 0.1, of which b up is 0.72.
+    let second = [
+        1_000_000_000_000_000_000,
+        1_000_000_000_000_000_000,
+        2_550_000_000_000_000_000,
+        885_000_000_000_000_000,
+        885_000_000_000_000_000,
+        720_000_000_000_000_000,
+    ];
+    let (a, b, c, d, e, f) = in_second::<SumProd>(&rt, alloc)?;
+    check_all(&rt, &[a, b, c, d, e, f], &second);
+    Ok(())
+}
+
+#[test]
+fn minima(rt: HostRuntime) -> Result<(), Fail> {
+    let alloc = rt.alloc();
+    // The least over a and c: 500,000 * 1. With b's rows 500,000 * 300,000, and with c's that times 200,000.
+    let first = [
+        500_000,
+        500_000,
+        500_000,
+        150_000_000_000,
+        30_000_000_000_000_000,
+        30_000_000_000_000_000,
+    ];
+    let (a, b, c, d, e, f) = in_first::<MinProd>(&rt, alloc)?;
+    check_all(&rt, &[a, b, c, d, e, f], &first);
+    // The least is 0.5 * 0.4 * 0.1, where b is down and c up, and 3 times that after the trade, as it is with c up; where b is up too
+    // it is 0.5 * 0.3 * 0.8 * 2.
+    let second = [
+        20_000_000_000_000_000,
+        20_000_000_000_000_000,
+        60_000_000_000_000_000,
+        60_000_000_000_000_000,
+        60_000_000_000_000_000,
+        240_000_000_000_000_000,
+    ];
+    let (a, b, c, d, e, f) = in_second::<MinProd>(&rt, alloc)?;
+    check_all(&rt, &[a, b, c, d, e, f], &second);
+    Ok(())
+}
