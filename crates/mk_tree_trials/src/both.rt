@@ -295,7 +295,13 @@ const OF_WEATHER: [About; 6] = [
 fn a_trade_on_rain(rt: HostRuntime) -> Result<(), Fail> {
     let alloc = rt.alloc();
     let case = weather(&rt, alloc)?;
-    follow_both(&rt, alloc, &case, &ROWS[..2], &DRY_AFTER_TRADE, &OF_WEATHER)?;
+    follow_both(&rt, alloc, &case, &ROWS[..2], &DRY_AFTER_TRADE, &OF_WEATHER)
+}
+
+#[test]
+fn the_walk_after_a_trade_on_rain(rt: HostRuntime) -> Result<(), Fail> {
+    let alloc = rt.alloc();
+    let net = weather(&rt, alloc)?.net;
     // 400,000 times 700,000 times 1,256,584,717,458; and 600,000 times 100,000 times 2^40.
     let wet_rain = 351_843_720_888_240_000_000_000;
     let dry_rain = 65_970_697_666_560_000_000_000;
@@ -304,15 +310,9 @@ fn a_trade_on_rain(rt: HostRuntime) -> Result<(), Fail> {
         (About(B, Some(NOT_A)), dry_rain),
         (About(B, None), wet_rain + dry_rain),
     ];
-    let net = &case.net;
-    expect_walked::<SumProd>(&rt, alloc, net, &RAIN_IN_WET, &sums)?;
-    expect_walked::<SumProd>(
-        &rt,
-        alloc,
-        net,
-        &DRY_AFTER_TRADE,
-        &[(About(B, None), dry_rain)],
-    )?;
+    expect_walked::<SumProd>(&rt, alloc, &net, &RAIN_IN_WET, &sums)?;
+    let known = [(About(B, None), dry_rain)];
+    expect_walked::<SumProd>(&rt, alloc, &net, &DRY_AFTER_TRADE, &known)?;
     // The units of the trade where the season is wet, and 2^40 elsewhere.
     let elsewhere = 1_099_511_627_776;
     let minima = [
@@ -320,15 +320,11 @@ fn a_trade_on_rain(rt: HostRuntime) -> Result<(), Fail> {
         (About(B, None), elsewhere),
         (About(NOT_B, None), 733_007_751_850),
     ];
-    expect_walked::<MinProd>(&rt, alloc, net, &RAIN_IN_WET, &minima)?;
-    expect_walked::<MinProd>(
-        &rt,
-        alloc,
-        net,
-        &DRY_AFTER_TRADE,
-        &[(About(NOT_B, None), elsewhere)],
-    )
+    expect_walked::<MinProd>(&rt, alloc, &net, &RAIN_IN_WET, &minima)?;
+    let known = [(About(NOT_B, None), elsewhere)];
+    expect_walked::<MinProd>(&rt, alloc, &net, &DRY_AFTER_TRADE, &known)
 }
+
 /// A chain of three, in the cliques {a, b}, {b, c} and {c}.
 fn chained(rt: &impl Abort, alloc: Global) -> Result<Case, Fail>
     ensures { IfOk result (λ case. IsTreeOf case.net case.tree) }
@@ -362,21 +358,28 @@ const OF_CHAIN: [About; 7] = [
 fn trades_along_a_chain(rt: HostRuntime) -> Result<(), Fail> {
     let alloc = rt.alloc();
     let case = chained(&rt, alloc)?;
-    follow_both(&rt, alloc, &case, &ROWS[..3], &ALONG_CHAIN, &OF_CHAIN)?;
+    follow_both(&rt, alloc, &case, &ROWS[..3], &ALONG_CHAIN, &OF_CHAIN)
+}
+
+#[test]
+fn the_walk_along_a_chain(rt: HostRuntime) -> Result<(), Fail> {
+    let alloc = rt.alloc();
+    let net = chain(alloc)?;
     // Of 10^18: b is up in 0.5 * 0.6 + 0.5 * 0.3, c in 0.45 * 0.8 + 0.55 * 0.1, and a and b in 0.5 * 0.6.
     let sums = [
         (About(B, None), 450_000_000_000_000_000),
         (About(C, None), 415_000_000_000_000_000),
         (About(A, Some(B)), 300_000_000_000_000_000),
     ];
-    expect_walked::<SumProd>(&rt, alloc, &case.net, &[], &sums)?;
+    expect_walked::<SumProd>(&rt, alloc, &net, &[], &sums)?;
     // Where c is up and b is down, the first trade's 2^40 is left, with 3 and 7 of the others; where both are up, its 733,007,751,850.
     let minima = [
         (About(NOT_B, None), 23_089_744_183_296),
         (About(B, None), 15_393_162_788_850),
     ];
-    expect_walked::<MinProd>(&rt, alloc, &case.net, &ALONG_CHAIN, &minima)
+    expect_walked::<MinProd>(&rt, alloc, &net, &ALONG_CHAIN, &minima)
 }
+
 /// A star: the clique {a, b} amid {a, c}, {b, d} and {b}, where b has three values.
 fn star(rt: &impl Abort, alloc: Global) -> Result<Case, Fail>
     ensures { IfOk result (λ case. IsTreeOf case.net case.tree) }
