@@ -1,6 +1,6 @@
--- The total of what a clique gathered from all its neighbours is the exact belief, within the grade of a reading.
-use Rattle.std.proofs.Common.{◌≡◌, ℕ, ◌+◌, ◌-◌, ◌*◌, ◌<◌, ◌≤◌, Bool, true, false, ◌&&◌, List, length, slice_index_or, None, refl, sym, ap, subst, ◌∙◌, arith}
-use Rattle.std.proofs.Math.Path.{fun_ext}
+-- The plus, over the cells of an event, of a clique's table times the messages from all its neighbours is the exact belief, within the grade of a reading.
+use Rattle.std.proofs.Common.{◌≡◌, ℕ, ◌+◌, ◌-◌, ◌*◌, ◌<◌, ◌≤◌, Bool, true, false, ◌&&◌, List, length, None, refl, sym, ap, subst, ◌∙◌, arith, mul-one, one-mul}
+use Rattle.std.proofs.Math.Seq.{take-length}
 use Rattle.std.proofs.lemmas.Bool.{and_parts}
 use Rattle.std.proofs.lemmas.List.Elements.{All-weaker}
 use Rattle.mk_net.specs.declared.words.Pair.{Pair}
@@ -10,52 +10,59 @@ use Rattle.mk_exact.specs.States.{plus_over}
 use Rattle.mk_exact.specs.Lawful.{Lawful}
 use Rattle.mk_cell.specs.Cell.{StandsAt, IsOwnAt}
 use Rattle.mk_cell.specs.inner.Laws.{stands_with_more}
-use Rattle.mk_sums.specs.Trees.{linked_to}
+use Rattle.mk_sums.specs.There.{holds_there}
+use Rattle.mk_sums.specs.Trees.{linked_to, times_of}
 use Rattle.mk_sums.proofs.Sets.{times_agree}
-use Rattle.mk_table.specs.Scopes.{ScopeOf, cells_in, has_variable, HasEvent}
-use Rattle.mk_table.specs.Cells.{values_at, cells_where}
+use Rattle.mk_table.specs.Scopes.{ScopeOf, PlacesOf, cells_in, has_variable, HasEvent}
+use Rattle.mk_table.specs.Cells.{values_at, cell_in, cells_where}
 use Rattle.mk_table.specs.Tables.{TableOf, HasNumbers, HasRoom}
-use Rattle.mk_table.proofs.Owned.{own_more}
+use Rattle.mk_table.proofs.Chosen.{chosen_pass}
+use Rattle.mk_table.proofs.Owned.{own_more, plus_scaled}
 use Rattle.mk_tree.proofs.Cells.{cells_positive}
 use Rattle.mk_tree.specs.Given.{GivenTree, clique_at, holds, link_of, holds_event}
 use Rattle.mk_engine.specs.Meaning.{exact_belief}
-use Rattle.mk_propagate.specs.Shapes.{ShapeOf, IsClique, clique_scope, clique_cells, scope_within, neighbours}
-use Rattle.mk_propagate.specs.Placings.{Placing, placed_there, meaning_of}
-use Rattle.mk_propagate.specs.Flows.{FlowOf, HasPlaced, AreRightInto, IsRight, IsReading, exact_message, all_cells, reading_grade}
+use Rattle.mk_propagate.specs.Shapes.{ShapeOf, IsClique, clique_scope, core_scope, clique_cells, scope_within, in_core, neighbours}
+use Rattle.mk_propagate.specs.Placings.{Placing, placed_there, factors_in, meaning_of}
+use Rattle.mk_propagate.specs.Flows.{FlowOf, HasCells, HasPlaced, AreRightInto, IsRight, IsReading, exact_message, all_cells, reading_grade, table_at}
 use Rattle.mk_propagate.specs.inner.Kept.{IsKept}
-use Rattle.mk_propagate.specs.inner.Gathered.{is_input, gathered, gathered_steps, CanGather, HasGathered}
+use Rattle.mk_propagate.specs.inner.Gathered.{is_input, gathered, gathered_steps, HasGathered, HasInto}
 use Rattle.mk_propagate.proofs.Scopes.{has_within, clique_counted}
-use Rattle.mk_propagate.proofs.Inputs.{times_inputs}
+use Rattle.mk_propagate.proofs.Cores.{core_part}
+use Rattle.mk_propagate.proofs.Margins.{values_of_part}
+use Rattle.mk_propagate.proofs.Inputs.{times_inputs, times_same}
 use Rattle.mk_propagate.proofs.Grading.{few_grades, reading_steps}
 use Rattle.mk_propagate.proofs.Readings.{read_there, belief_is_read, belief_at_most}
-use Rattle.mk_propagate.proofs.Messages.{whole_room}
-use Rattle.mk_propagate.proofs.Placed.{sum_same, table_read}
+use Rattle.mk_propagate.proofs.Messages.{message_within, shared_in_core, table_room, taken_room}
+use Rattle.mk_propagate.proofs.Placed.{sum_same}
 use Rattle.mk_propagate.proofs.Required.{all_pass}
-use Rattle.mk_propagate.proofs.Sending.{table_within, has_gathered}
-
--- all messages into a clique are its inputs
-pub all_linked : (tree : GivenTree) (k i : ℕ) → is_input tree k None i ≡ true → linked_to (link_of tree) (length tree.cliques) k i ≡ true
-all_linked tree k i h = (and_parts (linked_to (link_of tree) (length tree.cliques) k i) true h).0
+use Rattle.mk_propagate.proofs.Sending.{can_take}
+use Rattle.mk_propagate.proofs.Marks.{all_linked}
 
 pub all_inputs : (plus : ℕ → ℕ → ℕ) (flow : FlowOf) (p : Placing) (k : ℕ) → AreRightInto plus flow p k → (i : ℕ) → is_input flow.shape.tree k None i ≡ true → IsRight plus flow p i k
 all_inputs plus flow p k right i h = right i (all_linked flow.shape.tree k i h)
 
--- what is gathered from the parts of a kept flow
-pub gathered_all : (plus : ℕ → ℕ → ℕ) (flow : FlowOf) (gathered_tables : List TableOf) (cells : ℕ) → IsKept flow gathered_tables cells → (k : ℕ) (p : Placing) → HasPlaced flow p → IsClique flow.shape.tree k → AreRightInto plus flow p k
-    → (shape : ShapeOf) (table : TableOf) (upward downward : List TableOf) → shape ≡ flow.shape → table ≡ slice_index_or flow.tables (k - 1) table → upward ≡ flow.upward → downward ≡ flow.downward
-    → (t : TableOf) → ((q : Placing) → CanGather plus shape table upward downward k None q → HasGathered plus shape k None (neighbours shape.tree k) t q)
-    → HasGathered plus flow.shape k None (neighbours flow.shape.tree k) t p
-gathered_all plus flow gathered_tables cells kept k p has clique right shape table upward downward s e u d t h =
-    has_gathered plus flow p k None has clique (all_inputs plus flow p k right) shape table upward downward s (sym (table_read flow.tables (k - 1) table (table_within flow gathered_tables cells kept k clique) e)) u d t h
+-- the messages into a clique, taken from the parts of a kept flow
+pub into_there : (plus : ℕ → ℕ → ℕ) (flow : FlowOf) (k : ℕ) (p : Placing) → HasPlaced flow p → AreRightInto plus flow p k
+    → (shape : ShapeOf) (upward downward : List TableOf) → shape ≡ flow.shape → upward ≡ flow.upward → downward ≡ flow.downward → (t : TableOf) → HasInto plus shape upward downward k t
+    → HasGathered plus flow.shape k None (neighbours flow.shape.tree k) (λ a. 1) 0 0 t p
+into_there plus flow k p has right shape upward downward s u d t h =
+    subst (λ (x : ShapeOf). HasGathered plus x k None (neighbours x.tree k) (λ a. 1) 0 0 t p) s
+    (h.into p (can_take plus flow p k None has (all_inputs plus flow p k right) shape upward downward s u d))
 
-module _ (plus : ℕ → ℕ → ℕ) (law : Lawful plus) (flow : FlowOf) (gathered_tables : List TableOf) (cells : ℕ) (kept : IsKept flow gathered_tables cells) (k : ℕ) (event : List Pair) (table : TableOf)
+module _ (plus : ℕ → ℕ → ℕ) (law : Lawful plus) (flow : FlowOf) (cores products : List TableOf) (cells : ℕ) (kept : IsKept flow cores products cells) (k : ℕ) (event : List Pair) (table : TableOf) (is : table_at flow k ≡ table) (into : TableOf)
     (p : Placing) (has : HasPlaced flow p) (clique : IsClique flow.shape.tree k) (inside : holds_event event (clique_at flow.shape.tree k) ≡ true)
-    (g : HasGathered plus flow.shape k None (neighbours flow.shape.tree k) table p) where
+    (g : HasGathered plus flow.shape k None (neighbours flow.shape.tree k) (λ a. 1) 0 0 into p) where
   abbrev tree : GivenTree
   tree = flow.shape.tree
 
+  placed : HasCells table (clique_scope flow.shape k) (placed_there p k) (factors_in p k) (factors_in p k)
+  placed = subst (λ (t : TableOf). HasCells t (clique_scope flow.shape k) (placed_there p k) (factors_in p k) (factors_in p k)) is (has.tables k clique)
+
   scope_is : table.scope ≡ scope_within p.network (holds tree k)
-  scope_is = g.cells.scope_is ∙ has.shape_is.clique_scopes k clique
+  scope_is = placed.scope_is ∙ has.shape_is.clique_scopes k clique
+
+  core_is : into.scope ≡ scope_within p.network (in_core tree k)
+  core_is = g.cells.scope_is ∙ has.shape_is.core_scopes k clique
 
   -- the clique has the event, and room for its total
   pub event_there : HasEvent table.scope event
@@ -66,7 +73,16 @@ module _ (plus : ℕ → ℕ → ℕ) (law : Lawful plus) (flow : FlowOf) (gathe
       event (all_pass (λ (q : Pair). is_member (clique_at tree k) q.variable) event inside))
 
   pub total_room : HasRoom table (2 * cells_in table.scope)
-  total_room = whole_room flow.shape p has.shape_is has.placing plus law k clique None table g
+  total_room = table_room flow.shape p has.shape_is has.placing plus law k clique table placed
+
+  pub into_room : HasRoom into 1
+  into_room =
+      taken_room flow.shape p has.shape_is has.placing plus law k clique None (λ a. 1) 0 0 (omega arith) (omega arith) (length (neighbours tree k)) into
+      (subst (λ (xs : List ℕ). HasGathered plus flow.shape k None xs (λ a. 1) 0 0 into p) (sym (take-length (neighbours tree k))) g)
+
+  pub total_places : (places : PlacesOf) → places ≡ record { whole = clique_scope flow.shape k; part = core_scope flow.shape k } → places ≡ record { whole = table.scope; part = into.scope }
+  total_places places e =
+      e ∙ ap (λ (s : ScopeOf). record { whole = s; part = core_scope flow.shape k }) (sym placed.scope_is) ∙ ap (λ (s : ScopeOf). record { whole = table.scope; part = s }) (sym g.cells.scope_is)
 
   -- the grade, as it is counted
   abbrev pub counted_grade : ℕ
@@ -85,40 +101,78 @@ module _ (plus : ℕ → ℕ → ℕ) (law : Lawful plus) (flow : FlowOf) (gathe
   few_before = let a = all_cells_are in let n = has.counted in let l = few_grades flow.shape p has.shape_is has.placing in omega (arith, a, n, l)
 
   -- the total
-  abbrev pub totalled : ℕ
-  totalled = plus_over plus 0 (λ c. gathered plus tree p k None (neighbours tree k) (values_at table.scope c)) (cells_where table.scope event)
+  abbrev taken : (ℕ → ℕ) → ℕ
+  taken = gathered plus tree p k None (neighbours tree k) (λ a. 1)
 
-  all_taken : (a : ℕ → ℕ) → gathered plus tree p k None (neighbours tree k) a ≡ read_there flow.shape p has.shape_is has.placing plus law event k a
+  abbrev pub totalled : ℕ
+  totalled = plus_over plus 0 (λ c. placed_there p k (values_at table.scope c) * taken (values_at into.scope (cell_in into.scope table.scope c))) (cells_where table.scope event)
+
+  -- it is what is read there, cell by cell
+  abbrev messages : (ℕ → ℕ) → ℕ
+  messages = times_of (linked_to (link_of tree) (length tree.cliques) k) (length tree.cliques) (λ i. exact_message plus tree p i k)
+
+  all_taken : (a : ℕ → ℕ) → taken a ≡ messages a
   all_taken a =
-      ap (λ n. placed_there p k a * n)
-      (times_inputs tree k None (λ i. exact_message plus tree p i k) a
-      ∙ times_agree (λ i. exact_message plus tree p i k) (is_input tree k None) (linked_to (link_of tree) (length tree.cliques) k) (length tree.cliques) a (λ j _ _. and_true (linked_to (link_of tree) (length tree.cliques) k j)))
+      one-mul _
+      ∙ times_inputs tree k None (λ i. exact_message plus tree p i k) a
+      ∙ times_agree (λ i. exact_message plus tree p i k) (is_input tree k None) (linked_to (link_of tree) (length tree.cliques) k) (length tree.cliques) a (λ j _ _. and_true (linked_to (link_of tree) (length tree.cliques) k j))
     where
       and_true : (b : Bool) → (b && true) ≡ b
       and_true true = refl
       and_true false = refl
 
+  messages_there : (c : ℕ) → c < cells_in (scope_within p.network (holds tree k))
+      → messages (values_at (scope_within p.network (in_core tree k)) (cell_in (scope_within p.network (in_core tree k)) (scope_within p.network (holds tree k)) c)) ≡ messages (values_at (scope_within p.network (holds tree k)) c)
+  messages_there c l =
+      times_same (linked_to (link_of tree) (length tree.cliques) k) (length tree.cliques) (λ i. exact_message plus tree p i k)
+      (values_at (scope_within p.network (in_core tree k)) (cell_in (scope_within p.network (in_core tree k)) (scope_within p.network (holds tree k)) c)) (values_at (scope_within p.network (holds tree k)) c)
+      (λ i h.
+      message_within flow.shape p has.shape_is has.placing plus law i k
+      (values_at (scope_within p.network (in_core tree k)) (cell_in (scope_within p.network (in_core tree k)) (scope_within p.network (holds tree k)) c)) (values_at (scope_within p.network (holds tree k)) c)
+      (λ x q.
+      let both = and_parts (holds tree i x) (holds tree k x) q in
+      let n : x < length p.network = has.shape_is.tree_is.of_network (k - 1) no_variables (omega (arith, clique.first, clique.last)) x both.1 in
+      values_of_part plus law p.network (in_core tree k) (holds tree k) (core_part tree k) c l x
+      (has_within p.network (in_core tree k) x n (shared_in_core flow.shape p has.shape_is has.placing plus law i k h x q))))
+
+  cell_is : (c : ℕ) → c < cells_in (scope_within p.network (holds tree k))
+      → placed_there p k (values_at (scope_within p.network (holds tree k)) c) * taken (values_at (scope_within p.network (in_core tree k)) (cell_in (scope_within p.network (in_core tree k)) (scope_within p.network (holds tree k)) c)) * 1
+      ≡ read_there flow.shape p has.shape_is has.placing plus law event k (values_at (scope_within p.network (holds tree k)) c)
+  cell_is c l =
+      mul-one _ ∙ ap (λ n. placed_there p k (values_at (scope_within p.network (holds tree k)) c) * n)
+      (all_taken (values_at (scope_within p.network (in_core tree k)) (cell_in (scope_within p.network (in_core tree k)) (scope_within p.network (holds tree k)) c)) ∙ messages_there c l)
+
   pub total_is : totalled ≡ exact_belief plus (meaning_of tree p) event
   total_is =
-      ap (λ (s : ScopeOf). plus_over plus 0 (λ c. gathered plus tree p k None (neighbours tree k) (values_at s c)) (cells_where s event)) scope_is
-      ∙ ap (λ (f : (ℕ → ℕ) → ℕ). plus_over plus 0 (λ c. f (values_at (scope_within p.network (holds tree k)) c)) (cells_where (scope_within p.network (holds tree k)) event)) (fun_ext all_taken)
+      ap (λ (s : ScopeOf). plus_over plus 0 (λ c. placed_there p k (values_at s c) * taken (values_at into.scope (cell_in into.scope s c))) (cells_where s event)) scope_is
+      ∙ ap (λ (s : ScopeOf). plus_over plus 0 (λ c. placed_there p k (values_at (scope_within p.network (holds tree k)) c) * taken (values_at s (cell_in s (scope_within p.network (holds tree k)) c))) (cells_where (scope_within p.network (holds tree k)) event)) core_is
+      ∙ sym (mul-one _)
+      ∙ plus_scaled plus law (λ c. read_there flow.shape p has.shape_is has.placing plus law event k (values_at (scope_within p.network (holds tree k)) c))
+      (λ c. placed_there p k (values_at (scope_within p.network (holds tree k)) c) * taken (values_at (scope_within p.network (in_core tree k)) (cell_in (scope_within p.network (in_core tree k)) (scope_within p.network (holds tree k)) c))) 1
+      (cells_where (scope_within p.network (holds tree k)) event)
+      (All-weaker (λ c. (holds_there event (values_at (scope_within p.network (holds tree k)) c) ≡ true) × (c < cells_in (scope_within p.network (holds tree k)))) _ (λ c h. cell_is c h.1) (cells_where (scope_within p.network (holds tree k)) event)
+      (chosen_pass (λ c. holds_there event (values_at (scope_within p.network (holds tree k)) c)) (cells_in (scope_within p.network (holds tree k)))))
       ∙ belief_is_read flow.shape p has.shape_is has.placing plus law event k clique inside
 
-  pub total_stands : (grade digits exponent : ℕ) → grade ≡ counted_grade
-      → ((f : ℕ → ℕ) (n : ℕ) → HasNumbers table f n → StandsAt table.shift digits exponent (plus_over plus 0 f (cells_where table.scope event)) (n + 2 * cells_in table.scope))
-      → StandsAt table.shift digits exponent totalled (3 * grade)
-  total_stands grade digits exponent is total =
-      stands_with_more table.shift digits exponent totalled (gathered_steps tree p k None (neighbours tree k) + 2 * cells_in table.scope) (3 * grade)
-      (let l = reading_steps flow.shape p has.shape_is has.placing k clique None in let e = grade_is in let s = ap cells_in scope_is in omega (arith, l, e, s, is))
-      (total (λ c. gathered plus tree p k None (neighbours tree k) (values_at table.scope c)) (gathered_steps tree p k None (neighbours tree k)) g.cells.numbers)
+  abbrev steps : ℕ
+  steps = factors_in p k + gathered_steps tree p k None (neighbours tree k) 0 + 2 * cells_in table.scope + 1
 
-  pub total_own : (grade digits exponent : ℕ) → grade ≡ counted_grade
-      → ((f : ℕ → ℕ) (n : ℕ) → HasNumbers table f n → IsOwnAt table.shift digits exponent (plus_over plus 0 f (cells_where table.scope event)) (n + 2 * cells_in table.scope))
-      → IsOwnAt table.shift digits exponent totalled (3 * grade)
-  total_own grade digits exponent is total =
-      own_more table.shift digits exponent totalled (gathered_steps tree p k None (neighbours tree k) + 2 * cells_in table.scope) (3 * grade)
-      (let l = reading_steps flow.shape p has.shape_is has.placing k clique None in let e = grade_is in let s = ap cells_in scope_is in omega (arith, l, e, s, is))
-      (total (λ c. gathered plus tree p k None (neighbours tree k) (values_at table.scope c)) (gathered_steps tree p k None (neighbours tree k)) g.cells.numbers)
+  few : (grade : ℕ) → grade ≡ counted_grade → steps ≤ 3 * grade
+  few grade is = let l = reading_steps flow.shape p has.shape_is has.placing k clique None in let e = grade_is in let s = ap cells_in scope_is in let n = some_cells in omega (arith, l, e, s, is, n)
+
+  pub total_stands : (grade shift digits exponent : ℕ) → grade ≡ counted_grade
+      → ((f h : ℕ → ℕ) (n m : ℕ) → HasNumbers table f n → HasNumbers into h m → StandsAt shift digits exponent (plus_over plus 0 (λ c. f c * h (cell_in into.scope table.scope c)) (cells_where table.scope event)) (n + m + 2 * cells_in table.scope + 1))
+      → StandsAt shift digits exponent totalled (3 * grade)
+  total_stands grade shift digits exponent is total =
+      stands_with_more shift digits exponent totalled steps (3 * grade) (few grade is)
+      (total (λ c. placed_there p k (values_at table.scope c)) (λ d. taken (values_at into.scope d)) (factors_in p k) (gathered_steps tree p k None (neighbours tree k) 0) placed.numbers g.cells.numbers)
+
+  pub total_own : (grade shift digits exponent : ℕ) → grade ≡ counted_grade
+      → ((f h : ℕ → ℕ) (n m : ℕ) → HasNumbers table f n → HasNumbers into h m → IsOwnAt shift digits exponent (plus_over plus 0 (λ c. f c * h (cell_in into.scope table.scope c)) (cells_where table.scope event)) (n + m + 2 * cells_in table.scope + 1))
+      → IsOwnAt shift digits exponent totalled (3 * grade)
+  total_own grade shift digits exponent is total =
+      own_more shift digits exponent totalled steps (3 * grade) (few grade is)
+      (total (λ c. placed_there p k (values_at table.scope c)) (λ d. taken (values_at into.scope d)) (factors_in p k) (gathered_steps tree p k None (neighbours tree k) 0) placed.numbers g.cells.numbers)
 
   pub reading_of : {V : Type 0} (encloses : V → ℕ → Type 0) (has_grade : V → ℕ → Type 0) (is_exact : V → Type 0) (r : V) (grade : ℕ) → grade ≡ counted_grade
       → encloses r totalled → has_grade r grade → (totalled < number_limit → is_exact r) → IsReading encloses has_grade is_exact plus tree p k event r

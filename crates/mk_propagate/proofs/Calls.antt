@@ -1,5 +1,5 @@
 -- A call that changes the table of one clique: `old` is the flow as its parts give it, and `now` as contracts see it.
-use Rattle.std.proofs.Common.{◌≡◌, ℕ, ◌+◌, ◌-◌, ◌*◌, ◌<◌, ◌≤◌, Bool, true, false, ◌==◌, if◌then◌else◌, List, length, All, get_or, slice_index_or, slice_set, refl, sym, ap, subst, ◌∙◌, arith}
+use Rattle.std.proofs.Common.{◌≡◌, ℕ, ◌+◌, ◌-◌, ◌*◌, ◌<◌, ◌≤◌, Bool, true, false, ◌==◌, if◌then◌else◌, List, length, All, get_or, slice_index_or, slice_set, sym, ap, subst, ◌∙◌, arith}
 use Rattle.std.proofs.lemmas.List.{get_or-set_other}
 use Rattle.mk_net.specs.declared.words.Pair.{Pair}
 use Rattle.mk_net.specs.Network.{Variable, sizes}
@@ -13,13 +13,13 @@ use Rattle.mk_engine.specs.Meaning.{Factor, RowsOf, RatioOf, max_factors, factor
 use Rattle.mk_propagate.specs.Shapes.{IsShapeFor, IsClique, clique_scope, scope_within, no_scope}
 use Rattle.mk_propagate.specs.Placings.{Placing, with_factor_in, with_pair_in, placed_there, factors_in, IsPlacedFactor, IsPlacedPair}
 use Rattle.mk_propagate.specs.Flows.{FlowOf, table_at, no_table, HasCells, HasPlaced, Places}
-use Rattle.mk_propagate.specs.inner.Kept.{IsKept, AreMarked, IsFlow}
+use Rattle.mk_propagate.specs.inner.Kept.{IsKept, IsSummed, IsCurrent, AreMarked, IsFlow}
 use Rattle.mk_propagate.proofs.Placed.{with_table, table_read, factor_placed, pair_placed, kept_with}
-use Rattle.mk_propagate.proofs.Marks.{change_unmarks}
+use Rattle.mk_propagate.proofs.Marks.{table_unmarks}
 use Rattle.mk_propagate.proofs.Placed as placed
 use Rattle.mk_propagate.proofs.Required as required
 
-module _ (old now : FlowOf) (view : old ≡ now) (gathered_tables : List TableOf) (cells : ℕ) (kept : IsKept old gathered_tables cells)
+module _ (old now : FlowOf) (view : old ≡ now) (cores products : List TableOf) (cells : ℕ) (kept : IsKept old cores products cells)
     (p : Placing) (h : HasPlaced now p) (clique : ℕ) (is : IsClique now.shape.tree clique) (read : TableOf) (value : read ≡ get_or old.tables (clique - 1) read) where
   placed_old : HasPlaced old p
   placed_old = subst (λ (o : FlowOf). HasPlaced o p) (sym view) h
@@ -65,16 +65,17 @@ module _ (old now : FlowOf) (view : old ≡ now) (gathered_tables : List TableOf
   pair_variable q f = required.has_pair p.network now.shape.tree clique read.scope (scope_of_read p.network h.shape_is) q f.in_range f.holds_it
 
   module _ (t : TableOf) (scope : t.scope ≡ read.scope) where
-    still_kept : (count : ℕ) → IsKept (with_table old clique t count) gathered_tables cells
-    still_kept count = kept_with old gathered_tables cells clique count read t kept clique_old.first within reads scope
+    still_kept : (count : ℕ) → IsKept (with_table old clique t count) cores products cells
+    still_kept count = kept_with old cores products cells clique count read t kept clique_old.first within reads scope
 
-    pub still_flow : (plus : ℕ → ℕ → ℕ) (count : ℕ) (current : List Bool) → AreMarked plus old gathered_tables current
-        → IsFlow plus (with_table old clique t count) gathered_tables (slice_set current (clique - 1) false) cells
-    still_flow plus count current marked = record {
+    pub still_flow : (plus : ℕ → ℕ → ℕ) (count : ℕ) (summed current : List Bool) → AreMarked old.shape.tree (IsSummed plus old) cores summed → AreMarked old.shape.tree (IsCurrent plus old) products current
+        → IsFlow plus (with_table old clique t count) cores products (slice_set summed (clique - 1) false) current cells
+    still_flow plus count summed current marked currents = record {
       kept = still_kept count;
-      marked =
-          change_unmarks plus old (slice_set old.tables (clique - 1) t) old.upward old.downward count old.computed clique gathered_tables current marked clique_old
-          (λ k at apart. get_or-set_other old.tables (clique - 1) (k - 1) t no_table (λ e. apart (let here = clique_old in omega (arith, e, at.first, here.first)))) (λ i k _ _. refl);
+      summed_are =
+          table_unmarks plus old (slice_set old.tables (clique - 1) t) count clique cores summed marked clique_old
+          (λ k at apart. get_or-set_other old.tables (clique - 1) (k - 1) t no_table (λ e. apart (let here = clique_old in omega (arith, e, at.first, here.first))));
+      current_are = currents;
     }
 
     pub places_factor : (plus : ℕ → ℕ → ℕ) (f : Factor) → IsPlacedFactor p.network now.shape.tree (record { clique = clique; factor = f }) → now.factors < max_factors → t.shift ≤ read.shift + 40

@@ -1,6 +1,7 @@
 -- Steps and grades of what a clique gathers: at most three steps for each grade, and few enough.
 use Rattle.std.proofs.Common.{◌≡◌, ℕ, suc, zero, ◌+◌, ◌-◌, ◌*◌, ◌<◌, ◌≤◌, Bool, true, false, cond, ◌⊎◌, inl, inr, eqb, List, [], ◌∷◌, take, slice_index_or, length, sum_by, count_by, Option, Some, refl, sym, ap, ◌∙◌, arith, eq-eqb, ne_eqb}
 use Rattle.std.proofs.lemmas.Bool.{cases_eq, and_parts}
+use Rattle.std.proofs.Math.Nat.{suc-mul, mul-le-mul}
 use Rattle.std.proofs.Math.Seq.{take-length}
 use Rattle.std.proofs.lemmas.List.Sums.{sum_by_more, sum_by-cons}
 use Rattle.mk_net.specs.Sets.{no_variables}
@@ -81,6 +82,22 @@ factors_at_most m (f ∷ fs) =
     let o = one_at_most f.clique m in
     omega (arith, ih, e, s, o)
 
+-- two sums, over the cells that a cell of a part has in the whole each, cost no more than one over the whole's cells
+pair_at_most : (p q : ℕ) → suc p + suc q ≤ suc p * suc q + 1
+pair_at_most p q = let s = suc-mul p (suc q) in let m : p * 1 ≤ p * suc q = mul-le-mul (omega arith) (omega arith) in omega (arith, s, m)
+
+pub fewer_steps : (S Q K P C : ℕ) → S * Q ≡ K → K * P ≡ C → 1 ≤ C → (2 * P - 1) + (2 * Q - 1) ≤ 2 * C
+fewer_steps S Q K zero C e f some = absurd (omega (arith, f, some))
+fewer_steps zero Q K (suc p) C e f some =
+    let k : K ≡ 0 = sym e ∙ omega arith in let g : K * suc p ≡ 0 * suc p = ap (λ n. n * suc p) k in absurd (omega (arith, f, g, some))
+fewer_steps (suc s) zero K (suc p) C e f some =
+    let k : K ≡ 0 = sym e ∙ omega arith in let g : K * suc p ≡ 0 * suc p = ap (λ n. n * suc p) k in absurd (omega (arith, f, g, some))
+fewer_steps (suc s) (suc q) K (suc p) C e f some =
+    let t = suc-mul s (suc q) in
+    let m : suc q * suc p ≤ K * suc p = mul-le-mul (omega (arith, e, t)) (omega arith) in
+    let l = pair_at_most q p in
+    omega (arith, m, l, f)
+
 module _ (shape : ShapeOf) (p : Placing) (is : IsShapeFor shape p.network) (placing : IsPlacing shape.tree p) where
   abbrev tree : GivenTree
   tree = shape.tree
@@ -122,7 +139,7 @@ module _ (shape : ShapeOf) (p : Placing) (is : IsShapeFor shape p.network) (plac
         omega (arith, e, l)
 
     -- for each message three steps for each of its grade and one, which are at most three for each of its grade and 2
-    steps_at_most : gathered_steps tree p k receiver (neighbours tree k) ≤ factors_in p k + 3 * input_grades
+    steps_at_most : gathered_steps tree p k receiver (neighbours tree k) (factors_in p k) ≤ factors_in p k + 3 * input_grades
     steps_at_most =
         let m = length tree.cliques in
         let e = sum_inputs tree k receiver (λ i. 3 * exact_message_grade tree p i k + 1) in
@@ -137,21 +154,21 @@ module _ (shape : ShapeOf) (p : Placing) (is : IsShapeFor shape p.network) (plac
             at true ih = omega (arith, ih)
             at false ih = omega (arith, ih)
 
-    factors_at_most_grades : gathered_factors tree p k receiver (neighbours tree k) ≤ factors_in p k + input_grades
+    factors_at_most_grades : gathered_factors tree p k receiver (neighbours tree k) (factors_in p k) ≤ factors_in p k + input_grades
     factors_at_most_grades =
         let m = length tree.cliques in
         let e = sum_inputs tree k receiver (λ i. exact_message_grade tree p i k) in
         let t = sum_of_at_most (is_input tree k receiver) (is_input tree k receiver) m (λ i. exact_message_grade tree p i k) (λ i. exact_message_grade tree p i k + 2) (λ i h. h) (λ i. omega arith) in
         omega (arith, e, t)
 
-    pub few_steps : gathered_steps tree p k receiver (neighbours tree k) + 2 * clique_cells p.network tree k ≤ 3 * 99072
+    pub few_steps : gathered_steps tree p k receiver (neighbours tree k) (factors_in p k) + 2 * clique_cells p.network tree k ≤ 3 * 99072
     few_steps = let a = steps_at_most in let b = within_whole in let c = whole_parts in let d = few_grades in omega (arith, a, b, c, d)
 
-    pub few_factors : gathered_factors tree p k receiver (neighbours tree k) ≤ 99072
+    pub few_factors : gathered_factors tree p k receiver (neighbours tree k) (factors_in p k) ≤ 99072
     few_factors = let a = factors_at_most_grades in let b = within_whole in let c = whole_parts in let d = few_grades in omega (arith, a, b, c, d)
 
     -- a reading has three steps for each of its grade
-    pub reading_steps : gathered_steps tree p k receiver (neighbours tree k) + 2 * clique_cells p.network tree k ≤ 3 * reading_grade tree p k
+    pub reading_steps : gathered_steps tree p k receiver (neighbours tree k) (factors_in p k) + 3 * clique_cells p.network tree k ≤ 3 * reading_grade tree p k
     reading_steps = let a = steps_at_most in let b = within_whole in let c = whole_parts in let s = is.tree_is.linked.some in omega (arith, a, b, c, s)
 
   -- and so has a message
@@ -159,8 +176,8 @@ module _ (shape : ShapeOf) (p : Placing) (is : IsShapeFor shape p.network) (plac
     grade_is : exact_message_grade tree p a b ≡ factors_in p a + clique_cells p.network tree a + input_grades a clique (Some b)
     grade_is = grades_add (link_of tree) (length tree.cliques) is.tree_is.linked.earlier (factors_in p) (clique_cells p.network tree) a b linked_too
 
-    pub message_steps : gathered_steps tree p a (Some b) (neighbours tree a) + 2 * clique_cells p.network tree a ≤ 3 * exact_message_grade tree p a b
+    pub message_steps : gathered_steps tree p a (Some b) (neighbours tree a) (factors_in p a) + 2 * clique_cells p.network tree a ≤ 3 * exact_message_grade tree p a b
     message_steps = let s = steps_at_most a clique (Some b) in let g = grade_is in omega (arith, s, g)
 
-    pub message_factors : gathered_factors tree p a (Some b) (neighbours tree a) ≤ exact_message_grade tree p a b
+    pub message_factors : gathered_factors tree p a (Some b) (neighbours tree a) (factors_in p a) ≤ exact_message_grade tree p a b
     message_factors = let s = factors_at_most_grades a clique (Some b) in let g = grade_is in omega (arith, s, g)

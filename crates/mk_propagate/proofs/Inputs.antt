@@ -5,6 +5,7 @@ use Rattle.std.proofs.lemmas.List.Elements.{filter-append}
 use Rattle.std.proofs.lemmas.List.Sums.{sum_by-append, sum_by-cons}
 use Rattle.mk_exact.specs.States.{product_by}
 use Rattle.mk_exact.proofs.Sums.{product_by-append}
+use Rattle.mk_sums.specs.Sums.{upd, Blind}
 use Rattle.mk_sums.specs.Trees.{times_of, sum_of, linked_to}
 use Rattle.mk_table.proofs.Members.{range_more}
 use Rattle.mk_tree.specs.Given.{GivenTree, link_of}
@@ -75,3 +76,21 @@ pub sum_inputs : (tree : GivenTree) (k : ℕ) (receiver : Option ℕ) (f : ℕ �
 sum_inputs tree k receiver f =
     sum_in_order (linked_to (link_of tree) (length tree.cliques) k) (length tree.cliques) (λ i. cond (is_taken receiver i) (f i) 0)
     ∙ sum_taken (linked_to (link_of tree) (length tree.cliques) k) (is_taken receiver) (length tree.cliques) f
+
+-- a product of messages that read none of a set reads none of it
+pub times_of_blind : (none set : ℕ → Bool) (m : ℕ) (f : ℕ → (ℕ → ℕ) → ℕ) → ((i : ℕ) → set i ≡ true → Blind none (f i)) → Blind none (times_of set m f)
+times_of_blind none set zero f h = λ a x v q. refl
+times_of_blind none set (suc k) f h = λ a x v q. ap (λ n. n * cond (set (suc k)) (f (suc k) (upd a x v)) 1) (times_of_blind none set k f h a x v q) ∙ ap (λ n. times_of set k f a * n) (at (set (suc k)) refl a x v q)
+  where
+    at : (b : Bool) → set (suc k) ≡ b → (a : ℕ → ℕ) (x v : ℕ) → none x ≡ true → cond b (f (suc k) (upd a x v)) 1 ≡ cond b (f (suc k) a) 1
+    at true e a x v q = h (suc k) e a x v q
+    at false e a x v q = refl
+
+-- a product of messages is the same at two assignments where each message is
+pub times_same : (set : ℕ → Bool) (m : ℕ) (f : ℕ → (ℕ → ℕ) → ℕ) (a b : ℕ → ℕ) → ((i : ℕ) → set i ≡ true → f i a ≡ f i b) → times_of set m f a ≡ times_of set m f b
+times_same set zero f a b h = refl
+times_same set (suc k) f a b h = ap (λ n. n * cond (set (suc k)) (f (suc k) a) 1) (times_same set k f a b h) ∙ ap (λ n. times_of set k f b * n) (at (set (suc k)) refl)
+  where
+    at : (c : Bool) → set (suc k) ≡ c → cond c (f (suc k) a) 1 ≡ cond c (f (suc k) b) 1
+    at true e = h (suc k) e
+    at false e = refl

@@ -1,4 +1,5 @@
 pub mod Scopes
+pub mod Cores
 pub mod Shaped
 pub mod Laid
 pub mod Placed
@@ -12,6 +13,7 @@ pub mod Inputs
 pub mod Grading
 pub mod Readings
 pub mod Messages
+pub mod Prepared
 pub mod Sending
 pub mod Believing
 pub mod Marks

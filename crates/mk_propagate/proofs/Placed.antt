@@ -14,12 +14,12 @@ use Rattle.mk_exact.proofs.Sums.{product_by-append, product_by_push}
 use Rattle.mk_sums.specs.Joint.{Item, variables, where_has}
 use Rattle.mk_sums.specs.Trees.{sum_of, behind}
 use Rattle.mk_sums.proofs.Stale.{change_leaves}
-use Rattle.mk_table.specs.Scopes.{ScopeOf}
+use Rattle.mk_table.specs.Scopes.{ScopeOf, cells_in}
 use Rattle.mk_table.specs.Cells.{values_at}
 use Rattle.mk_table.specs.Tables.{TableOf, HasNumbers, HasRoom}
-use Rattle.mk_tree.specs.Given.{GivenTree, holds, link_of}
+use Rattle.mk_tree.specs.Given.{GivenTree, AreLinked, holds, link_of}
 use Rattle.mk_engine.specs.Meaning.{Factor, factor_there, max_factors}
-use Rattle.mk_propagate.specs.Shapes.{ShapeOf, IsShapeFor, IsClique, is_behind, clique_scope, separator_between, clique_cells}
+use Rattle.mk_propagate.specs.Shapes.{ShapeOf, IsShapeFor, IsClique, is_behind, clique_scope, core_scope, separator_scope, separator_between, clique_cells}
 use Rattle.mk_propagate.specs.Placings.{Placing, PlacedFactor, PlacedPair, with_factor_in, with_pair_in, nothing_placed, factor_item, pair_item, placed_there, factors_in, IsPlacedFactor, IsPlacedPair, IsPlacing}
 use Rattle.mk_propagate.specs.Flows.{FlowOf, no_table, table_at, message_at, HasCells, HasPlaced, IsRight, Places, exact_message, exact_message_grade}
 use Rattle.mk_propagate.specs.inner.Kept.{IsKept}
@@ -236,16 +236,16 @@ module _ (plus : ℕ → ℕ → ℕ) (old : FlowOf) (p : Placing) (clique : ℕ
       h.counted
 
 -- a flow stays as it is to be kept
-pub kept_with : (old : FlowOf) (gathered_tables : List TableOf) (cells clique count : ℕ) (read t : TableOf) → IsKept old gathered_tables cells → 1 ≤ clique → clique - 1 < length old.tables
-    → table_at old clique ≡ read → t.scope ≡ read.scope → IsKept (with_table old clique t count) gathered_tables cells
-kept_with old gathered_tables cells clique count read t h first within reads scope = record {
+pub kept_with : (old : FlowOf) (cores products : List TableOf) (cells clique count : ℕ) (read t : TableOf) → IsKept old cores products cells → 1 ≤ clique → clique - 1 < length old.tables
+    → table_at old clique ≡ read → t.scope ≡ read.scope → IsKept (with_table old clique t count) cores products cells
+kept_with old cores products cells clique count read t h first within reads scope = record {
   linked = h.linked;
   one_each = length-set old.tables (clique - 1) t ∙ h.one_each;
-  one_gathered_each = h.one_gathered_each;
   one_less_up = h.one_less_up;
   one_less_down = h.one_less_down;
   table_scopes = λ k at. from k at (cases_eq k clique);
-  gathered_scopes = h.gathered_scopes;
+  cores_are = record { one_each = h.cores_are.one_each; scopes = h.cores_are.scopes };
+  products_are = record { one_each = h.products_are.one_each; scopes = h.products_are.scopes };
   upward_scopes = h.upward_scopes;
   downward_scopes = h.downward_scopes;
   cells_are = h.cells_are;
@@ -284,6 +284,25 @@ pub one_of : (scope : ℕ → ScopeOf) (first count : ℕ) (ts : List TableOf) �
 one_of scope first count ts h k p q =
     let e : first + (k - first) ≡ k = omega arith in
     subst (λ (n : ℕ). IsOnes (scope n) (slice_index_or ts (k - first) no_table)) e (h.each (k - first) (omega arith))
+
+-- tables of ones over the scopes of a shape are those of a flow that is kept
+pub starts_kept : (flow : FlowOf) (shape : ShapeOf) (cores products : List TableOf) (cells : ℕ) → flow.shape ≡ shape → AreLinked shape.tree
+    → AreOnes (clique_scope shape) 1 (length shape.tree.cliques) flow.tables → AreOnes (core_scope shape) 1 (length shape.tree.cliques) cores → AreOnes (core_scope shape) 1 (length shape.tree.cliques) products
+    → AreOnes (separator_scope shape) 2 (length shape.tree.cliques - 1) flow.upward → AreOnes (separator_scope shape) 2 (length shape.tree.cliques - 1) flow.downward
+    → cells ≡ sum_of (λ k. true) (length shape.tree.cliques) (λ k. cells_in (clique_scope shape k)) → IsKept flow cores products cells
+starts_kept flow shape cores products cells same linked tables core_tables product_tables upward downward count =
+    subst (λ (s : ShapeOf). IsKept (record { shape = s; tables = flow.tables; upward = flow.upward; downward = flow.downward; factors = flow.factors; computed = flow.computed }) cores products cells) (sym same) (record {
+      linked = linked;
+      one_each = tables.long;
+      one_less_up = omega (arith, upward.long, linked.some);
+      one_less_down = omega (arith, downward.long, linked.some);
+      table_scopes = λ k at. (one_of (clique_scope shape) 1 (length shape.tree.cliques) flow.tables tables k at.first (omega (arith, at.last))).scope_is;
+      cores_are = record { one_each = core_tables.long; scopes = λ k at. (one_of (core_scope shape) 1 (length shape.tree.cliques) cores core_tables k at.first (omega (arith, at.last))).scope_is };
+      products_are = record { one_each = product_tables.long; scopes = λ k at. (one_of (core_scope shape) 1 (length shape.tree.cliques) products product_tables k at.first (omega (arith, at.last))).scope_is };
+      upward_scopes = λ k at more. (one_of (separator_scope shape) 2 (length shape.tree.cliques - 1) flow.upward upward k (omega (arith, more)) (omega (arith, at.last, linked.some))).scope_is;
+      downward_scopes = λ k at more. (one_of (separator_scope shape) 2 (length shape.tree.cliques - 1) flow.downward downward k (omega (arith, more)) (omega (arith, at.last, linked.some))).scope_is;
+      cells_are = count;
+    })
 
 -- a flow of ones has nothing placed
 pub starts : (flow : FlowOf) → AreOnes (clique_scope flow.shape) 1 (length flow.shape.tree.cliques) flow.tables → flow.factors ≡ 0

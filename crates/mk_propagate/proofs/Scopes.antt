@@ -181,16 +181,9 @@ part_has_fewer network legal part whole h =
     some : (x : ℕ) → listed (variables (sizes network)) x ≡ true → 1 ≤ slice_index (sizes network) x
     some x p = let n = variable_of_network network x p in let two = (legal.each x nobody n).two_values in omega (arith, size_at network legal x n, two)
 
--- what a clique shares with its link is a part of both
-pub shared_lies_in : (network : List Variable) (tree : GivenTree) (k : ℕ) → LiesIn (scope_within network (shares tree k)) (scope_within network (holds tree k))
-shared_lies_in network tree k = part_lies_in network (shares tree k) (holds tree k) (λ x h. (and_parts (holds tree k x) (holds tree (link_of tree k) x) h).0)
-
-pub shared_lies_in_link : (network : List Variable) (tree : GivenTree) (k : ℕ) → LiesIn (scope_within network (shares tree k)) (scope_within network (holds tree (link_of tree k)))
-shared_lies_in_link network tree k = part_lies_in network (shares tree k) (holds tree (link_of tree k)) (λ x h. (and_parts (holds tree k x) (holds tree (link_of tree k) x) h).1)
-
 -- ---- the scopes of a tree of the network
 
-clique_small : (network : List Variable) (tree : GivenTree) → IsTreeOf network tree → (k : ℕ) → 1 ≤ k → k ≤ length tree.cliques → clique_cells network tree k ≤ max_clique_cells
+pub clique_small : (network : List Variable) (tree : GivenTree) → IsTreeOf network tree → (k : ℕ) → 1 ≤ k → k ≤ length tree.cliques → clique_cells network tree k ≤ max_clique_cells
 clique_small network tree h k p q =
     let l = h.small_cliques (k - 1) no_variables (omega arith) in
     omega (arith, l, clique_counted network tree k)

@@ -7,13 +7,13 @@ use Rattle.mk_sums.proofs.Hops.{AreLinked, IsChild, are_linked}
 use Rattle.mk_table.specs.Scopes.{ScopeOf, PlacesOf, cells_in}
 use Rattle.mk_table.specs.Tables.{TableOf, HasRoom}
 use Rattle.mk_tree.specs.Given.{link_of}
-use Rattle.mk_propagate.specs.Shapes.{ShapeOf, IsClique, are_linked as is_linked, clique_scope, separator_scope, separator_between, neighbours}
-use Rattle.mk_propagate.specs.Placings.{Placing}
+use Rattle.mk_propagate.specs.Shapes.{ShapeOf, IsClique, are_linked as is_linked, core_scope, separator_scope, separator_between, neighbours}
+use Rattle.mk_propagate.specs.Placings.{Placing, factors_in}
 use Rattle.mk_propagate.specs.Flows.{FlowOf, HasPlaced, IsRight, AreRightBut, no_table, table_at, message_at}
-use Rattle.mk_propagate.specs.inner.Kept.{IsKept}
-use Rattle.mk_propagate.specs.inner.Gathered.{is_input, IsRightIn, CanGather, HasGathered, IsMargin}
+use Rattle.mk_propagate.specs.inner.Kept.{IsKept, AreOverCores}
+use Rattle.mk_propagate.specs.inner.Gathered.{is_input, IsRightIn, CanTake, CanGather, HasCore, HasGathered, HasSent, IsMargin, core_there, core_steps}
 use Rattle.mk_propagate.proofs.Placed.{table_read}
-use Rattle.mk_propagate.proofs.Messages.{are_ends, whole_room, message_sent}
+use Rattle.mk_propagate.proofs.Messages.{are_ends, few_core_steps, whole_room, message_sent}
 
 -- a list of tables, one of which is put anew over the same scope
 pub same_scopes : (ts : List TableOf) (i j : ℕ) (t : TableOf) → i < length ts → t.scope ≡ (slice_index_or ts i no_table).scope → (slice_index_or (slice_set ts i t) j no_table).scope ≡ (slice_index_or ts j no_table).scope
@@ -25,34 +25,44 @@ same_scopes ts i j t l e = at (cases_eq j i)
         ∙ ap (λ (s : TableOf). s.scope) (get_or-set_same ts i t no_table l) ∙ e ∙ ap (λ n. (slice_index_or ts n no_table).scope) (sym q)
     at (inr d) = ap (λ (s : TableOf). s.scope) (get_or-set_other ts i j t no_table d)
 
--- a flow that is kept, of which a clique's gathered table was used
-module _ (old : FlowOf) (gathered_tables : List TableOf) (cells : ℕ) (kept : IsKept old gathered_tables cells) (k : ℕ) (clique : IsClique old.shape.tree k) where
-  pub gathered_within : k - 1 < length gathered_tables
-  gathered_within = omega (arith, kept.one_gathered_each, clique.first, clique.last)
+-- tables over the cores of a flow's cliques, of which one is read, or put anew
+module _ (flow : FlowOf) (tables : List TableOf) (are : AreOverCores flow tables) (k : ℕ) (clique : IsClique flow.shape.tree k) where
+  pub core_within : k - 1 < length tables
+  core_within = omega (arith, are.one_each, clique.first, clique.last)
 
+  pub core_is : (t : TableOf) → t ≡ slice_index_or tables (k - 1) t → slice_index_or tables (k - 1) no_table ≡ t
+  core_is t e = table_read tables (k - 1) t core_within e
+
+  pub core_fits : (t : TableOf) → t ≡ slice_index_or tables (k - 1) t → t.scope ≡ core_scope flow.shape k
+  core_fits t e = ap (λ (s : TableOf). s.scope) (sym (core_is t e)) ∙ are.scopes k clique
+
+  pub cores_still : (was t : TableOf) → was ≡ slice_index_or tables (k - 1) was → t.scope ≡ was.scope → AreOverCores flow (slice_set tables (k - 1) t)
+  cores_still was t e s = record {
+    one_each = length-set tables (k - 1) t ∙ are.one_each;
+    scopes = λ i c. same_scopes tables (k - 1) (i - 1) t core_within (s ∙ ap (λ (u : TableOf). u.scope) (sym (core_is was e))) ∙ are.scopes i c;
+  }
+
+module _ (old : FlowOf) (cores products : List TableOf) (cells : ℕ) (kept : IsKept old cores products cells) (k : ℕ) (clique : IsClique old.shape.tree k) where
   pub table_within : k - 1 < length old.tables
   table_within = omega (arith, kept.one_each, clique.first, clique.last)
 
-  pub gathered_fits : (t table : TableOf) → t ≡ slice_index_or gathered_tables (k - 1) t → table ≡ slice_index_or old.tables (k - 1) table → t.scope ≡ table.scope
-  gathered_fits t table e f =
-      ap (λ (s : TableOf). s.scope) (sym (table_read gathered_tables (k - 1) t gathered_within e)) ∙ kept.gathered_scopes k clique
-      ∙ sym (ap (λ (s : TableOf). s.scope) (sym (table_read old.tables (k - 1) table table_within f)) ∙ kept.table_scopes k clique)
+  pub table_is : (table : TableOf) → table ≡ slice_index_or old.tables (k - 1) table → table_at old k ≡ table
+  table_is table e = table_read old.tables (k - 1) table table_within e
 
-  -- it stays kept
-  pub gathered_kept : (was t : TableOf) → was ≡ slice_index_or gathered_tables (k - 1) was → t.scope ≡ was.scope → IsKept old (slice_set gathered_tables (k - 1) t) cells
-  gathered_kept was t e s = record {
-    linked = kept.linked;
-    one_each = kept.one_each;
-    one_gathered_each = length-set gathered_tables (k - 1) t ∙ kept.one_gathered_each;
-    one_less_up = kept.one_less_up;
-    one_less_down = kept.one_less_down;
-    table_scopes = kept.table_scopes;
-    gathered_scopes =
-        λ i c. same_scopes gathered_tables (k - 1) (i - 1) t gathered_within (s ∙ ap (λ (u : TableOf). u.scope) (sym (table_read gathered_tables (k - 1) was gathered_within e))) ∙ kept.gathered_scopes i c;
-    upward_scopes = kept.upward_scopes;
-    downward_scopes = kept.downward_scopes;
-    cells_are = kept.cells_are;
-  }
+-- it stays kept with others of these tables
+pub kept_over : (old : FlowOf) (cores products cores_after products_after : List TableOf) (cells : ℕ) → IsKept old cores products cells → AreOverCores old cores_after → AreOverCores old products_after → IsKept old cores_after products_after cells
+kept_over old cores products cores_after products_after cells kept c p = record {
+  linked = kept.linked;
+  one_each = kept.one_each;
+  one_less_up = kept.one_less_up;
+  one_less_down = kept.one_less_down;
+  table_scopes = kept.table_scopes;
+  cores_are = c;
+  products_are = p;
+  upward_scopes = kept.upward_scopes;
+  downward_scopes = kept.downward_scopes;
+  cells_are = kept.cells_are;
+}
 
 -- a flow with one message put anew
 abbrev pub with_upward : FlowOf → ℕ → TableOf → ℕ → FlowOf
@@ -63,55 +73,51 @@ abbrev pub with_downward : FlowOf → ℕ → TableOf → ℕ → FlowOf
 with_downward old place t computed =
     record { shape = old.shape; tables = old.tables; upward = old.upward; downward = slice_set old.downward place t; factors = old.factors; computed = computed }
 
-module _ (old : FlowOf) (gathered_tables : List TableOf) (cells computed : ℕ) (kept : IsKept old gathered_tables cells) where
-  pub kept_upward : (place : ℕ) (was t : TableOf) → place < length old.upward → was ≡ slice_index_or old.upward place was → t.scope ≡ was.scope → IsKept (with_upward old place t computed) gathered_tables cells
+module _ (old : FlowOf) (cores products : List TableOf) (cells computed : ℕ) (kept : IsKept old cores products cells) where
+  pub kept_upward : (place : ℕ) (was t : TableOf) → place < length old.upward → was ≡ slice_index_or old.upward place was → t.scope ≡ was.scope → IsKept (with_upward old place t computed) cores products cells
   kept_upward place was t l e s = record {
     linked = kept.linked;
     one_each = kept.one_each;
-    one_gathered_each = kept.one_gathered_each;
     one_less_up = ap (λ n. n + 1) (length-set old.upward place t) ∙ kept.one_less_up;
     one_less_down = kept.one_less_down;
     table_scopes = kept.table_scopes;
-    gathered_scopes = kept.gathered_scopes;
+    cores_are = record { one_each = kept.cores_are.one_each; scopes = kept.cores_are.scopes };
+    products_are = record { one_each = kept.products_are.one_each; scopes = kept.products_are.scopes };
     upward_scopes = λ k c later. same_scopes old.upward place (k - 2) t l (s ∙ ap (λ (u : TableOf). u.scope) (sym (table_read old.upward place was l e))) ∙ kept.upward_scopes k c later;
     downward_scopes = kept.downward_scopes;
     cells_are = kept.cells_are;
   }
 
-  pub kept_downward : (place : ℕ) (was t : TableOf) → place < length old.downward → was ≡ slice_index_or old.downward place was → t.scope ≡ was.scope → IsKept (with_downward old place t computed) gathered_tables cells
+  pub kept_downward : (place : ℕ) (was t : TableOf) → place < length old.downward → was ≡ slice_index_or old.downward place was → t.scope ≡ was.scope → IsKept (with_downward old place t computed) cores products cells
   kept_downward place was t l e s = record {
     linked = kept.linked;
     one_each = kept.one_each;
-    one_gathered_each = kept.one_gathered_each;
     one_less_up = kept.one_less_up;
     one_less_down = ap (λ n. n + 1) (length-set old.downward place t) ∙ kept.one_less_down;
     table_scopes = kept.table_scopes;
-    gathered_scopes = kept.gathered_scopes;
+    cores_are = record { one_each = kept.cores_are.one_each; scopes = kept.cores_are.scopes };
+    products_are = record { one_each = kept.products_are.one_each; scopes = kept.products_are.scopes };
     upward_scopes = kept.upward_scopes;
     downward_scopes = λ k c later. same_scopes old.downward place (k - 2) t l (s ∙ ap (λ (u : TableOf). u.scope) (sym (table_read old.downward place was l e))) ∙ kept.downward_scopes k c later;
     cells_are = kept.cells_are;
   }
 
--- what a flow lets a clique gather
-pub can_gather : (plus : ℕ → ℕ → ℕ) (flow : FlowOf) (p : Placing) (k : ℕ) (receiver : Option ℕ) → HasPlaced flow p → IsClique flow.shape.tree k
-    → ((i : ℕ) → is_input flow.shape.tree k receiver i ≡ true → IsRight plus flow p i k)
-    → (shape : ShapeOf) (table : TableOf) (upward downward : List TableOf) → shape ≡ flow.shape → table ≡ table_at flow k → upward ≡ flow.upward → downward ≡ flow.downward
+-- what a flow lets a clique take and gather
+pub can_take : (plus : ℕ → ℕ → ℕ) (flow : FlowOf) (p : Placing) (k : ℕ) (receiver : Option ℕ) → HasPlaced flow p → ((i : ℕ) → is_input flow.shape.tree k receiver i ≡ true → IsRight plus flow p i k)
+    → (shape : ShapeOf) (upward downward : List TableOf) → shape ≡ flow.shape → upward ≡ flow.upward → downward ≡ flow.downward → CanTake plus shape upward downward k receiver p
+can_take plus flow p k receiver has right shape upward downward s u d =
+    subst (λ (x : ShapeOf). CanTake plus x upward downward k receiver p) (sym s)
+    (subst (λ (x : List TableOf). CanTake plus flow.shape x downward k receiver p) (sym u)
+    (subst (λ (x : List TableOf). CanTake plus flow.shape flow.upward x k receiver p) (sym d)
+    (record { shape_is = has.shape_is; placing = has.placing; right = λ i h. (right i h).cells })))
+
+pub can_gather : (plus : ℕ → ℕ → ℕ) (flow : FlowOf) (p : Placing) (k : ℕ) (receiver : Option ℕ) → HasPlaced flow p → IsClique flow.shape.tree k → ((i : ℕ) → is_input flow.shape.tree k receiver i ≡ true → IsRight plus flow p i k)
+    → (shape : ShapeOf) (table : TableOf) (upward downward : List TableOf) → shape ≡ flow.shape → table_at flow k ≡ table → upward ≡ flow.upward → downward ≡ flow.downward
     → CanGather plus shape table upward downward k receiver p
 can_gather plus flow p k receiver has clique right shape table upward downward s t u d =
     subst (λ (x : ShapeOf). CanGather plus x table upward downward k receiver p) (sym s)
-    (subst (λ (x : TableOf). CanGather plus flow.shape x upward downward k receiver p) (sym t)
-    (subst (λ (x : List TableOf). CanGather plus flow.shape (table_at flow k) x downward k receiver p) (sym u)
-    (subst (λ (x : List TableOf). CanGather plus flow.shape (table_at flow k) flow.upward x k receiver p) (sym d)
-    (record { shape_is = has.shape_is; placing = has.placing; placed = has.tables k clique; right = λ i h. (right i h).cells }))))
-
-pub has_gathered : (plus : ℕ → ℕ → ℕ) (flow : FlowOf) (p : Placing) (k : ℕ) (receiver : Option ℕ) → HasPlaced flow p → IsClique flow.shape.tree k
-    → ((i : ℕ) → is_input flow.shape.tree k receiver i ≡ true → IsRight plus flow p i k)
-    → (shape : ShapeOf) (table : TableOf) (upward downward : List TableOf) → shape ≡ flow.shape → table ≡ table_at flow k → upward ≡ flow.upward → downward ≡ flow.downward
-    → (gathered : TableOf) → ((q : Placing) → CanGather plus shape table upward downward k receiver q → HasGathered plus shape k receiver (neighbours shape.tree k) gathered q)
-    → HasGathered plus flow.shape k receiver (neighbours flow.shape.tree k) gathered p
-has_gathered plus flow p k receiver has clique right shape table upward downward s t u d gathered h =
-    subst (λ (x : ShapeOf). HasGathered plus x k receiver (neighbours x.tree k) gathered p) s
-    (h p (can_gather plus flow p k receiver has clique right shape table upward downward s t u d))
+    (subst (λ (x : TableOf). CanGather plus flow.shape x upward downward k receiver p) t
+    (record { takes = can_take plus flow p k receiver has right flow.shape upward downward refl u d; placed = has.tables k clique }))
 
 -- a message from a to b, upward or downward
 module _ (old : FlowOf) (p : Placing) (has : HasPlaced old p) (a b : ℕ) (linked_too : is_linked old.shape.tree a b ≡ true) where
@@ -136,34 +142,42 @@ module _ (old : FlowOf) (p : Placing) (has : HasPlaced old p) (a b : ℕ) (linke
   pub downward_child : a ≤ b → IsChild (link_of old.shape.tree) (length old.shape.tree.cliques) b a
   downward_child l = child_down l (are_linked (link_of old.shape.tree) (length old.shape.tree.cliques) a b linked_too)
 
-  module _ (plus : ℕ → ℕ → ℕ) (law : Lawful plus) (gathered : TableOf) (g : HasGathered plus old.shape a (Some b) (neighbours old.shape.tree a) gathered p) where
-    pub send_places : (before : TableOf) → before.scope ≡ separator_between old.shape a b → (places : PlacesOf) → places ≡ record { whole = clique_scope old.shape a; part = separator_between old.shape a b }
-        → places ≡ record { whole = gathered.scope; part = before.scope }
+  -- what is gathered for b over a's core
+  abbrev pub HasOutgoing : (ℕ → ℕ → ℕ) → TableOf → Type 0
+  HasOutgoing plus product =
+      HasGathered plus old.shape a (Some b) (neighbours old.shape.tree a) (core_there plus old.shape.tree p a) (core_steps old.shape.tree p a) (factors_in p a) product p
+
+  module _ (plus : ℕ → ℕ → ℕ) (law : Lawful plus) (product : TableOf) (g : HasOutgoing plus product) where
+    pub send_places : (before : TableOf) → before.scope ≡ separator_between old.shape a b → (places : PlacesOf) → places ≡ record { whole = core_scope old.shape a; part = separator_between old.shape a b }
+        → places ≡ record { whole = product.scope; part = before.scope }
     send_places before e places q =
-        q ∙ ap (λ (s : ScopeOf). record { whole = s; part = separator_between old.shape a b }) (sym g.cells.scope_is) ∙ ap (λ (s : ScopeOf). record { whole = gathered.scope; part = s }) (sym e)
+        q ∙ ap (λ (s : ScopeOf). record { whole = s; part = separator_between old.shape a b }) (sym g.cells.scope_is) ∙ ap (λ (s : ScopeOf). record { whole = product.scope; part = s }) (sym e)
 
-    pub send_room : HasRoom gathered (2 * cells_in gathered.scope)
-    send_room = whole_room old.shape p has.shape_is has.placing plus law a sender (Some b) gathered g
+    pub send_room : HasRoom product (2 * cells_in product.scope)
+    send_room =
+        whole_room old.shape p has.shape_is has.placing plus law a sender (Some b) (core_there plus old.shape.tree p a) (core_steps old.shape.tree p a) (factors_in p a)
+        (few_core_steps old.shape p has.shape_is has.placing plus law a sender) (omega arith) product g
 
-    pub sent_right : (before after : TableOf) → before.scope ≡ separator_between old.shape a b → IsMargin plus gathered before after → (new : FlowOf) → new.shape ≡ old.shape → message_at new a b ≡ after → IsRight plus new p a b
-    sent_right before after e m new s t = record {
+    pub sent_right : (table core before after : TableOf) → HasCore plus old.shape a table core → before.scope ≡ separator_between old.shape a b → IsMargin plus product before after
+        → (new : FlowOf) → new.shape ≡ old.shape → message_at new a b ≡ after → IsRight plus new p a b
+    sent_right table core before after c e m new s t = record {
       cells =
           subst (λ (x : ShapeOf). IsRightIn plus x p a b (message_at new a b)) (sym s)
           (subst (λ (x : TableOf). IsRightIn plus old.shape p a b x) (sym t)
-          (message_sent old.shape p has.shape_is has.placing plus law a b linked_too gathered before after g e m.scope m.shift m.full m.numbers));
+          (message_sent old.shape p has.shape_is has.placing plus law a b linked_too table core product before after c g e m));
     }
 
 -- where the message stands
-pub separator_up : (flow : FlowOf) (gathered_tables : List TableOf) (cells : ℕ) → IsKept flow gathered_tables cells → (a b : ℕ) → IsChild (link_of flow.shape.tree) (length flow.shape.tree.cliques) a b → b < a
+pub separator_up : (flow : FlowOf) (cores products : List TableOf) (cells : ℕ) → IsKept flow cores products cells → (a b : ℕ) → IsChild (link_of flow.shape.tree) (length flow.shape.tree.cliques) a b → b < a
     → (t : TableOf) → t ≡ slice_index_or flow.upward (a - 2) t → t.scope ≡ separator_between flow.shape a b
-separator_up flow gathered_tables cells kept a b c l t e =
+separator_up flow cores products cells kept a b c l t e =
     let m : max a b ≡ a = omega arith in
     let within : a - 2 < length flow.upward = omega (arith, kept.one_less_up, c.later, c.within) in
     ap (λ (s : TableOf). s.scope) (sym (table_read flow.upward (a - 2) t within e)) ∙ kept.upward_scopes a (record { first = omega (arith, c.later); last = c.within }) c.later ∙ ap (separator_scope flow.shape) (sym m)
 
-pub separator_down : (flow : FlowOf) (gathered_tables : List TableOf) (cells : ℕ) → IsKept flow gathered_tables cells → (a b : ℕ) → IsChild (link_of flow.shape.tree) (length flow.shape.tree.cliques) b a → a ≤ b
+pub separator_down : (flow : FlowOf) (cores products : List TableOf) (cells : ℕ) → IsKept flow cores products cells → (a b : ℕ) → IsChild (link_of flow.shape.tree) (length flow.shape.tree.cliques) b a → a ≤ b
     → (t : TableOf) → t ≡ slice_index_or flow.downward (b - 2) t → t.scope ≡ separator_between flow.shape a b
-separator_down flow gathered_tables cells kept a b c l t e =
+separator_down flow cores products cells kept a b c l t e =
     let m : max a b ≡ b = omega arith in
     let within : b - 2 < length flow.downward = omega (arith, kept.one_less_down, c.later, c.within) in
     ap (λ (s : TableOf). s.scope) (sym (table_read flow.downward (b - 2) t within e)) ∙ kept.downward_scopes b (record { first = omega (arith, c.later); last = c.within }) c.later ∙ ap (separator_scope flow.shape) (sym m)
@@ -204,54 +218,43 @@ module _ (old : FlowOf) (p : Placing) (has : HasPlaced old p) (a b : ℕ) (linke
           (get_or-set_other old.downward (b - 2) (d - 2) t no_table (λ e.
           let q = same_child d c b a (downward_child old p has c d h m) (downward_child old p has a b linked_too l) e in apart (q.1, q.0)))
 
--- what clique a gathered for b from the parts of a kept flow
-module _ (plus : ℕ → ℕ → ℕ) (law : Lawful plus) (old : FlowOf) (gathered_tables : List TableOf) (cells : ℕ) (kept : IsKept old gathered_tables cells) (a b : ℕ)
+-- what clique a sends to b, made of the parts of a kept flow
+module _ (plus : ℕ → ℕ → ℕ) (law : Lawful plus) (old : FlowOf) (cores products : List TableOf) (cells : ℕ) (kept : IsKept old cores products cells) (a b : ℕ)
     (shape : ShapeOf) (table : TableOf) (upward downward : List TableOf) (s : shape ≡ old.shape) (t : table ≡ slice_index_or old.tables (a - 1) table) (u : upward ≡ old.upward) (d : downward ≡ old.downward)
-    (gathered : TableOf) (h : (q : Placing) → CanGather plus shape table upward downward a (Some b) q → HasGathered plus shape a (Some b) (neighbours shape.tree a) gathered q) where
+    (core product : TableOf) (c : HasCore plus shape a table core) (h : HasSent plus shape table upward downward a b product) where
   module _ (p : Placing) (has : HasPlaced old p) (linked_too : is_linked old.shape.tree a b ≡ true) (right : AreRightBut plus old p a b) where
-    gathered_there : HasGathered plus old.shape a (Some b) (neighbours old.shape.tree a) gathered p
-    gathered_there =
+    outgoing : HasOutgoing old p has a b linked_too plus product
+    outgoing =
         let clique = sender old p has a b linked_too in
-        has_gathered plus old p a (Some b) has clique right shape table upward downward s (sym (table_read old.tables (a - 1) table (table_within old gathered_tables cells kept a clique) t)) u d gathered h
+        subst (λ (x : ShapeOf). HasGathered plus x a (Some b) (neighbours x.tree a) (core_there plus x.tree p a) (core_steps x.tree p a) (factors_in p a) product p) s
+        (h.sent p (can_gather plus old p a (Some b) has clique right shape table upward downward s (table_is old cores products cells kept a clique table t) u d))
 
-    pub room_there : HasRoom gathered (2 * cells_in gathered.scope)
-    room_there = send_room old p has a b linked_too plus law gathered gathered_there
+    pub room_there : HasRoom product (2 * cells_in product.scope)
+    room_there = send_room old p has a b linked_too plus law product outgoing
 
     module _ (before : TableOf) where
-      pub places_up : b < a → before ≡ slice_index_or old.upward (a - 2) before → (places : PlacesOf) → places ≡ record { whole = clique_scope shape a; part = separator_between shape a b } → places ≡ record { whole = gathered.scope; part = before.scope }
+      pub places_up : b < a → before ≡ slice_index_or old.upward (a - 2) before → (places : PlacesOf) → places ≡ record { whole = core_scope shape a; part = separator_between shape a b } → places ≡ record { whole = product.scope; part = before.scope }
       places_up l e places q =
-          send_places old p has a b linked_too plus law gathered gathered_there before (separator_up old gathered_tables cells kept a b (upward_child old p has a b linked_too l) l before e) places
-          (subst (λ (x : ShapeOf). places ≡ record { whole = clique_scope x a; part = separator_between x a b }) s q)
+          send_places old p has a b linked_too plus law product outgoing before (separator_up old cores products cells kept a b (upward_child old p has a b linked_too l) l before e) places
+          (subst (λ (x : ShapeOf). places ≡ record { whole = core_scope x a; part = separator_between x a b }) s q)
 
-      pub places_down : a ≤ b → before ≡ slice_index_or old.downward (b - 2) before → (places : PlacesOf) → places ≡ record { whole = clique_scope shape a; part = separator_between shape a b } → places ≡ record { whole = gathered.scope; part = before.scope }
+      pub places_down : a ≤ b → before ≡ slice_index_or old.downward (b - 2) before → (places : PlacesOf) → places ≡ record { whole = core_scope shape a; part = separator_between shape a b } → places ≡ record { whole = product.scope; part = before.scope }
       places_down l e places q =
-          send_places old p has a b linked_too plus law gathered gathered_there before (separator_down old gathered_tables cells kept a b (downward_child old p has a b linked_too l) l before e) places
-          (subst (λ (x : ShapeOf). places ≡ record { whole = clique_scope x a; part = separator_between x a b }) s q)
+          send_places old p has a b linked_too plus law product outgoing before (separator_down old cores products cells kept a b (downward_child old p has a b linked_too l) l before e) places
+          (subst (λ (x : ShapeOf). places ≡ record { whole = core_scope x a; part = separator_between x a b }) s q)
 
-      module _ (after : TableOf) (computed : ℕ) (margin : IsMargin plus gathered before after) where
+      module _ (after : TableOf) (computed : ℕ) (margin : IsMargin plus product before after) where
+        here : HasCore plus old.shape a table core
+        here = subst (λ (x : ShapeOf). HasCore plus x a table core) s c
+
         pub right_up : b < a → before ≡ slice_index_or old.upward (a - 2) before → IsRight plus (with_upward old (a - 2) after computed) p a b
         right_up l e =
             let c = upward_child old p has a b linked_too l in
-            sent_right old p has a b linked_too plus law gathered gathered_there before after (separator_up old gathered_tables cells kept a b c l before e) margin (with_upward old (a - 2) after computed) refl
+            sent_right old p has a b linked_too plus law product outgoing table core before after here (separator_up old cores products cells kept a b c l before e) margin (with_upward old (a - 2) after computed) refl
             (message_up old a b computed after l (omega (arith, kept.one_less_up, c.later, c.within)))
 
         pub right_down : a ≤ b → before ≡ slice_index_or old.downward (b - 2) before → IsRight plus (with_downward old (b - 2) after computed) p a b
         right_down l e =
             let c = downward_child old p has a b linked_too l in
-            sent_right old p has a b linked_too plus law gathered gathered_there before after (separator_down old gathered_tables cells kept a b c l before e) margin (with_downward old (b - 2) after computed) refl
+            sent_right old p has a b linked_too plus law product outgoing table core before after here (separator_down old cores products cells kept a b c l before e) margin (with_downward old (b - 2) after computed) refl
             (message_down old a b computed after l (omega (arith, kept.one_less_down, c.later, c.within)))
-
--- the flow is kept after both
-module _ (old : FlowOf) (gathered_tables : List TableOf) (cells computed : ℕ) (kept : IsKept old gathered_tables cells) (p : Placing) (has : HasPlaced old p) (a b : ℕ) (linked_too : is_linked old.shape.tree a b ≡ true)
-    (was gathered : TableOf) (e : was ≡ slice_index_or gathered_tables (a - 1) was) (same : gathered.scope ≡ was.scope) (before after : TableOf) (over : after.scope ≡ before.scope) where
-  pub all_kept_up : b < a → before ≡ slice_index_or old.upward (a - 2) before → IsKept (with_upward old (a - 2) after computed) (slice_set gathered_tables (a - 1) gathered) cells
-  all_kept_up l f =
-      let c = upward_child old p has a b linked_too l in
-      kept_upward old (slice_set gathered_tables (a - 1) gathered) cells computed (gathered_kept old gathered_tables cells kept a (sender old p has a b linked_too) was gathered e same) (a - 2) before after
-      (omega (arith, kept.one_less_up, c.later, c.within)) f over
-
-  pub all_kept_down : a ≤ b → before ≡ slice_index_or old.downward (b - 2) before → IsKept (with_downward old (b - 2) after computed) (slice_set gathered_tables (a - 1) gathered) cells
-  all_kept_down l f =
-      let c = downward_child old p has a b linked_too l in
-      kept_downward old (slice_set gathered_tables (a - 1) gathered) cells computed (gathered_kept old gathered_tables cells kept a (sender old p has a b linked_too) was gathered e same) (b - 2) before after
-      (omega (arith, kept.one_less_down, c.later, c.within)) f over

@@ -12,9 +12,9 @@ use Rattle.mk_tree.specs.Given as given
 use Rattle.mk_tree.specs.Checked.{IsTreeOf}
 use Rattle.mk_net.specs.Network.{Variable, IsNetwork}
 use Rattle.mk_table.specs.Scopes.{ScopeOf, PlacesOf, LiesIn}
-use Rattle.mk_propagate.specs.Shapes.{ShapeOf, IsClique, IsShapeFor, clique_scope, separator_scope, next_on_way, scope_within, shares, no_scope}
-use Rattle.mk_propagate.specs.inner.Shaped.{AreNextTo, AreWays, IsShaped, CanPlaceSeparators, scopes_of_cliques, scopes_of_separators, lists_of_neighbours, shape_of, whole_of, places_of}
-use Rattle.mk_propagate.proofs.Scopes.{shared_lies_in, shared_lies_in_link}
+use Rattle.mk_propagate.specs.Shapes.{ShapeOf, IsClique, AreNextTo, IsShapeFor, clique_scope, core_scope, separator_scope, next_on_way, scope_within, in_core, shares, no_scope}
+use Rattle.mk_propagate.specs.inner.Shaped.{AreWays, IsShaped, CanPlaceSeparators, CanPlaceCores, scopes_of_cliques, scopes_of_cores, scopes_of_separators, lists_of_neighbours, shape_of, whole_of, places_of, core_places_of}
+use Rattle.mk_propagate.proofs.Cores.{shared_lies_in_core, shared_lies_in_link_core, core_lies_in}
 
 map_push : {A B : Type 0} (f : A → B) (xs : List A) (y : A) → map f (xs ++ y ∷ []) ≡ map f xs ++ f y ∷ []
 map_push f [] y = refl
@@ -156,21 +156,34 @@ next_read f tree count ways h from to is p q d way next e g =
 -- ---- a shape
 
 module _ (shape : ShapeOf) (network : List Variable) (tree : GivenTree) (tree_is : shape.tree ≡ tree)
-    (cliques : shape.cliques ≡ scopes_of_cliques network tree (length tree.cliques)) (separators : shape.separators ≡ scopes_of_separators network tree (length tree.cliques - 1)) where
+    (cliques : shape.cliques ≡ scopes_of_cliques network tree (length tree.cliques)) (cores : shape.cores ≡ scopes_of_cores network tree (length tree.cliques))
+    (separators : shape.separators ≡ scopes_of_separators network tree (length tree.cliques - 1)) where
   counts : length shape.tree.cliques ≡ length tree.cliques
   counts = ap (λ (t : GivenTree). length t.cliques) tree_is
 
-  pub shaped : given.AreLinked tree → (in_cliques in_links : List PlacesOf) → in_cliques ≡ places_of (shape_of tree shape.cliques shape.separators) false (length tree.cliques - 1)
-      → in_links ≡ places_of (shape_of tree shape.cliques shape.separators) true (length tree.cliques - 1)
-      → (lists ways : List (List ℕ)) → lists ≡ lists_of_neighbours tree (length tree.cliques) → AreWays tree (length tree.cliques) ways → IsShaped shape in_cliques in_links lists ways
-  shaped linked in_cliques in_links p q lists ways l r = record {
+  one_each : length shape.cliques ≡ length shape.tree.cliques
+  one_each = ap length cliques ∙ length-map-range_with_len (λ k. scope_within network (holds tree k)) 1 (length tree.cliques) ∙ sym counts
+
+  one_core_each : length shape.cores ≡ length shape.tree.cliques
+  one_core_each = ap length cores ∙ length-map-range_with_len (λ k. scope_within network (in_core tree k)) 1 (length tree.cliques) ∙ sym counts
+
+  one_less : given.AreLinked tree → length shape.separators + 1 ≡ length shape.tree.cliques
+  one_less linked =
+      let n = ap length separators ∙ length-map-range_with_len (λ k. scope_within network (shares tree k)) 2 (length tree.cliques - 1) in
+      omega (arith, n, counts, linked.some)
+
+  pub shaped : given.AreLinked tree → (in_cliques in_links in_whole : List PlacesOf) → in_cliques ≡ places_of (shape_of tree [] shape.cores shape.separators) false (length tree.cliques - 1)
+      → in_links ≡ places_of (shape_of tree [] shape.cores shape.separators) true (length tree.cliques - 1)
+      → in_whole ≡ core_places_of (shape_of tree shape.cliques shape.cores []) (length tree.cliques)
+      → (lists ways : List (List ℕ)) → lists ≡ lists_of_neighbours tree (length tree.cliques) → AreWays tree (length tree.cliques) ways → IsShaped shape in_cliques in_links in_whole lists ways
+  shaped linked in_cliques in_links in_whole p q w lists ways l r = record {
     linked = subst given.AreLinked (sym tree_is) linked;
-    in_cliques_are = subst (λ (t : GivenTree). in_cliques ≡ places_of (shape_of t shape.cliques shape.separators) false (length t.cliques - 1)) (sym tree_is) p;
-    in_links_are = subst (λ (t : GivenTree). in_links ≡ places_of (shape_of t shape.cliques shape.separators) true (length t.cliques - 1)) (sym tree_is) q;
-    one_each = ap length cliques ∙ length-map-range_with_len (λ k. scope_within network (holds tree k)) 1 (length tree.cliques) ∙ sym counts;
-    one_less =
-        let n = ap length separators ∙ length-map-range_with_len (λ k. scope_within network (shares tree k)) 2 (length tree.cliques - 1) in
-        omega (arith, n, counts, linked.some);
+    in_cliques_are = subst (λ (t : GivenTree). in_cliques ≡ places_of (shape_of t [] shape.cores shape.separators) false (length t.cliques - 1)) (sym tree_is) p;
+    in_links_are = subst (λ (t : GivenTree). in_links ≡ places_of (shape_of t [] shape.cores shape.separators) true (length t.cliques - 1)) (sym tree_is) q;
+    in_whole_are = subst (λ (t : GivenTree). in_whole ≡ core_places_of (shape_of t shape.cliques shape.cores []) (length t.cliques)) (sym tree_is) w;
+    one_each = one_each;
+    one_core_each = one_core_each;
+    one_less = one_less linked;
     neighbours_are = subst (λ (t : GivenTree). lists ≡ lists_of_neighbours t (length t.cliques)) (sym tree_is) l;
     ways_are = subst (λ (t : GivenTree). AreWays t (length t.cliques) ways) (sym tree_is) r;
   }
@@ -179,38 +192,54 @@ module _ (shape : ShapeOf) (network : List Variable) (tree : GivenTree) (tree_is
   shape_for legal is = record {
     legal = legal;
     tree_is = subst (IsTreeOf network) (sym tree_is) is;
-    one_each = ap length cliques ∙ length-map-range_with_len (λ k. scope_within network (holds tree k)) 1 (length tree.cliques) ∙ sym counts;
-    one_less =
-        let n = ap length separators ∙ length-map-range_with_len (λ k. scope_within network (shares tree k)) 2 (length tree.cliques - 1) in
-        omega (arith, n, counts, is.linked.some);
+    one_each = one_each;
+    one_core_each = one_core_each;
+    one_less = one_less is.linked;
     clique_scopes = λ k at.
         ap (λ (ss : List ScopeOf). slice_index_or ss (k - 1) no_scope) cliques
         ∙ get_or-map-range_with_len (λ i. scope_within network (holds tree i)) 1 (length tree.cliques) (k - 1) k no_scope (omega (arith, at.first, at.last, counts)) (omega (arith, at.first))
         ∙ ap (λ (t : GivenTree). scope_within network (holds t k)) (sym tree_is);
+    core_scopes = λ k at.
+        ap (λ (ss : List ScopeOf). slice_index_or ss (k - 1) no_scope) cores
+        ∙ get_or-map-range_with_len (λ i. scope_within network (in_core tree i)) 1 (length tree.cliques) (k - 1) k no_scope (omega (arith, at.first, at.last, counts)) (omega (arith, at.first))
+        ∙ ap (λ (t : GivenTree). scope_within network (in_core t k)) (sym tree_is);
     separator_scopes = λ k at more.
         ap (λ (ss : List ScopeOf). slice_index_or ss (k - 2) no_scope) separators
         ∙ get_or-map-range_with_len (λ i. scope_within network (shares tree i)) 2 (length tree.cliques - 1) (k - 2) k no_scope (omega (arith, at.first, at.last, counts)) (omega arith)
         ∙ ap (λ (t : GivenTree). scope_within network (shares t k)) (sym tree_is);
   }
 
-  -- each separator lies in the cliques at its ends
-  pub can_place : IsNetwork network → IsTreeOf network tree → (in_link : Bool) → CanPlaceSeparators shape in_link
+  -- each separator lies in the cores at its ends
+  pub can_place : IsNetwork network → IsTreeOf network tree → (in_link : Bool) → CanPlaceSeparators (shape_of shape.tree [] shape.cores shape.separators) in_link
   can_place legal is in_link = record {
-    one_each = for.one_each;
+    one_each = for.one_core_each;
     one_less = for.one_less;
     lie = λ k at more.
-        subst (λ (part : ScopeOf). LiesIn part (clique_scope shape (whole_of shape.tree in_link k))) (sym (for.separator_scopes k at more)) (lies in_link k at more);
+        subst (λ (part : ScopeOf). LiesIn part (core_scope shape (whole_of shape.tree in_link k))) (sym (for.separator_scopes k at more)) (lies in_link k at more);
   }
     where
       for : IsShapeFor shape network
       for = shape_for legal is
 
-      lies : (b : Bool) (k : ℕ) → IsClique shape.tree k → 1 < k → LiesIn (scope_within network (shares shape.tree k)) (clique_scope shape (whole_of shape.tree b k))
-      lies false k at more = subst (LiesIn (scope_within network (shares shape.tree k))) (sym (for.clique_scopes k at)) (shared_lies_in network shape.tree k)
+      lies : (b : Bool) (k : ℕ) → IsClique shape.tree k → 1 < k → LiesIn (scope_within network (shares shape.tree k)) (core_scope shape (whole_of shape.tree b k))
+      lies false k at more = subst (LiesIn (scope_within network (shares shape.tree k))) (sym (for.core_scopes k at)) (shared_lies_in_core network shape.tree for.tree_is.linked k at more)
       lies true k at more =
           let l = for.tree_is.linked.earlier k more at.last in
-          subst (LiesIn (scope_within network (shares shape.tree k))) (sym (for.clique_scopes (link_of shape.tree k) (record { first = l.0; last = omega (arith, l.1, at.last) })))
-          (shared_lies_in_link network shape.tree k)
+          subst (LiesIn (scope_within network (shares shape.tree k))) (sym (for.core_scopes (link_of shape.tree k) (record { first = l.0; last = omega (arith, l.1, at.last) })))
+          (shared_lies_in_link_core network shape.tree for.tree_is.linked k at more)
+
+  -- and each core in its clique
+  pub can_place_cores : IsNetwork network → IsTreeOf network tree → CanPlaceCores (shape_of shape.tree shape.cliques shape.cores [])
+  can_place_cores legal is = record {
+    one_each = for.one_each;
+    one_core_each = for.one_core_each;
+    lie = λ k at.
+        subst (λ (part : ScopeOf). LiesIn part (clique_scope shape k)) (sym (for.core_scopes k at))
+        (subst (LiesIn (scope_within network (in_core shape.tree k))) (sym (for.clique_scopes k at)) (core_lies_in network shape.tree k));
+  }
+    where
+      for : IsShapeFor shape network
+      for = shape_for legal is
 
 -- ---- the places of separators
 
@@ -221,20 +250,38 @@ scope_read f xs i j x l same e =
 
 -- one more
 pub place_more : (shape : ShapeOf) (in_link : Bool) (passed whole : ℕ) (old new : List PlacesOf) (places : PlacesOf) (in_whole in_part : ScopeOf) → old ≡ places_of shape in_link passed → new ≡ old ++ places ∷ []
-    → whole ≡ whole_of shape.tree in_link (passed + 2) → in_whole ≡ clique_scope shape whole → in_part ≡ separator_scope shape (passed + 2)
+    → whole ≡ whole_of shape.tree in_link (passed + 2) → in_whole ≡ core_scope shape whole → in_part ≡ separator_scope shape (passed + 2)
     → places ≡ record { whole = in_whole; part = in_part } → new ≡ places_of shape in_link (passed + 1)
 place_more shape in_link passed whole old new places in_whole in_part h pushed is w p e =
-    one_more_listed (λ k. record { whole = clique_scope shape (whole_of shape.tree in_link k); part = separator_scope shape k }) old new places 2 passed (passed + 2) h pushed
-    (e ∙ ap (λ (s : ScopeOf). record { whole = s; part = in_part }) (w ∙ ap (clique_scope shape) is) ∙ ap (λ (s : ScopeOf). record { whole = clique_scope shape (whole_of shape.tree in_link (passed + 2)); part = s }) p)
+    one_more_listed (λ k. record { whole = core_scope shape (whole_of shape.tree in_link k); part = separator_scope shape k }) old new places 2 passed (passed + 2) h pushed
+    (e ∙ ap (λ (s : ScopeOf). record { whole = s; part = in_part }) (w ∙ ap (core_scope shape) is) ∙ ap (λ (s : ScopeOf). record { whole = core_scope shape (whole_of shape.tree in_link (passed + 2)); part = s }) p)
     (omega arith)
 
 -- how many there are
 pub places_long : (shape : ShapeOf) (in_link : Bool) (count : ℕ) (places : List PlacesOf) → places ≡ places_of shape in_link count → length places ≡ count
-places_long shape in_link count places h = ap length h ∙ length-map-range_with_len (λ k. record { whole = clique_scope shape (whole_of shape.tree in_link k); part = separator_scope shape k }) 2 count
+places_long shape in_link count places h = ap length h ∙ length-map-range_with_len (λ k. record { whole = core_scope shape (whole_of shape.tree in_link k); part = separator_scope shape k }) 2 count
 
 -- what is read of them
 pub places_read : (shape : ShapeOf) (in_link : Bool) (count : ℕ) (places : List PlacesOf) → places ≡ places_of shape in_link count → (k : ℕ) → 1 < k → k - 2 < count
-    → (read : PlacesOf) → read ≡ get_or places (k - 2) read → read ≡ record { whole = clique_scope shape (whole_of shape.tree in_link k); part = separator_scope shape k }
+    → (read : PlacesOf) → read ≡ get_or places (k - 2) read → read ≡ record { whole = core_scope shape (whole_of shape.tree in_link k); part = separator_scope shape k }
 places_read shape in_link count places h k more l read e =
     e ∙ ap (λ (ps : List PlacesOf). get_or ps (k - 2) read) h
-    ∙ get_or-map-range_with_len (λ i. record { whole = clique_scope shape (whole_of shape.tree in_link i); part = separator_scope shape i }) 2 count (k - 2) k read l (omega arith)
+    ∙ get_or-map-range_with_len (λ i. record { whole = core_scope shape (whole_of shape.tree in_link i); part = separator_scope shape i }) 2 count (k - 2) k read l (omega arith)
+
+-- one core more
+pub core_place_more : (shape : ShapeOf) (passed : ℕ) (old new : List PlacesOf) (places : PlacesOf) (in_whole in_part : ScopeOf) → old ≡ core_places_of shape passed → new ≡ old ++ places ∷ []
+    → in_whole ≡ clique_scope shape (passed + 1) → in_part ≡ core_scope shape (passed + 1) → places ≡ record { whole = in_whole; part = in_part } → new ≡ core_places_of shape (passed + 1)
+core_place_more shape passed old new places in_whole in_part h pushed w p e =
+    one_more_listed (λ k. record { whole = clique_scope shape k; part = core_scope shape k }) old new places 1 passed (passed + 1) h pushed
+    (e ∙ ap (λ (s : ScopeOf). record { whole = s; part = in_part }) w ∙ ap (λ (s : ScopeOf). record { whole = clique_scope shape (passed + 1); part = s }) p)
+    (omega arith)
+
+-- the core's places that are read of them
+pub core_places_long : (shape : ShapeOf) (count : ℕ) (places : List PlacesOf) → places ≡ core_places_of shape count → length places ≡ count
+core_places_long shape count places h = ap length h ∙ length-map-range_with_len (λ k. record { whole = clique_scope shape k; part = core_scope shape k }) 1 count
+
+pub core_places_read : (shape : ShapeOf) (count : ℕ) (places : List PlacesOf) → places ≡ core_places_of shape count → (k : ℕ) → 1 ≤ k → k - 1 < count
+    → (read : PlacesOf) → read ≡ get_or places (k - 1) read → read ≡ record { whole = clique_scope shape k; part = core_scope shape k }
+core_places_read shape count places h k first l read e =
+    e ∙ ap (λ (ps : List PlacesOf). get_or ps (k - 1) read) h
+    ∙ get_or-map-range_with_len (λ i. record { whole = clique_scope shape i; part = core_scope shape i }) 1 count (k - 1) k read l (omega (arith, first))

@@ -1,6 +1,6 @@
--- The shape of a flow: a tree of cliques, and the scopes of its cliques and separators.
-use Rattle.std.specs.Prelude.{◌≡◌, ℕ, ◌+◌, ◌-◌, ◌<◌, ◌≤◌, ◌&&◌, List, [], map, length, filter, Bool, max, slice_index, slice_index_or}
-use Rattle.std.specs.List.{range_with_len}
+-- The shape of a flow: a tree of cliques, and the scopes of its cliques, their cores and the separators.
+use Rattle.std.specs.Prelude.{◌≡◌, ◌≢◌, ℕ, ◌+◌, ◌-◌, ◌<◌, ◌≤◌, ◌&&◌, List, [], map, length, filter, Bool, max, slice_index, slice_index_or}
+use Rattle.std.specs.List.{range_with_len, list_any}
 use Rattle.mk_net.specs.Network.{Variable, IsNetwork, sizes}
 use Rattle.mk_sums.specs.Cells.{keep}
 use Rattle.mk_sums.specs.Joint.{variables}
@@ -13,6 +13,7 @@ use Rattle.mk_tree.specs.Checked.{IsTreeOf}
 pub record ShapeOf : Type 0 where
   pub tree : GivenTree
   pub cliques : List ScopeOf
+  pub cores : List ScopeOf
   pub separators : List ScopeOf
 
 abbrev pub no_scope : ScopeOf
@@ -20,6 +21,9 @@ no_scope = record { variables = []; sizes = [] }
 
 abbrev pub clique_scope : ShapeOf → ℕ → ScopeOf
 clique_scope shape k = slice_index_or shape.cliques (k - 1) no_scope
+
+abbrev pub core_scope : ShapeOf → ℕ → ScopeOf
+core_scope shape k = slice_index_or shape.cores (k - 1) no_scope
 
 abbrev pub separator_scope : ShapeOf → ℕ → ScopeOf
 separator_scope shape k = slice_index_or shape.separators (k - 2) no_scope
@@ -41,6 +45,11 @@ are_linked tree a b = linked (link_of tree) (length tree.cliques) a b
 abbrev pub next_on_way : GivenTree → ℕ → ℕ → ℕ
 next_on_way tree a b = hop (link_of tree) (length tree.cliques) a b
 
+-- the next cliques on the ways from the cliques from 1 on, so many of them, to a clique; it says nothing of the way from itself
+pub record AreNextTo (tree : GivenTree) (to count : ℕ) (next : List ℕ) : Type 0 where
+  pub long : length next ≡ count
+  pub next_is : (from : ℕ) → 1 ≤ from → from ≤ count → from ≢ to → slice_index next (from - 1) ≡ next_on_way tree from to
+
 -- clique k lies on a's side of the link between a and b
 abbrev pub is_behind : GivenTree → ℕ → ℕ → ℕ → Bool
 is_behind tree a b k = behind (link_of tree) (length tree.cliques) a b k
@@ -48,6 +57,10 @@ is_behind tree a b k = behind (link_of tree) (length tree.cliques) a b k
 -- the cliques that are linked to a clique, in rising order
 abbrev pub neighbours : GivenTree → ℕ → List ℕ
 neighbours tree k = filter (linked_to (link_of tree) (length tree.cliques) k) (range_with_len 1 (length tree.cliques))
+
+-- the core of a clique: its variables that a neighbour holds too
+abbrev pub in_core : GivenTree → ℕ → ℕ → Bool
+in_core tree k x = holds tree k x && list_any (λ i. holds tree i x) (neighbours tree k)
 
 -- the variables that a clique shares with its link
 abbrev pub shares : GivenTree → ℕ → ℕ → Bool
@@ -68,6 +81,8 @@ pub record IsShapeFor (shape : ShapeOf) (network : List Variable) : Type 0 where
   pub legal : IsNetwork network
   pub tree_is : IsTreeOf network shape.tree
   pub one_each : length shape.cliques ≡ length shape.tree.cliques
+  pub one_core_each : length shape.cores ≡ length shape.tree.cliques
   pub one_less : length shape.separators + 1 ≡ length shape.tree.cliques
   pub clique_scopes : (k : ℕ) → IsClique shape.tree k → clique_scope shape k ≡ scope_within network (holds shape.tree k)
+  pub core_scopes : (k : ℕ) → IsClique shape.tree k → core_scope shape k ≡ scope_within network (in_core shape.tree k)
   pub separator_scopes : (k : ℕ) → IsClique shape.tree k → 1 < k → separator_scope shape k ≡ scope_within network (shares shape.tree k)

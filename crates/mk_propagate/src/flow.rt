@@ -7,7 +7,7 @@ ghost use Rattle.mk_sums.specs.Trees.{sum_of};
 ghost use Rattle.mk_table.specs.Scopes.{cells_in};
 ghost use Rattle.mk_tree.specs.Given.{AreLinked};
 ghost use Rattle.mk_engine.specs.Meaning.{RowsOf, RatioOf};
-ghost use Rattle.mk_propagate.specs.Shapes.{IsShapeFor, IsClique, clique_scope, separator_scope};
+ghost use Rattle.mk_propagate.specs.Shapes.{IsShapeFor, IsClique, clique_scope, core_scope, separator_scope};
 ghost use Rattle.mk_propagate.specs.Placings.{Placing, nothing_placed, with_factor_in, with_pair_in, IsPlacedFactor, IsPlacedPair};
 ghost use Rattle.mk_propagate.specs.Flows.{HasPlaced, CanPlace, Places, KeepsMessages};
 ghost use Rattle.mk_propagate.specs.inner.Ones.{AreOnes};
@@ -29,8 +29,11 @@ pub struct Flow<R: Semiring> {
     pub(crate) tables: Vec<Table<R>>,
     pub(crate) upward: Vec<Table<R>>,
     pub(crate) downward: Vec<Table<R>>,
-    // What each clique gathered last. Where it is current it has the clique's table times the messages of all its neighbours.
-    pub(crate) gathered: Vec<Table<R>>,
+    // Over the core of each clique: its table, summed there where that is marked, and a product of messages, which has those of all its
+    // neighbours where it is current.
+    pub(crate) cores: Vec<Table<R>>,
+    pub(crate) summed: Vec<bool>,
+    pub(crate) products: Vec<Table<R>>,
     pub(crate) current: Vec<bool>,
     // Where the cells of an event are listed.
     pub(crate) chosen: CellList,
@@ -62,7 +65,7 @@ impl<R: Semiring> Model for Flow<R> {
       downward = f.downward.items;
       factors = f.factors;
       computed = f.computed;
-    }) f.gathered.items f.current.items f.cells };
+    }) f.cores.items f.products.items f.summed.items f.current.items f.cells };
 }
 
 impl<R: Semiring> Flow<R> {
@@ -77,13 +80,16 @@ impl<R: Semiring> Flow<R> {
         let tables = tables_of_cliques(alloc, of)?;
         let upward = tables_of_separators(alloc, of)?;
         let downward = tables_of_separators(alloc, of)?;
-        let gathered = tables_of_cliques(alloc, of)?;
+        let cores = tables_of_cores(alloc, of)?;
+        let products = tables_of_cores(alloc, of)?;
         Ok(Flow {
             shape: shape.clone()?,
             tables,
             upward,
             downward,
-            gathered,
+            cores,
+            summed: vec![in alloc; false; of.cliques() as usize]?,
+            products,
             current: vec![in alloc; false; of.cliques() as usize]?,
             chosen: CellList::new(),
             cells: count_cells(of),
@@ -116,7 +122,7 @@ impl<R: Semiring> Flow<R> {
     {
         let place = clique as usize - 1;
         self.tables[place].times_rows(net, variable);
-        self.current[place] = false;
+        self.summed[place] = false;
         self.factors += 1;
     }
 
@@ -130,7 +136,7 @@ impl<R: Semiring> Flow<R> {
     {
         let place = clique as usize - 1;
         self.tables[place].times_ratio(ratio, &mut self.chosen);
-        self.current[place] = false;
+        self.summed[place] = false;
         self.factors += 1;
     }
 
@@ -142,7 +148,7 @@ impl<R: Semiring> Flow<R> {
     {
         let place = clique as usize - 1;
         self.tables[place].restrict(pair);
-        self.current[place] = false;
+        self.summed[place] = false;
     }
 }
 
@@ -153,6 +159,17 @@ fn tables_of_cliques<R: Semiring>(alloc: Global, shape: &Shape) -> Result<Vec<Ta
     let mut tables = Vec::new(alloc);
     for passed in 0..shape.cliques() {
         tables.push(Table::ones(alloc, shape.clique(passed + 1))?)?;
+    }
+    Ok(tables)
+}
+
+/// A table of ones over the core of each clique.
+fn tables_of_cores<R: Semiring>(alloc: Global, shape: &Shape) -> Result<Vec<Table<R>>, NoMemory>
+    ensures { IfOk result (λ tables. AreOnes (core_scope shape.now) 1 (length shape.now.tree.cliques) tables.items) }
+{
+    let mut tables = Vec::new(alloc);
+    for passed in 0..shape.cliques() {
+        tables.push(Table::ones(alloc, shape.core(passed + 1))?)?;
     }
     Ok(tables)
 }

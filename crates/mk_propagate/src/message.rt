@@ -1,12 +1,12 @@
 //! Messages.
 
-ghost use Rattle.std.specs.Prelude.{◌≡◌, ◌≢◌, ℕ, ◌+◌, ◌*◌, ◌<◌, ◌≤◌, length, true, None, Some, if◌then◌else◌};
+ghost use Rattle.std.specs.Prelude.{◌≡◌, ◌≢◌, ℕ, ◌+◌, ◌-◌, ◌*◌, ◌<◌, ◌≤◌, length, true, None, Some, if◌then◌else◌};
 ghost use Rattle.mk_table.specs.Scopes.{cells_in};
 ghost use Rattle.mk_table.specs.Tables.{HasRoom};
-ghost use Rattle.mk_propagate.specs.Shapes.{IsClique, are_linked};
+ghost use Rattle.mk_propagate.specs.Shapes.{IsClique, are_linked, clique_scope, core_scope, neighbours};
 ghost use Rattle.mk_propagate.specs.Placings.{Placing};
 ghost use Rattle.mk_propagate.specs.Flows.{HasPlaced, AreRightBut, IsRight, CanSend, KeepsTables, message_at, counted_on};
-ghost use Rattle.mk_propagate.specs.inner.Gathered.{is_taken, message_in, AreMessages, CanGather, HasAllGathered, IsMargin};
+ghost use Rattle.mk_propagate.specs.inner.Gathered.{is_taken, message_in, AreMessages, CanTake, CanGather, CanBegin, HasCore, HasInto, HasSent, IsGathering, IsMargin};
 
 use crate::flow::Flow;
 use crate::shape::Shape;
@@ -15,7 +15,8 @@ use mk_table::{Places, Table};
 
 impl<R: Semiring> Flow<R> {
     /// Makes the message from a clique to one that is linked to it: the plus, over what the separator does not hold, of what is placed
-    /// in the clique times the messages from its other neighbours.
+    /// in the clique times the messages from its other neighbours. The plus over what no neighbour holds is made first, and kept: the
+    /// rest is over the core, which has fewer cells.
     pub fn message(&mut self, from: u32, to: u32)
         requires { CanSend R.plus_of self.old from to }
         ensures right { (p : Placing) → HasPlaced self.old p → AreRightBut R.plus_of self.old p from to → IsRight R.plus_of self.new p from to }
@@ -24,26 +25,26 @@ impl<R: Semiring> Flow<R> {
         ensures counted { self.new.computed ≡ counted_on self.old.computed 1 }
     {
         let place = from as usize - 1;
-        let gathered = &mut self.gathered[place];
-        let table = &self.tables[place];
-        let gathers = gather_for(
-            gathered,
-            &mut self.current[place],
-            table,
+        let product = &mut self.products[place];
+        prepare(
+            &mut self.cores[place],
+            &mut self.summed[place],
+            product,
+            &self.tables[place],
             &self.shape,
             &self.upward,
             &self.downward,
             from,
             to,
         );
-        let sent = one_of(gathers, gathered, table);
         let places = self.shape.places(from, to);
+        self.current[place] = false;
         self.current[to as usize - 1] = false;
         self.computed = self.computed.saturating_add(1);
         if to < from {
-            send(sent, places, &mut self.upward[from as usize - 2]);
+            send(product, places, &mut self.upward[from as usize - 2]);
         } else {
-            send(sent, places, &mut self.downward[to as usize - 2]);
+            send(product, places, &mut self.downward[to as usize - 2]);
         }
     }
 }
@@ -59,79 +60,83 @@ fn send<R: Semiring>(sent: &Table<R>, places: &Places, message: &mut Table<R>)
     let _ = message.cells();
 }
 
-/// Gathers from all neighbours of a clique, unless what it gathered is current.
-pub(crate) fn refresh<R: Semiring>(
-    gathered: &mut Table<R>,
-    current: &mut bool,
-    table: &Table<R>,
-    shape: &Shape,
-    upward: &[Table<R>],
-    downward: &[Table<R>],
-    clique: u32,
-)
-    requires clique { IsClique shape.now.tree clique }
-    requires scope { gathered.old.scope ≡ table.now.scope }
-    requires messages { AreMessages shape.now upward.now downward.now }
-    requires right { (p : Placing) × CanGather R.plus_of shape.now table.now upward.now downward.now clique None p }
-    requires current { current.old ≡ true → HasAllGathered R.plus_of shape.now table.now upward.now downward.now clique None gathered.old }
-    ensures scope { gathered.new.scope ≡ gathered.old.scope }
-    ensures gathered { HasAllGathered R.plus_of shape.now table.now upward.now downward.now clique None gathered.new }
-{
-    if !*current {
-        gather(gathered, table, shape, upward, downward, clique, None);
-        *current = true;
-    }
-}
-
-/// Gathers for a receiver, unless a clique has no other neighbour: then its table has all that it sends. Answers whether it gathered.
-fn gather_for<R: Semiring>(
-    gathered: &mut Table<R>,
-    current: &mut bool,
+/// Sums a clique's table over its core, and puts into a product over the core what the clique sends to a neighbour.
+fn prepare<R: Semiring>(
+    core: &mut Table<R>,
+    summed: &mut bool,
+    product: &mut Table<R>,
     table: &Table<R>,
     shape: &Shape,
     upward: &[Table<R>],
     downward: &[Table<R>],
     clique: u32,
     receiver: u32,
-) -> bool
-    requires linked { are_linked shape.now.tree clique receiver ≡ true }
-    requires scope { gathered.old.scope ≡ table.now.scope }
+)
+    requires clique { IsClique shape.now.tree clique }
+    requires core_scope { core.old.scope ≡ core_scope shape.now clique }
+    requires product_scope { product.old.scope ≡ core_scope shape.now clique }
     requires messages { AreMessages shape.now upward.now downward.now }
     requires right { (p : Placing) × CanGather R.plus_of shape.now table.now upward.now downward.now clique (Some receiver) p }
-    ensures scope { gathered.new.scope ≡ gathered.old.scope }
-    ensures sent { HasAllGathered R.plus_of shape.now table.now upward.now downward.now clique (Some receiver) (if result then gathered.new else table.now) }
-    ensures current { current.new ≡ true → (current.old ≡ true) × (gathered.new ≡ gathered.old) }
+    requires summed { summed.old ≡ true → HasCore R.plus_of shape.now clique table.now core.old }
+    ensures core_scope { core.new.scope ≡ core.old.scope }
+    ensures product_scope { product.new.scope ≡ product.old.scope }
+    ensures core { HasCore R.plus_of shape.now clique table.now core.new }
+    ensures sent { HasSent R.plus_of shape.now table.now upward.now downward.now clique receiver product.new }
 {
-    // As in `send`, for the clique's table.
-    let _ = table.cells();
-    let neighbours = shape.neighbours(clique);
-    if neighbours.len() < 2 {
-        return false;
-    }
-    gather(
-        gathered,
-        table,
-        shape,
-        upward,
-        downward,
-        clique,
-        Some(receiver),
-    );
-    *current = false;
-    true
+    sum_core(core, summed, table, shape, clique);
+    core.copy_into(product);
+    gather(product, shape, upward, downward, clique, Some(receiver));
 }
 
-/// One of two tables.
-fn one_of<'a, R: Semiring>(first: bool, a: &'a Table<R>, b: &'a Table<R>) -> &'a Table<R>
-    ensures { result.now ≡ (if first then a.now else b.now) }
-{
-    if first { a } else { b }
-}
-
-/// Puts into a table of a clique what is placed there, times the messages of its neighbours, but for a receiver's.
-pub(crate) fn gather<R: Semiring>(
-    gathered: &mut Table<R>,
+/// Sums a clique's table over its core, unless that is done.
+fn sum_core<R: Semiring>(
+    core: &mut Table<R>,
+    summed: &mut bool,
     table: &Table<R>,
+    shape: &Shape,
+    clique: u32,
+)
+    requires clique { IsClique shape.now.tree clique }
+    requires core_scope { core.old.scope ≡ core_scope shape.now clique }
+    requires table_scope { table.now.scope ≡ clique_scope shape.now clique }
+    requires room { HasRoom table.now (2 * cells_in table.now.scope) }
+    requires summed { summed.old ≡ true → HasCore R.plus_of shape.now clique table.now core.old }
+    ensures scope { core.new.scope ≡ core.old.scope }
+    ensures core { HasCore R.plus_of shape.now clique table.now core.new }
+{
+    if !*summed {
+        send(table, shape.core_places(clique), core);
+        *summed = true;
+    }
+}
+
+/// Multiplies 1 by the messages of all neighbours of a clique, unless the product has them.
+pub(crate) fn refresh<R: Semiring>(
+    product: &mut Table<R>,
+    current: &mut bool,
+    shape: &Shape,
+    upward: &[Table<R>],
+    downward: &[Table<R>],
+    clique: u32,
+)
+    requires clique { IsClique shape.now.tree clique }
+    requires scope { product.old.scope ≡ core_scope shape.now clique }
+    requires messages { AreMessages shape.now upward.now downward.now }
+    requires right { (p : Placing) × CanTake R.plus_of shape.now upward.now downward.now clique None p }
+    requires current { current.old ≡ true → HasInto R.plus_of shape.now upward.now downward.now clique product.old }
+    ensures scope { product.new.scope ≡ product.old.scope }
+    ensures into { HasInto R.plus_of shape.now upward.now downward.now clique product.new }
+{
+    if !*current {
+        product.clear();
+        gather(product, shape, upward, downward, clique, None);
+        *current = true;
+    }
+}
+
+/// Multiplies a table over the core of a clique by the messages of its neighbours, but for a receiver's.
+fn gather<R: Semiring>(
+    product: &mut Table<R>,
     shape: &Shape,
     upward: &[Table<R>],
     downward: &[Table<R>],
@@ -139,22 +144,19 @@ pub(crate) fn gather<R: Semiring>(
     receiver: Option<u32>,
 )
     requires clique { IsClique shape.now.tree clique }
-    requires scope { gathered.old.scope ≡ table.now.scope }
     requires messages { AreMessages shape.now upward.now downward.now }
-    requires right { (p : Placing) × CanGather R.plus_of shape.now table.now upward.now downward.now clique receiver p }
-    ensures scope { gathered.new.scope ≡ gathered.old.scope }
-    ensures gathered { HasAllGathered R.plus_of shape.now table.now upward.now downward.now clique receiver gathered.new }
+    requires right { CanBegin R.plus_of shape.now upward.now downward.now clique receiver product.old }
+    ensures { IsGathering R.plus_of shape.now upward.now downward.now clique receiver (length (neighbours shape.now.tree clique)) product.old product.new }
 {
-    table.copy_into(gathered);
-    // As in `send`, for the clique's table.
-    let _ = gathered.cells();
+    // As in `send`, for the product.
+    let _ = product.cells();
     for neighbour in shape.neighbours(clique) {
         if is_taken(receiver, *neighbour) {
-            gathered.times_message(
+            product.times_message(
                 shape.places(clique, *neighbour),
                 message_of(upward, downward, *neighbour, clique),
             );
-            let _ = gathered.cells();
+            let _ = product.cells();
         }
     }
 }

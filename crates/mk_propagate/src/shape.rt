@@ -1,30 +1,36 @@
 //! The shape of a flow.
 
-ghost use Rattle.std.specs.Prelude.{◌≡◌, ◌≢◌, ℕ, ◌+◌, ◌-◌, ◌<◌, ◌≤◌, ◌&&◌, ◌==◌, nat_lt, nat_le, length, map, filter, true, if◌then◌else◌, IfOk};
+ghost use Rattle.std.specs.Prelude.{◌≡◌, ◌≢◌, ℕ, ◌+◌, ◌-◌, ◌<◌, ◌≤◌, ◌&&◌, ◌==◌, nat_lt, nat_le, [], length, map, filter, true, if◌then◌else◌, IfOk};
 ghost use Rattle.std.specs.List.{range_with_len};
 ghost use Rattle.mk_sums.specs.Trees.{linked_to};
 ghost use Rattle.mk_tree.specs.Given.{AreLinked, link_of};
 ghost use Rattle.mk_tree.specs.Checked.{IsTreeOf};
 ghost use Rattle.mk_table.specs.Scopes.{LiesIn};
-ghost use Rattle.mk_propagate.specs.Shapes.{IsShapeFor, IsClique, clique_scope, separator_scope, separator_between, are_linked, neighbours, next_on_way};
-ghost use Rattle.mk_propagate.specs.inner.Shaped.{scopes_of_cliques, scopes_of_separators, lists_of_neighbours, AreNextTo, AreWays, CanPlaceSeparators, whole_of, places_of, shape_of};
+ghost use Rattle.mk_propagate.specs.Shapes.{IsShapeFor, IsClique, AreNextTo, clique_scope, core_scope, separator_scope, separator_between, are_linked, in_core, neighbours, next_on_way};
+ghost use Rattle.mk_net.specs.Sets.{is_member};
+ghost use Rattle.mk_propagate.specs.inner.Shaped.{scopes_of_cliques, scopes_of_cores, scopes_of_separators, lists_of_neighbours, AreWays, CanPlaceSeparators, CanPlaceCores, whole_of, places_of, core_places_of, shape_of};
 
-use mk_net::{Network, NoMemory};
-use mk_table::{Places, Scope};
+use mk_net::{Network, NoMemory, VarSet};
+use mk_table::{CellList, Places, Scope};
 use mk_tree::Tree;
 use std::alloc::Global;
 use std::marker::Model;
 use std::rc::Rc;
 
-/// A copy of a tree, with the scopes of its cliques and separators, where each separator's cells lie in its clique and in the link,
-/// the neighbours of each clique, and the next cliques on the ways to each. It is made once; all flows over the tree share it.
+/// A copy of a tree, with the scopes of its cliques, of their cores and of its separators, where each separator's cells lie in the cores of
+/// its clique and of the link, and each core's in its clique, the neighbours of each clique, and the next cliques on the ways to each. It is
+/// made once; all flows over the tree share it.
+///
+/// The core of a clique has the variables that a neighbour holds too: messages are made over it, which has often far fewer cells.
 #[derive(Drop)]
 pub struct Shape {
     tree: Tree,
     cliques: Vec<Rc<Scope>>,
+    cores: Vec<Rc<Scope>>,
     separators: Vec<Rc<Scope>>,
     in_cliques: Vec<Places>,
     in_links: Vec<Places>,
+    in_whole: Vec<Places>,
     neighbours: Vec<Vec<u32>>,
     ways: Vec<Vec<u32>>,
 }
@@ -39,14 +45,16 @@ impl Model for Shape {
     ghost view = { λ s. record {
       tree = s.tree;
       cliques = map (λ scope. scope.value) s.cliques.items;
+      cores = map (λ scope. scope.value) s.cores.items;
       separators = map (λ scope. scope.value) s.separators.items;
     } };
 
     ghost invariant = { λ s. IsShaped (record {
       tree = s.tree;
       cliques = map (λ scope. scope.value) s.cliques.items;
+      cores = map (λ scope. scope.value) s.cores.items;
       separators = map (λ scope. scope.value) s.separators.items;
-    }) s.in_cliques.items s.in_links.items (map (λ list. list.items) s.neighbours.items) (map (λ next. next.items) s.ways.items) };
+    }) s.in_cliques.items s.in_links.items s.in_whole.items (map (λ list. list.items) s.neighbours.items) (map (λ next. next.items) s.ways.items) };
 }
 
 impl Shape {
@@ -57,17 +65,22 @@ impl Shape {
         ensures shape { IfOk result (λ shape. IsShapeFor shape net.now) }
     {
         let _ = (net.variables(), tree.cliques());
+        let neighbours = neighbour_lists(alloc, tree)?;
         let cliques = clique_scopes(alloc, net, tree)?;
+        let cores = core_scopes(alloc, net, tree, &neighbours)?;
         let separators = separator_scopes(alloc, net, tree)?;
-        let in_cliques = separator_places(alloc, tree, &cliques, &separators, false)?;
-        let in_links = separator_places(alloc, tree, &cliques, &separators, true)?;
+        let in_cliques = separator_places(alloc, tree, &cores, &separators, false)?;
+        let in_links = separator_places(alloc, tree, &cores, &separators, true)?;
+        let in_whole = core_places(alloc, tree, &cliques, &cores)?;
         Ok(Shape {
             tree: tree.copy(alloc)?,
             cliques,
+            cores,
             separators,
             in_cliques,
             in_links,
-            neighbours: neighbour_lists(alloc, tree)?,
+            in_whole,
+            neighbours,
             ways: ways(alloc, tree)?,
         })
     }
@@ -95,6 +108,14 @@ impl Shape {
         &self.cliques[k as usize - 1]
     }
 
+    /// The scope of the core of a clique: of its variables that a neighbour holds too.
+    pub fn core(&self, k: u32) -> &Rc<Scope>
+        requires { IsClique self.now.tree k }
+        ensures { result.now.value ≡ core_scope self.now k }
+    {
+        &self.cores[k as usize - 1]
+    }
+
     /// The scope of the separator between a clique, from 2 on, and its link.
     pub fn separator(&self, k: u32) -> &Rc<Scope>
         requires clique { IsClique self.now.tree k }
@@ -104,10 +125,10 @@ impl Shape {
         &self.separators[k as usize - 2]
     }
 
-    /// Where the cells of the separator between two cliques that are linked lie in the first.
+    /// Where the cells of the separator between two cliques that are linked lie in the core of the first.
     pub fn places(&self, clique: u32, neighbour: u32) -> &Places
         requires { are_linked self.now.tree clique neighbour ≡ true }
-        ensures { result.now ≡ record { whole = clique_scope self.now clique; part = separator_between self.now clique neighbour } }
+        ensures { result.now ≡ record { whole = core_scope self.now clique; part = separator_between self.now clique neighbour } }
     {
         if neighbour < clique {
             &self.in_cliques[clique as usize - 2]
@@ -116,12 +137,28 @@ impl Shape {
         }
     }
 
+    /// Where the cells of the core of a clique lie in it.
+    pub fn core_places(&self, k: u32) -> &Places
+        requires { IsClique self.now.tree k }
+        ensures { result.now ≡ record { whole = clique_scope self.now k; part = core_scope self.now k } }
+    {
+        &self.in_whole[k as usize - 1]
+    }
+
     /// The cliques that are linked to a clique, in rising order.
     pub fn neighbours(&self, k: u32) -> &[u32]
         requires { IsClique self.now.tree k }
         ensures { result.now ≡ neighbours self.now.tree k }
     {
         &self.neighbours[k as usize - 1]
+    }
+
+    /// The first cliques on the ways from each clique to one; the place of that one says nothing.
+    pub fn ways_to(&self, to: u32) -> &[u32]
+        requires { IsClique self.now.tree to }
+        ensures { AreNextTo self.now.tree to (length self.now.tree.cliques) result.now }
+    {
+        &self.ways[to as usize - 1]
     }
 
     /// The first clique on the way from one clique to another.
@@ -150,6 +187,41 @@ fn clique_scopes(alloc: Global, net: &Network, tree: &Tree) -> Result<Vec<Rc<Sco
     Ok(scopes)
 }
 
+/// The scope of the core of each clique, in order.
+fn core_scopes(
+    alloc: Global,
+    net: &Network,
+    tree: &Tree,
+    neighbours: &[Vec<u32>],
+) -> Result<Vec<Rc<Scope>>, NoMemory>
+    requires tree { IsTreeOf net.now tree.now }
+    requires lists { map (λ list. list.items) neighbours.now ≡ lists_of_neighbours tree.now (length tree.now.cliques) }
+    ensures { IfOk result (λ scopes. map (λ scope. scope.value) scopes.items ≡ scopes_of_cores net.now tree.now (length tree.now.cliques)) }
+{
+    let _ = net.variables();
+    let mut scopes = Vec::new(alloc);
+    for passed in 0..tree.cliques() {
+        let core = core_of(tree, passed + 1, &neighbours[passed as usize]);
+        let scope = Scope::of(alloc, net, &core)?;
+        scopes.push(Rc::new(alloc, scope)?)?;
+    }
+    Ok(scopes)
+}
+
+/// The variables of a clique that one of its neighbours holds too.
+fn core_of(tree: &Tree, k: u32, linked: &[u32]) -> VarSet
+    requires clique { IsClique tree.now k }
+    requires linked { linked.now ≡ neighbours tree.now k }
+    ensures { (x : ℕ) → is_member result x ≡ in_core tree.now k x }
+{
+    let _ = tree.cliques();
+    let mut around = VarSet::empty();
+    for neighbour in linked {
+        around = around.union(&tree.clique(*neighbour));
+    }
+    tree.clique(k).common(&around)
+}
+
 /// The scope of what each clique, from 2 on, shares with its link.
 fn separator_scopes(alloc: Global, net: &Network, tree: &Tree) -> Result<Vec<Rc<Scope>>, NoMemory>
     requires { IsTreeOf net.now tree.now }
@@ -166,25 +238,55 @@ fn separator_scopes(alloc: Global, net: &Network, tree: &Tree) -> Result<Vec<Rc<
     Ok(scopes)
 }
 
-/// Where the cells of each separator lie in its clique, or in the clique's link.
+/// Where the cells of each separator lie in the core of its clique, or of the clique's link.
 fn separator_places(
     alloc: Global,
     tree: &Tree,
-    cliques: &[Rc<Scope>],
+    cores: &[Rc<Scope>],
     separators: &[Rc<Scope>],
     in_link: bool,
 ) -> Result<Vec<Places>, NoMemory>
-    requires { CanPlaceSeparators (shape_of tree.now (map (λ scope. scope.value) cliques.now) (map (λ scope. scope.value) separators.now)) in_link }
+    requires { CanPlaceSeparators (shape_of tree.now [] (map (λ scope. scope.value) cores.now) (map (λ scope. scope.value) separators.now)) in_link }
     ensures { IfOk result (λ places. places.items
-        ≡ places_of (shape_of tree.now (map (λ scope. scope.value) cliques.now) (map (λ scope. scope.value) separators.now)) in_link (length tree.now.cliques - 1)) }
+        ≡ places_of (shape_of tree.now [] (map (λ scope. scope.value) cores.now) (map (λ scope. scope.value) separators.now)) in_link (length tree.now.cliques - 1)) }
 {
     let mut places = Vec::new(alloc);
+    let mut bases = CellList::new();
+    let mut offsets = CellList::new();
     for passed in 0..tree.cliques() - 1 {
         let whole = whole_of(tree, passed + 2, in_link);
         places.push(Places::of(
             alloc,
-            &cliques[whole as usize - 1],
+            &cores[whole as usize - 1],
             &separators[passed as usize],
+            &mut bases,
+            &mut offsets,
+        )?)?;
+    }
+    Ok(places)
+}
+
+/// Where the cells of the core of each clique lie in it.
+fn core_places(
+    alloc: Global,
+    tree: &Tree,
+    cliques: &[Rc<Scope>],
+    cores: &[Rc<Scope>],
+) -> Result<Vec<Places>, NoMemory>
+    requires { CanPlaceCores (shape_of tree.now (map (λ scope. scope.value) cliques.now) (map (λ scope. scope.value) cores.now) []) }
+    ensures { IfOk result (λ places. places.items
+        ≡ core_places_of (shape_of tree.now (map (λ scope. scope.value) cliques.now) (map (λ scope. scope.value) cores.now) []) (length tree.now.cliques)) }
+{
+    let mut places = Vec::new(alloc);
+    let mut bases = CellList::new();
+    let mut offsets = CellList::new();
+    for passed in 0..tree.cliques() {
+        places.push(Places::of(
+            alloc,
+            &cliques[passed as usize],
+            &cores[passed as usize],
+            &mut bases,
+            &mut offsets,
         )?)?;
     }
     Ok(places)

@@ -97,7 +97,7 @@ gathered_cells at count d e gd ge h a = record {
 pub cells_of_room : (k more : ℕ) (d e : List ℕ) → HaveRoom k d e more → AreCells d e
 cells_of_room k more d e room =
     let f = room.few_steps in
-    all_have_room k d e room.numbers room.steps room.small_shift (omega arith) room.same_length room.stand
+    all_have_room k d e room.numbers room.steps (let s = room.small_shift in omega (arith, s)) (omega arith) room.same_length room.stand
 
 -- the first cells of two arrays
 pub first_stand : (k : ℕ) (d e : List ℕ) (f : ℕ → ℕ) (n count : ℕ) → count ≤ length d → ((i : ℕ) → i < count → StandsAt k (slice_index d i) (slice_index e i) (f i) n) → AllStand k (take count d) (take count e) f n
@@ -106,6 +106,14 @@ first_stand k d e f n count l h = record {
       let p : i < count = omega (arith, length-take-le count d l) in
       subst (λ y. StandsAt k y (slice_index (take count e) i) (f i) n) (sym (get_or-take count d i 0 p))
       (subst (λ y. StandsAt k (slice_index d i) y (f i) n) (sym (get_or-take count e i 0 p)) (h i p));
+}
+
+pub first_cells : (d e : List ℕ) (count : ℕ) → count ≤ length d → count ≤ length e → ((i : ℕ) → i < count → IsCell (slice_index d i) (slice_index e i)) → AreCells (take count d) (take count e)
+first_cells d e count l m h = record {
+  same_length = length-take-le count e m ∙ sym (length-take-le count d l);
+  each = λ i n.
+      let p : i < count = omega (arith, n, length-take-le count d l) in
+      subst (λ y. IsCell y (slice_index (take count e) i)) (sym (get_or-take count d i 0 p)) (subst (λ y. IsCell (slice_index d i) y) (sym (get_or-take count e i 0 p)) (h i p));
 }
 
 -- one more cell of two arrays that are made one after the other

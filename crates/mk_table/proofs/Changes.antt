@@ -162,7 +162,7 @@ pub left_cell : (R : ℕ → ℕ → ℕ → ℕ → ℕ → Type 0) (reached : 
     → (reached c → ⊥) → c < length od → IsCell (slice_index d c) (slice_index e c)
 left_cell R reached od oe d e k more c room h new l =
     let f = room.few_steps in
-    cell_left R reached od oe d e c h new (has_room k (slice_index od c) (slice_index oe c) (room.numbers c) room.steps room.small_shift (omega arith) (room.stand.each c l))
+    cell_left R reached od oe d e c h new (has_room k (slice_index od c) (slice_index oe c) (room.numbers c) room.steps (let s = room.small_shift in omega (arith, s)) (omega arith) (room.stand.each c l))
 
 pub whole_cell : (shift digits exponent n : ℕ) → shift < 2 ^ 25 → StandsAt shift digits exponent n 0 → IsCell digits exponent
 whole_cell shift digits exponent n l s = has_room shift digits exponent n 0 l (omega arith) s
@@ -170,7 +170,7 @@ whole_cell shift digits exponent n l s = has_room shift digits exponent n 0 l (o
 pub room_cell : (d e : List ℕ) (k more c : ℕ) → HaveRoom k d e more → c < length d → IsCell (slice_index d c) (slice_index e c)
 room_cell d e k more c room l =
     let f = room.few_steps in
-    has_room k (slice_index d c) (slice_index e c) (room.numbers c) room.steps room.small_shift (omega arith) (room.stand.each c l)
+    has_room k (slice_index d c) (slice_index e c) (room.numbers c) room.steps (let s = room.small_shift in omega (arith, s)) (omega arith) (room.stand.each c l)
 
 -- ---- what the cells stand for then
 

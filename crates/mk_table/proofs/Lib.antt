@@ -19,3 +19,7 @@ pub mod Filled
 pub mod OnesSum
 pub mod Runs
 pub mod Ready
+pub mod Numbered
+pub mod Paired
+pub mod Multiplied
+pub mod Appended

@@ -6,19 +6,20 @@ use Rattle.std.proofs.Math.Path.{fun_ext}
 use Rattle.std.proofs.lemmas.Nat.{div-mul-add, mod-mul-add, div-add-mod', div_below}
 use Rattle.std.proofs.lemmas.Bool.{cases_eq, cases_Bool, both_ways, or_left, or_right, or_cases, eqb-true}
 use Rattle.std.proofs.lemmas.Simd.{map-map}
-use Rattle.std.proofs.lemmas.List.{map-append}
+use Rattle.std.proofs.lemmas.List.{map-append, length-map}
 use Rattle.std.proofs.lemmas.List.Elements.{All-head, All-tail}
-use Rattle.std.proofs.lemmas.List.FromFn.{length-map-range_with_len, get_or-map-range_with_len}
+use Rattle.std.proofs.lemmas.List.FromFn.{length-range_with_len, length-map-range_with_len, get_or-map-range_with_len}
 use Rattle.mk_exact.specs.States.{numbers_below}
 use Rattle.mk_sums.specs.Sums.{upd, listed}
 use Rattle.mk_sums.specs.Cells.{keep, cells, cell_of, place, Apart}
 use Rattle.mk_sums.proofs.Tables.{cell_below}
 use Rattle.mk_table.specs.Scopes.{ScopeOf, IsScope, Rising, LiesIn, size_in, cells_in, has_variable}
-use Rattle.mk_table.specs.Cells.{values_at, cell_in, cells_onto}
+use Rattle.mk_table.specs.Cells.{values_at, cell_in, cells_onto, cells_beside}
+use Rattle.mk_table.specs.inner.Parts.{ArePlaces}
 use Rattle.mk_table.specs.inner.Strides.{repeated, cells_with, values_moved}
-use Rattle.mk_table.proofs.Members.{rising_apart}
-use Rattle.mk_table.proofs.Values.{place_below, some_cells, cells_same}
-use Rattle.mk_table.proofs.Doubled.{below_rows, rows_filter, repeated_first, repeated_value, place_in_row, first_value, filter_all, filter_below}
+use Rattle.mk_table.proofs.Members.{rising_apart, size_pos}
+use Rattle.mk_table.proofs.Values.{place_below, some_cells, cells_same, cells_pos}
+use Rattle.mk_table.proofs.Doubled.{below_rows, rows_filter, length-repeated, repeated_first, repeated_value, place_in_row, first_value, filter_all, filter_below}
 
 map_range : (f g : ℕ → ℕ) (a n : ℕ) → ((c : ℕ) → a ≤ c → c < a + n → f c ≡ g c) → map f (range_with_len a n) ≡ map g (range_with_len a n)
 map_range f g a zero h = refl
@@ -184,6 +185,38 @@ module _ (size : ℕ → ℕ) (inside : ℕ → Bool) where
       at true m ih = onto_in x xs apart.0 a d m ih
       at false m ih = onto_out x xs a d (λ b. ih b d m)
 
+  -- each cell of the whole is one of what moves with the part and one of what moves beside it
+  moved_apart : (xs : List ℕ) → length (cells_with size of_part xs) * length (cells_with size of_rest xs) ≡ cells size xs
+  moved_apart [] = refl
+  moved_apart (x ∷ xs) = at (inside x) (moved_apart xs)
+    where
+      n : ℕ
+      n = size x
+
+      stride : ℕ
+      stride = cells size xs
+
+      with_part : List ℕ
+      with_part = cells_with size of_part xs
+
+      rest : List ℕ
+      rest = cells_with size of_rest xs
+
+      all : (low : List ℕ) → length (repeated stride (numbers_below n) low) ≡ n * length low
+      all low = length-repeated stride (numbers_below n) low ∙ ap (λ k. k * length low) (length-range_with_len 0 n)
+
+      first : (low : List ℕ) → length (repeated stride (0 ∷ []) low) ≡ length low
+      first low = ap (λ (ys : List ℕ). length ys) (repeated_first stride low)
+
+      at : (b : Bool) → length with_part * length rest ≡ stride
+          → length (repeated stride (cond b (numbers_below n) (0 ∷ [])) with_part) * length (repeated stride (cond (not b) (numbers_below n) (0 ∷ [])) rest) ≡ n * stride
+      at true ih =
+          let s : n * length with_part * length rest ≡ n * (length with_part * length rest) = omega arith in
+          ap (λ k. k * length (repeated stride (0 ∷ []) rest)) (all with_part) ∙ ap (λ k. n * length with_part * k) (first rest) ∙ s ∙ ap (λ k. n * k) ih
+      at false ih =
+          let s : length with_part * (n * length rest) ≡ n * (length with_part * length rest) = omega arith in
+          ap (λ k. k * length (repeated stride (numbers_below n) rest)) (first with_part) ∙ ap (λ k. length with_part * k) (all rest) ∙ s ∙ ap (λ k. n * k) ih
+
 -- ---- the variables of a part are those of the whole that it has
 
 apart_from : (y x : ℕ) (xs : List ℕ) → All (λ z. x < z) xs → listed xs y ≡ true → x < y
@@ -272,6 +305,9 @@ module _ (part whole : ScopeOf) (is_part : IsScope part) (is_whole : IsScope who
       ap (λ (ys : List ℕ). length ys) (bases_are (size_in whole) (has_variable part) whole.variables)
       ∙ length-map-range_with_len (base (size_in whole) (has_variable part) whole.variables) 0 (cells (size_in whole) (keep (has_variable part) whole.variables)) ∙ cells_are
 
+  pub cells_apart : length (cells_with (size_in whole) (values_moved whole part true) whole.variables) * length (cells_with (size_in whole) (values_moved whole part false) whole.variables) ≡ cells_in whole
+  cells_apart = moved_apart (size_in whole) (has_variable part) whole.variables
+
   pub onto_cells : (d : ℕ) → d < cells_in part
       → map (λ c. slice_index (cells_with (size_in whole) (values_moved whole part true) whole.variables) d + c) (cells_with (size_in whole) (values_moved whole part false) whole.variables) ≡ cells_onto part whole d
   onto_cells d l =
@@ -284,3 +320,15 @@ module _ (part whole : ScopeOf) (is_part : IsScope part) (is_whole : IsScope who
       ap (λ b. map (λ c. b + c) (cells_with size (values_moved whole part false) whole.variables)) read
       ∙ sym (onto size inside whole.variables (rising_apart whole.variables is_whole.rising) (λ x. 0) d m)
       ∙ filter_below (λ c. eqb (cell_of size (keep inside whole.variables) (values_at whole c)) d) (λ c. eqb (cell_in part whole c) d) (cells_in whole) (λ c p. ap (λ n. eqb n d) (goes c))
+
+-- ---- how many cells of the whole have the values of one cell of the part
+
+module _ (part whole : ScopeOf) (bases offsets : List ℕ) (run : ℕ) (are : ArePlaces part whole bases offsets run) where
+  some_of_part : 1 ≤ cells_in part
+  some_of_part = cells_pos (size_in part) part.variables (λ x p. let l = are.lies_in x p in let s = size_pos whole are.is_whole x in omega (arith, l.1, s))
+
+  pub places_beside : length offsets ≡ cells_beside part whole
+  places_beside = sym (length-map offsets (λ c. slice_index bases 0 + c)) ∙ ap (λ (ys : List ℕ). length ys) (are.onto 0 some_of_part)
+
+  pub all_beside : cells_in part * cells_beside part whole ≡ cells_in whole
+  all_beside = ap (λ n. n * cells_beside part whole) (sym are.one_each) ∙ ap (λ n. length bases * n) (sym places_beside) ∙ are.beside

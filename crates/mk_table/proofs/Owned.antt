@@ -28,7 +28,7 @@ own_stands shift d e v n h =
 pub own_more : (shift d e v n p : ℕ) → n ≤ p → IsOwnAt shift d e v n → IsOwnAt shift d e v p
 own_more shift d e v n p l h = record { own = h.own; scaled = h.scaled; stands = stands_with_more 0 d e h.own n p l h.stands }
 
-scaled_times : (s k v w a b : ℕ) → v ≡ a * 2 ^ s → w ≡ b * 2 ^ k → v * w ≡ (a * b) * 2 ^ (s + k)
+pub scaled_times : (s k v w a b : ℕ) → v ≡ a * 2 ^ s → w ≡ b * 2 ^ k → v * w ≡ (a * b) * 2 ^ (s + k)
 scaled_times s k v w a b h l = ap (λ y. y * w) h ∙ ap (λ y. (a * 2 ^ s) * y) l ∙ mul-mul-mul_comm a (2 ^ s) b (2 ^ k) ∙ ap (λ y. (a * b) * y) (sym (pow-add 2 s k))
 
 -- a product by a number that has one of its own
@@ -120,7 +120,7 @@ kept_are before after kept od oe d e count long apart h j f n a = record {
 
 module _ (plus : ℕ → ℕ → ℕ) (law : Lawful plus) where
   -- a common factor goes out of a plus
-  plus_scaled : (f g : ℕ → ℕ) (k : ℕ) (xs : List ℕ) → All (λ c. g c * k ≡ f c) xs → plus_over plus 0 g xs * k ≡ plus_over plus 0 f xs
+  pub plus_scaled : (f g : ℕ → ℕ) (k : ℕ) (xs : List ℕ) → All (λ c. g c * k ≡ f c) xs → plus_over plus 0 g xs * k ≡ plus_over plus 0 f xs
   plus_scaled f g k [] h = zero-mul k
   plus_scaled f g k (x ∷ xs) h =
       mul_comm (plus (g x) (plus_over plus 0 g xs)) k ∙ law.distributes k (g x) (plus_over plus 0 g xs)

@@ -245,11 +245,15 @@ steps_of_runs run r l =
     let m : r * (run + 1) ≤ r * (2 * run - 1) = mul-le-mul t u in
     omega (arith, m)
 
-pub steps_of_blocks : (run r blocks : ℕ) → 1 ≤ run → blocks ≤ r → r * (2 * run - 1) + blocks ≤ 2 * (r * run)
+pub steps_of_blocks : (run r blocks : ℕ) → 1 ≤ run → blocks < r → r * (2 * run - 1) + blocks ≤ 2 * (r * run) - 1
 steps_of_blocks run r blocks l h =
     let e : 2 * run - 1 + 1 ≡ 2 * run = omega (arith, l) in
     let f : r * (2 * run - 1 + 1) ≡ r * (2 * run) = ap (λ n. r * n) e in
     omega (arith, f, h)
+
+pub steps_of_list : (run r : ℕ) → 1 ≤ run → r * (2 * run - 1) ≤ 2 * (r * run) - 1
+steps_of_list run zero l = omega arith
+steps_of_list run (suc r) l = let s = steps_of_blocks run (suc r) 0 l (omega arith) in omega (arith, s)
 
 pub more_runs_steps : (run a b : ℕ) → a ≤ b → a * (2 * run - 1) ≤ b * (2 * run - 1)
 more_runs_steps run a b l = block_runs_few (2 * run - 1) a b l

@@ -1,5 +1,5 @@
 -- The cells of a table. A cell's number counts the values of the scope's variables, the last variable's changing fastest.
-use Rattle.std.specs.Prelude.{ℕ, List, ◌==◌, filter}
+use Rattle.std.specs.Prelude.{ℕ, List, ◌==◌, filter, length}
 use Rattle.mk_net.specs.declared.words.Pair.{Pair}
 use Rattle.mk_exact.specs.States.{numbers_below}
 use Rattle.mk_sums.specs.Cells.{cell_of, place}
@@ -17,6 +17,10 @@ cell_in part whole c = cell_of (size_in part) part.variables (values_at whole c)
 -- the cells that have the values of a cell of another scope
 abbrev pub cells_onto : ScopeOf → ScopeOf → ℕ → List ℕ
 cells_onto part whole d = filter (λ c. cell_in part whole c == d) (numbers_below (cells_in whole))
+
+-- how many cells of a whole have the values of one cell of a part
+abbrev pub cells_beside : ScopeOf → ScopeOf → ℕ
+cells_beside part whole = length (cells_onto part whole 0)
 
 -- the cells where an event holds
 abbrev pub cells_where : ScopeOf → List Pair → List ℕ

@@ -51,12 +51,12 @@ is_untouched_by (Some touched) event = contradicts touched event
 abbrev pub is_untouched : TableOf → List Pair → Bool
 is_untouched t event = is_untouched_by t.touched event
 
--- below these every cell leaves room for a product
+-- below these every cell leaves room for a product, and so does a product of two
 abbrev pub max_steps : ℕ
 max_steps = 2 ^ 19
 
 abbrev pub max_shift : ℕ
-max_shift = 2 ^ 25
+max_shift = 2 ^ 24
 
 -- there is room for so many steps more
 pub record HasRoom (t : TableOf) (more : ℕ) : Type 0 where

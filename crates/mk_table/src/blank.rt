@@ -1,6 +1,6 @@
 //! Tables of which nothing is written while each of their cells is 1.
 
-ghost use Rattle.std.specs.Prelude.{◌≡◌, ◌==◌, ◌&&◌, ℕ, ◌+◌, ◌*◌, ◌<◌, ◌≤◌, List, All, length, replicate, slice_index, vec_len, vec_capacity};
+ghost use Rattle.std.specs.Prelude.{◌≡◌, ◌==◌, ◌&&◌, ℕ, ◌+◌, ◌-◌, ◌*◌, ◌<◌, ◌≤◌, List, All, length, replicate, slice_index, vec_len, vec_capacity};
 ghost use Rattle.mk_net.specs.Bounds.{max_clique_cells};
 ghost use Rattle.mk_exact.specs.States.{plus_over};
 ghost use Rattle.mk_cell.specs.Cell.{IsCell, Stands, StandsAt};
@@ -143,7 +143,7 @@ pub(crate) fn plus_of_each<R: Semiring>(
     ensures stand { (b : ℕ) → b < length bases.now → (k : ℕ) (f : ℕ → ℕ) (n : ℕ)
         → StandListed k (filled one_digits cells digits.now) (filled one_exponent cells exponents.now) f n (slice_index bases.now b) (runs_of run offsets.now)
         → StandsAt k (slice_index (filled one_digits (length bases.now) out_digits.new.items) b) (slice_index (filled one_exponent (length bases.now) out_exponents.new.items) b)
-        (plus_over R.plus_of 0 (λ c. f (slice_index bases.now b + c)) (runs_of run offsets.now)) (n + 2 * length (runs_of run offsets.now)) }
+        (plus_over R.plus_of 0 (λ c. f (slice_index bases.now b + c)) (runs_of run offsets.now)) (n + (2 * length (runs_of run offsets.now) - 1)) }
     ensures held { AreHeld (length bases.now) out_digits.new.items out_exponents.new.items (vec_capacity out_digits.new) (vec_capacity out_exponents.new) }
 {
     if digits.len() < cells {
@@ -190,7 +190,7 @@ pub(crate) fn plus_of_listed<R: Semiring>(
 pub(crate) fn plus_of_ones<R: Semiring>(count: usize) -> Cell
     requires { count ≤ max_clique_cells }
     ensures { (xs : List ℕ) → length xs ≡ count → (k : ℕ) (f : ℕ → ℕ) (n : ℕ) → All (λ c. StandsAt k one_digits one_exponent (f c) n) xs
-        → Stands k result (plus_over R.plus_of 0 f xs) (n + 2 * count) }
+        → Stands k result (plus_over R.plus_of 0 f xs) (n + (2 * count - 1)) }
 {
     if count <= FEW {
         plus_of_few::<R, FEW>(count)

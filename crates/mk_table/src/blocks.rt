@@ -36,7 +36,7 @@ pub(crate) fn plus_at_each<R: Semiring>(
     ensures stand { (b : ℕ) → b < length bases.now → (k : ℕ) (f : ℕ → ℕ) (n : ℕ)
         → StandListed k digits.now exponents.now f n (slice_index bases.now b) (runs_of run offsets.now)
         → StandsAt k (slice_index out_digits.new b) (slice_index out_exponents.new b)
-        (plus_over R.plus_of 0 (λ c. f (slice_index bases.now b + c)) (runs_of run offsets.now)) (n + 2 * length (runs_of run offsets.now)) }
+        (plus_over R.plus_of 0 (λ c. f (slice_index bases.now b + c)) (runs_of run offsets.now)) (n + (2 * length (runs_of run offsets.now) - 1)) }
     ensures same_digits { length out_digits.new ≡ length out_digits.old }
     ensures same_exponents { length out_exponents.new ≡ length out_exponents.old }
 {
@@ -60,7 +60,7 @@ pub(crate) fn plus_at<R: Semiring>(
     requires within { All (λ c. base + c < length digits.now) (runs_of run offsets.now) }
     requires room { (k : ℕ) × HaveRoom k digits.now exponents.now (2 * length (runs_of run offsets.now)) }
     ensures { (k : ℕ) (f : ℕ → ℕ) (n : ℕ) → StandListed k digits.now exponents.now f n base (runs_of run offsets.now)
-        → Stands k result (plus_over R.plus_of 0 (λ c. f (base + c)) (runs_of run offsets.now)) (n + 2 * length (runs_of run offsets.now)) }
+        → Stands k result (plus_over R.plus_of 0 (λ c. f (base + c)) (runs_of run offsets.now)) (n + (2 * length (runs_of run offsets.now) - 1)) }
 {
     if offsets.len() <= FEW {
         plus_of_block::<R, FEW>(digits, exponents, base, offsets, run)
@@ -80,11 +80,12 @@ fn plus_by_blocks<R: Semiring>(
     run: usize,
 ) -> Cell
     requires some { 1 ≤ run }
+    requires many { 64 < length offsets.now }
     requires few { length (runs_of run offsets.now) ≤ max_clique_cells }
     requires within { All (λ c. base + c < length digits.now) (runs_of run offsets.now) }
     requires room { (k : ℕ) × HaveRoom k digits.now exponents.now (2 * length (runs_of run offsets.now)) }
     ensures { (k : ℕ) (f : ℕ → ℕ) (n : ℕ) → StandListed k digits.now exponents.now f n base (runs_of run offsets.now)
-        → Stands k result (plus_over R.plus_of 0 (λ c. f (base + c)) (runs_of run offsets.now)) (n + 2 * length (runs_of run offsets.now)) }
+        → Stands k result (plus_over R.plus_of 0 (λ c. f (base + c)) (runs_of run offsets.now)) (n + (2 * length (runs_of run offsets.now) - 1)) }
 {
     let blocks = offsets.len().div_ceil(BLOCK);
     let mut block_digits = [0u64; BLOCK];
@@ -100,7 +101,7 @@ fn plus_by_blocks<R: Semiring>(
 
 /// A block of a list.
 #[inline]
-fn block_of(offsets: &[u16], block: usize) -> &[u16]
+pub(crate) fn block_of(offsets: &[u16], block: usize) -> &[u16]
     requires { block * 64 ≤ length offsets.now }
     ensures { result.now ≡ block_of offsets.now block }
 {

@@ -5,6 +5,7 @@ mod blank;
 mod blocks;
 mod part;
 mod picked;
+mod products;
 mod scope;
 mod strides;
 mod table;

@@ -2,7 +2,7 @@
 
 ghost use Rattle.std.specs.Prelude.{◌≡◌, IfOk};
 ghost use Rattle.mk_table.specs.Scopes.{LiesIn, cells_in};
-ghost use Rattle.mk_table.specs.inner.Parts.{ArePlaces};
+ghost use Rattle.mk_table.specs.inner.Parts.{AreOnto, ArePlaces};
 ghost use Rattle.mk_table.specs.inner.Strides.{runs_of};
 
 use crate::scope::Scope;
@@ -15,6 +15,8 @@ use std::rc::Rc;
 /// Where the cells of a part lie in a whole: for each cell of the part the first cell of the whole with its values, and how far
 /// from it the runs of cells with these values begin. They are the same distances for each cell of the part. The cells of a run
 /// lie side by side.
+///
+/// For each cell of the whole, the part's cell that has its values is kept too.
 #[derive(Drop)]
 pub struct Places {
     whole: Rc<Scope>,
@@ -22,35 +24,41 @@ pub struct Places {
     bases: Vec<u16>,
     offsets: Vec<u16>,
     run: usize,
+    onto: Vec<u16>,
 }
 
 impl Model for Places {
     ghost use Rattle.mk_table.specs.Scopes.{PlacesOf};
-    ghost use Rattle.mk_table.specs.inner.Parts.{ArePlaces};
+    ghost use Rattle.mk_table.specs.inner.Parts.{AreKeptPlaces};
     ghost use Rattle.mk_table.specs.inner.Strides.{runs_of};
 
     ghost Value = { PlacesOf };
 
     ghost view = { λ p. record { whole = p.whole.value; part = p.part.value } };
 
-    ghost invariant = { λ p. ArePlaces p.part.value p.whole.value p.bases.items (runs_of p.run p.offsets.items) p.run };
+    ghost invariant = { λ p. AreKeptPlaces p.part.value p.whole.value p.bases.items (runs_of p.run p.offsets.items) p.run p.onto.items };
 }
 
 impl Places {
-    /// The places of a part in a whole, which has each of its variables.
-    pub fn of(alloc: Global, whole: &Rc<Scope>, part: &Rc<Scope>) -> Result<Places, NoMemory>
+    /// The places of a part in a whole, which has each of its variables. The two lists are where cells are listed.
+    pub fn of(
+        alloc: Global,
+        whole: &Rc<Scope>,
+        part: &Rc<Scope>,
+        bases: &mut CellList,
+        offsets: &mut CellList,
+    ) -> Result<Places, NoMemory>
         requires { LiesIn part.now.value whole.now.value }
         ensures { IfOk result (λ places. places ≡ record { whole = whole.now.value; part = part.now.value }) }
     {
-        let mut bases = CellList::new();
-        let mut offsets = CellList::new();
-        let run = whole.cells_onto(part, &mut bases, &mut offsets);
+        let run = whole.cells_onto(part, bases, offsets);
         Ok(Places {
             whole: whole.clone()?,
             part: part.clone()?,
-            bases: Vec::from_slice(alloc, &bases)?,
-            offsets: Vec::from_slice(alloc, &offsets)?,
+            bases: Vec::from_slice(alloc, bases)?,
+            offsets: Vec::from_slice(alloc, offsets)?,
             run,
+            onto: cells_of_part(alloc, whole, part)?,
         })
     }
 
@@ -75,4 +83,24 @@ impl Places {
     {
         (&self.bases, &self.offsets, self.run)
     }
+
+    /// The part's cell with the values of each cell of the whole.
+    pub(crate) fn onto(&self) -> &[u16]
+        ensures { AreOnto self.now.part self.now.whole result.now }
+    {
+        &self.onto
+    }
+}
+
+/// The part's cell with the values of each cell of a whole.
+fn cells_of_part(alloc: Global, whole: &Scope, part: &Scope) -> Result<Vec<u16>, NoMemory>
+    requires { LiesIn part.now whole.now }
+    ensures { IfOk result (λ onto. AreOnto part.now whole.now onto.items) }
+{
+    let count = whole.cells();
+    let mut onto = Vec::with_capacity(alloc, count)?;
+    for cell in 0..count {
+        onto.push_reserved(part.cell_of(whole, cell) as u16);
+    }
+    Ok(onto)
 }

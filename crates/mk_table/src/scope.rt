@@ -8,7 +8,7 @@ ghost use Rattle.mk_sums.specs.Cells.{keep, cells};
 ghost use Rattle.mk_sums.specs.Joint.{variables};
 ghost use Rattle.mk_exact.specs.States.{numbers_below};
 ghost use Rattle.mk_table.specs.Scopes.{IsScope, LiesIn, Rising, scope_of, size_in, cells_in, has_variable, HasEvent};
-ghost use Rattle.mk_table.specs.Cells.{values_at, cells_where, cells_onto};
+ghost use Rattle.mk_table.specs.Cells.{values_at, cell_in, cells_where, cells_onto};
 ghost use Rattle.mk_table.specs.inner.Columns.{HaveColumns};
 ghost use Rattle.mk_table.specs.inner.Strides.{IsTail, cells_with, runs_of, values_let, values_moved};
 
@@ -146,6 +146,7 @@ impl Scope {
         ensures onto { (d : ℕ) → d < cells_in part.now
             → map (λ c. slice_index bases.new.items d + c) (runs_of result offsets.new.items) ≡ cells_onto part.now self.now d }
         ensures few { length (runs_of result offsets.new.items) ≤ cells_in self.now }
+        ensures beside { length bases.new.items * length (runs_of result offsets.new.items) ≡ cells_in self.now }
         ensures some { 1 ≤ result }
         ensures scope { IsScope self.now }
     {
@@ -186,6 +187,25 @@ impl Scope {
             cells *= self.sizes[place] as usize;
         }
         long_tail(self.variables.len(), cells)
+    }
+
+    /// The cell with the values of a cell of a whole.
+    ///
+    /// The number grows variable by variable, the first one first: the last variable's values change fastest.
+    pub(crate) fn cell_of(&self, whole: &Scope, cell: usize) -> usize
+        requires lies_in { LiesIn self.now whole.now }
+        requires cell { cell < cells_in whole.now }
+        ensures cell { result ≡ cell_in self.now whole.now cell }
+        ensures within { result < cells_in self.now }
+        ensures scope { IsScope self.now }
+    {
+        let _ = self.cells();
+        let mut number = 0;
+        for place in 0..self.variables.len() {
+            let value = whole.value(cell, self.variables[place]) as usize;
+            number = number * self.sizes[place] as usize + value;
+        }
+        number
     }
 
     /// Whether the scope has a variable.

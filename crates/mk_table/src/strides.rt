@@ -1,6 +1,6 @@
 //! Cells that are found by strides, without a division.
 
-ghost use Rattle.std.specs.Prelude.{◌≡◌, ℕ, ◌+◌, ◌*◌, ◌<◌, ◌≤◌, true, [], ◌∷◌, ◌++◌, All, map, filter, take, length, slice_index, Option, IfSome, IfNone, ◌==◌, if◌then◌else◌, not};
+ghost use Rattle.std.specs.Prelude.{◌≡◌, ℕ, ◌+◌, ◌*◌, ◌<◌, ◌≤◌, true, [], ◌∷◌, ◌++◌, All, map, filter, take, drop, length, slice_index, Option, IfSome, IfNone, ◌==◌, if◌then◌else◌, not};
 ghost use Rattle.mk_net.specs.Bounds.{max_clique_cells};
 ghost use Rattle.mk_exact.specs.States.{numbers_below};
 ghost use Rattle.mk_net.specs.Events.{speaks_of, IsEvent};
@@ -13,6 +13,12 @@ use mk_net::Pair;
 
 /// The numbers of some cells of a scope.
 pub type CellList = ArrayVec<u16, 4096>;
+
+/// So many cells are moved one by one.
+const FEW: usize = 8;
+
+/// The cells that are moved together.
+const BLOCK: usize = 64;
 
 /// Lists the first cell alone.
 pub(crate) fn begin(cells: &mut CellList)
@@ -115,10 +121,45 @@ fn append_moved(cells: &mut CellList, count: usize, by: usize)
     requires below { All (λ c. by + c < max_clique_cells) (take count cells.old.items) }
     ensures { cells.new.items ≡ cells.old.items ++ map (λ c. by + c) (take count cells.old.items) }
 {
+    if count < FEW {
+        push_moved(cells, count, by);
+        return;
+    }
+    let mut listed = 0;
+    while listed < count {
+        let more = BLOCK.min(count - listed);
+        append_block(cells, listed, more, by);
+        listed += more;
+    }
+}
+
+/// Lists the first cells once more, one after the other.
+fn push_moved(cells: &mut CellList, count: usize, by: usize)
+    requires there { count ≤ length cells.old.items }
+    requires room { length cells.old.items + count ≤ max_clique_cells }
+    requires below { All (λ c. by + c < max_clique_cells) (take count cells.old.items) }
+    ensures { cells.new.items ≡ cells.old.items ++ map (λ c. by + c) (take count cells.old.items) }
+{
     for place in 0..count {
         let cell = cells[place];
         cells.push(by as u16 + cell);
     }
+}
+
+/// Lists at most a block of cells once more, which are moved together.
+fn append_block(cells: &mut CellList, first: usize, count: usize, by: usize)
+    requires there { first + count ≤ length cells.old.items }
+    requires few { count ≤ 64 }
+    requires room { length cells.old.items + count ≤ max_clique_cells }
+    requires below { (k : ℕ) → k < count → by + slice_index cells.old.items (first + k) < max_clique_cells }
+    ensures { cells.new.items ≡ cells.old.items ++ map (λ c. by + c) (take count (drop first cells.old.items)) }
+{
+    let mut moved = [0u16; BLOCK];
+    for place in 0..count {
+        moved[place] = by as u16 + cells[first + place];
+    }
+    // There is room, so it succeeds.
+    let _ = cells.try_extend_from_slice(&moved[..count]);
 }
 
 /// Moves each cell of a list.

@@ -1,6 +1,6 @@
 //! Tables.
 
-ghost use Rattle.std.specs.Prelude.{◌≡◌, ℕ, ◌+◌, ◌*◌, ◌<◌, ◌≤◌, ◌==◌, length, true, All, IfOk, if◌then◌else◌};
+ghost use Rattle.std.specs.Prelude.{◌≡◌, ℕ, ◌+◌, ◌-◌, ◌*◌, ◌<◌, ◌≤◌, ◌==◌, length, true, All, IfOk, if◌then◌else◌};
 ghost use Rattle.mk_net.specs.Named.{variable_at};
 ghost use Rattle.mk_net.specs.Asked.{ratio_pairs};
 ghost use Rattle.mk_net.specs.Bounds.{max_clique_cells};
@@ -9,12 +9,14 @@ ghost use Rattle.mk_exact.specs.States.{plus_over};
 ghost use Rattle.mk_sums.specs.There.{share_there, ratio_there};
 ghost use Rattle.mk_cell.specs.Cell.{Stands, IsOwnOf};
 ghost use Rattle.mk_table.specs.Scopes.{HasEvent, HasOneEach, HasSized, cells_in, has_variable};
-ghost use Rattle.mk_table.specs.Cells.{values_at, cell_in, cells_onto, cells_where};
+ghost use Rattle.mk_table.specs.Cells.{values_at, cell_in, cells_onto, cells_beside, cells_where};
 ghost use Rattle.mk_table.specs.Tables.{HasNumbers, HasRoom, is_untouched};
+ghost use Rattle.mk_table.specs.inner.Parts.{IsFull, StandListed};
 
 use crate::blank::{copy_over, fill, one, plus_of_each, plus_of_listed, times_held};
 use crate::part::Places;
 use crate::picked::RATIO_SHIFT;
+use crate::products::plus_of_products;
 use crate::scope::Scope;
 use crate::strides::CellList;
 use crate::times::{keep_value, times_shares, times_units};
@@ -193,6 +195,19 @@ impl<R: Semiring> Table<R> {
         self.touched = beside(&self.touched, pair);
     }
 
+    /// Makes each cell 1 again. The memory stays.
+    pub fn clear(&mut self)
+        ensures scope { self.new.scope ≡ self.old.scope }
+        ensures shift { self.new.shift ≡ 0 }
+        ensures ones { HasNumbers self.new (λ c. 1) 0 }
+        ensures full { length self.new.digits ≡ cells_in self.new.scope }
+    {
+        self.shift = 0;
+        self.digits.clear();
+        self.exponents.clear();
+        self.touched = None;
+    }
+
     /// Puts each cell into a table over an equal scope.
     pub fn copy_into(&self, out: &mut Table<R>)
         requires { out.old.scope ≡ self.now.scope }
@@ -211,7 +226,8 @@ impl<R: Semiring> Table<R> {
         ensures scope { out.new.scope ≡ out.old.scope }
         ensures shift { out.new.shift ≡ self.now.shift }
         ensures numbers { (f : ℕ → ℕ) (n : ℕ) → HasNumbers self.now f n
-            → HasNumbers out.new (λ d. plus_over R.plus_of 0 f (cells_onto out.old.scope self.now.scope d)) (n + 2 * cells_in self.now.scope) }
+            → HasNumbers out.new (λ d. plus_over R.plus_of 0 f (cells_onto out.old.scope self.now.scope d)) (n + (2 * cells_beside out.old.scope self.now.scope - 1)) }
+        ensures beside { cells_in out.old.scope * cells_beside out.old.scope self.now.scope ≡ cells_in self.now.scope }
     {
         let (bases, offsets, run) = places.lists();
         plus_of_each::<R>(
@@ -237,6 +253,52 @@ impl<R: Semiring> Table<R> {
             → Stands self.now.shift result (plus_over R.plus_of 0 f (cells_where self.now.scope event.now)) (n + 2 * cells_in self.now.scope) }
         ensures own { is_untouched self.now event.now ≡ true → (f : ℕ → ℕ) (n : ℕ) → HasNumbers self.now f n
             → IsOwnOf self.now.shift result (plus_over R.plus_of 0 f (cells_where self.now.scope event.now)) (n + 2 * cells_in self.now.scope) }
+    {
+        self.plus_where(event, chosen)
+    }
+
+    /// The plus, over the cells where an event holds, of each cell times the message's cell that has its values; absent where
+    /// no cell is. The list is where their numbers are written. Where no ratio touched a cell of the event, the plus also has
+    /// a number of its own.
+    pub fn total_times(
+        &self,
+        places: &Places,
+        message: &Table<R>,
+        event: &Event,
+        chosen: &mut CellList,
+    ) -> Cell
+        requires places { places.now ≡ record { whole = self.now.scope; part = message.now.scope } }
+        requires event { HasEvent self.now.scope event.now }
+        requires room { HasRoom self.now (2 * cells_in self.now.scope) }
+        requires message_room { HasRoom message.now 1 }
+        ensures stands { (f g : ℕ → ℕ) (n p : ℕ) → HasNumbers self.now f n → HasNumbers message.now g p
+            → Stands (self.now.shift + message.now.shift) result
+            (plus_over R.plus_of 0 (λ c. f c * g (cell_in message.now.scope self.now.scope c)) (cells_where self.now.scope event.now)) (n + p + 2 * cells_in self.now.scope + 1) }
+        ensures own { is_untouched self.now event.now ≡ true → is_untouched message.now event.now ≡ true → (f g : ℕ → ℕ) (n p : ℕ) → HasNumbers self.now f n → HasNumbers message.now g p
+            → IsOwnOf (self.now.shift + message.now.shift) result
+            (plus_over R.plus_of 0 (λ c. f c * g (cell_in message.now.scope self.now.scope c)) (cells_where self.now.scope event.now)) (n + p + 2 * cells_in self.now.scope + 1) }
+    {
+        if message.digits.len() < places.part_cells() {
+            return self.plus_where(event, chosen);
+        }
+        self.scope.cells_where(event, chosen);
+        plus_of_products::<R>(
+            &self.digits,
+            &self.exponents,
+            places.onto(),
+            &message.digits,
+            &message.exponents,
+            chosen,
+        )
+    }
+
+    /// The plus of the cells where an event holds, whatever numbers they stand for; absent where no cell is.
+    fn plus_where(&self, event: &Event, chosen: &mut CellList) -> Cell
+        requires event { HasEvent self.now.scope event.now }
+        requires room { HasRoom self.now (2 * cells_in self.now.scope) }
+        ensures stands { (k : ℕ) (f : ℕ → ℕ) (n : ℕ) → StandListed k self.now.digits self.now.exponents f n 0 (cells_where self.now.scope event.now)
+            → Stands k result (plus_over R.plus_of 0 f (cells_where self.now.scope event.now)) (n + 2 * cells_in self.now.scope) }
+        ensures full { IsFull self.now.scope self.now.digits self.now.exponents }
     {
         let run = self.scope.runs_where(event, chosen);
         plus_of_listed::<R>(

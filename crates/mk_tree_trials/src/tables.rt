@@ -115,8 +115,9 @@ fn make_weather(rt: &impl Abort, alloc: Global) -> Result<Weather, Fail> {
     let all = all(alloc, &net)?;
     let rain = rain(alloc, &net)?;
     let wind = wind(alloc, &net)?;
-    let rain_places = Places::of(alloc, &all, &rain)?;
-    let wind_places = Places::of(alloc, &all, &wind)?;
+    let (mut bases, mut offsets) = (CellList::new(), CellList::new());
+    let rain_places = Places::of(alloc, &all, &rain, &mut bases, &mut offsets)?;
+    let wind_places = Places::of(alloc, &all, &wind, &mut bases, &mut offsets)?;
     Ok(Weather {
         net,
         all,
@@ -297,6 +298,56 @@ fn sums(rt: HostRuntime) -> Result<(), Fail> {
 fn minima(rt: HostRuntime) -> Result<(), Fail> {
     let products = [40_000_000_000, 80_000_000_000, 240_000_000_000];
     check_calls::<MinProd>(&rt, rt.alloc(), &products, 1)
+}
+
+/// The total of the middle wind of a table times a message with the rows of the rain, and times one that was cleared.
+fn times_totals<R: Semiring>(
+    rt: &impl Abort,
+    alloc: Global,
+    weather: &Weather,
+    table: &Table<R>,
+) -> Result<(Cell, Cell), Fail>
+    requires scope { table.now.scope ≡ of_all }
+    requires room { HasRoom table.now 24 }
+{
+    let _ = weather.net.variables();
+    let mut message = Table::<R>::ones(alloc, &weather.rain)?;
+    message.times_rows(&weather.net, 0);
+    let mut chosen = CellList::new();
+    let middle = only(rt, MIDDLE);
+    let before = table.total_times(&weather.rain_places, &message, &middle, &mut chosen);
+    message.clear();
+    check(rt, message.get(1), 1, 0);
+    let after = table.total_times(&weather.rain_places, &message, &middle, &mut chosen);
+    Ok((before, after))
+}
+
+/// Such totals of the product and of ones.
+fn check_times<R: Semiring>(
+    rt: &impl Abort,
+    alloc: Global,
+    products: (u64, u64),
+    ones: (u64, u64),
+) -> Result<(), Fail> {
+    let weather = make_weather(rt, alloc)?;
+    let table = product::<R>(alloc, &weather)?;
+    let (before, after) = times_totals(rt, alloc, &weather, &table)?;
+    check(rt, before, products.0, 0);
+    check(rt, after, products.1, 0);
+    let table = ones_times_ones::<R>(alloc, &weather)?;
+    let (before, after) = times_totals(rt, alloc, &weather, &table)?;
+    check(rt, before, ones.0, 0);
+    check(rt, after, ones.1, 0);
+    Ok(())
+}
+
+#[test]
+fn totals_of_products(rt: HostRuntime) -> Result<(), Fail> {
+    // Two heats of dry times 400,000 and of wet times 600,000.
+    let products = (280_000_000_000_000_000, 520_000_000_000);
+    check_times::<SumProd>(&rt, rt.alloc(), products, (2_000_000, 4))?;
+    let products = (32_000_000_000_000_000, 80_000_000_000);
+    check_times::<MinProd>(&rt, rt.alloc(), products, (400_000, 1))
 }
 
 /// Ones times a ratio where it rains.

@@ -1,12 +1,15 @@
--- What a clique gathers: what is placed in it, times the messages of its neighbours, or of all but one.
-use Rattle.std.specs.Prelude.{◌≡◌, ℕ, ◌+◌, ◌-◌, ◌*◌, Bool, true, not, ◌&&◌, ◌==◌, nat_lt, if◌then◌else◌, List, length, take, sum_by, Option, Some, None, slice_index_or}
+-- What is gathered over the core of a clique: what is placed in the clique, summed there, or 1, times the messages of its neighbours, or of all but one.
+use Rattle.std.specs.Prelude.{◌≡◌, ℕ, ◌+◌, ◌-◌, ◌*◌, ◌≤◌, Bool, true, not, ◌&&◌, ◌==◌, nat_lt, if◌then◌else◌, List, length, take, sum_by, Option, Some, None, slice_index, slice_index_or}
+use Rattle.mk_net.specs.Network.{Variable, sizes}
 use Rattle.mk_exact.specs.States.{plus_over, product_by}
+use Rattle.mk_sums.specs.Sums.{over}
+use Rattle.mk_sums.specs.Joint.{variables}
 use Rattle.mk_sums.specs.Trees.{linked_to}
 use Rattle.mk_table.specs.Scopes.{cells_in}
-use Rattle.mk_table.specs.Cells.{cells_onto}
+use Rattle.mk_table.specs.Cells.{cells_onto, cells_beside}
 use Rattle.mk_table.specs.Tables.{TableOf, HasNumbers}
-use Rattle.mk_tree.specs.Given.{GivenTree, link_of}
-use Rattle.mk_propagate.specs.Shapes.{ShapeOf, IsShapeFor, clique_scope, separator_between, neighbours}
+use Rattle.mk_tree.specs.Given.{GivenTree, holds, link_of}
+use Rattle.mk_propagate.specs.Shapes.{ShapeOf, IsShapeFor, clique_scope, core_scope, separator_between, scope_within, in_core, neighbours, clique_cells}
 use Rattle.mk_propagate.specs.Placings.{Placing, IsPlacing, placed_there, factors_in}
 use Rattle.mk_propagate.specs.Flows.{HasCells, exact_message, exact_message_grade, no_table}
 
@@ -33,48 +36,95 @@ pub record AreMessages (shape : ShapeOf) (upward downward : List TableOf) : Type
   pub one_less_up : length upward + 1 ≡ length shape.tree.cliques
   pub one_less_down : length downward + 1 ≡ length shape.tree.cliques
 
--- clique k's table has what is placed there, and the messages that it takes are right
-pub record CanGather (plus : ℕ → ℕ → ℕ) (shape : ShapeOf) (table : TableOf) (upward downward : List TableOf) (k : ℕ) (receiver : Option ℕ) (p : Placing) : Type 0 where
+-- the messages that clique k takes are right
+pub record CanTake (plus : ℕ → ℕ → ℕ) (shape : ShapeOf) (upward downward : List TableOf) (k : ℕ) (receiver : Option ℕ) (p : Placing) : Type 0 where
   pub shape_is : IsShapeFor shape p.network
   pub placing : IsPlacing shape.tree p
-  pub placed : HasCells table (clique_scope shape k) (placed_there p k) (factors_in p k) (factors_in p k)
   pub right : (i : ℕ) → is_input shape.tree k receiver i ≡ true → IsRightIn plus shape p i k (message_in upward downward i k)
 
--- what is placed in clique k, times the messages of those listed that are taken
-abbrev pub gathered : (ℕ → ℕ → ℕ) → GivenTree → Placing → ℕ → Option ℕ → List ℕ → (ℕ → ℕ) → ℕ
-gathered plus tree p k receiver listed a =
-    placed_there p k a * product_by (λ i. if is_taken receiver i then exact_message plus tree p i k a else 1) listed
+-- and clique k's table has what is placed there
+pub record CanGather (plus : ℕ → ℕ → ℕ) (shape : ShapeOf) (table : TableOf) (upward downward : List TableOf) (k : ℕ) (receiver : Option ℕ) (p : Placing) : Type 0 where
+  pub takes : CanTake plus shape upward downward k receiver p
+  pub placed : HasCells table (clique_scope shape k) (placed_there p k) (factors_in p k) (factors_in p k)
 
--- the steps that this costs: one for each factor, and for each message its own and one more
-abbrev pub gathered_steps : GivenTree → Placing → ℕ → Option ℕ → List ℕ → ℕ
-gathered_steps tree p k receiver listed =
-    factors_in p k + sum_by (λ i. if is_taken receiver i then 3 * exact_message_grade tree p i k + 1 else 0) listed
+-- ---- the core of a clique
+
+-- what is placed in clique k: the plus over the variables that lie outside its core
+abbrev pub core_there : (ℕ → ℕ → ℕ) → GivenTree → Placing → ℕ → (ℕ → ℕ) → ℕ
+core_there plus tree p k = over plus (slice_index (sizes p.network)) (λ x. holds tree k x && not (in_core tree k x)) (variables (sizes p.network)) (placed_there p k)
+
+-- how many cells of the clique have the values of one cell of its core
+abbrev pub private_cells : List Variable → GivenTree → ℕ → ℕ
+private_cells network tree k = cells_beside (scope_within network (in_core tree k)) (scope_within network (holds tree k))
+
+-- the steps that this costs
+abbrev pub core_steps : GivenTree → Placing → ℕ → ℕ
+core_steps tree p k = factors_in p k + (2 * private_cells p.network tree k - 1)
+
+-- a table over the core has it, where the clique's table has what is placed there
+pub record HasCore (plus : ℕ → ℕ → ℕ) (shape : ShapeOf) (k : ℕ) (table core : TableOf) : Type 0 where
+  pub split : cells_in (core_scope shape k) * cells_beside (core_scope shape k) (clique_scope shape k) ≡ cells_in (clique_scope shape k)
+  pub sums : (p : Placing) → IsShapeFor shape p.network → IsPlacing shape.tree p → HasCells table (clique_scope shape k) (placed_there p k) (factors_in p k) (factors_in p k)
+      → HasCells core (core_scope shape k) (core_there plus shape.tree p k) (core_steps shape.tree p k) (factors_in p k)
+
+-- ---- a product of messages over a core
+
+-- it begins with a table over the core, of no more steps and factors than are placed in the clique and summed there
+pub record Begins (shape : ShapeOf) (k : ℕ) (p : Placing) (first : (ℕ → ℕ) → ℕ) (steps factors : ℕ) (t : TableOf) : Type 0 where
+  pub cells : HasCells t (core_scope shape k) first steps factors
+  pub few_steps : steps ≤ factors_in p k + 2 * clique_cells p.network shape.tree k
+  pub few_factors : factors ≤ factors_in p k
+
+-- what it begins with, times the messages of those listed that are taken
+abbrev pub gathered : (ℕ → ℕ → ℕ) → GivenTree → Placing → ℕ → Option ℕ → List ℕ → ((ℕ → ℕ) → ℕ) → (ℕ → ℕ) → ℕ
+gathered plus tree p k receiver listed first a =
+    first a * product_by (λ i. if is_taken receiver i then exact_message plus tree p i k a else 1) listed
+
+-- the steps that this costs: for each message its own and one more
+abbrev pub gathered_steps : GivenTree → Placing → ℕ → Option ℕ → List ℕ → ℕ → ℕ
+gathered_steps tree p k receiver listed steps =
+    steps + sum_by (λ i. if is_taken receiver i then 3 * exact_message_grade tree p i k + 1 else 0) listed
 
 -- the number of factors in it, at most
-abbrev pub gathered_factors : GivenTree → Placing → ℕ → Option ℕ → List ℕ → ℕ
-gathered_factors tree p k receiver listed =
-    factors_in p k + sum_by (λ i. if is_taken receiver i then exact_message_grade tree p i k else 0) listed
+abbrev pub gathered_factors : GivenTree → Placing → ℕ → Option ℕ → List ℕ → ℕ → ℕ
+gathered_factors tree p k receiver listed factors =
+    factors + sum_by (λ i. if is_taken receiver i then exact_message_grade tree p i k else 0) listed
 
 -- a table has it
-pub record HasGathered (plus : ℕ → ℕ → ℕ) (shape : ShapeOf) (k : ℕ) (receiver : Option ℕ) (listed : List ℕ) (table : TableOf) (p : Placing) : Type 0 where
-  pub cells : HasCells table (clique_scope shape k) (gathered plus shape.tree p k receiver listed)
-      (gathered_steps shape.tree p k receiver listed) (gathered_factors shape.tree p k receiver listed)
+pub record HasGathered (plus : ℕ → ℕ → ℕ) (shape : ShapeOf) (k : ℕ) (receiver : Option ℕ) (listed : List ℕ) (first : (ℕ → ℕ) → ℕ) (steps factors : ℕ) (table : TableOf) (p : Placing) : Type 0 where
+  pub cells : HasCells table (core_scope shape k) (gathered plus shape.tree p k receiver listed first)
+      (gathered_steps shape.tree p k receiver listed steps) (gathered_factors shape.tree p k receiver listed factors)
   pub full : length table.digits ≡ cells_in table.scope
 
--- a table has it of all neighbours whose messages are taken, at each placing at which clique k can gather
-abbrev pub HasAllGathered : (ℕ → ℕ → ℕ) → ShapeOf → TableOf → List TableOf → List TableOf → ℕ → Option ℕ → TableOf → Type 0
-HasAllGathered plus shape table upward downward k receiver t =
-    (p : Placing) → CanGather plus shape table upward downward k receiver p → HasGathered plus shape k receiver (neighbours shape.tree k) t p
+-- a table has it for the first so many neighbours, whatever the table before began with
+pub record IsGathering (plus : ℕ → ℕ → ℕ) (shape : ShapeOf) (upward downward : List TableOf) (k : ℕ) (receiver : Option ℕ) (passed : ℕ) (before t : TableOf) : Type 0 where
+  pub scope : t.scope ≡ before.scope
+  pub has : (p : Placing) (first : (ℕ → ℕ) → ℕ) (steps factors : ℕ) → CanTake plus shape upward downward k receiver p → Begins shape k p first steps factors before
+      → HasGathered plus shape k receiver (take passed (neighbours shape.tree k)) first steps factors t p
 
--- a table has it for the first so many neighbours, at each placing
-pub record IsGathering (plus : ℕ → ℕ → ℕ) (shape : ShapeOf) (table : TableOf) (upward downward : List TableOf) (k : ℕ) (receiver : Option ℕ) (passed : ℕ) (t : TableOf) : Type 0 where
-  pub scope : t.scope ≡ table.scope
-  pub has : (p : Placing) → CanGather plus shape table upward downward k receiver p → HasGathered plus shape k receiver (take passed (neighbours shape.tree k)) t p
+-- a table from which messages can be taken
+pub record CanBegin (plus : ℕ → ℕ → ℕ) (shape : ShapeOf) (upward downward : List TableOf) (k : ℕ) (receiver : Option ℕ) (t : TableOf) : Type 0 where
+  pub placing : Placing
+  pub takes : CanTake plus shape upward downward k receiver placing
+  pub first : (ℕ → ℕ) → ℕ
+  pub steps : ℕ
+  pub factors : ℕ
+  pub begins : Begins shape k placing first steps factors t
+
+-- a table has the messages of all neighbours
+pub record HasInto (plus : ℕ → ℕ → ℕ) (shape : ShapeOf) (upward downward : List TableOf) (k : ℕ) (t : TableOf) : Type 0 where
+  pub into : (p : Placing) → CanTake plus shape upward downward k None p → HasGathered plus shape k None (neighbours shape.tree k) (λ a. 1) 0 0 t p
+
+-- a table has what clique k sends to another: what is placed there, summed over the core, times the messages of its other neighbours
+pub record HasSent (plus : ℕ → ℕ → ℕ) (shape : ShapeOf) (table : TableOf) (upward downward : List TableOf) (k receiver : ℕ) (t : TableOf) : Type 0 where
+  pub sent : (p : Placing) → CanGather plus shape table upward downward k (Some receiver) p
+      → HasGathered plus shape k (Some receiver) (neighbours shape.tree k) (core_there plus shape.tree p k) (core_steps shape.tree p k) (factors_in p k) t p
 
 -- a table that was over some of the variables of another has in each cell the plus of the other's cells with its values
 pub record IsMargin (plus : ℕ → ℕ → ℕ) (whole before after : TableOf) : Type 0 where
   pub scope : after.scope ≡ before.scope
   pub shift : after.shift ≡ whole.shift
   pub full : length after.digits ≡ cells_in after.scope
+  pub beside : cells_in before.scope * cells_beside before.scope whole.scope ≡ cells_in whole.scope
   pub numbers : (f : ℕ → ℕ) (n : ℕ) → HasNumbers whole f n
-      → HasNumbers after (λ d. plus_over plus 0 f (cells_onto before.scope whole.scope d)) (n + 2 * cells_in whole.scope)
+      → HasNumbers after (λ d. plus_over plus 0 f (cells_onto before.scope whole.scope d)) (n + (2 * cells_beside before.scope whole.scope - 1))

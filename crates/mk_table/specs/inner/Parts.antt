@@ -1,9 +1,11 @@
 -- Tables by their parts: two arrays, and what is done to their cells.
 use Rattle.std.specs.Prelude.{◌≡◌, ℕ, ◌+◌, ◌*◌, ◌<◌, ◌≤◌, ◌⊎◌, Bool, true, false, List, All, Option, map, length, slice_index, take, drop}
 use Rattle.mk_net.specs.declared.words.Pair.{Pair}
-use Rattle.mk_cell.specs.Cell.{AllStand, StandsAt, IsOwnAt}
+use Rattle.mk_exact.specs.States.{plus_over}
+use Rattle.mk_cell.specs.declared.cell.Cell.{Cell}
+use Rattle.mk_cell.specs.Cell.{AllStand, Stands, StandsAt, IsOwnAt}
 use Rattle.mk_table.specs.Scopes.{ScopeOf, IsScope, LiesIn, cells_in}
-use Rattle.mk_table.specs.Cells.{cells_onto}
+use Rattle.mk_table.specs.Cells.{cell_in, cells_onto}
 use Rattle.mk_table.specs.Tables.{max_steps, max_shift}
 use Rattle.mk_table.specs.inner.Touched.{HasTouched}
 
@@ -36,6 +38,17 @@ pub record AreNumbers (touched : ℕ → Bool) (shift : ℕ) (digits exponents :
 -- the cells that lie so far from a base stand for their numbers of f
 pub record StandListed (shift : ℕ) (digits exponents : List ℕ) (f : ℕ → ℕ) (steps base : ℕ) (offsets : List ℕ) : Type 0 where
   pub listed : All (λ c. StandsAt shift (slice_index digits (base + c)) (slice_index exponents (base + c)) (f (base + c)) steps) offsets
+
+-- some cells stand for their numbers of f, and the cells of another table that have their values for theirs of g
+pub record StandPairs (j k : ℕ) (digits exponents other_digits other_exponents : List ℕ) (onto f g : ℕ → ℕ) (n p : ℕ) (chosen : List ℕ) : Type 0 where
+  pub left : All (λ c. StandsAt j (slice_index digits c) (slice_index exponents c) (f c) n) chosen
+  pub right : All (λ c. StandsAt k (slice_index other_digits (onto c)) (slice_index other_exponents (onto c)) (g c) p) chosen
+
+-- a cell stands for the plus of the products of pairs, whatever numbers these stand for
+abbrev pub IsPlusOfPairs : (ℕ → ℕ → ℕ) → List ℕ → List ℕ → List ℕ → List ℕ → (ℕ → ℕ) → List ℕ → ℕ → Cell → Type 0
+IsPlusOfPairs plus digits exponents other_digits other_exponents onto chosen more cell =
+    (j k : ℕ) (f g : ℕ → ℕ) (n p : ℕ) → StandPairs j k digits exponents other_digits other_exponents onto f g n p chosen
+    → Stands (j + k) cell (plus_over plus 0 (λ c. f c * g c) chosen) (n + p + more)
 
 -- two arrays whose cells stand under a shift, with room for so many steps more
 pub record HaveRoom (shift : ℕ) (digits exponents : List ℕ) (more : ℕ) : Type 0 where
@@ -100,7 +113,18 @@ pub record ArePlaces (part whole : ScopeOf) (bases offsets : List ℕ) (run : �
   pub one_each : length bases ≡ cells_in part
   pub onto : (d : ℕ) → d < cells_in part → cells_at (slice_index bases d) offsets ≡ cells_onto part whole d
   pub few : length offsets ≤ cells_in whole
+  pub beside : length bases * length offsets ≡ cells_in whole
   pub some : 1 ≤ run
+
+-- for each cell of a whole the part's cell that has its values
+pub record AreOnto (part whole : ScopeOf) (onto : List ℕ) : Type 0 where
+  pub one_each : length onto ≡ cells_in whole
+  pub cell : (c : ℕ) → c < cells_in whole → slice_index onto c ≡ cell_in part whole c
+
+-- both, as they are kept
+pub record AreKeptPlaces (part whole : ScopeOf) (bases offsets : List ℕ) (run : ℕ) (onto : List ℕ) : Type 0 where
+  pub are : ArePlaces part whole bases offsets run
+  pub onto_are : AreOnto part whole onto
 
 -- a block of a list of cells
 abbrev pub block_of : List ℕ → ℕ → List ℕ

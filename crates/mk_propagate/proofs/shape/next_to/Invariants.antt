@@ -1,4 +1,4 @@
-use Rattle.mk_propagate.specs.inner.Shaped.{AreNextTo}
+use Rattle.mk_propagate.specs.Shapes.{AreNextTo}
 use Rattle.mk_propagate.proofs.shape.next_to.Given as goal
 
 abbrev pub invariant-loop-passed : goal.invariant-loop-passed

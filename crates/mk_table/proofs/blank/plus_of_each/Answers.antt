@@ -1,4 +1,4 @@
-use Rattle.std.proofs.Common.{◌≡◌, ℕ, ◌+◌, ◌*◌, List, length, slice_index, arith, ap, subst, sym, ◌∙◌}
+use Rattle.std.proofs.Common.{◌≡◌, ℕ, ◌+◌, ◌-◌, ◌*◌, List, length, slice_index, arith, ap, subst, sym, ◌∙◌}
 use Rattle.std.specs.Vec.{with_items}
 use Rattle.std.proofs.lemmas.List.{get_or-replicate}
 use Rattle.mk_exact.specs.States.{plus_over}
@@ -31,14 +31,14 @@ returns-then-digits-cells-clause-stand g c = λ b l k f n h.
     let d = c.args.digits.now in let e = c.args.exponents.now in let offsets = runs_of c.args.run c.args.offsets.now in let count = length c.args.bases.now in
     let base = slice_index c.args.bases.now b in let R = g.R.Semiring in let cell = c.plus_of_ones-cell.result in
     let blank = all_blank c.args.cells d e c.requires.whole c.if-digits-cells.true in
-    let made = subst (λ m. StandsAt k cell.digits cell.exponent (plus_over R.plus_of 0 (λ j. f (base + j)) offsets) (n + 2 * m)) (sym (length-runs c.args.run c.args.offsets.now))
+    let made = subst (λ m. StandsAt k cell.digits cell.exponent (plus_over R.plus_of 0 (λ j. f (base + j)) offsets) (n + (2 * m - 1))) (sym (length-runs c.args.run c.args.offsets.now))
     (c.plus_of_ones-cell.ensures offsets (length-runs c.args.run c.args.offsets.now) k (λ j. f (base + j)) n (ones_listed k c.args.cells d e blank.0 blank.1 f n base offsets (c.requires.within b l) h)) in
     let i : cell.digits ≡ slice_index (filled one_digits count c.put_everywhere.new.digits.items) b =
     sym (ap (λ (ys : List ℕ). slice_index ys b) c.put_everywhere.ensures.digits ∙ get_or-replicate count b cell.digits 0 l) in
     let j : cell.exponent ≡ slice_index (filled one_exponent count c.put_everywhere.new.exponents.items) b =
     sym (ap (λ (ys : List ℕ). slice_index ys b) c.put_everywhere.ensures.exponents ∙ get_or-replicate count b cell.exponent 0 l) in
-    subst (λ y. StandsAt k (slice_index (filled one_digits count c.put_everywhere.new.digits.items) b) y (plus_over R.plus_of 0 (λ x. f (base + x)) offsets) (n + 2 * length offsets)) j
-    (subst (λ y. StandsAt k y cell.exponent (plus_over R.plus_of 0 (λ x. f (base + x)) offsets) (n + 2 * length offsets)) i made)
+    subst (λ y. StandsAt k (slice_index (filled one_digits count c.put_everywhere.new.digits.items) b) y (plus_over R.plus_of 0 (λ x. f (base + x)) offsets) (n + (2 * length offsets - 1))) j
+    (subst (λ y. StandsAt k y cell.exponent (plus_over R.plus_of 0 (λ x. f (base + x)) offsets) (n + (2 * length offsets - 1))) i made)
 
 pub returns-else-digits-cells-clause-stand : goal.returns-else-digits-cells-clause-stand
 returns-else-digits-cells-clause-stand g c = λ b l k f n h.
@@ -48,8 +48,8 @@ returns-else-digits-cells-clause-stand g c = λ b l k f n h.
     let made = c.plus_at_each.ensures.stand b l k f n (full_listed c.args.cells c.args.digits.now c.args.exponents.now c.requires.whole c.if-digits-cells.false k f n base offsets h) in
     let i = held_items one_digits count c.fill.new.digits nd (omega (arith, c.plus_at_each.auto.out_digits, c.deref_mut.ensures.len)) c.fill.ensures.all_digits in
     let j = held_items one_exponent count c.fill.new.exponents ne (omega (arith, c.plus_at_each.auto.out_exponents, c.deref_mut-else-digits-cells.ensures.len)) c.fill.ensures.all_exponents in
-    subst (λ (ys : List ℕ). StandsAt k (slice_index (filled one_digits count (with_items c.fill.new.digits nd).items) b) (slice_index ys b) (plus_over R.plus_of 0 (λ x. f (base + x)) offsets) (n + 2 * length offsets)) (sym j)
-    (subst (λ (ys : List ℕ). StandsAt k (slice_index ys b) (slice_index ne b) (plus_over R.plus_of 0 (λ x. f (base + x)) offsets) (n + 2 * length offsets)) (sym i) made)
+    subst (λ (ys : List ℕ). StandsAt k (slice_index (filled one_digits count (with_items c.fill.new.digits nd).items) b) (slice_index ys b) (plus_over R.plus_of 0 (λ x. f (base + x)) offsets) (n + (2 * length offsets - 1))) (sym j)
+    (subst (λ (ys : List ℕ). StandsAt k (slice_index ys b) (slice_index ne b) (plus_over R.plus_of 0 (λ x. f (base + x)) offsets) (n + (2 * length offsets - 1))) (sym i) made)
 
 pub returns-else-digits-cells-clause-held : goal.returns-else-digits-cells-clause-held
 returns-else-digits-cells-clause-held g c =

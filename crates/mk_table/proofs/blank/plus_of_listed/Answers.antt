@@ -1,4 +1,5 @@
-use Rattle.std.proofs.Common.{◌+◌, ◌*◌, arith, subst, sym}
+use Rattle.std.proofs.Common.{◌+◌, ◌-◌, ◌*◌, length, arith, subst, sym}
+use Rattle.mk_cell.specs.inner.Laws.{stands_with_more}
 use Rattle.mk_exact.specs.States.{plus_over}
 use Rattle.mk_cell.specs.Cell.{StandsAt}
 use Rattle.mk_table.specs.inner.Strides.{runs_of}
@@ -21,9 +22,11 @@ pub returns-then-digits-cells : goal.returns-then-digits-cells
 returns-then-digits-cells g c = λ k f n h.
     let d = c.args.digits.now in let e = c.args.exponents.now in let blank = all_blank c.args.cells d e c.requires.whole c.if-digits-cells.true in
     let xs = runs_of c.args.run c.args.firsts.now in let R = g.R.Semiring in let long = length-runs c.args.run c.args.firsts.now in
-    subst (λ m. StandsAt k c.plus_of_ones.result.digits c.plus_of_ones.result.exponent (plus_over R.plus_of 0 (λ j. f (0 + j)) xs) (n + 2 * m)) (sym long)
-    (c.plus_of_ones.ensures xs long k (λ j. f (0 + j)) n (ones_listed k c.args.cells d e blank.0 blank.1 f n 0 xs c.requires.within h))
+    stands_with_more k _ _ _ (n + (2 * length xs - 1)) (n + 2 * length xs) (omega arith)
+    (subst (λ m. StandsAt k c.plus_of_ones.result.digits c.plus_of_ones.result.exponent (plus_over R.plus_of 0 (λ j. f (0 + j)) xs) (n + (2 * m - 1))) (sym long)
+    (c.plus_of_ones.ensures xs long k (λ j. f (0 + j)) n (ones_listed k c.args.cells d e blank.0 blank.1 f n 0 xs c.requires.within h)))
 
 pub returns-else-digits-cells : goal.returns-else-digits-cells
 returns-else-digits-cells g c = λ k f n h.
-    c.plus_at.ensures k f n (full_listed c.args.cells c.args.digits.now c.args.exponents.now c.requires.whole c.if-digits-cells.false k f n 0 (runs_of c.args.run c.args.firsts.now) h)
+    stands_with_more k _ _ _ (n + (2 * length (runs_of c.args.run c.args.firsts.now) - 1)) (n + 2 * length (runs_of c.args.run c.args.firsts.now)) (omega arith)
+    (c.plus_at.ensures k f n (full_listed c.args.cells c.args.digits.now c.args.exponents.now c.requires.whole c.if-digits-cells.false k f n 0 (runs_of c.args.run c.args.firsts.now) h))

@@ -1,4 +1,4 @@
-use Rattle.std.proofs.Common.{◌≡◌, ℕ, ◌+◌, ◌*◌, ◌/◌, ◌%◌, ◌<◌, ◌≤◌, length, replicate, arith, subst}
+use Rattle.std.proofs.Common.{◌≡◌, ℕ, ◌+◌, ◌-◌, ◌*◌, ◌/◌, ◌%◌, ◌<◌, ◌≤◌, length, replicate, arith, subst}
 use Rattle.std.proofs.lemmas.List.{length-replicate}
 use Rattle.mk_exact.specs.States.{plus_over}
 use Rattle.mk_cell.specs.Cell.{IsCell, StandsAt}
@@ -15,11 +15,11 @@ few_cell q x count plus h s = has_room 0 q x _ (0 + count) (omega arith) (omega 
 
 pub returns-then-count-le-FEW : goal.returns-then-count-le-FEW
 returns-then-count-le-FEW g c = λ xs l k f n a.
-    stands_with_more k _ _ _ (n + c.args.count) (n + 2 * c.args.count) (omega arith) (c.plus_of_few.ensures xs l k f n a)
+    stands_with_more k _ _ _ (n + c.args.count) (n + (2 * c.args.count - 1)) (omega arith) (c.plus_of_few.ensures xs l k f n a)
 
 pub returns-then-count-le-BLOCK : goal.returns-then-count-le-BLOCK
 returns-then-count-le-BLOCK g c = λ xs l k f n a.
-    stands_with_more k _ _ _ (n + c.args.count) (n + 2 * c.args.count) (omega arith) (c.plus_of_few-then-count-le-BLOCK.ensures xs l k f n a)
+    stands_with_more k _ _ _ (n + c.args.count) (n + (2 * c.args.count - 1)) (omega arith) (c.plus_of_few-then-count-le-BLOCK.ensures xs l k f n a)
 
 pub plus_of_blocks-requires-clause-block : goal.plus_of_blocks-requires-clause-block
 plus_of_blocks-requires-clause-block g c =
@@ -44,4 +44,4 @@ returns-else-count-le-BLOCK g c = λ xs l k f n a.
     stands_with_more k _ _ _ (n + rest) (n + 64) (omega (arith, small)) (c.plus_of_few-rest.ensures (block_of xs blocks) (last_block_long xs blocks rest split small) k f n (block_within P xs blocks a)) in
     let all = subst (λ v. StandsAt k c.plus_of_blocks.result.digits c.plus_of_blocks.result.exponent v (n + 64 + (blocks + 1))) (blocks_all R.plus_of g.met.R.Semiring.lawful f xs (blocks + 1) (omega (arith, split, small)))
     (c.plus_of_blocks.ensures k sum (n + 64) each last) in
-    stands_with_more k _ _ _ (n + 64 + (blocks + 1)) (n + 2 * count) (omega (arith, split, l, more)) all
+    stands_with_more k _ _ _ (n + 64 + (blocks + 1)) (n + (2 * count - 1)) (omega (arith, split, l, more)) all

@@ -1,4 +1,4 @@
-use Rattle.std.proofs.Common.{◌+◌, ◌*◌, ℕ, length, slice_index, arith, ◌∙◌}
+use Rattle.std.proofs.Common.{◌+◌, ◌-◌, ◌*◌, ℕ, length, slice_index, arith, ◌∙◌}
 use Rattle.std.proofs.Math.ListN.{length-set}
 use Rattle.mk_exact.specs.States.{plus_over}
 use Rattle.mk_cell.specs.Cell.{StandsAt}
@@ -16,7 +16,7 @@ loop-place-preserved g c =
       long_too = length-set c.loop-place.out_exponents b cell.exponent ∙ c.loop-place.invariant.long_too;
       stand = written_next
           (λ i q x. (k : ℕ) (f : ℕ → ℕ) (n : ℕ) → StandListed k c.args.digits.now c.args.exponents.now f n (slice_index c.args.bases.now i) (runs_of c.args.run c.args.offsets.now)
-          → StandsAt k q x (plus_over R.plus_of 0 (λ j. f (slice_index c.args.bases.now i + j)) (runs_of c.args.run c.args.offsets.now)) (n + 2 * length (runs_of c.args.run c.args.offsets.now)))
+          → StandsAt k q x (plus_over R.plus_of 0 (λ j. f (slice_index c.args.bases.now i + j)) (runs_of c.args.run c.args.offsets.now)) (n + (2 * length (runs_of c.args.run c.args.offsets.now) - 1)))
           b cell.digits cell.exponent c.loop-place.out_digits c.loop-place.out_exponents
           (omega (arith, l, c.loop-place.invariant.long)) (omega (arith, l, c.loop-place.invariant.long_too)) c.loop-place.invariant.stand c.plus_at-cell.ensures;
     }

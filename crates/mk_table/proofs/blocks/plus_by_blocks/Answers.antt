@@ -16,12 +16,12 @@ use Rattle.mk_table.proofs.blocks.plus_by_blocks.Goals as goal
 record AreBlocks (blocks count : ℕ) : Type 0 where
   all : count ≤ blocks * 64
   few : blocks ≤ 64
-  at_most : blocks ≤ count
+  fewer : 64 < count → blocks < count
 
 are_blocks : (run blocks : ℕ) (xs : List ℕ) → 1 ≤ run → length (runs_of run xs) ≤ 4096 → (length xs ≤ blocks * 64) × (blocks * 64 < length xs + 64) → AreBlocks blocks (length xs)
 are_blocks run blocks xs some l h =
     let f = runs_few run xs some in
-    record { all = h.0; few = omega (arith, h.1, f, l); at_most = omega (arith, h.1) }
+    record { all = h.0; few = omega (arith, h.1, f, l); fewer = λ many. omega (arith, h.1, many) }
 
 pub plus_of_block-cell-requires-clause-few : goal.plus_of_block-cell-requires-clause-few
 plus_of_block-cell-requires-clause-few g c = rw c.block_of-listed.ensures (block_at_most c.args.offsets.now c.loop-block.block)
@@ -104,7 +104,7 @@ over-requires g c =
     let m : blocks ≤ length c.loop-block.block_exponents = omega (arith, are.few, c.loop-block.invariant.long_too) in
     let e = length-runs run xs in let s = steps_of_blocks run (length xs) 0 c.requires.some (omega arith) in
     let sums : ℕ → ℕ = λ b. plus_over R.plus_of 0 (λ o. plus_over R.plus_of 0 (λ j. room.numbers (base + j)) (range_with_len o run)) (block_of xs b) in
-    all_have_room c.requires.room.0 (take blocks c.loop-block.block_digits) (take blocks c.loop-block.block_exponents) sums (room.steps + length xs * (2 * run - 1)) room.small_shift (omega (arith, f, e, s))
+    all_have_room c.requires.room.0 (take blocks c.loop-block.block_digits) (take blocks c.loop-block.block_exponents) sums (room.steps + length xs * (2 * run - 1)) (let l = room.small_shift in omega (arith, l)) (omega (arith, f, e, s))
     (length-take-le blocks c.loop-block.block_exponents m ∙ sym (length-take-le blocks c.loop-block.block_digits l))
     (first_stand c.requires.room.0 c.loop-block.block_digits c.loop-block.block_exponents sums (room.steps + length xs * (2 * run - 1)) blocks l
     (λ b p. c.loop-block.invariant.stand b (omega (arith, p, c.loop-block-test.false)) c.requires.room.0 room.numbers room.steps
@@ -122,5 +122,5 @@ returns g c = λ k f n a.
     (first_stand k c.loop-block.block_digits c.loop-block.block_exponents (λ b. plus_over R.plus_of 0 sum (block_of xs b)) steps blocks l (λ b p. c.loop-block.invariant.stand b (omega (arith, p, c.loop-block-test.false)) k f n a)) in
     let same = subst (λ m. StandsAt k q x (plus_below R.plus_of m (λ b. plus_over R.plus_of 0 sum (block_of xs b))) (steps + m)) (length-take-le blocks c.loop-block.block_digits l) made in
     let all = subst (λ v. StandsAt k q x v (steps + blocks)) (blocks_all R.plus_of g.met.R.Semiring.lawful sum xs blocks are.all ∙ plus_of_runs R.plus_of g.met.R.Semiring.lawful (λ j. f (base + j)) run xs) same in
-    let e = length-runs run xs in let s = steps_of_blocks run (length xs) blocks c.requires.some are.at_most in
-    stands_with_more k _ _ _ (steps + blocks) (n + 2 * length (runs_of run xs)) (omega (arith, e, s)) all
+    let e = length-runs run xs in let s = steps_of_blocks run (length xs) blocks c.requires.some (are.fewer c.requires.many) in
+    stands_with_more k _ _ _ (steps + blocks) (n + (2 * length (runs_of run xs) - 1)) (omega (arith, e, s)) all

@@ -52,7 +52,7 @@ over-requires g c =
     let l : count ≤ length c.loop-place.run_digits = omega (arith, c.requires.few, c.loop-place.invariant.long) in
     let m : count ≤ length c.loop-place.run_exponents = omega (arith, c.requires.few, c.loop-place.invariant.long_too) in
     let sums : ℕ → ℕ = λ b. plus_over R.plus_of 0 (λ j. room.numbers (base + j)) (range_with_len (slice_index xs b) run) in
-    all_have_room c.requires.room.0 (take count c.loop-place.run_digits) (take count c.loop-place.run_exponents) sums (room.steps + length (runs_of run xs)) room.small_shift (omega arith)
+    all_have_room c.requires.room.0 (take count c.loop-place.run_digits) (take count c.loop-place.run_exponents) sums (room.steps + length (runs_of run xs)) (let l = room.small_shift in omega (arith, l)) (omega arith)
     (length-take-le count c.loop-place.run_exponents m ∙ sym (length-take-le count c.loop-place.run_digits l))
     (first_stand c.requires.room.0 c.loop-place.run_digits c.loop-place.run_exponents sums (room.steps + length (runs_of run xs)) count l
     (λ b p. c.loop-place.invariant.stand b (omega (arith, p, c.loop-place-test.false)) c.requires.room.0 room.numbers room.steps

@@ -6,18 +6,18 @@ pub restrict-requires : goal.restrict-requires
 restrict-requires g c =
     let inside = c.self.inside in
     let old : FlowOf = record { shape = inside.shape.value; tables = inside.tables.items; upward = inside.upward.items; downward = inside.downward.items; factors = inside.factors; computed = inside.computed } in
-    pair_variable old c.args.self.now c.self.view_is inside.gathered.items inside.cells c.self.invariant.kept c.requires.0 c.requires.1 c.args.clique c.requires.2.clique_is c.index_mut.result.now c.index_mut.ensures.value c.args.pair c.requires.2
+    pair_variable old c.args.self.now c.self.view_is inside.cores.items inside.products.items inside.cells c.self.invariant.kept c.requires.0 c.requires.1 c.args.clique c.requires.2.clique_is c.index_mut.result.now c.index_mut.ensures.value c.args.pair c.requires.2
 
 pub invariant_of-self : goal.invariant_of-self
 invariant_of-self g c =
     let inside = c.self.inside in
     let old : FlowOf = record { shape = inside.shape.value; tables = inside.tables.items; upward = inside.upward.items; downward = inside.downward.items; factors = inside.factors; computed = inside.computed } in
-    still_flow old c.args.self.now c.self.view_is inside.gathered.items inside.cells c.self.invariant.kept c.requires.0 c.requires.1 c.args.clique c.requires.2.clique_is c.index_mut.result.now c.index_mut.ensures.value c.restrict.new.self c.restrict.ensures.scope g.R.Semiring.plus_of inside.factors inside.current.items c.self.invariant.marked
+    still_flow old c.args.self.now c.self.view_is inside.cores.items inside.products.items inside.cells c.self.invariant.kept c.requires.0 c.requires.1 c.args.clique c.requires.2.clique_is c.index_mut.result.now c.index_mut.ensures.value c.restrict.new.self c.restrict.ensures.scope g.R.Semiring.plus_of inside.factors inside.summed.items inside.current.items c.self.invariant.summed_are c.self.invariant.current_are
 
 pub returns-clause-places : goal.returns-clause-places
 returns-clause-places g c = λ p h.
     let inside = c.self.inside in
     let old : FlowOf = record { shape = inside.shape.value; tables = inside.tables.items; upward = inside.upward.items; downward = inside.downward.items; factors = inside.factors; computed = inside.computed } in
     let fits = pair_fits_each c.args.self.now c.requires.0 p c.requires.1 h c.args.clique c.args.pair c.requires.2 in
-    places_pair old c.args.self.now c.self.view_is inside.gathered.items inside.cells c.self.invariant.kept p h c.args.clique fits.clique_is c.index_mut.result.now c.index_mut.ensures.value c.restrict.new.self c.restrict.ensures.scope
+    places_pair old c.args.self.now c.self.view_is inside.cores.items inside.products.items inside.cells c.self.invariant.kept p h c.args.clique fits.clique_is c.index_mut.result.now c.index_mut.ensures.value c.restrict.new.self c.restrict.ensures.scope
     g.R.Semiring.plus_of c.args.pair fits c.restrict.ensures.shift c.restrict.ensures.numbers

@@ -13,32 +13,32 @@ pub times_rows-requires-clause-family : goal.times_rows-requires-clause-family
 times_rows-requires-clause-family g c =
     let inside = c.self.inside in
     let old : FlowOf = record { shape = inside.shape.value; tables = inside.tables.items; upward = inside.upward.items; downward = inside.downward.items; factors = inside.factors; computed = inside.computed } in
-    rows_family old c.args.self.now c.self.view_is inside.gathered.items inside.cells c.self.invariant.kept c.requires.0 c.requires.1.has c.args.clique c.requires.3.clique_is c.index_mut.result.now c.index_mut.ensures.value c.args.net.now c.requires.2 c.args.variable c.requires.3
+    rows_family old c.args.self.now c.self.view_is inside.cores.items inside.products.items inside.cells c.self.invariant.kept c.requires.0 c.requires.1.has c.args.clique c.requires.3.clique_is c.index_mut.result.now c.index_mut.ensures.value c.args.net.now c.requires.2 c.args.variable c.requires.3
 
 pub times_rows-requires-clause-parents : goal.times_rows-requires-clause-parents
 times_rows-requires-clause-parents g c =
     let inside = c.self.inside in
     let old : FlowOf = record { shape = inside.shape.value; tables = inside.tables.items; upward = inside.upward.items; downward = inside.downward.items; factors = inside.factors; computed = inside.computed } in
-    rows_parents old c.args.self.now c.self.view_is inside.gathered.items inside.cells c.self.invariant.kept c.requires.0 c.requires.1.has c.args.clique c.requires.3.clique_is c.index_mut.result.now c.index_mut.ensures.value c.args.net.now c.requires.2 c.args.variable c.requires.3
+    rows_parents old c.args.self.now c.self.view_is inside.cores.items inside.products.items inside.cells c.self.invariant.kept c.requires.0 c.requires.1.has c.args.clique c.requires.3.clique_is c.index_mut.result.now c.index_mut.ensures.value c.args.net.now c.requires.2 c.args.variable c.requires.3
 
 pub times_rows-requires-clause-room : goal.times_rows-requires-clause-room
 times_rows-requires-clause-room g c =
     let inside = c.self.inside in
     let old : FlowOf = record { shape = inside.shape.value; tables = inside.tables.items; upward = inside.upward.items; downward = inside.downward.items; factors = inside.factors; computed = inside.computed } in
-    room old c.args.self.now c.self.view_is inside.gathered.items inside.cells c.self.invariant.kept c.requires.0 c.requires.1.has c.args.clique c.requires.3.clique_is c.index_mut.result.now c.index_mut.ensures.value
+    room old c.args.self.now c.self.view_is inside.cores.items inside.products.items inside.cells c.self.invariant.kept c.requires.0 c.requires.1.has c.args.clique c.requires.3.clique_is c.index_mut.result.now c.index_mut.ensures.value
 
 pub invariant_of-self : goal.invariant_of-self
 invariant_of-self g c =
     let inside = c.self.inside in
     let old : FlowOf = record { shape = inside.shape.value; tables = inside.tables.items; upward = inside.upward.items; downward = inside.downward.items; factors = inside.factors; computed = inside.computed } in
-    still_flow old c.args.self.now c.self.view_is inside.gathered.items inside.cells c.self.invariant.kept c.requires.0 c.requires.1.has c.args.clique c.requires.3.clique_is c.index_mut.result.now c.index_mut.ensures.value c.times_rows.new.self c.times_rows.ensures.scope g.R.Semiring.plus_of (inside.factors + 1) inside.current.items c.self.invariant.marked
+    still_flow old c.args.self.now c.self.view_is inside.cores.items inside.products.items inside.cells c.self.invariant.kept c.requires.0 c.requires.1.has c.args.clique c.requires.3.clique_is c.index_mut.result.now c.index_mut.ensures.value c.times_rows.new.self c.times_rows.ensures.scope g.R.Semiring.plus_of (inside.factors + 1) inside.summed.items inside.current.items c.self.invariant.summed_are c.self.invariant.current_are
 
 pub returns-clause-places : goal.returns-clause-places
 returns-clause-places g c = λ p h e.
     let inside = c.self.inside in
     let old : FlowOf = record { shape = inside.shape.value; tables = inside.tables.items; upward = inside.upward.items; downward = inside.downward.items; factors = inside.factors; computed = inside.computed } in
     let fits = subst (λ (n : List Variable). IsPlacedFactor n c.args.self.now.shape.tree (record { clique = c.args.clique; factor = RowsOf c.args.variable })) (sym e) c.requires.3 in
-    places_factor old c.args.self.now c.self.view_is inside.gathered.items inside.cells c.self.invariant.kept p h c.args.clique fits.clique_is c.index_mut.result.now c.index_mut.ensures.value c.times_rows.new.self c.times_rows.ensures.scope
+    places_factor old c.args.self.now c.self.view_is inside.cores.items inside.products.items inside.cells c.self.invariant.kept p h c.args.clique fits.clique_is c.index_mut.result.now c.index_mut.ensures.value c.times_rows.new.self c.times_rows.ensures.scope
     g.R.Semiring.plus_of (RowsOf c.args.variable) fits (omega (arith, c.requires.1.has.counted, c.requires.1.room)) (omega (arith, c.times_rows.ensures.shift))
     (subst (λ (n : List Variable). (f : ℕ → ℕ) (k : ℕ) → HasNumbers c.index_mut.result.now f k
     → HasNumbers c.times_rows.new.self (λ i. f i * share_there n c.args.variable (values_at c.index_mut.result.now.scope i)) (k + 1)) (sym e) c.times_rows.ensures.numbers)

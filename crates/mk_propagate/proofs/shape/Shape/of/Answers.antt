@@ -1,30 +1,42 @@
-use Rattle.std.proofs.Common.{◌≡◌, ◌-◌, true, false, map, length, refl, ap, ◌∙◌}
-use Rattle.mk_propagate.specs.inner.Shaped.{shape_of, places_of}
-use Rattle.mk_propagate.proofs.Shaped.{shaped, shape_for, can_place}
+use Rattle.std.proofs.Common.{◌-◌, true, false, [], map, length, refl, ap, ◌∙◌}
+use Rattle.mk_propagate.specs.inner.Shaped.{shape_of, places_of, core_places_of}
+use Rattle.mk_propagate.proofs.Shaped.{shaped, shape_for, can_place, can_place_cores}
 use Rattle.mk_propagate.proofs.shape.Shape.of.Goals as goal
+
+pub core_scopes-requires-clause-lists : goal.core_scopes-requires-clause-lists
+core_scopes-requires-clause-lists c = ap (map (λ list. list.items)) c.deref.ensures.value ∙ c.in_ok-neighbours.ensures
 
 pub separator_places-requires : goal.separator_places-requires
 separator_places-requires c =
-    can_place (shape_of c.args.tree.now (map (λ scope. scope.value) c.deref.result.now) (map (λ scope. scope.value) c.deref-2.result.now)) c.args.net.now c.args.tree.now refl
-    (ap (map (λ scope. scope.value)) c.deref.ensures.value ∙ c.in_ok-cliques.ensures) (ap (map (λ scope. scope.value)) c.deref-2.ensures.value ∙ c.in_ok-separators.ensures)
+    can_place (shape_of c.args.tree.now (map (λ scope. scope.value) c.in_ok-cliques.cliques.items) (map (λ scope. scope.value) c.deref-2.result.now) (map (λ scope. scope.value) c.deref-3.result.now)) c.args.net.now c.args.tree.now refl
+    c.in_ok-cliques.ensures (ap (map (λ scope. scope.value)) c.deref-2.ensures.value ∙ c.in_ok-cores.ensures) (ap (map (λ scope. scope.value)) c.deref-3.ensures.value ∙ c.in_ok-separators.ensures)
     c.variables.ensures.network c.requires false
 
 pub separator_places-requires-2 : goal.separator_places-requires-2
 separator_places-requires-2 c =
-    can_place (shape_of c.args.tree.now (map (λ scope. scope.value) c.deref-3.result.now) (map (λ scope. scope.value) c.deref-4.result.now)) c.args.net.now c.args.tree.now refl
-    (ap (map (λ scope. scope.value)) c.deref-3.ensures.value ∙ c.in_ok-cliques.ensures) (ap (map (λ scope. scope.value)) c.deref-4.ensures.value ∙ c.in_ok-separators.ensures)
+    can_place (shape_of c.args.tree.now (map (λ scope. scope.value) c.in_ok-cliques.cliques.items) (map (λ scope. scope.value) c.deref-4.result.now) (map (λ scope. scope.value) c.deref-5.result.now)) c.args.net.now c.args.tree.now refl
+    c.in_ok-cliques.ensures (ap (map (λ scope. scope.value)) c.deref-4.ensures.value ∙ c.in_ok-cores.ensures) (ap (map (λ scope. scope.value)) c.deref-5.ensures.value ∙ c.in_ok-separators.ensures)
     c.variables.ensures.network c.requires true
+
+pub core_places-requires : goal.core_places-requires
+core_places-requires c =
+    can_place_cores (shape_of c.args.tree.now (map (λ scope. scope.value) c.deref-6.result.now) (map (λ scope. scope.value) c.deref-7.result.now) (map (λ scope. scope.value) c.in_ok-separators.separators.items)) c.args.net.now c.args.tree.now refl
+    (ap (map (λ scope. scope.value)) c.deref-6.ensures.value ∙ c.in_ok-cliques.ensures) (ap (map (λ scope. scope.value)) c.deref-7.ensures.value ∙ c.in_ok-cores.ensures) c.in_ok-separators.ensures
+    c.variables.ensures.network c.requires
 
 pub invariant_of-result : goal.invariant_of-result
 invariant_of-result c =
-    let tree = c.args.tree.now in let n = length tree.cliques - 1 in let cliques = c.in_ok-cliques.cliques.items in
-    shaped _ c.args.net.now tree c.in_ok-copy.ensures c.in_ok-cliques.ensures c.in_ok-separators.ensures c.cliques.ensures.linked c.in_ok-in_cliques.in_cliques.items c.in_ok-in_links.in_links.items
-    (c.in_ok-in_cliques.ensures ∙ ap (λ xs. places_of (shape_of tree (map (λ scope. scope.value) xs) (map (λ scope. scope.value) c.deref-2.result.now)) false n) c.deref.ensures.value
-    ∙ ap (λ xs. places_of (shape_of tree (map (λ scope. scope.value) cliques) (map (λ scope. scope.value) xs)) false n) c.deref-2.ensures.value)
-    (c.in_ok-in_links.ensures ∙ ap (λ xs. places_of (shape_of tree (map (λ scope. scope.value) xs) (map (λ scope. scope.value) c.deref-4.result.now)) true n) c.deref-3.ensures.value
-    ∙ ap (λ xs. places_of (shape_of tree (map (λ scope. scope.value) cliques) (map (λ scope. scope.value) xs)) true n) c.deref-4.ensures.value)
-    (map (λ list. list.items) c.in_ok-neighbour_lists.field-0.items) (map (λ next. next.items) c.in_ok-ways.field-0.items) c.in_ok-neighbour_lists.ensures c.in_ok-ways.ensures
+    let tree = c.args.tree.now in let n = length tree.cliques - 1 in let cliques = c.in_ok-cliques.cliques.items in let cores = c.in_ok-cores.cores.items in
+    shaped _ c.args.net.now tree c.in_ok-copy.ensures c.in_ok-cliques.ensures c.in_ok-cores.ensures c.in_ok-separators.ensures c.cliques.ensures.linked
+    c.in_ok-in_cliques.in_cliques.items c.in_ok-in_links.in_links.items c.in_ok-in_whole.in_whole.items
+    (c.in_ok-in_cliques.ensures ∙ ap (λ xs. places_of (shape_of tree [] (map (λ scope. scope.value) xs) (map (λ scope. scope.value) c.deref-3.result.now)) false n) c.deref-2.ensures.value
+    ∙ ap (λ xs. places_of (shape_of tree [] (map (λ scope. scope.value) cores) (map (λ scope. scope.value) xs)) false n) c.deref-3.ensures.value)
+    (c.in_ok-in_links.ensures ∙ ap (λ xs. places_of (shape_of tree [] (map (λ scope. scope.value) xs) (map (λ scope. scope.value) c.deref-5.result.now)) true n) c.deref-4.ensures.value
+    ∙ ap (λ xs. places_of (shape_of tree [] (map (λ scope. scope.value) cores) (map (λ scope. scope.value) xs)) true n) c.deref-5.ensures.value)
+    (c.in_ok-in_whole.ensures ∙ ap (λ xs. core_places_of (shape_of tree (map (λ scope. scope.value) xs) (map (λ scope. scope.value) c.deref-7.result.now) []) (length tree.cliques)) c.deref-6.ensures.value
+    ∙ ap (λ xs. core_places_of (shape_of tree (map (λ scope. scope.value) cliques) (map (λ scope. scope.value) xs) []) (length tree.cliques)) c.deref-7.ensures.value)
+    (map (λ list. list.items) c.in_ok-neighbours.neighbours.items) (map (λ next. next.items) c.in_ok-ways.field-0.items) c.in_ok-neighbours.ensures c.in_ok-ways.ensures
 
 pub returns-clause-shape : goal.returns-clause-shape
 returns-clause-shape c =
-    shape_for _ c.args.net.now c.args.tree.now c.in_ok-copy.ensures c.in_ok-cliques.ensures c.in_ok-separators.ensures c.variables.ensures.network c.requires
+    shape_for _ c.args.net.now c.args.tree.now c.in_ok-copy.ensures c.in_ok-cliques.ensures c.in_ok-cores.ensures c.in_ok-separators.ensures c.variables.ensures.network c.requires

@@ -1,9 +1,9 @@
-use Rattle.std.proofs.Common.{◌≡◌, ◌+◌, List, ℕ, map, length, slice_index, ap, sym, ◌∙◌, true, false}
+use Rattle.std.proofs.Common.{◌≡◌, ◌+◌, ◌*◌, List, ℕ, map, length, slice_index, ap, sym, ◌∙◌, true, false}
 use Rattle.mk_table.specs.Scopes.{size_in}
 use Rattle.mk_table.specs.inner.Strides.{cells_with, runs_of, values_moved}
 use Rattle.mk_table.proofs.Doubled.{cells_with_few}
 use Rattle.mk_table.proofs.Listed.{values_of_moved}
-use Rattle.mk_table.proofs.Onto.{bases_count, onto_cells}
+use Rattle.mk_table.proofs.Onto.{bases_count, cells_apart, onto_cells}
 use Rattle.mk_table.proofs.Ready.{tail_some}
 use Rattle.mk_table.proofs.Runs.{runs_single}
 use Rattle.mk_table.proofs.scope.Scope.cells_onto.Goals as goal
@@ -35,3 +35,12 @@ returns-clause-few c =
 pub returns-clause-some : goal.returns-clause-some
 returns-clause-some c =
     tail_some c.args.self.now c.cells-2.ensures.scope _ _ _ c.tail_outside-tail.ensures
+
+pub returns-clause-beside : goal.returns-clause-beside
+returns-clause-beside c =
+    let items = c.cells_moved.new.cells.items in let run = c.tail_outside-tail.result.cells in let whole = c.args.self.now in let part = c.args.part.now in
+    let bases : items ≡ cells_with (size_in whole) (values_moved whole part true) whole.variables =
+    sym (runs_single items) ∙ ap (λ r. runs_of r items) (sym c.no_tail.ensures.single) ∙ c.cells_moved.ensures in
+    ap (λ (ys : List ℕ). length ys * length (runs_of run c.cells_moved-2.new.cells.items)) bases
+    ∙ ap (λ (ys : List ℕ). length (cells_with (size_in whole) (values_moved whole part true) whole.variables) * length ys) c.cells_moved-2.ensures
+    ∙ cells_apart part whole c.cells.ensures.scope c.cells-2.ensures.scope c.requires

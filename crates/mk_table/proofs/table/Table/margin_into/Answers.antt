@@ -1,8 +1,8 @@
-use Rattle.std.proofs.Common.{◌≡◌, ◌+◌, ◌*◌, ◌≤◌, ℕ, length, slice_index, arith, ap, subst, sym, ◌∙◌}
+use Rattle.std.proofs.Common.{◌≡◌, ◌+◌, ◌-◌, ◌*◌, ◌≤◌, ℕ, length, slice_index, arith, ap, subst, sym, ◌∙◌}
 use Rattle.mk_exact.specs.States.{plus_over}
 use Rattle.mk_table.specs.Scopes.{ScopeOf, PlacesOf, cells_in}
 use Rattle.mk_table.specs.Tables.{TableOf}
-use Rattle.mk_table.specs.Cells.{cells_onto}
+use Rattle.mk_table.specs.Cells.{cells_onto, cells_beside}
 use Rattle.mk_table.specs.inner.Parts.{AreNumbers}
 use Rattle.std.specs.Prelude.{List, Option}
 use Rattle.mk_net.specs.declared.words.Pair.{Pair}
@@ -11,6 +11,7 @@ use Rattle.mk_table.specs.inner.Strides.{runs_of}
 use Rattle.mk_table.specs.inner.Blank.{one_digits, one_exponent, filled}
 use Rattle.mk_table.proofs.Whole.{table_full, parts_of, parts_room, parts_numbers, parts_full, onto_within, touched_cells, margin_numbers, has_written}
 use Rattle.mk_table.proofs.Filled.{at_most, filled_length}
+use Rattle.mk_table.proofs.Onto.{places_beside, all_beside}
 use Rattle.mk_table.proofs.table.Table.margin_into.Goals as goal
 
 pub plus_of_each-requires-clause-within : goal.plus_of_each-requires-clause-within
@@ -49,12 +50,20 @@ returns-clause-numbers g c = λ f n h.
     subst (λ (o : Option (List Pair)). IsWithin part o after) (ap (λ (t : TableOf). t.touched) c.self.view_is)
     (subst (λ (s : ScopeOf). IsWithin s c.self.inside.touched after) (c.deref-4.ensures ∙ sym out_is) c.within-out-inside.ensures) in
     let made = margin_numbers R.plus_of g.met.R.Semiring.lawful part whole are.lies_in bases offsets (filled one_digits c.cells.result c.deref.result.now) (filled one_exponent c.cells.result c.deref-2.result.now) nd ne
-    (parts_full _ _ _ _ _ parts) are.few are.one_each are.onto long c.plus_of_each.ensures.stand c.args.self.now.touched after within c.self.inside.shift f n (parts_numbers _ _ _ _ _ parts f n h) in
+    (parts_full _ _ _ _ _ parts) (places_beside part whole bases offsets c.lists-run.result.2 are) are.one_each are.onto long c.plus_of_each.ensures.stand c.args.self.now.touched after within c.self.inside.shift f n (parts_numbers _ _ _ _ _ parts f n h) in
     let count : length bases ≡ cells_in c.out.inside.scope.value = are.one_each ∙ ap cells_in out_is in
     let sums : ScopeOf → ScopeOf → ℕ → ℕ = λ p w d. plus_over R.plus_of 0 f (cells_onto p w d) in
     has_written _ c.args.out.now c.out.view_is (filled one_digits (cells_in c.out.inside.scope.value) c.plus_of_each.new.out_digits.items) (filled one_exponent (cells_in c.out.inside.scope.value) c.plus_of_each.new.out_exponents.items)
-    after c.self.inside.shift (sums c.args.out.now.scope c.args.self.now.scope) (n + 2 * cells_in c.args.self.now.scope)
+    after c.self.inside.shift (sums c.args.out.now.scope c.args.self.now.scope) (n + (2 * cells_beside c.args.out.now.scope c.args.self.now.scope - 1))
     (subst (λ m. AreNumbers (touched_cells after c.args.out.now.scope) c.self.inside.shift (filled one_digits m c.plus_of_each.new.out_digits.items) (filled one_exponent m c.plus_of_each.new.out_exponents.items)
-    (sums c.args.out.now.scope c.args.self.now.scope) (n + 2 * cells_in c.args.self.now.scope)) count
-    (subst (λ (s : ScopeOf). AreNumbers (touched_cells after s) c.self.inside.shift nd ne (sums s c.args.self.now.scope) (n + 2 * cells_in c.args.self.now.scope)) part_is
-    (subst (λ (s : ScopeOf). AreNumbers (touched_cells after part) c.self.inside.shift nd ne (sums part s) (n + 2 * cells_in s)) whole_is made)))
+    (sums c.args.out.now.scope c.args.self.now.scope) (n + (2 * cells_beside c.args.out.now.scope c.args.self.now.scope - 1))) count
+    (subst (λ (s : ScopeOf). AreNumbers (touched_cells after s) c.self.inside.shift nd ne (sums s c.args.self.now.scope) (n + (2 * cells_beside s c.args.self.now.scope - 1))) part_is
+    (subst (λ (s : ScopeOf). AreNumbers (touched_cells after part) c.self.inside.shift nd ne (sums part s) (n + (2 * cells_beside part s - 1))) whole_is made)))
+
+pub returns-clause-beside : goal.returns-clause-beside
+returns-clause-beside g c =
+    let part = c.args.places.now.part in let whole = c.args.places.now.whole in
+    let whole_is : whole ≡ c.args.self.now.scope = ap (λ (s : PlacesOf). s.whole) c.requires.places in
+    let part_is : part ≡ c.args.out.now.scope = ap (λ (s : PlacesOf). s.part) c.requires.places in
+    subst (λ (s : ScopeOf). cells_in s * cells_beside s c.args.self.now.scope ≡ cells_in c.args.self.now.scope) part_is
+    (subst (λ (s : ScopeOf). cells_in part * cells_beside part s ≡ cells_in s) whole_is (all_beside part whole _ _ _ c.lists-run.ensures))

@@ -1,0 +1,136 @@
+-- The plus of products: each chosen cell of a table times the cell of another that has its values.
+use Rattle.std.proofs.Common.{◌≡◌, ℕ, ◌+◌, ◌*◌, ◌^◌, ◌<◌, ◌≤◌, List, length, get_or, slice_index, All, sym, ap, subst, ◌∙◌, ⊎_elim, arith, lt_of_le_of_lt}
+use Rattle.std.proofs.lemmas.Bool.{cases_lt}
+use Rattle.std.proofs.lemmas.Nat.{pow_pos, shl_below}
+use Rattle.std.proofs.Math.Nat.{mul_comm, mul-le-mul_left}
+use Rattle.mk_exact.specs.States.{plus_over}
+use Rattle.mk_scaled.specs.Range.{two_to, two_to-small, two_to-lt, mul_at_most, exponent_below, pow-lt_reflects}
+use Rattle.mk_cell.specs.Cell.{bias, bias-is, IsCell, StandsAt, AllStand}
+use Rattle.mk_cell.specs.inner.LowerEnd.{at_least_one}
+use Rattle.mk_table.specs.inner.Blank.{one_digits, one_exponent, filled}
+use Rattle.mk_table.specs.inner.Parts.{StandPairs, StandListed, HaveRoom, block_of}
+use Rattle.mk_table.proofs.Blocked.{AreGathered, block_within}
+use Rattle.mk_table.proofs.Filled.{one_at}
+use Rattle.mk_table.proofs.OnesSum.{times_one}
+
+-- ---- a product of two cells leaves room for one more
+
+low_room : (shift digits exponent v n : ℕ) → shift < 2 ^ 25 → StandsAt shift digits exponent v n → 0 < digits → 3 * 2 ^ 26 ≤ exponent
+low_room shift digits exponent v n h s p =
+    let f = s.form in
+    let d = f.fits in
+    let there : 0 < digits * 2 ^ (exponent + shift) = let m : digits * 1 ≤ digits * 2 ^ (exponent + shift) = mul-le-mul_left digits (pow_pos (exponent + shift)) in omega arith in
+    let one = at_least_one (digits * 2 ^ (exponent + shift)) v (2 ^ bias) n s.lower there in
+    let up : digits * 2 ^ (exponent + shift) < 2 ^ (64 + (exponent + shift)) = shl_below digits 64 (exponent + shift) d in
+    let e : bias < 64 + (exponent + shift) = pow-lt_reflects bias (64 + (exponent + shift)) (lt_of_le_of_lt one up) in
+    let b = bias-is in
+    omega arith
+
+high_room : (shift digits exponent v n : ℕ) → n + 1 < 2 ^ 20 → StandsAt shift digits exponent v n → 0 < digits → exponent ≤ 5 * 2 ^ 26
+high_room shift digits exponent v n h s p =
+    let l = s.lower in
+    let size = s.size in
+    let v' : v ≤ two_to (64 * (n + 1)) = omega arith in
+    let m : v * 2 ^ bias ≤ two_to (64 * (n + 1) + bias) = mul_at_most v (2 ^ bias) (64 * (n + 1)) bias v' (two_to-small bias bias (omega arith)) in
+    let t : two_to (64 * (n + 1) + bias) < two_to (64 * (n + 1) + bias + 1) = two_to-lt (64 * (n + 1) + bias) (64 * (n + 1) + bias + 1) (omega arith) in
+    let u : digits * 2 ^ (exponent + shift) < two_to (64 * (n + 1) + bias + 1) = let y = l.below in omega arith in
+    let e = exponent_below digits (exponent + shift) 63 (64 * (n + 1) + bias + 1) (let f = s.form in f.full p) u in
+    let b = bias-is in
+    omega arith
+
+pub product_cell : (shift digits exponent v n : ℕ) → shift < 2 ^ 25 → n + 1 < 2 ^ 20 → StandsAt shift digits exponent v n → IsCell digits exponent
+product_cell shift digits exponent v n h k s = record {
+  form = s.form;
+  low = low_room shift digits exponent v n h s;
+  high =
+      ⊎_elim
+      (λ (p : 0 < digits). high_room shift digits exponent v n k s p)
+      (λ (p : digits ≤ 0). let f = s.form in let z = f.absent (omega arith) in omega arith)
+      (cases_lt 0 digits);
+}
+
+-- ---- what is gathered
+
+-- by the places of a list
+pub gathered_each : (at : ℕ → ℕ) (count : ℕ) (d e gd ge : List ℕ) → AreGathered at count d e gd ge → (k : ℕ) (v : ℕ → ℕ) (n : ℕ)
+    → ((i : ℕ) → i < count → StandsAt k (slice_index d (at i)) (slice_index e (at i)) (v i) n) → AllStand k gd ge v n
+gathered_each at count d e gd ge h k v n a = record {
+  each = λ i l.
+      let p : i < count = omega (arith, h.long, l) in
+      subst (λ y. StandsAt k y (slice_index ge i) (v i) n) (sym (h.digits_are i p)) (subst (λ y. StandsAt k (slice_index d (at i)) y (v i) n) (sym (h.exponents_are i p)) (a i p));
+}
+
+-- ---- cells of 1
+
+-- a table's cell times the cell of 1
+pub times_one_stands : (j k d e q x v w n p : ℕ) → q ≡ one_digits → x ≡ one_exponent → StandsAt j d e v n → StandsAt k q x w p → StandsAt (j + k) d e (v * w) (n + p + 1)
+times_one_stands j k d e q x v w n p h i s t =
+    ((times_one d e s.form).times k w p (subst (λ y. StandsAt k y one_exponent w p) h (subst (λ y. StandsAt k q y w p) i t))).stands j v n s
+
+pub one_times_stands : (j k d e q x v w n p : ℕ) → d ≡ one_digits → e ≡ one_exponent → StandsAt j d e v n → StandsAt k q x w p → StandsAt (j + k) q x (v * w) (n + p + 1)
+one_times_stands j k d e q x v w n p h i s t =
+    let shift : k + j ≡ j + k = omega arith in
+    let steps : p + n + 1 ≡ n + p + 1 = omega arith in
+    subst (λ y. StandsAt y q x (v * w) (n + p + 1)) shift (subst (λ y. StandsAt (k + j) q x y (n + p + 1)) (mul_comm w v)
+    (subst (λ y. StandsAt (k + j) q x (w * v) y) steps (times_one_stands k j q x d e w v p n h i t s)))
+
+-- of a blank table the other's cells stand for the products
+pub blank_pairs : (count : ℕ) (d e md me chosen : List ℕ) (onto : ℕ → ℕ) → length d ≡ 0 → length e ≡ 0 → All (λ c. c < count) chosen → (j k : ℕ) (f g : ℕ → ℕ) (n p : ℕ)
+    → StandPairs j k (filled one_digits count d) (filled one_exponent count e) md me onto f g n p chosen
+    → All (λ c. StandsAt (j + k) (slice_index md (onto c)) (slice_index me (onto c)) (f c * g c) (n + p + 1)) chosen
+blank_pairs count d e md me chosen onto h t within j k f g n p pairs = λ i z l.
+    let c = get_or chosen i z in
+    one_times_stands j k (slice_index (filled one_digits count d) c) (slice_index (filled one_exponent count e) c) (slice_index md (onto c)) (slice_index me (onto c)) (f c) (g c) n p
+    (one_at one_digits count c d h (within i z l)) (one_at one_exponent count c e t (within i z l)) (pairs.left i z l) (pairs.right i z l)
+
+-- and of a blank message the table's own
+pub blank_others : (d e md me chosen : List ℕ) (onto : ℕ → ℕ) (count : ℕ) (xs ys : List ℕ) → md ≡ filled one_digits count xs → me ≡ filled one_exponent count ys → length xs ≡ 0 → length ys ≡ 0
+    → All (λ c. onto c < count) chosen → (j k : ℕ) (f g : ℕ → ℕ) (n p : ℕ)
+    → StandPairs j k d e md me onto f g n p chosen → StandListed (j + k) d e (λ c. f c * g c) (n + p + 1) 0 chosen
+blank_others d e md me chosen onto count xs ys a b h t within j k f g n p pairs = record {
+  listed = λ i z l.
+      let c = get_or chosen i z in
+      let moved : c ≡ 0 + c = omega arith in
+      subst (λ y. StandsAt (j + k) (slice_index d y) (slice_index e y) (f y * g y) (n + p + 1)) moved
+      (times_one_stands j k (slice_index d c) (slice_index e c) (slice_index md (onto c)) (slice_index me (onto c)) (f c) (g c) n p
+      (ap (λ (zs : List ℕ). slice_index zs (onto c)) a ∙ one_at one_digits count (onto c) xs h (within i z l)) (ap (λ (zs : List ℕ). slice_index zs (onto c)) b ∙ one_at one_exponent count (onto c) ys t (within i z l))
+      (pairs.left i z l) (pairs.right i z l));
+}
+
+-- ---- some of the pairs
+
+pub pairs_of_full : (d e md me chosen : List ℕ) (onto : ℕ → ℕ) (fd fe : List ℕ) → fd ≡ d → fe ≡ e → (j k : ℕ) (f g : ℕ → ℕ) (n p : ℕ)
+    → StandPairs j k fd fe md me onto f g n p chosen → StandPairs j k d e md me onto f g n p chosen
+pairs_of_full d e md me chosen onto fd fe a b j k f g n p h =
+    subst (λ (ys : List ℕ). StandPairs j k ys e md me onto f g n p chosen) a (subst (λ (ys : List ℕ). StandPairs j k fd ys md me onto f g n p chosen) b h)
+
+-- the pairs of a block
+pub block_pairs : (d e md me xs : List ℕ) (onto : ℕ → ℕ) (b j k : ℕ) (f g : ℕ → ℕ) (n p : ℕ) → StandPairs j k d e md me onto f g n p xs → StandPairs j k d e md me onto f g n p (block_of xs b)
+block_pairs d e md me xs onto b j k f g n p h = record {
+  left = block_within (λ c. StandsAt j (slice_index d c) (slice_index e c) (f c) n) xs b h.left;
+  right = block_within (λ c. StandsAt k (slice_index md (onto c)) (slice_index me (onto c)) (g c) p) xs b h.right;
+}
+
+-- of chosen pairs a cell stands for the plus of those that are listed
+abbrev pub MakesPairs : (ℕ → ℕ → ℕ) → List ℕ → List ℕ → List ℕ → List ℕ → List ℕ → List ℕ → List ℕ → ℕ → ℕ → Type 0
+MakesPairs plus digits exponents onto other_digits other_exponents chosen listed q x =
+    (j k : ℕ) (f g : ℕ → ℕ) (n p : ℕ)
+    → StandPairs j k (filled one_digits (length onto) digits) (filled one_exponent (length onto) exponents) other_digits other_exponents (slice_index onto) f g n p chosen
+    → StandsAt (j + k) q x (plus_over plus 0 (λ c. f c * g c) listed) (n + p + 129)
+
+-- with room on both sides, what pairs there are
+pub room_pairs : (d e md me xs : List ℕ) (onto : ℕ → ℕ) (j k more others : ℕ) → (r : HaveRoom j d e more) → (s : HaveRoom k md me others) → All (λ c. c < length d) xs → All (λ c. onto c < length md) xs
+    → StandPairs j k d e md me onto r.numbers (λ c. s.numbers (onto c)) r.steps s.steps xs
+room_pairs d e md me xs onto j k more others r s within there = record {
+  left = λ i z l. r.stand.each (get_or xs i z) (within i z l);
+  right = λ i z l. s.stand.each (onto (get_or xs i z)) (there i z l);
+}
+
+pub onto_there : (xs onto : List ℕ) (count : ℕ) → All (λ d. d < count) onto → All (λ c. c < length onto) xs → All (λ c. slice_index onto c < count) xs
+onto_there xs onto count h within = λ i z l. h (get_or xs i z) 0 (within i z l)
+
+-- what a block's pairs make is a cell
+pub made_cell : (d e md me : List ℕ) (j k more : ℕ) → 130 ≤ more → (r : HaveRoom j d e more) → (s : HaveRoom k md me 1) → (q x v : ℕ) → StandsAt (j + k) q x v (r.steps + s.steps + 129) → IsCell q x
+made_cell d e md me j k more many r s q x v h =
+    let a = r.few_steps in let b = s.few_steps in let y = r.small_shift in let z = s.small_shift in
+    product_cell (j + k) q x v (r.steps + s.steps + 129) (omega (arith, y, z)) (omega (arith, a, b, many)) h
