@@ -1,32 +1,28 @@
 -- A belief, once both passes were made.
-use Rattle.std.proofs.Common.{◌≡◌, ℕ, suc, zero, ◌+◌, ◌-◌, ◌*◌, ◌<◌, ◌≤◌, Bool, true, false, cond, not, ◌&&◌, eqb, List, [], ◌∷◌, map, length, take, slice_index_or, sum_by, All, refl, sym, ap, subst, ◌∙◌, arith, eq-eqb, ne_eqb}
-use Rattle.std.proofs.lemmas.Bool.{and_from, not_from_false, both_ways}
+use Rattle.std.proofs.Common.{◌≡◌, ℕ, suc, zero, ◌+◌, ◌-◌, ◌<◌, ◌≤◌, Bool, true, false, not, ◌&&◌, eqb, List, [], ◌∷◌, Option, Some, map, length, take, slice_index_or, sum_by, refl, sym, ap, subst, ◌∙◌, arith, eq-eqb, ne_eqb}
+use Rattle.std.proofs.lemmas.Bool.{and_from, not_from_false}
 use Rattle.std.proofs.lemmas.List.{length-map}
 use Rattle.std.proofs.lemmas.List.Sums.{sum_by_more}
 use Rattle.std.proofs.Math.Seq.{take-length}
 use Rattle.mk_net.specs.declared.words.Pair.{Pair}
-use Rattle.mk_net.specs.declared.sets.VarSet.{VarSet}
 use Rattle.mk_net.specs.Sets.{no_variables}
-use Rattle.mk_net.specs.Bounds.{number_limit, max_clique_cells}
-use Rattle.mk_net.specs.Network.{Variable}
+use Rattle.mk_net.specs.Bounds.{number_limit}
 use Rattle.mk_sums.specs.Trees.{sum_of, linked_to}
 use Rattle.mk_sums.proofs.Hops as hops
-use Rattle.mk_tree.specs.Given as given
 use Rattle.mk_tree.specs.Given.{GivenTree, clique_at, link_of, holds_event}
 use Rattle.mk_tree.specs.Tests.{cells_of}
 use Rattle.mk_tree.specs.Checked.{IsTreeOf}
 use Rattle.mk_engine.specs.Meaning.{Meaning, Factor, exact_belief, whole_sum, max_grade}
 use Rattle.mk_engine.specs.Beliefs.{IsBelief}
-use Rattle.mk_propagate.specs.Shapes.{ShapeOf, IsClique, IsShapeFor, are_linked, next_on_way, clique_cells}
+use Rattle.mk_propagate.specs.Shapes.{ShapeOf, IsClique, are_linked, next_on_way, clique_cells}
 use Rattle.mk_propagate.specs.Placings.{Placing, PlacedFactor, PlacedPair, meaning_of}
-use Rattle.mk_propagate.specs.Flows.{FlowOf, HasPlaced, IsRight, AreRightInto, CanRead, IsReading, all_cells, reading_grade, counted_on}
+use Rattle.mk_propagate.specs.Flows.{HasPlaced, AreRightInto, CanRead, IsReading, all_cells, reading_grade, counted_on}
 use Rattle.mk_propagate.proofs.Scopes.{clique_counted}
 use Rattle.mk_tree_engine.specs.Engines.{MarkedFlow, HasTree, ClearsTowards, is_stale, leads_towards, placing_of, factor_home, pair_home, stale_number}
-use Rattle.mk_tree_engine.specs.inner.Marks.{AreMarksOf}
-use Rattle.mk_tree_engine.specs.inner.Passes.{AreCurrent, AreCollected, CanCollect, IsCount, passed_down}
+use Rattle.mk_tree_engine.specs.inner.Marks.{AreMarksOf, AreCurrentTowards, IsMarked}
+use Rattle.mk_tree_engine.specs.inner.Passes.{AreCurrent, AreCollected, CanCollect, IsCount}
 use Rattle.mk_tree_engine.proofs.Making.{placed_kept}
 use Rattle.mk_tree_engine.proofs.Sums.{sum_same}
-use Rattle.mk_tree_engine.proofs.Collecting.{collected_same, all_passed}
 
 -- ---- grades
 
@@ -86,14 +82,7 @@ module _ (plus : ℕ → ℕ → ℕ) (old : MarkedFlow) (marks_of : AreMarksOf 
   pub can_collect : (m : Meaning) → HasTree plus old m → (c : ℕ) → IsClique old.flow.shape.tree c → CanCollect plus old c
   can_collect m h c at_c = record { placing = placing_of m; has = h.placed; current = current_of m h; clique_is = at_c; marks_of = marks_of }
 
-  module _ (c : ℕ) (at_c : IsClique old.flow.shape.tree c) (new : MarkedFlow) (mid : ShapeOf) (same : mid ≡ old.flow.shape)
-      (is : AreCollected plus c (passed_down mid.tree c (length mid.tree.cliques)) old new) where
-    pub finished : AreCollected plus c (λ k. not (eqb k c)) old new
-    finished =
-        collected_same plus c old new (passed_down old.flow.shape.tree c (length old.flow.shape.tree.cliques)) (λ k. not (eqb k c))
-        (subst (λ (s : ShapeOf). AreCollected plus c (passed_down s.tree c (length s.tree.cliques)) old new) same is)
-        (λ j p q. sym (all_passed old.flow.shape.tree marks_of.linked c at_c j p q))
-
+  module _ (c : ℕ) (at_c : IsClique old.flow.shape.tree c) (new : MarkedFlow) (is : AreCollected plus c (λ k. not (eqb k c)) old new) where
     pub kept_tree : (m : Meaning) → HasTree plus old m → HasTree plus new m
     kept_tree m h =
         let t : new.flow.shape.tree ≡ m.tree = ap (λ (s : ShapeOf). s.tree) is.kept.same_shape ∙ h.tree_is in
@@ -104,15 +93,32 @@ module _ (plus : ℕ → ℕ → ℕ) (old : MarkedFlow) (marks_of : AreMarksOf 
         }
 
     pub clears : ClearsTowards old new c
-    clears = λ a b l. finished.marks a b l ∙ ap (λ t. is_stale old a b && not t) (twice (not (eqb a c)) (eqb (next_on_way old.flow.shape.tree a c) b))
+    clears = λ a b l. is.marks a b l ∙ ap (λ t. is_stale old a b && not t) (twice (not (eqb a c)) (eqb (next_on_way old.flow.shape.tree a c) b))
       where
         twice : (x y : Bool) → ((x && y) && x) ≡ (x && y)
         twice true true = refl
         twice true false = refl
         twice false y = refl
 
+    -- the clique that is kept then
+    pub is_marked : (kept : Option ℕ) → kept ≡ Some c → IsMarked new.flow.shape.tree new.stale_up new.stale_down kept
+    is_marked kept e = record {
+      marks_of = is.marks_of;
+      current = λ x f.
+          let g : c ≡ x = cc in
+          subst (AreCurrentTowards new.flow.shape.tree new.stale_up new.stale_down) g
+          (subst (λ (s : ShapeOf). AreCurrentTowards s.tree new.stale_up new.stale_down c) (sym is.kept.same_shape) (record {
+            clique_is = at_c;
+            current = λ a b l t. clears a b l ∙ cleared (is_stale old a b) (leads_towards old.flow.shape.tree c a b) t;
+          }));
+    }
+      where
+        cleared : (x l : Bool) → l ≡ true → (x && not l) ≡ false
+        cleared true l e = ap not e
+        cleared false l e = refl
+
     pub counts : IsCount old.flow.computed → new.flow.computed ≡ counted_on old.flow.computed (stale_number old c)
-    counts few = finished.counted few
+    counts few = is.counted few
 
     into : (p : Placing) → HasPlaced old.flow p → AreCurrent plus old p → AreRightInto plus new.flow p c
     into p h current i l =

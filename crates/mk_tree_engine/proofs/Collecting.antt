@@ -1,19 +1,19 @@
 -- What a pass has done so far, clique by clique.
-use Rattle.std.proofs.Common.{◌≡◌, ℕ, ◌+◌, ◌-◌, ◌<◌, ◌≤◌, Bool, true, false, cond, not, ◌&&◌, ◌||◌, ◌⊎◌, inl, inr, eqb, ltb, List, length, min, refl, sym, ap, subst, ◌∙◌, arith, eq-eqb, ne_eqb}
+use Rattle.std.proofs.Common.{◌≡◌, ℕ, ◌+◌, ◌-◌, ◌<◌, ◌≤◌, Bool, true, false, cond, not, ◌&&◌, ◌||◌, ◌⊎◌, inl, inr, eqb, ltb, length, refl, sym, ap, subst, ◌∙◌, arith, eq-eqb, ne_eqb}
 use Rattle.std.proofs.Math.Bool.{and-true, or-true, or-false}
-use Rattle.std.proofs.lemmas.Bool.{cases_eq, cases_lt, cases_order, cases_Bool, lt-ltb, le-ltb, and_parts, and_from, both_ways, eqb-true, ltb-true, ltb-false, or_left, or_right, not_from_false, false_from_ne_true, not-true}
-use Rattle.mk_sums.specs.Trees.{sum_of, linked_but, linked}
+use Rattle.std.proofs.lemmas.Bool.{cases_eq, cases_order, cases_Bool, lt-ltb, le-ltb, and_parts, and_from, both_ways, eqb-true, ltb-true, or_left, or_right, not_from_false, false_from_ne_true, not-true}
+use Rattle.mk_sums.specs.Trees.{linked_but, linked}
 use Rattle.mk_sums.proofs.Hops as hops
 use Rattle.mk_sums.proofs.Stale as stale
 use Rattle.mk_tree.specs.Given as given
 use Rattle.mk_tree.specs.Given.{GivenTree, link_of}
 use Rattle.mk_propagate.specs.Shapes.{ShapeOf, IsClique, are_linked, next_on_way}
 use Rattle.mk_propagate.specs.Placings.{Placing}
-use Rattle.mk_propagate.specs.Flows.{FlowOf, HasPlaced, IsRight, AreRightBut, AreRightInto, KeepsTables, CanSend, counted_on}
+use Rattle.mk_propagate.specs.Flows.{HasPlaced, AreRightBut, counted_on}
 use Rattle.mk_tree_engine.specs.Engines.{MarkedFlow, is_stale, leads_towards}
 use Rattle.mk_tree_engine.specs.inner.Marks.{AreMarksOf}
-use Rattle.mk_tree_engine.specs.inner.Passes.{AreCurrent, IsMade, IsCount, AreCollected, CanCollect, stale_of, goes_up, goes_down, passed_up, passed_down}
-use Rattle.mk_tree_engine.proofs.Sums.{sum_agree, sum_none, sum_more}
+use Rattle.mk_tree_engine.specs.inner.Passes.{AreCurrent, IsMade, IsCount, AreCollected, stale_of, goes_up, goes_down, passed_up, passed_down}
+use Rattle.mk_tree_engine.proofs.Sums.{sum_agree, sum_zero, sum_more}
 use Rattle.mk_tree_engine.proofs.Making.{placed_kept}
 
 -- marks that are cleared in two steps
@@ -46,21 +46,43 @@ module _ (plus : ℕ → ℕ → ℕ) (c : ℕ) (old : MarkedFlow) where
   abbrev tree : GivenTree
   tree = old.flow.shape.tree
 
-  -- nothing is done yet
-  pub collected_none : (done : ℕ → Bool) → AreMarksOf old.flow.shape.tree old.stale_up old.stale_down
-      → ((j : ℕ) → 1 ≤ j → j ≤ length old.flow.shape.tree.cliques → done j ≡ false) → AreCollected plus c done old old
-  collected_none done marks_of none = record {
+  -- where nothing was stale, nothing is to be done
+  pub collected_already : (done : ℕ → Bool) → AreMarksOf old.flow.shape.tree old.stale_up old.stale_down
+      → ((j : ℕ) → 1 ≤ j → j ≤ length old.flow.shape.tree.cliques → done j ≡ true → is_stale old j (next_on_way old.flow.shape.tree j c) ≡ false) → AreCollected plus c done old old
+  collected_already done marks_of fresh = record {
     kept = record { same_shape = refl; same_tables = refl; same_factors = refl };
     marks_of = marks_of;
     marks = λ a b l.
         let n = hops.ends (link_of tree) (length tree.cliques) a b marks_of.linked.earlier (hops.are_linked (link_of tree) (length tree.cliques) a b l) in
-        none_cleared (is_stale old a b) (leads_towards tree c a b) (done a) (none a n.0 n.1);
+        at a b (fresh a n.0 n.1) (cases_Bool (leads_towards tree c a b && done a));
     right = λ p h k. k;
-    counted = λ few. let z = sum_none done (length tree.cliques) (λ k. cond (is_stale old k (next_on_way tree k c)) 1 0) none in count (stale_of old c done) z few;
+    counted = λ few.
+        let z = sum_zero done (length tree.cliques) (λ k. cond (is_stale old k (next_on_way tree k c)) 1 0) (λ j p q d. ap {B = ℕ} (λ t. cond t 1 0) (fresh j p q d)) in
+        count (stale_of old c done) z few;
   }
     where
       count : (n : ℕ) → n ≡ 0 → IsCount old.flow.computed → old.flow.computed ≡ counted_on old.flow.computed n
       count n e few = omega arith
+
+      none : (x t : Bool) → x ≡ false → x ≡ (x && not t)
+      none true t e = absurd (both_ways true e refl)
+      none false t e = refl
+
+      all : (x t : Bool) → t ≡ false → x ≡ (x && not t)
+      all x t e = sym (ap (λ b. x && not b) e ∙ and-true x)
+
+      at : (a b : ℕ) → (done a ≡ true → is_stale old a (next_on_way tree a c) ≡ false) → (((leads_towards tree c a b && done a) ≡ true) ⊎ ((leads_towards tree c a b && done a) ≡ false))
+          → is_stale old a b ≡ (is_stale old a b && not (leads_towards tree c a b && done a))
+      at a b fresh_a (inl t) =
+          let p = and_parts (leads_towards tree c a b) (done a) t in
+          let q = and_parts (not (eqb a c)) (eqb (next_on_way tree a c) b) p.0 in
+          none (is_stale old a b) (leads_towards tree c a b && done a) (ap (is_stale old a) (sym (eqb-true (next_on_way tree a c) b q.1)) ∙ fresh_a p.1)
+      at a b fresh_a (inr f) = all (is_stale old a b) (leads_towards tree c a b && done a) f
+
+  -- nothing is done yet
+  pub collected_none : (done : ℕ → Bool) → AreMarksOf old.flow.shape.tree old.stale_up old.stale_down
+      → ((j : ℕ) → 1 ≤ j → j ≤ length old.flow.shape.tree.cliques → done j ≡ false) → AreCollected plus c done old old
+  collected_none done marks_of none = collected_already done marks_of (λ j p q d. absurd (both_ways (done j) (none j p q) d))
 
   module _ (mid : MarkedFlow) (done more : ℕ → Bool) (is : AreCollected plus c done old mid) where
     links : given.AreLinked tree

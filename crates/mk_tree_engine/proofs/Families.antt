@@ -1,5 +1,5 @@
 -- The first clique that holds something.
-use Rattle.std.proofs.Common.{◌≡◌, ℕ, suc, ◌+◌, ◌-◌, ◌<◌, ◌≤◌, Bool, true, false, cond, not, ◌&&◌, ◌||◌, ◌⊎◌, inl, inr, List, [], ◌∷◌, length, get_or, slice_index_or, Option, Some, None, is_some, unwrap_or, option_map, position, refl, sym, ap, ◌∙◌, arith}
+use Rattle.std.proofs.Common.{◌≡◌, ℕ, suc, ◌+◌, ◌-◌, ◌<◌, ◌≤◌, Bool, true, false, cond, not, ◌⊎◌, inl, inr, List, [], ◌∷◌, length, get_or, slice_index_or, Option, Some, None, is_some, unwrap_or, option_map, position, refl, sym, ap, ◌∙◌, arith}
 use Rattle.std.specs.List.{position_or_len, list_any, list_all}
 use Rattle.std.proofs.lemmas.Bool.{both_ways, cond-true, lt-ltb, or_from, or_cases, and_parts}
 use Rattle.std.proofs.Math.Bool.{and-true}

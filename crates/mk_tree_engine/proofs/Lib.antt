@@ -2,6 +2,7 @@ pub mod Making
 pub mod Sums
 pub mod Collecting
 pub mod Steps
+pub mod Walking
 pub mod Families
 pub mod Marking
 pub mod Placed

@@ -1,15 +1,13 @@
 -- One message made: which marks are left, and what is right then.
-use Rattle.std.proofs.Common.{◌≡◌, ℕ, ◌+◌, ◌-◌, ◌*◌, ◌<◌, ◌≤◌, Bool, true, false, cond, not, ◌&&◌, ◌⊎◌, inl, inr, eqb, ltb, List, length, get_or, set, min, refl, sym, ap, subst, ◌∙◌, arith, eq-eqb, ne_eqb, length-set, get_or-set_same, get_or-set_other}
-use Rattle.std.proofs.Math.Bool.{and-true, and-false}
-use Rattle.std.proofs.lemmas.Bool.{cases_eq, cases_Bool, cond-true, cond-false, lt-ltb, le-ltb, and_cases, and_parts, both_ways, eqb-true, and_from}
+use Rattle.std.proofs.Common.{◌≡◌, ℕ, ◌+◌, ◌-◌, ◌*◌, ◌<◌, Bool, true, false, cond, not, ◌&&◌, ◌⊎◌, inl, inr, eqb, ltb, List, length, get_or, set, refl, sym, ap, subst, ◌∙◌, arith, eq-eqb, length-set, get_or-set_same, get_or-set_other}
+use Rattle.std.proofs.lemmas.Bool.{cases_eq, cases_Bool, cond-true, cond-false, lt-ltb, le-ltb, and_parts, both_ways, eqb-true, and_from}
 use Rattle.mk_sums.proofs.Hops as hops
 use Rattle.mk_table.specs.Tables.{TableOf}
 use Rattle.mk_tree.specs.Given as given
 use Rattle.mk_tree.specs.Given.{GivenTree, link_of}
-use Rattle.mk_propagate.specs.Shapes.{ShapeOf, IsShapeFor, IsClique, are_linked, clique_scope, separator_between}
-use Rattle.mk_propagate.specs.Placings.{Placing, placed_there, factors_in}
+use Rattle.mk_propagate.specs.Shapes.{ShapeOf, are_linked, separator_between}
+use Rattle.mk_propagate.specs.Placings.{Placing}
 use Rattle.mk_propagate.specs.Flows.{FlowOf, HasPlaced, HasCells, IsRight, AreRightBut, KeepsTables, counted_on, message_at, exact_message, exact_message_grade}
-use Rattle.mk_tree_engine.specs.Engines.{MarkedFlow, is_stale}
 use Rattle.mk_tree_engine.specs.inner.Marks.{marked, marked_stale, AreMarks, AreMarksOf, cleared_up, cleared_down}
 use Rattle.mk_tree_engine.specs.inner.Passes.{AreCurrent, IsMade, IsCount}
 

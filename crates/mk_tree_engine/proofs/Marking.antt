@@ -1,13 +1,16 @@
 -- What leads away from a clique is marked.
-use Rattle.std.proofs.Common.{◌≡◌, ℕ, ◌+◌, ◌-◌, ◌<◌, ◌≤◌, Bool, true, false, ◌&&◌, ◌||◌, ◌⊎◌, inl, inr, ltb, List, length, get_or, set, refl, sym, ap, subst, ◌∙◌, arith, length-set, get_or-set_other}
-use Rattle.std.proofs.Math.Bool.{or-true, or-false, and-false}
-use Rattle.std.proofs.lemmas.Bool.{cases_eq, cases_lt, lt-ltb, le-ltb, and_right}
+use Rattle.std.proofs.Common.{◌≡◌, ◌≢◌, ℕ, ◌+◌, ◌-◌, ◌<◌, ◌≤◌, Bool, true, false, cond, not, ◌&&◌, ◌||◌, ◌⊎◌, inl, inr, eqb, ltb, Option, Some, None, List, length, get_or, set, refl, sym, ap, subst, ◌∙◌, arith, eq-eqb, ne_eqb, length-set, get_or-set_other}
+use Rattle.std.specs.Option.{ForSome}
+use Rattle.std.proofs.Math.Bool.{or-true}
+use Rattle.std.proofs.lemmas.Bool.{cases_eq, cases_lt, lt-ltb, le-ltb, and_right, and_parts, eqb-true, not-true, both_ways}
 use Rattle.std.proofs.lemmas.Grind.{get_or-set_at}
 use Rattle.mk_sums.proofs.Hops as hops
+use Rattle.mk_sums.proofs.Stale as stale
 use Rattle.mk_tree.specs.Given as given
 use Rattle.mk_tree.specs.Given.{GivenTree, link_of}
-use Rattle.mk_propagate.specs.Shapes.{IsClique, are_linked, is_behind}
-use Rattle.mk_tree_engine.specs.inner.Marks.{marked_stale, AreMarks, AreMarkedUp, AreMarkedDown}
+use Rattle.mk_propagate.specs.Shapes.{IsClique, are_linked, is_behind, next_on_way}
+use Rattle.mk_tree_engine.specs.Engines.{leads_towards}
+use Rattle.mk_tree_engine.specs.inner.Marks.{marked_stale, AreMarks, AreMarkedUp, AreMarkedDown, AreCurrentTowards, kept_in}
 use Rattle.mk_tree_engine.proofs.Making.{read_up, read_down}
 
 -- the tests of the places before one more
@@ -41,32 +44,58 @@ module _ (f : ℕ → Bool) (old now : List Bool) (passed : ℕ) (long : length 
           each i l ∙ ap (λ b. get_or old i true || b) (and_right (ltb i passed) (f i) (ap f e ∙ h) ∙ sym (and_right (ltb i (passed + 1)) (f i) (ap f e ∙ h)))
       at (inr d) = others i l d
 
-module _ (tree : GivenTree) (clique passed : ℕ) (old now : List Bool) where
-  pub up_marked : AreMarkedUp tree clique passed old now → passed < length old → is_behind tree (passed + 2) (link_of tree (passed + 2)) clique ≡ true
-      → AreMarkedUp tree clique (passed + 1) old (set now passed true)
-  up_marked h l b = record {
-    long = length-set now passed true ∙ h.long;
-    each = more_marked (λ i. is_behind tree (i + 2) (link_of tree (i + 2)) clique) old now passed h.long h.each l b;
-  }
+-- of the two messages between a clique and its link one leads away
+module _ (tree : GivenTree) (links : given.AreLinked tree) (clique : ℕ) (at_c : IsClique tree clique) (k : ℕ) (later : 1 < k) (within : k ≤ length tree.cliques) where
+  child : hops.IsChild (link_of tree) (length tree.cliques) k (link_of tree k)
+  child = record { later = later; within = within; link_is = refl }
 
-  pub up_left : AreMarkedUp tree clique passed old now → is_behind tree (passed + 2) (link_of tree (passed + 2)) clique ≡ false → AreMarkedUp tree clique (passed + 1) old now
-  up_left h b = record {
-    long = h.long;
-    each = none_marked (λ i. is_behind tree (i + 2) (link_of tree (i + 2)) clique) old now passed h.long h.each b;
-  }
+  other_side : is_behind tree k (link_of tree k) clique ≡ not (is_behind tree (link_of tree k) k clique)
+  other_side = hops.side (link_of tree) (length tree.cliques) k (link_of tree k) clique links.earlier (inl child) at_c.first at_c.last
 
-  pub down_marked : AreMarkedDown tree clique passed old now → passed < length old → is_behind tree (link_of tree (passed + 2)) (passed + 2) clique ≡ true
-      → AreMarkedDown tree clique (passed + 1) old (set now passed true)
-  down_marked h l b = record {
-    long = length-set now passed true ∙ h.long;
-    each = more_marked (λ i. is_behind tree (link_of tree (i + 2)) (i + 2) clique) old now passed h.long h.each l b;
-  }
+  pub links_away : (k ≡ clique → ⊥) → next_on_way tree k clique < k → (is_behind tree (link_of tree k) k clique ≡ true) × (is_behind tree k (link_of tree k) clique ≡ false)
+  links_away d l =
+      let e = at (hops.hop_linked (link_of tree) (length tree.cliques) k clique links.earlier (omega arith) within at_c.first at_c.last (λ f. d (sym f))) in
+      let b = hops.behind_from (link_of tree) (length tree.cliques) (link_of tree k) k clique (λ f. d (sym f)) e in
+      (b, other_side ∙ ap not b)
+    where
+      at : hops.AreLinked (link_of tree) (length tree.cliques) (next_on_way tree k clique) k → next_on_way tree k clique ≡ link_of tree k
+      at (inl p) = let q = links.earlier (next_on_way tree k clique) p.later p.within in absurd (omega (arith, q.1, p.link_is, l))
+      at (inr p) = sym p.link_is
 
-  pub down_left : AreMarkedDown tree clique passed old now → is_behind tree (link_of tree (passed + 2)) (passed + 2) clique ≡ false → AreMarkedDown tree clique (passed + 1) old now
-  down_left h b = record {
-    long = h.long;
-    each = none_marked (λ i. is_behind tree (link_of tree (i + 2)) (i + 2) clique) old now passed h.long h.each b;
-  }
+  pub own_away : ((k ≡ clique → ⊥) → k ≤ next_on_way tree k clique) → (is_behind tree (link_of tree k) k clique ≡ false) × (is_behind tree k (link_of tree k) clique ≡ true)
+  own_away h = let b = at (cases_eq k clique) in (b, other_side ∙ ap not b)
+    where
+      at : ((k ≡ clique) ⊎ (k ≡ clique → ⊥)) → is_behind tree (link_of tree k) k clique ≡ false
+      at (inl e) = hops.behind_itself (link_of tree) (length tree.cliques) (link_of tree k) k clique (sym e)
+      at (inr d) =
+          let q = links.earlier k later within in let l = h d in
+          hops.behind_other (link_of tree) (length tree.cliques) (link_of tree k) k clique (λ e. omega (arith, q.1, l, e))
+
+-- one turn
+module _ (tree : GivenTree) (links : given.AreLinked tree) (clique : ℕ) (at_c : IsClique tree clique) (passed : ℕ) (fits : passed < length tree.cliques - 1)
+    (up down ups downs : List Bool) (marks : AreMarks (length tree.cliques) up down) (marked_up : AreMarkedUp tree clique passed up ups) (marked_down : AreMarkedDown tree clique passed down downs) where
+  pub turn_up : (next : ℕ) → (passed + 2 ≢ clique → next ≡ next_on_way tree (passed + 2) clique) → (passed + 2 ≡ clique → ⊥) → next < passed + 2
+      → AreMarkedUp tree clique (passed + 1) up ups × AreMarkedDown tree clique (passed + 1) down (set downs passed true)
+  turn_up next is d l =
+      let e = is d in
+      let b = links_away tree links clique at_c (passed + 2) (omega arith) (omega arith) d (omega (arith, e)) in (
+        record { long = marked_up.long; each = none_marked (λ i. is_behind tree (i + 2) (link_of tree (i + 2)) clique) up ups passed marked_up.long marked_up.each b.1 },
+        record {
+          long = length-set downs passed true ∙ marked_down.long;
+          each = more_marked (λ i. is_behind tree (link_of tree (i + 2)) (i + 2) clique) down downs passed marked_down.long marked_down.each (omega (arith, marks.one_less_down)) b.0;
+        },
+      )
+
+  pub turn_down : (next : ℕ) → (passed + 2 ≢ clique → next ≡ next_on_way tree (passed + 2) clique) → ((passed + 2 ≡ clique → ⊥) → passed + 2 ≤ next)
+      → AreMarkedUp tree clique (passed + 1) up (set ups passed true) × AreMarkedDown tree clique (passed + 1) down downs
+  turn_down next is h =
+      let b = own_away tree links clique at_c (passed + 2) (omega arith) (omega arith) (λ d. let e = is d in let l = h d in omega (arith, e, l)) in (
+        record {
+          long = length-set ups passed true ∙ marked_up.long;
+          each = more_marked (λ i. is_behind tree (i + 2) (link_of tree (i + 2)) clique) up ups passed marked_up.long marked_up.each (omega (arith, marks.one_less_up)) b.1;
+        },
+        record { long = marked_down.long; each = none_marked (λ i. is_behind tree (link_of tree (i + 2)) (i + 2) clique) down downs passed marked_down.long marked_down.each b.0 },
+      )
 
 -- both ways: exactly what leads away is marked as well
 module _ (tree : GivenTree) (links : given.AreLinked tree) (clique : ℕ) (up down ups downs : List Bool) (marks : AreMarks (length tree.cliques) up down)
@@ -99,3 +128,30 @@ module _ (tree : GivenTree) (links : given.AreLinked tree) (clique : ℕ) (up do
 
   pub marks_kept : AreMarks (length tree.cliques) ups downs
   marks_kept = record { one_less_up = omega (arith, marked_up.long, marks.one_less_up); one_less_down = omega (arith, marked_down.long, marks.one_less_down) }
+
+-- what leads towards the clique stays current
+module _ (tree : GivenTree) (links : given.AreLinked tree) (clique : ℕ) (up down ups downs : List Bool)
+    (away : (a b : ℕ) → are_linked tree a b ≡ true → marked_stale ups downs a b ≡ (marked_stale up down a b || is_behind tree a b clique)) where
+  still_current : AreCurrentTowards tree up down clique → AreCurrentTowards tree ups downs clique
+  still_current h = record { clique_is = h.clique_is; current = λ a b l t. away a b l ∙ ap (λ x. x || is_behind tree a b clique) (h.current a b l t) ∙ ahead a b l t }
+    where
+      ahead : (a b : ℕ) → are_linked tree a b ≡ true → leads_towards tree clique a b ≡ true → is_behind tree a b clique ≡ false
+      ahead a b l t =
+          let p = and_parts (not (eqb a clique)) (eqb (next_on_way tree a clique) b) t in
+          let n = hops.ends (link_of tree) (length tree.cliques) a b links.earlier (hops.are_linked (link_of tree) (length tree.cliques) a b l) in
+          ap (λ x. is_behind tree a x clique) (sym (eqb-true (next_on_way tree a clique) b p.1))
+          ∙ (stale.leads_towards (link_of tree) (length tree.cliques) links.earlier clique a h.clique_is.first h.clique_is.last n.0 n.1
+          (λ e. both_ways (eqb a clique) (not-true (eqb a clique) p.0) (eq-eqb a clique e))).1
+
+  pub kept_current : (collected : Option ℕ) → ForSome collected (AreCurrentTowards tree up down) → (x : ℕ) → kept_in collected clique ≡ Some x → AreCurrentTowards tree ups downs x
+  kept_current None h x e = absurd cc
+  kept_current (Some c) h x e = at (cases_eq c clique)
+    where
+      at : ((c ≡ clique) ⊎ (c ≡ clique → ⊥)) → AreCurrentTowards tree ups downs x
+      at (inl f) =
+          let g : Some c ≡ Some x = sym (ap (λ t. cond t (Some c) None) (eq-eqb c clique f)) ∙ e in
+          let i : clique ≡ x = cc in
+          subst (AreCurrentTowards tree ups downs) i (still_current (subst (AreCurrentTowards tree up down) f (h c refl)))
+      at (inr d) =
+          let g : None ≡ Some x = sym (ap (λ t. cond t (Some c) None) (ne_eqb c clique d)) ∙ e in
+          absurd cc

@@ -1,12 +1,12 @@
 -- How many messages a belief makes.
-use Rattle.std.proofs.Common.{◌≡◌, ℕ, suc, zero, ◌+◌, ◌-◌, ◌≤◌, Bool, true, false, cond, not, ◌&&◌, ◌||◌, eqb, length, refl, sym, ap, subst, ◌∙◌, arith}
+use Rattle.std.proofs.Common.{◌≡◌, ℕ, suc, zero, ◌≤◌, Bool, true, false, cond, not, ◌&&◌, ◌||◌, eqb, length, refl, ap, ◌∙◌, arith}
 use Rattle.std.proofs.lemmas.Bool.{not-true, both_ways, eq-eqb}
-use Rattle.mk_sums.specs.Trees.{sum_of, way, passes}
+use Rattle.mk_sums.specs.Trees.{sum_of}
 use Rattle.mk_sums.proofs.Stale as stale
 use Rattle.mk_sums.proofs.Ways as ways
-use Rattle.mk_tree.specs.Given.{GivenTree, link_of, AreLinked}
-use Rattle.mk_propagate.specs.Shapes.{ShapeOf, IsClique, are_linked, next_on_way, is_behind}
-use Rattle.mk_tree_engine.specs.Engines.{MarkedFlow, is_stale, stale_number, MarksAway}
+use Rattle.mk_tree.specs.Given.{link_of}
+use Rattle.mk_propagate.specs.Shapes.{ShapeOf, next_on_way, is_behind}
+use Rattle.mk_tree_engine.specs.Engines.{is_stale}
 use Rattle.mk_tree_engine.specs.Laws.{OnePerSeparator, StaleBetween}
 use Rattle.mk_tree_engine.proofs.Sums.{sum_same, ones_but, zero_each}
 

@@ -1,17 +1,17 @@
 -- One thing more is placed, and what leads away from it is marked.
-use Rattle.std.proofs.Common.{◌≡◌, ℕ, ◌+◌, ◌-◌, ◌<◌, ◌≤◌, Bool, true, false, ◌||◌, List, [], ◌∷◌, ◌++◌, map, length, refl, sym, ap, subst, ◌∙◌, arith}
+use Rattle.std.proofs.Common.{◌≡◌, ℕ, ◌-◌, ◌<◌, Bool, true, Option, List, [], ◌∷◌, ◌++◌, map, length, sym, ap, subst, ◌∙◌, arith}
+use Rattle.std.specs.Option.{ForSome}
 use Rattle.std.proofs.lemmas.Bool.{or_parts}
 use Rattle.std.proofs.lemmas.List.{map-append, length-map}
 use Rattle.mk_net.specs.declared.words.Pair.{Pair}
-use Rattle.mk_net.specs.Network.{Variable}
 use Rattle.mk_tree.specs.Given.{GivenTree}
-use Rattle.mk_engine.specs.Meaning.{Meaning, Factor, RowsOf, RatioOf, with_factor, with_known, max_factors}
-use Rattle.mk_propagate.specs.Shapes.{ShapeOf, IsClique, are_linked, is_behind}
-use Rattle.mk_propagate.specs.Placings.{Placing, PlacedFactor, PlacedPair, IsPlacedFactor, with_factor_in, with_pair_in}
+use Rattle.mk_engine.specs.Meaning.{Meaning, Factor, with_factor, with_known, max_factors}
+use Rattle.mk_propagate.specs.Shapes.{ShapeOf, are_linked, is_behind}
+use Rattle.mk_propagate.specs.Placings.{Placing, PlacedFactor, PlacedPair, with_factor_in, with_pair_in}
 use Rattle.mk_propagate.specs.Flows.{FlowOf, HasPlaced, IsRight, CanPlace, Places}
 use Rattle.mk_tree_engine.specs.Engines.{MarkedFlow, HasTree, MarksAway, is_stale, placing_of, factor_home, pair_home}
-use Rattle.mk_tree_engine.specs.inner.Marks.{marked, AreMarksOf, AreMarkedUp, AreMarkedDown}
-use Rattle.mk_tree_engine.proofs.Marking.{marks_away, marks_kept}
+use Rattle.mk_tree_engine.specs.inner.Marks.{marked, AreMarksOf, AreMarkedUp, AreMarkedDown, AreCurrentTowards, IsMarked, kept_in}
+use Rattle.mk_tree_engine.proofs.Marking.{marks_away, marks_kept, kept_current}
 
 pub factor_placed : (m : Meaning) (f : Factor) (clique : ℕ) → clique ≡ factor_home m.network m.tree f → with_factor_in clique f (placing_of m) ≡ placing_of (with_factor f m)
 factor_placed m f clique e =
@@ -58,10 +58,14 @@ module _ (old new : FlowOf) (up down ups downs : List Bool) (clique : ℕ) (shap
   pub away : MarksAway (marked old up down) (marked new ups downs) clique
   away = λ a b l. marks_away old.shape.tree marks_of.linked clique up down ups downs marks_of.marks up_old down_old a b l
 
-  pub marks_of_after : new.shape ≡ old.shape → AreMarksOf new.shape.tree ups downs
-  marks_of_after e =
-      subst (λ (s : ShapeOf). AreMarksOf s.tree ups downs) (sym e)
-      (record { linked = marks_of.linked; marks = marks_kept old.shape.tree marks_of.linked clique up down ups downs marks_of.marks up_old down_old })
+  -- the clique that is kept, if any
+  pub is_marked_after : new.shape ≡ old.shape → (collected kept : Option ℕ) → ForSome collected (AreCurrentTowards old.shape.tree up down) → kept ≡ kept_in collected clique
+      → IsMarked new.shape.tree ups downs kept
+  is_marked_after e collected kept current k =
+      subst (λ (s : ShapeOf). IsMarked s.tree ups downs kept) (sym e) (record {
+        marks_of = record { linked = marks_of.linked; marks = marks_kept old.shape.tree marks_of.linked clique up down ups downs marks_of.marks up_old down_old };
+        current = λ x f. kept_current old.shape.tree marks_of.linked clique up down ups downs away collected current x (sym k ∙ f);
+      })
 
 pub away_now : (old now new : MarkedFlow) (clique home : ℕ) → old ≡ now → clique ≡ home → MarksAway old new clique → MarksAway now new home
 away_now old now new clique home view e h =

@@ -1,18 +1,16 @@
 -- One turn of each pass.
-use Rattle.std.proofs.Common.{◌≡◌, ℕ, ◌+◌, ◌-◌, ◌<◌, ◌≤◌, Bool, true, false, not, ◌&&◌, ◌||◌, eqb, ltb, length, refl, sym, ap, subst, ◌∙◌, arith, ne_eqb}
-use Rattle.std.proofs.lemmas.Bool.{and_parts, le-ltb, lt-ltb, eqb-true, ltb-true, not-true, both_ways, eq-eqb}
+use Rattle.std.proofs.Common.{◌≡◌, ℕ, ◌+◌, ◌-◌, ◌<◌, Bool, true, false, not, ◌&&◌, ◌||◌, eqb, ltb, length, refl, sym, ap, subst, ◌∙◌, arith}
+use Rattle.std.proofs.lemmas.Bool.{le-ltb, both_ways}
 use Rattle.mk_sums.specs.Trees.{linked_but}
 use Rattle.mk_sums.proofs.Stale as stale
-use Rattle.mk_tree.specs.Given as given
-use Rattle.mk_tree.specs.Given.{GivenTree, link_of}
+use Rattle.mk_tree.specs.Given.{link_of}
 use Rattle.mk_propagate.specs.Shapes.{ShapeOf, IsClique, are_linked, next_on_way}
-use Rattle.mk_propagate.specs.Placings.{Placing}
-use Rattle.mk_propagate.specs.Flows.{FlowOf, HasPlaced, CanSend}
-use Rattle.mk_tree_engine.specs.Engines.{MarkedFlow, is_stale, leads_towards}
+use Rattle.mk_propagate.specs.Flows.{CanSend}
+use Rattle.mk_tree_engine.specs.Engines.{MarkedFlow}
 use Rattle.mk_tree_engine.specs.inner.Marks.{AreMarksOf}
 use Rattle.mk_tree_engine.specs.inner.Passes.{IsMade, AreCollected, CanCollect, goes_up, goes_down, passed_up, passed_down}
 use Rattle.mk_tree_engine.proofs.Making.{placed_kept}
-use Rattle.mk_tree_engine.proofs.Collecting.{collected_none, collected_same, collected_more, inputs_right, inputs_up, inputs_down, up_parts, down_parts, up_more, up_same, down_more, down_same, down_begins, not_up}
+use Rattle.mk_tree_engine.proofs.Collecting.{collected_none, collected_same, collected_more, inputs_right, inputs_up, inputs_down, up_parts, down_parts, up_more, up_same, down_more, down_same, down_begins, not_up, all_passed}
 
 none_of : (b : Bool) → b ≡ false → (t : Bool) → (b && t) ≡ false
 none_of true e t = absurd (both_ways true e refl)
@@ -26,7 +24,7 @@ module _ (plus : ℕ → ℕ → ℕ) (c : ℕ) (old : MarkedFlow) (could : CanC
 
   module _ (mid : MarkedFlow) (k : ℕ) (at_k : IsClique old.flow.shape.tree k) where
     -- a clique's message can be made once what it is made of is done
-    sends : (done : ℕ → Bool) → AreCollected plus c done old mid → (k ≡ c → ⊥)
+    pub sends : (done : ℕ → Bool) → AreCollected plus c done old mid → (k ≡ c → ⊥)
         → ((i : ℕ) → linked_but (link_of old.flow.shape.tree) (length old.flow.shape.tree.cliques) k (next_on_way old.flow.shape.tree k c) i ≡ true → done i ≡ true)
         → CanSend plus mid.flow k (next_on_way mid.flow.shape.tree k c)
     sends done is apart inputs =
@@ -145,3 +143,12 @@ module _ (plus : ℕ → ℕ → ℕ) (c : ℕ) (old first : MarkedFlow) (could 
 
     pub turn_k : IsClique mid.flow.shape.tree (passed + 1)
     turn_k = subst (λ (s : ShapeOf). IsClique s.tree (passed + 1)) (sym is.kept.same_shape) at_k
+
+-- ---- both passes
+
+pub both_passed : (plus : ℕ → ℕ → ℕ) (c : ℕ) (old new : MarkedFlow) (could : CanCollect plus old c) (mid : ShapeOf) → mid ≡ old.flow.shape
+    → AreCollected plus c (passed_down mid.tree c (length mid.tree.cliques)) old new → AreCollected plus c (λ k. not (eqb k c)) old new
+both_passed plus c old new could mid same is =
+    collected_same plus c old new (passed_down old.flow.shape.tree c (length old.flow.shape.tree.cliques)) (λ k. not (eqb k c))
+    (subst (λ (s : ShapeOf). AreCollected plus c (passed_down s.tree c (length s.tree.cliques)) old new) same is)
+    (λ j p q. sym (all_passed old.flow.shape.tree could.marks_of.linked c could.clique_is j p q))

@@ -24,13 +24,17 @@ sum_same s (suc n) v w h =
     at true k = k refl
     at false k = refl
 
--- over none
-pub sum_none : (s : ℕ → Bool) (m : ℕ) (w : ℕ → ℕ) → ((j : ℕ) → 1 ≤ j → j ≤ m → s j ≡ false) → sum_of s m w ≡ 0
-sum_none s zero w h = refl
-sum_none s (suc n) w h =
-    let ih = sum_none s n w (λ j p q. h j p (omega arith)) in
-    let e = ap {B = ℕ} (λ b. cond b (w (suc n)) 0) (h (suc n) (omega arith) (omega arith)) in
+-- of numbers that are 0 on the set
+pub sum_zero : (s : ℕ → Bool) (m : ℕ) (w : ℕ → ℕ) → ((j : ℕ) → 1 ≤ j → j ≤ m → s j ≡ true → w j ≡ 0) → sum_of s m w ≡ 0
+sum_zero s zero w h = refl
+sum_zero s (suc n) w h =
+    let ih = sum_zero s n w (λ j p q. h j p (omega arith)) in
+    let e = at (s (suc n)) (h (suc n) (omega arith) (omega arith)) in
     omega (arith, ih, e)
+  where
+    at : (b : Bool) → (b ≡ true → w (suc n) ≡ 0) → cond b (w (suc n)) 0 ≡ 0
+    at true k = k refl
+    at false k = refl
 
 -- over one clique more
 pub sum_more : (s t : ℕ → Bool) (m k : ℕ) (w : ℕ → ℕ) → 1 ≤ k → k ≤ m → s k ≡ false → ((j : ℕ) → 1 ≤ j → j ≤ m → t j ≡ (s j || eqb j k)) → sum_of t m w ≡ sum_of s m w + w k

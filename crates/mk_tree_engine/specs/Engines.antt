@@ -9,7 +9,7 @@ use Rattle.mk_tree.specs.Given.{GivenTree, home}
 use Rattle.mk_tree.specs.Tests.{holds_family}
 use Rattle.mk_engine.specs.Meaning.{Meaning, Factor, RowsOf, RatioOf}
 use Rattle.mk_propagate.specs.Shapes.{ShapeOf, IsShapeFor, are_linked, next_on_way, is_behind}
-use Rattle.mk_propagate.specs.Placings.{Placing, PlacedFactor, PlacedPair}
+use Rattle.mk_propagate.specs.Placings.{Placing}
 use Rattle.mk_propagate.specs.Flows.{FlowOf, HasPlaced, IsRight}
 
 -- upward are the marks of the messages of the cliques from 2 on to their links, and downward those of the links to them

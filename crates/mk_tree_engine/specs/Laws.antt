@@ -1,9 +1,9 @@
 -- How many messages a belief makes.
-use Rattle.std.specs.Prelude.{◌≡◌, ℕ, ◌-◌, ◌≤◌, length, true, false}
+use Rattle.std.specs.Prelude.{◌≡◌, ℕ, ◌-◌, ◌≤◌, length}
 use Rattle.mk_sums.specs.Trees.{way}
 use Rattle.mk_tree.specs.Given.{link_of, AreLinked}
-use Rattle.mk_propagate.specs.Shapes.{IsClique, are_linked}
-use Rattle.mk_tree_engine.specs.Engines.{MarkedFlow, is_stale, stale_number, leads_towards, MarksAway}
+use Rattle.mk_propagate.specs.Shapes.{IsClique}
+use Rattle.mk_tree_engine.specs.Engines.{MarkedFlow, stale_number, MarksAway}
 
 -- a belief makes at most one message for each separator
 abbrev pub OnePerSeparator : Type 0

@@ -14,7 +14,7 @@ ghost use Rattle.mk_tree_engine.specs.Engines.{HasTree, IsPlanFor, MarksAway, Cl
 
 use crate::homes::{event_home, family_home};
 use crate::marks::Marks;
-use crate::passes::{collect_down, collect_up, count_stale};
+use crate::passes::{collect, count_stale};
 use mk_engine::Engine;
 use mk_net::{Event, Network, NoMemory, Pair, Ratio};
 use mk_propagate::{Flow, Shape};
@@ -35,13 +35,13 @@ pub struct TreeEngine<R: Semiring> {
 
 impl<R: Semiring> Model for TreeEngine<R> {
     ghost use Rattle.mk_tree_engine.specs.Engines.{MarkedFlow};
-    ghost use Rattle.mk_tree_engine.specs.inner.Marks.{AreMarksOf};
+    ghost use Rattle.mk_tree_engine.specs.inner.Marks.{IsMarked};
 
     ghost Value = { MarkedFlow };
 
     ghost view = { λ e. record { flow = e.flow; stale_up = e.marks.up.items; stale_down = e.marks.down.items } };
 
-    ghost invariant = { λ e. AreMarksOf e.flow.shape.tree e.marks.up.items e.marks.down.items };
+    ghost invariant = { λ e. IsMarked e.flow.shape.tree e.marks.up.items e.marks.down.items e.marks.collected };
 }
 
 impl<R: Semiring> TreeEngine<R> {
@@ -146,8 +146,7 @@ impl<R: Semiring> Engine<R> for TreeEngine<R> {
     {
         let clique = event_home(self.flow.shape().tree(), event);
         let _ = self.flow.computed();
-        collect_up(&mut self.flow, &mut self.marks, clique);
-        collect_down(&mut self.flow, &mut self.marks, clique);
+        collect(&mut self.flow, &mut self.marks, clique);
         self.flow.read(clique, event)
     }
 

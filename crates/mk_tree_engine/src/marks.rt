@@ -1,31 +1,34 @@
 //! Marks of the messages that are stale.
 
-ghost use Rattle.std.specs.Prelude.{◌≡◌, ◌≢◌, ℕ, ◌+◌, ◌-◌, ◌<◌, ◌≤◌, length, IfOk};
-ghost use Rattle.mk_tree.specs.Given.{link_of};
-ghost use Rattle.mk_propagate.specs.Shapes.{IsClique, is_behind};
-ghost use Rattle.mk_tree_engine.specs.inner.Marks.{marked_stale, AreMarks, AreAllStale, AreMarkedUp, AreMarkedDown, cleared_up, cleared_down};
+ghost use Rattle.std.specs.Prelude.{◌≡◌, ◌≢◌, ℕ, ◌+◌, ◌-◌, ◌<◌, ◌≤◌, length, None, IfOk};
+ghost use Rattle.mk_propagate.specs.Shapes.{IsClique};
+ghost use Rattle.mk_tree_engine.specs.inner.Marks.{marked_stale, AreMarks, AreAllStale, AreMarkedUp, AreMarkedDown, cleared_up, cleared_down, kept_in};
 
 use mk_net::NoMemory;
 use mk_propagate::Shape;
 use std::alloc::Global;
 
-/// Whether each message is stale: those of the cliques from 2 on to their links, and those of the links to them.
+/// Whether each message is stale: those of the cliques from 2 on to their links, and those of the links to them. Beside them a
+/// clique is kept towards which no message is stale, where one is known.
 #[derive(Drop)]
 pub(crate) struct Marks {
     pub(crate) up: Vec<bool>,
     pub(crate) down: Vec<bool>,
+    pub(crate) collected: Option<u32>,
 }
 
 impl Marks {
     /// All messages are stale.
     pub(crate) fn all_stale(alloc: Global, cliques: u32) -> Result<Marks, NoMemory>
         requires { 1 ≤ cliques }
-        ensures { IfOk result (λ marks. AreAllStale cliques marks.up.items marks.down.items) }
+        ensures stale { IfOk result (λ marks. AreAllStale cliques marks.up.items marks.down.items) }
+        ensures collected { IfOk result (λ marks. marks.collected ≡ None) }
     {
         let count = cliques as usize - 1;
         Ok(Marks {
             up: vec![in alloc; true; count]?,
             down: vec![in alloc; true; count]?,
+            collected: None,
         })
     }
 
@@ -62,66 +65,36 @@ impl Marks {
         }
     }
 
-    /// The messages that lead away from a clique are stale.
+    /// The messages that lead away from a clique are stale, and no other clique is kept.
     pub(crate) fn mark_away(&mut self, shape: &Shape, clique: u32)
         requires clique { IsClique shape.now.tree clique }
         requires marks { AreMarks (length shape.now.tree.cliques) self.old.up.items self.old.down.items }
         ensures up { AreMarkedUp shape.now.tree clique (length shape.now.tree.cliques - 1) self.old.up.items self.new.up.items }
         ensures down { AreMarkedDown shape.now.tree clique (length shape.now.tree.cliques - 1) self.old.down.items self.new.down.items }
+        ensures collected { self.new.collected ≡ kept_in self.old.collected clique }
     {
-        mark_up(&mut self.up, shape, clique);
-        mark_down(&mut self.down, shape, clique);
+        mark_each(&mut self.up, &mut self.down, shape, clique);
+        if self.collected != Some(clique) {
+            self.collected = None;
+        }
     }
 }
 
-/// Marks the messages of cliques to their links, on whose senders' sides the clique lies.
-fn mark_up(up: &mut Vec<bool>, shape: &Shape, clique: u32)
+/// Of the two messages between each clique, from 2 on, and its link, marks the one that leads away from a clique: the link's, where
+/// the way to that clique begins upward, and the clique's own elsewhere.
+fn mark_each(up: &mut Vec<bool>, down: &mut Vec<bool>, shape: &Shape, clique: u32)
     requires clique { IsClique shape.now.tree clique }
-    requires one_less { length up.old.items + 1 ≡ length shape.now.tree.cliques }
-    ensures { AreMarkedUp shape.now.tree clique (length shape.now.tree.cliques - 1) up.old.items up.new.items }
+    requires marks { AreMarks (length shape.now.tree.cliques) up.old.items down.old.items }
+    ensures up { AreMarkedUp shape.now.tree clique (length shape.now.tree.cliques - 1) up.old.items up.new.items }
+    ensures down { AreMarkedDown shape.now.tree clique (length shape.now.tree.cliques - 1) down.old.items down.new.items }
 {
+    let ways = shape.ways_to(clique);
     for passed in 0..shape.cliques() - 1 {
         let k = passed + 2;
-        if is_behind(shape, k, link(shape, k), clique) {
+        if k != clique && ways[k as usize - 1] < k {
+            down[passed as usize] = true;
+        } else {
             up[passed as usize] = true;
         }
     }
-}
-
-/// Marks the messages of links to the cliques below, on whose senders' sides the clique lies.
-fn mark_down(down: &mut Vec<bool>, shape: &Shape, clique: u32)
-    requires clique { IsClique shape.now.tree clique }
-    requires one_less { length down.old.items + 1 ≡ length shape.now.tree.cliques }
-    ensures { AreMarkedDown shape.now.tree clique (length shape.now.tree.cliques - 1) down.old.items down.new.items }
-{
-    for passed in 0..shape.cliques() - 1 {
-        let k = passed + 2;
-        if is_behind(shape, link(shape, k), k, clique) {
-            down[passed as usize] = true;
-        }
-    }
-}
-
-/// The link of a clique, from 2 on.
-fn link(shape: &Shape, k: u32) -> u32
-    requires clique { IsClique shape.now.tree k }
-    requires linked { 1 < k }
-    ensures link { result ≡ link_of shape.now.tree k }
-    ensures clique { IsClique shape.now.tree result }
-    ensures earlier { result < k }
-{
-    let _ = shape.cliques();
-    let Some(link) = shape.tree().link(k) else {
-        unreachable!()
-    };
-    link
-}
-
-/// Whether a clique lies on the sender's side of a message.
-fn is_behind(shape: &Shape, from: u32, to: u32, clique: u32) -> bool
-    requires to { IsClique shape.now.tree to }
-    requires clique { IsClique shape.now.tree clique }
-    ensures { result ≡ is_behind shape.now.tree from to clique }
-{
-    clique != to && shape.next(to, clique) == from
 }

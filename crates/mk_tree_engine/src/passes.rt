@@ -1,19 +1,61 @@
 //! Messages towards a clique.
 
-ghost use Rattle.std.specs.Prelude.{◌≡◌, ◌≢◌, ℕ, ◌+◌, ◌<◌, ◌≤◌, ◌&&◌, ◌==◌, not, length, true};
+ghost use Rattle.std.specs.Prelude.{◌≡◌, ◌≢◌, ℕ, ◌+◌, ◌<◌, ◌≤◌, ◌&&◌, ◌==◌, not, length, true, Some};
+ghost use Rattle.std.specs.Option.{ForSome};
 ghost use Rattle.mk_propagate.specs.Shapes.{IsClique, next_on_way};
 ghost use Rattle.mk_propagate.specs.Flows.{CanSend};
 ghost use Rattle.mk_tree_engine.specs.Engines.{MarkedFlow};
-ghost use Rattle.mk_tree_engine.specs.inner.Marks.{marked, marked_stale, AreMarksOf, stale_marks};
+ghost use Rattle.mk_tree_engine.specs.inner.Marks.{marked, marked_stale, AreMarksOf, AreCurrentTowards, stale_marks};
 ghost use Rattle.mk_tree_engine.specs.inner.Passes.{goes_up, goes_down, passed_up, passed_down, AreCollected, CanCollect, CanCollectDown, IsMade};
 
 use crate::marks::Marks;
 use mk_propagate::{Flow, Shape};
 use mk_semiring::Semiring;
 
+/// Makes the stale messages that lead towards a clique. Where none towards some other clique is stale, only those on the way from
+/// there can be.
+pub(crate) fn collect<R: Semiring>(flow: &mut Flow<R>, marks: &mut Marks, clique: u32)
+    requires could { CanCollect R.plus_of (marked flow.old marks.old.up.items marks.old.down.items) clique }
+    requires current { ForSome marks.old.collected (AreCurrentTowards flow.old.shape.tree marks.old.up.items marks.old.down.items) }
+    ensures made { AreCollected R.plus_of clique (λ k. not (k == clique))
+        (marked flow.old marks.old.up.items marks.old.down.items) (marked flow.new marks.new.up.items marks.new.down.items) }
+    ensures collected { marks.new.collected ≡ Some clique }
+{
+    match marks.collected {
+        Some(last) => collect_from(flow, marks, last, clique),
+        None => collect_all(flow, marks, clique),
+    }
+    marks.collected = Some(clique);
+}
+
+/// Makes the stale messages on the way from a clique to another, where no message towards the one is stale: each other message
+/// towards the other leads towards the one as well.
+fn collect_from<R: Semiring>(flow: &mut Flow<R>, marks: &mut Marks, from: u32, clique: u32)
+    requires could { CanCollect R.plus_of (marked flow.old marks.old.up.items marks.old.down.items) clique }
+    requires current { AreCurrentTowards flow.old.shape.tree marks.old.up.items marks.old.down.items from }
+    ensures { AreCollected R.plus_of clique (λ k. not (k == clique))
+        (marked flow.old marks.old.up.items marks.old.down.items) (marked flow.new marks.new.up.items marks.new.down.items) }
+{
+    let mut k = from;
+    while k != clique {
+        make_towards(flow, marks, k, clique);
+        k = flow.shape().next(k, clique);
+    }
+}
+
+/// Makes the stale messages towards a clique wherever they are: those that lead to links, and then those from links.
+fn collect_all<R: Semiring>(flow: &mut Flow<R>, marks: &mut Marks, clique: u32)
+    requires { CanCollect R.plus_of (marked flow.old marks.old.up.items marks.old.down.items) clique }
+    ensures { AreCollected R.plus_of clique (λ k. not (k == clique))
+        (marked flow.old marks.old.up.items marks.old.down.items) (marked flow.new marks.new.up.items marks.new.down.items) }
+{
+    collect_up(flow, marks, clique);
+    collect_down(flow, marks, clique);
+}
+
 /// Makes the stale messages on ways to a clique that lead to links, from the last clique on: each is made after those that it
 /// is made of, which come from later cliques.
-pub(crate) fn collect_up<R: Semiring>(flow: &mut Flow<R>, marks: &mut Marks, clique: u32)
+fn collect_up<R: Semiring>(flow: &mut Flow<R>, marks: &mut Marks, clique: u32)
     requires { CanCollect R.plus_of (marked flow.old marks.old.up.items marks.old.down.items) clique }
     ensures { AreCollected R.plus_of clique (passed_up flow.old.shape.tree clique 0)
         (marked flow.old marks.old.up.items marks.old.down.items) (marked flow.new marks.new.up.items marks.new.down.items) }
@@ -29,7 +71,7 @@ pub(crate) fn collect_up<R: Semiring>(flow: &mut Flow<R>, marks: &mut Marks, cli
 
 /// Makes those that lead from links, from the first clique on: what they are made of was made upward, or comes from earlier
 /// cliques.
-pub(crate) fn collect_down<R: Semiring>(flow: &mut Flow<R>, marks: &mut Marks, clique: u32)
+fn collect_down<R: Semiring>(flow: &mut Flow<R>, marks: &mut Marks, clique: u32)
     requires { CanCollectDown R.plus_of (marked flow.old marks.old.up.items marks.old.down.items) clique }
     ensures { (old : MarkedFlow) → CanCollect R.plus_of old clique
         → AreCollected R.plus_of clique (passed_up flow.old.shape.tree clique 0) old (marked flow.old marks.old.up.items marks.old.down.items)

@@ -13,7 +13,7 @@ pub one_parent : (network : List Variable) → IsNetwork network → 1 < length 
 one_parent network net h scope s =
     All-weaker (λ p. p < 1) (HasSized network scope) (λ p q. let e : 0 ≡ p = omega arith in subst (HasSized network scope) e s) (variable_at network 1).parents (net.each 1 nobody h).parents_earlier
 
-pub room_of : (t : TableOf) (f : ℕ → ℕ) (n more : ℕ) → HasNumbers t f n → n + more < 2 ^ 19 → t.shift < 2 ^ 25 → HasRoom t more
+pub room_of : (t : TableOf) (f : ℕ → ℕ) (n more : ℕ) → HasNumbers t f n → n + more < 2 ^ 19 → t.shift < 2 ^ 24 → HasRoom t more
 room_of t f n more h l m = record { numbers = f; steps = n; has = h; few_steps = l; small_shift = m }
 
 -- a scope of one variable lies in another that has it

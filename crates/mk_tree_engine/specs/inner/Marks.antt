@@ -1,10 +1,11 @@
 -- Marks of stale messages: of those upward, and of those downward, each for the cliques from 2 on.
-use Rattle.std.specs.Prelude.{◌≡◌, ℕ, ◌+◌, ◌-◌, ◌<◌, ◌≤◌, List, length, Bool, true, false, not, ◌&&◌, ◌||◌, ◌==◌, nat_lt, if◌then◌else◌, slice_index_or, slice_set}
+use Rattle.std.specs.Prelude.{◌≡◌, ℕ, ◌+◌, ◌-◌, ◌<◌, List, length, Bool, true, false, not, ◌&&◌, ◌||◌, ◌==◌, nat_lt, if◌then◌else◌, slice_index_or, slice_set, Option, Some, None}
+use Rattle.std.specs.Option.{ForSome}
 use Rattle.mk_tree.specs.Given.{GivenTree, link_of, AreLinked}
 use Rattle.mk_sums.specs.Trees.{sum_of}
-use Rattle.mk_propagate.specs.Shapes.{is_behind, next_on_way}
+use Rattle.mk_propagate.specs.Shapes.{IsClique, are_linked, is_behind, next_on_way}
 use Rattle.mk_propagate.specs.Flows.{FlowOf}
-use Rattle.mk_tree_engine.specs.Engines.{MarkedFlow}
+use Rattle.mk_tree_engine.specs.Engines.{MarkedFlow, leads_towards}
 
 -- a flow with these marks
 abbrev pub marked : FlowOf → List Bool → List Bool → MarkedFlow
@@ -28,6 +29,21 @@ pub record AreAllStale (cliques : ℕ) (up down : List Bool) : Type 0 where
 pub record AreMarksOf (tree : GivenTree) (up down : List Bool) : Type 0 where
   pub linked : AreLinked tree
   pub marks : AreMarks (length tree.cliques) up down
+
+-- no message that leads towards a clique is stale
+pub record AreCurrentTowards (tree : GivenTree) (up down : List Bool) (c : ℕ) : Type 0 where
+  pub clique_is : IsClique tree c
+  pub current : (a b : ℕ) → are_linked tree a b ≡ true → leads_towards tree c a b ≡ true → marked_stale up down a b ≡ false
+
+-- a tree whose messages have these marks, and the clique that is kept, where one is: no message towards it is stale
+pub record IsMarked (tree : GivenTree) (up down : List Bool) (collected : Option ℕ) : Type 0 where
+  pub marks_of : AreMarksOf tree up down
+  pub current : ForSome collected (AreCurrentTowards tree up down)
+
+-- the clique that is kept stays where something is placed in this same clique
+abbrev pub kept_in : Option ℕ → ℕ → Option ℕ
+kept_in None clique = None
+kept_in (Some c) clique = if c == clique then Some c else None
 
 -- of the first so many cliques from 2 on, each whose message to its link has a clique behind it is marked as well
 pub record AreMarkedUp (tree : GivenTree) (clique passed : ℕ) (old new : List Bool) : Type 0 where

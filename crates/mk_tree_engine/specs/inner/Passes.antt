@@ -24,6 +24,14 @@ passed_up tree c left k = nat_lt left k && goes_up tree c k
 abbrev pub passed_down : GivenTree → ℕ → ℕ → ℕ → Bool
 passed_down tree c passed k = goes_up tree c k || (nat_lt k (passed + 1) && goes_down tree c k)
 
+-- a clique off the way from one to another: its message towards the other leads towards the one as well
+abbrev pub is_off_way : GivenTree → ℕ → ℕ → ℕ → Bool
+is_off_way tree from c k = not (k == c) && leads_towards tree from k (next_on_way tree k c)
+
+-- how many cliques are on the way, with both ends
+abbrev pub number_on_way : GivenTree → ℕ → ℕ → ℕ
+number_on_way tree from c = sum_of (λ k. not (is_off_way tree from c k)) (length tree.cliques) (λ k. 1)
+
 -- a number of 64 digits
 abbrev pub IsCount : ℕ → Type 0
 IsCount n = n ≤ 18446744073709551615

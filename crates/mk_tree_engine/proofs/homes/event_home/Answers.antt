@@ -1,4 +1,4 @@
-use Rattle.std.proofs.Common.{Some, sym, ◌∙◌}
+use Rattle.std.proofs.Common.{sym}
 use Rattle.mk_tree_engine.proofs.Families.{home_holds}
 use Rattle.mk_tree_engine.proofs.homes.event_home.Goals as goal
 

@@ -1,4 +1,4 @@
-use Rattle.std.proofs.Common.{◌≡◌, ◌+◌, ◌<◌, length, true, sym, ap, ◌∙◌, arith}
+use Rattle.std.proofs.Common.{◌<◌, length, sym, ap, ◌∙◌, arith}
 use Rattle.mk_tree.specs.Tests.{holds_family}
 use Rattle.mk_tree_engine.proofs.Families.{family_first, family_somewhere}
 use Rattle.mk_tree_engine.proofs.homes.family_home.Goals as goal

@@ -1,11 +1,10 @@
-use Rattle.std.proofs.Common.{◌≡◌, ℕ, ◌+◌, ◌-◌, ◌<◌, ◌≤◌, List, Bool, length, true, false, sym, ap, subst, ◌∙◌, arith}
+use Rattle.std.proofs.Common.{◌≡◌, ℕ, ◌+◌, ◌<◌, Bool, length, true, false, sym, ap, subst, ◌∙◌, arith}
 use Rattle.mk_propagate.specs.Shapes.{ShapeOf, IsClique}
 use Rattle.mk_propagate.specs.Flows.{FlowOf}
 use Rattle.mk_tree_engine.specs.declared.marks.Marks.{Marks}
-use Rattle.mk_tree_engine.specs.Engines.{MarkedFlow}
 use Rattle.mk_tree_engine.specs.inner.Marks.{marked}
-use Rattle.mk_tree_engine.specs.inner.Passes.{AreCollected, CanCollect, goes_down, passed_up, passed_down}
-use Rattle.mk_tree_engine.proofs.Steps.{down_start, turn_sends, turn_step, turn_stay, turn_marks, turn_clique, turn_k}
+use Rattle.mk_tree_engine.specs.inner.Passes.{AreCollected, goes_down, passed_down}
+use Rattle.mk_tree_engine.proofs.Steps.{down_start, turn_sends, turn_step, turn_stay, turn_clique, turn_k}
 use Rattle.mk_tree_engine.proofs.passes.collect_down.Goals as goal
 use Rattle.mk_tree_engine.proofs.passes.collect_down.Goals.{then-goes_down, else-goes_down}
 

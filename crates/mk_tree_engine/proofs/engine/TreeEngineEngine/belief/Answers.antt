@@ -1,13 +1,12 @@
-use Rattle.std.proofs.Common.{◌≡◌, ℕ, ◌≤◌, List, true, is_some, sym, ap, subst, ◌∙◌, arith}
-use Rattle.mk_net.specs.declared.words.Pair.{Pair}
+use Rattle.std.proofs.Common.{◌≡◌, ℕ, true, is_some, sym, ap, subst, ◌∙◌, arith}
 use Rattle.mk_tree.specs.Given.{GivenTree, home, holds_event, clique_at}
 use Rattle.mk_propagate.specs.Shapes.{ShapeOf, IsClique}
 use Rattle.mk_propagate.specs.Flows.{FlowOf, counted_on, reading_grade}
 use Rattle.mk_tree_engine.specs.Engines.{MarkedFlow, HasTree, ClearsTowards, reading_clique, stale_number, placing_of}
-use Rattle.mk_tree_engine.specs.inner.Marks.{marked, AreMarksOf}
-use Rattle.mk_tree_engine.specs.inner.Passes.{AreCollected, IsCount, passed_up}
+use Rattle.mk_tree_engine.specs.inner.Marks.{marked, IsMarked}
+use Rattle.mk_tree_engine.specs.inner.Passes.{IsCount}
 use Rattle.mk_tree_engine.proofs.Placed.{stands_old}
-use Rattle.mk_tree_engine.proofs.Believing.{can_collect, kept_tree, clears, counts, can_read, sharp, belief_of}
+use Rattle.mk_tree_engine.proofs.Believing.{can_collect, is_marked, kept_tree, clears, counts, can_read, sharp, belief_of}
 use Rattle.mk_tree_engine.proofs.engine.TreeEngineEngine.belief.Goals as goal
 
 pub event_home-clique-requires : goal.event_home-clique-requires
@@ -15,108 +14,69 @@ event_home-clique-requires g c =
     let e : c.tree.result.now ≡ c.args.self.now.flow.shape.tree = c.tree.ensures ∙ ap (λ (s : ShapeOf). s.tree) c.shape.ensures ∙ ap (λ (e : MarkedFlow). e.flow.shape.tree) c.self.view_is in
     subst (λ (t : GivenTree). is_some (home t c.args.event.now) ≡ true) (sym e) c.requires.fits
 
-pub collect_up-requires : goal.collect_up-requires
-collect_up-requires g c =
+pub collect-requires-clause-could : goal.collect-requires-clause-could
+collect-requires-clause-could g c =
     let plus = g.R.Semiring.plus_of in let a = c.requires.range in let k = c.event_home-clique.result in
     let inside = c.self.inside in let old = marked inside.flow inside.marks.up.items inside.marks.down.items in
     let e : c.tree.result.now ≡ inside.flow.shape.tree = c.tree.ensures ∙ ap (λ (s : ShapeOf). s.tree) c.shape.ensures in
     let at_k = subst (λ (t : GivenTree). IsClique t k) e c.event_home-clique.ensures.clique in
-    can_collect plus old c.self.invariant a.meaning (stands_old plus old c.args.self.now a.meaning c.self.view_is a.stands) k at_k
-
-pub collect_down-requires : goal.collect_down-requires
-collect_down-requires g c =
-    let plus = g.R.Semiring.plus_of in let a = c.requires.range in let k = c.event_home-clique.result in
-    let inside = c.self.inside in let old = marked inside.flow inside.marks.up.items inside.marks.down.items in
-    let first = marked c.collect_up.new.flow c.collect_up.new.marks.up.items c.collect_up.new.marks.down.items in
-    let e : c.tree.result.now ≡ inside.flow.shape.tree = c.tree.ensures ∙ ap (λ (s : ShapeOf). s.tree) c.shape.ensures in
-    let at_k = subst (λ (t : GivenTree). IsClique t k) e c.event_home-clique.ensures.clique in
-    record {
-      old = old;
-      could = can_collect plus old c.self.invariant a.meaning (stands_old plus old c.args.self.now a.meaning c.self.view_is a.stands) k at_k;
-      collected = subst (λ (s : ShapeOf). AreCollected plus k (passed_up s.tree k 0) old first) (sym c.collect_up.ensures.kept.same_shape) c.collect_up.ensures;
-    }
+    can_collect plus old c.self.invariant.marks_of a.meaning (stands_old plus old c.args.self.now a.meaning c.self.view_is a.stands) k at_k
 
 pub read-requires : goal.read-requires
 read-requires g c =
     let plus = g.R.Semiring.plus_of in let a = c.requires.range in let k = c.event_home-clique.result in let event = c.args.event.now in
     let inside = c.self.inside in let old = marked inside.flow inside.marks.up.items inside.marks.down.items in
-    let first = marked c.collect_up.new.flow c.collect_up.new.marks.up.items c.collect_up.new.marks.down.items in
-    let last = marked c.collect_down.new.flow c.collect_down.new.marks.up.items c.collect_down.new.marks.down.items in
+    let last = marked c.collect.new.flow c.collect.new.marks.up.items c.collect.new.marks.down.items in
     let e : c.tree.result.now ≡ inside.flow.shape.tree = c.tree.ensures ∙ ap (λ (s : ShapeOf). s.tree) c.shape.ensures in
     let at_k = subst (λ (t : GivenTree). IsClique t k) e c.event_home-clique.ensures.clique in
     let holds = subst (λ (t : GivenTree). holds_event event (clique_at t k) ≡ true) e c.event_home-clique.ensures.fits in
     let h = stands_old plus old c.args.self.now a.meaning c.self.view_is a.stands in
-    let could = can_collect plus old c.self.invariant a.meaning h k at_k in
-    let upward = subst (λ (s : ShapeOf). AreCollected plus k (passed_up s.tree k 0) old first) (sym c.collect_up.ensures.kept.same_shape) c.collect_up.ensures in
-    let is = c.collect_down.ensures old could upward in
-    can_read plus old c.self.invariant k at_k last c.collect_up.new.flow.shape c.collect_up.ensures.kept.same_shape is a.meaning h event holds
+    can_read plus old c.self.invariant.marks_of k at_k last c.collect.ensures.made a.meaning h event holds
 
 pub invariant_of-self : goal.invariant_of-self
 invariant_of-self g c =
-    let plus = g.R.Semiring.plus_of in let a = c.requires.range in let k = c.event_home-clique.result in
+    let plus = g.R.Semiring.plus_of in let k = c.event_home-clique.result in
     let inside = c.self.inside in let old = marked inside.flow inside.marks.up.items inside.marks.down.items in
-    let first = marked c.collect_up.new.flow c.collect_up.new.marks.up.items c.collect_up.new.marks.down.items in
+    let last = marked c.collect.new.flow c.collect.new.marks.up.items c.collect.new.marks.down.items in
     let e : c.tree.result.now ≡ inside.flow.shape.tree = c.tree.ensures ∙ ap (λ (s : ShapeOf). s.tree) c.shape.ensures in
     let at_k = subst (λ (t : GivenTree). IsClique t k) e c.event_home-clique.ensures.clique in
-    let could = can_collect plus old c.self.invariant a.meaning (stands_old plus old c.args.self.now a.meaning c.self.view_is a.stands) k at_k in
-    let upward = subst (λ (s : ShapeOf). AreCollected plus k (passed_up s.tree k 0) old first) (sym c.collect_up.ensures.kept.same_shape) c.collect_up.ensures in
-    subst (λ (f : FlowOf). AreMarksOf f.shape.tree c.collect_down.new.marks.up.items c.collect_down.new.marks.down.items) (sym c.read.ensures.kept)
-    ((c.collect_down.ensures old could upward).marks_of)
+    subst (λ (f : FlowOf). IsMarked f.shape.tree c.collect.new.marks.up.items c.collect.new.marks.down.items c.collect.new.marks.collected) (sym c.read.ensures.kept)
+    (is_marked plus old c.self.invariant.marks_of k at_k last c.collect.ensures.made c.collect.new.marks.collected c.collect.ensures.collected)
 
 pub returns-clause-kept : goal.returns-clause-kept
 returns-clause-kept g c = λ m stands.
     let plus = g.R.Semiring.plus_of in let k = c.event_home-clique.result in
     let inside = c.self.inside in let old = marked inside.flow inside.marks.up.items inside.marks.down.items in
-    let first = marked c.collect_up.new.flow c.collect_up.new.marks.up.items c.collect_up.new.marks.down.items in
-    let last = marked c.collect_down.new.flow c.collect_down.new.marks.up.items c.collect_down.new.marks.down.items in
+    let last = marked c.collect.new.flow c.collect.new.marks.up.items c.collect.new.marks.down.items in
     let e : c.tree.result.now ≡ inside.flow.shape.tree = c.tree.ensures ∙ ap (λ (s : ShapeOf). s.tree) c.shape.ensures in
     let at_k = subst (λ (t : GivenTree). IsClique t k) e c.event_home-clique.ensures.clique in
     let h = stands_old plus old c.args.self.now m c.self.view_is stands in
-    let could = can_collect plus old c.self.invariant m h k at_k in
-    let upward = subst (λ (s : ShapeOf). AreCollected plus k (passed_up s.tree k 0) old first) (sym c.collect_up.ensures.kept.same_shape) c.collect_up.ensures in
-    let is = c.collect_down.ensures old could upward in
-    subst (λ (f : FlowOf). HasTree plus (marked f c.collect_down.new.marks.up.items c.collect_down.new.marks.down.items) m) (sym c.read.ensures.kept)
-    (kept_tree plus old c.self.invariant k at_k last c.collect_up.new.flow.shape c.collect_up.ensures.kept.same_shape is m h)
+    subst (λ (f : FlowOf). HasTree plus (marked f c.collect.new.marks.up.items c.collect.new.marks.down.items) m) (sym c.read.ensures.kept)
+    (kept_tree plus old c.self.invariant.marks_of k at_k last c.collect.ensures.made m h)
 
 pub returns-clause-belief : goal.returns-clause-belief
 returns-clause-belief g c = λ m stands.
     let R = g.R.Semiring in let plus = R.plus_of in let law = g.met.R.Semiring in let k = c.event_home-clique.result in
     let inside = c.self.inside in let old = marked inside.flow inside.marks.up.items inside.marks.down.items in
-    let first = marked c.collect_up.new.flow c.collect_up.new.marks.up.items c.collect_up.new.marks.down.items in
-    let last = marked c.collect_down.new.flow c.collect_down.new.marks.up.items c.collect_down.new.marks.down.items in
+    let last = marked c.collect.new.flow c.collect.new.marks.up.items c.collect.new.marks.down.items in
     let e : c.tree.result.now ≡ inside.flow.shape.tree = c.tree.ensures ∙ ap (λ (s : ShapeOf). s.tree) c.shape.ensures in
     let at_k = subst (λ (t : GivenTree). IsClique t k) e c.event_home-clique.ensures.clique in
     let h = stands_old plus old c.args.self.now m c.self.view_is stands in
-    let could = can_collect plus old c.self.invariant m h k at_k in
-    let upward = subst (λ (s : ShapeOf). AreCollected plus k (passed_up s.tree k 0) old first) (sym c.collect_up.ensures.kept.same_shape) c.collect_up.ensures in
-    let is = c.collect_down.ensures old could upward in
-    belief_of plus old c.self.invariant k at_k last c.collect_up.new.flow.shape c.collect_up.ensures.kept.same_shape is
+    belief_of plus old c.self.invariant.marks_of k at_k last c.collect.ensures.made
     R.encloses R.has_grade R.is_exact law.grade_more c.args.event.now c.read.result c.read.ensures.reading m h
 
 pub returns-clause-shape : goal.returns-clause-shape
-returns-clause-shape g c =
-    let plus = g.R.Semiring.plus_of in let a = c.requires.range in let k = c.event_home-clique.result in
-    let inside = c.self.inside in let old = marked inside.flow inside.marks.up.items inside.marks.down.items in
-    let first = marked c.collect_up.new.flow c.collect_up.new.marks.up.items c.collect_up.new.marks.down.items in
-    let e : c.tree.result.now ≡ inside.flow.shape.tree = c.tree.ensures ∙ ap (λ (s : ShapeOf). s.tree) c.shape.ensures in
-    let at_k = subst (λ (t : GivenTree). IsClique t k) e c.event_home-clique.ensures.clique in
-    let could = can_collect plus old c.self.invariant a.meaning (stands_old plus old c.args.self.now a.meaning c.self.view_is a.stands) k at_k in
-    let upward = subst (λ (s : ShapeOf). AreCollected plus k (passed_up s.tree k 0) old first) (sym c.collect_up.ensures.kept.same_shape) c.collect_up.ensures in
-    ap (λ (f : FlowOf). f.shape) c.read.ensures.kept ∙ (c.collect_down.ensures old could upward).kept.same_shape ∙ ap (λ (e : MarkedFlow). e.flow.shape) c.self.view_is
+returns-clause-shape g c = ap (λ (f : FlowOf). f.shape) c.read.ensures.kept ∙ c.collect.ensures.made.kept.same_shape ∙ ap (λ (e : MarkedFlow). e.flow.shape) c.self.view_is
 
 pub returns-clause-counted : goal.returns-clause-counted
 returns-clause-counted g c =
-    let plus = g.R.Semiring.plus_of in let a = c.requires.range in let k = c.event_home-clique.result in let event = c.args.event.now in
+    let plus = g.R.Semiring.plus_of in let k = c.event_home-clique.result in let event = c.args.event.now in
     let inside = c.self.inside in let old = marked inside.flow inside.marks.up.items inside.marks.down.items in
-    let first = marked c.collect_up.new.flow c.collect_up.new.marks.up.items c.collect_up.new.marks.down.items in
-    let last = marked c.collect_down.new.flow c.collect_down.new.marks.up.items c.collect_down.new.marks.down.items in
+    let last = marked c.collect.new.flow c.collect.new.marks.up.items c.collect.new.marks.down.items in
     let e : c.tree.result.now ≡ inside.flow.shape.tree = c.tree.ensures ∙ ap (λ (s : ShapeOf). s.tree) c.shape.ensures in
     let at_k = subst (λ (t : GivenTree). IsClique t k) e c.event_home-clique.ensures.clique in
-    let could = can_collect plus old c.self.invariant a.meaning (stands_old plus old c.args.self.now a.meaning c.self.view_is a.stands) k at_k in
-    let upward = subst (λ (s : ShapeOf). AreCollected plus k (passed_up s.tree k 0) old first) (sym c.collect_up.ensures.kept.same_shape) c.collect_up.ensures in
-    let is = c.collect_down.ensures old could upward in
     let few : IsCount inside.flow.computed = omega (arith, c.computed.ensures, c.computed.type_inv) in
-    let counted = counts plus old c.self.invariant k at_k last c.collect_up.new.flow.shape c.collect_up.ensures.kept.same_shape is few in
+    let counted = counts plus old c.self.invariant.marks_of k at_k last c.collect.ensures.made few in
     let place : k ≡ reading_clique c.args.self.now.flow.shape.tree event =
     c.event_home-clique.ensures.home ∙ ap (λ (t : GivenTree). reading_clique t event) (e ∙ ap (λ (e : MarkedFlow). e.flow.shape.tree) c.self.view_is) in
     subst (λ (n : ℕ). c.read.new.self.computed ≡ counted_on c.args.self.now.flow.computed (stale_number c.args.self.now n)) place
@@ -124,35 +84,26 @@ returns-clause-counted g c =
 
 pub returns-clause-marks : goal.returns-clause-marks
 returns-clause-marks g c =
-    let plus = g.R.Semiring.plus_of in let a = c.requires.range in let k = c.event_home-clique.result in let event = c.args.event.now in
+    let plus = g.R.Semiring.plus_of in let k = c.event_home-clique.result in let event = c.args.event.now in
     let inside = c.self.inside in let old = marked inside.flow inside.marks.up.items inside.marks.down.items in
-    let first = marked c.collect_up.new.flow c.collect_up.new.marks.up.items c.collect_up.new.marks.down.items in
-    let last = marked c.collect_down.new.flow c.collect_down.new.marks.up.items c.collect_down.new.marks.down.items in
+    let last = marked c.collect.new.flow c.collect.new.marks.up.items c.collect.new.marks.down.items in
     let e : c.tree.result.now ≡ inside.flow.shape.tree = c.tree.ensures ∙ ap (λ (s : ShapeOf). s.tree) c.shape.ensures in
     let at_k = subst (λ (t : GivenTree). IsClique t k) e c.event_home-clique.ensures.clique in
-    let could = can_collect plus old c.self.invariant a.meaning (stands_old plus old c.args.self.now a.meaning c.self.view_is a.stands) k at_k in
-    let upward = subst (λ (s : ShapeOf). AreCollected plus k (passed_up s.tree k 0) old first) (sym c.collect_up.ensures.kept.same_shape) c.collect_up.ensures in
-    let is = c.collect_down.ensures old could upward in
     let place : k ≡ reading_clique c.args.self.now.flow.shape.tree event =
     c.event_home-clique.ensures.home ∙ ap (λ (t : GivenTree). reading_clique t event) (e ∙ ap (λ (e : MarkedFlow). e.flow.shape.tree) c.self.view_is) in
-    let read = marked c.read.new.self c.collect_down.new.marks.up.items c.collect_down.new.marks.down.items in
+    let read = marked c.read.new.self c.collect.new.marks.up.items c.collect.new.marks.down.items in
     subst (λ (n : ℕ). ClearsTowards c.args.self.now read n) place
-    (subst (λ (o : MarkedFlow). ClearsTowards o read k) c.self.view_is
-    (clears plus old c.self.invariant k at_k last c.collect_up.new.flow.shape c.collect_up.ensures.kept.same_shape is))
+    (subst (λ (o : MarkedFlow). ClearsTowards o read k) c.self.view_is (clears plus old c.self.invariant.marks_of k at_k last c.collect.ensures.made))
 
 pub returns-clause-sharp : goal.returns-clause-sharp
 returns-clause-sharp g c = λ m stands.
     let R = g.R.Semiring in let plus = R.plus_of in let law = g.met.R.Semiring in let k = c.event_home-clique.result in let event = c.args.event.now in
     let inside = c.self.inside in let old = marked inside.flow inside.marks.up.items inside.marks.down.items in
-    let first = marked c.collect_up.new.flow c.collect_up.new.marks.up.items c.collect_up.new.marks.down.items in
-    let last = marked c.collect_down.new.flow c.collect_down.new.marks.up.items c.collect_down.new.marks.down.items in
+    let last = marked c.collect.new.flow c.collect.new.marks.up.items c.collect.new.marks.down.items in
     let e : c.tree.result.now ≡ inside.flow.shape.tree = c.tree.ensures ∙ ap (λ (s : ShapeOf). s.tree) c.shape.ensures in
     let at_k = subst (λ (t : GivenTree). IsClique t k) e c.event_home-clique.ensures.clique in
     let h = stands_old plus old c.args.self.now m c.self.view_is stands in
-    let could = can_collect plus old c.self.invariant m h k at_k in
-    let upward = subst (λ (s : ShapeOf). AreCollected plus k (passed_up s.tree k 0) old first) (sym c.collect_up.ensures.kept.same_shape) c.collect_up.ensures in
-    let is = c.collect_down.ensures old could upward in
     let place : k ≡ reading_clique m.tree event = c.event_home-clique.ensures.home ∙ ap (λ (t : GivenTree). reading_clique t event) (e ∙ h.tree_is) in
     subst (λ (n : ℕ). R.has_grade c.read.result (reading_grade m.tree (placing_of m) n)) place
-    (sharp plus old c.self.invariant k at_k last c.collect_up.new.flow.shape c.collect_up.ensures.kept.same_shape is
+    (sharp plus old c.self.invariant.marks_of k at_k last c.collect.ensures.made
     R.encloses R.has_grade R.is_exact law.grade_more event c.read.result c.read.ensures.reading m h)

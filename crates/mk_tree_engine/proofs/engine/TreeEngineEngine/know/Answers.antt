@@ -1,4 +1,4 @@
-use Rattle.std.proofs.Common.{◌≡◌, ℕ, List, [], ◌∷◌, ◌++◌, true, is_some, unwrap_or, refl, sym, ap, subst, ◌∙◌}
+use Rattle.std.proofs.Common.{◌≡◌, List, [], ◌∷◌, ◌++◌, true, is_some, refl, sym, ap, subst, ◌∙◌}
 use Rattle.std.proofs.lemmas.Bool.{and_parts}
 use Rattle.mk_net.specs.declared.words.Pair.{Pair}
 use Rattle.mk_net.specs.Sets.{is_member}
@@ -9,7 +9,7 @@ use Rattle.mk_propagate.specs.Placings.{IsPlacedPair, with_pair_in}
 use Rattle.mk_tree_engine.specs.Engines.{MarkedFlow, placing_of, pair_home, reading_clique}
 use Rattle.mk_tree_engine.specs.inner.Marks.{marked}
 use Rattle.mk_tree_engine.proofs.Families.{pair_somewhere}
-use Rattle.mk_tree_engine.proofs.Placed.{pair_placed, stands_after, away, marks_of_after, away_now, stands_old}
+use Rattle.mk_tree_engine.proofs.Placed.{pair_placed, stands_after, away, is_marked_after, away_now, stands_old}
 use Rattle.mk_tree_engine.proofs.engine.TreeEngineEngine.know.Goals as goal
 
 -- the event of one pair
@@ -43,8 +43,9 @@ pub invariant_of-self : goal.invariant_of-self
 invariant_of-self g c =
     let inside = c.self.inside in
     let said = c.mark_away.ensures in
-    marks_of_after inside.flow c.restrict.new.self inside.marks.up.items inside.marks.down.items c.mark_away.new.self.up.items c.mark_away.new.self.down.items
-    c.event_home-clique.result c.shape-2.result.now c.self.invariant (c.shape-2.ensures ∙ c.restrict.ensures.kept.same_shape) said.up said.down c.restrict.ensures.kept.same_shape
+    is_marked_after inside.flow c.restrict.new.self inside.marks.up.items inside.marks.down.items c.mark_away.new.self.up.items c.mark_away.new.self.down.items
+    c.event_home-clique.result c.shape-2.result.now c.self.invariant.marks_of (c.shape-2.ensures ∙ c.restrict.ensures.kept.same_shape) said.up said.down c.restrict.ensures.kept.same_shape
+    inside.marks.collected c.mark_away.new.self.collected c.self.invariant.current said.collected
 
 pub returns-clause-stands : goal.returns-clause-stands
 returns-clause-stands g c = λ m stands.
@@ -58,7 +59,7 @@ returns-clause-stands g c = λ m stands.
     let at_home : clique ≡ pair_home m.tree pair =
     c.event_home-clique.ensures.home ∙ ap (λ (t : GivenTree). reading_clique t c.in-Some.event) t ∙ ap (reading_clique m.tree) one in
     let moved = away inside.flow c.restrict.new.self inside.marks.up.items inside.marks.down.items c.mark_away.new.self.up.items c.mark_away.new.self.down.items
-    clique c.shape-2.result.now c.self.invariant (c.shape-2.ensures ∙ c.restrict.ensures.kept.same_shape) c.mark_away.ensures.up c.mark_away.ensures.down in
+    clique c.shape-2.result.now c.self.invariant.marks_of (c.shape-2.ensures ∙ c.restrict.ensures.kept.same_shape) c.mark_away.ensures.up c.mark_away.ensures.down in
     stands_after plus old m h new (with_known pair m) clique (with_pair_in clique pair (placing_of m))
     (pair_placed m pair clique at_home) refl c.restrict.ensures.kept.same_shape (c.restrict.ensures.places (placing_of m) h.placed) moved
 
@@ -71,6 +72,6 @@ returns-clause-marks g c =
     let clique = c.event_home-clique.result in
     let t : c.tree.result.now ≡ c.args.self.now.flow.shape.tree = c.tree.ensures ∙ ap (λ (s : ShapeOf). s.tree) c.shape.ensures ∙ ap (λ (e : MarkedFlow). e.flow.shape.tree) c.self.view_is in
     let moved = away inside.flow c.restrict.new.self inside.marks.up.items inside.marks.down.items c.mark_away.new.self.up.items c.mark_away.new.self.down.items
-    clique c.shape-2.result.now c.self.invariant (c.shape-2.ensures ∙ c.restrict.ensures.kept.same_shape) c.mark_away.ensures.up c.mark_away.ensures.down in
+    clique c.shape-2.result.now c.self.invariant.marks_of (c.shape-2.ensures ∙ c.restrict.ensures.kept.same_shape) c.mark_away.ensures.up c.mark_away.ensures.down in
     away_now old c.args.self.now new clique (pair_home c.args.self.now.flow.shape.tree pair) c.self.view_is
     (c.event_home-clique.ensures.home ∙ ap (λ (t : GivenTree). reading_clique t c.in-Some.event) t ∙ ap (reading_clique c.args.self.now.flow.shape.tree) one) moved

@@ -1,4 +1,4 @@
-use Rattle.std.proofs.Common.{◌≡◌, ℕ, List, true, is_some, unwrap_or, refl, sym, ap, subst, ◌∙◌}
+use Rattle.std.proofs.Common.{◌≡◌, List, true, is_some, refl, sym, ap, subst, ◌∙◌}
 use Rattle.mk_net.specs.declared.words.Pair.{Pair}
 use Rattle.mk_net.specs.Asked.{ratio_pairs}
 use Rattle.mk_net.specs.Trades.{trade_ratio}
@@ -8,7 +8,7 @@ use Rattle.mk_propagate.specs.Shapes.{ShapeOf}
 use Rattle.mk_propagate.specs.Placings.{IsPlacedFactor, with_factor_in}
 use Rattle.mk_tree_engine.specs.Engines.{MarkedFlow, placing_of, factor_home, reading_clique}
 use Rattle.mk_tree_engine.specs.inner.Marks.{marked}
-use Rattle.mk_tree_engine.proofs.Placed.{factor_placed, can_place, stands_after, away, marks_of_after, away_now, stands_old}
+use Rattle.mk_tree_engine.proofs.Placed.{factor_placed, can_place, stands_after, away, is_marked_after, away_now, stands_old}
 use Rattle.mk_tree_engine.proofs.engine.TreeEngineEngine.multiply.Goals as goal
 
 pub event_home-clique-requires : goal.event_home-clique-requires
@@ -37,8 +37,9 @@ pub invariant_of-self : goal.invariant_of-self
 invariant_of-self g c =
     let inside = c.self.inside in
     let said = c.mark_away.ensures in
-    marks_of_after inside.flow c.times_ratio.new.self inside.marks.up.items inside.marks.down.items c.mark_away.new.self.up.items c.mark_away.new.self.down.items
-    c.event_home-clique.result c.shape-2.result.now c.self.invariant (c.shape-2.ensures ∙ c.times_ratio.ensures.kept.same_shape) said.up said.down c.times_ratio.ensures.kept.same_shape
+    is_marked_after inside.flow c.times_ratio.new.self inside.marks.up.items inside.marks.down.items c.mark_away.new.self.up.items c.mark_away.new.self.down.items
+    c.event_home-clique.result c.shape-2.result.now c.self.invariant.marks_of (c.shape-2.ensures ∙ c.times_ratio.ensures.kept.same_shape) said.up said.down c.times_ratio.ensures.kept.same_shape
+    inside.marks.collected c.mark_away.new.self.collected c.self.invariant.current said.collected
 
 pub returns-clause-stands : goal.returns-clause-stands
 returns-clause-stands g c = λ m stands.
@@ -51,7 +52,7 @@ returns-clause-stands g c = λ m stands.
     let at_home : clique ≡ factor_home m.network m.tree (RatioOf ratio) =
     c.event_home-clique.ensures.home ∙ ap (λ (t : GivenTree). reading_clique t c.event.result) t ∙ ap (reading_clique m.tree) c.event.ensures.pairs in
     let moved = away inside.flow c.times_ratio.new.self inside.marks.up.items inside.marks.down.items c.mark_away.new.self.up.items c.mark_away.new.self.down.items
-    clique c.shape-2.result.now c.self.invariant (c.shape-2.ensures ∙ c.times_ratio.ensures.kept.same_shape) c.mark_away.ensures.up c.mark_away.ensures.down in
+    clique c.shape-2.result.now c.self.invariant.marks_of (c.shape-2.ensures ∙ c.times_ratio.ensures.kept.same_shape) c.mark_away.ensures.up c.mark_away.ensures.down in
     stands_after plus old m h new (with_factor (RatioOf ratio) m) clique (with_factor_in clique (RatioOf ratio) (placing_of m))
     (factor_placed m (RatioOf ratio) clique at_home) refl c.times_ratio.ensures.kept.same_shape (c.times_ratio.ensures.places (placing_of m) h.placed) moved
 
@@ -63,6 +64,6 @@ returns-clause-marks g c = λ m stands.
     let clique = c.event_home-clique.result in
     let t : c.tree.result.now ≡ c.args.self.now.flow.shape.tree = c.tree.ensures ∙ ap (λ (s : ShapeOf). s.tree) c.shape.ensures ∙ ap (λ (e : MarkedFlow). e.flow.shape.tree) c.self.view_is in
     let moved = away inside.flow c.times_ratio.new.self inside.marks.up.items inside.marks.down.items c.mark_away.new.self.up.items c.mark_away.new.self.down.items
-    clique c.shape-2.result.now c.self.invariant (c.shape-2.ensures ∙ c.times_ratio.ensures.kept.same_shape) c.mark_away.ensures.up c.mark_away.ensures.down in
+    clique c.shape-2.result.now c.self.invariant.marks_of (c.shape-2.ensures ∙ c.times_ratio.ensures.kept.same_shape) c.mark_away.ensures.up c.mark_away.ensures.down in
     away_now old c.args.self.now new clique (factor_home m.network c.args.self.now.flow.shape.tree (RatioOf ratio)) c.self.view_is
     (c.event_home-clique.ensures.home ∙ ap (λ (t : GivenTree). reading_clique t c.event.result) t ∙ ap (reading_clique c.args.self.now.flow.shape.tree) c.event.ensures.pairs) moved

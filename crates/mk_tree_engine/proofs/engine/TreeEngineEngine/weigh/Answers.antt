@@ -2,14 +2,12 @@ use Rattle.std.proofs.Common.{◌≡◌, List, refl, sym, ap, subst, ◌∙◌}
 use Rattle.mk_net.specs.Network.{Variable}
 use Rattle.mk_tree.specs.Given.{GivenTree}
 use Rattle.mk_tree.specs.Checked.{IsTreeOf}
-use Rattle.mk_tree.specs.Tests.{holds_family}
-use Rattle.mk_tree.specs.Given.{clique_at}
 use Rattle.mk_engine.specs.Meaning.{RowsOf, with_factor}
-use Rattle.mk_propagate.specs.Shapes.{ShapeOf, IsClique}
+use Rattle.mk_propagate.specs.Shapes.{ShapeOf}
 use Rattle.mk_propagate.specs.Placings.{IsPlacedFactor, with_factor_in}
 use Rattle.mk_tree_engine.specs.Engines.{MarkedFlow, placing_of, factor_home}
 use Rattle.mk_tree_engine.specs.inner.Marks.{marked}
-use Rattle.mk_tree_engine.proofs.Placed.{factor_placed, can_place, stands_after, away, marks_of_after, away_now, stands_old}
+use Rattle.mk_tree_engine.proofs.Placed.{factor_placed, can_place, stands_after, away, is_marked_after, away_now, stands_old}
 use Rattle.mk_tree_engine.proofs.engine.TreeEngineEngine.weigh.Goals as goal
 
 pub family_home-clique-requires-clause-tree : goal.family_home-clique-requires-clause-tree
@@ -36,8 +34,9 @@ pub invariant_of-self : goal.invariant_of-self
 invariant_of-self g c =
     let inside = c.self.inside in
     let said = c.mark_away.ensures in
-    marks_of_after inside.flow c.times_rows.new.self inside.marks.up.items inside.marks.down.items c.mark_away.new.self.up.items c.mark_away.new.self.down.items
-    c.family_home-clique.result c.shape-2.result.now c.self.invariant (c.shape-2.ensures ∙ c.times_rows.ensures.kept.same_shape) said.up said.down c.times_rows.ensures.kept.same_shape
+    is_marked_after inside.flow c.times_rows.new.self inside.marks.up.items inside.marks.down.items c.mark_away.new.self.up.items c.mark_away.new.self.down.items
+    c.family_home-clique.result c.shape-2.result.now c.self.invariant.marks_of (c.shape-2.ensures ∙ c.times_rows.ensures.kept.same_shape) said.up said.down c.times_rows.ensures.kept.same_shape
+    inside.marks.collected c.mark_away.new.self.collected c.self.invariant.current said.collected
 
 pub returns-clause-stands : goal.returns-clause-stands
 returns-clause-stands g c = λ m stands e.
@@ -51,7 +50,7 @@ returns-clause-stands g c = λ m stands e.
     c.family_home-clique.ensures.home ∙ ap (λ (t : GivenTree). factor_home c.args.net.now t (RowsOf c.args.variable)) t
     ∙ ap (λ (n : List Variable). factor_home n m.tree (RowsOf c.args.variable)) (sym e) in
     let moved = away inside.flow c.times_rows.new.self inside.marks.up.items inside.marks.down.items c.mark_away.new.self.up.items c.mark_away.new.self.down.items
-    clique c.shape-2.result.now c.self.invariant (c.shape-2.ensures ∙ c.times_rows.ensures.kept.same_shape) c.mark_away.ensures.up c.mark_away.ensures.down in
+    clique c.shape-2.result.now c.self.invariant.marks_of (c.shape-2.ensures ∙ c.times_rows.ensures.kept.same_shape) c.mark_away.ensures.up c.mark_away.ensures.down in
     stands_after plus old m h new (with_factor (RowsOf c.args.variable) m) clique (with_factor_in clique (RowsOf c.args.variable) (placing_of m))
     (factor_placed m (RowsOf c.args.variable) clique home) refl c.times_rows.ensures.kept.same_shape (c.times_rows.ensures.places (placing_of m) h.placed e) moved
 
@@ -62,6 +61,6 @@ returns-clause-marks g c =
     let clique = c.family_home-clique.result in
     let t : c.tree.result.now ≡ c.args.self.now.flow.shape.tree = c.tree.ensures ∙ ap (λ (s : ShapeOf). s.tree) c.shape.ensures ∙ ap (λ (e : MarkedFlow). e.flow.shape.tree) c.self.view_is in
     let moved = away inside.flow c.times_rows.new.self inside.marks.up.items inside.marks.down.items c.mark_away.new.self.up.items c.mark_away.new.self.down.items
-    clique c.shape-2.result.now c.self.invariant (c.shape-2.ensures ∙ c.times_rows.ensures.kept.same_shape) c.mark_away.ensures.up c.mark_away.ensures.down in
+    clique c.shape-2.result.now c.self.invariant.marks_of (c.shape-2.ensures ∙ c.times_rows.ensures.kept.same_shape) c.mark_away.ensures.up c.mark_away.ensures.down in
     away_now old c.args.self.now new clique (factor_home c.args.net.now c.args.self.now.flow.shape.tree (RowsOf c.args.variable)) c.self.view_is
     (c.family_home-clique.ensures.home ∙ ap (λ (t : GivenTree). factor_home c.args.net.now t (RowsOf c.args.variable)) t) moved
