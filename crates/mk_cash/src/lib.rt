@@ -6,6 +6,3 @@ mod ledger;
 
 pub use interval::cash;
 pub use ledger::{Account, Ledger};
-
-#[cfg(test)]
-mod tests;

@@ -11,6 +11,3 @@ pub use cell::Cell;
 pub use minima::{least, least_of_products};
 pub use scaling::times_each;
 pub use sums::{sum, sum_of_products};
-
-#[cfg(test)]
-mod tests;

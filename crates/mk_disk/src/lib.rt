@@ -8,8 +8,6 @@ mod event;
 mod laws;
 mod memory;
 mod standard;
-#[cfg(test)]
-mod tests;
 
 pub use disk::{Disk, DiskFailed};
 pub use event::Choice;

@@ -6,6 +6,3 @@ mod factor;
 
 pub use enclosure::Enclosure;
 pub use factor::Factor;
-
-#[cfg(test)]
-mod tests;

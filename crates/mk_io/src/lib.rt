@@ -10,8 +10,6 @@ mod pending;
 mod quiet;
 mod standard;
 mod status;
-#[cfg(test)]
-mod tests;
 mod text;
 
 pub use lines::{Lines, Next};

@@ -8,8 +8,6 @@ mod open;
 mod read;
 mod serving;
 mod steps;
-#[cfg(test)]
-mod tests;
 
 pub use kept::{DurableFault, Kept, Steps};
 pub use laws::{one_reading, refuses_no_honest, stays_honest};

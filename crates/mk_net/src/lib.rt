@@ -13,8 +13,6 @@ mod question;
 mod ratio;
 mod rows;
 mod sets;
-#[cfg(test)]
-mod tests;
 mod trade;
 mod words;
 

@@ -18,8 +18,3 @@ pub use side::SideBounds;
 pub use spread::SpreadQuestion;
 pub use spread_quote::{Intervals, SpreadQuote};
 pub use values::{SpreadBounds, ValueBounds};
-
-#[cfg(test)]
-mod spread_tests;
-#[cfg(test)]
-mod tests;

@@ -5,6 +5,3 @@
 mod scaled;
 
 pub use scaled::Scaled;
-
-#[cfg(test)]
-mod tests;

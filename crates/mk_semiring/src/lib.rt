@@ -11,6 +11,3 @@ pub use held::Held;
 pub use least::MinProd;
 pub use semiring::Semiring;
 pub use sums::SumProd;
-
-#[cfg(test)]
-mod tests;

@@ -9,6 +9,3 @@ mod tree;
 pub use fault::TreeFault;
 pub use laws::one_top_is_connected;
 pub use tree::Tree;
-
-#[cfg(test)]
-mod tests;

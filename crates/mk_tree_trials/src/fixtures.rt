@@ -62,7 +62,7 @@ pub(crate) fn chain_tree(rt: &impl Abort, alloc: Global, net: &Network) -> Resul
 }
 
 /// Stops unless each link leads to an earlier clique.
-fn expect_links(rt: &impl Abort, links: &[u32])
+pub(crate) fn expect_links(rt: &impl Abort, links: &[u32])
     ensures first { (k : ℕ) → k < length links.now → 1 ≤ slice_index links.now k }
     ensures earlier { (k : ℕ) → k < length links.now → slice_index links.now k ≤ k + 1 }
 {
@@ -83,7 +83,7 @@ pub(crate) fn all_variables(net: &Network) -> VarSet
 }
 
 /// Stops unless the cliques hold variables of the network alone.
-fn expect_of_network(rt: &impl Abort, net: &Network, cliques: &[VarSet])
+pub(crate) fn expect_of_network(rt: &impl Abort, net: &Network, cliques: &[VarSet])
     ensures { AreOfNetwork net.now cliques.now }
 {
     let all = all_variables(net);

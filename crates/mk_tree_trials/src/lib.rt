@@ -1,4 +1,5 @@
-//! Trials of tables, flows and engines, over their public calls: a crate of its own, since a crate with tests is proved twice.
+//! Trials of trees, tables, flows and engines, and of a plain walk over all states, over their public calls: a crate of its own, since a
+//! crate with tests is proved twice.
 #![tactic(auto)]
 
 #[cfg(test)]
@@ -11,3 +12,7 @@ mod fixtures;
 mod flows;
 #[cfg(test)]
 mod tables;
+#[cfg(test)]
+mod trees;
+#[cfg(test)]
+mod walks;

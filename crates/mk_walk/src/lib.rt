@@ -11,6 +11,3 @@ pub use least::least_gain;
 pub use states::all_states;
 pub use sums::total;
 pub use weight::{WalkTrade, holds, state_gain, state_weight};
-
-#[cfg(test)]
-mod tests;

@@ -1,0 +1,522 @@
+//! Answers at the edges. The values were computed by Python's whole numbers: a product is the greatest
+//! number of 64 digits that is not above it, and a sum that of its parts, each cut to the places of the
+//! greatest cell.
+ghost use Rattle.std.specs.Prelude.{◌≡◌, length, slice_index};
+ghost use Rattle.mk_cell.specs.Cell.{AreCells, IsCell};
+
+use mk_cell::{Cell, least, least_of_products, sum, sum_of_products, times_each};
+use mk_enclose::Enclosure;
+use std::process::Abort;
+
+/// Digits and an exponent.
+type Parts = (u64, u32);
+
+/// Two cells and their product.
+#[derive(Clone, Copy)]
+struct Pair {
+    left: Parts,
+    right: Parts,
+    product: Parts,
+}
+
+/// Cells, with their sum and the least of them.
+#[derive(Clone, Copy)]
+struct Row {
+    digits: [u64; 3],
+    exponents: [u32; 3],
+    sum: Parts,
+    least: Parts,
+}
+
+/// Pairs of cells, with each product, their sum and the least of them.
+#[derive(Clone, Copy)]
+struct Products {
+    left_digits: [u64; 2],
+    left_exponents: [u32; 2],
+    right_digits: [u64; 2],
+    right_exponents: [u32; 2],
+    each_digits: [u64; 2],
+    each_exponents: [u32; 2],
+    sum: Parts,
+    least: Parts,
+}
+
+const PAIRS: [Pair; 8] = [
+    Pair {
+        left: (9223372036854775808, 268435456),
+        right: (9223372036854775808, 268435456),
+        product: (9223372036854775808, 268435519),
+    },
+    Pair {
+        left: (18446744073709551615, 268435456),
+        right: (18446744073709551615, 268435456),
+        product: (18446744073709551614, 268435520),
+    },
+    Pair {
+        left: (9223372036854775808, 268435456),
+        right: (18446744073709551615, 268435456),
+        product: (18446744073709551615, 268435519),
+    },
+    Pair {
+        left: (9223372036854775809, 268435456),
+        right: (18446744073709551615, 268435456),
+        product: (9223372036854775808, 268435520),
+    },
+    Pair {
+        left: (0, 0),
+        right: (18446744073709551615, 268435461),
+        product: (0, 0),
+    },
+    Pair {
+        left: (13043817825332782212, 268435456),
+        right: (13043817825332782212, 268435456),
+        product: (18446744073709551615, 268435519),
+    },
+    Pair {
+        left: (13043817825332782213, 268435456),
+        right: (13043817825332782213, 268435456),
+        product: (9223372036854775808, 268435520),
+    },
+    Pair {
+        left: (18446744073709551614, 268435459),
+        right: (9223372036854775809, 268435449),
+        product: (18446744073709551615, 268435515),
+    },
+];
+
+const ROWS: [Row; 12] = [
+    Row {
+        digits: [
+            18446744073709551615,
+            18446744073709551615,
+            18446744073709551615,
+        ],
+        exponents: [268435456, 268435456, 268435456],
+        sum: (13835058055282163711, 268435458),
+        least: (18446744073709551615, 268435456),
+    },
+    Row {
+        digits: [
+            9223372036854775808,
+            18446744073709551615,
+            18446744073709551615,
+        ],
+        exponents: [268435520, 268435456, 268435456],
+        sum: (9223372036854775808, 268435520),
+        least: (18446744073709551615, 268435456),
+    },
+    Row {
+        digits: [9223372036854775808, 18446744073709551615, 0],
+        exponents: [268435519, 268435456, 0],
+        sum: (9223372036854775809, 268435519),
+        least: (18446744073709551615, 268435456),
+    },
+    Row {
+        digits: [18446744073709551615, 9223372036854775808, 0],
+        exponents: [268435456, 268435393, 0],
+        sum: (9223372036854775808, 268435457),
+        least: (9223372036854775808, 268435393),
+    },
+    Row {
+        digits: [18446744073709551615, 9223372036854775808, 0],
+        exponents: [268435456, 268435392, 0],
+        sum: (18446744073709551615, 268435456),
+        least: (9223372036854775808, 268435392),
+    },
+    Row {
+        digits: [0, 0, 0],
+        exponents: [0, 0, 0],
+        sum: (0, 0),
+        least: (0, 0),
+    },
+    Row {
+        digits: [0, 9223372036854775808, 9223372036854775808],
+        exponents: [0, 268365456, 268505456],
+        sum: (9223372036854775808, 268505456),
+        least: (9223372036854775808, 268365456),
+    },
+    Row {
+        digits: [
+            18446744073709551615,
+            9223372036854775808,
+            9223372036854775809,
+        ],
+        exponents: [268435456, 268435456, 268435456],
+        sum: (9223372036854775808, 268435458),
+        least: (9223372036854775808, 268435456),
+    },
+    Row {
+        digits: [9223372036854775808, 18446744073709551615, 0],
+        exponents: [268435456, 268435455, 0],
+        sum: (18446744073709551615, 268435456),
+        least: (18446744073709551615, 268435455),
+    },
+    Row {
+        digits: [
+            18446744073709551615,
+            18446744073709551615,
+            18446744073709551615,
+        ],
+        exponents: [268435457, 268435456, 268435455],
+        sum: (16140901064495857662, 268435458),
+        least: (18446744073709551615, 268435455),
+    },
+    Row {
+        digits: [9223372036854775808, 9223372036854775808, 0],
+        exponents: [268435456, 268435456, 0],
+        sum: (9223372036854775808, 268435457),
+        least: (9223372036854775808, 268435456),
+    },
+    Row {
+        digits: [
+            18446744073709551614,
+            9223372036854775808,
+            9223372036854775808,
+        ],
+        exponents: [268435496, 268435496, 268435495],
+        sum: (16140901064495857663, 268435497),
+        least: (9223372036854775808, 268435495),
+    },
+];
+
+const PRODUCTS: [Products; 11] = [
+    Products {
+        left_digits: [9223372036854775808, 9223372036854775808],
+        left_exponents: [268435456, 268435456],
+        right_digits: [9223372036854775808, 9223372036854775808],
+        right_exponents: [268435456, 268435456],
+        each_digits: [9223372036854775808, 9223372036854775808],
+        each_exponents: [268435519, 268435519],
+        sum: (9223372036854775808, 268435520),
+        least: (9223372036854775808, 268435519),
+    },
+    Products {
+        left_digits: [9223372036854775808, 0],
+        left_exponents: [268435456, 0],
+        right_digits: [9223372036854775808, 9223372036854775808],
+        right_exponents: [268435456, 268435456],
+        each_digits: [9223372036854775808, 0],
+        each_exponents: [268435519, 0],
+        sum: (9223372036854775808, 268435519),
+        least: (9223372036854775808, 268435519),
+    },
+    Products {
+        left_digits: [18446744073709551615, 18446744073709551615],
+        left_exponents: [268435456, 268435456],
+        right_digits: [18446744073709551615, 18446744073709551615],
+        right_exponents: [268435456, 268435456],
+        each_digits: [18446744073709551614, 18446744073709551614],
+        each_exponents: [268435520, 268435520],
+        sum: (18446744073709551614, 268435521),
+        least: (18446744073709551614, 268435520),
+    },
+    Products {
+        left_digits: [18446744073709551615, 9223372036854775808],
+        left_exponents: [268435456, 268435456],
+        right_digits: [18446744073709551615, 9223372036854775808],
+        right_exponents: [268435456, 268435457],
+        each_digits: [18446744073709551614, 9223372036854775808],
+        each_exponents: [268435520, 268435520],
+        sum: (13835058055282163711, 268435521),
+        least: (9223372036854775808, 268435520),
+    },
+    Products {
+        left_digits: [18446744073709551615, 9223372036854775808],
+        left_exponents: [268435456, 268435457],
+        right_digits: [18446744073709551615, 9223372036854775808],
+        right_exponents: [268435456, 268435457],
+        each_digits: [18446744073709551614, 9223372036854775808],
+        each_exponents: [268435520, 268435521],
+        sum: (18446744073709551614, 268435521),
+        least: (18446744073709551614, 268435520),
+    },
+    Products {
+        left_digits: [0, 18446744073709551615],
+        left_exponents: [0, 268435465],
+        right_digits: [9223372036854775808, 18446744073709551615],
+        right_exponents: [268435456, 268505456],
+        each_digits: [0, 18446744073709551614],
+        each_exponents: [0, 268505529],
+        sum: (18446744073709551614, 268505529),
+        least: (18446744073709551614, 268505529),
+    },
+    Products {
+        left_digits: [0, 9223372036854775808],
+        left_exponents: [0, 268435456],
+        right_digits: [18446744073709551615, 0],
+        right_exponents: [268435456, 0],
+        each_digits: [0, 0],
+        each_exponents: [0, 0],
+        sum: (0, 0),
+        least: (0, 0),
+    },
+    Products {
+        left_digits: [9223372036854775808, 18446744073709551615],
+        left_exponents: [268385456, 268485456],
+        right_digits: [9223372036854775808, 18446744073709551615],
+        right_exponents: [268415456, 268455456],
+        each_digits: [9223372036854775808, 18446744073709551614],
+        each_exponents: [268365519, 268505520],
+        sum: (18446744073709551614, 268505520),
+        least: (9223372036854775808, 268365519),
+    },
+    Products {
+        left_digits: [18446744073709551615, 18446744073709551615],
+        left_exponents: [268435520, 268435456],
+        right_digits: [9223372036854775808, 18446744073709551615],
+        right_exponents: [268435456, 268435456],
+        each_digits: [18446744073709551615, 18446744073709551614],
+        each_exponents: [268435583, 268435520],
+        sum: (18446744073709551614, 268435583),
+        least: (18446744073709551614, 268435520),
+    },
+    Products {
+        left_digits: [18446744073709551615, 18446744073709551615],
+        left_exponents: [268435519, 268435456],
+        right_digits: [9223372036854775808, 18446744073709551615],
+        right_exponents: [268435456, 268435456],
+        each_digits: [18446744073709551615, 18446744073709551614],
+        each_exponents: [268435582, 268435520],
+        sum: (9223372036854775808, 268435583),
+        least: (18446744073709551614, 268435520),
+    },
+    Products {
+        left_digits: [9223372036854775809, 9223372036854775808],
+        left_exponents: [268435456, 268435456],
+        right_digits: [9223372036854775809, 9223372036854775811],
+        right_exponents: [268435456, 268435456],
+        each_digits: [9223372036854775810, 9223372036854775811],
+        each_exponents: [268435519, 268435519],
+        sum: (9223372036854775810, 268435520),
+        least: (9223372036854775810, 268435519),
+    },
+];
+
+fn parts(cell: Cell) -> Parts {
+    (cell.digits, cell.exponent)
+}
+
+fn check_cell(rt: &impl Abort, digits: u64, exponent: u32)
+    ensures { IsCell digits exponent }
+{
+    if digits == 0 {
+        assert_eq!(rt; exponent, 0);
+    } else {
+        assert!(rt; digits >= 1 << 63);
+        assert!(rt; exponent >= 3 << 26);
+    }
+    assert!(rt; exponent <= 5 << 26);
+}
+
+fn check_cells(rt: &impl Abort, digits: &[u64], exponents: &[u32])
+    ensures { AreCells digits.now exponents.now }
+{
+    assert_eq!(rt; exponents.len(), digits.len());
+    for c in 0..digits.len() {
+        check_cell(rt, digits[c], exponents[c]);
+    }
+}
+
+fn cell(rt: &impl Abort, parts: Parts) -> Cell
+    ensures { IsCell result.digits result.exponent }
+{
+    let (digits, exponent) = parts;
+    check_cell(rt, digits, exponent);
+    Cell { digits, exponent }
+}
+
+fn check_pair(rt: &impl Abort, pair: Pair) {
+    let left = cell(rt, pair.left);
+    let right = cell(rt, pair.right);
+    assert_eq!(rt; parts(left.times(right)), pair.product);
+    assert_eq!(rt; parts(right.times(left)), pair.product);
+}
+
+fn check_row(rt: &impl Abort, row: Row) {
+    check_cells(rt, &row.digits, &row.exponents);
+    assert_eq!(rt; parts(sum(&row.digits, &row.exponents)), row.sum);
+    assert_eq!(rt; parts(least(&row.digits, &row.exponents)), row.least);
+}
+
+fn check_products(rt: &impl Abort, row: Products) {
+    check_cells(rt, &row.left_digits, &row.left_exponents);
+    check_cells(rt, &row.right_digits, &row.right_exponents);
+    let sum = sum_of_products(
+        &row.left_digits,
+        &row.left_exponents,
+        &row.right_digits,
+        &row.right_exponents,
+    );
+    let least = least_of_products(
+        &row.left_digits,
+        &row.left_exponents,
+        &row.right_digits,
+        &row.right_exponents,
+    );
+    assert_eq!(rt; parts(sum), row.sum);
+    assert_eq!(rt; parts(least), row.least);
+}
+
+fn check_each(rt: &impl Abort, row: Products) {
+    check_cells(rt, &row.left_digits, &row.left_exponents);
+    check_cells(rt, &row.right_digits, &row.right_exponents);
+    let mut digits = row.left_digits;
+    let mut exponents = row.left_exponents;
+    times_each(
+        &mut digits,
+        &mut exponents,
+        &row.right_digits,
+        &row.right_exponents,
+    );
+    assert_eq!(rt; digits, row.each_digits);
+    assert_eq!(rt; exponents, row.each_exponents);
+}
+
+/// The enclosure of the sum of two numbers.
+fn enclosed_sum(a: u64, b: u64) -> Option<Enclosure> {
+    let left = Cell::of_whole(a, 0);
+    let right = Cell::of_whole(b, 0);
+    let digits = [left.digits, right.digits];
+    let exponents = [left.exponent, right.exponent];
+    sum(&digits, &exponents).enclosure(0, 1)
+}
+
+/// The enclosure of the product of two numbers.
+fn enclosed_product(a: u64, b: u64) -> Option<Enclosure> {
+    let left = Cell::of_whole(a, 0);
+    let right = Cell::of_whole(b, 0);
+    left.times(right).enclosure(0, 1)
+}
+
+/// The enclosure of `2^40` times a number, by the number's cell.
+fn enclosed_own(n: u64) -> Option<Enclosure> {
+    Cell::of_whole(n, 0).own_enclosure(40, 1)
+}
+
+/// Mantissas and exponents of both ends; (0, 0) for none.
+fn ends(enclosure: Option<Enclosure>) -> ((u64, u64), (u64, u64)) {
+    match enclosure {
+        Some(e) => {
+            let lo = e.lo();
+            let hi = e.hi();
+            (
+                (lo.mantissa(), lo.exponent()),
+                (hi.mantissa(), hi.exponent()),
+            )
+        }
+        None => ((0, 0), (0, 0)),
+    }
+}
+
+#[test]
+fn whole_numbers(rt: HostRuntime) {
+    assert_eq!(rt; parts(Cell::of_whole(0, 40)), (0, 0));
+    assert_eq!(rt;
+        parts(Cell::of_whole(1, 0)),
+        (9223372036854775808, 268435393)
+    );
+    assert_eq!(rt;
+        parts(Cell::of_whole(1, 40)),
+        (9223372036854775808, 268435353)
+    );
+    assert_eq!(rt;
+        parts(Cell::of_whole(u64::MAX, 40)),
+        (18446744073709551615, 268435416)
+    );
+    assert_eq!(rt;
+        parts(Cell::of_whole(1 << 63, 0)),
+        (9223372036854775808, 268435456)
+    );
+    assert_eq!(rt;
+        parts(Cell::of_whole(3, 70000)),
+        (13835058055282163712, 268365394)
+    );
+}
+
+#[test]
+fn products_of_two(rt: HostRuntime) {
+    for pair in PAIRS {
+        check_pair(&rt, pair);
+    }
+}
+
+#[test]
+fn sums_and_minima(rt: HostRuntime) {
+    for row in ROWS {
+        check_row(&rt, row);
+    }
+}
+
+#[test]
+fn sums_and_minima_of_products(rt: HostRuntime) {
+    for row in PRODUCTS {
+        check_products(&rt, row);
+        check_each(&rt, row);
+    }
+}
+
+#[test]
+fn enclosures_of_sums(rt: HostRuntime) {
+    let half = 1 << 62;
+    assert_eq!(rt; ends(enclosed_sum(0, 0)), ((0, 0), (0, 0)));
+    assert_eq!(rt; ends(enclosed_sum(0, 5)), ((5, 0), (5, 0)));
+    assert_eq!(rt;
+        ends(enclosed_sum(half, half - 1)),
+        ((9223372036854775807, 0), (9223372036854775807, 0))
+    );
+    assert_eq!(rt;
+        ends(enclosed_sum(half, half)),
+        ((9223372036854775808, 0), (9223372036854775815, 0))
+    );
+    assert_eq!(rt;
+        ends(enclosed_sum(18446744073709551608, 0)),
+        ((18446744073709551608, 0), (18446744073709551615, 0))
+    );
+    assert_eq!(rt;
+        ends(enclosed_sum(18446744073709551609, 0)),
+        ((18446744073709551609, 0), (9223372036854775808, 1))
+    );
+    assert_eq!(rt;
+        ends(enclosed_sum(u64::MAX, u64::MAX)),
+        ((18446744073709551615, 1), (9223372036854775811, 2))
+    );
+}
+
+#[test]
+fn enclosures_of_own_numbers(rt: HostRuntime) {
+    assert_eq!(rt; ends(enclosed_own(0)), ((0, 0), (0, 0)));
+    assert_eq!(rt;
+        ends(enclosed_own(5)),
+        ((5497558138880, 0), (5497558138880, 0))
+    );
+    // Below 2^63 the number is exact, though 2^40 times it is not below 2^63.
+    assert_eq!(rt;
+        ends(enclosed_own(9223372036854775807)),
+        ((18446744073709551614, 39), (18446744073709551614, 39))
+    );
+    assert_eq!(rt;
+        ends(enclosed_own(9223372036854775808)),
+        ((9223372036854775808, 40), (9223372036854775815, 40))
+    );
+}
+
+#[test]
+fn enclosures_of_products(rt: HostRuntime) {
+    assert_eq!(rt; ends(enclosed_product(0, u64::MAX)), ((0, 0), (0, 0)));
+    assert_eq!(rt;
+        ends(enclosed_product(3037000499, 3037000500)),
+        ((9223372033963249500, 0), (9223372033963249500, 0))
+    );
+    assert_eq!(rt;
+        ends(enclosed_product(3037000500, 3037000500)),
+        ((9223372037000250000, 0), (9223372037000250007, 0))
+    );
+    assert_eq!(rt;
+        ends(enclosed_product(1 << 32, 1 << 31)),
+        ((9223372036854775808, 0), (9223372036854775815, 0))
+    );
+    assert_eq!(rt;
+        ends(enclosed_product(u64::MAX, u64::MAX)),
+        ((18446744073709551614, 64), (9223372036854775811, 65))
+    );
+}

@@ -1,0 +1,18 @@
+//! Trials of numbers: enclosures, cells, semirings, cash and quotes, over the public calls of their crates: a crate of its own, since a
+//! crate with tests is proved twice.
+#![tactic(auto)]
+
+#[cfg(test)]
+mod cash;
+#[cfg(test)]
+mod cells;
+#[cfg(test)]
+mod enclosures;
+#[cfg(test)]
+mod quotes;
+#[cfg(test)]
+mod scaled;
+#[cfg(test)]
+mod semirings;
+#[cfg(test)]
+mod spreads;

@@ -1,0 +1,194 @@
+//! Limits and ratios that were worked out by hand, and sides at the edges by an exact reference over whole numbers.
+ghost use Rattle.std.specs.Prelude.{◌≤◌};
+
+use mk_enclose::{Enclosure, Factor};
+use mk_net::{Event, Pair, Question};
+use mk_quote::{Bounds, Quote, SideBounds};
+use mk_scaled::Scaled;
+use std::process::Abort;
+
+/// A side without an error, a share, and what is right for it.
+#[derive(Clone, Copy)]
+struct Edge {
+    part: u64,
+    whole: u64,
+    gain: u64,
+    trades: u32,
+    net: i64,
+    share: u32,
+    units: Option<u64>,
+    interval: Option<(u32, u32)>,
+}
+
+const EDGES: [Edge; 6] = [
+    Edge {
+        part: 1,
+        whole: 8796093022208,
+        gain: 1,
+        trades: 0,
+        net: 0,
+        share: 1,
+        units: None,
+        interval: None,
+    },
+    Edge {
+        part: 1,
+        whole: 4398046511104,
+        gain: 1,
+        trades: 0,
+        net: 0,
+        share: 1,
+        units: Some(4835703278458516698),
+        interval: Some((1, 1)),
+    },
+    Edge {
+        part: 1,
+        whole: 1073741824,
+        gain: 1,
+        trades: 0,
+        net: 0,
+        share: 7812,
+        units: Some(9222781741044417102),
+        interval: Some((1, 7812)),
+    },
+    Edge {
+        part: 1,
+        whole: 2,
+        gain: 7,
+        trades: 0,
+        net: -3,
+        share: 571429,
+        units: Some(1256585659896),
+        interval: Some((571429, 999999)),
+    },
+    Edge {
+        part: 1,
+        whole: 2,
+        gain: 7,
+        trades: 0,
+        net: -3,
+        share: 571428,
+        units: None,
+        interval: Some((571429, 999999)),
+    },
+    Edge {
+        part: 999999,
+        whole: 999998,
+        gain: 1,
+        trades: 0,
+        net: 1000,
+        share: 1,
+        units: Some(1099510),
+        interval: Some((1, 999999)),
+    },
+];
+
+fn exact(rt: &impl Abort, number: u64) -> Enclosure {
+    assert!(rt; number >= 1);
+    Enclosure::exact(number)
+}
+
+fn factor(rt: &impl Abort, gain: u64, trades: u32, net: i64) -> Factor {
+    Factor {
+        gain: exact(rt, gain),
+        trades,
+        net,
+    }
+}
+
+fn check_edge(rt: &impl Abort, edge: Edge) {
+    let side = SideBounds {
+        part: exact(rt, edge.part),
+        whole: exact(rt, edge.whole),
+        factor: factor(rt, edge.gain, edge.trades, edge.net),
+    };
+    assert!(rt; edge.share <= 999_999);
+    assert_eq!(rt; side.judge(edge.share), edge.units);
+    assert_eq!(rt; side.interval(), edge.interval);
+}
+
+#[test]
+fn sides_at_edges(rt: HostRuntime) {
+    for edge in EDGES {
+        check_edge(&rt, edge);
+    }
+}
+
+/// A coin before any trade, for a user who paid in so many bits.
+fn fair_coin(rt: &impl Abort, net: i64) -> Bounds {
+    Bounds {
+        hit: exact(rt, 500_000),
+        miss: exact(rt, 500_000),
+        whole: exact(rt, 1_000_000),
+        hit_factor: factor(rt, 1, 0, net),
+        miss_factor: factor(rt, 1, 0, net),
+    }
+}
+
+/// The coin after a trade to 0.6 by a user who paid in one bit.
+fn traded_coin(rt: &impl Abort) -> Bounds {
+    Bounds {
+        hit: exact(rt, 500_000 * 1319413953331),
+        miss: exact(rt, 500_000 * 879609302220),
+        whole: exact(rt, 500_000 * 2199023255551),
+        hit_factor: factor(rt, 1319413953331, 1, 1),
+        miss_factor: factor(rt, 879609302220, 1, 1),
+    }
+}
+
+#[test]
+fn coin(rt: HostRuntime) {
+    let fair = fair_coin(&rt, 1);
+    assert_eq!(rt; fair.limits(), Some((250000, 750000)));
+    assert_eq!(rt; fair.judge(600000), Some((1319413953331, 879609302220)));
+    assert_eq!(rt; fair_coin(&rt, 0).limits(), Some((500000, 500000)));
+    let traded = traded_coin(&rt);
+    assert_eq!(rt; traded.limits(), Some((250001, 749999)));
+    assert_eq!(rt; traded.judge(749999), Some((1374387702200, 687197516139)));
+    assert_eq!(rt; traded.judge(750000), None);
+}
+
+/// The coin after that trade, for a user who has paid in nothing.
+#[test]
+fn nothing_is_allowed(rt: HostRuntime) {
+    let mut bounds = traded_coin(&rt);
+    bounds.hit_factor = factor(&rt, 1, 0, 0);
+    bounds.miss_factor = factor(&rt, 1, 0, 0);
+    assert_eq!(rt; bounds.limits(), None);
+    assert_eq!(rt; bounds.judge(600000), None);
+}
+
+/// Ends that are apart: the ratio takes the lower end of the whole and the upper end of the part.
+#[test]
+fn ends_apart(rt: HostRuntime) {
+    let side = SideBounds {
+        part: Enclosure::between(Scaled::of_whole(3), Scaled::of_whole(4)),
+        whole: Enclosure::between(Scaled::of_whole(8), Scaled::of_whole(16)),
+        factor: factor(&rt, 1, 0, 0),
+    };
+    assert_eq!(rt; side.ratio(500_000), Some(1 << 40));
+    assert_eq!(rt; side.interval(), Some((500_000, 999_999)));
+}
+
+fn question(rt: &impl Abort, target: Pair, first: Pair, second: Pair) -> Question {
+    let event = Event::empty().with(first).expect(rt, "room");
+    let condition = event.with(second).expect(rt, "room");
+    Question::make(target, condition).expect(rt, "a question")
+}
+
+#[test]
+fn quotes(rt: HostRuntime) {
+    let pair = |variable, value| Pair { variable, value };
+    let asked = question(&rt, pair(0, 1), pair(1, 0), pair(2, 3));
+    let quote = Quote::make(7, asked, 2, &fair_coin(&rt, 1));
+    assert_eq!(rt; quote.user(), 7);
+    assert_eq!(rt; quote.limits(), Some((250000, 750000)));
+    assert_eq!(rt; quote.judge(750000), Some((1649267441664, 549755813888)));
+    assert_eq!(rt; quote.judge(750001), None);
+    assert!(rt; quote.is_for(&asked, 2));
+    assert!(rt; !quote.is_for(&asked, 3));
+    let turned = question(&rt, pair(0, 1), pair(2, 3), pair(1, 0));
+    assert!(rt; !quote.is_for(&turned, 2));
+    let other = question(&rt, pair(0, 0), pair(1, 0), pair(2, 3));
+    assert!(rt; !quote.is_for(&other, 2));
+}

@@ -1,0 +1,268 @@
+//! Whole distributions: the die of three values, and sixteen values at the edges, by an exact reference over whole numbers.
+
+use arrayvec::ArrayVec;
+use mk_enclose::{Enclosure, Factor};
+use mk_net::{Event, Pair};
+use mk_quote::{SpreadBounds, SpreadQuestion, SpreadQuote, ValueBounds};
+use std::process::Abort;
+
+/// A value without an error, the shares that it may be given, one of them, and the units for that.
+#[derive(Clone, Copy)]
+struct Value {
+    part: u64,
+    gain: u64,
+    interval: (u32, u32),
+    share: u32,
+    units: u64,
+}
+
+const DIE: [Value; 3] = [
+    Value {
+        part: 333333,
+        gain: 1,
+        interval: (166667, 999999),
+        share: 200000,
+        units: 659707636373,
+    },
+    Value {
+        part: 333333,
+        gain: 1,
+        interval: (166667, 999999),
+        share: 300000,
+        units: 989561454559,
+    },
+    Value {
+        part: 333334,
+        gain: 1,
+        interval: (166667, 999999),
+        share: 500000,
+        units: 1649264143135,
+    },
+];
+
+const SIXTEEN: [Value; 16] = [
+    Value {
+        part: 20246634,
+        gain: 2788053345956,
+        interval: (25, 999999),
+        share: 105859,
+        units: 463959290301849,
+    },
+    Value {
+        part: 698935573,
+        gain: 2921083675072,
+        interval: (815, 999999),
+        share: 57629,
+        units: 7316592360110,
+    },
+    Value {
+        part: 75,
+        gain: 2874658040376,
+        interval: (1, 7795),
+        share: 7795,
+        units: 9222735988449283177,
+    },
+    Value {
+        part: 47648925714,
+        gain: 3413709269039,
+        interval: (47541, 999999),
+        share: 104355,
+        units: 194341284720,
+    },
+    Value {
+        part: 932,
+        gain: 864064640395,
+        interval: (1, 96872),
+        share: 56815,
+        units: 5409436401234002177,
+    },
+    Value {
+        part: 5217088973,
+        gain: 2923075714961,
+        interval: (6079, 999999),
+        share: 62893,
+        units: 1069741854582,
+    },
+    Value {
+        part: 7105,
+        gain: 1239694693703,
+        interval: (1, 738497),
+        share: 56815,
+        units: 709584057135832516,
+    },
+    Value {
+        part: 75006692,
+        gain: 839118057987,
+        interval: (305, 999999),
+        share: 57119,
+        units: 67574914316060,
+    },
+    Value {
+        part: 95120,
+        gain: 3545700563753,
+        interval: (1, 999999),
+        share: 56815,
+        units: 53002467682402123,
+    },
+    Value {
+        part: 6118263335,
+        gain: 2890782666807,
+        interval: (7209, 999999),
+        share: 64023,
+        units: 928565995547,
+    },
+    Value {
+        part: 3658,
+        gain: 3131287143860,
+        interval: (1, 380214),
+        share: 56815,
+        units: 1378238033337914168,
+    },
+    Value {
+        part: 591,
+        gain: 2595044832735,
+        interval: (1, 61428),
+        share: 56815,
+        units: 8530617133587292773,
+    },
+    Value {
+        part: 53246120,
+        gain: 2751701365076,
+        interval: (66, 999999),
+        share: 56880,
+        units: 94793059725654,
+    },
+    Value {
+        part: 48846,
+        gain: 3828652355710,
+        interval: (1, 999999),
+        share: 56815,
+        units: 103214075378743193,
+    },
+    Value {
+        part: 20866963148,
+        gain: 2458070545135,
+        interval: (28914, 999999),
+        share: 85728,
+        units: 364559452513,
+    },
+    Value {
+        part: 7031987,
+        gain: 2003401172016,
+        interval: (12, 999999),
+        share: 56829,
+        units: 717128322970506,
+    },
+];
+
+/// The weight of the sixteen values together.
+const WHOLE: u64 = 80705864503;
+
+fn exact(rt: &impl Abort, number: u64) -> Enclosure {
+    assert!(rt; number >= 1);
+    Enclosure::exact(number)
+}
+
+/// The bounds of some values, for a user with so many trades and bits.
+fn bounds_of(rt: &impl Abort, values: &[Value], whole: u64, trades: u32, net: i64) -> SpreadBounds {
+    let mut parts = ArrayVec::new();
+    for value in values {
+        let part = ValueBounds {
+            part: exact(rt, value.part),
+            factor: Factor {
+                gain: exact(rt, value.gain),
+                trades,
+                net,
+            },
+        };
+        assert!(rt; parts.try_push(part).is_ok());
+    }
+    SpreadBounds {
+        whole: exact(rt, whole),
+        parts,
+    }
+}
+
+fn question(rt: &impl Abort, variable: u32, pairs: &[Pair]) -> SpreadQuestion {
+    let mut condition = Event::empty();
+    for pair in pairs {
+        condition = condition.with(*pair).expect(rt, "room");
+    }
+    SpreadQuestion::make(variable, condition).expect(rt, "a question")
+}
+
+fn quote_of(rt: &impl Abort, bounds: &SpreadBounds) -> SpreadQuote {
+    SpreadQuote::make(7, question(rt, 0, &[]), 2, bounds)
+}
+
+/// Every interval, and the units of every share.
+fn check(rt: &impl Abort, values: &[Value], quote: &SpreadQuote) {
+    let mut intervals: ArrayVec<(u32, u32), 16> = ArrayVec::new();
+    let mut shares: ArrayVec<u32, 16> = ArrayVec::new();
+    let mut units: ArrayVec<u64, 16> = ArrayVec::new();
+    for value in values {
+        assert!(rt; intervals.try_push(value.interval).is_ok());
+        assert!(rt; shares.try_push(value.share).is_ok());
+        assert!(rt; units.try_push(value.units).is_ok());
+    }
+    let printed = quote.intervals().expect(rt, "intervals");
+    assert!(rt; printed.as_slice() == intervals.as_slice());
+    let judged = quote.judge(shares.as_slice()).expect(rt, "inside");
+    assert!(rt; judged.as_slice() == units.as_slice());
+}
+
+#[test]
+fn die(rt: HostRuntime) {
+    let quote = quote_of(&rt, &bounds_of(&rt, &DIE, 1_000_000, 0, 1));
+    check(&rt, &DIE, &quote);
+    assert!(rt; quote.judge(&[166_667, 300_000, 533_333]).is_some());
+    assert!(rt; quote.judge(&[166_666, 300_000, 533_334]).is_none());
+    assert!(rt; quote.judge(&[100_000, 400_000, 500_000]).is_none());
+    assert!(rt; quote.judge(&[500_000, 500_000]).is_none());
+    assert!(rt; quote.judge(&[200_000, 200_000, 300_000, 300_000]).is_none());
+}
+
+#[test]
+fn sixteen_values(rt: HostRuntime) {
+    let quote = quote_of(&rt, &bounds_of(&rt, &SIXTEEN, WHOLE, 1, 2));
+    check(&rt, &SIXTEEN, &quote);
+}
+
+/// A user who has paid in nothing cannot lower any price, and one who owes can set none.
+#[test]
+fn without_bits(rt: HostRuntime) {
+    let even = quote_of(&rt, &bounds_of(&rt, &DIE, 1_000_000, 0, 0));
+    let intervals = even.intervals().expect(&rt, "intervals");
+    assert!(rt;
+        intervals.as_slice() == &[(333_333, 999_999), (333_333, 999_999), (333_334, 999_999)][..]
+    );
+    let owing = quote_of(&rt, &bounds_of(&rt, &DIE, 1_000_000, 0, -2));
+    assert!(rt; owing.intervals().is_none());
+    assert!(rt; owing.judge(&[333_333, 333_333, 333_334]).is_none());
+}
+
+#[test]
+fn quotes(rt: HostRuntime) {
+    let pair = |variable, value| Pair { variable, value };
+    let asked = question(&rt, 0, &[pair(1, 0), pair(2, 3)]);
+    let bounds = bounds_of(&rt, &DIE, 1_000_000, 0, 1);
+    let quote = SpreadQuote::make(7, asked, 2, &bounds);
+    assert_eq!(rt; quote.user(), 7);
+    assert!(rt; quote.is_for(&asked, 2));
+    assert!(rt; !quote.is_for(&asked, 3));
+    let turned = question(&rt, 0, &[pair(2, 3), pair(1, 0)]);
+    assert!(rt; !quote.is_for(&turned, 2));
+    let other = question(&rt, 4, &[pair(1, 0), pair(2, 3)]);
+    assert!(rt; !quote.is_for(&other, 2));
+}
+
+#[test]
+fn questions(rt: HostRuntime) {
+    let condition = Event::empty().with(Pair {
+        variable: 3,
+        value: 0,
+    });
+    let condition = condition.expect(&rt, "room");
+    assert!(rt; SpreadQuestion::make(2, condition).is_some());
+    assert!(rt; SpreadQuestion::make(3, condition).is_none());
+}

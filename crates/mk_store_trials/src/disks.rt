@@ -1,0 +1,92 @@
+//! A disk in memory that fails and crashes, and one real file.
+
+use mk_disk::{Choice, Disk, DiskFailed, MemoryDisk, StdDisk};
+use std::alloc::{AllocError, Global};
+use std::fs;
+use std::process::Abort;
+use std::test::Fail;
+
+const NAME: &str = "store";
+
+const REAL_NAME: &str = "a_real_file.store";
+
+// What a crash leaves after two durable bytes and a write of three from the second on, where the
+// run stops at the first call that fails.
+fn left_after(
+    rt: &impl Abort,
+    alloc: Global,
+    failing: u64,
+    choice: Choice,
+) -> Result<Vec<u8>, AllocError> {
+    let mut disk = MemoryDisk::new(alloc, vec![in alloc; failing]?);
+    assert!(rt; disk.open(NAME).is_ok());
+    assert!(rt; disk.write_at(0, &[7, 8]).is_ok());
+    assert!(rt; disk.sync().is_ok());
+    assert_eq!(rt; disk.write_at(1, &[9, 10, 11]).is_err(), failing == 4);
+    if failing > 4 {
+        assert_eq!(rt; disk.sync().is_err(), failing == 5);
+    }
+    disk.crash(choice)?.bytes(NAME)
+}
+
+#[test]
+fn a_crash_leaves_what_was_chosen(rt: HostRuntime) -> Result<(), Fail> {
+    let written: &[u8] = &[7, 9, 10, 11];
+    let cases: [(u64, Choice, &[u8]); 9] = [
+        (4, Choice::Old, &[7, 8]),
+        (4, Choice::New, &[7, 8]),
+        (4, Choice::Noise, &[7, 1, 1, 1]),
+        (5, Choice::Old, &[7, 8]),
+        (5, Choice::New, written),
+        (5, Choice::Noise, &[7, 1, 1, 1]),
+        (6, Choice::Old, written),
+        (6, Choice::New, written),
+        (6, Choice::Noise, written),
+    ];
+    for (failing, choice, expected) in cases {
+        let left = left_after(&rt, rt.alloc(), failing, choice)?;
+        assert!(rt; left.as_slice() == expected);
+    }
+    Ok(())
+}
+
+#[test]
+fn files_have_names(rt: HostRuntime) -> Result<(), Fail> {
+    let alloc = rt.alloc();
+    let mut disk = MemoryDisk::new(alloc, vec![in alloc; 6]?);
+    let mut buf = [0; 4];
+    assert!(rt; disk.open(NAME).is_ok());
+    assert!(rt; disk.write_at(0, &[7, 8]).is_ok());
+    assert!(rt; disk.open("other").is_ok());
+    assert_eq!(rt; disk.length(), Ok(0));
+    assert_eq!(rt; disk.read_at(0, &mut buf), Ok(0));
+    assert_eq!(rt; disk.read_at(0, &mut buf), Err(DiskFailed));
+    assert!(rt; disk.open(NAME).is_ok());
+    assert_eq!(rt; disk.read_at(1, &mut buf), Ok(1));
+    assert_eq!(rt; buf, [8, 0, 0, 0]);
+    assert_eq!(rt; disk.length(), Ok(2));
+    assert_eq!(rt; disk.calls(), 9);
+    Ok(())
+}
+
+#[test]
+fn a_real_file(rt: HostRuntime) -> Result<(), Fail> {
+    let mut disk = StdDisk::new(&rt);
+    let mut buf = [0; 4];
+    assert!(rt; disk.open("no such folder/store").is_err());
+    assert!(rt; disk.open(REAL_NAME).is_ok());
+    assert_eq!(rt; disk.length(), Ok(0));
+    assert!(rt; disk.write_at(0, &[7, 8, 9]).is_ok());
+    assert!(rt; disk.sync().is_ok());
+    assert!(rt; disk.write_at(1, &[10]).is_ok());
+    assert!(rt; disk.sync().is_ok());
+
+    let mut again = StdDisk::new(&rt);
+    assert!(rt; again.open(REAL_NAME).is_ok());
+    assert_eq!(rt; again.length(), Ok(3));
+    assert_eq!(rt; again.read_at(1, &mut buf), Ok(2));
+    assert_eq!(rt; buf, [10, 9, 0, 0]);
+    assert_eq!(rt; again.read_at(3, &mut buf), Ok(0));
+    fs::remove_file(&rt, REAL_NAME)?;
+    Ok(())
+}

@@ -1,0 +1,10 @@
+//! Trials of lines, disks and stores, over the public calls of `mk_io`, `mk_disk` and `mk_journal`: a crate of its own, since a crate
+//! with tests is proved twice.
+#![tactic(auto)]
+
+#[cfg(test)]
+mod disks;
+#[cfg(test)]
+mod journals;
+#[cfg(test)]
+mod lines;
