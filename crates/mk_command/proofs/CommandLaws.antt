@@ -1,6 +1,6 @@
 -- Each command is read from its text, and from no other.
-use Rattle.std.specs.Prelude.{◌≡◌, ℕ, List, [], ◌∷◌, ◌++◌, codes, decimal, Option, Some, None, IfSome, IfOk, OnErr, Result, Ok, Err, ◌≢◌}
-use Rattle.std.proofs.Common.{refl, sym, ap, ◌∙◌, inl, inr}
+use Rattle.std.specs.Prelude.{◌≡◌, ℕ, List, [], ◌∷◌, ◌++◌, codes, decimal, Option, Some, None, IfSome, IfOk, OnErr, MatchResult, Result, Ok, Err, ◌≢◌}
+use Rattle.std.proofs.Common.{refl, sym, ◌∙◌, inl, inr}
 use Rattle.mk_net.specs.declared.words.PairText.{PairText}
 use Rattle.mk_net.specs.Name.{IsName}
 use Rattle.mk_net.specs.declared.words.QuestionText.{QuestionText}
@@ -10,11 +10,12 @@ use Rattle.mk_text.specs.Joined.{spaced, AreSeveral}
 use Rattle.mk_text.specs.Texts.{condition_text, IsCondition, question_text, IsQuestionText}
 use Rattle.mk_text.specs.Words.{after, EndsWord}
 use Rattle.mk_text.specs.Reading.{Read, both, behind, given, nothing, read_name, read_short, read_several, read_condition, read_question}
-use Rattle.mk_text.proofs.ReadingLaws.{Took, Reads, Tells, Spelled, MayFollow, EndsItems, BothFit, both_text, behind_text, both_reads, behind_reads, perhaps_reads, spelled_by, spelled_alone, choose_takes, nothing_takes, made_last, whole_one}
+use Rattle.mk_text.proofs.ReadingLaws.{Took, Reads, Tells, Spelled, MayFollow, BothFit, both_text, behind_text, both_reads, behind_reads, perhaps_reads, spelled_by, spelled_alone, choose_takes, nothing_takes, made_last, whole_one}
 use Rattle.mk_text.proofs.PartLaws.{EndsQuestion, EndsSeveral, name_reads, short_reads, shorts_reads, pair_reads, condition_reads, question_reads}
-use Rattle.mk_command.specs.Commands.{command_text, IsCommand, at_text}
+use Rattle.mk_command.specs.Commands.{command_of, command_text, IsCommand, at_text}
 use Rattle.mk_command.specs.inner.Reading.{read_user, read_deposit, read_withdraw, read_price, read_limits, read_at, read_edit, held, read_bounds, read_spread, read_worst, read_resolve, forms, read_form}
 use Rattle.mk_command.specs.declared.command.Command.{Command}
+use Rattle.mk_command.specs.declared.command.CommandRef.{CommandRef}
 use Rattle.mk_command.specs.declared.command.Command.TheVariants.{User, Deposit, Withdraw, Price, Limits, Edit, Bounds, Spread, Worst, Resolve, Settle}
 
 abbrev OfCommand : List ℕ × Read Command → Type 0
@@ -213,7 +214,8 @@ pub form_tells : Tells read_form command_text IsCommand
 form_tells = record { takes = form_takes; last = form_last }
 
 -- what is read of a command's text
-pub read_again : (line : List ℕ) (c : Command) (read : Result Command Syntax) → IsCommand c → line ≡ command_text c →
-    IfOk read (λ d. IsCommand d × (line ≡ command_text d)) → OnErr read ((d : Command) → IsCommand d → line ≢ command_text d) → read ≡ Ok c
-read_again line c (Ok d) fits same found none = ap (λ (d : Command). Ok d) (whole_one form_tells d c (found.0) fits (sym (found.1) ∙ same))
-read_again line c (Err e) fits same found none = absurd (none c fits same)
+pub read_again : (line : List ℕ) (c : Command) (read : Result CommandRef Syntax) → IsCommand c → line ≡ command_text c →
+    IfOk read (λ d. IsCommand (command_of d) × (line ≡ command_text (command_of d))) → OnErr read ((d : Command) → IsCommand d → line ≢ command_text d) →
+    MatchResult read (λ d. command_of d ≡ c) (λ _. ⊥)
+read_again line c (Ok d) fits same found none = whole_one form_tells (command_of d) c (found.0) fits (sym (found.1) ∙ same)
+read_again line c (Err e) fits same found none = none c fits same

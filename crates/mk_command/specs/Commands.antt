@@ -5,7 +5,23 @@ use Rattle.mk_text.specs.Joined.{◌&◌, perhaps_text, spaced, AreSeveral}
 use Rattle.mk_text.specs.Numbers.{IsShort}
 use Rattle.mk_text.specs.Texts.{IsPairText, pair_text, IsCondition, condition_text, IsQuestionText, question_text}
 use Rattle.mk_command.specs.declared.command.Command.{Command}
+use Rattle.mk_command.specs.declared.command.CommandRef.{CommandRef}
+use Rattle.mk_command.specs.declared.command.CommandRef.TheVariants as lent
 use Rattle.mk_command.specs.declared.command.Command.TheVariants.{User, Deposit, Withdraw, Price, Limits, Edit, Bounds, Spread, Worst, Resolve, Settle}
+
+-- the command whose words are lent
+unfoldable pub command_of : CommandRef → Command
+command_of (lent.User user) = User user
+command_of (lent.Deposit user bits) = Deposit user bits
+command_of (lent.Withdraw user bits) = Withdraw user bits
+command_of (lent.Price question) = Price question.now
+command_of (lent.Limits user question) = Limits user question.now
+command_of (lent.Edit user question to at) = Edit user question.now to at
+command_of (lent.Bounds user variable condition) = Bounds user variable condition.now
+command_of (lent.Spread user variable condition to at) = Spread user variable condition.now to.now at
+command_of (lent.Worst user) = Worst user
+command_of (lent.Resolve pair) = Resolve pair
+command_of lent.Settle = Settle
 
 -- the revision that an edit names
 abbrev pub at_text : Option ℕ → List ℕ

@@ -1,5 +1,8 @@
 //! The commands of a market's users.
 
+ghost use Rattle.std.specs.Prelude.{◌≡◌};
+ghost use Rattle.mk_command.specs.Commands.{command_of};
+
 use arrayvec::ArrayVec;
 use mk_net::{Name, PairText, QuestionText};
 
@@ -64,3 +67,133 @@ pub enum Command {
 }
 
 const _: () = prove!(size_of::<Command>() <= 700);
+
+/// The longer words of a line, which are read in place: each line is written over those of another.
+#[derive(Default, Drop)]
+pub struct Words {
+    pub(crate) question: QuestionText,
+    pub(crate) shares: ArrayVec<u32, 16>,
+}
+
+/// A command whose question, or condition and shares, are lent: what `Command` is, passed on without a copy of these. `command_of` in the
+/// definitions says which command it is.
+#[derive(Clone, Debug, Drop, PartialEq, Eq)]
+pub enum CommandRef<'a> {
+    /// `user U`.
+    User {
+        user: Name,
+    },
+    /// `deposit U K`.
+    Deposit {
+        user: Name,
+        bits: u32,
+    },
+    /// `withdraw U K`.
+    Withdraw {
+        user: Name,
+        bits: u32,
+    },
+    /// `price Q`.
+    Price {
+        question: &'a QuestionText,
+    },
+    /// `limits U Q`.
+    Limits {
+        user: Name,
+        question: &'a QuestionText,
+    },
+    /// `edit U Q to X`, perhaps `at R`.
+    Edit {
+        user: Name,
+        question: &'a QuestionText,
+        to: u32,
+        at: Option<u32>,
+    },
+    /// `bounds U V`, perhaps under a condition.
+    Bounds {
+        user: Name,
+        variable: Name,
+        condition: &'a ArrayVec<PairText, 8>,
+    },
+    /// `spread U V to X..`, perhaps under a condition, perhaps `at R`.
+    Spread {
+        user: Name,
+        variable: Name,
+        condition: &'a ArrayVec<PairText, 8>,
+        to: &'a ArrayVec<u32, 16>,
+        at: Option<u32>,
+    },
+    /// `worst U`.
+    Worst {
+        user: Name,
+    },
+    /// `resolve V=v`.
+    Resolve {
+        pair: PairText,
+    },
+    /// `settle`.
+    Settle,
+}
+
+const _: () = prove!(size_of::<CommandRef>() <= 112);
+
+impl Command {
+    /// The same command, with its longer words lent.
+    #[tactic(auto, unfolding(crate::specs::Commands::command_of))]
+    pub fn lend(&self) -> CommandRef<'_>
+        ensures { command_of result ≡ self.now }
+    {
+        match self {
+            Command::User { user } => CommandRef::User { user: *user },
+            Command::Deposit { user, bits } => CommandRef::Deposit {
+                user: *user,
+                bits: *bits,
+            },
+            Command::Withdraw { user, bits } => CommandRef::Withdraw {
+                user: *user,
+                bits: *bits,
+            },
+            Command::Price { question } => CommandRef::Price { question },
+            Command::Limits { user, question } => CommandRef::Limits {
+                user: *user,
+                question,
+            },
+            Command::Edit {
+                user,
+                question,
+                to,
+                at,
+            } => CommandRef::Edit {
+                user: *user,
+                question,
+                to: *to,
+                at: *at,
+            },
+            Command::Bounds {
+                user,
+                variable,
+                condition,
+            } => CommandRef::Bounds {
+                user: *user,
+                variable: *variable,
+                condition,
+            },
+            Command::Spread {
+                user,
+                variable,
+                condition,
+                to,
+                at,
+            } => CommandRef::Spread {
+                user: *user,
+                variable: *variable,
+                condition,
+                to,
+                at: *at,
+            },
+            Command::Worst { user } => CommandRef::Worst { user: *user },
+            Command::Resolve { pair } => CommandRef::Resolve { pair: *pair },
+            Command::Settle => CommandRef::Settle,
+        }
+    }
+}

@@ -1,10 +1,10 @@
 //! Laws of the texts of commands.
 
-ghost use Rattle.std.specs.Prelude.{◌≡◌, ◌<◌, length, Ok};
-ghost use Rattle.mk_command.specs.Commands.{IsCommand, command_text};
+ghost use Rattle.std.specs.Prelude.{◌≡◌, ◌<◌, length, MatchResult};
+ghost use Rattle.mk_command.specs.Commands.{IsCommand, command_of, command_text};
 ghost use Rattle.mk_command.specs.declared.command.Command.{Command};
 
-use crate::command::Command;
+use crate::command::{Command, CommandRef, Words};
 use crate::print::print_command;
 use crate::read::read_command;
 use arrayvec::ArrayString;
@@ -21,11 +21,11 @@ pub fn short_commands()
 {}
 
 /// What is read of the text of a command: the same command.
-pub fn read_printed(command: &Command) -> Result<Command, Syntax>
+pub fn read_printed<'a>(command: &Command, words: &'a mut Words) -> Result<CommandRef<'a>, Syntax>
     requires { IsCommand command.now }
-    ensures { result ≡ Ok command.now }
+    ensures { MatchResult result (λ c. command_of c ≡ command.now) (λ _. ⊥) }
 {
     let mut text = ArrayString::new();
     print_command(command, &mut text);
-    read_command(text.as_bytes())
+    read_command(text.as_bytes(), words)
 }

@@ -6,10 +6,7 @@ mod laws;
 mod print;
 mod read;
 
-pub use command::Command;
+pub use command::{Command, CommandRef, Words};
 pub use laws::{one_command_each, read_printed, short_commands};
 pub use print::print_command;
 pub use read::read_command;
-
-#[cfg(test)]
-mod tests;

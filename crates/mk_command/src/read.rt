@@ -1,24 +1,25 @@
 //! Reading a line of the command stream.
 
-ghost use Rattle.std.specs.Prelude.{◌≡◌, ◌≢◌, ◌<◌, ◌^◌, IfOk, IfSome, OnErr};
+ghost use Rattle.std.specs.Prelude.{◌≡◌, ◌≢◌, ◌<◌, ◌^◌, IfOk, OnErr, option_map};
 ghost use Rattle.mk_text.specs.Reading.{Finds, read_short};
-ghost use Rattle.mk_command.specs.Commands.{IsCommand, command_text};
+ghost use Rattle.mk_command.specs.Commands.{IsCommand, command_of, command_text};
 ghost use Rattle.mk_command.specs.inner.Reading.{read_user, read_deposit, read_withdraw, read_price, read_limits, read_edit, read_at, read_bounds, read_spread, read_worst, read_resolve, read_form};
 ghost use Rattle.mk_command.specs.declared.command.Command.{Command};
 
-use crate::command::Command;
+use crate::command::{CommandRef, Words};
 use mk_net::Syntax;
 use mk_text::{Item, Reader, several};
 
-/// The command of which these bytes are the text. Syntax where they are the text of no command.
+/// The command of which these bytes are the text, with its longer words in `words`, where they are written over those of another
+/// line. Syntax where the bytes are the text of no command.
 // It and its forms are calls of their own: within one another, each line would clear and move the words of every form.
 #[inline(never)]
-pub fn read_command(line: &[u8]) -> Result<Command, Syntax>
-    ensures found { IfOk result (λ c. IsCommand c × (line.now ≡ command_text c)) }
+pub fn read_command<'a>(line: &[u8], words: &'a mut Words) -> Result<CommandRef<'a>, Syntax>
+    ensures found { IfOk result (λ c. IsCommand (command_of c) × (line.now ≡ command_text (command_of c))) }
     ensures none { OnErr result ((c : Command) → IsCommand c → line.now ≢ command_text c) }
 {
     let mut reader = Reader::new(line);
-    let Some(command) = command(&mut reader) else {
+    let Some(command) = command(&mut reader, words) else {
         return Err(Syntax);
     };
     if reader.is_at_end() {
@@ -28,9 +29,9 @@ pub fn read_command(line: &[u8]) -> Result<Command, Syntax>
     }
 }
 
-#[tactic(auto, unfolding(crate::specs::inner::Reading::read_form))]
-fn command(reader: &mut Reader) -> Option<Command>
-    ensures { Finds result reader.new (read_form reader.old) }
+#[tactic(auto, unfolding(crate::specs::inner::Reading::read_form, crate::specs::Commands::command_of))]
+fn command<'a>(reader: &mut Reader, words: &'a mut Words) -> Option<CommandRef<'a>>
+    ensures { Finds (option_map command_of result) reader.new (read_form reader.old) }
 {
     if reader.skip(b"user ") {
         return user(reader);
@@ -42,19 +43,19 @@ fn command(reader: &mut Reader) -> Option<Command>
         return withdraw(reader);
     }
     if reader.skip(b"price ") {
-        return price(reader);
+        return price(reader, words);
     }
     if reader.skip(b"limits ") {
-        return limits(reader);
+        return limits(reader, words);
     }
     if reader.skip(b"edit ") {
-        return edit(reader);
+        return edit(reader, words);
     }
     if reader.skip(b"bounds ") {
-        return bounds(reader);
+        return bounds(reader, words);
     }
     if reader.skip(b"spread ") {
-        return spread(reader);
+        return spread(reader, words);
     }
     if reader.skip(b"worst ") {
         return worst(reader);
@@ -63,74 +64,77 @@ fn command(reader: &mut Reader) -> Option<Command>
         return resolve(reader);
     }
     if reader.skip(b"settle") {
-        return Some(Command::Settle);
+        return Some(CommandRef::Settle);
     }
     None
 }
 
 #[inline(never)]
-#[tactic(auto, unfolding(crate::specs::inner::Reading::read_user))]
-fn user(reader: &mut Reader) -> Option<Command>
-    ensures { Finds result reader.new (read_user reader.old) }
+#[tactic(auto, unfolding(crate::specs::inner::Reading::read_user, crate::specs::Commands::command_of))]
+fn user<'a>(reader: &mut Reader) -> Option<CommandRef<'a>>
+    ensures { Finds (option_map command_of result) reader.new (read_user reader.old) }
 {
     let user = reader.name()?;
-    Some(Command::User { user })
+    Some(CommandRef::User { user })
 }
 
 #[inline(never)]
-#[tactic(auto, unfolding(crate::specs::inner::Reading::read_deposit))]
-fn deposit(reader: &mut Reader) -> Option<Command>
-    ensures { Finds result reader.new (read_deposit reader.old) }
-{
-    let user = reader.name()?;
-    reader.expect(b" ")?;
-    let bits = short(reader)?;
-    Some(Command::Deposit { user, bits })
-}
-
-#[inline(never)]
-#[tactic(auto, unfolding(crate::specs::inner::Reading::read_withdraw))]
-fn withdraw(reader: &mut Reader) -> Option<Command>
-    ensures { Finds result reader.new (read_withdraw reader.old) }
+#[tactic(auto, unfolding(crate::specs::inner::Reading::read_deposit, crate::specs::Commands::command_of))]
+fn deposit<'a>(reader: &mut Reader) -> Option<CommandRef<'a>>
+    ensures { Finds (option_map command_of result) reader.new (read_deposit reader.old) }
 {
     let user = reader.name()?;
     reader.expect(b" ")?;
     let bits = short(reader)?;
-    Some(Command::Withdraw { user, bits })
+    Some(CommandRef::Deposit { user, bits })
 }
 
 #[inline(never)]
-#[tactic(auto, unfolding(crate::specs::inner::Reading::read_price))]
-fn price(reader: &mut Reader) -> Option<Command>
-    ensures { Finds result reader.new (read_price reader.old) }
-{
-    let question = reader.question()?;
-    Some(Command::Price { question })
-}
-
-#[inline(never)]
-#[tactic(auto, unfolding(crate::specs::inner::Reading::read_limits))]
-fn limits(reader: &mut Reader) -> Option<Command>
-    ensures { Finds result reader.new (read_limits reader.old) }
+#[tactic(auto, unfolding(crate::specs::inner::Reading::read_withdraw, crate::specs::Commands::command_of))]
+fn withdraw<'a>(reader: &mut Reader) -> Option<CommandRef<'a>>
+    ensures { Finds (option_map command_of result) reader.new (read_withdraw reader.old) }
 {
     let user = reader.name()?;
     reader.expect(b" ")?;
-    let question = reader.question()?;
-    Some(Command::Limits { user, question })
+    let bits = short(reader)?;
+    Some(CommandRef::Withdraw { user, bits })
 }
 
 #[inline(never)]
-#[tactic(auto, unfolding(crate::specs::inner::Reading::read_edit))]
-fn edit(reader: &mut Reader) -> Option<Command>
-    ensures { Finds result reader.new (read_edit reader.old) }
+#[tactic(auto, unfolding(crate::specs::inner::Reading::read_price, crate::specs::Commands::command_of))]
+fn price<'a>(reader: &mut Reader, words: &'a mut Words) -> Option<CommandRef<'a>>
+    ensures { Finds (option_map command_of result) reader.new (read_price reader.old) }
+{
+    reader.question(&mut words.question)?;
+    let question = &words.question;
+    Some(CommandRef::Price { question })
+}
+
+#[inline(never)]
+#[tactic(auto, unfolding(crate::specs::inner::Reading::read_limits, crate::specs::Commands::command_of))]
+fn limits<'a>(reader: &mut Reader, words: &'a mut Words) -> Option<CommandRef<'a>>
+    ensures { Finds (option_map command_of result) reader.new (read_limits reader.old) }
 {
     let user = reader.name()?;
     reader.expect(b" ")?;
-    let question = reader.question()?;
+    reader.question(&mut words.question)?;
+    let question = &words.question;
+    Some(CommandRef::Limits { user, question })
+}
+
+#[inline(never)]
+#[tactic(auto, unfolding(crate::specs::inner::Reading::read_edit, crate::specs::Commands::command_of))]
+fn edit<'a>(reader: &mut Reader, words: &'a mut Words) -> Option<CommandRef<'a>>
+    ensures { Finds (option_map command_of result) reader.new (read_edit reader.old) }
+{
+    let user = reader.name()?;
+    reader.expect(b" ")?;
+    reader.question(&mut words.question)?;
+    let question = &words.question;
     reader.expect(b" to ")?;
     let to = short(reader)?;
     let at = revision(reader)?;
-    Some(Command::Edit {
+    Some(CommandRef::Edit {
         user,
         question,
         to,
@@ -139,15 +143,16 @@ fn edit(reader: &mut Reader) -> Option<Command>
 }
 
 #[inline(never)]
-#[tactic(auto, unfolding(crate::specs::inner::Reading::read_bounds))]
-fn bounds(reader: &mut Reader) -> Option<Command>
-    ensures { Finds result reader.new (read_bounds reader.old) }
+#[tactic(auto, unfolding(crate::specs::inner::Reading::read_bounds, crate::specs::Commands::command_of))]
+fn bounds<'a>(reader: &mut Reader, words: &'a mut Words) -> Option<CommandRef<'a>>
+    ensures { Finds (option_map command_of result) reader.new (read_bounds reader.old) }
 {
     let user = reader.name()?;
     reader.expect(b" ")?;
     let variable = reader.name()?;
-    let condition = reader.condition()?;
-    Some(Command::Bounds {
+    reader.condition(&mut words.question.condition)?;
+    let condition = &words.question.condition;
+    Some(CommandRef::Bounds {
         user,
         variable,
         condition,
@@ -155,18 +160,20 @@ fn bounds(reader: &mut Reader) -> Option<Command>
 }
 
 #[inline(never)]
-#[tactic(auto, unfolding(crate::specs::inner::Reading::read_spread))]
-fn spread(reader: &mut Reader) -> Option<Command>
-    ensures { Finds result reader.new (read_spread reader.old) }
+#[tactic(auto, unfolding(crate::specs::inner::Reading::read_spread, crate::specs::Commands::command_of))]
+fn spread<'a>(reader: &mut Reader, words: &'a mut Words) -> Option<CommandRef<'a>>
+    ensures { Finds (option_map command_of result) reader.new (read_spread reader.old) }
 {
     let user = reader.name()?;
     reader.expect(b" ")?;
     let variable = reader.name()?;
-    let condition = reader.condition()?;
+    reader.condition(&mut words.question.condition)?;
     reader.expect(b" to ")?;
-    let to = several(reader)?;
+    words.shares = several(reader)?;
+    let condition = &words.question.condition;
+    let to = &words.shares;
     let at = revision(reader)?;
-    Some(Command::Spread {
+    Some(CommandRef::Spread {
         user,
         variable,
         condition,
@@ -187,21 +194,21 @@ fn revision(reader: &mut Reader) -> Option<Option<u32>>
 }
 
 #[inline(never)]
-#[tactic(auto, unfolding(crate::specs::inner::Reading::read_worst))]
-fn worst(reader: &mut Reader) -> Option<Command>
-    ensures { Finds result reader.new (read_worst reader.old) }
+#[tactic(auto, unfolding(crate::specs::inner::Reading::read_worst, crate::specs::Commands::command_of))]
+fn worst<'a>(reader: &mut Reader) -> Option<CommandRef<'a>>
+    ensures { Finds (option_map command_of result) reader.new (read_worst reader.old) }
 {
     let user = reader.name()?;
-    Some(Command::Worst { user })
+    Some(CommandRef::Worst { user })
 }
 
 #[inline(never)]
-#[tactic(auto, unfolding(crate::specs::inner::Reading::read_resolve))]
-fn resolve(reader: &mut Reader) -> Option<Command>
-    ensures { Finds result reader.new (read_resolve reader.old) }
+#[tactic(auto, unfolding(crate::specs::inner::Reading::read_resolve, crate::specs::Commands::command_of))]
+fn resolve<'a>(reader: &mut Reader) -> Option<CommandRef<'a>>
+    ensures { Finds (option_map command_of result) reader.new (read_resolve reader.old) }
 {
     let pair = reader.pair()?;
-    Some(Command::Resolve { pair })
+    Some(CommandRef::Resolve { pair })
 }
 
 /// A number of at most nine digits.

@@ -1,55 +1,57 @@
 //! Answers to commands.
 
 use crate::market::Market;
-use mk_command::Command;
+use mk_command::CommandRef;
 use mk_engine::Engine;
 use mk_reply::{Refusal, Reply};
 use mk_semiring::{MinProd, SumProd};
 use std::alloc::Global;
 
 impl<P: Engine<SumProd>, A: Engine<MinProd>> Market<P, A> {
+    ghost use Rattle.mk_command.specs.Commands.{command_of};
     ghost use Rattle.mk_market.specs.Trading.{IsAnswered, reply_of};
 
     /// Answers a command. Only a user who joins takes memory, all of it before anything changes.
     #[inline(never)]
-    pub fn apply(&mut self, alloc: Global, command: &Command) -> Reply
-        ensures { IsAnswered self.old self.new command.now result }
+    pub fn apply(&mut self, alloc: Global, command: &CommandRef) -> Reply
+        ensures { IsAnswered self.old self.new (command_of command.now) result }
     {
         let answered = self.answer(alloc, command);
         reply_of(answered)
     }
 
     /// The answer to a command, or its refusal.
-    fn answer(&mut self, alloc: Global, command: &Command) -> Result<Reply, Refusal>
-        ensures { IsAnswered self.old self.new command.now (reply_of result) }
+    #[tactic(auto, unfolding(mk_command::specs::Commands::command_of))]
+    fn answer(&mut self, alloc: Global, command: &CommandRef) -> Result<Reply, Refusal>
+        ensures { IsAnswered self.old self.new (command_of command.now) (reply_of result) }
     {
         match command {
-            Command::User { user } => self.user(alloc, user),
-            Command::Deposit { user, bits } => self.deposit(user, *bits),
-            Command::Withdraw { user, bits } => self.withdraw(user, *bits),
-            Command::Price { question } => self.price(question),
-            Command::Limits { user, question } => self.limits(user, question),
-            Command::Edit {
+            CommandRef::User { user } => self.user(alloc, user),
+            CommandRef::Deposit { user, bits } => self.deposit(user, *bits),
+            CommandRef::Withdraw { user, bits } => self.withdraw(user, *bits),
+            CommandRef::Price { question } => self.price(question),
+            CommandRef::Limits { user, question } => self.limits(user, question),
+            CommandRef::Edit {
                 user,
                 question,
                 to,
                 at,
             } => self.edit(user, question, *to, *at),
-            Command::Bounds {
+            CommandRef::Bounds {
                 user,
                 variable,
                 condition,
             } => self.bounds(user, variable, condition),
-            Command::Spread {
+            CommandRef::Spread {
                 user,
                 variable,
                 condition,
                 to,
                 at,
             } => self.spread(user, variable, condition, to, *at),
-            Command::Worst { user } => self.worst(user),
-            Command::Resolve { pair } => self.resolve(pair),
-            Command::Settle => self.settle(),
+            CommandRef::Worst { user } => self.worst(user),
+            CommandRef::Resolve { pair } => self.resolve(pair),
+            CommandRef::Settle => self.settle(),
         }
     }
 }

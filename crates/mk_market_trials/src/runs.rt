@@ -3,7 +3,7 @@
 ghost use Rattle.std.specs.Prelude.{◌≡◌};
 
 use arrayvec::ArrayString;
-use mk_command::read_command;
+use mk_command::{Words, read_command};
 use mk_file::read_market;
 use mk_market::Market;
 use mk_reply::print_reply;
@@ -161,7 +161,8 @@ fn expect_reply(
     line: &str,
     expected: &str,
 ) {
-    let Ok(command) = read_command(line.as_bytes()) else {
+    let mut words = Words::default();
+    let Ok(command) = read_command(line.as_bytes(), &mut words) else {
         assert!(rt; false, "{line} is no command");
         return;
     };

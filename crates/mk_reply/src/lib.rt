@@ -17,6 +17,3 @@ pub use read::read_reply;
 pub use refusal::{Intervals, Refusal};
 pub use reply::Reply;
 pub use unread::Unread;
-
-#[cfg(test)]
-mod tests;

@@ -13,7 +13,7 @@ ghost use Rattle.mk_session.specs.inner.Progress.{Gathers, AreGathered, IsReady,
 
 use crate::print::{LineBuffer, print_reply_line};
 use crate::waiting::{put_line, write_before_read};
-use mk_command::read_command;
+use mk_command::{Words, read_command};
 use mk_io::{Inputs, Lines, Next, Sink, SinkFailed, Status};
 use mk_market::Market;
 use mk_reply::{Refusal, Reply};
@@ -32,12 +32,17 @@ pub(crate) fn is_blank(line: &[u8]) -> bool
 }
 
 /// The reply to a line that is not too long and not blank.
-pub(crate) fn reply_to(alloc: Global, market: &mut TreeMarket, line: &[u8]) -> Reply
+pub(crate) fn reply_to(
+    alloc: Global,
+    market: &mut TreeMarket,
+    line: &[u8],
+    words: &mut Words,
+) -> Reply
     requires { list_all (λ b. b == 32) line.now ≡ false }
     ensures market { market.new.market ≡ market.old.market }
     ensures replied { AreReplied market.old.market market.old.standing (text line.now ∷ []) market.new.standing (result ∷ []) }
 {
-    match read_command(line) {
+    match read_command(line, words) {
         Err(_) => Reply::Refused {
             why: Refusal::Syntax,
         },
@@ -65,6 +70,7 @@ fn answer_text<S: Sink>(
     alloc: Global,
     market: &mut TreeMarket,
     line: &[u8],
+    words: &mut Words,
     buffer: &mut LineBuffer,
     waiting: &mut LineBuffer,
     out: &mut S,
@@ -78,7 +84,7 @@ fn answer_text<S: Sink>(
     if is_blank(line) {
         return Ok(());
     }
-    let reply = reply_to(alloc, market, line);
+    let reply = reply_to(alloc, market, line, words);
     say(&reply, buffer, waiting, out)
 }
 
@@ -105,6 +111,7 @@ fn answer_next<I: Inputs, S: Sink>(
     market: &mut TreeMarket,
     lines: &mut Lines,
     inputs: &mut I,
+    words: &mut Words,
     buffer: &mut LineBuffer,
     waiting: &mut LineBuffer,
     out: &mut S,
@@ -127,7 +134,15 @@ fn answer_next<I: Inputs, S: Sink>(
     ensures not_usage { IfSome result (λ status. status ≢ Status.Usage) }
 {
     match lines.next(inputs) {
-        Next::Line => end_after(answer_text(alloc, market, lines.line(), buffer, waiting, out)),
+        Next::Line => end_after(answer_text(
+            alloc,
+            market,
+            lines.line(),
+            words,
+            buffer,
+            waiting,
+            out,
+        )),
         Next::Long => end_after(answer_long(market, buffer, waiting, out)),
         Next::End => Some(Status::Done),
         Next::ReadFault => Some(Status::ReadFault),
@@ -142,6 +157,7 @@ fn take_turn<I: Inputs, S: Sink>(
     market: &mut TreeMarket,
     lines: &mut Lines,
     inputs: &mut I,
+    words: &mut Words,
     buffer: &mut LineBuffer,
     waiting: &mut LineBuffer,
     out: &mut S,
@@ -163,7 +179,7 @@ fn take_turn<I: Inputs, S: Sink>(
     ensures not_usage { IfSome result (λ status. status ≢ Status.Usage) }
 {
     match write_before_read(lines, waiting, out) {
-        Ok(()) => answer_next(alloc, market, lines, inputs, buffer, waiting, out),
+        Ok(()) => answer_next(alloc, market, lines, inputs, words, buffer, waiting, out),
         Err(SinkFailed) => Some(Status::WriteFault),
     }
 }
@@ -193,6 +209,7 @@ pub fn answer_lines<I: Inputs, S: Sink>(
     ensures not_usage { result ≢ Status.Usage }
 {
     let mut lines = Lines::new();
+    let mut words = Words::default();
     let mut waiting = LineBuffer::new();
     loop {
         if let Some(status) = take_turn(
@@ -200,6 +217,7 @@ pub fn answer_lines<I: Inputs, S: Sink>(
             market,
             &mut lines,
             inputs,
+            &mut words,
             buffer,
             &mut waiting,
             out,

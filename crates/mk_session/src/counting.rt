@@ -12,6 +12,7 @@ ghost use Rattle.mk_session.specs.inner.Counting.{is_want, IsWithin, HasRoom, Co
 
 use crate::answer::{TreeMarket, is_blank, reply_to};
 use crate::counts::{Tally, TallyFault};
+use mk_command::Words;
 use mk_file::{FileFault, MarketFile, read_market};
 use mk_io::{Lines, Next, QuietInputs};
 use mk_net::NoMemory;
@@ -139,7 +140,8 @@ fn count_text(
     if is_blank(line) {
         return Ok(());
     }
-    let reply = reply_to(alloc, market, line);
+    let mut words = Words::default();
+    let reply = reply_to(alloc, market, line, &mut words);
     if is_want_of_memory(&reply) {
         return Err(NoMemory);
     }

@@ -40,15 +40,3 @@ pub fn print_fault_line(fault: &FileFault, line: &mut ArrayString<32768>)
     print_fault(fault, line);
     line.push_str("\n");
 }
-
-#[cfg(test)]
-mod tests {
-    use super::*;
-
-    #[test]
-    fn prints_the_first_line(rt: HostRuntime) {
-        let mut line = LineBuffer::new();
-        print_ready(12, 100, &mut line);
-        assert_eq!(rt; line.as_bytes(), b"ready 12 100\n".as_slice());
-    }
-}

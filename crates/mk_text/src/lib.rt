@@ -13,6 +13,3 @@ pub use writers::{
     put_condition, put_intervals, put_limits, put_name, put_number, put_numbers, put_pair,
     put_price, put_question, put_range, put_short, put_units,
 };
-
-#[cfg(test)]
-mod tests;

@@ -110,30 +110,28 @@ impl<'a> Reader<'a> {
         Some(PairText { variable, value })
     }
 
-    /// A question with its condition.
+    /// A question with its condition, which is written over another.
     #[tactic(auto, using(crate::proofs::Rests::rest_of_rest), unfolding(crate::specs::Reading::read_question))]
-    pub fn question(&mut self) -> Option<QuestionText>
-        ensures found { Finds result self.new (read_question self.old) }
+    pub fn question(&mut self, question: &mut QuestionText) -> Option<()>
+        ensures found { Finds (option_map (λ _. question.new) result) self.new (read_question self.old) }
         ensures rest { IsRestOf self.new self.old }
     {
-        let target = self.pair()?;
-        let condition = self.condition()?;
-        Some(QuestionText { target, condition })
+        question.target = self.pair()?;
+        self.condition(&mut question.condition)
     }
 
-    /// A condition of at most eight pairs. It may be empty.
+    /// A condition of at most eight pairs, which is written over another. It may be empty.
     #[tactic(auto, using(crate::proofs::Rests::rest_of_rest), unfolding(crate::specs::Reading::read_condition))]
-    pub fn condition(&mut self) -> Option<ArrayVec<PairText, 8>>
-        ensures found { Finds (option_map (λ pairs. pairs.items) result) self.new (read_condition self.old) }
+    pub fn condition(&mut self, pairs: &mut ArrayVec<PairText, 8>) -> Option<()>
+        ensures found { Finds (option_map (λ _. pairs.new.items) result) self.new (read_condition self.old) }
         ensures rest { IsRestOf self.new self.old }
     {
-        let mut pairs = ArrayVec::new();
+        pairs.clear();
         if !self.skip(b" | ") {
-            return Some(pairs);
+            return Some(());
         }
         pairs.push(self.pair()?);
-        self.more_pairs(&mut pairs)?;
-        Some(pairs)
+        self.more_pairs(pairs)
     }
 
     #[tactic(auto, using(crate::proofs::Rests::rest_of_rest, crate::proofs::Rests::rest_all))]

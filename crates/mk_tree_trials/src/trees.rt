@@ -1,8 +1,6 @@
 //! Trees of small networks, and of networks at the limits.
 
-ghost use Rattle.std.specs.Prelude.{◌≡◌, ℕ, ◌+◌, ◌<◌, ◌≤◌, length, slice_index, true};
-ghost use Rattle.mk_net.specs.Sets.{is_member};
-ghost use Rattle.mk_tree.specs.Given.{AreOfNetwork};
+ghost use Rattle.std.specs.Prelude.{◌≤◌};
 
 use crate::fixtures::{expect_links, expect_of_network};
 use mk_net::{Draft, Event, Network, Pair, VarSet, VariableDraft};

@@ -1,4 +1,5 @@
 use Rattle.std.proofs.Common.{sym}
+use Rattle.mk_command.specs.Commands.{command_of}
 use Rattle.mk_text.proofs.ReadingLaws.{whole_found, whole_nothing, whole_left}
 use Rattle.mk_command.proofs.CommandLaws.{form_tells}
 use Rattle.mk_command.proofs.read.read_command.Goals as goal
@@ -7,9 +8,9 @@ pub returns-in_default-clause-none : goal.returns-in_default-clause-none
 returns-in_default-clause-none c = whole_nothing form_tells c.args.line.now (rw (← c.new-reader.ensures) c.in_default.ensures)
 
 pub returns-then-is_at_end-clause-found : goal.returns-then-is_at_end-clause-found
-returns-then-is_at_end-clause-found c = whole_found form_tells c.args.line.now c.in-Some.command c.command.new.reader
+returns-then-is_at_end-clause-found c = whole_found form_tells c.args.line.now (command_of c.in-Some.command) c.command.new.reader
     (rw (← c.new-reader.ensures) c.in-Some.ensures) (sym c.if-is_at_end.ensures)
 
 pub returns-else-is_at_end-clause-none : goal.returns-else-is_at_end-clause-none
-returns-else-is_at_end-clause-none c = whole_left form_tells c.args.line.now c.in-Some.command c.command.new.reader
+returns-else-is_at_end-clause-none c = whole_left form_tells c.args.line.now (command_of c.in-Some.command) c.command.new.reader
     (rw (← c.new-reader.ensures) c.in-Some.ensures) (sym c.if-is_at_end.ensures)

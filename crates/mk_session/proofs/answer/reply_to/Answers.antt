@@ -1,5 +1,6 @@
 use Rattle.std.proofs.Common.{[], ◌∷◌, sym, subst, refl}
 use Rattle.mk_io.specs.Stream.{text}
+use Rattle.mk_command.specs.Commands.{command_of}
 use Rattle.mk_reply.specs.declared.reply.Reply.TheVariants.{Refused}
 use Rattle.mk_reply.specs.declared.refusal.Refusal.TheVariants.{Syntax}
 use Rattle.mk_rules.specs.Transcript.{Standing, OfCommand, NoCommand}
@@ -17,4 +18,4 @@ returns-in-Ok-clause-replied c =
     let m = c.args.market.now in
     let found = c.in-Ok.ensures.found in
     subst (λ (then : Standing). AreReplied m.market m.standing (text c.args.line.now ∷ []) then (c.apply.result ∷ [])) (sym c.apply.ensures.next)
-    (one_replied m.market m.standing (text c.args.line.now) (OfCommand c.in-Ok.command) c.apply.result (rw c.requires refl) found c.apply.ensures.allowed)
+    (one_replied m.market m.standing (text c.args.line.now) (OfCommand (command_of c.in-Ok.command)) c.apply.result (rw c.requires refl) found c.apply.ensures.allowed)

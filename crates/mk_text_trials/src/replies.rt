@@ -1,20 +1,12 @@
-use crate::payments::{Payment, Payments};
-use crate::print::print_reply;
-use crate::read::read_reply;
-use crate::refusal::{Intervals, Refusal};
-use crate::reply::Reply;
-use crate::unread::Unread;
+use crate::names::name;
 use arrayvec::{ArrayString, ArrayVec};
 use mk_net::{Name, PairText};
+use mk_reply::{Intervals, Payment, Payments, Refusal, Reply, Unread, print_reply, read_reply};
 use std::alloc::Global;
 use std::process::Abort;
 use std::test::Fail;
 
 const MOST: u64 = 9_223_372_036_854_775_807;
-
-fn name(rt: &impl Abort, text: &[u8]) -> Name {
-    Name::read(text).expect(rt, "a name")
-}
 
 fn both_ways(rt: &impl Abort, alloc: Global, text: &str, reply: Reply) -> Result<(), Fail> {
     let read = read_reply(alloc, text.as_bytes())?;

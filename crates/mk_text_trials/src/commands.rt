@@ -1,15 +1,16 @@
-use crate::command::Command;
-use crate::print::print_command;
-use crate::read::read_command;
+//! Texts of commands, each both ways, and of none.
+
+ghost use Rattle.std.specs.Prelude.{◌≡◌, true, All, IfSome};
+ghost use Rattle.mk_text.specs.Numbers.{IsShort};
+ghost use Rattle.mk_command.specs.Commands.{HasShortNumbers};
+
+use crate::names::name;
 use arrayvec::{ArrayString, ArrayVec};
+use mk_command::{Command, CommandRef, Words, print_command, read_command};
 use mk_net::{Name, PairText, QuestionText, Syntax};
 use std::process::Abort;
 
 const LONGEST_NAME: &[u8] = b"abcdefghijklmnopqrstuvwxyz_01234";
-
-fn name(rt: &impl Abort, text: &[u8]) -> Name {
-    Name::read(text).expect(rt, "a name")
-}
 
 fn pair(rt: &impl Abort, variable: &[u8], value: &[u8]) -> PairText {
     PairText {
@@ -30,15 +31,56 @@ fn question(target: &PairText, pairs: &[PairText]) -> QuestionText {
 }
 
 fn both_ways(rt: &impl Abort, text: &str, command: Command) {
-    match read_command(text.as_bytes()) {
-        Ok(read) => {
-            assert_eq!(rt; read, command, "{text}");
-            let mut printed = ArrayString::new();
-            print_command(&read, &mut printed);
-            assert_eq!(rt; printed.as_str(), text);
+    let mut words = Words::default();
+    assert_eq!(rt;
+        read_command(text.as_bytes(), &mut words),
+        Ok(command.lend()),
+        "{text}"
+    );
+    assert!(rt; has_short_numbers(&command), "{text}");
+    let mut printed = ArrayString::new();
+    print_command(&command, &mut printed);
+    assert_eq!(rt; printed.as_str(), text);
+}
+
+/// Whether each number of a command has at most nine digits, and a distribution at least two shares.
+fn has_short_numbers(command: &Command) -> bool
+    ensures { result ≡ true → HasShortNumbers command.now }
+{
+    match command {
+        Command::Deposit { bits, .. } | Command::Withdraw { bits, .. } => is_short(*bits),
+        Command::Edit { to, at, .. } => is_short(*to) && is_short_or_none(*at),
+        Command::Spread { to, at, .. } => {
+            to.len() >= 2 && are_short(to.as_slice()) && is_short_or_none(*at)
         }
-        Err(_) => assert!(rt; false, "{text} is no command"),
+        _ => true,
     }
+}
+
+fn is_short(number: u32) -> bool
+    ensures { result ≡ true → IsShort number }
+{
+    number < 1_000_000_000
+}
+
+fn is_short_or_none(number: Option<u32>) -> bool
+    ensures { result ≡ true → IfSome number IsShort }
+{
+    match number {
+        Some(number) => is_short(number),
+        None => true,
+    }
+}
+
+fn are_short(numbers: &[u32]) -> bool
+    ensures { result ≡ true → All IsShort numbers.now }
+{
+    for number in numbers {
+        if !is_short(*number) {
+            return false;
+        }
+    }
+    true
 }
 
 #[test]
@@ -256,6 +298,32 @@ fn reads_nothing_else(rt: HostRuntime) {
         "resolve coin",
         "resolve coin=heads | rain=yes",
     ] {
-        assert_eq!(rt; read_command(text.as_bytes()), Err(Syntax), "{text}");
+        let mut words = Words::default();
+        assert_eq!(rt;
+            read_command(text.as_bytes(), &mut words),
+            Err(Syntax),
+            "{text}"
+        );
+    }
+}
+
+#[test]
+fn a_line_is_written_over_the_words_of_another(rt: HostRuntime) {
+    let coin = pair(&rt, b"coin", b"heads");
+    let rain = pair(&rt, b"rain", b"yes");
+    let under_rain = question(&coin, &[rain]);
+    let alone = question(&coin, &[]);
+    let mut words = Words::default();
+    for (text, asked) in [
+        ("price coin=heads | rain=yes", &under_rain),
+        ("price coin=heads", &alone),
+        ("price coin=heads | rain=yes", &under_rain),
+    ] {
+        let price = CommandRef::Price { question: asked };
+        assert_eq!(rt;
+            read_command(text.as_bytes(), &mut words),
+            Ok(price),
+            "{text}"
+        );
     }
 }

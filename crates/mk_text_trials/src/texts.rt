@@ -1,6 +1,6 @@
-use crate::reader::Reader;
-use crate::writers::{put_condition, put_limits, put_pair, put_price};
 use arrayvec::ArrayString;
+use mk_net::QuestionText;
+use mk_text::{Reader, put_condition, put_limits, put_pair, put_price};
 
 #[test]
 fn reads_and_prints_prices(rt: HostRuntime) {
@@ -55,7 +55,8 @@ fn reads_and_prints_limits(rt: HostRuntime) {
 fn reads_what_follows(rt: HostRuntime) {
     let text = b"rain=yes | sun=no, wind=up to 7";
     let mut reader = Reader::new(text);
-    let question = reader.question().expect(&rt, "a question");
+    let mut question = QuestionText::default();
+    assert_eq!(rt; reader.question(&mut question), Some(()));
     assert_eq!(rt; question.condition.len(), 2);
     let mut printed = ArrayString::<604>::new();
     put_pair(&mut printed, &question.target);
