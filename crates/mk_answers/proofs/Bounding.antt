@@ -23,7 +23,7 @@ use Rattle.mk_tree.specs.Given.{GivenTree}
 use Rattle.mk_scaled.specs.Range.{IsInRange}
 use Rattle.mk_enclose.specs.declared.enclosure.Enclosure.{Enclosure}
 use Rattle.mk_enclose.specs.declared.factor.Factor.{Factor}
-use Rattle.mk_enclose.specs.Enclosure.{upper_of, Encloses, HasGrade, IsExact, IsGradedWithin}
+use Rattle.mk_enclose.specs.Enclosure.{upper_of, Encloses, HasGrade, IsExact}
 use Rattle.mk_semiring.specs.declared.held.Held.TheVariants.{Present}
 use Rattle.mk_semiring.specs.Held.{held_plus_fits}
 use Rattle.mk_engine.specs.Meaning.{Meaning, exact_belief, max_factors, max_grade}
@@ -36,7 +36,7 @@ use Rattle.mk_beliefs.proofs.Grown.{factors_are_few}
 use Rattle.mk_beliefs.proofs.Weighed.{cases_are_all}
 use Rattle.mk_assets.specs.Holdings.{IsLeastFactor}
 use Rattle.mk_answers.specs.Open.{IsOpen, CanBeAnswered, AreBoundsFor, IsFactorFor, holding_of}
-use Rattle.mk_answers.specs.inner.Found.{IsBeliefIn, max_side_grade}
+use Rattle.mk_answers.specs.inner.Found.{IsBeliefIn, IsFoundOf, IsPartFor, IsWholeFor, max_side_grade}
 use Rattle.mk_answers.proofs.Least.{present_is, some_least, factor_for}
 
 -- ---- the whole of two sides
@@ -49,12 +49,6 @@ pub record IsSumOf (a b sum : Enclosure) : Type 0 where
 
 pub sum_fits : (a b : Enclosure) (small : Type 0) (v w : ℕ) → IsBeliefIn (Present a) small v → IsBeliefIn (Present b) small w → IsInRange (upper_of a + upper_of b)
 sum_fits a b small v w a_in b_in = held_plus_fits (Present a) (Present b) max_side_grade a_in.grade b_in.grade (omega arith)
-
--- an enclosure of a number, with its grade, and exact in the small case
-pub record IsFoundOf (e : Enclosure) (small : Type 0) (number : ℕ) : Type 0 where
-  pub encloses : Encloses e number
-  pub graded : IsGradedWithin e (2 ^ 17)
-  pub exact : small → IsExact e
 
 pub found_of : (e : Enclosure) (small : Type 0) (n : ℕ) → IsBeliefIn (Present e) small n → IsFoundOf e small n
 found_of e small n b = record { encloses = b.encloses; graded = record { grade = max_side_grade; small = omega arith; has = b.grade.0 }; exact = b.exact }
@@ -78,6 +72,12 @@ total_small : (network : List Variable) (H : List Entry) (event : List Pair) →
 total_small network H event small =
     let both = sum_by-filter_both (λ s. is_possible H s && holds event s) (λ s. not (is_possible H s && holds event s)) (λ s. refl) (weight network H) (all_states network) in
     omega (arith, both, small)
+
+-- both sides together weigh what the condition does
+pub sum_is_whole : (network : List Variable) (H : List Entry) (asked : Asked) (hit miss whole : Enclosure) → IsPartFor network H asked hit
+    → IsBeliefIn (Present miss) (IsSmall network H) (total network H (without_target asked)) → IsSumOf hit miss whole → IsWholeFor network H asked whole
+sum_is_whole network H asked hit miss whole hit_in miss_in is =
+    sum_found hit miss whole (IsSmall network H) _ _ (total network H (holds asked.condition)) is hit_in miss_in (cases_are_all network H asked) (total_small network H asked.condition)
 
 -- ---- one side
 
@@ -191,8 +191,8 @@ module _ (network : List Variable) (H : List Entry) (u : ℕ) (asked : Asked) (h
     (miss_in : IsBeliefIn (Present miss) (IsSmall network H) (total network H (without_target asked))) (whole_is : IsSumOf hit miss whole)
     (hit_least : (g : ℕ) → least_gain network H u (with_target asked) ≡ Some g → IsFactorFor hit_factor (IsSmall network H) (factor_with H u g))
     (miss_least : (g : ℕ) → least_gain network H u (without_target asked) ≡ Some g → IsFactorFor miss_factor (IsSmall network H) (factor_with H u g)) where
-  whole_in : IsFoundOf whole (IsSmall network H) (total network H (holds asked.condition))
-  whole_in = sum_found hit miss whole (IsSmall network H) _ _ (total network H (holds asked.condition)) whole_is hit_in miss_in (cases_are_all network H asked) (total_small network H asked.condition)
+  whole_in : IsWholeFor network H asked whole
+  whole_in = sum_is_whole network H asked hit miss whole hit_in miss_in whole_is
 
   pub are_bounds : (on_hit on_miss : Side) → AreSides network H u asked on_hit on_miss
       → AreBoundsFor (record { hit = hit; miss = miss; whole = whole; hit_factor = hit_factor; miss_factor = miss_factor }) (IsSmall network H) on_hit on_miss

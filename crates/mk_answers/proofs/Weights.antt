@@ -1,5 +1,5 @@
 -- The price engine's beliefs in a market in use.
-use Rattle.std.proofs.Common.{◌≡◌, ℕ, ◌+◌, ◌≤◌, List, [], ◌∷◌, length, slice_index, sym, ap, subst, ◌∙◌, arith}
+use Rattle.std.proofs.Common.{◌≡◌, ℕ, ◌+◌, ◌^◌, ◌≤◌, List, [], ◌∷◌, length, slice_index, sym, ap, subst, ◌∙◌, arith}
 use Rattle.std.proofs.lemmas.List.Elements.{All-from_recursion}
 use Rattle.mk_net.specs.declared.words.Pair.{Pair}
 use Rattle.mk_net.specs.Asked.{Asked}
@@ -14,8 +14,9 @@ use Rattle.mk_exact.specs.Existing.{IsPositivePrice}
 use Rattle.mk_exact.proofs.Sums.{each-append}
 use Rattle.mk_exact.proofs.ExistMarkets.{price_exists}
 use Rattle.mk_tree.specs.Given.{GivenTree}
+use Rattle.mk_scaled.specs.Near.{near_more}
 use Rattle.mk_enclose.specs.declared.enclosure.Enclosure.{Enclosure}
-use Rattle.mk_enclose.specs.Enclosure.{lower_of, upper_of, IsExact}
+use Rattle.mk_enclose.specs.Enclosure.{lower_of, upper_of, HasGrade, IsExact}
 use Rattle.mk_semiring.specs.declared.held.Held.{Held}
 use Rattle.mk_semiring.specs.declared.held.Held.TheVariants.{Present}
 use Rattle.mk_semiring.specs.Held.{HeldEncloses, HasHeldGrade, IsHeldExact, held_grade_more}
@@ -26,9 +27,12 @@ use Rattle.mk_beliefs.specs.Meanings.{weights_of}
 use Rattle.mk_beliefs.proofs.Weighed.{belief_is_total, others_are_total, target_is_total, weights_are_small}
 use Rattle.mk_beliefs.proofs.Grown.{factors_are_few}
 use Rattle.mk_answers.specs.Open.{IsOpen, CanBeAnswered}
-use Rattle.mk_answers.specs.inner.Found.{IsThere, IsBeliefIn, max_side_grade}
+use Rattle.mk_answers.specs.inner.Found.{IsThere, IsBeliefIn, IsPartFor, IsWholeFor, max_side_grade}
 use Rattle.mk_answers.proofs.Weaker.{covers_when}
 use Rattle.mk_answers.proofs.Parts.{ArePartsOf, parts_cover}
+
+grade_more : (e : Enclosure) (g h : ℕ) → g ≤ h → HasGrade e g → HasGrade e h
+grade_more e g h l has = record { near = near_more (lower_of e) (upper_of e) g h l has.near }
 
 -- a belief in an event of the weights
 abbrev pub IsWeightOf : List Variable → GivenTree → List Entry → List Pair → Held → Type 0
@@ -57,6 +61,10 @@ module _ (network : List Variable) (tree : GivenTree) (H : List Entry) (is_open 
         → IsBeliefIn belief (IsSmall network H) (total network H (with_target asked))
     hit_in event belief e b = in_same belief (IsSmall network H) _ _ (ap (λ (ps : List Pair). total network H (holds ps)) e ∙ target_is_total network H asked) (event_in event belief b)
 
+    pub part_in : (event : List Pair) (belief : Held) (part : Enclosure) → event ≡ pairs_asked asked → belief ≡ Present part → IsWeightOf network tree H event belief
+        → IsPartFor network H asked part
+    part_in event belief part e is b = subst (λ (b : Held). IsBeliefIn b (IsSmall network H) (total network H (with_target asked))) is (hit_in event belief e b)
+
     pub condition_in : (event : List Pair) (belief : Held) → event ≡ asked.condition → IsWeightOf network tree H event belief
         → IsBeliefIn belief (IsSmall network H) (total network H (holds asked.condition))
     condition_in event belief e b = in_same belief (IsSmall network H) _ _ (ap (λ (ps : List Pair). total network H (holds ps)) e) (event_in event belief b)
@@ -83,23 +91,16 @@ module _ (network : List Variable) (tree : GivenTree) (H : List Entry) (is_open 
     pub hit_share : total network H (with_target asked) ≤ total network H (holds asked.condition)
     hit_share = price_is.at_most_one
 
-    -- the interval of the two beliefs covers the price
-    module _ (part whole : Held) (num den : Enclosure) (part_is : part ≡ Present num) (whole_is : whole ≡ Present den)
-        (part_in : IsBeliefIn part (IsSmall network H) (total network H (with_target asked)))
-        (whole_in : IsBeliefIn whole (IsSmall network H) (total network H (holds asked.condition))) where
-      num_in : IsBeliefIn (Present num) (IsSmall network H) (total network H (with_target asked))
-      num_in = subst (λ (b : Held). IsBeliefIn b (IsSmall network H) (total network H (with_target asked))) part_is part_in
-
-      den_in : IsBeliefIn (Present den) (IsSmall network H) (total network H (holds asked.condition))
-      den_in = subst (λ (b : Held). IsBeliefIn b (IsSmall network H) (total network H (holds asked.condition))) whole_is whole_in
-
+    -- the interval of the two enclosures covers the price
+    module _ (num den : Enclosure) (num_in : IsPartFor network H asked num) (den_in : IsWholeFor network H asked den) where
       pub ends_in_order : lower_of num ≤ upper_of den
       ends_in_order = omega (arith, num_in.encloses.lower, den_in.encloses.upper, hit_share)
 
       pub interval_covers : (low high : ℕ) → ArePartsOf num den low high → CoversPrice (IsSmall network H) (exact_price network H asked) low high
       interval_covers low high parts =
           covers_when (IsSmall network H) (IsExact num × IsExact den) (λ s. (num_in.exact s, den_in.exact s)) (exact_price network H asked) low high
-          (parts_cover num den _ _ max_side_grade low high num_in.encloses den_in.encloses condition_some hit_share (omega arith) num_in.grade.0 den_in.grade.0 parts)
+          (parts_cover num den _ _ (2 ^ 17) low high num_in.encloses den_in.encloses condition_some hit_share (omega arith)
+          (grade_more num max_side_grade (2 ^ 17) (omega arith) num_in.grade.0) (grade_more den den_in.graded.grade (2 ^ 17) den_in.graded.small den_in.graded.has) parts)
 
 -- the network's own pairs, in a condition
 pub condition_fits : (network : List Variable) (asked : Asked) (event : List Pair) → event ≡ asked.condition → IsQuestionOf network asked → ArePairsOf network event

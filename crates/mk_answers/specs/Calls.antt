@@ -11,14 +11,15 @@ use Rattle.mk_assets.specs.Holdings.{Owns}
 use Rattle.mk_spread.specs.Spreads.{SpreadAsked}
 use Rattle.mk_answers.specs.Open.{IsOpen, CanBeAnswered, CanBeSpreadHere, holding_of}
 
--- the engine has the weights of a market in use, where the question can be answered
-pub record CanPrice {E : Type 0} (stands_for : E → Meaning → Type 0) (prices : E) (asked : Asked) : Type 0 where
+-- the engine has the weights of a market in use, where the question can be answered, and its variable has so many values
+pub record CanPrice {E : Type 0} (stands_for : E → Meaning → Type 0) (prices : E) (asked : Asked) (values : ℕ) : Type 0 where
   pub network : List Variable
   pub tree : GivenTree
   pub history : List Entry
   pub stands : stands_for prices (weights_of network tree history)
   pub is_open : IsOpen network tree history
   pub answered : CanBeAnswered network tree history asked
+  pub sized : values ≡ slice_index (sizes network) asked.target.variable
 
 -- the assets are those of a user of a market in use
 pub record CanFindWorst {E P : Type 0} (stands_for : E → Meaning → Type 0) (assets : Assets E P) : Type 0 where

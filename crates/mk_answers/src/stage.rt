@@ -79,7 +79,7 @@ pub fn numbers_of<P: Engine<SumProd>, A: Engine<MinProd>>(
     requires fit { IsFit net.now tree.now asked.now values }
     ensures { IsStage P.stands_for A.stands_for prices.new assets.new net.now tree.now }
 {
-    let price = price_of(prices, asked);
+    let price = price_of(prices, asked, values);
     let bounds = bounds_of(prices, assets, asked, values);
     let least = least_of(assets);
     Numbers {

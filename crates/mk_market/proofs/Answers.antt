@@ -1,8 +1,9 @@
 -- Prices, and what users are worth at least.
-use Rattle.std.specs.Prelude.{◌≡◌, ℕ, ◌^◌, List, map, Option, Some, None, option_map, slice_get, IsSomeAnd}
+use Rattle.std.specs.Prelude.{◌≡◌, ℕ, ◌^◌, List, map, Option, Some, None, option_map, slice_get, slice_index, IsSomeAnd}
 use Rattle.std.proofs.Common.{refl, sym, ap, ◌∙◌, subst}
-use Rattle.mk_net.specs.Network.{Variable}
+use Rattle.mk_net.specs.Network.{Variable, sizes}
 use Rattle.mk_net.specs.Asked.{Asked}
+use Rattle.mk_net.specs.declared.words.Pair.{Pair}
 use Rattle.mk_net.specs.declared.words.QuestionText.{QuestionText}
 use Rattle.mk_exact.specs.Events.{always}
 use Rattle.mk_exact.specs.History.{Entry}
@@ -48,8 +49,12 @@ module _ {P A Plan : Type 0} (weights_stand : P → Meaning → Type 0) (gains_s
   opened = is_open weights_stand gains_stand plan_for file prices plan members accounts journal payments kept
 
   -- a question that can be answered
-  module _ (question : QuestionText) (asked : Asked) (is_question : IsQuestionFor (market_of file) file.tree journal.history question asked) where
-    pub can_price : CanPrice weights_stand prices asked
+  module _ (question : QuestionText) (asked : Asked) (is_question : IsQuestionFor (market_of file) file.tree journal.history question asked)
+      (target : Pair) (its_target : target ≡ asked.target) (values : ℕ) (counted : values ≡ slice_index (sizes file.net) target.variable) where
+    sized : values ≡ slice_index (sizes file.net) asked.target.variable
+    sized = counted ∙ ap (λ (p : Pair). slice_index (sizes file.net) p.variable) its_target
+
+    pub can_price : CanPrice weights_stand prices asked values
     can_price = record {
       network = file.net;
       tree = file.tree;
@@ -57,15 +62,16 @@ module _ {P A Plan : Type 0} (weights_stand : P → Meaning → Type 0) (gains_s
       stands = kept.prices_stand;
       is_open = opened;
       answered = is_question.answered;
+      sized = sized;
     }
 
     pub price_allowed : (low high : ℕ) → None ≡ first_refusal (market_of file) journal.history (Price question)
         → ((network : List Variable) (tree : GivenTree) (H : List Entry) → weights_stand prices (weights_of network tree H) → IsOpen network tree H → CanBeAnswered network tree H asked
-        → CoversPrice (IsSmall network H) (exact_price network H asked) low high)
+        → values ≡ slice_index (sizes network) asked.target.variable → CoversPrice (IsSmall network H) (exact_price network H asked) low high)
         → IsAllowedFor (market_of file) (standing_of journal members) (OfCommand (Price question)) (Priced low high)
     price_allowed low high none covers =
         let price : IsPrice file.net journal.history asked (Priced low high)
-        = record { low = low; high = high; printed = refl; covers = covers file.net file.tree journal.history kept.prices_stand opened is_question.answered } in
+        = record { low = low; high = high; printed = refl; covers = covers file.net file.tree journal.history kept.prices_stand opened is_question.answered sized } in
         answer_allowed (market_of file) (standing_of journal members) (Price question) (Priced low high) none
         (subst (λ (o : Option Asked). IsSomeAnd o (λ asked. IsPrice file.net journal.history asked (Priced low high))) (sym is_question.named) price)
 

@@ -18,7 +18,8 @@ impl<P: Engine<SumProd>, A: Engine<MinProd>> Market<P, A> {
         ensures { IsAnswered self.old self.new (Price question.now) (reply_of result) }
     {
         let asked = refuse_price(&self.file, &self.journal, question)?;
-        let (low, high) = price_of(&mut self.prices, &asked);
+        let values = self.file.net.values(asked.target().variable);
+        let (low, high) = price_of(&mut self.prices, &asked, values);
         Ok(Reply::Price { low, high })
     }
 

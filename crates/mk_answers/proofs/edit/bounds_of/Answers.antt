@@ -5,7 +5,7 @@ use Rattle.mk_semiring.specs.declared.held.Held.{Held}
 use Rattle.mk_beliefs.specs.Meanings.{weights_of}
 use Rattle.mk_answers.specs.Open.{holding_of}
 use Rattle.mk_answers.specs.inner.Found.{IsBeliefIn}
-use Rattle.mk_answers.proofs.Weights.{is_there, hit_in, miss_in, hit_some, event_fits}
+use Rattle.mk_answers.proofs.Weights.{is_there, hit_in, part_in, miss_in, hit_some, event_fits}
 use Rattle.mk_answers.proofs.Bounding.{can_ask, room_of_weights, room_of_gains, sum_fits, miss_some, some_hit, some_miss, hit_for, miss_for, are_bounds}
 use Rattle.mk_answers.proofs.edit.bounds_of.Goals as goal
 
@@ -50,8 +50,8 @@ pub add-requires : goal.add-requires
 add-requires g c =
     let a = c.requires in let asked = c.args.asked.now in let m = weights_of a.network a.tree a.history in let small = IsSmall a.network a.history in
     sum_fits c.enclosure_of-hit.result c.enclosure_of-miss.result small (total a.network a.history (with_target asked)) (total a.network a.history (without_target asked))
-    (subst (λ (b : Held). IsBeliefIn b small (total a.network a.history (with_target asked))) c.enclosure_of-hit.ensures
-    (hit_in a.network a.tree a.history a.is_open asked c.event-event.result c.belief-hit.result c.event-event.ensures.pairs (c.belief-hit.ensures.belief m a.stands)))
+    (part_in a.network a.tree a.history a.is_open asked c.event-event.result c.belief-hit.result c.enclosure_of-hit.result c.event-event.ensures.pairs c.enclosure_of-hit.ensures
+    (c.belief-hit.ensures.belief m a.stands))
     (subst (λ (b : Held). IsBeliefIn b small (total a.network a.history (without_target asked))) c.enclosure_of-miss.ensures
     (miss_in a.network a.tree a.history a.is_open asked c.args.values c.belief_of_others-miss.result a.answered.can_ask.in_range a.sized
     (c.belief_of_others-miss.ensures.belief m (c.belief-hit.ensures.kept m a.stands) a.sized)))
@@ -72,8 +72,8 @@ pub returns-clause-bounds : goal.returns-clause-bounds
 returns-clause-bounds g c = λ network tree H u hit miss stands owns is_open answered sized sides.
     let asked = c.args.asked.now in let m = weights_of network tree H in let h = holding_of network tree H u in let small = IsSmall network H in
     are_bounds network H u asked c.enclosure_of-hit.result c.enclosure_of-miss.result c.add.result c.factor_of.result c.factor_of-2.result
-    (subst (λ (b : Held). IsBeliefIn b small (total network H (with_target asked))) c.enclosure_of-hit.ensures
-    (hit_in network tree H is_open asked c.event-event.result c.belief-hit.result c.event-event.ensures.pairs (c.belief-hit.ensures.belief m stands)))
+    (part_in network tree H is_open asked c.event-event.result c.belief-hit.result c.enclosure_of-hit.result c.event-event.ensures.pairs c.enclosure_of-hit.ensures
+    (c.belief-hit.ensures.belief m stands))
     (subst (λ (b : Held). IsBeliefIn b small (total network H (without_target asked))) c.enclosure_of-miss.ensures
     (miss_in network tree H is_open asked c.args.values c.belief_of_others-miss.result answered.can_ask.in_range sized
     (c.belief_of_others-miss.ensures.belief m (c.belief-hit.ensures.kept m stands) sized)))

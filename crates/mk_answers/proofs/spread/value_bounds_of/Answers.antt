@@ -1,11 +1,9 @@
-use Rattle.std.proofs.Common.{subst, arith}
+use Rattle.std.proofs.Common.{arith}
 use Rattle.mk_exact.specs.Events.{with_target}
 use Rattle.mk_exact.specs.Weight.{total, IsSmall}
-use Rattle.mk_semiring.specs.declared.held.Held.{Held}
 use Rattle.mk_beliefs.specs.Meanings.{weights_of}
 use Rattle.mk_answers.specs.Open.{holding_of}
-use Rattle.mk_answers.specs.inner.Found.{IsBeliefIn}
-use Rattle.mk_answers.proofs.Weights.{is_there, hit_in, hit_some, event_fits}
+use Rattle.mk_answers.proofs.Weights.{is_there, hit_in, part_in, hit_some, event_fits}
 use Rattle.mk_answers.proofs.Bounding.{some_hit, hit_for}
 use Rattle.mk_answers.proofs.spread.value_bounds_of.Goals as goal
 
@@ -37,9 +35,8 @@ returns-clause-bounds g c = λ network tree H u stands owns is_open answered.
     let asked = c.args.asked.now in
     record {
       part =
-          subst (λ (b : Held). IsBeliefIn b (IsSmall network H) (total network H (with_target asked))) c.enclosure_of.ensures
-          (hit_in network tree H is_open asked c.event-event.result c.belief-part.result c.event-event.ensures.pairs
-          (c.belief-part.ensures.belief (weights_of network tree H) stands));
+          part_in network tree H is_open asked c.event-event.result c.belief-part.result c.enclosure_of.result c.event-event.ensures.pairs c.enclosure_of.ensures
+          (c.belief-part.ensures.belief (weights_of network tree H) stands);
       factor =
           hit_for network tree H u is_open asked answered c.event-event.result c.event-event.ensures.pairs _ c.least-least.result
           (c.least-least.ensures.least (holding_of network tree H u) owns) c.factor_of.result c.factor_of.ensures (omega arith);

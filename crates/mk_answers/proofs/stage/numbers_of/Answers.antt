@@ -14,6 +14,7 @@ price_of-price-requires g c =
       stands = s.stands;
       is_open = s.is_open;
       answered = answered net tree s.history c.args.asked.now c.args.values c.requires.fit s.unresolved;
+      sized = c.requires.fit.sized;
     }
 
 pub bounds_of-bounds-requires : goal.bounds_of-bounds-requires

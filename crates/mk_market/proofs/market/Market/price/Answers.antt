@@ -12,6 +12,7 @@ returns-in_err-asked g c =
 pub price_of-low-requires : goal.price_of-low-requires
 price_of-low-requires g c =
     can_price g.P.Engine.stands_for g.A.Engine.stands_for g.A.Engine.plan_for _ _ _ _ _ _ _ c.self.invariant c.args.question.now c.in_ok-asked.asked c.in_ok-asked.ensures.question
+    c.target.result c.target.ensures c.values-values.result c.values-values.ensures
 
 pub invariant_of-self : goal.invariant_of-self
 invariant_of-self g c = price_kept g.P.Engine.stands_for g.A.Engine.stands_for g.A.Engine.plan_for _ _ _ _ _ _ _ c.self.invariant c.price_of-low.new.prices c.price_of-low.ensures.kept
@@ -21,6 +22,7 @@ returns g c =
     rw (← c.self.view_is) (record {
       same_market = refl;
       allowed = price_allowed g.P.Engine.stands_for g.A.Engine.stands_for g.A.Engine.plan_for _ _ _ _ _ _ _ c.self.invariant c.args.question.now c.in_ok-asked.asked c.in_ok-asked.ensures.question
+          c.target.result c.target.ensures c.values-values.result c.values-values.ensures
           c.price_of-low.result.0 c.price_of-low.result.1 c.in_ok-asked.ensures.refusal c.price_of-low.ensures.price;
       next = price_next g.P.Engine.stands_for g.A.Engine.stands_for g.A.Engine.plan_for _ _ _ _ _ _ _ c.self.invariant c.args.question.now c.price_of-low.result.0 c.price_of-low.result.1;
     })
