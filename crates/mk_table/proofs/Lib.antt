@@ -23,3 +23,4 @@ pub mod Numbered
 pub mod Paired
 pub mod Multiplied
 pub mod Appended
+pub mod Spread

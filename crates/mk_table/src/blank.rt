@@ -118,8 +118,45 @@ pub(crate) fn times_held(
     if other_digits.len() < places.part_cells() {
         return;
     }
-    fill(digits, exponents, places.whole_cells());
-    times_cells(digits, exponents, places, other_digits, other_exponents);
+    if digits.len() < places.whole_cells() {
+        spread(
+            digits,
+            exponents,
+            places.onto(),
+            other_digits,
+            other_exponents,
+        );
+    } else {
+        times_cells(digits, exponents, places, other_digits, other_exponents);
+    }
+}
+
+/// Puts into each cell of a blank table the message's cell that has its values: 1 times a cell is that cell.
+fn spread(
+    digits: &mut Vec<u64>,
+    exponents: &mut Vec<u32>,
+    onto: &[u16],
+    other_digits: &[u64],
+    other_exponents: &[u32],
+)
+    requires blank { vec_len digits.old ≡ 0 }
+    requires blank_exponents { vec_len exponents.old ≡ 0 }
+    requires digits_fit { length onto.now ≤ vec_capacity digits.old }
+    requires exponents_fit { length onto.now ≤ vec_capacity exponents.old }
+    requires within { All (λ d. d < length other_digits.now) onto.now }
+    requires same_length { length other_exponents.now ≡ length other_digits.now }
+    ensures all_digits { length digits.new.items ≡ length onto.now }
+    ensures all_exponents { length exponents.new.items ≡ length onto.now }
+    ensures digits { (c : ℕ) → c < length onto.now → slice_index digits.new.items c ≡ slice_index other_digits.now (slice_index onto.now c) }
+    ensures exponents { (c : ℕ) → c < length onto.now → slice_index exponents.new.items c ≡ slice_index other_exponents.now (slice_index onto.now c) }
+    ensures digits_room { vec_capacity digits.new ≡ vec_capacity digits.old }
+    ensures exponents_room { vec_capacity exponents.new ≡ vec_capacity exponents.old }
+{
+    for place in 0..onto.len() {
+        let cell = onto[place] as usize;
+        digits.push_reserved(other_digits[cell]);
+        exponents.push_reserved(other_exponents[cell]);
+    }
 }
 
 /// Puts into each cell of a table the plus of the runs of cells that begin so far from the cell's base. Of a blank table the

@@ -40,8 +40,89 @@ pub(crate) fn plus_at_each<R: Semiring>(
     ensures same_digits { length out_digits.new ≡ length out_digits.old }
     ensures same_exponents { length out_exponents.new ≡ length out_exponents.old }
 {
+    if run > 1 {
+        return any_at_each::<R>(
+            digits,
+            exponents,
+            bases,
+            offsets,
+            run,
+            out_digits,
+            out_exponents,
+        );
+    }
+    match offsets.len() {
+        1 => few_at_each::<R, 1>(digits, exponents, bases, offsets, out_digits, out_exponents),
+        2 => few_at_each::<R, 2>(digits, exponents, bases, offsets, out_digits, out_exponents),
+        4 => few_at_each::<R, 4>(digits, exponents, bases, offsets, out_digits, out_exponents),
+        8 => few_at_each::<R, 8>(digits, exponents, bases, offsets, out_digits, out_exponents),
+        16 => few_at_each::<R, 16>(digits, exponents, bases, offsets, out_digits, out_exponents),
+        _ => any_at_each::<R>(
+            digits,
+            exponents,
+            bases,
+            offsets,
+            run,
+            out_digits,
+            out_exponents,
+        ),
+    }
+}
+
+/// The same for any number of offsets.
+fn any_at_each<R: Semiring>(
+    digits: &[u64],
+    exponents: &[u32],
+    bases: &[u16],
+    offsets: &[u16],
+    run: usize,
+    out_digits: &mut [u64],
+    out_exponents: &mut [u32],
+)
+    requires some { 1 ≤ run }
+    requires few { length (runs_of run offsets.now) ≤ max_clique_cells }
+    requires within { (b : ℕ) → b < length bases.now → All (λ c. slice_index bases.now b + c < length digits.now) (runs_of run offsets.now) }
+    requires room { (k : ℕ) × HaveRoom k digits.now exponents.now (2 * length (runs_of run offsets.now)) }
+    requires digits { length out_digits.old ≡ length bases.now }
+    requires exponents { length out_exponents.old ≡ length bases.now }
+    ensures stand { (b : ℕ) → b < length bases.now → (k : ℕ) (f : ℕ → ℕ) (n : ℕ)
+        → StandListed k digits.now exponents.now f n (slice_index bases.now b) (runs_of run offsets.now)
+        → StandsAt k (slice_index out_digits.new b) (slice_index out_exponents.new b)
+        (plus_over R.plus_of 0 (λ c. f (slice_index bases.now b + c)) (runs_of run offsets.now)) (n + (2 * length (runs_of run offsets.now) - 1)) }
+    ensures same_digits { length out_digits.new ≡ length out_digits.old }
+    ensures same_exponents { length out_exponents.new ≡ length out_exponents.old }
+{
     for place in 0..bases.len() {
         let cell = plus_at::<R>(digits, exponents, bases[place] as usize, offsets, run);
+        out_digits[place] = cell.digits;
+        out_exponents[place] = cell.exponent;
+    }
+}
+
+/// Puts into each cell of a table the plus of the `N` cells that lie so far from the cell's base. The compiler knows their
+/// number, and writes the passes over them without a loop.
+fn few_at_each<R: Semiring, const N: usize>(
+    digits: &[u64],
+    exponents: &[u32],
+    bases: &[u16],
+    offsets: &[u16],
+    out_digits: &mut [u64],
+    out_exponents: &mut [u32],
+)
+    requires count { length offsets.now ≡ N }
+    requires small { N ≤ 64 }
+    requires within { (b : ℕ) → b < length bases.now → All (λ c. slice_index bases.now b + c < length digits.now) offsets.now }
+    requires cells { AreCells digits.now exponents.now }
+    requires digits { length out_digits.old ≡ length bases.now }
+    requires exponents { length out_exponents.old ≡ length bases.now }
+    ensures stand { (b : ℕ) → b < length bases.now → (k : ℕ) (f : ℕ → ℕ) (n : ℕ) → StandListed k digits.now exponents.now f n (slice_index bases.now b) offsets.now
+        → StandsAt k (slice_index out_digits.new b) (slice_index out_exponents.new b)
+        (plus_over R.plus_of 0 (λ c. f (slice_index bases.now b + c)) offsets.now) (n + length offsets.now) }
+    ensures same_digits { length out_digits.new ≡ length out_digits.old }
+    ensures same_exponents { length out_exponents.new ≡ length out_exponents.old }
+{
+    for place in 0..bases.len() {
+        let cell = plus_of_cells::<R, N>(digits, exponents, bases[place] as usize, &offsets[..N]);
         out_digits[place] = cell.digits;
         out_exponents[place] = cell.exponent;
     }

@@ -215,6 +215,16 @@ impl Scope {
         self.variables.contains(&variable)
     }
 
+    /// The value that each cell gives a variable.
+    pub(crate) fn column(&self, variable: u32) -> &[u8]
+        requires { has_variable self.now variable ≡ true }
+        ensures cells { length result.now ≡ cells_in self.now }
+        ensures values { (c : ℕ) → c < cells_in self.now → slice_index result.now c ≡ values_at self.now c variable }
+    {
+        let start = self.starts[variable as usize] as usize;
+        &self.columns[start..start + self.cells]
+    }
+
     /// The value that a cell gives a variable.
     #[inline]
     pub(crate) fn value(&self, cell: usize, variable: u32) -> u32

@@ -79,9 +79,10 @@ pub(crate) fn times_units(
         (IsAmong chosen.now (length chosen.now)) digits.old exponents.old digits.new exponents.new }
 {
     let units = unit_cells(ratio);
+    let values = scope.column(ratio.variable);
     for place in 0..chosen.len() {
         let cell = chosen[place] as usize;
-        let value = scope.value(cell, ratio.variable) as usize;
+        let value = values[cell] as usize;
         let other = Cell {
             digits: units.digits[value],
             exponent: units.exponents[value],

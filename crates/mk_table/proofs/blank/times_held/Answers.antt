@@ -1,11 +1,14 @@
-use Rattle.std.proofs.Common.{◌<◌, ◌≤◌, length, slice_index, refl, arith, ap, subst, sym, ◌∙◌}
+use Rattle.std.proofs.Common.{◌≡◌, ◌<◌, ◌≤◌, ℕ, List, length, slice_index, refl, arith, subst, sym, ◌∙◌}
+use Rattle.std.specs.Prelude.{vec_len}
+use Rattle.std.proofs.lemmas.List.{get_or_default}
 use Rattle.mk_table.specs.Scopes.{cells_in}
 use Rattle.mk_table.specs.Cells.{cell_in}
 use Rattle.mk_table.specs.inner.Blank.{one_digits, one_exponent, filled}
-use Rattle.mk_table.specs.inner.Parts.{IsTimesCell}
-use Rattle.mk_table.proofs.Filled.{at_most, all_blank, all_full, filled_length, filled_full, one_at, full_room, held_items, held_after, times_same}
+use Rattle.mk_table.specs.inner.Parts.{HaveRoom, IsTimesCell}
+use Rattle.mk_table.proofs.Filled.{at_most, all_blank, all_full, filled_length, filled_full, one_at, full_room, held_items, times_same}
 use Rattle.mk_table.proofs.Kept.{cell_within}
 use Rattle.mk_table.proofs.OnesSum.{times_one}
+use Rattle.mk_table.proofs.Spread.{spread_changed}
 use Rattle.mk_table.proofs.blank.times_held.Goals as goal
 
 pub returns-then-other_digits-part_cells-clause-changed :
@@ -29,11 +32,25 @@ returns-then-other_digits-part_cells-clause-changed c =
       exponents_left = λ j l. refl;
     }
 
-pub times_cells-requires-clause-full : goal.times_cells-requires-clause-full
-times_cells-requires-clause-full c = record {
-  as_many_digits = omega (arith, c.deref_mut.ensures.len, c.fill.ensures.all_digits, c.whole_cells.ensures);
-  as_many_exponents = omega (arith, c.deref_mut-2.ensures.len, c.fill.ensures.all_exponents, c.whole_cells.ensures);
-}
+-- the message has a cell written for each of its scope's
+pub spread-requires-clause-within : goal.spread-requires-clause-within
+spread-requires-clause-within c = λ k z l.
+    let part = c.args.places.now.part in let whole = c.args.places.now.whole in
+    let i : k < cells_in whole = omega (arith, l, c.onto.ensures.one_each) in
+    let w = cell_within part whole c.part_cells.ensures.lies_in k i in
+    subst (λ y. y < length c.args.other_digits.now) (sym (get_or_default c.onto.result.now k z 0 l ∙ c.onto.ensures.cell k i))
+    (omega (arith, w, c.if-other_digits-part_cells.false, c.part_cells.ensures.cells))
+
+pub times_cells-requires-clause-room : goal.times_cells-requires-clause-room
+times_cells-requires-clause-room c =
+    let n = cells_in c.args.places.now.whole in let k = c.requires.room.0 in
+    let d = c.args.digits.now.items in let e = c.args.exponents.now.items in
+    let l : n ≤ length d = omega (arith, c.if-len-whole_cells.false, c.len.ensures, c.whole_cells.ensures, c.args.digits.now.ok.0) in
+    let full = full_room n d e c.requires.held.whole l k 1 c.requires.room.1 in (
+      k,
+      subst (λ (ys : List ℕ). HaveRoom k ys c.deref_mut-else-len-whole_cells.result.now 1) (sym c.deref_mut.ensures.value)
+          (subst (λ (ys : List ℕ). HaveRoom k d ys 1) (sym c.deref_mut-else-len-whole_cells.ensures.value) full),
+    )
 
 pub times_cells-requires-clause-other_room : goal.times_cells-requires-clause-other_room
 times_cells-requires-clause-other_room c = (
@@ -42,22 +59,30 @@ times_cells-requires-clause-other_room c = (
       c.requires.other_room.1,
 )
 
-pub returns-clause-changed : goal.returns-clause-changed
-returns-clause-changed c =
+pub returns-then-len-whole_cells-clause-changed : goal.returns-then-len-whole_cells-clause-changed
+returns-then-len-whole_cells-clause-changed c =
     let part = c.args.places.now.part in let whole = c.args.places.now.whole in let n = cells_in whole in let m = cells_in part in
-    let md = c.args.other_digits.now in let me = c.args.other_exponents.now in
+    let d = c.args.digits.now.items in let e = c.args.exponents.now.items in let md = c.args.other_digits.now in let me = c.args.other_exponents.now in
     let l : m ≤ length md = omega (arith, c.if-other_digits-part_cells.false, c.part_cells.ensures.cells) in
-    times_same part whole md me c.deref_mut.result.now c.deref_mut-2.result.now c.times_cells.new.digits c.times_cells.new.exponents _ _ _ _ _ _
-    (sym (filled_full one_digits m md l)) (sym (filled_full one_exponent m me (all_full m md me c.requires.other l)))
-    (c.deref_mut.ensures.value ∙ c.fill.ensures.digits ∙ ap (λ k. filled one_digits k c.args.digits.now.items) c.whole_cells.ensures)
-    (c.deref_mut-2.ensures.value ∙ c.fill.ensures.exponents ∙ ap (λ k. filled one_exponent k c.args.exponents.now.items) c.whole_cells.ensures)
-    (sym (held_items one_digits n c.fill.new.digits c.times_cells.new.digits (omega (arith, c.times_cells.auto.digits, c.deref_mut.ensures.len)) (c.fill.ensures.all_digits ∙ c.whole_cells.ensures)))
-    (sym (held_items one_exponent n c.fill.new.exponents c.times_cells.new.exponents (omega (arith, c.times_cells.auto.exponents, c.deref_mut-2.ensures.len)) (c.fill.ensures.all_exponents ∙ c.whole_cells.ensures)))
-    c.times_cells.ensures.changed
+    let few : length d < n = omega (arith, c.if-len-whole_cells.true, c.len.ensures, c.whole_cells.ensures, c.args.digits.now.ok.0) in
+    let room = full_room m md me c.requires.other l c.requires.other_room.0 1 c.requires.other_room.1 in
+    spread_changed part whole c.part_cells.ensures.lies_in c.onto.result.now d e md me c.spread.new.digits.items c.spread.new.exponents.items c.onto.ensures
+    (all_blank n d e c.requires.held.whole few) c.requires.other l (λ j k. (room.stand.each j k).form) c.spread.ensures.all_digits c.spread.ensures.all_exponents c.spread.ensures.digits c.spread.ensures.exponents
 
-pub returns-clause-held : goal.returns-clause-held
-returns-clause-held c =
-    held_after (cells_in c.args.places.now.whole) c.fill.new.digits c.fill.new.exponents c.times_cells.new.digits c.times_cells.new.exponents
-    (omega (arith, c.times_cells.auto.digits, c.deref_mut.ensures.len)) (omega (arith, c.times_cells.auto.exponents, c.deref_mut-2.ensures.len))
-    (c.fill.ensures.all_digits ∙ c.whole_cells.ensures) (c.fill.ensures.all_exponents ∙ c.whole_cells.ensures)
-    (omega (arith, c.fill.ensures.digits_room, c.requires.held.digits_fit)) (omega (arith, c.fill.ensures.exponents_room, c.requires.held.exponents_fit))
+pub returns-else-len-whole_cells-clause-changed : goal.returns-else-len-whole_cells-clause-changed
+returns-else-len-whole_cells-clause-changed c =
+    let part = c.args.places.now.part in let whole = c.args.places.now.whole in let n = cells_in whole in let m = cells_in part in
+    let d = c.args.digits.now.items in let e = c.args.exponents.now.items in let md = c.args.other_digits.now in let me = c.args.other_exponents.now in
+    let l : m ≤ length md = omega (arith, c.if-other_digits-part_cells.false, c.part_cells.ensures.cells) in
+    let k : n ≤ length d = omega (arith, c.if-len-whole_cells.false, c.len.ensures, c.whole_cells.ensures, c.args.digits.now.ok.0) in
+    let k_too : n ≤ length e = all_full n d e c.requires.held.whole k in
+    let most = at_most n d e c.requires.held.whole in
+    let long : vec_len c.args.digits.now ≡ n = omega (arith, k, most.0, c.args.digits.now.ok.0) in
+    let long_too : vec_len c.args.exponents.now ≡ n = omega (arith, k_too, most.1, c.args.exponents.now.ok.0) in
+    times_same part whole md me c.deref_mut.result.now c.deref_mut-else-len-whole_cells.result.now c.times_cells.new.digits c.times_cells.new.exponents _ _ _ _ _ _
+    (sym (filled_full one_digits m md l)) (sym (filled_full one_exponent m me (all_full m md me c.requires.other l)))
+    (c.deref_mut.ensures.value ∙ sym (filled_full one_digits n d k))
+    (c.deref_mut-else-len-whole_cells.ensures.value ∙ sym (filled_full one_exponent n e k_too))
+    (sym (held_items one_digits n c.args.digits.now c.times_cells.new.digits (omega (arith, c.times_cells.auto.digits, c.deref_mut.ensures.len)) long))
+    (sym (held_items one_exponent n c.args.exponents.now c.times_cells.new.exponents (omega (arith, c.times_cells.auto.exponents, c.deref_mut-else-len-whole_cells.ensures.len)) long_too))
+    c.times_cells.ensures.changed

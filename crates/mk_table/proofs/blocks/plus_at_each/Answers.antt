@@ -1,25 +1,82 @@
-use Rattle.std.proofs.Common.{◌+◌, ◌-◌, ◌*◌, ℕ, length, slice_index, arith, ◌∙◌}
-use Rattle.std.proofs.Math.ListN.{length-set}
+use Rattle.std.proofs.Common.{◌≡◌, ℕ, ◌+◌, ◌-◌, ◌*◌, ◌<◌, ◌≤◌, List, All, length, slice_index, arith, ap, subst, sym, ◌∙◌}
 use Rattle.mk_exact.specs.States.{plus_over}
 use Rattle.mk_cell.specs.Cell.{StandsAt}
+use Rattle.mk_cell.specs.inner.Laws.{stands_with_more}
 use Rattle.mk_table.specs.inner.Parts.{StandListed}
 use Rattle.mk_table.specs.inner.Strides.{runs_of}
-use Rattle.mk_table.proofs.Blocked.{written_next}
+use Rattle.mk_table.proofs.Blocked.{cells_of_room}
+use Rattle.mk_table.proofs.Runs.{runs_single}
 use Rattle.mk_table.proofs.blocks.plus_at_each.Goals as goal
 
-pub loop-place-preserved : goal.loop-place-preserved
-loop-place-preserved g c =
-    let R = g.R.Semiring in let b = c.loop-place.place in let cell = c.plus_at-cell.result in
-    let l = c.loop-place-test.true in
-    record {
-      long = length-set c.loop-place.out_digits b cell.digits ∙ c.loop-place.invariant.long;
-      long_too = length-set c.loop-place.out_exponents b cell.exponent ∙ c.loop-place.invariant.long_too;
-      stand = written_next
-          (λ i q x. (k : ℕ) (f : ℕ → ℕ) (n : ℕ) → StandListed k c.args.digits.now c.args.exponents.now f n (slice_index c.args.bases.now i) (runs_of c.args.run c.args.offsets.now)
-          → StandsAt k q x (plus_over R.plus_of 0 (λ j. f (slice_index c.args.bases.now i + j)) (runs_of c.args.run c.args.offsets.now)) (n + (2 * length (runs_of c.args.run c.args.offsets.now) - 1)))
-          b cell.digits cell.exponent c.loop-place.out_digits c.loop-place.out_exponents
-          (omega (arith, l, c.loop-place.invariant.long)) (omega (arith, l, c.loop-place.invariant.long_too)) c.loop-place.invariant.stand c.plus_at-cell.ensures;
-    }
+-- where a run has one cell
+module _ (run : ℕ) (some : 1 ≤ run) (one : run ≤ 1) (bases xs : List ℕ) where
+  runs : runs_of run xs ≡ xs
+  runs = let e : run ≡ 1 = omega (arith, some, one) in ap (λ r. runs_of r xs) e ∙ runs_single xs
 
-pub returns-clause-stand : goal.returns-clause-stand
-returns-clause-stand g c = λ b l. c.loop-place.invariant.stand b (omega (arith, l, c.loop-place-test.false))
+  within_one : (count : ℕ) → ((b : ℕ) → b < length bases → All (λ c. slice_index bases b + c < count) (runs_of run xs)) → (b : ℕ) → b < length bases → All (λ c. slice_index bases b + c < count) xs
+  within_one count h b l = subst (λ (ys : List ℕ). All (λ c. slice_index bases b + c < count) ys) runs (h b l)
+
+  stand_one : (plus : ℕ → ℕ → ℕ) (d e od oe : List ℕ) → 1 ≤ length xs
+      → ((b : ℕ) → b < length bases → (k : ℕ) (f : ℕ → ℕ) (n : ℕ) → StandListed k d e f n (slice_index bases b) xs
+      → StandsAt k (slice_index od b) (slice_index oe b) (plus_over plus 0 (λ c. f (slice_index bases b + c)) xs) (n + length xs))
+      → (b : ℕ) → b < length bases → (k : ℕ) (f : ℕ → ℕ) (n : ℕ) → StandListed k d e f n (slice_index bases b) (runs_of run xs)
+      → StandsAt k (slice_index od b) (slice_index oe b) (plus_over plus 0 (λ c. f (slice_index bases b + c)) (runs_of run xs)) (n + (2 * length (runs_of run xs) - 1))
+  stand_one plus d e od oe many h b l k f n a =
+      subst (λ (ys : List ℕ). StandsAt k (slice_index od b) (slice_index oe b) (plus_over plus 0 (λ c. f (slice_index bases b + c)) ys) (n + (2 * length ys - 1))) (sym runs)
+      (stands_with_more k _ _ _ (n + length xs) (n + (2 * length xs - 1)) (omega (arith, many))
+      (h b l k f n (subst (λ (ys : List ℕ). StandListed k d e f n (slice_index bases b) ys) runs a)))
+
+pub few_at_each-requires-clause-within : goal.few_at_each-requires-clause-within
+few_at_each-requires-clause-within g c = within_one c.args.run c.requires.some (omega (arith, c.if-run-gt1.false)) c.args.bases.now c.args.offsets.now (length c.args.digits.now) c.requires.within
+
+pub few_at_each-requires-clause-cells : goal.few_at_each-requires-clause-cells
+few_at_each-requires-clause-cells g c = cells_of_room c.requires.room.0 _ _ _ c.requires.room.1
+
+pub few_at_each-requires-in-2-clause-within : goal.few_at_each-requires-in-2-clause-within
+few_at_each-requires-in-2-clause-within g c = within_one c.args.run c.requires.some (omega (arith, c.if-run-gt1.false)) c.args.bases.now c.args.offsets.now (length c.args.digits.now) c.requires.within
+
+pub few_at_each-requires-in-2-clause-cells : goal.few_at_each-requires-in-2-clause-cells
+few_at_each-requires-in-2-clause-cells g c = cells_of_room c.requires.room.0 _ _ _ c.requires.room.1
+
+pub few_at_each-requires-in-4-clause-within : goal.few_at_each-requires-in-4-clause-within
+few_at_each-requires-in-4-clause-within g c = within_one c.args.run c.requires.some (omega (arith, c.if-run-gt1.false)) c.args.bases.now c.args.offsets.now (length c.args.digits.now) c.requires.within
+
+pub few_at_each-requires-in-4-clause-cells : goal.few_at_each-requires-in-4-clause-cells
+few_at_each-requires-in-4-clause-cells g c = cells_of_room c.requires.room.0 _ _ _ c.requires.room.1
+
+pub few_at_each-requires-in-8-clause-within : goal.few_at_each-requires-in-8-clause-within
+few_at_each-requires-in-8-clause-within g c = within_one c.args.run c.requires.some (omega (arith, c.if-run-gt1.false)) c.args.bases.now c.args.offsets.now (length c.args.digits.now) c.requires.within
+
+pub few_at_each-requires-in-8-clause-cells : goal.few_at_each-requires-in-8-clause-cells
+few_at_each-requires-in-8-clause-cells g c = cells_of_room c.requires.room.0 _ _ _ c.requires.room.1
+
+pub few_at_each-requires-in-16-clause-within : goal.few_at_each-requires-in-16-clause-within
+few_at_each-requires-in-16-clause-within g c = within_one c.args.run c.requires.some (omega (arith, c.if-run-gt1.false)) c.args.bases.now c.args.offsets.now (length c.args.digits.now) c.requires.within
+
+pub few_at_each-requires-in-16-clause-cells : goal.few_at_each-requires-in-16-clause-cells
+few_at_each-requires-in-16-clause-cells g c = cells_of_room c.requires.room.0 _ _ _ c.requires.room.1
+
+pub returns-in-1-clause-stand : goal.returns-in-1-clause-stand
+returns-in-1-clause-stand g c =
+    stand_one c.args.run c.requires.some (omega (arith, c.if-run-gt1.false)) c.args.bases.now c.args.offsets.now g.R.Semiring.plus_of c.args.digits.now c.args.exponents.now
+    c.few_at_each.new.out_digits c.few_at_each.new.out_exponents (omega (arith, c.in-1.is)) c.few_at_each.ensures.stand
+
+pub returns-in-2-clause-stand : goal.returns-in-2-clause-stand
+returns-in-2-clause-stand g c =
+    stand_one c.args.run c.requires.some (omega (arith, c.if-run-gt1.false)) c.args.bases.now c.args.offsets.now g.R.Semiring.plus_of c.args.digits.now c.args.exponents.now
+    c.few_at_each-in-2.new.out_digits c.few_at_each-in-2.new.out_exponents (omega (arith, c.in-2.is)) c.few_at_each-in-2.ensures.stand
+
+pub returns-in-4-clause-stand : goal.returns-in-4-clause-stand
+returns-in-4-clause-stand g c =
+    stand_one c.args.run c.requires.some (omega (arith, c.if-run-gt1.false)) c.args.bases.now c.args.offsets.now g.R.Semiring.plus_of c.args.digits.now c.args.exponents.now
+    c.few_at_each-in-4.new.out_digits c.few_at_each-in-4.new.out_exponents (omega (arith, c.in-4.is)) c.few_at_each-in-4.ensures.stand
+
+pub returns-in-8-clause-stand : goal.returns-in-8-clause-stand
+returns-in-8-clause-stand g c =
+    stand_one c.args.run c.requires.some (omega (arith, c.if-run-gt1.false)) c.args.bases.now c.args.offsets.now g.R.Semiring.plus_of c.args.digits.now c.args.exponents.now
+    c.few_at_each-in-8.new.out_digits c.few_at_each-in-8.new.out_exponents (omega (arith, c.in-8.is)) c.few_at_each-in-8.ensures.stand
+
+pub returns-in-16-clause-stand : goal.returns-in-16-clause-stand
+returns-in-16-clause-stand g c =
+    stand_one c.args.run c.requires.some (omega (arith, c.if-run-gt1.false)) c.args.bases.now c.args.offsets.now g.R.Semiring.plus_of c.args.digits.now c.args.exponents.now
+    c.few_at_each-in-16.new.out_digits c.few_at_each-in-16.new.out_exponents (omega (arith, c.in-16.is)) c.few_at_each-in-16.ensures.stand

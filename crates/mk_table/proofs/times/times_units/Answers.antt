@@ -15,29 +15,32 @@ use Rattle.mk_table.proofs.times.times_units.Goals as goal
 cell_below : (chosen : List ℕ) (passes : List ℕ) (n i : ℕ) → chosen ≡ passes → ((k : ℕ) → k < length passes → slice_index passes k < n) → i < length chosen → slice_index chosen i < n
 cell_below chosen passes n i e h l = subst (λ (ys : List ℕ). i < length ys → slice_index ys i < n) (sym e) (h i) l
 
-pub value-value-requires-clause-cell : goal.value-value-requires-clause-cell
-value-value-requires-clause-cell c =
+pub bounds-values-cell : goal.bounds-values-cell
+bounds-values-cell c =
     let scope = c.args.scope.now in
-    cell_below c.args.chosen.now _ (cells_in scope) c.loop-place.place c.requires.chosen (chosen_below (λ k. holds_there c.args.ratio.now.condition (values_at scope k)) (cells_in scope)) (omega (arith, c.loop-place-test.true))
+    let l = cell_below c.args.chosen.now _ (cells_in scope) c.loop-place.place c.requires.chosen (chosen_below (λ k. holds_there c.args.ratio.now.condition (values_at scope k)) (cells_in scope)) (omega (arith, c.loop-place-test.true)) in
+    omega (arith, l, c.column-values.ensures.cells)
 
-pub value-value-requires-clause-variable : goal.value-value-requires-clause-variable
-value-value-requires-clause-variable c =
+pub column-values-requires : goal.column-values-requires
+column-values-requires c =
     event_last c.args.scope.now c.args.ratio.now.condition (record { variable = c.args.ratio.now.variable; value = 0 }) c.requires.event
 
 pub bounds-units-value : goal.bounds-units-value
 bounds-units-value c =
     let scope = c.args.scope.now in
     let l = cell_below c.args.chosen.now _ (cells_in scope) c.loop-place.place c.requires.chosen (chosen_below (λ k. holds_there c.args.ratio.now.condition (values_at scope k)) (cells_in scope)) (omega (arith, c.loop-place-test.true)) in
-    let below : c.value-value.result < length c.args.ratio.now.factors.items =
-    let b = place_of_units scope (trade_ratio c.args.ratio.now) c.requires.event c.requires.one_each (slice_index c.args.chosen.now c.loop-place.place) l in rw c.value-value.ensures b in
+    let cell = slice_index c.args.chosen.now c.loop-place.place in
+    let below : slice_index c.column-values.result.now cell < length c.args.ratio.now.factors.items =
+    subst (λ v. v < length c.args.ratio.now.factors.items) (sym (c.column-values.ensures.values cell l)) (place_of_units scope (trade_ratio c.args.ratio.now) c.requires.event c.requires.one_each cell l) in
     omega (arith, below, c.unit_cells-units.ensures.few)
 
 pub bounds-units-value-in-loop-place : goal.bounds-units-value-in-loop-place
 bounds-units-value-in-loop-place c =
     let scope = c.args.scope.now in
     let l = cell_below c.args.chosen.now _ (cells_in scope) c.loop-place.place c.requires.chosen (chosen_below (λ k. holds_there c.args.ratio.now.condition (values_at scope k)) (cells_in scope)) (omega (arith, c.loop-place-test.true)) in
-    let below : c.value-value.result < length c.args.ratio.now.factors.items =
-    let b = place_of_units scope (trade_ratio c.args.ratio.now) c.requires.event c.requires.one_each (slice_index c.args.chosen.now c.loop-place.place) l in rw c.value-value.ensures b in
+    let cell = slice_index c.args.chosen.now c.loop-place.place in
+    let below : slice_index c.column-values.result.now cell < length c.args.ratio.now.factors.items =
+    subst (λ v. v < length c.args.ratio.now.factors.items) (sym (c.column-values.ensures.values cell l)) (place_of_units scope (trade_ratio c.args.ratio.now) c.requires.event c.requires.one_each cell l) in
     omega (arith, below, c.unit_cells-units.ensures.few)
 
 pub times_at-requires-clause-within : goal.times_at-requires-clause-within
@@ -71,9 +74,10 @@ pub times_at-requires-clause-other : goal.times_at-requires-clause-other
 times_at-requires-clause-other c =
     let scope = c.args.scope.now in
     let l = cell_below c.args.chosen.now _ (cells_in scope) c.loop-place.place c.requires.chosen (chosen_below (λ k. holds_there c.args.ratio.now.condition (values_at scope k)) (cells_in scope)) (omega (arith, c.loop-place-test.true)) in
-    let below : c.value-value.result < length c.args.ratio.now.factors.items =
-    let b = place_of_units scope (trade_ratio c.args.ratio.now) c.requires.event c.requires.one_each (slice_index c.args.chosen.now c.loop-place.place) l in rw c.value-value.ensures b in
-    whole_cell 40 _ _ _ (omega arith) (c.unit_cells-units.ensures.stand c.value-value.result below)
+    let cell = slice_index c.args.chosen.now c.loop-place.place in
+    let below : slice_index c.column-values.result.now cell < length c.args.ratio.now.factors.items =
+    subst (λ v. v < length c.args.ratio.now.factors.items) (sym (c.column-values.ensures.values cell l)) (place_of_units scope (trade_ratio c.args.ratio.now) c.requires.event c.requires.one_each cell l) in
+    whole_cell 40 _ _ _ (omega arith) (c.unit_cells-units.ensures.stand (slice_index c.column-values.result.now cell) below)
 
 pub loop-place-preserved : goal.loop-place-preserved
 loop-place-preserved c =
@@ -83,10 +87,12 @@ loop-place-preserved c =
     let cell = slice_index c.args.chosen.now i in
     let l = cell_below c.args.chosen.now _ (cells_in scope) i c.requires.chosen (chosen_below passes (cells_in scope)) m in
     let units : ℕ → ℕ = λ k. units_of (trade_ratio c.args.ratio.now) (values_at scope k c.args.ratio.now.variable) in
-    let below : c.value-value.result < length c.args.ratio.now.factors.items = let b = place_of_units scope (trade_ratio c.args.ratio.now) c.requires.event c.requires.one_each cell l in rw c.value-value.ensures b in
-    let made = c.unit_cells-units.ensures.stand c.value-value.result below in
+    let value = slice_index c.column-values.result.now cell in
+    let below : value < length c.args.ratio.now.factors.items =
+    subst (λ v. v < length c.args.ratio.now.factors.items) (sym (c.column-values.ensures.values cell l)) (place_of_units scope (trade_ratio c.args.ratio.now) c.requires.event c.requires.one_each cell l) in
+    let made = c.unit_cells-units.ensures.stand value below in
     written_among (λ k d e x y. IsTimes d e 40 (units k) 0 x y) c.args.chosen.now c.args.digits.now c.args.exponents.now c.loop-place.digits c.loop-place.exponents c.times_at.new.digits c.times_at.new.exponents
     i cell (omega arith) (new_cell c.args.chosen.now _ i c.requires.chosen (chosen_apart passes (cells_in scope)) m)
     (omega (arith, l, c.requires.full.as_many_digits)) (omega (arith, l, c.requires.full.as_many_exponents)) c.loop-place.invariant c.times_at.ensures.digits c.times_at.ensures.exponents
     (c.times_at.ensures.times 40 (units cell) 0
-    (subst (λ w. StandsAt 40 (slice_index c.unit_cells-units.result.digits c.value-value.result) (slice_index c.unit_cells-units.result.exponents c.value-value.result) w 0) (ap (λ v. slice_index c.args.ratio.now.factors.items v) c.value-value.ensures) made))
+    (subst (λ w. StandsAt 40 (slice_index c.unit_cells-units.result.digits value) (slice_index c.unit_cells-units.result.exponents value) w 0) (ap (λ v. slice_index c.args.ratio.now.factors.items v) (c.column-values.ensures.values cell l)) made))

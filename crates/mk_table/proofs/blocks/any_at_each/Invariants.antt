@@ -3,7 +3,7 @@ use Rattle.mk_exact.specs.States.{plus_over}
 use Rattle.mk_cell.specs.Cell.{StandsAt}
 use Rattle.mk_table.specs.inner.Parts.{StandListed}
 use Rattle.mk_table.specs.inner.Strides.{runs_of}
-use Rattle.mk_table.proofs.blocks.plus_at_each.Given as goal
+use Rattle.mk_table.proofs.blocks.any_at_each.Given as goal
 
 abbrev pub invariant-loop-place : goal.invariant-loop-place
 invariant-loop-place g l = record {
