@@ -1,9 +1,9 @@
 -- Columns written one after the other.
-use Rattle.std.proofs.Common.{◌≡◌, ℕ, ◌+◌, ◌*◌, ◌/◌, ◌%◌, ◌<◌, ◌≤◌, true, false, ◌||◌, ◌⊎◌, inl, inr, eqb, List, [], ◌∷◌, ◌++◌, map, length, get_or, set, take, drop, slice_index, All, refl, sym, ap, subst, ◌∙◌, arith, add-one, length-append, append_assoc}
-use Rattle.std.proofs.Math.Nat.{le-mul_of_pos_right, mul-le-mul_right}
-use Rattle.std.proofs.lemmas.Nat.{div-mul-add}
+use Rattle.std.proofs.Common.{◌≡◌, ℕ, zero, suc, ◌+◌, ◌*◌, ◌/◌, ◌%◌, ◌<◌, ◌≤◌, replicate, true, false, ◌||◌, ◌⊎◌, inl, inr, eqb, List, [], ◌∷◌, ◌++◌, map, length, get_or, set, take, drop, slice_index, All, refl, sym, ap, subst, ◌∙◌, arith, add-one, length-append, append_assoc}
+use Rattle.std.proofs.Math.Nat.{le-mul_of_pos_right, mul-le-mul_right, div-add-mod'}
+use Rattle.std.proofs.lemmas.Nat.{div-mul-add, mod-mul-add, mod_below}
 use Rattle.std.proofs.lemmas.Bool.{cases_eq, both_ways, or_cases, or_left, or_right, eqb-true}
-use Rattle.std.proofs.lemmas.List.{drop_more, take_more, length-set, get_or-set_same, get_or-set_other, get_or_append_left, get_or-append-add}
+use Rattle.std.proofs.lemmas.List.{append-nil, replicate_more, drop_more, take_more, length-set, get_or-set_same, get_or-set_other, get_or_append_left, get_or-append-add}
 use Rattle.std.proofs.lemmas.List.Elements.{All-head, All-tail}
 use Rattle.std.proofs.lemmas.List.FromFn.{length-map-range_with_len, get_or-map-range_with_len, map-range_with_len_more}
 use Rattle.mk_net.specs.Network.{Variable, sizes, IsNetwork}
@@ -13,7 +13,7 @@ use Rattle.mk_exact.proofs.Positive.{size_at, few_values_at}
 use Rattle.mk_sums.specs.Sums.{listed}
 use Rattle.mk_sums.specs.Cells.{cells, Apart}
 use Rattle.mk_table.specs.inner.Columns.{IsColumn, HaveColumns}
-use Rattle.mk_table.proofs.Values.{cells_pos, place_at, listed_at, listed_drop}
+use Rattle.mk_table.proofs.Values.{cells_pos, cells_split, place_at, listed_at, listed_drop}
 
 pub listed_all : (P : ℕ → Type 0) (xs : List ℕ) → All P xs → (x : ℕ) → listed xs x ≡ true → P x
 listed_all P [] h x p = absurd (both_ways false refl p)
@@ -50,6 +50,10 @@ count_small size xs i n total bounds h e =
     let f = count_step size xs i n total h e in
     omega (arith, l, f)
 
+-- a multiple is divided without a rest
+exact_div : (n k s : ℕ) → n ≡ k * s → 1 ≤ s → n / s * s ≡ n
+exact_div n k s e p = ap (λ m. m / s * s) (omega (arith, e)) ∙ ap (λ m. m * s) (div-mul-add k s 0 p) ∙ sym e
+
 -- one column more
 module _ (size : ℕ → ℕ) (xs : List ℕ) (bounds : (x : ℕ) → listed xs x ≡ true → (2 ≤ size x) × (size x ≤ 16)) where
   pub record IsNext (i span stride : ℕ) : Type 0 where
@@ -57,9 +61,11 @@ module _ (size : ℕ → ℕ) (xs : List ℕ) (bounds : (x : ℕ) → listed xs 
     pub stride_pos : 1 ≤ stride
     pub few : span ≤ stride * 16
     pub some : 1 ≤ span
+    pub exact : span / stride * stride ≡ span
+    pub whole : cells size xs / stride * stride ≡ cells size xs
 
   pub next_stride : (i span size_here : ℕ) → i < length xs → span ≡ cells size (drop i xs) → size_here ≡ size (get_or xs i 0) → IsNext i span (span / size_here)
-  next_stride i span n h e f = rw (divided) (record { stride_is = refl; stride_pos = p; few = few; some = omega (arith, g, le-mul_of_pos_right (size (get_or xs i 0)) p, b.0) })
+  next_stride i span n h e f = rw (divided) (record { stride_is = refl; stride_pos = p; few = few; some = omega (arith, g, le-mul_of_pos_right (size (get_or xs i 0)) p, b.0); exact = exact_div span (size (get_or xs i 0)) (cells size (drop (i + 1) xs)) g p; whole = exact_div (cells size xs) (cells size (take (i + 1) xs)) (cells size (drop (i + 1) xs)) (cells_split size xs (i + 1)) p })
     where
       p : 1 ≤ cells size (drop (i + 1) xs)
       p = cells_pos size (drop (i + 1) xs) (λ x q. let l = (bounds x (listed_drop xs (i + 1) x q)).0 in omega arith)
@@ -146,3 +152,35 @@ column_more before f n = append_assoc before (map f (numbers_below n)) (f n ∷ 
 
 pub column_long : (before : List ℕ) (f : ℕ → ℕ) (n : ℕ) → length (before ++ map f (numbers_below n)) ≡ length before + n
 column_long before f n = length-append before (map f (numbers_below n)) ∙ ap (λ k. length before + k) (length-map-range_with_len f 0 n)
+
+-- one value of a column: the cells of a stride have it
+pub run_value : (span stride run j : ℕ) → 1 ≤ span → span / stride * stride ≡ span → j < stride → (run * stride + j) % span / stride ≡ run % (span / stride)
+run_value span stride run j some exact l =
+    let size = span / stride in let q = run / size in let r = run % size in
+    let pos : 0 < size = size_pos size (exact) in
+    let parts : q * size + r ≡ run = div-add-mod' run size in
+    let below : r < size = mod_below run size pos in
+    let up : r + 1 ≤ size = omega (arith, below) in
+    let next : (r + 1) * stride ≤ size * stride = mul-le-mul_right stride up in
+    let within : r * stride + j < size * stride = omega (arith, next, l) in
+    let cell : run * stride + j ≡ q * (size * stride) + (r * stride + j) = ap (λ n. n * stride + j) (sym parts) ∙ omega arith in
+    ap (λ n. (run * stride + j) % n / stride) (sym exact) ∙ ap (λ n. n % (size * stride) / stride) cell
+    ∙ ap (λ n. n / stride) (mod-mul-add q (size * stride) (r * stride + j) within) ∙ div-mul-add r stride j l
+  where
+    size_pos : (n : ℕ) → n * stride ≡ span → 0 < n
+    size_pos zero e = omega (arith, e, some)
+    size_pos (suc n) e = omega arith
+
+-- so many cells more of a column that have one value
+pub column_run : (before : List ℕ) (f : ℕ → ℕ) (n k v : ℕ) → ((j : ℕ) → j < k → f (n + j) ≡ v) → (before ++ map f (numbers_below n)) ++ replicate k v ≡ before ++ map f (numbers_below (n + k))
+column_run before f n zero v h =
+    let same : n ≡ n + zero = omega arith in
+    append-nil (before ++ map f (numbers_below n)) ∙ ap (λ m. before ++ map f (numbers_below m)) same
+column_run before f n (suc k) v h =
+    let more : suc k ≡ k + 1 = omega arith in
+    let last : n + k + 1 ≡ n + suc k = omega arith in
+    ap (λ ys. (before ++ map f (numbers_below n)) ++ ys) (ap (λ m. replicate m v) more ∙ sym (replicate_more k v))
+    ∙ sym (append_assoc (before ++ map f (numbers_below n)) (replicate k v) (v ∷ []))
+    ∙ ap (λ ys. ys ++ v ∷ []) (column_run before f n k v (λ j l. h j (omega (arith, l))))
+    ∙ ap (λ y. (before ++ map f (numbers_below (n + k))) ++ y ∷ []) (sym (h k (omega arith)))
+    ∙ column_more before f (n + k) ∙ ap (λ m. before ++ map f (numbers_below m)) last

@@ -1,6 +1,6 @@
 //! The scope of a table.
 
-ghost use Rattle.std.specs.Prelude.{◌≡◌, ℕ, ◌+◌, ◌<◌, ◌≤◌, ◌*◌, ◌/◌, ◌%◌, List, [], ◌++◌, All, map, length, slice_index, true, false, IfOk, OnOk};
+ghost use Rattle.std.specs.Prelude.{◌≡◌, ℕ, ◌+◌, ◌<◌, ◌≤◌, ◌*◌, ◌/◌, ◌%◌, List, [], ◌++◌, All, map, length, replicate, slice_index, true, false, IfOk, OnOk};
 ghost use Rattle.mk_net.specs.Bounds.{max_clique_cells, max_values, max_variables};
 ghost use Rattle.mk_net.specs.Sets.{is_member};
 ghost use Rattle.mk_net.specs.Network.{sizes, IsNetwork};
@@ -304,7 +304,8 @@ fn lay_out(
     Ok(())
 }
 
-/// Writes the value of each cell, for a variable whose values come round every `span` cells and change every `stride`.
+/// Writes the value of each cell, for a variable whose values come round every `span` cells and change every `stride`. A value
+/// is written for a whole stride, so that no cell costs a division.
 fn write_column(
     columns: &mut Vec<u8>,
     count: usize,
@@ -314,10 +315,23 @@ fn write_column(
     requires stride { 1 ≤ stride }
     requires few { span ≤ stride * max_values }
     requires some { 1 ≤ span }
+    requires exact { span / stride * stride ≡ span }
+    requires whole { count / stride * stride ≡ count }
     ensures { OnOk result (columns.new.items ≡ columns.old.items ++ map (λ c. c % span / stride) (numbers_below count)) }
 {
-    for cell in 0..count {
-        columns.push((cell % span / stride) as u8)?;
+    let values = span / stride;
+    for run in 0..count / stride {
+        write_run(columns, (run % values) as u8, stride)?;
+    }
+    Ok(())
+}
+
+/// Writes one value so many times.
+fn write_run(columns: &mut Vec<u8>, value: u8, count: usize) -> Result<(), NoMemory>
+    ensures { OnOk result (columns.new.items ≡ columns.old.items ++ replicate count value) }
+{
+    for _ in 0..count {
+        columns.push(value)?;
     }
     Ok(())
 }

@@ -1,4 +1,4 @@
-use Rattle.std.proofs.Common.{◌≡◌, ◌<◌, ◌+◌, ◌/◌, ◌%◌, ◌++◌, List, ℕ, map, set, slice_index, length, get_or, take, arith, subst, sym, take_all}
+use Rattle.std.proofs.Common.{◌≡◌, ◌<◌, ◌+◌, ◌*◌, ◌/◌, ◌%◌, ◌++◌, List, ℕ, map, set, slice_index, length, get_or, take, arith, subst, sym, take_all}
 use Rattle.std.proofs.lemmas.List.{length-set}
 use Rattle.mk_net.specs.Network.{sizes}
 use Rattle.mk_exact.specs.States.{numbers_below}
@@ -18,7 +18,8 @@ pub write_column-requires : goal.write_column-requires
 write_column-requires c =
     let net = c.args.net.now in let xs = c.args.variables.now in
     let n = next_stride (slice_index (sizes net)) xs (bounds_of net c.variables.ensures.network xs c.requires.of_network) c.loop-variable.variable-index _ _ c.loop-variable-test.true c.loop-variable.invariant.span c.values.ensures in
-    record { stride = n.stride_pos; few = n.few; some = n.some }
+    let stride = c.loop-variable.span / c.values.result in
+    record { stride = n.stride_pos; few = n.few; some = n.some; exact = n.exact; whole = subst (λ k. k / stride * stride ≡ k) (sym c.requires.cells) n.whole }
 
 pub loop-variable-preserved : goal.loop-variable-preserved
 loop-variable-preserved c =
