@@ -8,10 +8,11 @@ ghost use Rattle.mk_joint.specs.inner.Joints.{joint_states};
 ghost use Rattle.mk_tree_trials.specs.Used.{IsInUse};
 
 use crate::engines::{A, About, B, C, Change, ask, event, ratio, tell};
-use crate::fixtures::{all_variables, chain, chain_tree, make_tree, variable};
+use crate::fixtures::{CHAIN, all_variables, read};
 use mk_engine::Engine;
+use mk_file::MarketFile;
 use mk_joint::JointEngine;
-use mk_net::{Draft, Network, NoMemory, Pair, VarSet, VariableDraft};
+use mk_net::{Network, NoMemory, Pair};
 use mk_semiring::{Held, MinProd, Semiring, SumProd};
 use mk_tree::Tree;
 use mk_tree_engine::TreeEngine;
@@ -25,14 +26,6 @@ use std::test::Fail;
 struct Past {
     trades: Vec<WalkTrade>,
     known: Vec<Pair>,
-}
-
-/// A network of few states, and a tree of it.
-#[derive(Drop)]
-struct Case {
-    net: Network,
-    tree: Tree,
-    ghost few: { joint_states net ≤ max_clique_cells },
 }
 
 /// A plain walk that finds what beliefs over a semiring are.
@@ -144,16 +137,16 @@ fn check_all<R: Semiring<Value = Held> + Walked, E: Engine<R>>(
 fn follow<R: Semiring<Value = Held> + Walked, E: Engine<R>>(
     rt: &impl Abort,
     alloc: Global,
-    case: &Case,
+    file: &MarketFile,
     changes: &[Change],
     from: usize,
     asked: &[About],
 ) -> Result<(), Fail>
-    requires tree { IsTreeOf case.now.net case.now.tree }
-    requires suits { E.suits case.now.net case.now.tree }
+    requires tree { IsTreeOf file.now.net file.now.tree }
+    requires suits { E.suits file.now.net file.now.tree }
 {
-    let net = &case.net;
-    let plan = E::plan(alloc, net, &case.tree)?;
+    let net = &file.net;
+    let plan = E::plan(alloc, net, &file.tree)?;
     let mut engine = E::start(alloc, &plan)?;
     let mut past = Past::new(alloc);
     let mut before = 0;
@@ -169,31 +162,6 @@ fn follow<R: Semiring<Value = Held> + Walked, E: Engine<R>>(
     Ok(())
 }
 
-/// Over joint and tree engines, sums with the rows before the changes, and minima of the changes alone.
-fn follow_both(
-    rt: &impl Abort,
-    alloc: Global,
-    case: &Case,
-    rows: &[Change],
-    changes: &[Change],
-    asked: &[About],
-) -> Result<(), Fail>
-    requires { IsTreeOf case.now.net case.now.tree }
-{
-    let mut weighed = Vec::new(alloc);
-    for change in rows {
-        weighed.push(*change)?;
-    }
-    for change in changes {
-        weighed.push(*change)?;
-    }
-    let from = rows.len();
-    follow::<SumProd, JointEngine<SumProd>>(rt, alloc, case, &weighed, from, asked)?;
-    follow::<SumProd, TreeEngine<SumProd>>(rt, alloc, case, &weighed, from, asked)?;
-    follow::<MinProd, JointEngine<MinProd>>(rt, alloc, case, changes, 0, asked)?;
-    follow::<MinProd, TreeEngine<MinProd>>(rt, alloc, case, changes, 0, asked)
-}
-
 /// Stops unless a clique of all variables is legal.
 fn expect_few_states(alloc: Global, net: &Network) -> Result<(), Fail>
     ensures { IfOk result (λ done. joint_states net.now ≤ max_clique_cells) }
@@ -203,19 +171,38 @@ fn expect_few_states(alloc: Global, net: &Network) -> Result<(), Fail>
     Ok(())
 }
 
-fn make_case(
+/// A network with a tree of it, the rows that an engine over it is told, what it is told then, and what it is asked.
+struct Sample {
+    file: &'static str,
+    rows: usize,
+    changes: &'static [Change],
+    asked: &'static [About],
+}
+
+/// Over joint and tree engines, sums with the rows before the changes, and minima of the changes alone.
+fn follow_both(
     rt: &impl Abort,
     alloc: Global,
-    variables: Vec<VariableDraft>,
-    cliques: &[VarSet],
-    links: &[u32],
-) -> Result<Case, Fail>
-    ensures { IfOk result (λ case. IsTreeOf case.net case.tree) }
+    file: &MarketFile,
+    changes: &[Change],
+    rows: usize,
+    asked: &[About],
+) -> Result<(), Fail>
+    requires tree { IsTreeOf file.now.net file.now.tree }
+    requires few { joint_states file.now.net ≤ max_clique_cells }
 {
-    let net = Network::check(alloc, &Draft { variables })?;
-    expect_few_states(alloc, &net)?;
-    let tree = make_tree(rt, alloc, &net, cliques, links)?;
-    Ok(Case { net, tree })
+    assert!(rt; rows <= changes.len());
+    follow::<SumProd, JointEngine<SumProd>>(rt, alloc, file, changes, rows, asked)?;
+    follow::<SumProd, TreeEngine<SumProd>>(rt, alloc, file, changes, rows, asked)?;
+    let traded = &changes[rows..];
+    follow::<MinProd, JointEngine<MinProd>>(rt, alloc, file, traded, 0, asked)?;
+    follow::<MinProd, TreeEngine<MinProd>>(rt, alloc, file, traded, 0, asked)
+}
+
+fn follow_sample(rt: &impl Abort, alloc: Global, sample: &Sample) -> Result<(), Fail> {
+    let file = read(alloc, sample.file)?;
+    expect_few_states(alloc, &file.net)?;
+    follow_both(rt, alloc, &file, sample.changes, sample.rows, sample.asked)
 }
 
 const D: Pair = Pair {
@@ -233,203 +220,230 @@ const NOT_B: Pair = Pair {
     value: 1,
 };
 
-/// Stops unless the walk finds each of these numbers, once all changes were made.
-fn expect_walked<R: Walked>(
+/// A season and its rain, in the cliques {season, rain} and {season}.
+const WEATHER: &str = "points_per_bit = 1
+max_trades = 1
+cliques = [['season', 'rain'], ['season']]
+links = [1]
+[[variable]]
+name = 'season'
+values = ['wet', 'dry']
+parents = []
+rows = [[400000, 600000]]
+[[variable]]
+name = 'rain'
+values = ['yes', 'no']
+parents = ['season']
+rows = [[700000, 300000], [100000, 900000]]
+";
+
+/// A trade on rain in a wet season from 70 to 80 in a hundred, and then a dry season.
+const IN_WEATHER: Sample = Sample {
+    file: WEATHER,
+    rows: 2,
+    changes: &[
+        Change::Rows(0),
+        Change::Rows(1),
+        Change::Traded(About(B, Some(A)), 1256584717458, 733007751850),
+        Change::Known(NOT_A),
+    ],
+    asked: &[
+        About(A, None),
+        About(B, None),
+        About(NOT_A, None),
+        About(NOT_B, None),
+        About(B, Some(A)),
+        About(B, Some(NOT_A)),
+    ],
+};
+
+/// Trades and known pairs at each end of the chain.
+const ALONG_CHAIN: Sample = Sample {
+    file: CHAIN,
+    rows: 3,
+    changes: &[
+        Change::Rows(0),
+        Change::Rows(1),
+        Change::Rows(2),
+        Change::Traded(About(C, Some(B)), 733007751850, 1256584717458),
+        Change::Traded(About(A, None), 2, 3),
+        Change::Traded(About(C, None), 7, 5),
+        Change::Known(C),
+        Change::Known(NOT_A),
+    ],
+    asked: &[
+        About(A, None),
+        About(B, None),
+        About(C, None),
+        About(A, Some(B)),
+        About(B, Some(NOT_A)),
+        About(C, Some(B)),
+        About(C, Some(NOT_B)),
+    ],
+};
+
+/// A star: the clique {a, b} amid {a, c}, {b, d} and {b}, where b has three values.
+const STAR: &str = "points_per_bit = 1
+max_trades = 1
+cliques = [['a', 'b'], ['a', 'c'], ['b', 'd'], ['b']]
+links = [1, 1, 1]
+[[variable]]
+name = 'a'
+values = ['up', 'down']
+parents = []
+rows = [[250000, 750000]]
+[[variable]]
+name = 'b'
+values = ['low', 'mid', 'high']
+parents = ['a']
+rows = [[200000, 300000, 500000], [600000, 100000, 300000]]
+[[variable]]
+name = 'c'
+values = ['up', 'down']
+parents = ['a']
+rows = [[900000, 100000], [350000, 650000]]
+[[variable]]
+name = 'd'
+values = ['up', 'down']
+parents = ['b']
+rows = [[500000, 500000], [125000, 875000], [800000, 200000]]
+";
+
+/// Trades and known pairs in the middle of the star and at its ends.
+const IN_STAR: Sample = Sample {
+    file: STAR,
+    rows: 4,
+    changes: &[
+        Change::Rows(0),
+        Change::Rows(1),
+        Change::Rows(2),
+        Change::Rows(3),
+        Change::Traded(About(C, Some(A)), 1256584717458, 733007751850),
+        Change::Traded(About(D, None), 3, 2),
+        Change::Known(D),
+        Change::Traded(About(B, None), 2, 5),
+        Change::Known(NOT_B),
+    ],
+    asked: &[
+        About(A, None),
+        About(B, None),
+        About(C, None),
+        About(D, None),
+        About(B, Some(A)),
+        About(C, Some(A)),
+        About(C, Some(NOT_A)),
+        About(D, Some(B)),
+        About(D, Some(NOT_B)),
+    ],
+};
+
+#[test]
+fn engines_are_as_walked(rt: HostRuntime) -> Result<(), Fail> {
+    for sample in [&IN_WEATHER, &ALONG_CHAIN, &IN_STAR] {
+        follow_sample(&rt, rt.alloc(), sample)?;
+    }
+    Ok(())
+}
+
+/// Stops unless the walk finds each of these numbers.
+fn expect_numbers<R: Walked>(
     rt: &impl Abort,
     alloc: Global,
     net: &Network,
-    changes: &[Change],
+    past: &Past,
     expected: &[(About, u128)],
 ) -> Result<(), Fail> {
-    let mut past = Past::new(alloc);
-    for change in changes {
-        past.add(rt, net, change)?;
-    }
     for (about, number) in expected {
         let event = event(rt, net, about);
-        let walked = R::walked(alloc, net, &past, event.pairs())?;
+        let walked = R::walked(alloc, net, past, event.pairs())?;
         assert_eq!(rt; walked, Some(*number));
     }
     Ok(())
 }
 
-const ROWS: [Change; 4] = [
-    Change::Rows(0),
-    Change::Rows(1),
-    Change::Rows(2),
-    Change::Rows(3),
-];
-
-/// A season and its rain, in the cliques {season, rain} and {season}.
-fn weather(rt: &impl Abort, alloc: Global) -> Result<Case, Fail>
-    ensures { IfOk result (λ case. IsTreeOf case.net case.tree) }
-{
-    let rows: &[&[i64]] = &[&[400_000, 600_000]];
-    let season = variable(alloc, "season", &["wet", "dry"], &[], rows)?;
-    let rows: &[&[i64]] = &[&[700_000, 300_000], &[100_000, 900_000]];
-    let rain = variable(alloc, "rain", &["yes", "no"], &["season"], rows)?;
-    let season_alone = VarSet::empty().with(0);
-    let cliques = [season_alone.with(1), season_alone];
-    make_case(rt, alloc, vec![in alloc; season, rain]?, &cliques, &[1])
+/// The same on a sample's network, once so many of its changes were made.
+fn expect_walked<R: Walked>(
+    rt: &impl Abort,
+    alloc: Global,
+    sample: &Sample,
+    made: usize,
+    expected: &[(About, u128)],
+) -> Result<(), Fail> {
+    let net = read(alloc, sample.file)?.net;
+    let mut past = Past::new(alloc);
+    for change in sample.changes.iter().take(made) {
+        past.add(rt, &net, change)?;
+    }
+    expect_numbers::<R>(rt, alloc, &net, &past, expected)
 }
 
-/// A trade on rain in a wet season from 70 to 80 in a hundred.
-const RAIN_IN_WET: [Change; 1] = [Change::Traded(About(B, Some(A)), 1256584717458, 733007751850)];
+// Of rain and a wet season 400,000 times 700,000 times 1,256,584,717,458; and of rain and a dry one 600,000 times 100,000 times 2^40.
+const WET_RAIN: u128 = 351_843_720_888_240_000_000_000;
 
-/// The same, and then a dry season.
-const DRY_AFTER_TRADE: [Change; 2] = [
-    Change::Traded(About(B, Some(A)), 1256584717458, 733007751850),
-    Change::Known(NOT_A),
-];
-
-const OF_WEATHER: [About; 6] = [
-    About(A, None),
-    About(B, None),
-    About(NOT_A, None),
-    About(NOT_B, None),
-    About(B, Some(A)),
-    About(B, Some(NOT_A)),
-];
+const DRY_RAIN: u128 = 65_970_697_666_560_000_000_000;
 
 #[test]
-fn a_trade_on_rain(rt: HostRuntime) -> Result<(), Fail> {
-    let alloc = rt.alloc();
-    let case = weather(&rt, alloc)?;
-    follow_both(&rt, alloc, &case, &ROWS[..2], &DRY_AFTER_TRADE, &OF_WEATHER)
-}
-
-#[test]
-fn the_walk_after_a_trade_on_rain(rt: HostRuntime) -> Result<(), Fail> {
-    let alloc = rt.alloc();
-    let net = weather(&rt, alloc)?.net;
-    // 400,000 times 700,000 times 1,256,584,717,458; and 600,000 times 100,000 times 2^40.
-    let wet_rain = 351_843_720_888_240_000_000_000;
-    let dry_rain = 65_970_697_666_560_000_000_000;
-    let sums = [
-        (About(B, Some(A)), wet_rain),
-        (About(B, Some(NOT_A)), dry_rain),
-        (About(B, None), wet_rain + dry_rain),
-    ];
-    expect_walked::<SumProd>(&rt, alloc, &net, &RAIN_IN_WET, &sums)?;
-    let known = [(About(B, None), dry_rain)];
-    expect_walked::<SumProd>(&rt, alloc, &net, &DRY_AFTER_TRADE, &known)?;
-    // The units of the trade where the season is wet, and 2^40 elsewhere.
-    let elsewhere = 1_099_511_627_776;
-    let minima = [
-        (About(B, Some(A)), 1_256_584_717_458),
-        (About(B, None), elsewhere),
-        (About(NOT_B, None), 733_007_751_850),
-    ];
-    expect_walked::<MinProd>(&rt, alloc, &net, &RAIN_IN_WET, &minima)?;
-    let known = [(About(NOT_B, None), elsewhere)];
-    expect_walked::<MinProd>(&rt, alloc, &net, &DRY_AFTER_TRADE, &known)
-}
-
-/// A chain of three, in the cliques {a, b}, {b, c} and {c}.
-fn chained(rt: &impl Abort, alloc: Global) -> Result<Case, Fail>
-    ensures { IfOk result (λ case. IsTreeOf case.net case.tree) }
-{
-    let net = chain(alloc)?;
-    let tree = chain_tree(rt, alloc, &net)?;
-    expect_few_states(alloc, &net)?;
-    Ok(Case { net, tree })
-}
-
-/// Trades and known pairs at each end of the chain.
-const ALONG_CHAIN: [Change; 5] = [
-    Change::Traded(About(C, Some(B)), 733007751850, 1256584717458),
-    Change::Traded(About(A, None), 2, 3),
-    Change::Traded(About(C, None), 7, 5),
-    Change::Known(C),
-    Change::Known(NOT_A),
-];
-
-const OF_CHAIN: [About; 7] = [
-    About(A, None),
-    About(B, None),
-    About(C, None),
-    About(A, Some(B)),
-    About(B, Some(NOT_A)),
-    About(C, Some(B)),
-    About(C, Some(NOT_B)),
-];
-
-#[test]
-fn trades_along_a_chain(rt: HostRuntime) -> Result<(), Fail> {
-    let alloc = rt.alloc();
-    let case = chained(&rt, alloc)?;
-    follow_both(&rt, alloc, &case, &ROWS[..3], &ALONG_CHAIN, &OF_CHAIN)
+fn sums_of_the_walk(rt: HostRuntime) -> Result<(), Fail> {
+    for (sample, made, expected) in [
+        (
+            &IN_WEATHER,
+            3,
+            [
+                (About(B, Some(A)), WET_RAIN),
+                (About(B, Some(NOT_A)), DRY_RAIN),
+                (About(B, None), WET_RAIN + DRY_RAIN),
+            ]
+            .as_slice(),
+        ),
+        (&IN_WEATHER, 4, [(About(B, None), DRY_RAIN)].as_slice()),
+        // Of 10^18: b is up in 0.5 * 0.6 + 0.5 * 0.3, c in 0.45 * 0.8 + 0.55 * 0.1, and a and b in 0.5 * 0.6.
+        (
+            &ALONG_CHAIN,
+            3,
+            [
+                (About(B, None), 450_000_000_000_000_000),
+                (About(C, None), 415_000_000_000_000_000),
+                (About(A, Some(B)), 300_000_000_000_000_000),
+            ]
+            .as_slice(),
+        ),
+    ] {
+        expect_walked::<SumProd>(&rt, rt.alloc(), sample, made, expected)?;
+    }
+    Ok(())
 }
 
 #[test]
-fn the_walk_along_a_chain(rt: HostRuntime) -> Result<(), Fail> {
-    let alloc = rt.alloc();
-    let net = chain(alloc)?;
-    // Of 10^18: b is up in 0.5 * 0.6 + 0.5 * 0.3, c in 0.45 * 0.8 + 0.55 * 0.1, and a and b in 0.5 * 0.6.
-    let sums = [
-        (About(B, None), 450_000_000_000_000_000),
-        (About(C, None), 415_000_000_000_000_000),
-        (About(A, Some(B)), 300_000_000_000_000_000),
-    ];
-    expect_walked::<SumProd>(&rt, alloc, &net, &[], &sums)?;
-    // Where c is up and b is down, the first trade's 2^40 is left, with 3 and 7 of the others; where both are up, its 733,007,751,850.
-    let minima = [
-        (About(NOT_B, None), 23_089_744_183_296),
-        (About(B, None), 15_393_162_788_850),
-    ];
-    expect_walked::<MinProd>(&rt, alloc, &net, &ALONG_CHAIN, &minima)
-}
-
-/// A star: the clique {a, b} amid {a, c}, {b, d} and {b}, where b has three values.
-fn star(rt: &impl Abort, alloc: Global) -> Result<Case, Fail>
-    ensures { IfOk result (λ case. IsTreeOf case.net case.tree) }
-{
-    let rows: &[&[i64]] = &[&[250_000, 750_000]];
-    let a = variable(alloc, "a", &["up", "down"], &[], rows)?;
-    let rows: &[&[i64]] = &[&[200_000, 300_000, 500_000], &[600_000, 100_000, 300_000]];
-    let b = variable(alloc, "b", &["low", "mid", "high"], &["a"], rows)?;
-    let rows: &[&[i64]] = &[&[900_000, 100_000], &[350_000, 650_000]];
-    let c = variable(alloc, "c", &["up", "down"], &["a"], rows)?;
-    let rows: &[&[i64]] = &[
-        &[500_000, 500_000],
-        &[125_000, 875_000],
-        &[800_000, 200_000],
-    ];
-    let d = variable(alloc, "d", &["up", "down"], &["b"], rows)?;
-    let amid = VarSet::empty().with(1);
-    let cliques = [
-        amid.with(0),
-        VarSet::empty().with(0).with(2),
-        amid.with(3),
-        amid,
-    ];
-    make_case(rt, alloc, vec![in alloc; a, b, c, d]?, &cliques, &[1, 1, 1])
-}
-
-/// Trades and known pairs in the middle of the star and at its ends.
-const IN_STAR: [Change; 5] = [
-    Change::Traded(About(C, Some(A)), 1256584717458, 733007751850),
-    Change::Traded(About(D, None), 3, 2),
-    Change::Known(D),
-    Change::Traded(About(B, None), 2, 5),
-    Change::Known(NOT_B),
-];
-
-const OF_STAR: [About; 9] = [
-    About(A, None),
-    About(B, None),
-    About(C, None),
-    About(D, None),
-    About(B, Some(A)),
-    About(C, Some(A)),
-    About(C, Some(NOT_A)),
-    About(D, Some(B)),
-    About(D, Some(NOT_B)),
-];
-
-#[test]
-fn trades_in_a_star(rt: HostRuntime) -> Result<(), Fail> {
-    let alloc = rt.alloc();
-    let case = star(&rt, alloc)?;
-    follow_both(&rt, alloc, &case, &ROWS, &IN_STAR, &OF_STAR)
+fn minima_of_the_walk(rt: HostRuntime) -> Result<(), Fail> {
+    for (sample, made, expected) in [
+        // The units of the trade where the season is wet, and 2^40 elsewhere.
+        (
+            &IN_WEATHER,
+            3,
+            [
+                (About(B, Some(A)), 1_256_584_717_458),
+                (About(B, None), 1_099_511_627_776),
+                (About(NOT_B, None), 733_007_751_850),
+            ]
+            .as_slice(),
+        ),
+        (
+            &IN_WEATHER,
+            4,
+            [(About(NOT_B, None), 1_099_511_627_776)].as_slice(),
+        ),
+        // Where c is up and b is down, the first trade's 2^40 is left, with 3 and 7 of the others; where both are up, its 733,007,751,850.
+        (
+            &ALONG_CHAIN,
+            8,
+            [
+                (About(NOT_B, None), 23_089_744_183_296),
+                (About(B, None), 15_393_162_788_850),
+            ]
+            .as_slice(),
+        ),
+    ] {
+        expect_walked::<MinProd>(&rt, rt.alloc(), sample, made, expected)?;
+    }
+    Ok(())
 }

@@ -6,7 +6,7 @@ ghost use Rattle.mk_net.specs.Trades.{trade_ratio};
 ghost use Rattle.mk_exact.specs.Proper.{IsPairOf, IsQuestionOf, IsRatioOf};
 ghost use Rattle.mk_tree_trials.specs.Used.{IsInUse};
 
-use crate::fixtures::{chain, chain_tree, check};
+use crate::fixtures::{CHAIN, check, read};
 use mk_engine::Engine;
 use mk_net::{Event, Network, Pair, Question, Ratio};
 use mk_semiring::{Semiring, SumProd};
@@ -138,47 +138,43 @@ pub(crate) fn ask<R: Semiring, E: Engine<R>>(
     engine.belief(&event)
 }
 
+/// Stops unless this is the belief in a pair, after so many changes, and so many messages were made until then.
+fn expect_made(
+    rt: &impl Abort,
+    engine: &mut TreeEngine<SumProd>,
+    net: &Network,
+    pair: Pair,
+    before: u32,
+    belief: u64,
+    computed: u64,
+)
+    requires { IsInUse ⟦<TreeEngine<SumProd> as Engine<SumProd>>⟧.stands_for engine.old net.now before }
+    ensures { IsInUse ⟦<TreeEngine<SumProd> as Engine<SumProd>>⟧.stands_for engine.new net.now before }
+{
+    let believed = ask(rt, engine, net, &About(pair, None), before);
+    check(rt, &believed, belief);
+    assert_eq!(rt; engine.computed(), computed);
+}
+
+/// Over the chain: an engine that was told nothing, and how many messages it makes.
+fn check_messages(rt: &impl Abort, engine: &mut TreeEngine<SumProd>, net: &Network)
+    requires { IsInUse ⟦<TreeEngine<SumProd> as Engine<SumProd>>⟧.stands_for engine.old net.now 0 }
+{
+    tell(rt, engine, net, &Change::Rows(0), 0);
+    tell(rt, engine, net, &Change::Rows(1), 1);
+    tell(rt, engine, net, &Change::Rows(2), 2);
+    expect_made(rt, engine, net, C, 3, 415_000_000_000_000_000, 2);
+    expect_made(rt, engine, net, C, 3, 415_000_000_000_000_000, 2);
+    tell(rt, engine, net, &Change::Traded(About(A, None), 2, 3), 3);
+    expect_made(rt, engine, net, C, 4, 985_000_000_000_000_000, 3);
+    expect_made(rt, engine, net, B, 4, 1_050_000_000_000_000_000, 4);
+}
+
 #[test]
 fn only_stale_messages_are_made(rt: HostRuntime) -> Result<(), Fail> {
-    let alloc = rt.alloc();
-    let net = chain(alloc)?;
-    let tree = chain_tree(&rt, alloc, &net)?;
-    let plan = TreeEngine::<SumProd>::plan(alloc, &net, &tree)?;
-    let mut engine = TreeEngine::<SumProd>::start(alloc, &plan)?;
-    tell(&rt, &mut engine, &net, &Change::Rows(0), 0);
-    tell(&rt, &mut engine, &net, &Change::Rows(1), 1);
-    tell(&rt, &mut engine, &net, &Change::Rows(2), 2);
-    let (b, c) = (About(B, None), About(C, None));
-    check(
-        &rt,
-        &ask(&rt, &mut engine, &net, &c, 3),
-        415_000_000_000_000_000,
-    );
-    assert_eq!(rt; engine.computed(), 2);
-    check(
-        &rt,
-        &ask(&rt, &mut engine, &net, &c, 3),
-        415_000_000_000_000_000,
-    );
-    assert_eq!(rt; engine.computed(), 2);
-    tell(
-        &rt,
-        &mut engine,
-        &net,
-        &Change::Traded(About(A, None), 2, 3),
-        3,
-    );
-    check(
-        &rt,
-        &ask(&rt, &mut engine, &net, &c, 4),
-        985_000_000_000_000_000,
-    );
-    assert_eq!(rt; engine.computed(), 3);
-    check(
-        &rt,
-        &ask(&rt, &mut engine, &net, &b, 4),
-        1_050_000_000_000_000_000,
-    );
-    assert_eq!(rt; engine.computed(), 4);
+    let file = read(rt.alloc(), CHAIN)?;
+    let plan = TreeEngine::<SumProd>::plan(rt.alloc(), &file.net, &file.tree)?;
+    let mut engine = TreeEngine::<SumProd>::start(rt.alloc(), &plan)?;
+    check_messages(&rt, &mut engine, &file.net);
     Ok(())
 }

@@ -1,64 +1,44 @@
-//! What the trials share: variables from texts, trees whose cliques were looked through, and a chain of three variables.
+//! What the trials share: networks with their trees, from market files, and what trees and values have to be.
 
 ghost use Rattle.std.specs.Prelude.{◌≡◌, ℕ, ◌+◌, ◌<◌, ◌≤◌, [], ◌∷◌, length, slice_index, true, IfOk};
 ghost use Rattle.mk_net.specs.Sets.{is_member};
 ghost use Rattle.mk_tree.specs.Given.{AreOfNetwork};
 ghost use Rattle.mk_tree.specs.Checked.{IsTreeOf};
 
-use mk_net::{Draft, Event, Network, Pair, VarSet, VariableDraft};
+use mk_file::{MarketFile, read_market};
+use mk_net::{Event, Network, Pair, VarSet};
 use mk_semiring::Held;
-use mk_tree::Tree;
 use std::alloc::Global;
 use std::process::Abort;
 use std::test::Fail;
 
-fn texts(alloc: Global, given: &[&str]) -> Result<Vec<String>, Fail> {
-    let mut texts = Vec::new(alloc);
-    for text in given {
-        texts.push(String::from_str(alloc, *text)?)?;
-    }
-    Ok(texts)
-}
+/// Three variables, each the parent of the next, in the cliques {a, b}, {b, c} and {c}.
+pub(crate) const CHAIN: &str = "points_per_bit = 1
+max_trades = 1
+cliques = [['a', 'b'], ['b', 'c'], ['c']]
+links = [1, 2]
+[[variable]]
+name = 'a'
+values = ['up', 'down']
+parents = []
+rows = [[500000, 500000]]
+[[variable]]
+name = 'b'
+values = ['up', 'down']
+parents = ['a']
+rows = [[600000, 400000], [300000, 700000]]
+[[variable]]
+name = 'c'
+values = ['up', 'down']
+parents = ['b']
+rows = [[800000, 200000], [100000, 900000]]
+";
 
-pub(crate) fn variable(
-    alloc: Global,
-    name: &str,
-    values: &[&str],
-    parents: &[&str],
-    given: &[&[i64]],
-) -> Result<VariableDraft, Fail> {
-    let mut rows = Vec::new(alloc);
-    for row in given {
-        rows.push(row.to_vec(alloc)?)?;
-    }
-    Ok(VariableDraft {
-        name: String::from_str(alloc, name)?,
-        values: texts(alloc, values)?,
-        parents: texts(alloc, parents)?,
-        rows,
-    })
-}
-
-/// Three variables, each the parent of the next.
-pub(crate) fn chain(alloc: Global) -> Result<Network, Fail> {
-    let sides = ["up", "down"];
-    let rows: &[&[i64]] = &[&[500_000, 500_000]];
-    let a = variable(alloc, "a", &sides, &[], rows)?;
-    let rows: &[&[i64]] = &[&[600_000, 400_000], &[300_000, 700_000]];
-    let b = variable(alloc, "b", &sides, &["a"], rows)?;
-    let rows: &[&[i64]] = &[&[800_000, 200_000], &[100_000, 900_000]];
-    let c = variable(alloc, "c", &sides, &["b"], rows)?;
-    let variables = vec![in alloc; a, b, c]?;
-    Ok(Network::check(alloc, &Draft { variables })?)
-}
-
-/// Its tree of the cliques {a, b}, {b, c} and {c}.
-pub(crate) fn chain_tree(rt: &impl Abort, alloc: Global, net: &Network) -> Result<Tree, Fail>
-    ensures { IfOk result (λ tree. IsTreeOf net.now tree) }
+/// The network of a market file, with its tree.
+pub(crate) fn read(alloc: Global, file: &str) -> Result<MarketFile, Fail>
+    ensures { IfOk result (λ file. IsTreeOf file.net file.tree) }
 {
-    let last = VarSet::empty().with(2);
-    let cliques = [VarSet::empty().with(0).with(1), last.with(1), last];
-    make_tree(rt, alloc, net, &cliques, &[1, 2])
+    Ok(read_market(alloc, file.as_bytes())?)
 }
 
 /// Stops unless each link leads to an earlier clique.
@@ -90,22 +70,6 @@ pub(crate) fn expect_of_network(rt: &impl Abort, net: &Network, cliques: &[VarSe
     for clique in cliques {
         assert!(rt; clique.is_within(&all));
     }
-}
-
-pub(crate) fn make_tree(
-    rt: &impl Abort,
-    alloc: Global,
-    net: &Network,
-    cliques: &[VarSet],
-    links: &[u32],
-) -> Result<Tree, Fail>
-    ensures { IfOk result (λ tree. IsTreeOf net.now tree) }
-{
-    assert!(rt; cliques.len() <= 256);
-    assert!(rt; links.len() + 1 == cliques.len());
-    expect_links(rt, links);
-    expect_of_network(rt, net, cliques);
-    Ok(Tree::from_cliques(alloc, net, cliques, links)?)
 }
 
 pub(crate) fn only(rt: &impl Abort, pair: Pair) -> Event

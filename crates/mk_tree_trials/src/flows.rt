@@ -10,7 +10,7 @@ ghost use Rattle.mk_tree.specs.Tests.{holds_family};
 ghost use Rattle.mk_propagate.specs.Shapes.{IsShapeFor, IsClique};
 ghost use Rattle.mk_tree_trials.specs.Placed.{HasSome, IsCollected, IsReady};
 
-use crate::fixtures::{chain, chain_tree, check, only};
+use crate::fixtures::{CHAIN, check, only, read};
 use mk_net::{Event, Network, Pair, Question, Ratio, VarSet};
 use mk_propagate::{Flow, Shape};
 use mk_semiring::{Held, MinProd, Semiring, SumProd};
@@ -29,15 +29,6 @@ const C_UP: Pair = Pair {
     variable: 2,
     value: 0,
 };
-
-/// The shape of a tree of the cliques {a, b}, {b, c} and {c}.
-fn shape_of(rt: &impl Abort, alloc: Global, net: &Network) -> Result<Rc<Shape>, Fail>
-    ensures { IfOk result (λ shape. IsShapeFor shape.value net.now) }
-{
-    let tree = chain_tree(rt, alloc, net)?;
-    let shape = Shape::of(alloc, net, &tree)?;
-    Ok(Rc::new(alloc, shape)?)
-}
 
 /// Whether a set has each of some variables.
 fn has_all(set: &VarSet, variables: &[u32]) -> bool
@@ -188,59 +179,82 @@ fn know<R: Semiring>(rt: &impl Abort, flow: &mut Flow<R>, clique: u32, net: &Net
     flow.restrict(clique, pair);
 }
 
-/// The beliefs that b is up, read in the first clique: with the rows of a and messages of ones, after the messages away, again with
-/// nothing changed, with the rows of b placed there, and with those of c placed in the second clique and the message from it.
-fn in_first<R: Semiring>(
+/// The beliefs that b is up, read in the first clique, are these numbers: with the rows of a and messages of ones, after the
+/// messages away, again with nothing changed, with the rows of b placed there, and with those of c placed in the second clique and
+/// the message from it, and after the messages away.
+fn in_first<R: Semiring<Value = Held>>(
     rt: &impl Abort,
     alloc: Global,
-) -> Result<(R::Value, R::Value, R::Value, R::Value, R::Value, R::Value), Fail> {
-    let net = chain(alloc)?;
-    let shape = shape_of(rt, alloc, &net)?;
+    net: &Network,
+    shape: &Rc<Shape>,
+    numbers: &[u64; 6],
+) -> Result<(), Fail>
+    requires { IsShapeFor shape.now.value net.now }
+{
     let up = only(rt, B_UP);
-    let mut flow = Flow::<R>::start(alloc, &shape)?;
-    place(rt, &mut flow, 1, &net, 0, 0);
+    let mut flow = Flow::<R>::start(alloc, shape)?;
+    place(rt, &mut flow, 1, net, 0, 0);
     let (first, away) = around(rt, &mut flow, 1, &up);
+    check(rt, &first, numbers[0]);
+    check(rt, &away, numbers[1]);
     let same = again(rt, &mut flow, 1, &up);
-    place(rt, &mut flow, 1, &net, 1, 1);
+    check(rt, &same, numbers[2]);
+    place(rt, &mut flow, 1, net, 1, 1);
     let rows = again(rt, &mut flow, 1, &up);
-    place(rt, &mut flow, 2, &net, 2, 2);
+    check(rt, &rows, numbers[3]);
+    place(rt, &mut flow, 2, net, 2, 2);
     let (message, last) = around(rt, &mut flow, 1, &up);
+    check(rt, &message, numbers[4]);
+    check(rt, &last, numbers[5]);
     assert_eq!(rt; flow.computed(), 8);
-    Ok((first, away, same, rows, message, last))
+    Ok(())
 }
 
-/// The beliefs in all states, read in the second clique: at first, after the messages away, with the trade placed there, with c known
-/// in the third clique and the message from it, after the messages away, and with b known in the second.
-fn in_second<R: Semiring>(
+/// The beliefs in all states, read in the second clique, are these numbers: at first, after the messages away, with the trade placed
+/// there, with c known in the third clique and the message from it, after the messages away, and with b known in the second.
+fn in_second<R: Semiring<Value = Held>>(
     rt: &impl Abort,
     alloc: Global,
-) -> Result<(R::Value, R::Value, R::Value, R::Value, R::Value, R::Value), Fail> {
-    let net = chain(alloc)?;
-    let shape = shape_of(rt, alloc, &net)?;
+    net: &Network,
+    shape: &Rc<Shape>,
+    numbers: &[u64; 6],
+) -> Result<(), Fail>
+    requires { IsShapeFor shape.now.value net.now }
+{
     let all = Event::empty();
-    let mut flow = placed::<R>(rt, alloc, &net, &shape)?;
+    let mut flow = placed::<R>(rt, alloc, net, shape)?;
     let (first, away) = around(rt, &mut flow, 2, &all);
-    multiply(rt, &mut flow, &net);
+    check(rt, &first, numbers[0]);
+    check(rt, &away, numbers[1]);
+    multiply(rt, &mut flow, net);
     let ratio = again(rt, &mut flow, 2, &all);
-    know(rt, &mut flow, 3, &net, C_UP);
+    check(rt, &ratio, numbers[2]);
+    know(rt, &mut flow, 3, net, C_UP);
     let (message, sent) = around(rt, &mut flow, 2, &all);
-    know(rt, &mut flow, 2, &net, B_UP);
+    check(rt, &message, numbers[3]);
+    check(rt, &sent, numbers[4]);
+    know(rt, &mut flow, 2, net, B_UP);
     let pair = again(rt, &mut flow, 2, &all);
+    check(rt, &pair, numbers[5]);
     assert_eq!(rt; flow.computed(), 8);
-    Ok((first, away, ratio, message, sent, pair))
+    Ok(())
 }
 
-/// Stops unless the values are these numbers, exactly.
-fn check_all(rt: &impl Abort, held: &[Held], numbers: &[u64]) {
-    assert_eq!(rt; held.len(), numbers.len());
-    for (value, n) in held.iter().zip(numbers) {
-        check(rt, value, *n);
-    }
+/// Both, on the shape of the chain's tree.
+fn check_both<R: Semiring<Value = Held>>(
+    rt: &impl Abort,
+    alloc: Global,
+    first: &[u64; 6],
+    second: &[u64; 6],
+) -> Result<(), Fail> {
+    let file = read(alloc, CHAIN)?;
+    let shape = Rc::new(alloc, Shape::of(alloc, &file.net, &file.tree)?)?;
+    in_first::<R>(rt, alloc, &file.net, &shape, first)?;
+    in_second::<R>(rt, alloc, &file.net, &shape, second)
 }
 
 #[test]
 fn sums(rt: HostRuntime) -> Result<(), Fail> {
-    let alloc = rt.alloc();
     // Over the values of a, in parts per million, and of c: 2 * 500,000 * 2. With b's rows 500,000 * (600,000 + 300,000) * 2, and
     // with c's, which have 1,000,000 in place of the last 2.
     let first = [
@@ -251,8 +265,6 @@ fn sums(rt: HostRuntime) -> Result<(), Fail> {
         450_000_000_000_000_000,
         450_000_000_000_000_000,
     ];
-    let (a, b, c, d, e, f) = in_first::<SumProd>(&rt, alloc)?;
-    check_all(&rt, &[a, b, c, d, e, f], &first);
     // b is up at 0.45 and down at 0.55. The trade gives 2 * 0.45 + 3 * 0.55; with c up 0.9 * 0.8 + 1.65 * 0.1, of which b up is 0.72.
     let second = [
         1_000_000_000_000_000_000,
@@ -262,14 +274,11 @@ fn sums(rt: HostRuntime) -> Result<(), Fail> {
         885_000_000_000_000_000,
         720_000_000_000_000_000,
     ];
-    let (a, b, c, d, e, f) = in_second::<SumProd>(&rt, alloc)?;
-    check_all(&rt, &[a, b, c, d, e, f], &second);
-    Ok(())
+    check_both::<SumProd>(&rt, rt.alloc(), &first, &second)
 }
 
 #[test]
 fn minima(rt: HostRuntime) -> Result<(), Fail> {
-    let alloc = rt.alloc();
     // The least over a and c: 500,000 * 1. With b's rows 500,000 * 300,000, and with c's that times 200,000.
     let first = [
         500_000,
@@ -279,8 +288,6 @@ fn minima(rt: HostRuntime) -> Result<(), Fail> {
         30_000_000_000_000_000,
         30_000_000_000_000_000,
     ];
-    let (a, b, c, d, e, f) = in_first::<MinProd>(&rt, alloc)?;
-    check_all(&rt, &[a, b, c, d, e, f], &first);
     // The least is 0.5 * 0.4 * 0.1, where b is down and c up, and 3 times that after the trade, as it is with c up; where b is up too
     // it is 0.5 * 0.3 * 0.8 * 2.
     let second = [
@@ -291,7 +298,5 @@ fn minima(rt: HostRuntime) -> Result<(), Fail> {
         60_000_000_000_000_000,
         240_000_000_000_000_000,
     ];
-    let (a, b, c, d, e, f) = in_second::<MinProd>(&rt, alloc)?;
-    check_all(&rt, &[a, b, c, d, e, f], &second);
-    Ok(())
+    check_both::<MinProd>(&rt, rt.alloc(), &first, &second)
 }

@@ -5,13 +5,14 @@ ghost use Rattle.std.specs.Prelude.{◌≡◌, ◌+◌, ◌<◌, ◌≤◌, fals
 ghost use Rattle.mk_net.specs.Events.{speaks_of};
 ghost use Rattle.mk_net.specs.Network.{sizes};
 ghost use Rattle.mk_net.specs.Trades.{trade_ratio};
+ghost use Rattle.mk_table.specs.Scopes.{LiesIn};
 ghost use Rattle.mk_table.specs.Tables.{HasRoom};
 ghost use Rattle.mk_tree_trials.specs.Weather.{of_all, of_rain, of_wind};
 
-use crate::fixtures::{only, variable};
+use crate::fixtures::{only, read};
 use arrayvec::ArrayVec;
 use mk_cell::Cell;
-use mk_net::{Draft, Event, Network, NoMemory, Pair, Ratio, VarSet};
+use mk_net::{Event, Network, NoMemory, Pair, Ratio, VarSet};
 use mk_semiring::{MinProd, Semiring, SumProd};
 use mk_table::{CellList, Places, Scope, Table};
 use std::alloc::Global;
@@ -44,34 +45,49 @@ const WARM: Pair = Pair {
     value: 1,
 };
 
-/// The three variables, the scopes of all, of the rain and of the wind, and where the cells of the last two lie in the first.
+const WEATHER: &str = "points_per_bit = 1
+max_trades = 1
+cliques = [['rain', 'wind'], ['heat']]
+links = [1]
+[[variable]]
+name = 'rain'
+values = ['no', 'yes']
+parents = []
+rows = [[400000, 600000]]
+[[variable]]
+name = 'wind'
+values = ['low', 'mid', 'high']
+parents = ['rain']
+rows = [[100000, 200000, 700000], [300000, 300000, 400000]]
+[[variable]]
+name = 'heat'
+values = ['cold', 'warm']
+parents = []
+rows = [[500000, 500000]]
+";
+
+/// The scope of some variables, and where its cells lie in that of all.
+#[derive(Drop)]
+struct Part {
+    scope: Rc<Scope>,
+    places: Places,
+}
+
+/// The three variables, the scope of all, and the parts of the rain and of the wind.
 #[derive(Drop)]
 struct Weather {
     net: Network,
     all: Rc<Scope>,
-    rain: Rc<Scope>,
-    wind: Rc<Scope>,
-    rain_places: Places,
-    wind_places: Places,
+    rain: Part,
+    wind: Part,
     ghost three: { length net ≡ 3 },
     ghost rains: { slice_index (sizes net) 0 ≡ 2 },
     ghost winds: { slice_index (sizes net) 1 ≡ 3 },
     ghost all_is: { all.value ≡ of_all },
-    ghost rain_is: { rain.value ≡ of_rain },
-    ghost wind_is: { wind.value ≡ of_wind },
-    ghost places_of_rain: { rain_places ≡ record { whole = of_all; part = of_rain } },
-    ghost places_of_wind: { wind_places ≡ record { whole = of_all; part = of_wind } },
-}
-
-fn network(alloc: Global) -> Result<Network, Fail> {
-    let rows: &[&[i64]] = &[&[400_000, 600_000]];
-    let rain = variable(alloc, "rain", &["no", "yes"], &[], rows)?;
-    let rows: &[&[i64]] = &[&[100_000, 200_000, 700_000], &[300_000, 300_000, 400_000]];
-    let wind = variable(alloc, "wind", &["low", "mid", "high"], &["rain"], rows)?;
-    let rows: &[&[i64]] = &[&[500_000, 500_000]];
-    let heat = variable(alloc, "heat", &["cold", "warm"], &[], rows)?;
-    let variables = vec![in alloc; rain, wind, heat]?;
-    Ok(Network::check(alloc, &Draft { variables })?)
+    ghost rain_is: { rain.scope.value ≡ of_rain },
+    ghost wind_is: { wind.scope.value ≡ of_wind },
+    ghost places_of_rain: { rain.places ≡ record { whole = of_all; part = of_rain } },
+    ghost places_of_wind: { wind.places ≡ record { whole = of_all; part = of_wind } },
 }
 
 /// The scope of all three.
@@ -86,45 +102,53 @@ fn all(alloc: Global, net: &Network) -> Result<Rc<Scope>, NoMemory>
     Ok(Rc::new(alloc, scope)?)
 }
 
-/// The scope of the rain.
-fn rain(alloc: Global, net: &Network) -> Result<Rc<Scope>, NoMemory>
-    requires three { length net.now ≡ 3 }
-    requires rains { slice_index (sizes net.now) 0 ≡ 2 }
-    ensures { IfOk result (λ scope. scope.value ≡ of_rain) }
+fn make_part(alloc: Global, whole: &Rc<Scope>, scope: Scope) -> Result<Part, NoMemory>
+    requires { LiesIn scope whole.now.value }
+    ensures scope { IfOk result (λ part. part.scope.value ≡ scope) }
+    ensures places { IfOk result (λ part. part.places ≡ record { whole = whole.now.value; part = scope }) }
 {
-    let scope = Scope::of(alloc, net, &VarSet::empty().with(0))?;
-    Ok(Rc::new(alloc, scope)?)
+    let scope = Rc::new(alloc, scope)?;
+    let (mut bases, mut offsets) = (CellList::new(), CellList::new());
+    let places = Places::of(alloc, whole, &scope, &mut bases, &mut offsets)?;
+    Ok(Part { scope, places })
 }
 
-/// The scope of the wind.
-fn wind(alloc: Global, net: &Network) -> Result<Rc<Scope>, NoMemory>
+fn rain(alloc: Global, net: &Network, all: &Rc<Scope>) -> Result<Part, NoMemory>
+    requires three { length net.now ≡ 3 }
+    requires rains { slice_index (sizes net.now) 0 ≡ 2 }
+    requires all { all.now.value ≡ of_all }
+    ensures scope { IfOk result (λ part. part.scope.value ≡ of_rain) }
+    ensures places { IfOk result (λ part. part.places ≡ record { whole = of_all; part = of_rain }) }
+{
+    let scope = Scope::of(alloc, net, &VarSet::empty().with(0))?;
+    make_part(alloc, all, scope)
+}
+
+fn wind(alloc: Global, net: &Network, all: &Rc<Scope>) -> Result<Part, NoMemory>
     requires three { length net.now ≡ 3 }
     requires winds { slice_index (sizes net.now) 1 ≡ 3 }
-    ensures { IfOk result (λ scope. scope.value ≡ of_wind) }
+    requires all { all.now.value ≡ of_all }
+    ensures scope { IfOk result (λ part. part.scope.value ≡ of_wind) }
+    ensures places { IfOk result (λ part. part.places ≡ record { whole = of_all; part = of_wind }) }
 {
     let scope = Scope::of(alloc, net, &VarSet::empty().with(1))?;
-    Ok(Rc::new(alloc, scope)?)
+    make_part(alloc, all, scope)
 }
 
 fn make_weather(rt: &impl Abort, alloc: Global) -> Result<Weather, Fail> {
-    let net = network(alloc)?;
+    let net = read(alloc, WEATHER)?.net;
     assert!(rt; net.variables() == 3);
     assert!(rt; net.values(0) == 2);
     assert!(rt; net.values(1) == 3);
     assert!(rt; net.values(2) == 2);
     let all = all(alloc, &net)?;
-    let rain = rain(alloc, &net)?;
-    let wind = wind(alloc, &net)?;
-    let (mut bases, mut offsets) = (CellList::new(), CellList::new());
-    let rain_places = Places::of(alloc, &all, &rain, &mut bases, &mut offsets)?;
-    let wind_places = Places::of(alloc, &all, &wind, &mut bases, &mut offsets)?;
+    let rain = rain(alloc, &net, &all)?;
+    let wind = wind(alloc, &net, &all)?;
     Ok(Weather {
         net,
         all,
         rain,
         wind,
-        rain_places,
-        wind_places,
     })
 }
 
@@ -135,11 +159,11 @@ fn product<R: Semiring>(alloc: Global, weather: &Weather) -> Result<Table<R>, No
 {
     let net = &weather.net;
     let _ = net.variables();
-    let mut message = Table::<R>::ones(alloc, &weather.rain)?;
+    let mut message = Table::<R>::ones(alloc, &weather.rain.scope)?;
     message.times_rows(net, 0);
     let mut table = Table::<R>::ones(alloc, &weather.all)?;
     table.times_rows(net, 1);
-    table.times_message(&weather.rain_places, &message);
+    table.times_message(&weather.rain.places, &message);
     let mut copy = Table::<R>::ones(alloc, &weather.all)?;
     table.copy_into(&mut copy);
     Ok(copy)
@@ -150,9 +174,9 @@ fn ones_times_ones<R: Semiring>(alloc: Global, weather: &Weather) -> Result<Tabl
     ensures scope { IfOk result (λ t. t.scope ≡ of_all) }
     ensures room { IfOk result (λ t. HasRoom t 24) }
 {
-    let message = Table::<R>::ones(alloc, &weather.rain)?;
+    let message = Table::<R>::ones(alloc, &weather.rain.scope)?;
     let mut table = Table::<R>::ones(alloc, &weather.all)?;
-    table.times_message(&weather.rain_places, &message);
+    table.times_message(&weather.rain.places, &message);
     Ok(table)
 }
 
@@ -166,8 +190,8 @@ fn margin<R: Semiring>(
     requires room { HasRoom table.now 24 }
     ensures { IfOk result (λ t. t.scope ≡ of_wind) }
 {
-    let mut margin = Table::<R>::ones(alloc, &weather.wind)?;
-    table.margin_into(&weather.wind_places, &mut margin);
+    let mut margin = Table::<R>::ones(alloc, &weather.wind.scope)?;
+    table.margin_into(&weather.wind.places, &mut margin);
     Ok(margin)
 }
 
@@ -193,28 +217,59 @@ fn check(rt: &impl Abort, cell: Cell, n: u64, shift: u32) {
     );
 }
 
-/// The margin of each wind, the total of the middle one, and with no other wind a cell where it is low, a dry one and a wet one.
+/// The total of the middle wind of a table times a message with the rows of the rain, and times one that was cleared.
+fn times_totals<R: Semiring>(
+    rt: &impl Abort,
+    alloc: Global,
+    weather: &Weather,
+    table: &Table<R>,
+) -> Result<(Cell, Cell), Fail>
+    requires scope { table.now.scope ≡ of_all }
+    requires room { HasRoom table.now 24 }
+{
+    let _ = weather.net.variables();
+    let mut message = Table::<R>::ones(alloc, &weather.rain.scope)?;
+    message.times_rows(&weather.net, 0);
+    let mut chosen = CellList::new();
+    let middle = only(rt, MIDDLE);
+    let before = table.total_times(&weather.rain.places, &message, &middle, &mut chosen);
+    message.clear();
+    check(rt, message.get(1), 1, 0);
+    let after = table.total_times(&weather.rain.places, &message, &middle, &mut chosen);
+    Ok((before, after))
+}
+
+/// What is known of a table: the margin of each wind, the total of the middle one times a message with the rows of the rain and times
+/// ones, and with no other wind a cell where it is low, a dry one and a wet one.
+struct Known {
+    winds: [u64; 3],
+    times: (u64, u64),
+    cells: [u64; 3],
+}
+
 fn check_table<R: Semiring>(
     rt: &impl Abort,
     alloc: Global,
     weather: &Weather,
     table: &mut Table<R>,
-    winds: &[u64; 3],
-    cells: &[u64; 3],
+    known: &Known,
 ) -> Result<(), Fail>
     requires scope { table.old.scope ≡ of_all }
     requires room { HasRoom table.old 24 }
 {
     let margin = margin::<R>(alloc, weather, table)?;
     for value in 0..3 {
-        check(rt, margin.get(value), winds[value], 0);
+        check(rt, margin.get(value), known.winds[value], 0);
     }
+    let (before, after) = times_totals::<R>(rt, alloc, weather, table)?;
+    check(rt, before, known.times.0, 0);
+    check(rt, after, known.times.1, 0);
     let (before, after) = totals::<R>(rt, table);
-    check(rt, before, winds[1], 0);
-    check(rt, after, winds[1], 0);
-    check(rt, table.get(0), cells[0], 0);
-    check(rt, table.get(2), cells[1], 0);
-    check(rt, table.get(9), cells[2], 0);
+    check(rt, before, known.winds[1], 0);
+    check(rt, after, known.winds[1], 0);
+    check(rt, table.get(0), known.cells[0], 0);
+    check(rt, table.get(2), known.cells[1], 0);
+    check(rt, table.get(9), known.cells[2], 0);
     Ok(())
 }
 
@@ -260,95 +315,75 @@ fn traded<R: Semiring>(rt: &impl Abort, alloc: Global, weather: &Weather) -> Res
     Ok(table)
 }
 
-/// Each call, by the numbers of the product and of ones for the winds, and for three cells.
-fn check_calls<R: Semiring>(
+fn check_product<R: Semiring>(
     rt: &impl Abort,
     alloc: Global,
-    products: &[u64; 3],
-    ones: u64,
+    weather: &Weather,
+    known: &Known,
 ) -> Result<(), Fail> {
-    let weather = make_weather(rt, alloc)?;
-    let mut table = product::<R>(alloc, &weather)?;
-    let cells = [0, 80_000_000_000, 180_000_000_000];
-    check_table(rt, alloc, &weather, &mut table, products, &cells)?;
-    let mut table = ones_times_ones::<R>(alloc, &weather)?;
-    check_table(
-        rt,
-        alloc,
-        &weather,
-        &mut table,
-        &[ones, ones, ones],
-        &[0, 1, 1],
-    )?;
-    let table = traded::<R>(rt, alloc, &weather)?;
+    let mut table = product::<R>(alloc, weather)?;
+    check_table::<R>(rt, alloc, weather, &mut table, known)
+}
+
+fn check_ones<R: Semiring>(
+    rt: &impl Abort,
+    alloc: Global,
+    weather: &Weather,
+    known: &Known,
+) -> Result<(), Fail> {
+    let mut table = ones_times_ones::<R>(alloc, weather)?;
+    check_table::<R>(rt, alloc, weather, &mut table, known)
+}
+
+fn check_traded<R: Semiring>(
+    rt: &impl Abort,
+    alloc: Global,
+    weather: &Weather,
+) -> Result<(), Fail> {
+    let table = traded::<R>(rt, alloc, weather)?;
     for (cell, number, shift) in [(0, 1, 0), (3, 7, 40), (8, 3, 40), (9, 45, 80)] {
         check(rt, table.get(cell), number, shift);
     }
     Ok(())
 }
 
-#[test]
-fn sums(rt: HostRuntime) -> Result<(), Fail> {
-    // For each wind two heats of 400,000 and 600,000 times its rows.
-    let products = [440_000_000_000, 520_000_000_000, 1_040_000_000_000];
-    check_calls::<SumProd>(&rt, rt.alloc(), &products, 4)
-}
-
-#[test]
-fn minima(rt: HostRuntime) -> Result<(), Fail> {
-    let products = [40_000_000_000, 80_000_000_000, 240_000_000_000];
-    check_calls::<MinProd>(&rt, rt.alloc(), &products, 1)
-}
-
-/// The total of the middle wind of a table times a message with the rows of the rain, and times one that was cleared.
-fn times_totals<R: Semiring>(
+/// Each call, by the numbers of the product and of ones.
+fn check_calls<R: Semiring>(
     rt: &impl Abort,
     alloc: Global,
     weather: &Weather,
-    table: &Table<R>,
-) -> Result<(Cell, Cell), Fail>
-    requires scope { table.now.scope ≡ of_all }
-    requires room { HasRoom table.now 24 }
-{
-    let _ = weather.net.variables();
-    let mut message = Table::<R>::ones(alloc, &weather.rain)?;
-    message.times_rows(&weather.net, 0);
-    let mut chosen = CellList::new();
-    let middle = only(rt, MIDDLE);
-    let before = table.total_times(&weather.rain_places, &message, &middle, &mut chosen);
-    message.clear();
-    check(rt, message.get(1), 1, 0);
-    let after = table.total_times(&weather.rain_places, &message, &middle, &mut chosen);
-    Ok((before, after))
-}
-
-/// Such totals of the product and of ones.
-fn check_times<R: Semiring>(
-    rt: &impl Abort,
-    alloc: Global,
-    products: (u64, u64),
-    ones: (u64, u64),
+    product: &Known,
+    ones: &Known,
 ) -> Result<(), Fail> {
-    let weather = make_weather(rt, alloc)?;
-    let table = product::<R>(alloc, &weather)?;
-    let (before, after) = times_totals(rt, alloc, &weather, &table)?;
-    check(rt, before, products.0, 0);
-    check(rt, after, products.1, 0);
-    let table = ones_times_ones::<R>(alloc, &weather)?;
-    let (before, after) = times_totals(rt, alloc, &weather, &table)?;
-    check(rt, before, ones.0, 0);
-    check(rt, after, ones.1, 0);
-    Ok(())
+    check_product::<R>(rt, alloc, weather, product)?;
+    check_ones::<R>(rt, alloc, weather, ones)?;
+    check_traded::<R>(rt, alloc, weather)
 }
 
-#[test]
-fn totals_of_products(rt: HostRuntime) -> Result<(), Fail> {
-    // Two heats of dry times 400,000 and of wet times 600,000.
-    let products = (280_000_000_000_000_000, 520_000_000_000);
-    check_times::<SumProd>(&rt, rt.alloc(), products, (2_000_000, 4))?;
-    let products = (32_000_000_000_000_000, 80_000_000_000);
-    check_times::<MinProd>(&rt, rt.alloc(), products, (400_000, 1))
-}
+// For each wind two heats of 400,000 and 600,000 times its rows; then two heats of dry times 400,000 and of wet times 600,000.
+const PRODUCT_SUMS: Known = Known {
+    winds: [440_000_000_000, 520_000_000_000, 1_040_000_000_000],
+    times: (280_000_000_000_000_000, 520_000_000_000),
+    cells: [0, 80_000_000_000, 180_000_000_000],
+};
+
+const ONES_SUMS: Known = Known {
+    winds: [4, 4, 4],
+    times: (2_000_000, 4),
+    cells: [0, 1, 1],
+};
+
+const PRODUCT_MINIMA: Known = Known {
+    winds: [40_000_000_000, 80_000_000_000, 240_000_000_000],
+    times: (32_000_000_000_000_000, 80_000_000_000),
+    cells: [0, 80_000_000_000, 180_000_000_000],
+};
+
+const ONES_MINIMA: Known = Known {
+    winds: [1, 1, 1],
+    times: (400_000, 1),
+    cells: [0, 1, 1],
+};
 
 /// Ones times a ratio where it rains.
 fn heated(rt: &impl Abort, alloc: Global, weather: &Weather) -> Result<Table<SumProd>, Fail>
@@ -364,28 +399,37 @@ fn heated(rt: &impl Abort, alloc: Global, weather: &Weather) -> Result<Table<Sum
     Ok(table)
 }
 
-#[test]
-fn untouched(rt: HostRuntime) -> Result<(), Fail> {
-    let weather = make_weather(&rt, rt.alloc())?;
-    let mut table = heated(&rt, rt.alloc(), &weather)?;
+fn check_untouched(rt: &impl Abort, alloc: Global, weather: &Weather) -> Result<(), Fail> {
+    let mut table = heated(rt, alloc, weather)?;
     // The pair that both conditions have is kept alone.
-    let both = only(&rt, RAIN).with(HIGH).expect(&rt, "two pairs");
+    let both = only(rt, RAIN).with(HIGH).expect(rt, "two pairs");
     table.times_ratio(&each_heat(both), &mut CellList::new());
-    assert!(rt; table.is_untouched(&only(&rt, DRY)));
-    assert!(rt; !table.is_untouched(&only(&rt, MIDDLE)));
+    assert!(rt; table.is_untouched(&only(rt, DRY)));
+    assert!(rt; !table.is_untouched(&only(rt, MIDDLE)));
     // Where it is known to be dry, no cell that is left was touched.
     table.restrict(DRY);
     assert!(rt; table.is_untouched(&Event::empty()));
     Ok(())
 }
 
-#[test]
-fn untouched_after_two_conditions(rt: HostRuntime) -> Result<(), Fail> {
-    let weather = make_weather(&rt, rt.alloc())?;
-    let mut table = heated(&rt, rt.alloc(), &weather)?;
-    table.times_ratio(&each_rain(&rt), &mut CellList::new());
-    assert!(rt; !table.is_untouched(&only(&rt, DRY)));
+fn check_two_conditions(rt: &impl Abort, alloc: Global, weather: &Weather) -> Result<(), Fail> {
+    let mut table = heated(rt, alloc, weather)?;
+    table.times_ratio(&each_rain(rt), &mut CellList::new());
+    assert!(rt; !table.is_untouched(&only(rt, DRY)));
     table.restrict(RAIN);
-    assert!(rt; !table.is_untouched(&only(&rt, DRY)));
+    assert!(rt; !table.is_untouched(&only(rt, DRY)));
     Ok(())
+}
+
+fn check_all(rt: &impl Abort, alloc: Global, weather: &Weather) -> Result<(), Fail> {
+    check_calls::<SumProd>(rt, alloc, weather, &PRODUCT_SUMS, &ONES_SUMS)?;
+    check_calls::<MinProd>(rt, alloc, weather, &PRODUCT_MINIMA, &ONES_MINIMA)?;
+    check_untouched(rt, alloc, weather)?;
+    check_two_conditions(rt, alloc, weather)
+}
+
+#[test]
+fn each_call_of_a_table(rt: HostRuntime) -> Result<(), Fail> {
+    let weather = make_weather(&rt, rt.alloc())?;
+    check_all(&rt, rt.alloc(), &weather)
 }

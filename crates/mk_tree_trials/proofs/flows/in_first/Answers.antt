@@ -9,4 +9,4 @@ again-same-requires g c = (_, _, c.around-first.ensures _ _ c.place.ensures.some
 pub again-rows-requires : goal.again-rows-requires
 again-rows-requires g c =
     let ready = c.around-first.ensures _ _ c.place.ensures.some in
-    (_, _, c.place-2.ensures.ready (subst (λ (f : FlowOf). IsReady g.R.Semiring.plus_of f c.in_ok-net.net 1 1) (sym c.again-same.ensures) ready))
+    (_, _, c.place-2.ensures.ready (subst (λ (f : FlowOf). IsReady g.R.Semiring.plus_of f c.args.net.now 1 1) (sym c.again-same.ensures) ready))
