@@ -6,9 +6,10 @@ ghost use Rattle.mk_net.specs.Network.{sizes};
 use mk_assets::Assets;
 use mk_enclose::{Enclosure, Factor};
 use mk_engine::Engine;
+use mk_file::read_market;
 use mk_joint::JointEngine;
 use mk_market::{Entry, Journal, LastQuote, Users};
-use mk_net::{Draft, Event, Name, Network, Pair, Question, Ratio, VarSet, VariableDraft};
+use mk_net::{Event, Name, Network, Pair, Question, Ratio};
 use mk_quote::{Bounds, Quote};
 use mk_semiring::MinProd;
 use mk_tree::Tree;
@@ -40,20 +41,24 @@ fn fill(rt: &impl Abort, journal: &mut Journal) {
     }
 }
 
-/// The kinds of the entries, in their order.
-fn kinds(alloc: Global, entries: &[Entry]) -> Result<Vec<u8>, Fail> {
-    let mut letters = Vec::new(alloc);
-    for entry in entries {
-        letters.push(match entry {
-            Entry::Join { .. } => b'j',
-            Entry::Deposit { .. } => b'd',
-            Entry::Withdraw { .. } => b'w',
-            Entry::Trade { .. } => b't',
-            Entry::Resolve { .. } => b'r',
-            Entry::Settle => b's',
-        })?;
+/// The kind of an entry.
+fn kind(entry: &Entry) -> u8 {
+    match entry {
+        Entry::Join { .. } => b'j',
+        Entry::Deposit { .. } => b'd',
+        Entry::Withdraw { .. } => b'w',
+        Entry::Trade { .. } => b't',
+        Entry::Resolve { .. } => b'r',
+        Entry::Settle => b's',
     }
-    Ok(letters)
+}
+
+/// Stops unless the entries are of these kinds, in this order.
+fn expect_kinds(rt: &impl Abort, entries: &[Entry], kinds: &[u8]) {
+    assert_eq!(rt; entries.len(), kinds.len());
+    for (entry, letter) in entries.iter().zip(kinds) {
+        assert_eq!(rt; kind(entry), *letter);
+    }
 }
 
 fn settle(rt: &impl Abort, journal: &mut Journal) {
@@ -64,8 +69,7 @@ fn settle(rt: &impl Abort, journal: &mut Journal) {
 
 #[test]
 fn journal_is_filled(rt: HostRuntime) -> Result<(), Fail> {
-    let alloc = rt.alloc();
-    let mut journal = Journal::start(alloc, 2)?;
+    let mut journal = Journal::start(rt.alloc(), 2)?;
     journal.join(name(&rt, b"ann"));
     journal.deposit(0, 9);
     journal.withdraw(0, 4);
@@ -81,7 +85,7 @@ fn journal_is_filled(rt: HostRuntime) -> Result<(), Fail> {
     }
     settle(&rt, &mut journal);
     assert_eq!(rt; journal.revision(), 7);
-    assert!(rt; kinds(alloc, journal.entries())?.as_slice() == b"jdwttrs".as_slice());
+    expect_kinds(&rt, journal.entries(), b"jdwttrs".as_slice());
     Ok(())
 }
 
@@ -94,29 +98,25 @@ struct Weather {
     ghost two: { slice_index (sizes net) 0 ≡ 2 },
 }
 
-fn network(alloc: Global) -> Result<Network, Fail> {
-    let mut values = Vec::new(alloc);
-    values.push(String::from_str(alloc, "dry")?)?;
-    values.push(String::from_str(alloc, "wet")?)?;
-    let sky = VariableDraft {
-        name: String::from_str(alloc, "sky")?,
-        values,
-        parents: Vec::new(alloc),
-        rows: vec![in alloc; vec![in alloc; 600_000, 400_000]?]?,
-    };
-    let draft = Draft {
-        variables: vec![in alloc; sky]?,
-    };
-    Ok(Network::check(alloc, &draft)?)
-}
+const SKY: &str = "points_per_bit = 1
+max_trades = 1
+cliques = [['sky']]
+links = []
+[[variable]]
+name = 'sky'
+values = ['dry', 'wet']
+parents = []
+rows = [[600000, 400000]]
+";
 
 fn make_weather(rt: &impl Abort, alloc: Global) -> Result<Weather, Fail> {
-    let net = network(alloc)?;
-    assert!(rt; net.variables() == 1);
-    assert!(rt; net.values(0) == 2);
-    let sky = VarSet::empty().with(0);
-    let tree = Tree::from_cliques(alloc, &net, &[sky], &[])?;
-    Ok(Weather { net, tree })
+    let file = read_market(alloc, SKY.as_bytes())?;
+    assert!(rt; file.net.variables() == 1);
+    assert!(rt; file.net.values(0) == 2);
+    Ok(Weather {
+        net: file.net,
+        tree: file.tree,
+    })
 }
 
 /// What a user owns who has not traded.
@@ -159,7 +159,22 @@ fn quote(rt: &impl Abort, user: u32) -> LastQuote {
     }
 }
 
-/// Users of these names, who own nothing.
+/// Users of these names join, who own nothing.
+fn join_each(
+    rt: &impl Abort,
+    alloc: Global,
+    weather: &Weather,
+    users: &mut Users<JointEngine<MinProd>>,
+    names: &str,
+) -> Result<(), Fail> {
+    for text in names.split(" ") {
+        let assets = nothing_owned(alloc, weather)?;
+        join(rt, users, name(rt, text.as_bytes()), assets)?;
+    }
+    Ok(())
+}
+
+/// Users of these names.
 fn joined(
     rt: &impl Abort,
     alloc: Global,
@@ -167,10 +182,7 @@ fn joined(
 ) -> Result<Users<JointEngine<MinProd>>, Fail> {
     let weather = make_weather(rt, alloc)?;
     let mut users = Users::<JointEngine<MinProd>>::none(alloc);
-    for text in names.split(" ") {
-        let assets = nothing_owned(alloc, &weather)?;
-        join(rt, &mut users, name(rt, text.as_bytes()), assets)?;
-    }
+    join_each(rt, alloc, &weather, &mut users, names)?;
     Ok(users)
 }
 
@@ -184,16 +196,20 @@ fn expect_found(
     assert_eq!(rt; users.find(&name(rt, text.as_bytes())), user, "{text}");
 }
 
+fn check_users(rt: &impl Abort, users: &mut Users<JointEngine<MinProd>>) {
+    expect_found(rt, users, "ann", Some(0));
+    expect_found(rt, users, "cy", Some(2));
+    expect_found(rt, users, "bo", None);
+    assert!(rt; users.count() == 3);
+    users.set_quote(1, quote(rt, 1));
+    assert!(rt; users.quote(0).is_none() && users.quote(1).is_some());
+    assert!(rt; users.name(1) == name(rt, b"bob"));
+    assert_eq!(rt; users.assets(2).trades(), 0);
+}
+
 #[test]
 fn users_are_found(rt: HostRuntime) -> Result<(), Fail> {
     let mut users = joined(&rt, rt.alloc(), "ann bob cy")?;
-    expect_found(&rt, &users, "ann", Some(0));
-    expect_found(&rt, &users, "cy", Some(2));
-    expect_found(&rt, &users, "bo", None);
-    assert!(rt; users.count() == 3);
-    users.set_quote(1, quote(&rt, 1));
-    assert!(rt; users.quote(0).is_none() && users.quote(1).is_some());
-    assert!(rt; users.name(1) == name(&rt, b"bob"));
-    assert_eq!(rt; users.assets(2).trades(), 0);
+    check_users(&rt, &mut users);
     Ok(())
 }

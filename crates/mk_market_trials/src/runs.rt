@@ -6,7 +6,7 @@ use arrayvec::ArrayString;
 use mk_command::{Words, read_command};
 use mk_file::read_market;
 use mk_market::Market;
-use mk_reply::print_reply;
+use mk_reply::{Reply, print_reply};
 use mk_semiring::{MinProd, SumProd};
 use mk_tree_engine::TreeEngine;
 use std::alloc::Global;
@@ -153,6 +153,13 @@ price d=up | a=left -> refused name d=up",
     }
 }
 
+/// Stops unless this is what is printed of the reply to a line.
+fn expect_printed(rt: &impl Abort, reply: &Reply, line: &str, expected: &str) {
+    let mut text = ArrayString::new();
+    print_reply(reply, &mut text);
+    assert_eq!(rt; text.as_str(), expected, "to {line}");
+}
+
 /// Applies a command, and stops unless this is its reply.
 fn expect_reply(
     rt: &impl Abort,
@@ -167,19 +174,28 @@ fn expect_reply(
         return;
     };
     let reply = market.apply(alloc, &command);
-    let mut text = ArrayString::new();
-    print_reply(&reply, &mut text);
-    assert_eq!(rt; text.as_str(), expected, "to {line}");
+    expect_printed(rt, &reply, line, expected);
+}
+
+/// Applies each command of a run, and stops unless its reply is the one behind the arrow.
+fn expect_replies(
+    rt: &impl Abort,
+    alloc: Global,
+    market: &mut TreeMarket,
+    run: &str,
+) -> Result<(), Fail> {
+    for line in run.split("\n") {
+        let (command, reply) = line.split_once(" -> ").ok_or("no arrow")?;
+        expect_reply(rt, alloc, market, command, reply);
+    }
+    Ok(())
 }
 
 /// Opens a market of a file, and expects each reply of a run.
 fn expect_run(rt: &impl Abort, alloc: Global, file: &str, run: &str) -> Result<TreeMarket, Fail> {
     let file = read_market(alloc, file.as_bytes())?;
     let mut market = TreeMarket::start(alloc, file)?;
-    for line in run.split("\n") {
-        let (command, reply) = line.split_once(" -> ").ok_or("no arrow")?;
-        expect_reply(rt, alloc, &mut market, command, reply);
-    }
+    expect_replies(rt, alloc, &mut market, run)?;
     Ok(market)
 }
 
