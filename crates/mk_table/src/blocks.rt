@@ -143,7 +143,11 @@ pub(crate) fn plus_at<R: Semiring>(
     ensures { (k : ℕ) (f : ℕ → ℕ) (n : ℕ) → StandListed k digits.now exponents.now f n base (runs_of run offsets.now)
         → Stands k result (plus_over R.plus_of 0 (λ c. f (base + c)) (runs_of run offsets.now)) (n + (2 * length (runs_of run offsets.now) - 1)) }
 {
-    if offsets.len() <= FEW {
+    if run == 1 && offsets.len() == 1 {
+        plus_of_cells::<R, 1>(digits, exponents, base, &offsets[..1])
+    } else if run == 1 && offsets.len() == 2 {
+        plus_of_cells::<R, 2>(digits, exponents, base, &offsets[..2])
+    } else if offsets.len() <= FEW {
         plus_of_block::<R, FEW>(digits, exponents, base, offsets, run)
     } else if offsets.len() <= BLOCK {
         plus_of_block::<R, BLOCK>(digits, exponents, base, offsets, run)

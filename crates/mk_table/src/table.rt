@@ -20,7 +20,7 @@ use crate::products::plus_of_products;
 use crate::scope::Scope;
 use crate::strides::CellList;
 use crate::times::{keep_value, times_shares, times_units};
-use crate::touched::{beside, either, is_untouched_by, within};
+use crate::touched::{beside, is_untouched_by, put_within, take_either};
 use mk_cell::Cell;
 use mk_net::{Event, Network, NoMemory, Pair, Ratio};
 use mk_semiring::Semiring;
@@ -158,7 +158,7 @@ impl<R: Semiring> Table<R> {
             chosen,
         );
         self.shift += RATIO_SHIFT;
-        self.touched = either(&self.touched, &Some(ratio.condition));
+        take_either(&mut self.touched, &Some(ratio.condition));
     }
 
     /// Multiplies each cell by the message's cell that has its values.
@@ -179,7 +179,7 @@ impl<R: Semiring> Table<R> {
             &message.exponents,
         );
         self.shift += message.shift;
-        self.touched = either(&self.touched, &message.touched);
+        take_either(&mut self.touched, &message.touched);
     }
 
     /// Makes absent each cell that gives the pair's variable another value.
@@ -241,7 +241,7 @@ impl<R: Semiring> Table<R> {
             &mut out.exponents,
         );
         out.shift = self.shift;
-        out.touched = within(&self.touched, &out.scope);
+        put_within(&self.touched, &out.scope, &mut out.touched);
     }
 
     /// The plus of the cells where an event holds; absent where none is. The list is where their numbers are written. Where

@@ -19,16 +19,16 @@ pub(crate) fn is_untouched_by(touched: &Option<Event>, event: &Event) -> bool
     }
 }
 
-/// An event that holds wherever one of two does: the pairs that both have, or the one that there is.
-pub(crate) fn either(first: &Option<Event>, second: &Option<Event>) -> Option<Event>
-    ensures { IsEither first.now second.now result }
+/// Makes of an event one that holds wherever it or another does: the pairs that both have, or the one that there is. It is
+/// changed in place, since an event takes more to copy than a small message does to make.
+pub(crate) fn take_either(touched: &mut Option<Event>, other: &Option<Event>)
+    ensures { IsEither touched.old other.now touched.new }
 {
-    match first {
-        Some(event) => match second {
-            Some(other) => Some(common(event, other.pairs())),
-            None => Some(*event),
-        },
-        None => *second,
+    if let Some(event) = other {
+        match touched {
+            Some(kept) => *kept = common(kept, event.pairs()),
+            None => *touched = Some(*event),
+        }
     }
 }
 
@@ -48,13 +48,13 @@ pub(crate) fn beside(touched: &Option<Event>, pair: Pair) -> Option<Event>
     }
 }
 
-/// An event that holds wherever another does: the pairs whose variables a scope has.
-pub(crate) fn within(touched: &Option<Event>, scope: &Scope) -> Option<Event>
-    ensures { IsWithin scope.now touched.now result }
+/// Puts into a place an event that holds wherever another does: the pairs whose variables a scope has.
+pub(crate) fn put_within(touched: &Option<Event>, scope: &Scope, out: &mut Option<Event>)
+    ensures { IsWithin scope.now touched.now out.new }
 {
     match touched {
-        Some(event) => Some(pairs_within(event, scope)),
-        None => None,
+        Some(event) => *out = Some(pairs_within(event, scope)),
+        None => *out = None,
     }
 }
 
@@ -88,6 +88,9 @@ fn common(event: &Event, others: &[Pair]) -> Event
     ensures first { IsPart result event.now }
     ensures second { IsPart result others.now }
 {
+    if event.pairs().is_empty() {
+        return *event;
+    }
     let mut shared = Event::empty();
     for pair in event.pairs() {
         if has_pair(others, *pair) {
@@ -102,6 +105,9 @@ fn pairs_within(event: &Event, scope: &Scope) -> Event
     ensures part { IsPart result event.now }
     ensures there { HasEvent scope.now result }
 {
+    if event.pairs().is_empty() {
+        return *event;
+    }
     let mut kept = Event::empty();
     for pair in event.pairs() {
         if scope.has(pair.variable) {

@@ -45,10 +45,10 @@ returns-clause-numbers g c = λ f n h.
     let nd = filled one_digits (length bases) c.plus_of_each.new.out_digits.items in let ne = filled one_exponent (length bases) c.plus_of_each.new.out_exponents.items in
     let long : length nd ≡ cells_in part =
     filled_length one_digits (length bases) c.plus_of_each.new.out_digits.items ((at_most (length bases) c.plus_of_each.new.out_digits.items c.plus_of_each.new.out_exponents.items c.plus_of_each.ensures.held.whole).0) ∙ are.one_each in
-    let after = c.within-out-inside.result in
+    let after = c.put_within.new.out in
     let within : IsWithin part c.args.self.now.touched after =
     subst (λ (o : Option (List Pair)). IsWithin part o after) (ap (λ (t : TableOf). t.touched) c.self.view_is)
-    (subst (λ (s : ScopeOf). IsWithin s c.self.inside.touched after) (c.deref-4.ensures ∙ sym out_is) c.within-out-inside.ensures) in
+    (subst (λ (s : ScopeOf). IsWithin s c.self.inside.touched after) (c.deref-4.ensures ∙ sym out_is) c.put_within.ensures) in
     let made = margin_numbers R.plus_of g.met.R.Semiring.lawful part whole are.lies_in bases offsets (filled one_digits c.cells.result c.deref.result.now) (filled one_exponent c.cells.result c.deref-2.result.now) nd ne
     (parts_full _ _ _ _ _ parts) (places_beside part whole bases offsets c.lists-run.result.2 are) are.one_each are.onto long c.plus_of_each.ensures.stand c.args.self.now.touched after within c.self.inside.shift f n (parts_numbers _ _ _ _ _ parts f n h) in
     let count : length bases ≡ cells_in c.out.inside.scope.value = are.one_each ∙ ap cells_in out_is in

@@ -52,11 +52,11 @@ returns-clause-numbers g c = λ f h n p has other.
     (ap (λ (s : ScopeOf). filled one_exponent (cells_in s) c.deref-2.result.now) part_is ∙ ap (filled one_exponent (cells_in c.message.inside.scope.value)) c.deref-2.ensures.value) in
     let lies : LiesIn c.args.message.now.scope c.args.self.now.scope =
     subst (λ (s : ScopeOf). LiesIn s c.args.self.now.scope) (ap (λ (s : PlacesOf). s.part) c.requires.places) (subst (λ (s : ScopeOf). LiesIn places.part s) (ap (λ (s : PlacesOf). s.whole) c.requires.places) c.times_held.ensures.lies_in) in
-    let made = message_numbers c.args.self.now _ _ _ _ parts c.args.message.now _ _ _ _ others _ _ c.either-self-inside.result lies c.times_held.ensures.changed
-    (subst (λ (o : Option (List Pair)). IsEither o c.args.message.now.touched c.either-self-inside.result) (ap (λ (u : TableOf). u.touched) c.self.view_is)
-    (subst (λ (o : Option (List Pair)). IsEither c.self.inside.touched o c.either-self-inside.result) (ap (λ (u : TableOf). u.touched) c.message.view_is) c.either-self-inside.ensures)) f h n p has other in
+    let made = message_numbers c.args.self.now _ _ _ _ parts c.args.message.now _ _ _ _ others _ _ c.take_either.new.touched lies c.times_held.ensures.changed
+    (subst (λ (o : Option (List Pair)). IsEither o c.args.message.now.touched c.take_either.new.touched) (ap (λ (u : TableOf). u.touched) c.self.view_is)
+    (subst (λ (o : Option (List Pair)). IsEither c.self.inside.touched o c.take_either.new.touched) (ap (λ (u : TableOf). u.touched) c.message.view_is) c.take_either.ensures)) f h n p has other in
     has_written _ c.args.self.now c.self.view_is (filled one_digits (cells_in c.self.inside.scope.value) c.times_held.new.digits.items) (filled one_exponent (cells_in c.self.inside.scope.value) c.times_held.new.exponents.items) _ _ _ _
-    (subst (λ (s : ScopeOf). AreNumbers (touched_cells c.either-self-inside.result c.args.self.now.scope) (c.self.inside.shift + c.message.inside.shift) (filled one_digits (cells_in s) c.times_held.new.digits.items) (filled one_exponent (cells_in s) c.times_held.new.exponents.items)
+    (subst (λ (s : ScopeOf). AreNumbers (touched_cells c.take_either.new.touched c.args.self.now.scope) (c.self.inside.shift + c.message.inside.shift) (filled one_digits (cells_in s) c.times_held.new.digits.items) (filled one_exponent (cells_in s) c.times_held.new.exponents.items)
     (λ k. f k * h (cell_in c.args.message.now.scope c.args.self.now.scope k)) (n + p + 1)) whole_is made)
 
 pub invariant_of-self : goal.invariant_of-self
@@ -68,5 +68,5 @@ invariant_of-self g c =
     let lies : LiesIn part whole = subst (λ (s : ScopeOf). LiesIn s whole) part_is (subst (λ (s : ScopeOf). LiesIn places.part s) whole_is c.times_held.ensures.lies_in) in
     record {
       held = rw (← whole_is) c.times_held.ensures.held;
-      there = c.either-self-inside.ensures.variables whole c.self.invariant.there (larger_touched part whole c.message.inside.touched lies c.message.invariant.there);
+      there = c.take_either.ensures.variables whole c.self.invariant.there (larger_touched part whole c.message.inside.touched lies c.message.invariant.there);
     }

@@ -28,7 +28,7 @@ returns-clause-numbers g c = λ f n h.
       all_digits = c.fill.ensures.all_digits ∙ c.cells.ensures.cells ∙ ap cells_in c.deref-2.ensures;
       all_exponents = c.fill.ensures.all_exponents ∙ c.cells.ensures.cells ∙ ap cells_in c.deref-2.ensures;
     }) _ _ _ _
-    (ratio_numbers c.args.self.now _ _ _ _ parts (trade_ratio c.args.ratio.now) c.deref-4.result.now c.times_units.new.digits c.times_units.new.exponents c.either-self-inside.result chosen c.times_units.ensures (subst (λ (o : Option (List Pair)). IsEither o (Some c.args.ratio.now.condition) c.either-self-inside.result) (ap (λ (u : TableOf). u.touched) c.self.view_is) c.either-self-inside.ensures) f n h)
+    (ratio_numbers c.args.self.now _ _ _ _ parts (trade_ratio c.args.ratio.now) c.deref-4.result.now c.times_units.new.digits c.times_units.new.exponents c.take_either.new.touched chosen c.times_units.ensures (subst (λ (o : Option (List Pair)). IsEither o (Some c.args.ratio.now.condition) c.take_either.new.touched) (ap (λ (u : TableOf). u.touched) c.self.view_is) c.take_either.ensures) f n h)
 
 pub invariant_of-self : goal.invariant_of-self
 invariant_of-self g c =
@@ -41,4 +41,4 @@ invariant_of-self g c =
       all_digits = c.fill.ensures.all_digits ∙ c.cells.ensures.cells ∙ ap cells_in c.deref-2.ensures;
       all_exponents = c.fill.ensures.all_exponents ∙ c.cells.ensures.cells ∙ ap cells_in c.deref-2.ensures;
     }) c.fill.ensures.digits_room c.fill.ensures.exponents_room
-    (c.either-self-inside.ensures.variables c.self.inside.scope.value c.self.invariant.there there)
+    (c.take_either.ensures.variables c.self.inside.scope.value c.self.invariant.there there)

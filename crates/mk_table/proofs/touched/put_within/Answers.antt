@@ -3,7 +3,7 @@ use Rattle.std.specs.Prelude.{List, Option, Some}
 use Rattle.mk_net.specs.declared.words.Pair.{Pair}
 use Rattle.mk_table.specs.inner.Touched.{IsWithin}
 use Rattle.mk_table.proofs.Untouched.{part_holds}
-use Rattle.mk_table.proofs.touched.within.Goals as goal
+use Rattle.mk_table.proofs.touched.put_within.Goals as goal
 
 pub returns-in-Some : goal.returns-in-Some
 returns-in-Some c =
