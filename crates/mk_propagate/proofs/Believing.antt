@@ -1,23 +1,28 @@
 -- The plus, over the cells of an event, of a clique's table times the messages from all its neighbours is the exact belief, within the grade of a reading.
-use Rattle.std.proofs.Common.{◌≡◌, ℕ, ◌+◌, ◌-◌, ◌*◌, ◌<◌, ◌≤◌, Bool, true, false, ◌&&◌, List, length, None, refl, sym, ap, subst, ◌∙◌, arith, mul-one, one-mul}
+use Rattle.std.proofs.Common.{◌≡◌, ℕ, ◌+◌, ◌-◌, ◌*◌, ◌<◌, ◌≤◌, Bool, true, false, cond, not, ◌&&◌, ◌||◌, List, length, None, slice_index, refl, sym, ap, subst, ◌∙◌, arith, mul-one, one-mul, ne_eqb}
+use Rattle.std.proofs.Math.Path.{fun_ext}
+use Rattle.std.proofs.Math.Nat.{mul_assoc, mul_comm}
+use Rattle.std.specs.List.{list_all}
 use Rattle.std.proofs.Math.Seq.{take-length}
-use Rattle.std.proofs.lemmas.Bool.{and_parts}
+use Rattle.std.proofs.lemmas.Bool.{and_parts, both_ways}
 use Rattle.std.proofs.lemmas.List.Elements.{All-weaker}
 use Rattle.mk_net.specs.declared.words.Pair.{Pair}
 use Rattle.mk_net.specs.Bounds.{number_limit}
 use Rattle.mk_net.specs.Sets.{is_member, no_variables}
 use Rattle.mk_exact.specs.States.{plus_over}
 use Rattle.mk_exact.specs.Lawful.{Lawful}
-use Rattle.mk_cell.specs.Cell.{StandsAt, IsOwnAt}
-use Rattle.mk_cell.specs.inner.Laws.{stands_with_more}
+use Rattle.mk_net.specs.Network.{sizes}
+use Rattle.mk_sums.specs.Joint.{variables, where_holds}
+use Rattle.mk_sums.specs.Sums.{upd, over, Blind}
 use Rattle.mk_sums.specs.There.{holds_there}
+use Rattle.mk_sums.proofs.Sums.{over-times, over-union, over_agree}
 use Rattle.mk_sums.specs.Trees.{linked_to, times_of}
 use Rattle.mk_sums.proofs.Sets.{times_agree}
 use Rattle.mk_table.specs.Scopes.{ScopeOf, PlacesOf, cells_in, has_variable, HasEvent}
 use Rattle.mk_table.specs.Cells.{values_at, cell_in, cells_where}
-use Rattle.mk_table.specs.Tables.{TableOf, HasNumbers, HasRoom}
+use Rattle.mk_table.specs.Tables.{TableOf, HasRoom}
 use Rattle.mk_table.proofs.Chosen.{chosen_pass}
-use Rattle.mk_table.proofs.Owned.{own_more, plus_scaled}
+use Rattle.mk_table.proofs.Owned.{plus_scaled}
 use Rattle.mk_tree.proofs.Cells.{cells_positive}
 use Rattle.mk_tree.specs.Given.{GivenTree, clique_at, holds, link_of, holds_event}
 use Rattle.mk_engine.specs.Meaning.{exact_belief}
@@ -25,14 +30,15 @@ use Rattle.mk_propagate.specs.Shapes.{ShapeOf, IsClique, clique_scope, core_scop
 use Rattle.mk_propagate.specs.Placings.{Placing, placed_there, factors_in, meaning_of}
 use Rattle.mk_propagate.specs.Flows.{FlowOf, HasCells, HasPlaced, AreRightInto, IsRight, IsReading, exact_message, all_cells, reading_grade, table_at}
 use Rattle.mk_propagate.specs.inner.Kept.{IsKept}
-use Rattle.mk_propagate.specs.inner.Gathered.{is_input, gathered, gathered_steps, HasGathered, HasInto}
+use Rattle.mk_propagate.specs.inner.Gathered.{is_input, gathered, gathered_steps, HasCore, HasGathered, HasInto, core_there, core_steps}
+use Rattle.mk_propagate.specs.inner.Totals.{HaveTotal}
 use Rattle.mk_propagate.proofs.Scopes.{has_within, clique_counted}
 use Rattle.mk_propagate.proofs.Cores.{core_part}
-use Rattle.mk_propagate.proofs.Margins.{values_of_part}
+use Rattle.mk_propagate.proofs.Margins.{apart, parted, total_over, values_of_part}
 use Rattle.mk_propagate.proofs.Inputs.{times_inputs, times_same}
 use Rattle.mk_propagate.proofs.Grading.{few_grades, reading_steps}
-use Rattle.mk_propagate.proofs.Readings.{read_there, belief_is_read, belief_at_most}
-use Rattle.mk_propagate.proofs.Messages.{message_within, shared_in_core, table_room, taken_room}
+use Rattle.mk_propagate.proofs.Readings.{pairs_read, read_there, belief_is_read, belief_at_most}
+use Rattle.mk_propagate.proofs.Messages.{message_within, shared_in_core, core_cells, core_room, few_core_steps, table_room, taken_room}
 use Rattle.mk_propagate.proofs.Placed.{sum_same}
 use Rattle.mk_propagate.proofs.Required.{all_pass}
 use Rattle.mk_propagate.proofs.Sending.{can_take}
@@ -55,7 +61,7 @@ module _ (plus : ℕ → ℕ → ℕ) (law : Lawful plus) (flow : FlowOf) (cores
   abbrev tree : GivenTree
   tree = flow.shape.tree
 
-  placed : HasCells table (clique_scope flow.shape k) (placed_there p k) (factors_in p k) (factors_in p k)
+  pub placed : HasCells table (clique_scope flow.shape k) (placed_there p k) (factors_in p k) (factors_in p k)
   placed = subst (λ (t : TableOf). HasCells t (clique_scope flow.shape k) (placed_there p k) (factors_in p k) (factors_in p k)) is (has.tables k clique)
 
   scope_is : table.scope ≡ scope_within p.network (holds tree k)
@@ -157,22 +163,19 @@ module _ (plus : ℕ → ℕ → ℕ) (law : Lawful plus) (flow : FlowOf) (cores
   abbrev steps : ℕ
   steps = factors_in p k + gathered_steps tree p k None (neighbours tree k) 0 + 2 * cells_in table.scope + 1
 
-  few : (grade : ℕ) → grade ≡ counted_grade → steps ≤ 3 * grade
+  pub few : (grade : ℕ) → grade ≡ counted_grade → steps ≤ 3 * grade
   few grade is = let l = reading_steps flow.shape p has.shape_is has.placing k clique None in let e = grade_is in let s = ap cells_in scope_is in let n = some_cells in omega (arith, l, e, s, is, n)
 
-  pub total_stands : (grade shift digits exponent : ℕ) → grade ≡ counted_grade
-      → ((f h : ℕ → ℕ) (n m : ℕ) → HasNumbers table f n → HasNumbers into h m → StandsAt shift digits exponent (plus_over plus 0 (λ c. f c * h (cell_in into.scope table.scope c)) (cells_where table.scope event)) (n + m + 2 * cells_in table.scope + 1))
-      → StandsAt shift digits exponent totalled (3 * grade)
-  total_stands grade shift digits exponent is total =
-      stands_with_more shift digits exponent totalled steps (3 * grade) (few grade is)
-      (total (λ c. placed_there p k (values_at table.scope c)) (λ d. taken (values_at into.scope d)) (factors_in p k) (gathered_steps tree p k None (neighbours tree k) 0) placed.numbers g.cells.numbers)
-
-  pub total_own : (grade shift digits exponent : ℕ) → grade ≡ counted_grade
-      → ((f h : ℕ → ℕ) (n m : ℕ) → HasNumbers table f n → HasNumbers into h m → IsOwnAt shift digits exponent (plus_over plus 0 (λ c. f c * h (cell_in into.scope table.scope c)) (cells_where table.scope event)) (n + m + 2 * cells_in table.scope + 1))
-      → IsOwnAt shift digits exponent totalled (3 * grade)
-  total_own grade shift digits exponent is total =
-      own_more shift digits exponent totalled steps (3 * grade) (few grade is)
-      (total (λ c. placed_there p k (values_at table.scope c)) (λ d. taken (values_at into.scope d)) (factors_in p k) (gathered_steps tree p k None (neighbours tree k) 0) placed.numbers g.cells.numbers)
+  abbrev pub can_total : (grade : ℕ) → grade ≡ counted_grade → HaveTotal table into grade
+  can_total grade is = record {
+    numbers = λ c. placed_there p k (values_at table.scope c);
+    others = λ d. taken (values_at into.scope d);
+    steps = factors_in p k;
+    other_steps = gathered_steps tree p k None (neighbours tree k) 0;
+    has = placed.numbers;
+    has_others = g.cells.numbers;
+    within = few grade is;
+  }
 
   pub reading_of : {V : Type 0} (encloses : V → ℕ → Type 0) (has_grade : V → ℕ → Type 0) (is_exact : V → Type 0) (r : V) (grade : ℕ) → grade ≡ counted_grade
       → encloses r totalled → has_grade r grade → (totalled < number_limit → is_exact r) → IsReading encloses has_grade is_exact plus tree p k event r
@@ -181,3 +184,128 @@ module _ (plus : ℕ → ℕ → ℕ) (law : Lawful plus) (flow : FlowOf) (cores
     grade = subst (has_grade r) (is ∙ grade_is) graded;
     exact = λ small. exact (let t = total_is in let l = belief_at_most plus law (meaning_of tree p) event in omega (arith, t, l, small));
   }
+
+  -- ---- read in the core, where it has the event and the clique's table was summed over it
+
+  module _ (core : TableOf) (sums : HasCore plus flow.shape k table core) (within_core : list_all (λ (q : Pair). in_core tree k q.variable) event ≡ true) where
+    abbrev size : ℕ → ℕ
+    size = slice_index (sizes p.network)
+
+    abbrev vars : List ℕ
+    vars = variables (sizes p.network)
+
+    abbrev own : ℕ → Bool
+    own x = holds tree k x && not (in_core tree k x)
+
+    abbrev there : (ℕ → ℕ) → ℕ
+    there = core_there plus tree p k
+
+    abbrev scope_of_core : ScopeOf
+    scope_of_core = scope_within p.network (in_core tree k)
+
+    pub core_placed : HasCells core (core_scope flow.shape k) there (core_steps tree p k) (factors_in p k)
+    core_placed = sums.sums p has.shape_is has.placing placed
+
+    core_scope_is : core.scope ≡ scope_of_core
+    core_scope_is = core_placed.scope_is ∙ has.shape_is.core_scopes k clique
+
+    pub core_event : HasEvent core.scope event
+    core_event =
+        subst (λ (s : ScopeOf). HasEvent s event) (sym core_scope_is)
+        (All-weaker (λ (q : Pair). in_core tree k q.variable ≡ true) (λ (q : Pair). has_variable scope_of_core q.variable ≡ true)
+        (λ q h. has_within p.network (in_core tree k) q.variable (has.shape_is.tree_is.of_network (k - 1) no_variables (omega (arith, clique.first, clique.last)) q.variable (core_part tree k q.variable h)) h)
+        event (all_pass (λ (q : Pair). in_core tree k q.variable) event within_core))
+
+    pub core_total_room : HasRoom core (2 * cells_in core.scope)
+    core_total_room = core_room flow.shape p has.shape_is has.placing plus law k clique core core_placed
+
+    pub own_places_there : (places : PlacesOf) → places ≡ record { whole = core_scope flow.shape k; part = core_scope flow.shape k } → places ≡ record { whole = core.scope; part = into.scope }
+    own_places_there places e =
+        e ∙ ap (λ (s : ScopeOf). record { whole = s; part = core_scope flow.shape k }) (sym core_placed.scope_is) ∙ ap (λ (s : ScopeOf). record { whole = core.scope; part = s }) (sym g.cells.scope_is)
+
+    -- a variable that lies in the core is none of the clique's own
+    moved_same : (a : ℕ → ℕ) (x v : ℕ) → own x ≡ true → (y : ℕ) → in_core tree k y ≡ true → upd a x v y ≡ a y
+    moved_same a x v h y q =
+        ap (λ b. cond b v (a y)) (ne_eqb y x (λ e. both_ways (own x) (subst (λ z. own z ≡ false) e (apart plus law p.network (in_core tree k) (holds tree k) (core_part tree k) y q)) h))
+
+    -- the event and the messages read the core alone
+    abbrev around : (ℕ → ℕ) → ℕ
+    around t = where_holds event t * messages t
+
+    around_blind : Blind own around
+    around_blind a x v h =
+        let e : where_holds event (upd a x v) ≡ where_holds event a = ap (λ b. cond b 1 0) (pairs_read (in_core tree k) (upd a x v) a (moved_same a x v h) event within_core) in
+        let m : messages (upd a x v) ≡ messages a =
+        times_same (linked_to (link_of tree) (length tree.cliques) k) (length tree.cliques) (λ i. exact_message plus tree p i k) (upd a x v) a
+        (λ i l. message_within flow.shape p has.shape_is has.placing plus law i k (upd a x v) a (λ y q. moved_same a x v h y (shared_in_core flow.shape p has.shape_is has.placing plus law i k l y q))) in
+        ap (λ n. n * messages (upd a x v)) e ∙ ap (λ n. where_holds event a * n) m
+
+    turned : (w c m : ℕ) → w * (c * m) ≡ w * m * c
+    turned w c m = ap (λ n. w * n) (mul_comm c m) ∙ sym (mul_assoc w m c)
+
+    -- what was summed over the clique's own variables, summed over those of the core
+    core_nest : over plus size (in_core tree k) vars (λ t. where_holds event t * (there t * messages t)) (λ x. 0)
+        ≡ over plus size (holds tree k) vars (λ t. where_holds event t * (placed_there p k t * messages t)) (λ x. 0)
+    core_nest =
+        ap (λ (f : (ℕ → ℕ) → ℕ). over plus size (in_core tree k) vars f (λ x. 0))
+        (fun_ext (λ t. turned (where_holds event t) (there t) (messages t) ∙ sym (over-times plus law size own vars around (placed_there p k) t around_blind)))
+        ∙ sym (over-union plus law size (in_core tree k) own vars (λ t. around t * placed_there p k t) (λ x. 0) (apart plus law p.network (in_core tree k) (holds tree k) (core_part tree k)))
+        ∙ sym (over_agree plus law size (holds tree k) (λ x. in_core tree k x || own x) vars (λ t. around t * placed_there p k t) (λ x. 0)
+        (λ x _. parted plus law p.network (in_core tree k) (holds tree k) (core_part tree k) x))
+        ∙ ap (λ (f : (ℕ → ℕ) → ℕ). over plus size (holds tree k) vars f (λ x. 0)) (fun_ext (λ t. sym (turned (where_holds event t) (placed_there p k t) (messages t))))
+
+    -- each cell of the core is its own
+    core_messages_there : (c : ℕ) → c < cells_in scope_of_core → messages (values_at scope_of_core (cell_in scope_of_core scope_of_core c)) ≡ messages (values_at scope_of_core c)
+    core_messages_there c l =
+        times_same (linked_to (link_of tree) (length tree.cliques) k) (length tree.cliques) (λ i. exact_message plus tree p i k)
+        (values_at scope_of_core (cell_in scope_of_core scope_of_core c)) (values_at scope_of_core c)
+        (λ i h.
+        message_within flow.shape p has.shape_is has.placing plus law i k (values_at scope_of_core (cell_in scope_of_core scope_of_core c)) (values_at scope_of_core c)
+        (λ x q.
+        let both = and_parts (holds tree i x) (holds tree k x) q in
+        let n : x < length p.network = has.shape_is.tree_is.of_network (k - 1) no_variables (omega (arith, clique.first, clique.last)) x both.1 in
+        values_of_part plus law p.network (in_core tree k) (in_core tree k) (λ y z. z) c l x
+        (has_within p.network (in_core tree k) x n (shared_in_core flow.shape p has.shape_is has.placing plus law i k h x q))))
+
+    abbrev pub core_totalled : ℕ
+    core_totalled = plus_over plus 0 (λ c. there (values_at core.scope c) * taken (values_at into.scope (cell_in into.scope core.scope c))) (cells_where core.scope event)
+
+    pub core_total_is : core_totalled ≡ exact_belief plus (meaning_of tree p) event
+    core_total_is =
+        ap (λ (s : ScopeOf). plus_over plus 0 (λ c. there (values_at s c) * taken (values_at into.scope (cell_in into.scope s c))) (cells_where s event)) core_scope_is
+        ∙ ap (λ (s : ScopeOf). plus_over plus 0 (λ c. there (values_at scope_of_core c) * taken (values_at s (cell_in s scope_of_core c))) (cells_where scope_of_core event)) core_is
+        ∙ sym (mul-one _)
+        ∙ plus_scaled plus law (λ c. there (values_at scope_of_core c) * messages (values_at scope_of_core c))
+        (λ c. there (values_at scope_of_core c) * taken (values_at scope_of_core (cell_in scope_of_core scope_of_core c))) 1 (cells_where scope_of_core event)
+        (All-weaker (λ c. (holds_there event (values_at scope_of_core c) ≡ true) × (c < cells_in scope_of_core)) _
+        (λ c h. mul-one _ ∙ ap (λ n. there (values_at scope_of_core c) * n) (all_taken (values_at scope_of_core (cell_in scope_of_core scope_of_core c)) ∙ core_messages_there c h.1))
+        (cells_where scope_of_core event) (chosen_pass (λ c. holds_there event (values_at scope_of_core c)) (cells_in scope_of_core)))
+        ∙ total_over plus law p.network (in_core tree k) event (λ t. there t * messages t)
+        ∙ core_nest
+        ∙ sym (total_over plus law p.network (holds tree k) event (read_there flow.shape p has.shape_is has.placing plus law event k))
+        ∙ belief_is_read flow.shape p has.shape_is has.placing plus law event k clique inside
+
+    pub core_few : (grade : ℕ) → grade ≡ counted_grade → core_steps tree p k + gathered_steps tree p k None (neighbours tree k) 0 + 2 * cells_in core.scope + 1 ≤ 3 * grade
+    core_few grade is =
+        let l = reading_steps flow.shape p has.shape_is has.placing k clique None in let e = grade_is in let s = ap cells_in scope_is in let n = some_cells in
+        let d = ap cells_in core_scope_is in let f = core_cells flow.shape p has.shape_is has.placing plus law k in let m = few_core_steps flow.shape p has.shape_is has.placing plus law k clique in
+        omega (arith, l, e, s, is, n, d, f, m)
+
+    abbrev pub core_can_total : (grade : ℕ) → grade ≡ counted_grade → HaveTotal core into grade
+    core_can_total grade is = record {
+      numbers = λ c. there (values_at core.scope c);
+      others = λ d. taken (values_at into.scope d);
+      steps = core_steps tree p k;
+      other_steps = gathered_steps tree p k None (neighbours tree k) 0;
+      has = core_placed.numbers;
+      has_others = g.cells.numbers;
+      within = core_few grade is;
+    }
+
+    pub core_reading_of : {V : Type 0} (encloses : V → ℕ → Type 0) (has_grade : V → ℕ → Type 0) (is_exact : V → Type 0) (r : V) (grade : ℕ) → grade ≡ counted_grade
+        → encloses r core_totalled → has_grade r grade → (core_totalled < number_limit → is_exact r) → IsReading encloses has_grade is_exact plus tree p k event r
+    core_reading_of encloses has_grade is_exact r grade is value graded exact = record {
+      enclosed = subst (encloses r) core_total_is value;
+      grade = subst (has_grade r) (is ∙ grade_is) graded;
+      exact = λ small. exact (let t = core_total_is in let l = belief_at_most plus law (meaning_of tree p) event in omega (arith, t, l, small));
+    }

@@ -168,7 +168,7 @@ module _ (shape : ShapeOf) (p : Placing) (is : IsShapeFor shape p.network) (plac
     few_factors = let a = factors_at_most_grades in let b = within_whole in let c = whole_parts in let d = few_grades in omega (arith, a, b, c, d)
 
     -- a reading has three steps for each of its grade
-    pub reading_steps : gathered_steps tree p k receiver (neighbours tree k) (factors_in p k) + 3 * clique_cells p.network tree k ≤ 3 * reading_grade tree p k
+    pub reading_steps : gathered_steps tree p k receiver (neighbours tree k) (factors_in p k) + 6 * clique_cells p.network tree k ≤ 3 * reading_grade tree p k
     reading_steps = let a = steps_at_most in let b = within_whole in let c = whole_parts in let s = is.tree_is.linked.some in omega (arith, a, b, c, s)
 
   -- and so has a message

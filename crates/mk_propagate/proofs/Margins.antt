@@ -84,10 +84,10 @@ module _ (plus : ℕ → ℕ → ℕ) (law : Lawful plus) where
 
     module _ (part whole : ℕ → Bool) (inside : (x : ℕ) → part x ≡ true → whole x ≡ true) where
       -- what the whole has beside the part
-      abbrev beside : ℕ → Bool
+      abbrev pub beside : ℕ → Bool
       beside x = whole x && not (part x)
 
-      parted : (x : ℕ) → whole x ≡ (part x || beside x)
+      pub parted : (x : ℕ) → whole x ≡ (part x || beside x)
       parted x = at (part x) (whole x) (inside x)
         where
           at : (p w : Bool) → (p ≡ true → w ≡ true) → w ≡ (p || (w && not p))
@@ -95,7 +95,7 @@ module _ (plus : ℕ → ℕ → ℕ) (law : Lawful plus) where
           at false true h = refl
           at false false h = refl
 
-      apart : (x : ℕ) → part x ≡ true → beside x ≡ false
+      pub apart : (x : ℕ) → part x ≡ true → beside x ≡ false
       apart x h = ap (λ b. whole x && not b) h ∙ none (whole x)
         where
           none : (b : Bool) → (b && false) ≡ false

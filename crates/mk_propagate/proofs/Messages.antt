@@ -127,7 +127,7 @@ module _ (shape : ShapeOf) (p : Placing) (is : IsShapeFor shape p.network) (plac
     abbrev private : ℕ → ℕ → Bool
     private k x = holds tree k x && not (in_core tree k x)
 
-    core_cells : (k : ℕ) → cells_in (scope_within p.network (in_core tree k)) ≤ clique_cells p.network tree k
+    pub core_cells : (k : ℕ) → cells_in (scope_within p.network (in_core tree k)) ≤ clique_cells p.network tree k
     core_cells k = part_has_fewer p.network is.legal (in_core tree k) (holds tree k) (core_part tree k)
 
     module _ (k : ℕ) (clique : IsClique tree k) (receiver : Option ℕ) where
@@ -265,6 +265,18 @@ module _ (shape : ShapeOf) (p : Placing) (is : IsShapeFor shape p.network) (plac
 
     pub few_core_steps : (k : ℕ) → IsClique tree k → core_steps tree p k ≤ factors_in p k + 2 * clique_cells p.network tree k
     few_core_steps k clique = let l = beside_at_most (scope_within p.network (in_core tree k)) (scope_within p.network (holds tree k)) in omega (arith, l)
+
+    -- and so has that plus, over the cells of the core
+    pub core_room : (k : ℕ) → IsClique tree k → (core : TableOf) → HasCells core (core_scope shape k) (core_there plus tree p k) (core_steps tree p k) (factors_in p k) → HasRoom core (2 * cells_in core.scope)
+    core_room k clique core h = record {
+      numbers = λ d. core_there plus tree p k (values_at core.scope d);
+      steps = core_steps tree p k;
+      has = h.numbers;
+      few_steps =
+          let n = few_in p k in let s = ap cells_in (h.scope_is ∙ is.core_scopes k clique) in let f = core_cells k in let m = few_core_steps k clique in
+          let c = clique_small p.network tree is.tree_is k clique.first clique.last in omega (arith, n, s, f, m, c, placing.few);
+      small_shift = let n = few_in p k in omega (arith, n, placing.few, h.small_shift);
+    }
 
     pub core_sums : (k : ℕ) → IsClique tree k → (table before after : TableOf) → HasCells table (clique_scope shape k) (placed_there p k) (factors_in p k) (factors_in p k) → before.scope ≡ core_scope shape k → IsMargin plus table before after
         → HasCells after (core_scope shape k) (core_there plus tree p k) (core_steps tree p k) (factors_in p k)

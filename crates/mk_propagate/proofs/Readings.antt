@@ -44,7 +44,7 @@ module _ (set : ℕ → Bool) (a b : ℕ → ℕ) (same : (x : ℕ) → set x �
       ap (λ n. fold (λ row p. row * slice_index values p + a p) (r * slice_index values p + n) ps) (same p q.0)
       ∙ row_reads values ps (r * slice_index values p + b p) q.1
 
-  pairs_read : (ps : List Pair) → list_all (λ (p : Pair). set p.variable) ps ≡ true → holds_there ps a ≡ holds_there ps b
+  pub pairs_read : (ps : List Pair) → list_all (λ (p : Pair). set p.variable) ps ≡ true → holds_there ps a ≡ holds_there ps b
   pairs_read [] h = refl
   pairs_read (p ∷ ps) h =
       let q = and_parts (set p.variable) (list_all (λ (r : Pair). set r.variable) ps) h in

@@ -172,15 +172,17 @@ module _ (shape : ShapeOf) (network : List Variable) (tree : GivenTree) (tree_is
       let n = ap length separators ∙ length-map-range_with_len (λ k. scope_within network (shares tree k)) 2 (length tree.cliques - 1) in
       omega (arith, n, counts, linked.some)
 
-  pub shaped : given.AreLinked tree → (in_cliques in_links in_whole : List PlacesOf) → in_cliques ≡ places_of (shape_of tree [] shape.cores shape.separators) false (length tree.cliques - 1)
+  pub shaped : given.AreLinked tree → (in_cliques in_links in_whole in_itself : List PlacesOf) → in_cliques ≡ places_of (shape_of tree [] shape.cores shape.separators) false (length tree.cliques - 1)
       → in_links ≡ places_of (shape_of tree [] shape.cores shape.separators) true (length tree.cliques - 1)
       → in_whole ≡ core_places_of (shape_of tree shape.cliques shape.cores []) (length tree.cliques)
-      → (lists ways : List (List ℕ)) → lists ≡ lists_of_neighbours tree (length tree.cliques) → AreWays tree (length tree.cliques) ways → IsShaped shape in_cliques in_links in_whole lists ways
-  shaped linked in_cliques in_links in_whole p q w lists ways l r = record {
+      → in_itself ≡ core_places_of (shape_of tree shape.cores shape.cores []) (length tree.cliques)
+      → (lists ways : List (List ℕ)) → lists ≡ lists_of_neighbours tree (length tree.cliques) → AreWays tree (length tree.cliques) ways → IsShaped shape in_cliques in_links in_whole in_itself lists ways
+  shaped linked in_cliques in_links in_whole in_itself p q w o lists ways l r = record {
     linked = subst given.AreLinked (sym tree_is) linked;
     in_cliques_are = subst (λ (t : GivenTree). in_cliques ≡ places_of (shape_of t [] shape.cores shape.separators) false (length t.cliques - 1)) (sym tree_is) p;
     in_links_are = subst (λ (t : GivenTree). in_links ≡ places_of (shape_of t [] shape.cores shape.separators) true (length t.cliques - 1)) (sym tree_is) q;
     in_whole_are = subst (λ (t : GivenTree). in_whole ≡ core_places_of (shape_of t shape.cliques shape.cores []) (length t.cliques)) (sym tree_is) w;
+    in_itself_are = subst (λ (t : GivenTree). in_itself ≡ core_places_of (shape_of t shape.cores shape.cores []) (length t.cliques)) (sym tree_is) o;
     one_each = one_each;
     one_core_each = one_core_each;
     one_less = one_less linked;
@@ -240,6 +242,13 @@ module _ (shape : ShapeOf) (network : List Variable) (tree : GivenTree) (tree_is
     where
       for : IsShapeFor shape network
       for = shape_for legal is
+
+  pub can_place_in_itself : IsNetwork network → IsTreeOf network tree → CanPlaceCores (shape_of shape.tree shape.cores shape.cores [])
+  can_place_in_itself legal is = record {
+    one_each = (shape_for legal is).one_core_each;
+    one_core_each = (shape_for legal is).one_core_each;
+    lie = λ k at x h. (h, refl);
+  }
 
 -- ---- the places of separators
 

@@ -4,3 +4,4 @@ pub mod Gathered
 pub mod Shaped
 pub mod Passes
 pub mod Ones
+pub mod Totals

@@ -1,7 +1,9 @@
 //! The shape of a flow.
 
 ghost use Rattle.std.specs.Prelude.{◌≡◌, ◌≢◌, ℕ, ◌+◌, ◌-◌, ◌<◌, ◌≤◌, ◌&&◌, ◌==◌, nat_lt, nat_le, [], length, map, filter, true, if◌then◌else◌, IfOk};
-ghost use Rattle.std.specs.List.{range_with_len};
+ghost use Rattle.std.specs.List.{range_with_len, list_all, list_any};
+ghost use Rattle.mk_net.specs.declared.words.Pair.{Pair};
+ghost use Rattle.mk_tree.specs.Given.{holds};
 ghost use Rattle.mk_sums.specs.Trees.{linked_to};
 ghost use Rattle.mk_tree.specs.Given.{AreLinked, link_of};
 ghost use Rattle.mk_tree.specs.Checked.{IsTreeOf};
@@ -10,7 +12,7 @@ ghost use Rattle.mk_propagate.specs.Shapes.{IsShapeFor, IsClique, AreNextTo, cli
 ghost use Rattle.mk_net.specs.Sets.{is_member};
 ghost use Rattle.mk_propagate.specs.inner.Shaped.{scopes_of_cliques, scopes_of_cores, scopes_of_separators, lists_of_neighbours, AreWays, CanPlaceSeparators, CanPlaceCores, whole_of, places_of, core_places_of, shape_of};
 
-use mk_net::{Network, NoMemory, VarSet};
+use mk_net::{Event, Network, NoMemory, VarSet};
 use mk_table::{CellList, Places, Scope};
 use mk_tree::Tree;
 use std::alloc::Global;
@@ -18,7 +20,7 @@ use std::marker::Model;
 use std::rc::Rc;
 
 /// A copy of a tree, with the scopes of its cliques, of their cores and of its separators, where each separator's cells lie in the cores of
-/// its clique and of the link, and each core's in its clique, the neighbours of each clique, and the next cliques on the ways to each. It is
+/// its clique and of the link, and each core's in its clique and in itself, the neighbours of each clique, and the next cliques on the ways to each. It is
 /// made once; all flows over the tree share it.
 ///
 /// The core of a clique has the variables that a neighbour holds too: messages are made over it, which has often far fewer cells.
@@ -31,6 +33,7 @@ pub struct Shape {
     in_cliques: Vec<Places>,
     in_links: Vec<Places>,
     in_whole: Vec<Places>,
+    in_itself: Vec<Places>,
     neighbours: Vec<Vec<u32>>,
     ways: Vec<Vec<u32>>,
 }
@@ -54,7 +57,7 @@ impl Model for Shape {
       cliques = map (λ scope. scope.value) s.cliques.items;
       cores = map (λ scope. scope.value) s.cores.items;
       separators = map (λ scope. scope.value) s.separators.items;
-    }) s.in_cliques.items s.in_links.items s.in_whole.items (map (λ list. list.items) s.neighbours.items) (map (λ next. next.items) s.ways.items) };
+    }) s.in_cliques.items s.in_links.items s.in_whole.items s.in_itself.items (map (λ list. list.items) s.neighbours.items) (map (λ next. next.items) s.ways.items) };
 }
 
 impl Shape {
@@ -72,6 +75,7 @@ impl Shape {
         let in_cliques = separator_places(alloc, tree, &cores, &separators, false)?;
         let in_links = separator_places(alloc, tree, &cores, &separators, true)?;
         let in_whole = core_places(alloc, tree, &cliques, &cores)?;
+        let in_itself = core_places(alloc, tree, &cores, &cores)?;
         Ok(Shape {
             tree: tree.copy(alloc)?,
             cliques,
@@ -80,6 +84,7 @@ impl Shape {
             in_cliques,
             in_links,
             in_whole,
+            in_itself,
             neighbours,
             ways: ways(alloc, tree)?,
         })
@@ -143,6 +148,33 @@ impl Shape {
         ensures { result.now ≡ record { whole = clique_scope self.now k; part = core_scope self.now k } }
     {
         &self.in_whole[k as usize - 1]
+    }
+
+    /// Where the cells of the core of a clique lie in this same core: each is its own.
+    pub(crate) fn own_places(&self, k: u32) -> &Places
+        requires { IsClique self.now.tree k }
+        ensures { result.now ≡ record { whole = core_scope self.now k; part = core_scope self.now k } }
+    {
+        &self.in_itself[k as usize - 1]
+    }
+
+    /// Whether the core of a clique has each variable of an event.
+    pub(crate) fn core_holds(&self, k: u32, event: &Event) -> bool
+        requires { IsClique self.now.tree k }
+        ensures { result ≡ list_all (λ (p : Pair). in_core self.now.tree k p.variable) event.now }
+    {
+        event
+            .pairs()
+            .iter()
+            .all(|pair| self.in_core(k, pair.variable))
+    }
+
+    /// Whether a clique and one of its neighbours hold a variable.
+    fn in_core(&self, k: u32, variable: u32) -> bool
+        requires { IsClique self.now.tree k }
+        ensures { result ≡ in_core self.now.tree k variable }
+    {
+        self.tree.clique(k).has(variable) && is_around(&self.tree, k, self.neighbours(k), variable)
     }
 
     /// The cliques that are linked to a clique, in rising order.
@@ -220,6 +252,20 @@ fn core_of(tree: &Tree, k: u32, linked: &[u32]) -> VarSet
         around = around.union(&tree.clique(*neighbour));
     }
     tree.clique(k).common(&around)
+}
+
+/// Whether one of a clique's neighbours holds a variable.
+fn is_around(tree: &Tree, k: u32, linked: &[u32], variable: u32) -> bool
+    requires clique { IsClique tree.now k }
+    requires linked { linked.now ≡ neighbours tree.now k }
+    ensures { result ≡ list_any (λ i. holds tree.now i variable) (neighbours tree.now k) }
+{
+    let _ = tree.cliques();
+    let mut found = false;
+    for neighbour in linked {
+        found = found || tree.clique(*neighbour).has(variable);
+    }
+    found
 }
 
 /// The scope of what each clique, from 2 on, shares with its link.

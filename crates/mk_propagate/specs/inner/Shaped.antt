@@ -1,4 +1,4 @@
--- How a shape is kept: beside the scopes, where the separators' cells lie in the cores at their ends and the cores' cells in their cliques, the
+-- How a shape is kept: beside the scopes, where the separators' cells lie in the cores at their ends and the cores' cells in their cliques and in themselves, the
 -- list of each clique's neighbours, and for each clique the next cliques on the ways there.
 use Rattle.std.specs.Prelude.{◌≡◌, ℕ, ◌+◌, ◌-◌, ◌<◌, ◌≤◌, Bool, true, false, if◌then◌else◌, List, [], map, length, slice_index_or}
 use Rattle.std.specs.List.{range_with_len}
@@ -56,11 +56,12 @@ pub record CanPlaceCores (shape : ShapeOf) : Type 0 where
   pub one_core_each : length shape.cores ≡ length shape.tree.cliques
   pub lie : (k : ℕ) → IsClique shape.tree k → LiesIn (core_scope shape k) (clique_scope shape k)
 
-pub record IsShaped (shape : ShapeOf) (in_cliques in_links in_whole : List PlacesOf) (neighbour_lists ways : List (List ℕ)) : Type 0 where
+pub record IsShaped (shape : ShapeOf) (in_cliques in_links in_whole in_itself : List PlacesOf) (neighbour_lists ways : List (List ℕ)) : Type 0 where
   pub linked : AreLinked shape.tree
   pub in_cliques_are : in_cliques ≡ places_of shape false (length shape.tree.cliques - 1)
   pub in_links_are : in_links ≡ places_of shape true (length shape.tree.cliques - 1)
   pub in_whole_are : in_whole ≡ core_places_of shape (length shape.tree.cliques)
+  pub in_itself_are : in_itself ≡ core_places_of (shape_of shape.tree shape.cores shape.cores []) (length shape.tree.cliques)
   pub one_each : length shape.cliques ≡ length shape.tree.cliques
   pub one_core_each : length shape.cores ≡ length shape.tree.cliques
   pub one_less : length shape.separators + 1 ≡ length shape.tree.cliques

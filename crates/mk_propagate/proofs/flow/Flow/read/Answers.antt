@@ -1,14 +1,23 @@
-use Rattle.std.proofs.Common.{◌≡◌, ◌+◌, ◌-◌, ◌*◌, length, None, IsTrue, sym, ap, subst, ◌∙◌, arith}
-use Rattle.std.proofs.lemmas.Bool.{and_parts}
-use Rattle.mk_cell.specs.Cell.{IsOwnAt}
+use Rattle.std.proofs.Common.{◌≡◌, ℕ, ◌+◌, ◌-◌, ◌*◌, Bool, true, List, length, slice_index_or, None, sym, ap, subst, ◌∙◌, arith}
+use Rattle.std.specs.List.{list_all}
+use Rattle.mk_net.specs.declared.words.Pair.{Pair}
 use Rattle.mk_table.specs.Scopes.{cells_in}
-use Rattle.mk_table.specs.Tables.{is_untouched}
-use Rattle.mk_propagate.specs.Shapes.{ShapeOf, clique_scope, core_scope}
-use Rattle.mk_propagate.specs.Flows.{FlowOf, HasPlaced, AreRightInto, CanRead, IsReading}
+use Rattle.mk_table.specs.Tables.{TableOf}
+use Rattle.mk_propagate.specs.Shapes.{ShapeOf, IsClique, in_core}
+use Rattle.mk_propagate.specs.Flows.{FlowOf, HasPlaced, AreRightInto, CanRead, IsReading, table_at}
+use Rattle.mk_propagate.specs.inner.Kept.{IsFlow, IsSummed}
+use Rattle.mk_propagate.specs.inner.Gathered.{HasCore}
 use Rattle.mk_propagate.proofs.Sending.{table_is, can_take}
-use Rattle.mk_propagate.proofs.Marks.{flow_after}
-use Rattle.mk_propagate.proofs.Believing.{all_inputs, into_there, event_there, total_room, into_room, total_places, some_cells, few_before, totalled, total_stands, total_own, reading_of}
+use Rattle.mk_propagate.proofs.Marks.{flow_after, marked_at}
+use Rattle.mk_propagate.proofs.Believing.{all_inputs, into_there, event_there, total_room, into_room, some_cells, few_before, can_total, reading_of, core_event, core_total_room, core_can_total, core_reading_of}
 use Rattle.mk_propagate.proofs.flow.Flow.read.Goals as goal
+
+-- where a clique's table is marked as summed, its core has the sums
+core_sums_there : (plus : ℕ → ℕ → ℕ) (flow : FlowOf) (cores products : List TableOf) (summed current : List Bool) (cells : ℕ) → IsFlow plus flow cores products summed current cells
+    → (k : ℕ) → IsClique flow.shape.tree k → (table : TableOf) → table_at flow k ≡ table → (core : TableOf) → core ≡ slice_index_or cores (k - 1) core → (mark : Bool) → mark ≡ slice_index_or summed (k - 1) mark → mark ≡ true
+    → HasCore plus flow.shape k table core
+core_sums_there plus flow cores products summed current cells h k clique table is core e mark f m =
+    subst (λ (t : TableOf). HasCore plus flow.shape k t core) is (marked_at flow.shape.tree (IsSummed plus flow) cores summed h.summed_are k clique h.kept.cores_are.one_each core e mark f m)
 
 pub refresh-requires-clause-right : goal.refresh-requires-clause-right
 refresh-requires-clause-right g c =
@@ -42,56 +51,46 @@ overflow_add-grade-3 g c =
     let count = c.cliques-separators.ensures.count ∙ ap (λ (s : ShapeOf). length s.tree.cliques) c.deref-4.ensures in
     let l = few_before plus law _ _ _ _ c.self.invariant.kept k event c.index-table.result.now is c.refresh.new.product can.placing can.has can.clique_is can.holds_it there in omega (arith, count, c.cells.ensures.few, l)
 
-pub total_times-total-requires-clause-event : goal.total_times-total-requires-clause-event
-total_times-total-requires-clause-event g c =
+pub value_of-requires-clause-event : goal.value_of-requires-clause-event
+value_of-requires-clause-event g c =
     let plus = g.R.Semiring.plus_of in let law = g.met.R.Semiring.lawful in let k = c.args.clique in let event = c.args.event.now in
     let can = subst (λ (f : FlowOf). CanRead plus f k event) (sym c.self.view_is) c.requires in
     let there = into_there plus _ k can.placing can.has can.right c.deref.result.now c.deref-2.result.now c.deref-3.result.now c.deref.ensures c.deref-2.ensures.value c.deref-3.ensures.value c.refresh.new.product c.refresh.ensures.into in
     let is = table_is _ _ _ _ c.self.invariant.kept k can.clique_is c.index-table.result.now c.index-table.ensures in
-    event_there plus law _ _ _ _ c.self.invariant.kept k event c.index-table.result.now is c.refresh.new.product can.placing can.has can.clique_is can.holds_it there
+    let core = c.index-then-core_holds.result.now in
+    let sums = core_sums_there plus _ _ _ _ _ _ c.self.invariant k can.clique_is c.index-table.result.now is core c.index-then-core_holds.ensures c.index.result.now c.index.ensures c.if-index.true in
+    let within = subst (λ (s : ShapeOf). list_all (λ (q : Pair). in_core s.tree k q.variable) event ≡ true) c.deref-then-index.ensures (sym c.core_holds.ensures ∙ c.if-core_holds.true) in
+    core_event plus law _ _ _ _ c.self.invariant.kept k event c.index-table.result.now is c.refresh.new.product can.placing can.has can.clique_is can.holds_it there core sums within
 
-pub total_times-total-requires-clause-places : goal.total_times-total-requires-clause-places
-total_times-total-requires-clause-places g c =
+pub value_of-requires-clause-room : goal.value_of-requires-clause-room
+value_of-requires-clause-room g c =
     let plus = g.R.Semiring.plus_of in let law = g.met.R.Semiring.lawful in let k = c.args.clique in let event = c.args.event.now in
     let can = subst (λ (f : FlowOf). CanRead plus f k event) (sym c.self.view_is) c.requires in
     let there = into_there plus _ k can.placing can.has can.right c.deref.result.now c.deref-2.result.now c.deref-3.result.now c.deref.ensures c.deref-2.ensures.value c.deref-3.ensures.value c.refresh.new.product c.refresh.ensures.into in
     let is = table_is _ _ _ _ c.self.invariant.kept k can.clique_is c.index-table.result.now c.index-table.ensures in
-    total_places plus law _ _ _ _ c.self.invariant.kept k event c.index-table.result.now is c.refresh.new.product can.placing can.has can.clique_is can.holds_it there c.core_places-places.result.now (c.core_places-places.ensures ∙ ap (λ (s : ShapeOf). record { whole = clique_scope s k; part = core_scope s k }) c.deref-5.ensures)
+    let core = c.index-then-core_holds.result.now in
+    let sums = core_sums_there plus _ _ _ _ _ _ c.self.invariant k can.clique_is c.index-table.result.now is core c.index-then-core_holds.ensures c.index.result.now c.index.ensures c.if-index.true in
+    let within = subst (λ (s : ShapeOf). list_all (λ (q : Pair). in_core s.tree k q.variable) event ≡ true) c.deref-then-index.ensures (sym c.core_holds.ensures ∙ c.if-core_holds.true) in
+    core_total_room plus law _ _ _ _ c.self.invariant.kept k event c.index-table.result.now is c.refresh.new.product can.placing can.has can.clique_is can.holds_it there core sums within
 
-pub total_times-total-requires-clause-room : goal.total_times-total-requires-clause-room
-total_times-total-requires-clause-room g c =
-    let plus = g.R.Semiring.plus_of in let law = g.met.R.Semiring.lawful in let k = c.args.clique in let event = c.args.event.now in
-    let can = subst (λ (f : FlowOf). CanRead plus f k event) (sym c.self.view_is) c.requires in
-    let there = into_there plus _ k can.placing can.has can.right c.deref.result.now c.deref-2.result.now c.deref-3.result.now c.deref.ensures c.deref-2.ensures.value c.deref-3.ensures.value c.refresh.new.product c.refresh.ensures.into in
-    let is = table_is _ _ _ _ c.self.invariant.kept k can.clique_is c.index-table.result.now c.index-table.ensures in
-    total_room plus law _ _ _ _ c.self.invariant.kept k event c.index-table.result.now is c.refresh.new.product can.placing can.has can.clique_is can.holds_it there
-
-pub total_times-total-requires-clause-message_room : goal.total_times-total-requires-clause-message_room
-total_times-total-requires-clause-message_room g c =
+pub value_of-requires-clause-into_room : goal.value_of-requires-clause-into_room
+value_of-requires-clause-into_room g c =
     let plus = g.R.Semiring.plus_of in let law = g.met.R.Semiring.lawful in let k = c.args.clique in let event = c.args.event.now in
     let can = subst (λ (f : FlowOf). CanRead plus f k event) (sym c.self.view_is) c.requires in
     let there = into_there plus _ k can.placing can.has can.right c.deref.result.now c.deref-2.result.now c.deref-3.result.now c.deref.ensures c.deref-2.ensures.value c.deref-3.ensures.value c.refresh.new.product c.refresh.ensures.into in
     let is = table_is _ _ _ _ c.self.invariant.kept k can.clique_is c.index-table.result.now c.index-table.ensures in
     into_room plus law _ _ _ _ c.self.invariant.kept k event c.index-table.result.now is c.refresh.new.product can.placing can.has can.clique_is can.holds_it there
 
-pub overflow_add-shift : goal.overflow_add-shift
-overflow_add-shift g c =
-    let plus = g.R.Semiring.plus_of in let law = g.met.R.Semiring.lawful in let k = c.args.clique in let event = c.args.event.now in
-    let can = subst (λ (f : FlowOf). CanRead plus f k event) (sym c.self.view_is) c.requires in
-    let there = into_there plus _ k can.placing can.has can.right c.deref.result.now c.deref-2.result.now c.deref-3.result.now c.deref.ensures c.deref-2.ensures.value c.deref-3.ensures.value c.refresh.new.product c.refresh.ensures.into in
-    let is = table_is _ _ _ _ c.self.invariant.kept k can.clique_is c.index-table.result.now c.index-table.ensures in
-    let a = (total_room plus law _ _ _ _ c.self.invariant.kept k event c.index-table.result.now is c.refresh.new.product can.placing can.has can.clique_is can.holds_it there).small_shift in let b = (into_room plus law _ _ _ _ c.self.invariant.kept k event c.index-table.result.now is c.refresh.new.product can.placing can.has can.clique_is can.holds_it there).small_shift in omega (arith, a, b, c.shift.ensures, c.shift-2.ensures)
-
-pub of_cell-requires-clause-grade_at_least : goal.of_cell-requires-clause-grade_at_least
-of_cell-requires-clause-grade_at_least g c =
+pub value_of-requires-clause-grade_at_least : goal.value_of-requires-clause-grade_at_least
+value_of-requires-clause-grade_at_least g c =
     let plus = g.R.Semiring.plus_of in let law = g.met.R.Semiring.lawful in let k = c.args.clique in let event = c.args.event.now in
     let can = subst (λ (f : FlowOf). CanRead plus f k event) (sym c.self.view_is) c.requires in
     let there = into_there plus _ k can.placing can.has can.right c.deref.result.now c.deref-2.result.now c.deref-3.result.now c.deref.ensures c.deref-2.ensures.value c.deref-3.ensures.value c.refresh.new.product c.refresh.ensures.into in
     let is = table_is _ _ _ _ c.self.invariant.kept k can.clique_is c.index-table.result.now c.index-table.ensures in
     let l = some_cells plus law _ _ _ _ c.self.invariant.kept k event c.index-table.result.now is c.refresh.new.product can.placing can.has can.clique_is can.holds_it there in omega (arith, l, c.cells.ensures.cells)
 
-pub of_cell-requires-clause-grade_at_most : goal.of_cell-requires-clause-grade_at_most
-of_cell-requires-clause-grade_at_most g c =
+pub value_of-requires-clause-grade_at_most : goal.value_of-requires-clause-grade_at_most
+value_of-requires-clause-grade_at_most g c =
     let plus = g.R.Semiring.plus_of in let law = g.met.R.Semiring.lawful in let k = c.args.clique in let event = c.args.event.now in
     let can = subst (λ (f : FlowOf). CanRead plus f k event) (sym c.self.view_is) c.requires in
     let there = into_there plus _ k can.placing can.has can.right c.deref.result.now c.deref-2.result.now c.deref-3.result.now c.deref.ensures c.deref-2.ensures.value c.deref-3.ensures.value c.refresh.new.product c.refresh.ensures.into in
@@ -99,19 +98,63 @@ of_cell-requires-clause-grade_at_most g c =
     let count = c.cliques-separators.ensures.count ∙ ap (λ (s : ShapeOf). length s.tree.cliques) c.deref-4.ensures in
     let l = few_before plus law _ _ _ _ c.self.invariant.kept k event c.index-table.result.now is c.refresh.new.product can.placing can.has can.clique_is can.holds_it there in omega (arith, l, count, c.cells.ensures.few)
 
-pub of_cell-requires-clause-stands : goal.of_cell-requires-clause-stands
-of_cell-requires-clause-stands g c =
+pub value_of-requires-clause-total : goal.value_of-requires-clause-total
+value_of-requires-clause-total g c =
     let plus = g.R.Semiring.plus_of in let law = g.met.R.Semiring.lawful in let k = c.args.clique in let event = c.args.event.now in
     let can = subst (λ (f : FlowOf). CanRead plus f k event) (sym c.self.view_is) c.requires in
     let there = into_there plus _ k can.placing can.has can.right c.deref.result.now c.deref-2.result.now c.deref-3.result.now c.deref.ensures c.deref-2.ensures.value c.deref-3.ensures.value c.refresh.new.product c.refresh.ensures.into in
     let is = table_is _ _ _ _ c.self.invariant.kept k can.clique_is c.index-table.result.now c.index-table.ensures in
+    let core = c.index-then-core_holds.result.now in
+    let sums = core_sums_there plus _ _ _ _ _ _ c.self.invariant k can.clique_is c.index-table.result.now is core c.index-then-core_holds.ensures c.index.result.now c.index.ensures c.if-index.true in
+    let within = subst (λ (s : ShapeOf). list_all (λ (q : Pair). in_core s.tree k q.variable) event ≡ true) c.deref-then-index.ensures (sym c.core_holds.ensures ∙ c.if-core_holds.true) in
     let count = c.cliques-separators.ensures.count ∙ ap (λ (s : ShapeOf). length s.tree.cliques) c.deref-4.ensures in
     let grade = c.self.inside.factors + c.self.inside.cells + 2 * (c.cliques-separators.result - 1) + c.cells.result in
     let counted : grade ≡ c.self.inside.factors + c.self.inside.cells + 2 * (length c.self.inside.shape.value.tree.cliques - 1) + cells_in c.index-table.result.now.scope = omega (arith, count, c.cells.ensures.cells) in
-    (totalled plus law _ _ _ _ c.self.invariant.kept k event c.index-table.result.now is c.refresh.new.product can.placing can.has can.clique_is can.holds_it there, rw c.shift.ensures (rw c.shift-2.ensures (total_stands plus law _ _ _ _ c.self.invariant.kept k event c.index-table.result.now is c.refresh.new.product can.placing can.has can.clique_is can.holds_it there grade _ c.total_times-total.result.digits c.total_times-total.result.exponent counted c.total_times-total.ensures.stands)))
+    core_can_total plus law _ _ _ _ c.self.invariant.kept k event c.index-table.result.now is c.refresh.new.product can.placing can.has can.clique_is can.holds_it there core sums within grade counted
 
-pub of_cell-requires-clause-own : goal.of_cell-requires-clause-own
-of_cell-requires-clause-own g c = λ t.
+pub value_of-requires-2-clause-event : goal.value_of-requires-2-clause-event
+value_of-requires-2-clause-event g c =
+    let plus = g.R.Semiring.plus_of in let law = g.met.R.Semiring.lawful in let k = c.args.clique in let event = c.args.event.now in
+    let can = subst (λ (f : FlowOf). CanRead plus f k event) (sym c.self.view_is) c.requires in
+    let there = into_there plus _ k can.placing can.has can.right c.deref.result.now c.deref-2.result.now c.deref-3.result.now c.deref.ensures c.deref-2.ensures.value c.deref-3.ensures.value c.refresh.new.product c.refresh.ensures.into in
+    let is = table_is _ _ _ _ c.self.invariant.kept k can.clique_is c.index-table.result.now c.index-table.ensures in
+    event_there plus law _ _ _ _ c.self.invariant.kept k event c.index-table.result.now is c.refresh.new.product can.placing can.has can.clique_is can.holds_it there
+
+pub value_of-requires-2-clause-room : goal.value_of-requires-2-clause-room
+value_of-requires-2-clause-room g c =
+    let plus = g.R.Semiring.plus_of in let law = g.met.R.Semiring.lawful in let k = c.args.clique in let event = c.args.event.now in
+    let can = subst (λ (f : FlowOf). CanRead plus f k event) (sym c.self.view_is) c.requires in
+    let there = into_there plus _ k can.placing can.has can.right c.deref.result.now c.deref-2.result.now c.deref-3.result.now c.deref.ensures c.deref-2.ensures.value c.deref-3.ensures.value c.refresh.new.product c.refresh.ensures.into in
+    let is = table_is _ _ _ _ c.self.invariant.kept k can.clique_is c.index-table.result.now c.index-table.ensures in
+    total_room plus law _ _ _ _ c.self.invariant.kept k event c.index-table.result.now is c.refresh.new.product can.placing can.has can.clique_is can.holds_it there
+
+pub value_of-requires-2-clause-into_room : goal.value_of-requires-2-clause-into_room
+value_of-requires-2-clause-into_room g c =
+    let plus = g.R.Semiring.plus_of in let law = g.met.R.Semiring.lawful in let k = c.args.clique in let event = c.args.event.now in
+    let can = subst (λ (f : FlowOf). CanRead plus f k event) (sym c.self.view_is) c.requires in
+    let there = into_there plus _ k can.placing can.has can.right c.deref.result.now c.deref-2.result.now c.deref-3.result.now c.deref.ensures c.deref-2.ensures.value c.deref-3.ensures.value c.refresh.new.product c.refresh.ensures.into in
+    let is = table_is _ _ _ _ c.self.invariant.kept k can.clique_is c.index-table.result.now c.index-table.ensures in
+    into_room plus law _ _ _ _ c.self.invariant.kept k event c.index-table.result.now is c.refresh.new.product can.placing can.has can.clique_is can.holds_it there
+
+pub value_of-requires-2-clause-grade_at_least : goal.value_of-requires-2-clause-grade_at_least
+value_of-requires-2-clause-grade_at_least g c =
+    let plus = g.R.Semiring.plus_of in let law = g.met.R.Semiring.lawful in let k = c.args.clique in let event = c.args.event.now in
+    let can = subst (λ (f : FlowOf). CanRead plus f k event) (sym c.self.view_is) c.requires in
+    let there = into_there plus _ k can.placing can.has can.right c.deref.result.now c.deref-2.result.now c.deref-3.result.now c.deref.ensures c.deref-2.ensures.value c.deref-3.ensures.value c.refresh.new.product c.refresh.ensures.into in
+    let is = table_is _ _ _ _ c.self.invariant.kept k can.clique_is c.index-table.result.now c.index-table.ensures in
+    let l = some_cells plus law _ _ _ _ c.self.invariant.kept k event c.index-table.result.now is c.refresh.new.product can.placing can.has can.clique_is can.holds_it there in omega (arith, l, c.cells.ensures.cells)
+
+pub value_of-requires-2-clause-grade_at_most : goal.value_of-requires-2-clause-grade_at_most
+value_of-requires-2-clause-grade_at_most g c =
+    let plus = g.R.Semiring.plus_of in let law = g.met.R.Semiring.lawful in let k = c.args.clique in let event = c.args.event.now in
+    let can = subst (λ (f : FlowOf). CanRead plus f k event) (sym c.self.view_is) c.requires in
+    let there = into_there plus _ k can.placing can.has can.right c.deref.result.now c.deref-2.result.now c.deref-3.result.now c.deref.ensures c.deref-2.ensures.value c.deref-3.ensures.value c.refresh.new.product c.refresh.ensures.into in
+    let is = table_is _ _ _ _ c.self.invariant.kept k can.clique_is c.index-table.result.now c.index-table.ensures in
+    let count = c.cliques-separators.ensures.count ∙ ap (λ (s : ShapeOf). length s.tree.cliques) c.deref-4.ensures in
+    let l = few_before plus law _ _ _ _ c.self.invariant.kept k event c.index-table.result.now is c.refresh.new.product can.placing can.has can.clique_is can.holds_it there in omega (arith, l, count, c.cells.ensures.few)
+
+pub value_of-requires-2-clause-total : goal.value_of-requires-2-clause-total
+value_of-requires-2-clause-total g c =
     let plus = g.R.Semiring.plus_of in let law = g.met.R.Semiring.lawful in let k = c.args.clique in let event = c.args.event.now in
     let can = subst (λ (f : FlowOf). CanRead plus f k event) (sym c.self.view_is) c.requires in
     let there = into_there plus _ k can.placing can.has can.right c.deref.result.now c.deref-2.result.now c.deref-3.result.now c.deref.ensures c.deref-2.ensures.value c.deref-3.ensures.value c.refresh.new.product c.refresh.ensures.into in
@@ -119,9 +162,7 @@ of_cell-requires-clause-own g c = λ t.
     let count = c.cliques-separators.ensures.count ∙ ap (λ (s : ShapeOf). length s.tree.cliques) c.deref-4.ensures in
     let grade = c.self.inside.factors + c.self.inside.cells + 2 * (c.cliques-separators.result - 1) + c.cells.result in
     let counted : grade ≡ c.self.inside.factors + c.self.inside.cells + 2 * (length c.self.inside.shape.value.tree.cliques - 1) + cells_in c.index-table.result.now.scope = omega (arith, count, c.cells.ensures.cells) in
-    let none = and_parts (is_untouched c.index-table.result.now event) (is_untouched c.refresh.new.product event) (sym c.are_untouched-untouched.ensures ∙ t) in
-    let own = total_own plus law _ _ _ _ c.self.invariant.kept k event c.index-table.result.now is c.refresh.new.product can.placing can.has can.clique_is can.holds_it there grade _ c.total_times-total.result.digits c.total_times-total.result.exponent counted (c.total_times-total.ensures.own none.0 none.1) in
-    (own.own, own.stands)
+    can_total plus law _ _ _ _ c.self.invariant.kept k event c.index-table.result.now is c.refresh.new.product can.placing can.has can.clique_is can.holds_it there grade counted
 
 pub invariant_of-self : goal.invariant_of-self
 invariant_of-self g c =
@@ -129,6 +170,33 @@ invariant_of-self g c =
     let can = subst (λ (f : FlowOf). CanRead plus f k event) (sym c.self.view_is) c.requires in
     flow_after plus _ _ _ _ _ _ c.self.invariant k can.clique_is c.deref.result.now c.deref.ensures c.deref-2.result.now c.deref-3.result.now c.deref-2.ensures.value c.deref-3.ensures.value
     c.index_mut-into.result.now c.index_mut-into.ensures.value c.refresh.new.product c.refresh.new.current c.refresh.ensures.scope c.refresh.ensures.into
+
+pub invariant_of-self-2 : goal.invariant_of-self-2
+invariant_of-self-2 g c =
+    let plus = g.R.Semiring.plus_of in let law = g.met.R.Semiring.lawful in let k = c.args.clique in let event = c.args.event.now in
+    let can = subst (λ (f : FlowOf). CanRead plus f k event) (sym c.self.view_is) c.requires in
+    flow_after plus _ _ _ _ _ _ c.self.invariant k can.clique_is c.deref.result.now c.deref.ensures c.deref-2.result.now c.deref-3.result.now c.deref-2.ensures.value c.deref-3.ensures.value
+    c.index_mut-into.result.now c.index_mut-into.ensures.value c.refresh.new.product c.refresh.new.current c.refresh.ensures.scope c.refresh.ensures.into
+
+pub returns-then-core_holds-clause-reading : goal.returns-then-core_holds-clause-reading
+returns-then-core_holds-clause-reading g c = λ p h r.
+    let R = g.R.Semiring in
+    let plus = g.R.Semiring.plus_of in let law = g.met.R.Semiring.lawful in let k = c.args.clique in let event = c.args.event.now in
+    let can = subst (λ (f : FlowOf). CanRead plus f k event) (sym c.self.view_is) c.requires in
+    let has = subst (λ (f : FlowOf). HasPlaced f p) (sym c.self.view_is) h in
+    let right = subst (λ (f : FlowOf). AreRightInto plus f p k) (sym c.self.view_is) r in
+    let there = into_there plus _ k p has right c.deref.result.now c.deref-2.result.now c.deref-3.result.now c.deref.ensures c.deref-2.ensures.value c.deref-3.ensures.value c.refresh.new.product c.refresh.ensures.into in
+    let is = table_is _ _ _ _ c.self.invariant.kept k can.clique_is c.index-table.result.now c.index-table.ensures in
+    let core = c.index-then-core_holds.result.now in
+    let sums = core_sums_there plus _ _ _ _ _ _ c.self.invariant k can.clique_is c.index-table.result.now is core c.index-then-core_holds.ensures c.index.result.now c.index.ensures c.if-index.true in
+    let within = subst (λ (s : ShapeOf). list_all (λ (q : Pair). in_core s.tree k q.variable) event ≡ true) c.deref-then-index.ensures (sym c.core_holds.ensures ∙ c.if-core_holds.true) in
+    let count = c.cliques-separators.ensures.count ∙ ap (λ (s : ShapeOf). length s.tree.cliques) c.deref-4.ensures in
+    let grade = c.self.inside.factors + c.self.inside.cells + 2 * (c.cliques-separators.result - 1) + c.cells.result in
+    let counted : grade ≡ c.self.inside.factors + c.self.inside.cells + 2 * (length c.self.inside.shape.value.tree.cliques - 1) + cells_in c.index-table.result.now.scope = omega (arith, count, c.cells.ensures.cells) in
+    let t = core_can_total plus law _ _ _ _ c.self.invariant.kept k event c.index-table.result.now is c.refresh.new.product p has can.clique_is can.holds_it there core sums within grade counted in
+    subst (λ (f : FlowOf). IsReading R.encloses R.has_grade R.is_exact plus f.shape.tree p k event c.value_of.result) c.self.view_is
+    (core_reading_of plus law _ _ _ _ c.self.invariant.kept k event c.index-table.result.now is c.refresh.new.product p has can.clique_is can.holds_it there core sums within R.encloses R.has_grade R.is_exact c.value_of.result grade counted
+    (c.value_of.ensures.value t.numbers t.others t.steps t.other_steps t.has t.has_others t.within) c.value_of.ensures.grade (c.value_of.ensures.exact t.numbers t.others t.steps t.other_steps t.has t.has_others t.within))
 
 pub returns-clause-reading : goal.returns-clause-reading
 returns-clause-reading g c = λ p h r.
@@ -142,12 +210,7 @@ returns-clause-reading g c = λ p h r.
     let count = c.cliques-separators.ensures.count ∙ ap (λ (s : ShapeOf). length s.tree.cliques) c.deref-4.ensures in
     let grade = c.self.inside.factors + c.self.inside.cells + 2 * (c.cliques-separators.result - 1) + c.cells.result in
     let counted : grade ≡ c.self.inside.factors + c.self.inside.cells + 2 * (length c.self.inside.shape.value.tree.cliques - 1) + cells_in c.index-table.result.now.scope = omega (arith, count, c.cells.ensures.cells) in
-    let v = totalled plus law _ _ _ _ c.self.invariant.kept k event c.index-table.result.now is c.refresh.new.product p has can.clique_is can.holds_it there in
-    let stands = rw (sym c.shift-2.ensures) at (rw (sym c.shift.ensures) at (total_stands plus law _ _ _ _ c.self.invariant.kept k event c.index-table.result.now is c.refresh.new.product p has can.clique_is can.holds_it there grade _ c.total_times-total.result.digits c.total_times-total.result.exponent counted c.total_times-total.ensures.stands)) in
-    let own : IsTrue c.are_untouched-untouched.result → IsOwnAt (c.shift.result + c.shift-2.result) c.total_times-total.result.digits c.total_times-total.result.exponent v (3 * grade) =
-    λ t.
-    let none = and_parts (is_untouched c.index-table.result.now event) (is_untouched c.refresh.new.product event) (sym c.are_untouched-untouched.ensures ∙ t) in
-    rw (sym c.shift-2.ensures) at (rw (sym c.shift.ensures) at (total_own plus law _ _ _ _ c.self.invariant.kept k event c.index-table.result.now is c.refresh.new.product p has can.clique_is can.holds_it there grade _ c.total_times-total.result.digits c.total_times-total.result.exponent counted (c.total_times-total.ensures.own none.0 none.1))) in
-    subst (λ (f : FlowOf). IsReading R.encloses R.has_grade R.is_exact plus f.shape.tree p k event c.of_cell.result) c.self.view_is
-    (reading_of plus law _ _ _ _ c.self.invariant.kept k event c.index-table.result.now is c.refresh.new.product p has can.clique_is can.holds_it there R.encloses R.has_grade R.is_exact c.of_cell.result grade counted
-    (c.of_cell.ensures.value v stands own) c.of_cell.ensures.grade (c.of_cell.ensures.exact v stands))
+    let t = can_total plus law _ _ _ _ c.self.invariant.kept k event c.index-table.result.now is c.refresh.new.product p has can.clique_is can.holds_it there grade counted in
+    subst (λ (f : FlowOf). IsReading R.encloses R.has_grade R.is_exact plus f.shape.tree p k event c.value_of-2.result) c.self.view_is
+    (reading_of plus law _ _ _ _ c.self.invariant.kept k event c.index-table.result.now is c.refresh.new.product p has can.clique_is can.holds_it there R.encloses R.has_grade R.is_exact c.value_of-2.result grade counted
+    (c.value_of-2.ensures.value t.numbers t.others t.steps t.other_steps t.has t.has_others t.within) c.value_of-2.ensures.grade (c.value_of-2.ensures.exact t.numbers t.others t.steps t.other_steps t.has t.has_others t.within))

@@ -1,0 +1,52 @@
+use Rattle.std.proofs.Common.{◌+◌, ◌*◌, IsTrue, sym, arith, ◌∙◌}
+use Rattle.std.proofs.lemmas.Bool.{and_parts}
+use Rattle.mk_cell.specs.Cell.{IsOwnAt}
+use Rattle.mk_cell.specs.inner.Laws.{stands_with_more}
+use Rattle.mk_table.specs.Scopes.{cells_in}
+use Rattle.mk_table.specs.Tables.{is_untouched}
+use Rattle.mk_table.proofs.Owned.{own_more}
+use Rattle.mk_propagate.specs.inner.Totals.{total_of}
+use Rattle.mk_propagate.proofs.read.value_of.Goals as goal
+
+pub overflow_add-shift : goal.overflow_add-shift
+overflow_add-shift g c = omega (arith, c.requires.room.small_shift, c.requires.into_room.small_shift, c.shift.ensures, c.shift-2.ensures)
+
+pub of_cell-requires-clause-stands : goal.of_cell-requires-clause-stands
+of_cell-requires-clause-stands g c =
+    let table = c.args.table.now in let h = c.requires.total in let q = c.total_times-total.result.digits in let x = c.total_times-total.result.exponent in
+    let v = total_of g.R.Semiring.plus_of table c.args.into.now c.args.event.now h.numbers h.others in (
+      v,
+      rw c.shift.ensures (rw c.shift-2.ensures
+          (stands_with_more (table.shift + c.args.into.now.shift) q x v (h.steps + h.other_steps + 2 * cells_in table.scope + 1) (3 * c.args.grade) h.within
+          (c.total_times-total.ensures.stands h.numbers h.others h.steps h.other_steps h.has h.has_others))),
+    )
+
+pub of_cell-requires-clause-own : goal.of_cell-requires-clause-own
+of_cell-requires-clause-own g c = λ t.
+    let table = c.args.table.now in let h = c.requires.total in let q = c.total_times-total.result.digits in let x = c.total_times-total.result.exponent in
+    let v = total_of g.R.Semiring.plus_of table c.args.into.now c.args.event.now h.numbers h.others in
+    let none = and_parts (is_untouched table c.args.event.now) (is_untouched c.args.into.now c.args.event.now) (sym c.are_untouched-untouched.ensures ∙ t) in
+    let own = own_more (table.shift + c.args.into.now.shift) q x v (h.steps + h.other_steps + 2 * cells_in table.scope + 1) (3 * c.args.grade) h.within
+    (c.total_times-total.ensures.own none.0 none.1 h.numbers h.others h.steps h.other_steps h.has h.has_others) in
+    (own.own, own.stands)
+
+pub returns-clause-value : goal.returns-clause-value
+returns-clause-value g c = λ f h n p has other few.
+    let table = c.args.table.now in let q = c.total_times-total.result.digits in let x = c.total_times-total.result.exponent in
+    let v = total_of g.R.Semiring.plus_of table c.args.into.now c.args.event.now f h in
+    let stands = rw (sym c.shift-2.ensures) at (rw (sym c.shift.ensures) at
+    (stands_with_more (table.shift + c.args.into.now.shift) q x v (n + p + 2 * cells_in table.scope + 1) (3 * c.args.grade) few (c.total_times-total.ensures.stands f h n p has other))) in
+    let own : IsTrue c.are_untouched-untouched.result → IsOwnAt (c.shift.result + c.shift-2.result) q x v (3 * c.args.grade) =
+    λ t.
+    let none = and_parts (is_untouched table c.args.event.now) (is_untouched c.args.into.now c.args.event.now) (sym c.are_untouched-untouched.ensures ∙ t) in
+    rw (sym c.shift-2.ensures) at (rw (sym c.shift.ensures) at
+    (own_more (table.shift + c.args.into.now.shift) q x v (n + p + 2 * cells_in table.scope + 1) (3 * c.args.grade) few (c.total_times-total.ensures.own none.0 none.1 f h n p has other))) in
+    c.of_cell.ensures.value v stands own
+
+pub returns-clause-exact : goal.returns-clause-exact
+returns-clause-exact g c = λ f h n p has other few small.
+    let table = c.args.table.now in let q = c.total_times-total.result.digits in let x = c.total_times-total.result.exponent in
+    let v = total_of g.R.Semiring.plus_of table c.args.into.now c.args.event.now f h in
+    let stands = rw (sym c.shift-2.ensures) at (rw (sym c.shift.ensures) at
+    (stands_with_more (table.shift + c.args.into.now.shift) q x v (n + p + 2 * cells_in table.scope + 1) (3 * c.args.grade) few (c.total_times-total.ensures.stands f h n p has other))) in
+    c.of_cell.ensures.exact v stands small
