@@ -12,10 +12,10 @@ use Rattle.mk_table.specs.inner.Columns.{IsColumn, IsKept}
 use Rattle.mk_table.proofs.Values.{place_below}
 
 -- the column of a variable of the scope
-pub column_at : (kept scope : ScopeOf) (count : ℕ) (starts columns : List ℕ) → IsKept kept count starts columns → kept ≡ scope
-    → (x c : ℕ) → has_variable scope x ≡ true → c < cells_in scope → IsColumn (size_in scope) scope.variables starts columns x c
-column_at kept scope count starts columns h e x c =
-    subst (λ (s : ScopeOf). has_variable s x ≡ true → c < cells_in s → IsColumn (size_in s) s.variables starts columns x c) e (h.have x c)
+pub column_at : (kept scope : ScopeOf) (count first : ℕ) (starts columns : List ℕ) → IsKept kept count first starts columns → kept ≡ scope
+    → (x c : ℕ) → has_variable scope x ≡ true → c < cells_in scope → IsColumn (size_in scope) scope.variables first starts columns x c
+column_at kept scope count first starts columns h e x c =
+    subst (λ (s : ScopeOf). has_variable s x ≡ true → c < cells_in s → IsColumn (size_in s) s.variables first starts columns x c) e (h.have x c)
 
 -- the value of a cell of another scope is one of the variable's
 pub value_in : (part whole : ScopeOf) → LiesIn part whole → (c : ℕ) → c < cells_in whole → (x : ℕ) → has_variable part x ≡ true → values_at whole c x < size_in part x

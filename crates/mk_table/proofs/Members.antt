@@ -1,10 +1,9 @@
 -- The variables of a set in rising order, and their sizes by their place in the list.
-use Rattle.std.proofs.Common.{◌≡◌, ℕ, suc, zero, ◌+◌, ◌<◌, ◌≤◌, Bool, true, false, cond, not, ◌||◌, ◌⊎◌, inl, inr, List, [], ◌∷◌, ◌++◌, map, length, get_or, slice_index, slice_index_or, All, refl, sym, ap, subst, ◌∙◌, arith, eq-eqb, ne_eqb, ◌==◌}
+use Rattle.std.proofs.Common.{◌≡◌, ℕ, suc, zero, ◌+◌, ◌-◌, ◌<◌, ◌≤◌, Bool, true, false, cond, not, ◌&&◌, ◌||◌, ◌⊎◌, inl, inr, List, [], ◌∷◌, ◌++◌, map, length, get_or, slice_index, slice_index_or, All, refl, sym, ap, subst, ◌∙◌, arith, eq-eqb, ne_eqb, ◌==◌}
 use Rattle.std.specs.List.{range_with_len, position_or_len}
-use Rattle.std.proofs.lemmas.Bool.{cases_eq, cases_lt, both_ways}
+use Rattle.std.proofs.lemmas.Bool.{cases_eq, cases_lt, both_ways, and_right}
 use Rattle.std.proofs.lemmas.List.{get_or_default, get_or_past}
 use Rattle.std.proofs.lemmas.List.Elements.{All-nil, All-cons, All-head, All-tail, All-weaker}
-use Rattle.mk_exact.specs.States.{numbers_below}
 use Rattle.mk_sums.specs.Sums.{listed}
 use Rattle.mk_sums.specs.Cells.{keep, Apart}
 use Rattle.mk_table.specs.Scopes.{ScopeOf, IsScope, Rising, size_in}
@@ -15,33 +14,64 @@ range_more a (suc n) =
     let e : a + 1 + n ≡ a + suc n = omega arith in
     ap (λ xs. a ∷ xs) (range_more (a + 1) n ∙ ap (λ x. range_with_len (a + 1) n ++ x ∷ []) e)
 
-keep-append : (set : ℕ → Bool) (xs ys : List ℕ) → keep set (xs ++ ys) ≡ keep set xs ++ keep set ys
-keep-append set [] ys = refl
-keep-append set (x ∷ xs) ys = at (set x) (keep-append set xs ys)
+-- tests that agree from a number on keep the same
+same_kept : (p q : ℕ → Bool) (a n : ℕ) → ((y : ℕ) → a ≤ y → p y ≡ q y) → keep p (range_with_len a n) ≡ keep q (range_with_len a n)
+same_kept p q a zero same = refl
+same_kept p q a (suc n) same =
+    ap (λ b. cond b (a ∷ keep p (range_with_len (a + 1) n)) (keep p (range_with_len (a + 1) n))) (same a (omega arith))
+    ∙ ap (λ (xs : List ℕ). cond (q a) (a ∷ xs) xs) (same_kept p q (a + 1) n (λ y past. same y (omega (arith, past))))
+
+pub none_kept : (p : ℕ → Bool) (a n : ℕ) → ((y : ℕ) → p y ≡ false) → keep p (range_with_len a n) ≡ []
+none_kept p a zero none = refl
+none_kept p a (suc n) none = ap (λ b. cond b (a ∷ keep p (range_with_len (a + 1) n)) (keep p (range_with_len (a + 1) n))) (none a) ∙ none_kept p (a + 1) n none
+
+-- a set's first variable, and the set without it
+pub record IsFirstOf (left : ℕ → Bool) (x : ℕ) (rest : ℕ → Bool) : Type 0 where
+  pub member : left x ≡ true
+  pub least : (y : ℕ) → y < x → left y ≡ false
+  pub gone : rest x ≡ false
+  pub others : (y : ℕ) → (y ≡ x → ⊥) → rest y ≡ left y
+
+pub first_taken : (none one left rest : ℕ → Bool) (x : ℕ) → left x ≡ true → ((y : ℕ) → y < x → left y ≡ false) → ((y : ℕ) → none y ≡ false)
+    → ((y : ℕ) → one y ≡ (y == x) || none y) → ((y : ℕ) → rest y ≡ left y && not (one y)) → IsFirstOf left x rest
+first_taken none one left rest x member least empty is_one without = record {
+  member = member;
+  least = least;
+  gone = without x ∙ and_right (left x) (not (one x)) (ap not (is_one x ∙ ap (λ b. b || none x) (eq-eqb x x refl)));
+  others = λ y d. without y ∙ ap (λ b. left y && not b) (is_one y ∙ ap (λ b. b || none y) (ne_eqb y x d) ∙ empty y) ∙ and_true (left y);
+}
   where
-    at : (b : Bool) → keep set (xs ++ ys) ≡ keep set xs ++ keep set ys
-        → cond b (x ∷ keep set (xs ++ ys)) (keep set (xs ++ ys)) ≡ cond b (x ∷ keep set xs) (keep set xs) ++ keep set ys
-    at true ih = ap (λ zs. x ∷ zs) ih
-    at false ih = ih
+    and_true : (b : Bool) → (b && true) ≡ b
+    and_true true = refl
+    and_true false = refl
 
--- one number more
-pub keep_more : (set : ℕ → Bool) (n : ℕ) → keep set (numbers_below (n + 1)) ≡ keep set (numbers_below n) ++ cond (set n) (n ∷ []) []
-keep_more set n =
-    let e : n + 1 ≡ suc n = omega arith in
-    let z : 0 + n ≡ n = omega arith in
-    ap (λ k. keep set (range_with_len 0 k)) e
-    ∙ ap (keep set) (range_more 0 n ∙ ap (λ x. range_with_len 0 n ++ x ∷ []) z)
-    ∙ keep-append set (range_with_len 0 n) (n ∷ [])
+-- what is left behind the first was there
+pub first_within : (left rest : ℕ → Bool) (x : ℕ) → IsFirstOf left x rest → (y : ℕ) → rest y ≡ true → left y ≡ true
+first_within left rest x first y member = at (cases_eq y x)
+  where
+    at : ((y ≡ x) ⊎ (y ≡ x → ⊥)) → left y ≡ true
+    at (inl e) = absurd (both_ways (rest x) first.gone (ap rest (sym e) ∙ member))
+    at (inr d) = sym (first.others y d) ∙ member
 
-pub keep_in : (set : ℕ → Bool) (n : ℕ) → set n ≡ true → keep set (numbers_below (n + 1)) ≡ keep set (numbers_below n) ++ n ∷ []
-keep_in set n h = keep_more set n ∙ ap (λ b. keep set (numbers_below n) ++ cond b (n ∷ []) []) h
+pub first_kept : (left rest : ℕ → Bool) (a n x : ℕ) → a ≤ x → x < a + n → IsFirstOf left x rest → keep left (range_with_len a n) ≡ x ∷ keep rest (range_with_len a n)
+first_kept left rest a zero x low high first = absurd (omega (arith, low, high))
+first_kept left rest a (suc n) x low high first = at (cases_eq x a) (λ later. first_kept left rest (a + 1) n x later (omega (arith, high)) first)
+  where
+    with_next : Bool → List ℕ → List ℕ
+    with_next b xs = cond b (a ∷ xs) xs
 
-append_none : (xs : List ℕ) → xs ++ [] ≡ xs
-append_none [] = refl
-append_none (x ∷ xs) = ap (λ ys. x ∷ ys) (append_none xs)
-
-pub keep_out : (set : ℕ → Bool) (n : ℕ) → set n ≡ false → keep set (numbers_below (n + 1)) ≡ keep set (numbers_below n)
-keep_out set n h = keep_more set n ∙ ap (λ b. keep set (numbers_below n) ++ cond b (n ∷ []) []) h ∙ append_none (keep set (numbers_below n))
+    at : ((x ≡ a) ⊎ (x ≡ a → ⊥)) → (a + 1 ≤ x → keep left (range_with_len (a + 1) n) ≡ x ∷ keep rest (range_with_len (a + 1) n))
+        → with_next (left a) (keep left (range_with_len (a + 1) n)) ≡ x ∷ with_next (rest a) (keep rest (range_with_len (a + 1) n))
+    at (inl here) ih =
+        ap (λ b. with_next b (keep left (range_with_len (a + 1) n))) (ap left (sym here) ∙ first.member)
+        ∙ ap (λ (k : ℕ). k ∷ keep left (range_with_len (a + 1) n)) (sym here)
+        ∙ ap (λ (xs : List ℕ). x ∷ xs) (same_kept left rest (a + 1) n (λ y past. sym (first.others y (λ e. omega (arith, e, past, here)))))
+        ∙ ap (λ b. x ∷ with_next b (keep rest (range_with_len (a + 1) n))) (sym (ap rest (sym here) ∙ first.gone))
+    at (inr other) ih =
+        let below : left a ≡ false = first.least a (omega (arith, low, other)) in
+        ap (λ b. with_next b (keep left (range_with_len (a + 1) n))) below
+        ∙ ih (omega (arith, low, other))
+        ∙ ap (λ b. x ∷ with_next b (keep rest (range_with_len (a + 1) n))) (sym (first.others a (λ e. other (sym e)) ∙ below))
 
 -- all of them from a on, and below the end
 keep_above : (set : ℕ → Bool) (a n : ℕ) → All (λ y. a ≤ y) (keep set (range_with_len a n))
@@ -92,6 +122,18 @@ rising_at [] h k i p q = absurd (omega arith)
 rising_at (x ∷ xs) h k zero p q = absurd (omega arith)
 rising_at (x ∷ xs) h zero (suc i) p q = h.0 i 0 (omega arith)
 rising_at (x ∷ xs) h (suc k) (suc i) p q = rising_at xs h.1 k i (omega arith) (omega arith)
+
+-- each variable lies between the first and the last
+pub rising_within : (xs : List ℕ) → Rising xs → (i : ℕ) → i < length xs → (get_or xs 0 0 ≤ get_or xs i 0) × (get_or xs i 0 ≤ get_or xs (length xs - 1) 0)
+rising_within xs h i p = (low (cases_eq i 0), high (cases_eq i (length xs - 1)))
+  where
+    low : ((i ≡ 0) ⊎ (i ≡ 0 → ⊥)) → get_or xs 0 0 ≤ get_or xs i 0
+    low (inl e) = let s = ap (λ k. get_or xs k 0) e in omega (arith, s)
+    low (inr d) = let l = rising_at xs h 0 i (omega (arith, d)) p in omega (arith, l)
+
+    high : ((i ≡ length xs - 1) ⊎ (i ≡ length xs - 1 → ⊥)) → get_or xs i 0 ≤ get_or xs (length xs - 1) 0
+    high (inl e) = let s = ap (λ k. get_or xs k 0) e in omega (arith, s)
+    high (inr d) = let l = rising_at xs h i (length xs - 1) (omega (arith, d, p)) (omega (arith, p)) in omega (arith, l)
 
 -- the size at a variable's place
 place_first : (x y : ℕ) (xs : List ℕ) → y ≡ x → position_or_len (λ z. z == x) (y ∷ xs) ≡ 0

@@ -45,15 +45,15 @@ module _ (network : List Variable) (net : IsNetwork network) (set : VarSet) wher
     few_cells = few;
   }
 
-  pub kept_of : cells_in (scope_of network set) ≤ max_clique_cells → (count : ℕ) (starts columns : List ℕ) → count ≡ cells (slice_index (sizes network)) held
-      → HaveColumns (slice_index (sizes network)) held held starts columns → IsKept (scope_of network set) count starts columns
-  kept_of few count starts columns e have = record {
+  pub kept_of : cells_in (scope_of network set) ≤ max_clique_cells → (count first : ℕ) (starts columns : List ℕ) → count ≡ cells (slice_index (sizes network)) held
+      → HaveColumns (slice_index (sizes network)) held held first starts columns → IsKept (scope_of network set) count first starts columns
+  kept_of few count first starts columns e have = record {
     scope_is = scope_is few;
     counted = e ∙ sym cells_are;
     have = at;
   }
     where
-      at : HaveColumns (size_in (scope_of network set)) held held starts columns
+      at : HaveColumns (size_in (scope_of network set)) held held first starts columns
       at x c p q =
           let o = have x c p (omega (arith, cells_are)) in
-          record { started = o.started; within = o.within; value = o.value ∙ sym (place_same (size_in (scope_of network set)) (slice_index (sizes network)) held same_size c (λ y. 0) x) }
+          record { reached = o.reached; started = o.started; within = o.within; value = o.value ∙ sym (place_same (size_in (scope_of network set)) (slice_index (sizes network)) held same_size c (λ y. 0) x) }

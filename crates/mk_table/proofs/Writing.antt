@@ -1,5 +1,5 @@
 -- Columns written one after the other.
-use Rattle.std.proofs.Common.{◌≡◌, ℕ, zero, suc, ◌+◌, ◌*◌, ◌/◌, ◌%◌, ◌<◌, ◌≤◌, replicate, true, false, ◌||◌, ◌⊎◌, inl, inr, eqb, List, [], ◌∷◌, ◌++◌, map, length, get_or, set, take, drop, slice_index, All, refl, sym, ap, subst, ◌∙◌, arith, add-one, length-append, append_assoc}
+use Rattle.std.proofs.Common.{◌≡◌, ℕ, zero, suc, ◌+◌, ◌-◌, ◌*◌, ◌/◌, ◌%◌, ◌<◌, ◌≤◌, replicate, true, false, ◌||◌, ◌⊎◌, inl, inr, eqb, List, [], ◌∷◌, ◌++◌, map, length, get_or, set, take, drop, slice_index, All, refl, sym, ap, subst, ◌∙◌, arith, add-one, length-append, append_assoc}
 use Rattle.std.proofs.Math.Nat.{le-mul_of_pos_right, mul-le-mul_right, div-add-mod'}
 use Rattle.std.proofs.lemmas.Nat.{div-mul-add, mod-mul-add, mod_below}
 use Rattle.std.proofs.lemmas.Bool.{cases_eq, both_ways, or_cases, or_left, or_right, eqb-true}
@@ -97,10 +97,10 @@ module _ (size : ℕ → ℕ) (xs : List ℕ) (bounds : (x : ℕ) → listed xs 
       at (inl e) ih = or_left (eqb y z) (listed ys y) e
       at (inr p) ih = or_right (eqb y z) (listed ys y) (ih p)
 
-  pub more_columns : Apart xs → (i span stride : ℕ) (starts columns : List ℕ) → i < length xs → span ≡ cells size (drop i xs) → stride ≡ cells size (drop (i + 1) xs)
-      → get_or xs i 0 < length starts → HaveColumns size xs (take i xs) starts columns
-      → HaveColumns size xs (take (i + 1) xs) (set starts (get_or xs i 0) (length columns)) (columns ++ map (λ c. c % span / stride) (numbers_below (cells size xs)))
-  more_columns apart i span stride starts columns h e f l have y c p q = at (cases_eq y x)
+  pub more_columns : Apart xs → (i span stride first : ℕ) (starts columns : List ℕ) → i < length xs → span ≡ cells size (drop i xs) → stride ≡ cells size (drop (i + 1) xs)
+      → first ≤ get_or xs i 0 → get_or xs i 0 - first < length starts → HaveColumns size xs (take i xs) first starts columns
+      → HaveColumns size xs (take (i + 1) xs) first (set starts (get_or xs i 0 - first) (length columns)) (columns ++ map (λ c. c % span / stride) (numbers_below (cells size xs)))
+  more_columns apart i span stride first starts columns h e f b l have y c p q = at (cases_eq y x)
     where
       x : ℕ
       x = get_or xs i 0
@@ -109,7 +109,7 @@ module _ (size : ℕ → ℕ) (xs : List ℕ) (bounds : (x : ℕ) → listed xs 
       column = map (λ c. c % span / stride) (numbers_below (cells size xs))
 
       written : List ℕ
-      written = set starts x (length columns)
+      written = set starts (x - first) (length columns)
 
       long : length column ≡ cells size xs
       long = length-map-range_with_len (λ c. c % span / stride) 0 (cells size xs)
@@ -120,30 +120,33 @@ module _ (size : ℕ → ℕ) (xs : List ℕ) (bounds : (x : ℕ) → listed xs 
       read : get_or column c 0 ≡ c % span / stride
       read = get_or-map-range_with_len (λ c. c % span / stride) 0 (cells size xs) c c 0 q (omega arith)
 
-      there : slice_index written x ≡ length columns
-      there = get_or-set_same starts x (length columns) 0 l
+      there : slice_index written (x - first) ≡ length columns
+      there = get_or-set_same starts (x - first) (length columns) 0 l
 
-      here : IsColumn size xs written (columns ++ column) x c
+      here : IsColumn size xs first written (columns ++ column) x c
       here = record {
+        reached = b;
         started = rw length-set l;
         within = omega (arith, there, both);
         value = ap (λ s. slice_index (columns ++ column) (s + c)) there ∙ get_or-append-add columns column c 0 ∙ read
             ∙ ap (λ n. c % n / stride) e ∙ ap (λ n. c % cells size (drop i xs) / n) (f ∙ ap (λ k. cells size (drop k xs)) (add-one i)) ∙ sym (place_at size xs apart i c (λ y. 0) h q);
       }
 
-      other : (y ≡ x → ⊥) → IsColumn size xs written (columns ++ column) y c
+      other : (y ≡ x → ⊥) → IsColumn size xs first written (columns ++ column) y c
       other d =
           let o = have y c (listed_push (take i xs) x y (subst (λ (ys : List ℕ). listed ys y ≡ true) (take_more xs i 0 h) p) d) q in
-          let s : slice_index written y ≡ slice_index starts y = get_or-set_other starts x y (length columns) 0 d in
+          let elsewhere : y - first ≡ x - first → ⊥ = λ k. d (omega (arith, k, b, o.reached)) in
+          let s : slice_index written (y - first) ≡ slice_index starts (y - first) = get_or-set_other starts (x - first) (y - first) (length columns) 0 elsewhere in
           let w = o.within in
           record {
+            reached = o.reached;
             started = rw length-set o.started;
             within = omega (arith, s, both, w);
-            value = ap (λ s. slice_index (columns ++ column) (s + c)) s ∙ get_or_append_left columns column 0 (slice_index starts y + c) w ∙ o.value;
+            value = ap (λ s. slice_index (columns ++ column) (s + c)) s ∙ get_or_append_left columns column 0 (slice_index starts (y - first) + c) w ∙ o.value;
           }
 
-      at : ((y ≡ x) ⊎ (y ≡ x → ⊥)) → IsColumn size xs written (columns ++ column) y c
-      at (inl g) = subst (λ z. IsColumn size xs written (columns ++ column) z c) (sym g) here
+      at : ((y ≡ x) ⊎ (y ≡ x → ⊥)) → IsColumn size xs first written (columns ++ column) y c
+      at (inl g) = subst (λ z. IsColumn size xs first written (columns ++ column) z c) (sym g) here
       at (inr d) = other d
 
 -- one number more of a column

@@ -25,6 +25,7 @@ pub struct Scope {
     variables: Vec<u32>,
     sizes: Vec<u32>,
     cells: usize,
+    first: u32,
     starts: Vec<u32>,
     columns: Vec<u8>,
 }
@@ -37,7 +38,7 @@ impl Model for Scope {
 
     ghost view = { λ s. record { variables = s.variables.items; sizes = s.sizes.items } };
 
-    ghost invariant = { λ s. IsKept (record { variables = s.variables.items; sizes = s.sizes.items }) s.cells s.starts.items s.columns.items };
+    ghost invariant = { λ s. IsKept (record { variables = s.variables.items; sizes = s.sizes.items }) s.cells s.first s.starts.items s.columns.items };
 }
 
 impl Scope {
@@ -47,17 +48,19 @@ impl Scope {
         requires few_cells { cells_in (scope_of net.now set.now) ≤ max_clique_cells }
         ensures { IfOk result (λ scope. scope ≡ scope_of net.now set.now) }
     {
-        let count = net.variables();
+        let _ = net.variables();
         let variables = members(alloc, net, set)?;
         let sizes = sizes_of(alloc, net, &variables)?;
         let cells = cells_of(net, &variables);
-        let mut starts = vec![in alloc; 0; count as usize]?;
-        let mut columns = Vec::new(alloc);
-        lay_out(net, &variables, cells, &mut starts, &mut columns)?;
+        let (first, reach) = reach(&variables);
+        let mut starts = vec![in alloc; 0; reach]?;
+        let mut columns = Vec::with_capacity(alloc, cells * variables.len())?;
+        lay_out(net, &variables, cells, first, &mut starts, &mut columns)?;
         Ok(Scope {
             variables,
             sizes,
             cells,
+            first,
             starts,
             columns,
         })
@@ -221,7 +224,7 @@ impl Scope {
         ensures cells { length result.now ≡ cells_in self.now }
         ensures values { (c : ℕ) → c < cells_in self.now → slice_index result.now c ≡ values_at self.now c variable }
     {
-        let start = self.starts[variable as usize] as usize;
+        let start = self.starts[(variable - self.first) as usize] as usize;
         &self.columns[start..start + self.cells]
     }
 
@@ -232,20 +235,22 @@ impl Scope {
         requires variable { has_variable self.now variable ≡ true }
         ensures { result ≡ values_at self.now cell variable }
     {
-        let start = self.starts[variable as usize] as usize;
+        let start = self.starts[(variable - self.first) as usize] as usize;
         self.columns[start + cell] as u32
     }
 }
 
 /// The variables of a set, in rising order.
 fn members(alloc: Global, net: &Network, set: &VarSet) -> Result<Vec<u32>, NoMemory>
+    requires { (x : ℕ) → is_member set.now x ≡ true → x < length net.now }
     ensures { IfOk result (λ vs. vs.items ≡ keep (is_member set.now) (variables (sizes net.now))) }
 {
+    let _ = net.variables();
     let mut members = Vec::new(alloc);
-    for variable in 0..net.variables() {
-        if set.has(variable) {
-            members.push(variable)?;
-        }
+    let mut left = *set;
+    while let Some(variable) = left.first() {
+        left = left.without(&VarSet::empty().with(variable));
+        members.push(variable)?;
     }
     Ok(members)
 }
@@ -255,7 +260,7 @@ fn sizes_of(alloc: Global, net: &Network, variables: &[u32]) -> Result<Vec<u32>,
     requires { All (λ x. x < length net.now) variables.now }
     ensures { IfOk result (λ ns. ns.items ≡ map (slice_index (sizes net.now)) variables.now) }
 {
-    let mut sizes = Vec::new(alloc);
+    let mut sizes = Vec::with_capacity(alloc, variables.len())?;
     for variable in variables {
         sizes.push(net.values(*variable))?;
     }
@@ -276,11 +281,25 @@ fn cells_of(net: &Network, variables: &[u32]) -> usize
     cells
 }
 
-/// Writes the column of each variable, and where it starts.
+/// The first of some variables, and how many variables there are from it to their last.
+fn reach(variables: &[u32]) -> (u32, usize)
+    requires { Rising variables.now }
+    ensures { All (λ x. (result.0 ≤ x) × (x < result.0 + result.1)) variables.now }
+{
+    let count = variables.len();
+    if count == 0 {
+        return (0, 0);
+    }
+    let first = variables[0];
+    (first, (variables[count - 1] - first) as usize + 1)
+}
+
+/// Writes the column of each variable, and where it starts. The starts are listed for the variables from `first` on.
 fn lay_out(
     net: &Network,
     variables: &[u32],
     count: usize,
+    first: u32,
     starts: &mut Vec<u32>,
     columns: &mut Vec<u8>,
 ) -> Result<(), NoMemory>
@@ -289,15 +308,15 @@ fn lay_out(
     requires few_variables { length variables.now ≤ max_variables }
     requires cells { count ≡ cells (slice_index (sizes net.now)) variables.now }
     requires few_cells { count ≤ max_clique_cells }
-    requires starts { length starts.old.items ≡ length net.now }
+    requires starts { All (λ x. (first ≤ x) × (x < first + length starts.old.items)) variables.now }
     requires empty { columns.old.items ≡ [] }
-    ensures { OnOk result (HaveColumns (slice_index (sizes net.now)) variables.now variables.now starts.new.items columns.new.items) }
+    ensures { OnOk result (HaveColumns (slice_index (sizes net.now)) variables.now variables.now first starts.new.items columns.new.items) }
 {
     let _ = net.variables();
     let mut span = count;
     for variable in variables {
         let stride = span / net.values(*variable) as usize;
-        starts[*variable as usize] = columns.len() as u32;
+        starts[(*variable - first) as usize] = columns.len() as u32;
         write_column(columns, count, span, stride)?;
         span = stride;
     }

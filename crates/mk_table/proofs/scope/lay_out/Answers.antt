@@ -1,4 +1,4 @@
-use Rattle.std.proofs.Common.{◌≡◌, ◌<◌, ◌+◌, ◌*◌, ◌/◌, ◌%◌, ◌++◌, List, ℕ, map, set, slice_index, length, get_or, take, arith, subst, sym, take_all}
+use Rattle.std.proofs.Common.{◌≡◌, ◌<◌, ◌+◌, ◌-◌, ◌*◌, ◌/◌, ◌%◌, ◌++◌, List, ℕ, map, set, slice_index, length, get_or, take, arith, subst, sym, take_all}
 use Rattle.std.proofs.lemmas.List.{length-set}
 use Rattle.mk_net.specs.Network.{sizes}
 use Rattle.mk_exact.specs.States.{numbers_below}
@@ -27,19 +27,21 @@ loop-variable-preserved c =
     let before = c.loop-variable.columns.items in
     let f : ℕ → ℕ = λ k. k % c.loop-variable.span / (c.loop-variable.span / c.values.result) in
     let n = next_stride (slice_index (sizes net)) xs (bounds_of net c.variables.ensures.network xs c.requires.of_network) i _ _ c.loop-variable-test.true c.loop-variable.invariant.span c.values.ensures in
-    let there : get_or xs i 0 < length c.loop-variable.starts.items = omega (arith, c.requires.of_network i 0 c.loop-variable-test.true) in
-    let more = more_columns (slice_index (sizes net)) xs (bounds_of net c.variables.ensures.network xs c.requires.of_network) (rising_apart xs c.requires.rising) i _ _ c.loop-variable.starts.items before
-    c.loop-variable-test.true c.loop-variable.invariant.span n.stride_is there c.loop-variable.invariant.have in
+    let x = get_or xs i 0 in
+    let reached = c.requires.starts i 0 c.loop-variable-test.true in
+    let there : x - c.args.first < length c.loop-variable.starts.items = omega (arith, reached.0, reached.1, c.loop-variable.invariant.starts) in
+    let more = more_columns (slice_index (sizes net)) xs (bounds_of net c.variables.ensures.network xs c.requires.of_network) (rising_apart xs c.requires.rising) i _ _ c.args.first c.loop-variable.starts.items before
+    c.loop-variable-test.true c.loop-variable.invariant.span n.stride_is reached.0 there c.loop-variable.invariant.have in
     let long = column_long before f c.args.count in
     let length_is : c.len.result ≡ length before = omega (arith, c.loop-variable.columns.ok.0) in
     record {
       span = n.stride_is;
       starts = rw length-set c.loop-variable.invariant.starts;
       columns = rw c.in_ok-write_column.ensures (omega (arith, long, c.loop-variable.invariant.columns));
-      have = rw (c.in_ok-write_column.ensures, length_is) (subst (λ k. HaveColumns (slice_index (sizes net)) xs (take (i + 1) xs) (set c.loop-variable.starts.items (get_or xs i 0) (length before)) (before ++ map f (numbers_below k))) (sym c.requires.cells) more);
+      have = rw (c.in_ok-write_column.ensures, length_is) (subst (λ k. HaveColumns (slice_index (sizes net)) xs (take (i + 1) xs) c.args.first (set c.loop-variable.starts.items (x - c.args.first) (length before)) (before ++ map f (numbers_below k))) (sym c.requires.cells) more);
     }
 
 pub returns : goal.returns
 returns c =
     let xs = c.args.variables.now in
-    subst (λ (ys : List ℕ). HaveColumns (slice_index (sizes c.args.net.now)) xs ys c.loop-variable.starts.items c.loop-variable.columns.items) (take_all c.loop-variable.variable-index xs c.loop-variable-test.false) c.loop-variable.invariant.have
+    subst (λ (ys : List ℕ). HaveColumns (slice_index (sizes c.args.net.now)) xs ys c.args.first c.loop-variable.starts.items c.loop-variable.columns.items) (take_all c.loop-variable.variable-index xs c.loop-variable-test.false) c.loop-variable.invariant.have
