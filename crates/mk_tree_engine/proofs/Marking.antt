@@ -1,7 +1,7 @@
 -- What leads away from a clique is marked.
 use Rattle.std.proofs.Common.{◌≡◌, ◌≢◌, ℕ, ◌+◌, ◌-◌, ◌<◌, ◌≤◌, Bool, true, false, cond, not, ◌&&◌, ◌||◌, ◌⊎◌, inl, inr, eqb, ltb, Option, Some, None, List, length, get_or, set, refl, sym, ap, subst, ◌∙◌, arith, eq-eqb, ne_eqb, length-set, get_or-set_other}
 use Rattle.std.specs.Option.{ForSome}
-use Rattle.std.proofs.Math.Bool.{or-true}
+use Rattle.std.proofs.Math.Bool.{or-true, or-false}
 use Rattle.std.proofs.lemmas.Bool.{cases_eq, cases_lt, lt-ltb, le-ltb, and_right, and_parts, eqb-true, not-true, both_ways}
 use Rattle.std.proofs.lemmas.Grind.{get_or-set_at}
 use Rattle.mk_sums.proofs.Hops as hops
@@ -10,7 +10,7 @@ use Rattle.mk_tree.specs.Given as given
 use Rattle.mk_tree.specs.Given.{GivenTree, link_of}
 use Rattle.mk_propagate.specs.Shapes.{IsClique, are_linked, is_behind, next_on_way}
 use Rattle.mk_tree_engine.specs.Engines.{leads_towards}
-use Rattle.mk_tree_engine.specs.inner.Marks.{marked_stale, AreMarks, AreMarkedUp, AreMarkedDown, AreCurrentTowards, kept_in}
+use Rattle.mk_tree_engine.specs.inner.Marks.{marked_stale, AreMarks, AreMarkedUp, AreMarkedDown, AreMarkedFrom, AreCurrentTowards, kept_in}
 use Rattle.mk_tree_engine.proofs.Making.{read_up, read_down}
 
 -- the tests of the places before one more
@@ -96,6 +96,101 @@ module _ (tree : GivenTree) (links : given.AreLinked tree) (clique : ℕ) (at_c 
         },
         record { long = marked_down.long; each = none_marked (λ i. is_behind tree (link_of tree (i + 2)) (i + 2) clique) down downs passed marked_down.long marked_down.each b.0 },
       )
+
+-- a turn by the number of the clique
+module _ (tree : GivenTree) (links : given.AreLinked tree) (clique : ℕ) (at_c : IsClique tree clique) (k : ℕ) (from : 2 ≤ k) (earlier : k < clique) (next : ℕ) (next_is : k ≢ clique → next ≡ next_on_way tree k clique)
+    (up down ups downs : List Bool) (marks : AreMarks (length tree.cliques) up down) (marked_up : AreMarkedUp tree clique (k - 2) up ups) (marked_down : AreMarkedDown tree clique (k - 2) down downs) where
+  same : k - 2 + 2 ≡ k
+  same = omega (arith, from)
+
+  one_on : k - 2 + 1 ≡ k + 1 - 2
+  one_on = omega (arith, from)
+
+  is : k - 2 + 2 ≢ clique → next ≡ next_on_way tree (k - 2 + 2) clique
+  is d = next_is (λ e. d (same ∙ e)) ∙ ap (λ n. next_on_way tree n clique) (sym same)
+
+  pub earlier_up : next < k → AreMarkedUp tree clique (k + 1 - 2) up ups × AreMarkedDown tree clique (k + 1 - 2) down (set downs (k - 2) true)
+  earlier_up l =
+      let t = turn_up tree links clique at_c (k - 2) (omega (arith, from, earlier, at_c.last)) up down ups downs marks marked_up marked_down next is (λ e. omega (arith, same, e, earlier)) (omega (arith, same, l)) in
+      (subst (λ m. AreMarkedUp tree clique m up ups) one_on t.0, subst (λ m. AreMarkedDown tree clique m down (set downs (k - 2) true)) one_on t.1)
+
+  pub earlier_down : k ≤ next → AreMarkedUp tree clique (k + 1 - 2) up (set ups (k - 2) true) × AreMarkedDown tree clique (k + 1 - 2) down downs
+  earlier_down l =
+      let t = turn_down tree links clique at_c (k - 2) (omega (arith, from, earlier, at_c.last)) up down ups downs marks marked_up marked_down next is (λ d. omega (arith, same, l)) in
+      (subst (λ m. AreMarkedUp tree clique m up (set ups (k - 2) true)) one_on t.0, subst (λ m. AreMarkedDown tree clique m down downs) one_on t.1)
+
+-- one place more is set
+pub set_more : (marks old : List Bool) (first place : ℕ) → first ≤ place → place < length old → AreMarkedFrom first place old marks → AreMarkedFrom first (place + 1) old (set marks place true)
+set_more marks old first place p q h = record {
+  long = length-set marks place true ∙ h.long;
+  each = more_marked (λ i. not (ltb i first)) old marks place h.long h.each q (ap not (le-ltb place first p));
+}
+
+-- none is yet
+pub set_none : (old : List Bool) (first : ℕ) → AreMarkedFrom first first old old
+set_none old first = record { long = refl; each = λ i l. sym (ap (λ b. get_or old i true || b) (neither (ltb i first)) ∙ or-false (get_or old i true)) }
+  where
+    neither : (b : Bool) → (b && not b) ≡ false
+    neither true = refl
+    neither false = refl
+
+-- from the clique on: its own message leads away, and of the later cliques those of the links
+module _ (tree : GivenTree) (links : given.AreLinked tree) (clique : ℕ) (at_c : IsClique tree clique) (up down ups downs : List Bool) (marks : AreMarks (length tree.cliques) up down)
+    (marked_up : AreMarkedUp tree clique (clique - 2) up ups) (marked_down : AreMarkedDown tree clique (clique - 2) down downs) where
+  pub turn_own : 1 < clique → AreMarkedUp tree clique (clique - 1) up (set ups (clique - 2) true) × AreMarkedDown tree clique (clique - 1) down downs
+  turn_own later =
+      let e : clique - 2 + 2 ≡ clique = omega (arith, later) in let n : clique - 2 + 1 ≡ clique - 1 = omega (arith, later) in
+      let t = turn_down tree links clique at_c (clique - 2) (omega (arith, later, at_c.last)) up down ups downs marks marked_up marked_down (next_on_way tree (clique - 2 + 2) clique) (λ _. refl) (λ d. absurd (d e)) in
+      (subst (λ m. AreMarkedUp tree clique m up (set ups (clique - 2) true)) n t.0, subst (λ m. AreMarkedDown tree clique m down downs) n t.1)
+
+  pub turn_root : clique ≤ 1 → AreMarkedUp tree clique (clique - 1) up ups × AreMarkedDown tree clique (clique - 1) down downs
+  turn_root root =
+      let n : clique - 2 ≡ clique - 1 = omega (arith, root) in
+      (subst (λ m. AreMarkedUp tree clique m up ups) n marked_up, subst (λ m. AreMarkedDown tree clique m down downs) n marked_down)
+
+  pub own_down : AreMarkedDown tree clique (clique - 1) down downs
+  own_down = at (cases_lt 1 clique)
+    where
+      at : ((1 < clique) ⊎ (clique ≤ 1)) → AreMarkedDown tree clique (clique - 1) down downs
+      at (inl l) = (turn_own l).1
+      at (inr l) = (turn_root l).1
+
+module _ (tree : GivenTree) (links : given.AreLinked tree) (clique : ℕ) (at_c : IsClique tree clique) (up down : List Bool) (marks : AreMarks (length tree.cliques) up down) where
+  beyond : (i : ℕ) → clique - 1 ≤ i → i < length tree.cliques - 1 → (is_behind tree (link_of tree (i + 2)) (i + 2) clique ≡ true) × (is_behind tree (i + 2) (link_of tree (i + 2)) clique ≡ false)
+  beyond i p q =
+      let e = links.earlier (i + 2) (omega arith) (omega arith) in
+      let up_is = hops.hop_up (link_of tree) (length tree.cliques) (i + 2) clique (omega (arith, p)) (omega (arith, q)) in
+      links_away tree links clique at_c (i + 2) (omega arith) (omega (arith, q)) (λ f. omega (arith, p, f)) (omega (arith, e.1, up_is))
+
+  pub all_up : (ups : List Bool) → AreMarkedUp tree clique (clique - 1) up ups → AreMarkedUp tree clique (length tree.cliques - 1) up ups
+  all_up ups marked = record { long = marked.long; each = λ i l. marked.each i l ∙ ap (λ b. get_or up i true || b) (at i l (cases_lt i (clique - 1))) }
+    where
+      f : ℕ → Bool
+      f i = is_behind tree (i + 2) (link_of tree (i + 2)) clique
+
+      at : (i : ℕ) → i < length up → ((i < clique - 1) ⊎ (clique - 1 ≤ i)) → (ltb i (clique - 1) && f i) ≡ (ltb i (length tree.cliques - 1) && f i)
+      at i l (inl p) = ap (λ b. b && f i) (lt-ltb i (clique - 1) p ∙ sym (lt-ltb i (length tree.cliques - 1) (omega (arith, l, marks.one_less_up))))
+      at i l (inr p) =
+          let b = (beyond i p (omega (arith, l, marks.one_less_up))).1 in
+          and_right (ltb i (clique - 1)) (f i) b ∙ sym (and_right (ltb i (length tree.cliques - 1)) (f i) b)
+
+  pub all_down : (downs news : List Bool) → AreMarkedDown tree clique (clique - 1) down downs → AreMarkedFrom (clique - 1) (length downs) downs news → AreMarkedDown tree clique (length tree.cliques - 1) down news
+  all_down downs news marked later = record { long = later.long ∙ marked.long; each = λ i l. each i l (cases_lt i (clique - 1)) }
+    where
+      f : ℕ → Bool
+      f i = is_behind tree (link_of tree (i + 2)) (i + 2) clique
+
+      each : (i : ℕ) → i < length down → ((i < clique - 1) ⊎ (clique - 1 ≤ i)) → get_or news i true ≡ (get_or down i true || (ltb i (length tree.cliques - 1) && f i))
+      each i l (inl p) =
+          later.each i (omega (arith, l, marked.long)) ∙ ap (λ b. get_or downs i true || (ltb i (length downs) && not b)) (lt-ltb i (clique - 1) p)
+          ∙ ap (λ b. get_or downs i true || b) (and_right (ltb i (length downs)) false refl) ∙ or-false (get_or downs i true)
+          ∙ marked.each i l
+          ∙ ap (λ b. get_or down i true || (b && f i)) (lt-ltb i (clique - 1) p ∙ sym (lt-ltb i (length tree.cliques - 1) (omega (arith, l, marks.one_less_down))))
+      each i l (inr p) =
+          later.each i (omega (arith, l, marked.long)) ∙ ap (λ b. get_or downs i true || (b && not (ltb i (clique - 1)))) (lt-ltb i (length downs) (omega (arith, l, marked.long)))
+          ∙ ap (λ b. get_or downs i true || not b) (le-ltb i (clique - 1) p) ∙ or-true (get_or downs i true)
+          ∙ sym (ap (λ b. get_or down i true || (b && f i)) (lt-ltb i (length tree.cliques - 1) (omega (arith, l, marks.one_less_down)))
+          ∙ ap (λ b. get_or down i true || b) (beyond i p (omega (arith, l, marks.one_less_down))).0 ∙ or-true (get_or down i true))
 
 -- both ways: exactly what leads away is marked as well
 module _ (tree : GivenTree) (links : given.AreLinked tree) (clique : ℕ) (up down ups downs : List Bool) (marks : AreMarks (length tree.cliques) up down)

@@ -2,7 +2,7 @@
 
 ghost use Rattle.std.specs.Prelude.{◌≡◌, ◌≢◌, ℕ, ◌+◌, ◌-◌, ◌<◌, ◌≤◌, length, None, IfOk};
 ghost use Rattle.mk_propagate.specs.Shapes.{IsClique};
-ghost use Rattle.mk_tree_engine.specs.inner.Marks.{marked_stale, AreMarks, AreAllStale, AreMarkedUp, AreMarkedDown, cleared_up, cleared_down, kept_in};
+ghost use Rattle.mk_tree_engine.specs.inner.Marks.{marked_stale, AreMarks, AreAllStale, AreMarkedUp, AreMarkedDown, AreMarkedFrom, cleared_up, cleared_down, kept_in};
 
 use mk_net::NoMemory;
 use mk_propagate::Shape;
@@ -81,20 +81,46 @@ impl Marks {
 }
 
 /// Of the two messages between each clique, from 2 on, and its link, marks the one that leads away from a clique: the link's, where
-/// the way to that clique begins upward, and the clique's own elsewhere.
-fn mark_each(up: &mut Vec<bool>, down: &mut Vec<bool>, shape: &Shape, clique: u32)
+/// the way to that clique begins upward, as it does from each later clique, and the clique's own elsewhere.
+fn mark_each(up: &mut [bool], down: &mut [bool], shape: &Shape, clique: u32)
     requires clique { IsClique shape.now.tree clique }
-    requires marks { AreMarks (length shape.now.tree.cliques) up.old.items down.old.items }
-    ensures up { AreMarkedUp shape.now.tree clique (length shape.now.tree.cliques - 1) up.old.items up.new.items }
-    ensures down { AreMarkedDown shape.now.tree clique (length shape.now.tree.cliques - 1) down.old.items down.new.items }
+    requires marks { AreMarks (length shape.now.tree.cliques) up.old down.old }
+    ensures up { AreMarkedUp shape.now.tree clique (length shape.now.tree.cliques - 1) up.old up.new }
+    ensures down { AreMarkedDown shape.now.tree clique (length shape.now.tree.cliques - 1) down.old down.new }
 {
+    let _ = shape.cliques();
+    mark_earlier(up, down, shape, clique);
+    if clique > 1 {
+        up[clique as usize - 2] = true;
+    }
+    mark_from(down, clique as usize - 1);
+}
+
+/// Does so for the cliques before that one.
+fn mark_earlier(up: &mut [bool], down: &mut [bool], shape: &Shape, clique: u32)
+    requires clique { IsClique shape.now.tree clique }
+    requires marks { AreMarks (length shape.now.tree.cliques) up.old down.old }
+    ensures up { AreMarkedUp shape.now.tree clique (clique - 2) up.old up.new }
+    ensures down { AreMarkedDown shape.now.tree clique (clique - 2) down.old down.new }
+{
+    let _ = shape.cliques();
     let ways = shape.ways_to(clique);
-    for passed in 0..shape.cliques() - 1 {
-        let k = passed + 2;
-        if k != clique && ways[k as usize - 1] < k {
-            down[passed as usize] = true;
+    for k in 2..clique {
+        let place = k as usize - 2;
+        if ways[place + 1] < k {
+            down[place] = true;
         } else {
-            up[passed as usize] = true;
+            up[place] = true;
         }
+    }
+}
+
+/// Sets the marks of the places from one on.
+fn mark_from(marks: &mut [bool], first: usize)
+    requires { first ≤ length marks.old }
+    ensures { AreMarkedFrom first (length marks.old) marks.old marks.new }
+{
+    for place in first..marks.len() {
+        marks[place] = true;
     }
 }

@@ -57,6 +57,12 @@ pub record AreMarkedDown (tree : GivenTree) (clique passed : ℕ) (old new : Lis
   pub each : (i : ℕ) → i < length old
       → slice_index_or new i true ≡ (slice_index_or old i true || (nat_lt i passed && is_behind tree (link_of tree (i + 2)) (i + 2) clique))
 
+-- the marks of the places from one on, and before another, are set as well
+pub record AreMarkedFrom (first end : ℕ) (old new : List Bool) : Type 0 where
+  pub long : length new ≡ length old
+  pub each : (i : ℕ) → i < length old
+      → slice_index_or new i true ≡ (slice_index_or old i true || (nat_lt i end && not (nat_lt i first)))
+
 -- the mark of the message from a to b is cleared
 abbrev pub cleared_up : List Bool → ℕ → ℕ → List Bool
 cleared_up up a b = if nat_lt b a then slice_set up (a - 2) false else up

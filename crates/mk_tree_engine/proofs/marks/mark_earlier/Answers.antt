@@ -1,0 +1,42 @@
+use Rattle.std.proofs.Common.{◌≡◌, ◌≢◌, ◌+◌, ◌-◌, ◌<◌, ◌≤◌, slice_index, sym, ap, subst, ◌∙◌, arith}
+use Rattle.mk_propagate.specs.Shapes.{next_on_way}
+use Rattle.mk_tree_engine.specs.inner.Marks.{AreMarkedUp, AreMarkedDown}
+use Rattle.mk_tree_engine.proofs.Marking.{earlier_up, earlier_down}
+use Rattle.mk_tree_engine.proofs.marks.mark_earlier.Goals as goal
+use Rattle.mk_tree_engine.proofs.marks.mark_earlier.Goals.{then-ways-place, else-ways-place}
+
+pub loop-k-preserved : goal.loop-k-preserved
+loop-k-preserved c =
+    let tree = c.args.shape.now.tree in let clique = c.args.clique in let k = c.loop-k.k in let links = c.cliques.ensures.linked in
+    let up = c.args.up.now in let down = c.args.down.now in let ups = c.loop-k.up in let downs = c.loop-k.down in
+    let next = slice_index c.ways_to-ways.result.now (k - 2 + 1) in
+    let from : 2 ≤ k = c.loop-k.auto.k in let earlier : k < clique = c.loop-k-test.true in
+    let place : k - 1 ≡ k - 2 + 1 = omega (arith, from) in
+    let is : k ≢ clique → next ≡ next_on_way tree k clique = λ d.
+    ap (slice_index c.ways_to-ways.result.now) (sym place) ∙ c.ways_to-ways.ensures.next_is k (omega (arith, from)) (omega (arith, earlier, c.requires.clique.last)) d in
+    elim c.if-ways-place.branch [
+      | then-ways-place w ↦
+          let t = earlier_up tree links clique c.requires.clique k from earlier next is up down ups downs c.requires.marks c.loop-k.invariant.up c.loop-k.invariant.down w.if-ways-place.true in
+          record {
+            within = omega (arith, from, earlier);
+            up = subst (λ v. AreMarkedUp tree clique (k + 1 - 2) up v) (sym w.up-is) t.0;
+            down = subst (λ v. AreMarkedDown tree clique (k + 1 - 2) down v) (sym w.down-is) t.1;
+          }
+      | else-ways-place w ↦
+          let t = earlier_down tree links clique c.requires.clique k from earlier next is up down ups downs c.requires.marks c.loop-k.invariant.up c.loop-k.invariant.down w.if-ways-place.false in
+          record {
+            within = omega (arith, from, earlier);
+            up = subst (λ v. AreMarkedUp tree clique (k + 1 - 2) up v) (sym w.up-is) t.0;
+            down = subst (λ v. AreMarkedDown tree clique (k + 1 - 2) down v) (sym w.down-is) t.1;
+          }
+    ]
+
+pub returns-clause-up : goal.returns-clause-up
+returns-clause-up c =
+    let e : c.loop-k.k - 2 ≡ c.args.clique - 2 = omega (arith, c.loop-k-test.false, c.loop-k.auto.k, c.loop-k.invariant.within) in
+    subst (λ m. AreMarkedUp c.args.shape.now.tree c.args.clique m c.args.up.now c.loop-k.up) e c.loop-k.invariant.up
+
+pub returns-clause-down : goal.returns-clause-down
+returns-clause-down c =
+    let e : c.loop-k.k - 2 ≡ c.args.clique - 2 = omega (arith, c.loop-k-test.false, c.loop-k.auto.k, c.loop-k.invariant.within) in
+    subst (λ m. AreMarkedDown c.args.shape.now.tree c.args.clique m c.args.down.now c.loop-k.down) e c.loop-k.invariant.down
