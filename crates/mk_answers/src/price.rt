@@ -50,10 +50,11 @@ fn whole_of<P: Engine<SumProd>>(
         → values ≡ slice_index (sizes network) asked.now.target.variable
         → IsPartFor network H asked.now part.now → IsWholeFor network H asked.now result }
 {
-    // of two values, the other one's states are half of the condition's
-    if values == 2 {
+    let condition = asked.condition();
+    // of two values, the other one's states are half of the condition's; without a condition the whole is read in a core
+    if values == 2 && !condition.pairs().is_empty() {
         let others = enclosure_of(&belief_of_others::<SumProd, P>(prices, asked, values));
         return part.add(&others);
     }
-    enclosure_of(&prices.belief(&asked.condition()))
+    enclosure_of(&prices.belief(&condition))
 }

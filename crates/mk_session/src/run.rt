@@ -16,6 +16,7 @@ use crate::print::{LineBuffer, print_fault_line, print_ready};
 use mk_file::{FileFault, MarketFile, read_market};
 use mk_io::{InputFailed, Inputs, Sink, Status, write_all};
 use std::alloc::Global;
+use std::mem;
 
 /// One byte more than a market file may have.
 const READ_AT_MOST: usize = 1_048_577;
@@ -86,7 +87,7 @@ fn refuse<S: Sink>(fault: FileFault, line: &mut LineBuffer, out: &mut S) -> Stat
     }
 }
 
-/// Opens the market of an accepted file, and answers its commands.
+/// Opens the market of an accepted file, and answers its commands. The market is the last that a process opens: its memory is not given back.
 fn answer_file<I: Inputs, S: Sink>(
     alloc: Global,
     file: MarketFile,
@@ -106,7 +107,13 @@ fn answer_file<I: Inputs, S: Sink>(
     };
     print_ready(market.variables(), market.points_per_bit(), line);
     match write_all(out, line.as_bytes()) {
-        Ok(()) => answer_lines(alloc, &mut market, inputs, line, out),
+        Ok(()) => {
+            let status = answer_lines(alloc, &mut market, inputs, line, out);
+            // The process ends next, which gives all memory back at once. One by one, the tables of a long chain cost as much as
+            // a twentieth of its run.
+            mem::forget(market);
+            status
+        }
         Err(_) => Status::WriteFault,
     }
 }

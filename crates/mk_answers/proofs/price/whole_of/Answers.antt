@@ -33,8 +33,8 @@ add-requires g c =
     (miss_in a.network a.tree a.history a.is_open asked c.args.values c.belief_of_others.result a.answered.can_ask.in_range a.sized
     (c.belief_of_others.ensures.belief (weights_of a.network a.tree a.history) a.stands a.sized)))
 
-pub returns-then-values-eq2-clause-whole : goal.returns-then-values-eq2-clause-whole
-returns-then-values-eq2-clause-whole g c = λ network tree H stands is_open answered sized part_in.
+pub returns-then-not-is_empty-clause-whole : goal.returns-then-not-is_empty-clause-whole
+returns-then-not-is_empty-clause-whole g c = λ network tree H stands is_open answered sized part_in.
     let asked = c.args.asked.now in
     sum_is_whole network H asked c.args.part.now c.enclosure_of-others.result c.add.result part_in
     (subst (λ (b : Held). IsBeliefIn b (IsSmall network H) (total network H (without_target asked))) c.enclosure_of-others.ensures
@@ -47,8 +47,8 @@ returns-then-values-eq2-clause-whole g c = λ network tree H stands is_open answ
 pub belief-requires-clause-fits : goal.belief-requires-clause-fits
 belief-requires-clause-fits g c =
     let a = c.requires.0 in
-    g.met.P.Engine.home_fits c.args.prices.now (weights_of a.network a.tree a.history) c.condition.result a.stands
-    (home_of_condition a.tree c.args.asked.now c.condition.result c.condition.ensures.condition a.answered.home)
+    g.met.P.Engine.home_fits c.args.prices.now (weights_of a.network a.tree a.history) c.condition-condition.result a.stands
+    (home_of_condition a.tree c.args.asked.now c.condition-condition.result c.condition-condition.ensures.condition a.answered.home)
 
 pub belief-requires-clause-range : goal.belief-requires-clause-range
 belief-requires-clause-range g c =
@@ -56,14 +56,14 @@ belief-requires-clause-range g c =
     record {
       meaning = weights_of a.network a.tree a.history;
       stands = a.stands;
-      in_range = condition_fits a.network c.args.asked.now c.condition.result c.condition.ensures.condition a.answered.can_ask.in_range;
+      in_range = condition_fits a.network c.args.asked.now c.condition-condition.result c.condition-condition.ensures.condition a.answered.can_ask.in_range;
     }
 
 pub enclosure_of-requires : goal.enclosure_of-requires
 enclosure_of-requires g c =
     let a = c.requires.0 in let asked = c.args.asked.now in
     is_there c.belief.result (IsSmall a.network a.history) (total a.network a.history (holds asked.condition))
-    (condition_in a.network a.tree a.history a.is_open asked c.condition.result c.belief.result c.condition.ensures.condition
+    (condition_in a.network a.tree a.history a.is_open asked c.condition-condition.result c.belief.result c.condition-condition.ensures.condition
     (c.belief.ensures.belief (weights_of a.network a.tree a.history) a.stands))
     (condition_some a.network a.tree a.history a.is_open asked a.answered)
 
@@ -72,5 +72,5 @@ returns-clause-whole g c = λ network tree H stands is_open answered sized part_
     let asked = c.args.asked.now in
     found_of c.enclosure_of.result (IsSmall network H) (total network H (holds asked.condition))
     (subst (λ (b : Held). IsBeliefIn b (IsSmall network H) (total network H (holds asked.condition))) c.enclosure_of.ensures
-    (condition_in network tree H is_open asked c.condition.result c.belief.result c.condition.ensures.condition
+    (condition_in network tree H is_open asked c.condition-condition.result c.belief.result c.condition-condition.ensures.condition
     (c.belief.ensures.belief (weights_of network tree H) stands)))
