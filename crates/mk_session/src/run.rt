@@ -29,7 +29,7 @@ pub enum LoadFault {
 }
 
 /// Runs the market of the file `name` over all commands, and writes `ready V B` and one line for each command line
-/// that is not blank, or the one line of a refused file.
+/// that is not blank, or the one line of a refused file. The process is to end after it: the market's memory is not given back.
 pub fn serve<I: Inputs, S: Sink>(alloc: Global, name: &str, inputs: &mut I, out: &mut S) -> Status
     requires { I.admits name.now }
     ensures outcome { (file all : List ℕ) → I.file inputs.old name.now ≡ Some file → I.commands inputs.old ≡ Some all →
@@ -87,7 +87,7 @@ fn refuse<S: Sink>(fault: FileFault, line: &mut LineBuffer, out: &mut S) -> Stat
     }
 }
 
-/// Opens the market of an accepted file, and answers its commands. The market is the last that a process opens: its memory is not given back.
+/// Opens the market of an accepted file, and answers its commands.
 fn answer_file<I: Inputs, S: Sink>(
     alloc: Global,
     file: MarketFile,
@@ -109,8 +109,7 @@ fn answer_file<I: Inputs, S: Sink>(
     match write_all(out, line.as_bytes()) {
         Ok(()) => {
             let status = answer_lines(alloc, &mut market, inputs, line, out);
-            // The process ends next, which gives all memory back at once. One by one, the tables of a long chain cost as much as
-            // a twentieth of its run.
+            // The process ends next, and gives all memory back at once: one by one, the many small tables of a chain take long.
             mem::forget(market);
             status
         }
