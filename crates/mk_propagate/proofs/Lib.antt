@@ -1,5 +1,6 @@
 pub mod Scopes
 pub mod Cores
+pub mod Starts
 pub mod Shaped
 pub mod Laid
 pub mod Placed

@@ -13,7 +13,7 @@ use Rattle.mk_tree.specs.Checked.{IsTreeOf}
 use Rattle.mk_net.specs.Network.{Variable, IsNetwork}
 use Rattle.mk_table.specs.Scopes.{ScopeOf, PlacesOf, LiesIn}
 use Rattle.mk_propagate.specs.Shapes.{ShapeOf, IsClique, AreNextTo, IsShapeFor, clique_scope, core_scope, separator_scope, next_on_way, scope_within, in_core, shares, no_scope}
-use Rattle.mk_propagate.specs.inner.Shaped.{AreWays, IsShaped, CanPlaceSeparators, CanPlaceCores, scopes_of_cliques, scopes_of_cores, scopes_of_separators, lists_of_neighbours, shape_of, whole_of, places_of, core_places_of}
+use Rattle.mk_propagate.specs.inner.Shaped.{AreWays, AreStarts, IsShaped, CanPlaceSeparators, CanPlaceCores, scopes_of_cliques, scopes_of_cores, scopes_of_separators, lists_of_neighbours, shape_of, whole_of, places_of, core_places_of}
 use Rattle.mk_propagate.proofs.Cores.{shared_lies_in_core, shared_lies_in_link_core, core_lies_in}
 
 map_push : {A B : Type 0} (f : A → B) (xs : List A) (y : A) → map f (xs ++ y ∷ []) ≡ map f xs ++ f y ∷ []
@@ -176,8 +176,9 @@ module _ (shape : ShapeOf) (network : List Variable) (tree : GivenTree) (tree_is
       → in_links ≡ places_of (shape_of tree [] shape.cores shape.separators) true (length tree.cliques - 1)
       → in_whole ≡ core_places_of (shape_of tree shape.cliques shape.cores []) (length tree.cliques)
       → in_itself ≡ core_places_of (shape_of tree shape.cores shape.cores []) (length tree.cliques)
-      → (lists ways : List (List ℕ)) → lists ≡ lists_of_neighbours tree (length tree.cliques) → AreWays tree (length tree.cliques) ways → IsShaped shape in_cliques in_links in_whole in_itself lists ways
-  shaped linked in_cliques in_links in_whole in_itself p q w o lists ways l r = record {
+      → (lists ways : List (List ℕ)) → lists ≡ lists_of_neighbours tree (length tree.cliques) → AreWays tree (length tree.cliques) ways
+      → (starts : List ℕ) → AreStarts tree starts → IsShaped shape in_cliques in_links in_whole in_itself lists ways starts
+  shaped linked in_cliques in_links in_whole in_itself p q w o lists ways l r starts s = record {
     linked = subst given.AreLinked (sym tree_is) linked;
     in_cliques_are = subst (λ (t : GivenTree). in_cliques ≡ places_of (shape_of t [] shape.cores shape.separators) false (length t.cliques - 1)) (sym tree_is) p;
     in_links_are = subst (λ (t : GivenTree). in_links ≡ places_of (shape_of t [] shape.cores shape.separators) true (length t.cliques - 1)) (sym tree_is) q;
@@ -188,6 +189,7 @@ module _ (shape : ShapeOf) (network : List Variable) (tree : GivenTree) (tree_is
     one_less = one_less linked;
     neighbours_are = subst (λ (t : GivenTree). lists ≡ lists_of_neighbours t (length t.cliques)) (sym tree_is) l;
     ways_are = subst (λ (t : GivenTree). AreWays t (length t.cliques) ways) (sym tree_is) r;
+    starts_are = subst (λ (t : GivenTree). AreStarts t starts) (sym tree_is) s;
   }
 
   pub shape_for : IsNetwork network → IsTreeOf network tree → IsShapeFor shape network

@@ -1,18 +1,18 @@
 //! The shape of a flow.
 
-ghost use Rattle.std.specs.Prelude.{◌≡◌, ◌≢◌, ℕ, ◌+◌, ◌-◌, ◌<◌, ◌≤◌, ◌&&◌, ◌==◌, nat_lt, nat_le, [], length, map, filter, true, if◌then◌else◌, IfOk};
+ghost use Rattle.std.specs.Prelude.{◌≡◌, ◌≢◌, ℕ, ◌+◌, ◌-◌, ◌<◌, ◌≤◌, ◌&&◌, ◌==◌, nat_lt, nat_le, [], length, map, filter, true, if◌then◌else◌, IfOk, IfSome};
 ghost use Rattle.std.specs.List.{range_with_len, list_all, list_any};
 ghost use Rattle.mk_net.specs.declared.words.Pair.{Pair};
-ghost use Rattle.mk_tree.specs.Given.{holds};
+ghost use Rattle.mk_tree.specs.Given.{holds, home, holds_event, clique_at};
 ghost use Rattle.mk_sums.specs.Trees.{linked_to};
 ghost use Rattle.mk_tree.specs.Given.{AreLinked, link_of};
 ghost use Rattle.mk_tree.specs.Checked.{IsTreeOf};
 ghost use Rattle.mk_table.specs.Scopes.{LiesIn};
 ghost use Rattle.mk_propagate.specs.Shapes.{IsShapeFor, IsClique, AreNextTo, clique_scope, core_scope, separator_scope, separator_between, are_linked, in_core, neighbours, next_on_way};
 ghost use Rattle.mk_net.specs.Sets.{is_member};
-ghost use Rattle.mk_propagate.specs.inner.Shaped.{scopes_of_cliques, scopes_of_cores, scopes_of_separators, lists_of_neighbours, AreWays, CanPlaceSeparators, CanPlaceCores, whole_of, places_of, core_places_of, shape_of};
+ghost use Rattle.mk_propagate.specs.inner.Shaped.{scopes_of_cliques, scopes_of_cores, scopes_of_separators, lists_of_neighbours, AreWays, AreStarts, StartsAt, CanPlaceSeparators, CanPlaceCores, whole_of, places_of, core_places_of, shape_of};
 
-use mk_net::{Event, Network, NoMemory, VarSet};
+use mk_net::{Event, Network, NoMemory, Pair, VarSet};
 use mk_table::{CellList, Places, Scope};
 use mk_tree::Tree;
 use std::alloc::Global;
@@ -20,8 +20,8 @@ use std::marker::Model;
 use std::rc::Rc;
 
 /// A copy of a tree, with the scopes of its cliques, of their cores and of its separators, where each separator's cells lie in the cores of
-/// its clique and of the link, and each core's in its clique and in itself, the neighbours of each clique, and the next cliques on the ways to each. It is
-/// made once; all flows over the tree share it.
+/// its clique and of the link, and each core's in its clique and in itself, the neighbours of each clique, the next cliques on the ways to each, and the first
+/// clique that holds each variable. It is made once; all flows over the tree share it.
 ///
 /// The core of a clique has the variables that a neighbour holds too: messages are made over it, which has often far fewer cells.
 #[derive(Drop)]
@@ -36,6 +36,7 @@ pub struct Shape {
     in_itself: Vec<Places>,
     neighbours: Vec<Vec<u32>>,
     ways: Vec<Vec<u32>>,
+    starts: Vec<u32>,
 }
 
 impl Model for Shape {
@@ -57,7 +58,7 @@ impl Model for Shape {
       cliques = map (λ scope. scope.value) s.cliques.items;
       cores = map (λ scope. scope.value) s.cores.items;
       separators = map (λ scope. scope.value) s.separators.items;
-    }) s.in_cliques.items s.in_links.items s.in_whole.items s.in_itself.items (map (λ list. list.items) s.neighbours.items) (map (λ next. next.items) s.ways.items) };
+    }) s.in_cliques.items s.in_links.items s.in_whole.items s.in_itself.items (map (λ list. list.items) s.neighbours.items) (map (λ next. next.items) s.ways.items) s.starts.items };
 }
 
 impl Shape {
@@ -87,6 +88,7 @@ impl Shape {
             in_itself,
             neighbours,
             ways: ways(alloc, tree)?,
+            starts: starts(alloc, net, tree)?,
         })
     }
 
@@ -103,6 +105,29 @@ impl Shape {
         ensures linked { AreLinked self.now.tree }
     {
         self.tree.cliques()
+    }
+
+    /// The first clique that holds each variable of an event. None exactly where no clique does.
+    pub fn home(&self, event: &Event) -> Option<u32>
+        ensures home { result ≡ home self.now.tree event.now }
+        ensures within { IfSome result (λ k. k ≤ length self.now.tree.cliques) }
+    {
+        home_from(&self.tree, self.start(event.pairs()), event.pairs())
+    }
+
+    /// A clique before which none holds each variable of some pairs: the first that holds the first variable, where it is one of the network's.
+    fn start(&self, pairs: &[Pair]) -> u32
+        ensures { StartsAt self.now.tree (holds_event pairs.now) result }
+    {
+        if pairs.is_empty() {
+            return 1;
+        }
+        let variable = pairs[0].variable as usize;
+        if variable < self.starts.len() {
+            self.starts[variable]
+        } else {
+            1
+        }
     }
 
     /// The scope of a clique.
@@ -203,6 +228,49 @@ impl Shape {
     {
         self.ways[to as usize - 1][from as usize - 1]
     }
+}
+
+/// The first clique, from one on, that holds each variable of some pairs. None exactly where no clique does.
+fn home_from(tree: &Tree, start: u32, pairs: &[Pair]) -> Option<u32>
+    requires { StartsAt tree.now (holds_event pairs.now) start }
+    ensures home { result ≡ home tree.now pairs.now }
+    ensures within { IfSome result (λ k. k ≤ length tree.now.cliques) }
+{
+    for passed in start - 1..tree.cliques() {
+        if holds_event(&tree.clique(passed + 1), pairs) {
+            return Some(passed + 1);
+        }
+    }
+    None
+}
+
+fn holds_event(clique: &VarSet, pairs: &[Pair]) -> bool
+    ensures { result ≡ holds_event pairs.now clique.now }
+{
+    pairs.iter().all(|pair| clique.has(pair.variable))
+}
+
+/// For each variable of a network a clique before which none holds it.
+fn starts(alloc: Global, net: &Network, tree: &Tree) -> Result<Vec<u32>, NoMemory>
+    ensures { IfOk result (λ starts. AreStarts tree.now starts.items) }
+{
+    let mut starts = Vec::new(alloc);
+    for variable in 0..net.variables() {
+        starts.push(first_holder(tree, variable))?;
+    }
+    Ok(starts)
+}
+
+/// The first clique that holds a variable, or the first of all.
+fn first_holder(tree: &Tree, variable: u32) -> u32
+    ensures { StartsAt tree.now (λ set. is_member set variable) result }
+{
+    for passed in 0..tree.cliques() {
+        if tree.clique(passed + 1).has(variable) {
+            return passed + 1;
+        }
+    }
+    1
 }
 
 /// The scope of each clique, in order.

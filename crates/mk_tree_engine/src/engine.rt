@@ -107,7 +107,7 @@ impl<R: Semiring> Engine<R> for TreeEngine<R> {
             → MarksAway self.old self.new (factor_home m.network self.old.flow.shape.tree (RatioOf (trade_ratio ratio.now))) }
         ensures kept { KeepsCount self.old self.new }
     {
-        let clique = event_home(self.flow.shape().tree(), &ratio.event());
+        let clique = event_home(self.flow.shape(), &ratio.event());
         self.flow.times_ratio(clique, ratio);
         self.marks.mark_away(self.flow.shape(), clique);
     }
@@ -122,13 +122,13 @@ impl<R: Semiring> Engine<R> for TreeEngine<R> {
         let Some(event) = Event::empty().with(pair) else {
             unreachable!()
         };
-        let clique = event_home(self.flow.shape().tree(), &event);
+        let clique = event_home(self.flow.shape(), &event);
         self.flow.restrict(clique, pair);
         self.marks.mark_away(self.flow.shape(), clique);
     }
 
     fn fits(&self, event: &Event) -> bool {
-        self.flow.shape().tree().home(event).is_some()
+        self.flow.shape().home(event).is_some()
     }
 
     fn belief(&mut self, event: &Event) -> R::Value
@@ -144,7 +144,7 @@ impl<R: Semiring> Engine<R> for TreeEngine<R> {
         ensures sharp { (m : Meaning) → ⟦<TreeEngine<R> as Engine<R>>⟧.stands_for self.old m
             → R.has_grade result (reading_grade m.tree (placing_of m) (reading_clique m.tree event.now)) }
     {
-        let clique = event_home(self.flow.shape().tree(), event);
+        let clique = event_home(self.flow.shape(), event);
         let _ = self.flow.computed();
         collect(&mut self.flow, &mut self.marks, clique);
         self.flow.read(clique, event)

@@ -12,6 +12,7 @@ ghost use Rattle.mk_propagate.specs.Shapes.{IsClique};
 ghost use Rattle.mk_tree_engine.specs.Engines.{factor_home, reading_clique};
 
 use mk_net::{Event, Network, VarSet};
+use mk_propagate::Shape;
 use mk_tree::Tree;
 
 /// The first clique that holds a variable and its parents.
@@ -45,13 +46,13 @@ fn holds_each(set: &VarSet, variables: &[u32]) -> bool
 }
 
 /// The first clique that holds each variable of an event.
-pub(crate) fn event_home(tree: &Tree, event: &Event) -> u32
-    requires { is_some (home tree.now event.now) ≡ true }
-    ensures home { result ≡ reading_clique tree.now event.now }
-    ensures clique { IsClique tree.now result }
-    ensures fits { holds_event event.now (clique_at tree.now result) ≡ true }
+pub(crate) fn event_home(shape: &Shape, event: &Event) -> u32
+    requires { is_some (home shape.now.tree event.now) ≡ true }
+    ensures home { result ≡ reading_clique shape.now.tree event.now }
+    ensures clique { IsClique shape.now.tree result }
+    ensures fits { holds_event event.now (clique_at shape.now.tree result) ≡ true }
 {
-    let Some(clique) = tree.home(event) else {
+    let Some(clique) = shape.home(event) else {
         unreachable!()
     };
     clique

@@ -1,10 +1,12 @@
 -- How a shape is kept: beside the scopes, where the separators' cells lie in the cores at their ends and the cores' cells in their cliques and in themselves, the
--- list of each clique's neighbours, and for each clique the next cliques on the ways there.
-use Rattle.std.specs.Prelude.{◌≡◌, ℕ, ◌+◌, ◌-◌, ◌<◌, ◌≤◌, Bool, true, false, if◌then◌else◌, List, [], map, length, slice_index_or}
+-- list of each clique's neighbours, for each clique the next cliques on the ways there, and for each variable where to look for its home.
+use Rattle.std.specs.Prelude.{◌≡◌, ℕ, ◌+◌, ◌-◌, ◌<◌, ◌≤◌, Bool, true, false, if◌then◌else◌, List, [], map, length, slice_index, slice_index_or}
 use Rattle.std.specs.List.{range_with_len}
+use Rattle.mk_net.specs.declared.sets.VarSet.{VarSet}
+use Rattle.mk_net.specs.Sets.{is_member}
 use Rattle.mk_net.specs.Network.{Variable}
 use Rattle.mk_table.specs.Scopes.{ScopeOf, PlacesOf, LiesIn}
-use Rattle.mk_tree.specs.Given.{GivenTree, AreLinked, holds, link_of}
+use Rattle.mk_tree.specs.Given.{GivenTree, AreLinked, clique_at, holds, link_of}
 use Rattle.mk_propagate.specs.Shapes.{ShapeOf, IsClique, AreNextTo, clique_scope, core_scope, separator_scope, neighbours, scope_within, in_core, shares}
 
 -- the scopes of the cliques from 1 on, so many of them
@@ -27,6 +29,15 @@ lists_of_neighbours tree count = map (neighbours tree) (range_with_len 1 count)
 pub record AreWays (tree : GivenTree) (count : ℕ) (ways : List (List ℕ)) : Type 0 where
   pub long : length ways ≡ count
   pub way_is : (to : ℕ) → 1 ≤ to → to ≤ count → AreNextTo tree to (length tree.cliques) (slice_index_or ways (to - 1) [])
+
+-- a clique from which on to look for the first that passes a test: none before it does
+pub record StartsAt (tree : GivenTree) (test : VarSet → Bool) (start : ℕ) : Type 0 where
+  pub first : 1 ≤ start
+  pub before : (k : ℕ) → 1 ≤ k → k < start → test (clique_at tree k) ≡ false
+
+-- one for each of some variables
+abbrev pub AreStarts : GivenTree → List ℕ → Type 0
+AreStarts tree starts = (x : ℕ) → x < length starts → StartsAt tree (λ set. is_member set x) (slice_index starts x)
 
 abbrev pub shape_of : GivenTree → List ScopeOf → List ScopeOf → List ScopeOf → ShapeOf
 shape_of tree cliques cores separators = record { tree = tree; cliques = cliques; cores = cores; separators = separators }
@@ -56,7 +67,7 @@ pub record CanPlaceCores (shape : ShapeOf) : Type 0 where
   pub one_core_each : length shape.cores ≡ length shape.tree.cliques
   pub lie : (k : ℕ) → IsClique shape.tree k → LiesIn (core_scope shape k) (clique_scope shape k)
 
-pub record IsShaped (shape : ShapeOf) (in_cliques in_links in_whole in_itself : List PlacesOf) (neighbour_lists ways : List (List ℕ)) : Type 0 where
+pub record IsShaped (shape : ShapeOf) (in_cliques in_links in_whole in_itself : List PlacesOf) (neighbour_lists ways : List (List ℕ)) (starts : List ℕ) : Type 0 where
   pub linked : AreLinked shape.tree
   pub in_cliques_are : in_cliques ≡ places_of shape false (length shape.tree.cliques - 1)
   pub in_links_are : in_links ≡ places_of shape true (length shape.tree.cliques - 1)
@@ -67,3 +78,4 @@ pub record IsShaped (shape : ShapeOf) (in_cliques in_links in_whole in_itself : 
   pub one_less : length shape.separators + 1 ≡ length shape.tree.cliques
   pub neighbours_are : neighbour_lists ≡ lists_of_neighbours shape.tree (length shape.tree.cliques)
   pub ways_are : AreWays shape.tree (length shape.tree.cliques) ways
+  pub starts_are : AreStarts shape.tree starts

@@ -45,7 +45,7 @@ invariant_of-result c =
     ∙ ap (λ xs. core_places_of (shape_of tree (map (λ scope. scope.value) cliques) (map (λ scope. scope.value) xs) []) (length tree.cliques)) c.deref-7.ensures.value)
     (c.in_ok-in_itself.ensures ∙ ap (λ xs. core_places_of (shape_of tree (map (λ scope. scope.value) xs) (map (λ scope. scope.value) c.deref-9.result.now) []) (length tree.cliques)) c.deref-8.ensures.value
     ∙ ap (λ xs. core_places_of (shape_of tree (map (λ scope. scope.value) cores) (map (λ scope. scope.value) xs) []) (length tree.cliques)) c.deref-9.ensures.value)
-    (map (λ list. list.items) c.in_ok-neighbours.neighbours.items) (map (λ next. next.items) c.in_ok-ways.field-0.items) c.in_ok-neighbours.ensures c.in_ok-ways.ensures
+    (map (λ list. list.items) c.in_ok-neighbours.neighbours.items) (map (λ next. next.items) c.in_ok-ways.field-0.items) c.in_ok-neighbours.ensures c.in_ok-ways.ensures c.in_ok-starts.field-0.items c.in_ok-starts.ensures
 
 pub returns-clause-shape : goal.returns-clause-shape
 returns-clause-shape c =

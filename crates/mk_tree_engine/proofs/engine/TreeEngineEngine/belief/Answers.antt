@@ -11,14 +11,14 @@ use Rattle.mk_tree_engine.proofs.engine.TreeEngineEngine.belief.Goals as goal
 
 pub event_home-clique-requires : goal.event_home-clique-requires
 event_home-clique-requires g c =
-    let e : c.tree.result.now ≡ c.args.self.now.flow.shape.tree = c.tree.ensures ∙ ap (λ (s : ShapeOf). s.tree) c.shape.ensures ∙ ap (λ (e : MarkedFlow). e.flow.shape.tree) c.self.view_is in
+    let e : c.shape.result.now.tree ≡ c.args.self.now.flow.shape.tree = ap (λ (s : ShapeOf). s.tree) c.shape.ensures ∙ ap (λ (e : MarkedFlow). e.flow.shape.tree) c.self.view_is in
     subst (λ (t : GivenTree). is_some (home t c.args.event.now) ≡ true) (sym e) c.requires.fits
 
 pub collect-requires-clause-could : goal.collect-requires-clause-could
 collect-requires-clause-could g c =
     let plus = g.R.Semiring.plus_of in let a = c.requires.range in let k = c.event_home-clique.result in
     let inside = c.self.inside in let old = marked inside.flow inside.marks.up.items inside.marks.down.items in
-    let e : c.tree.result.now ≡ inside.flow.shape.tree = c.tree.ensures ∙ ap (λ (s : ShapeOf). s.tree) c.shape.ensures in
+    let e : c.shape.result.now.tree ≡ inside.flow.shape.tree = ap (λ (s : ShapeOf). s.tree) c.shape.ensures in
     let at_k = subst (λ (t : GivenTree). IsClique t k) e c.event_home-clique.ensures.clique in
     can_collect plus old c.self.invariant.marks_of a.meaning (stands_old plus old c.args.self.now a.meaning c.self.view_is a.stands) k at_k
 
@@ -27,7 +27,7 @@ read-requires g c =
     let plus = g.R.Semiring.plus_of in let a = c.requires.range in let k = c.event_home-clique.result in let event = c.args.event.now in
     let inside = c.self.inside in let old = marked inside.flow inside.marks.up.items inside.marks.down.items in
     let last = marked c.collect.new.flow c.collect.new.marks.up.items c.collect.new.marks.down.items in
-    let e : c.tree.result.now ≡ inside.flow.shape.tree = c.tree.ensures ∙ ap (λ (s : ShapeOf). s.tree) c.shape.ensures in
+    let e : c.shape.result.now.tree ≡ inside.flow.shape.tree = ap (λ (s : ShapeOf). s.tree) c.shape.ensures in
     let at_k = subst (λ (t : GivenTree). IsClique t k) e c.event_home-clique.ensures.clique in
     let holds = subst (λ (t : GivenTree). holds_event event (clique_at t k) ≡ true) e c.event_home-clique.ensures.fits in
     let h = stands_old plus old c.args.self.now a.meaning c.self.view_is a.stands in
@@ -38,7 +38,7 @@ invariant_of-self g c =
     let plus = g.R.Semiring.plus_of in let k = c.event_home-clique.result in
     let inside = c.self.inside in let old = marked inside.flow inside.marks.up.items inside.marks.down.items in
     let last = marked c.collect.new.flow c.collect.new.marks.up.items c.collect.new.marks.down.items in
-    let e : c.tree.result.now ≡ inside.flow.shape.tree = c.tree.ensures ∙ ap (λ (s : ShapeOf). s.tree) c.shape.ensures in
+    let e : c.shape.result.now.tree ≡ inside.flow.shape.tree = ap (λ (s : ShapeOf). s.tree) c.shape.ensures in
     let at_k = subst (λ (t : GivenTree). IsClique t k) e c.event_home-clique.ensures.clique in
     subst (λ (f : FlowOf). IsMarked f.shape.tree c.collect.new.marks.up.items c.collect.new.marks.down.items c.collect.new.marks.collected) (sym c.read.ensures.kept)
     (is_marked plus old c.self.invariant.marks_of k at_k last c.collect.ensures.made c.collect.new.marks.collected c.collect.ensures.collected)
@@ -48,7 +48,7 @@ returns-clause-kept g c = λ m stands.
     let plus = g.R.Semiring.plus_of in let k = c.event_home-clique.result in
     let inside = c.self.inside in let old = marked inside.flow inside.marks.up.items inside.marks.down.items in
     let last = marked c.collect.new.flow c.collect.new.marks.up.items c.collect.new.marks.down.items in
-    let e : c.tree.result.now ≡ inside.flow.shape.tree = c.tree.ensures ∙ ap (λ (s : ShapeOf). s.tree) c.shape.ensures in
+    let e : c.shape.result.now.tree ≡ inside.flow.shape.tree = ap (λ (s : ShapeOf). s.tree) c.shape.ensures in
     let at_k = subst (λ (t : GivenTree). IsClique t k) e c.event_home-clique.ensures.clique in
     let h = stands_old plus old c.args.self.now m c.self.view_is stands in
     subst (λ (f : FlowOf). HasTree plus (marked f c.collect.new.marks.up.items c.collect.new.marks.down.items) m) (sym c.read.ensures.kept)
@@ -59,7 +59,7 @@ returns-clause-belief g c = λ m stands.
     let R = g.R.Semiring in let plus = R.plus_of in let law = g.met.R.Semiring in let k = c.event_home-clique.result in
     let inside = c.self.inside in let old = marked inside.flow inside.marks.up.items inside.marks.down.items in
     let last = marked c.collect.new.flow c.collect.new.marks.up.items c.collect.new.marks.down.items in
-    let e : c.tree.result.now ≡ inside.flow.shape.tree = c.tree.ensures ∙ ap (λ (s : ShapeOf). s.tree) c.shape.ensures in
+    let e : c.shape.result.now.tree ≡ inside.flow.shape.tree = ap (λ (s : ShapeOf). s.tree) c.shape.ensures in
     let at_k = subst (λ (t : GivenTree). IsClique t k) e c.event_home-clique.ensures.clique in
     let h = stands_old plus old c.args.self.now m c.self.view_is stands in
     belief_of plus old c.self.invariant.marks_of k at_k last c.collect.ensures.made
@@ -73,7 +73,7 @@ returns-clause-counted g c =
     let plus = g.R.Semiring.plus_of in let k = c.event_home-clique.result in let event = c.args.event.now in
     let inside = c.self.inside in let old = marked inside.flow inside.marks.up.items inside.marks.down.items in
     let last = marked c.collect.new.flow c.collect.new.marks.up.items c.collect.new.marks.down.items in
-    let e : c.tree.result.now ≡ inside.flow.shape.tree = c.tree.ensures ∙ ap (λ (s : ShapeOf). s.tree) c.shape.ensures in
+    let e : c.shape.result.now.tree ≡ inside.flow.shape.tree = ap (λ (s : ShapeOf). s.tree) c.shape.ensures in
     let at_k = subst (λ (t : GivenTree). IsClique t k) e c.event_home-clique.ensures.clique in
     let few : IsCount inside.flow.computed = omega (arith, c.computed.ensures, c.computed.type_inv) in
     let counted = counts plus old c.self.invariant.marks_of k at_k last c.collect.ensures.made few in
@@ -87,7 +87,7 @@ returns-clause-marks g c =
     let plus = g.R.Semiring.plus_of in let k = c.event_home-clique.result in let event = c.args.event.now in
     let inside = c.self.inside in let old = marked inside.flow inside.marks.up.items inside.marks.down.items in
     let last = marked c.collect.new.flow c.collect.new.marks.up.items c.collect.new.marks.down.items in
-    let e : c.tree.result.now ≡ inside.flow.shape.tree = c.tree.ensures ∙ ap (λ (s : ShapeOf). s.tree) c.shape.ensures in
+    let e : c.shape.result.now.tree ≡ inside.flow.shape.tree = ap (λ (s : ShapeOf). s.tree) c.shape.ensures in
     let at_k = subst (λ (t : GivenTree). IsClique t k) e c.event_home-clique.ensures.clique in
     let place : k ≡ reading_clique c.args.self.now.flow.shape.tree event =
     c.event_home-clique.ensures.home ∙ ap (λ (t : GivenTree). reading_clique t event) (e ∙ ap (λ (e : MarkedFlow). e.flow.shape.tree) c.self.view_is) in
@@ -100,7 +100,7 @@ returns-clause-sharp g c = λ m stands.
     let R = g.R.Semiring in let plus = R.plus_of in let law = g.met.R.Semiring in let k = c.event_home-clique.result in let event = c.args.event.now in
     let inside = c.self.inside in let old = marked inside.flow inside.marks.up.items inside.marks.down.items in
     let last = marked c.collect.new.flow c.collect.new.marks.up.items c.collect.new.marks.down.items in
-    let e : c.tree.result.now ≡ inside.flow.shape.tree = c.tree.ensures ∙ ap (λ (s : ShapeOf). s.tree) c.shape.ensures in
+    let e : c.shape.result.now.tree ≡ inside.flow.shape.tree = ap (λ (s : ShapeOf). s.tree) c.shape.ensures in
     let at_k = subst (λ (t : GivenTree). IsClique t k) e c.event_home-clique.ensures.clique in
     let h = stands_old plus old c.args.self.now m c.self.view_is stands in
     let place : k ≡ reading_clique m.tree event = c.event_home-clique.ensures.home ∙ ap (λ (t : GivenTree). reading_clique t event) (e ∙ h.tree_is) in

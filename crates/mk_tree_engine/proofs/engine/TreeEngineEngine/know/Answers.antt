@@ -20,7 +20,7 @@ pub event_home-clique-requires : goal.event_home-clique-requires
 event_home-clique-requires g c =
     let inside = c.self.inside in let old = marked inside.flow inside.marks.up.items inside.marks.down.items in let a = c.requires in
     let one = one_pair c.empty.result c.in-Some.event c.args.pair c.empty.ensures c.in-Some.ensures.some in
-    let e : c.tree.result.now ≡ inside.flow.shape.tree = c.tree.ensures ∙ ap (λ (s : ShapeOf). s.tree) c.shape.ensures in
+    let e : c.shape.result.now.tree ≡ inside.flow.shape.tree = ap (λ (s : ShapeOf). s.tree) c.shape.ensures in
     let h = stands_old g.R.Semiring.plus_of old c.args.self.now a.meaning c.self.view_is a.stands in
     let covers = h.placed.shape_is.tree_is.covers c.args.pair.variable a.in_range.variable in
     subst (λ (t : GivenTree). is_some (home t c.in-Some.event) ≡ true) (sym e)
@@ -30,13 +30,13 @@ pub restrict-requires : goal.restrict-requires
 restrict-requires g c =
     let inside = c.self.inside in let old = marked inside.flow inside.marks.up.items inside.marks.down.items in let a = c.requires in
     let one = one_pair c.empty.result c.in-Some.event c.args.pair c.empty.ensures c.in-Some.ensures.some in
-    let e : c.tree.result.now ≡ inside.flow.shape.tree = c.tree.ensures ∙ ap (λ (s : ShapeOf). s.tree) c.shape.ensures in
+    let e : c.shape.result.now.tree ≡ inside.flow.shape.tree = ap (λ (s : ShapeOf). s.tree) c.shape.ensures in
     let h = stands_old g.R.Semiring.plus_of old c.args.self.now a.meaning c.self.view_is a.stands in
     let clique = c.event_home-clique.result in
-    let holds : holds_event (c.args.pair ∷ []) (clique_at c.tree.result.now clique) ≡ true =
-    subst (λ (ps : List Pair). holds_event ps (clique_at c.tree.result.now clique) ≡ true) one c.event_home-clique.ensures.fits in
-    let placed : IsPlacedPair a.meaning.network c.tree.result.now (record { clique = clique; pair = c.args.pair }) =
-    record { clique_is = c.event_home-clique.ensures.clique; in_range = a.in_range; holds_it = (and_parts (is_member (clique_at c.tree.result.now clique) c.args.pair.variable) true holds).0 } in
+    let holds : holds_event (c.args.pair ∷ []) (clique_at c.shape.result.now.tree clique) ≡ true =
+    subst (λ (ps : List Pair). holds_event ps (clique_at c.shape.result.now.tree clique) ≡ true) one c.event_home-clique.ensures.fits in
+    let placed : IsPlacedPair a.meaning.network c.shape.result.now.tree (record { clique = clique; pair = c.args.pair }) =
+    record { clique_is = c.event_home-clique.ensures.clique; in_range = a.in_range; holds_it = (and_parts (is_member (clique_at c.shape.result.now.tree clique) c.args.pair.variable) true holds).0 } in
     (placing_of a.meaning, h.placed, subst (λ (t : GivenTree). IsPlacedPair a.meaning.network t (record { clique = clique; pair = c.args.pair })) e placed)
 
 pub invariant_of-self : goal.invariant_of-self
@@ -55,7 +55,7 @@ returns-clause-stands g c = λ m stands.
     let new = marked c.restrict.new.self c.mark_away.new.self.up.items c.mark_away.new.self.down.items in
     let clique = c.event_home-clique.result in
     let h = stands_old plus old c.args.self.now m c.self.view_is stands in
-    let t : c.tree.result.now ≡ m.tree = c.tree.ensures ∙ ap (λ (s : ShapeOf). s.tree) c.shape.ensures ∙ h.tree_is in
+    let t : c.shape.result.now.tree ≡ m.tree = ap (λ (s : ShapeOf). s.tree) c.shape.ensures ∙ h.tree_is in
     let at_home : clique ≡ pair_home m.tree pair =
     c.event_home-clique.ensures.home ∙ ap (λ (t : GivenTree). reading_clique t c.in-Some.event) t ∙ ap (reading_clique m.tree) one in
     let moved = away inside.flow c.restrict.new.self inside.marks.up.items inside.marks.down.items c.mark_away.new.self.up.items c.mark_away.new.self.down.items
@@ -70,7 +70,7 @@ returns-clause-marks g c =
     let inside = c.self.inside in let old = marked inside.flow inside.marks.up.items inside.marks.down.items in
     let new = marked c.restrict.new.self c.mark_away.new.self.up.items c.mark_away.new.self.down.items in
     let clique = c.event_home-clique.result in
-    let t : c.tree.result.now ≡ c.args.self.now.flow.shape.tree = c.tree.ensures ∙ ap (λ (s : ShapeOf). s.tree) c.shape.ensures ∙ ap (λ (e : MarkedFlow). e.flow.shape.tree) c.self.view_is in
+    let t : c.shape.result.now.tree ≡ c.args.self.now.flow.shape.tree = ap (λ (s : ShapeOf). s.tree) c.shape.ensures ∙ ap (λ (e : MarkedFlow). e.flow.shape.tree) c.self.view_is in
     let moved = away inside.flow c.restrict.new.self inside.marks.up.items inside.marks.down.items c.mark_away.new.self.up.items c.mark_away.new.self.down.items
     clique c.shape-2.result.now c.self.invariant.marks_of (c.shape-2.ensures ∙ c.restrict.ensures.kept.same_shape) c.mark_away.ensures.up c.mark_away.ensures.down in
     away_now old c.args.self.now new clique (pair_home c.args.self.now.flow.shape.tree pair) c.self.view_is
