@@ -45,11 +45,11 @@ use Rattle.mk_propagate.proofs.Sending.{can_take}
 use Rattle.mk_propagate.proofs.Marks.{all_linked}
 
 pub all_inputs : (plus : ℕ → ℕ → ℕ) (flow : FlowOf) (p : Placing) (k : ℕ) → AreRightInto plus flow p k → (i : ℕ) → is_input flow.shape.tree k None i ≡ true → IsRight plus flow p i k
-all_inputs plus flow p k right i h = right i (all_linked flow.shape.tree k i h)
+all_inputs plus flow p k right i h = right i (all_linked flow.shape.tree k None i h)
 
 -- the messages into a clique, taken from the parts of a kept flow
 pub into_there : (plus : ℕ → ℕ → ℕ) (flow : FlowOf) (k : ℕ) (p : Placing) → HasPlaced flow p → AreRightInto plus flow p k
-    → (shape : ShapeOf) (upward downward : List TableOf) → shape ≡ flow.shape → upward ≡ flow.upward → downward ≡ flow.downward → (t : TableOf) → HasInto plus shape upward downward k t
+    → (shape : ShapeOf) (upward downward : List TableOf) → shape ≡ flow.shape → upward ≡ flow.upward → downward ≡ flow.downward → (t : TableOf) → HasInto plus shape upward downward k None t
     → HasGathered plus flow.shape k None (neighbours flow.shape.tree k) (λ a. 1) 0 0 t p
 into_there plus flow k p has right shape upward downward s u d t h =
     subst (λ (x : ShapeOf). HasGathered plus x k None (neighbours x.tree k) (λ a. 1) 0 0 t p) s

@@ -10,10 +10,12 @@ use Rattle.mk_table.specs.Cells.{values_at}
 use Rattle.mk_table.specs.Tables.{TableOf, HasNumbers, HasRoom}
 use Rattle.mk_tree.specs.Given.{holds}
 use Rattle.mk_engine.specs.Meaning.{Factor, RowsOf, RatioOf, max_factors, factor_there}
+use Rattle.mk_propagate.specs.declared.gathered.Gathered.{Gathered}
+use Rattle.mk_propagate.specs.declared.gathered.Gathered.TheVariants.{Nothing}
 use Rattle.mk_propagate.specs.Shapes.{IsShapeFor, IsClique, clique_scope, scope_within, no_scope}
 use Rattle.mk_propagate.specs.Placings.{Placing, with_factor_in, with_pair_in, placed_there, factors_in, IsPlacedFactor, IsPlacedPair}
 use Rattle.mk_propagate.specs.Flows.{FlowOf, table_at, no_table, HasCells, HasPlaced, Places}
-use Rattle.mk_propagate.specs.inner.Kept.{IsKept, IsSummed, IsCurrent, AreMarked, IsFlow}
+use Rattle.mk_propagate.specs.inner.Kept.{IsKept, IsSummed, IsGathered, AreMarked, IsFlow}
 use Rattle.mk_propagate.proofs.Placed.{with_table, table_read, factor_placed, pair_placed, kept_with}
 use Rattle.mk_propagate.proofs.Marks.{table_unmarks}
 use Rattle.mk_propagate.proofs.Placed as placed
@@ -68,14 +70,14 @@ module _ (old now : FlowOf) (view : old ≡ now) (cores products : List TableOf)
     still_kept : (count : ℕ) → IsKept (with_table old clique t count) cores products cells
     still_kept count = kept_with old cores products cells clique count read t kept clique_old.first within reads scope
 
-    pub still_flow : (plus : ℕ → ℕ → ℕ) (count : ℕ) (summed current : List Bool) → AreMarked old.shape.tree (IsSummed plus old) cores summed → AreMarked old.shape.tree (IsCurrent plus old) products current
-        → IsFlow plus (with_table old clique t count) cores products (slice_set summed (clique - 1) false) current cells
-    still_flow plus count summed current marked currents = record {
+    pub still_flow : (plus : ℕ → ℕ → ℕ) (count : ℕ) (summed : List Bool) (gathered : List Gathered) → AreMarked Bool old.shape.tree false (IsSummed plus old) cores summed → AreMarked Gathered old.shape.tree Nothing (IsGathered plus old) products gathered
+        → IsFlow plus (with_table old clique t count) cores products (slice_set summed (clique - 1) false) gathered cells
+    still_flow plus count summed gathered marked products_marked = record {
       kept = still_kept count;
       summed_are =
           table_unmarks plus old (slice_set old.tables (clique - 1) t) count clique cores summed marked clique_old
           (λ k at apart. get_or-set_other old.tables (clique - 1) (k - 1) t no_table (λ e. apart (let here = clique_old in omega (arith, e, at.first, here.first))));
-      current_are = currents;
+      gathered_are = record { one_mark_each = products_marked.one_mark_each; marked_is = products_marked.marked_is };
     }
 
     pub places_factor : (plus : ℕ → ℕ → ℕ) (f : Factor) → IsPlacedFactor p.network now.shape.tree (record { clique = clique; factor = f }) → now.factors < max_factors → t.shift ≤ read.shift + 40

@@ -15,7 +15,7 @@ use Rattle.mk_propagate.specs.Flows.{exact_message_grade, all_cells, reading_gra
 use Rattle.mk_propagate.specs.inner.Gathered.{is_taken, is_input, gathered_steps, gathered_factors}
 use Rattle.mk_propagate.proofs.Scopes.{clique_counted}
 use Rattle.mk_propagate.proofs.Placed.{sum_same}
-use Rattle.mk_propagate.proofs.Inputs.{sum_inputs}
+use Rattle.mk_propagate.proofs.Inputs.{sum_inputs, others_counted}
 
 -- sums over cliques
 pub sum_of-plus : (set : ℕ → Bool) (m : ℕ) (f g : ℕ → ℕ) → sum_of set m (λ j. f j + g j) ≡ sum_of set m f + sum_of set m g
@@ -138,21 +138,25 @@ module _ (shape : ShapeOf) (p : Placing) (is : IsShapeFor shape p.network) (plac
         (λ i h. (and_parts (linked_to (link_of tree) (length tree.cliques) k i) (is_taken receiver i) h).0) (λ i. omega arith) in
         omega (arith, e, l)
 
-    -- for each message three steps for each of its grade and one, which are at most three for each of its grade and 2
-    steps_at_most : gathered_steps tree p k receiver (neighbours tree k) (factors_in p k) ≤ factors_in p k + 3 * input_grades
-    steps_at_most =
+    -- for each message three steps for each of its grade and one, which with five more are three for each of its grade and 2
+    steps_with_each : gathered_steps tree p k receiver (neighbours tree k) (factors_in p k) + 5 * sum_of (is_input tree k receiver) (length tree.cliques) (λ i. 1) ≤ factors_in p k + 3 * input_grades
+    steps_with_each =
         let m = length tree.cliques in
         let e = sum_inputs tree k receiver (λ i. 3 * exact_message_grade tree p i k + 1) in
         let t = thrice (is_input tree k receiver) m (λ i. exact_message_grade tree p i k) in
         omega (arith, e, t)
       where
-        thrice : (set : ℕ → Bool) (m : ℕ) (g : ℕ → ℕ) → sum_of set m (λ i. 3 * g i + 1) ≤ 3 * sum_of set m (λ i. g i + 2)
+        thrice : (set : ℕ → Bool) (m : ℕ) (g : ℕ → ℕ) → sum_of set m (λ i. 3 * g i + 1) + 5 * sum_of set m (λ i. 1) ≤ 3 * sum_of set m (λ i. g i + 2)
         thrice set zero g = omega arith
         thrice set (suc n) g = let ih = thrice set n g in at (set (suc n)) ih
           where
-            at : (b : Bool) → sum_of set n (λ i. 3 * g i + 1) ≤ 3 * sum_of set n (λ i. g i + 2) → sum_of set n (λ i. 3 * g i + 1) + cond b (3 * g (suc n) + 1) 0 ≤ 3 * (sum_of set n (λ i. g i + 2) + cond b (g (suc n) + 2) 0)
+            at : (b : Bool) → sum_of set n (λ i. 3 * g i + 1) + 5 * sum_of set n (λ i. 1) ≤ 3 * sum_of set n (λ i. g i + 2)
+                → sum_of set n (λ i. 3 * g i + 1) + cond b (3 * g (suc n) + 1) 0 + 5 * (sum_of set n (λ i. 1) + cond b 1 0) ≤ 3 * (sum_of set n (λ i. g i + 2) + cond b (g (suc n) + 2) 0)
             at true ih = omega (arith, ih)
             at false ih = omega (arith, ih)
+
+    steps_at_most : gathered_steps tree p k receiver (neighbours tree k) (factors_in p k) ≤ factors_in p k + 3 * input_grades
+    steps_at_most = let e = steps_with_each in omega (arith, e)
 
     factors_at_most_grades : gathered_factors tree p k receiver (neighbours tree k) (factors_in p k) ≤ factors_in p k + input_grades
     factors_at_most_grades =
@@ -178,6 +182,12 @@ module _ (shape : ShapeOf) (p : Placing) (is : IsShapeFor shape p.network) (plac
 
     pub message_steps : gathered_steps tree p a (Some b) (neighbours tree a) (factors_in p a) + 2 * clique_cells p.network tree a ≤ 3 * exact_message_grade tree p a b
     message_steps = let s = steps_at_most a clique (Some b) in let g = grade_is in omega (arith, s, g)
+
+    -- where there is another neighbour, some steps more
+    pub others_steps : linked_to (link_of tree) (length tree.cliques) a b ≡ true → IsClique tree b → 1 < length (neighbours tree a)
+        → gathered_steps tree p a (Some b) (neighbours tree a) (factors_in p a) + 2 * clique_cells p.network tree a + 2 ≤ 3 * exact_message_grade tree p a b
+    others_steps back receiver more =
+        let s = steps_with_each a clique (Some b) in let g = grade_is in let c = others_counted tree a b receiver.first receiver.last back in omega (arith, s, g, c, more)
 
     pub message_factors : gathered_factors tree p a (Some b) (neighbours tree a) (factors_in p a) ≤ exact_message_grade tree p a b
     message_factors = let s = factors_at_most_grades a clique (Some b) in let g = grade_is in omega (arith, s, g)

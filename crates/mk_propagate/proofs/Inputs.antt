@@ -1,5 +1,7 @@
 -- The neighbours of a clique in order: the product of their messages, and the sum of their grades.
-use Rattle.std.proofs.Common.{◌≡◌, ℕ, suc, zero, ◌+◌, ◌*◌, Bool, true, false, cond, ◌&&◌, List, [], ◌∷◌, ◌++◌, filter, length, sum_by, Option, refl, ap, ◌∙◌, arith, mul-one}
+use Rattle.std.proofs.Common.{◌≡◌, ℕ, suc, zero, ◌+◌, ◌*◌, ◌<◌, ◌≤◌, Bool, true, false, cond, not, ◌&&◌, ◌||◌, ◌⊎◌, inl, inr, eqb, List, [], ◌∷◌, ◌++◌, filter, length, sum_by, Option, Some, None, refl, sym, ap, ◌∙◌, arith, mul-one, eq-eqb, ne_eqb}
+use Rattle.std.proofs.Math.Path.{fun_ext}
+use Rattle.std.proofs.lemmas.Bool.{cases_eq, both_ways, and_parts, eqb-true}
 use Rattle.std.specs.List.{range_with_len}
 use Rattle.std.proofs.lemmas.List.Elements.{filter-append}
 use Rattle.std.proofs.lemmas.List.Sums.{sum_by-append, sum_by-cons}
@@ -7,6 +9,7 @@ use Rattle.mk_exact.specs.States.{product_by}
 use Rattle.mk_exact.proofs.Sums.{product_by-append}
 use Rattle.mk_sums.specs.Sums.{upd, Blind}
 use Rattle.mk_sums.specs.Trees.{times_of, sum_of, linked_to}
+use Rattle.mk_sums.proofs.Sets.{times_agree, times_union, times_one}
 use Rattle.mk_table.proofs.Members.{range_more}
 use Rattle.mk_tree.specs.Given.{GivenTree, link_of}
 use Rattle.mk_propagate.specs.Shapes.{neighbours}
@@ -94,3 +97,79 @@ times_same set (suc k) f a b h = ap (λ n. n * cond (set (suc k)) (f (suc k) a) 
     at : (c : Bool) → set (suc k) ≡ c → cond c (f (suc k) a) 1 ≡ cond c (f (suc k) b) 1
     at true e = h (suc k) e
     at false e = refl
+
+-- ---- one member of a set of cliques apart from the others
+
+sum_union : (s t : ℕ → Bool) (m : ℕ) (w : ℕ → ℕ) → ((j : ℕ) → s j ≡ true → t j ≡ false) → sum_of (λ j. s j || t j) m w ≡ sum_of s m w + sum_of t m w
+sum_union s t zero w h = refl
+sum_union s t (suc k) w h = let ih = sum_union s t k w h in at (s (suc k)) (t (suc k)) (h (suc k)) ih
+  where
+    at : (b c : Bool) → (b ≡ true → c ≡ false) → sum_of (λ j. s j || t j) k w ≡ sum_of s k w + sum_of t k w
+        → sum_of (λ j. s j || t j) k w + cond (b || c) (w (suc k)) 0 ≡ (sum_of s k w + cond b (w (suc k)) 0) + (sum_of t k w + cond c (w (suc k)) 0)
+    at true true g ih = absurd (both_ways true (g refl) refl)
+    at true false g ih = omega (arith, ih)
+    at false true g ih = omega (arith, ih)
+    at false false g ih = omega (arith, ih)
+
+sum_one : (i m : ℕ) (w : ℕ → ℕ) → 1 ≤ i → i ≤ m → sum_of (λ j. eqb j i) m w ≡ w i
+sum_one i zero w p q = absurd (omega arith)
+sum_one i (suc k) w p q = at (cases_eq i (suc k)) (sum_one i k w p)
+  where
+    none : (n : ℕ) → n < i → sum_of (λ j. eqb j i) n w ≡ 0
+    none zero h = refl
+    none (suc n) h = let ih = none n (omega arith) in let e = ap {B = ℕ} (λ b. cond b (w (suc n)) 0) (ne_eqb (suc n) i (λ e. omega arith)) in omega (arith, ih, e)
+
+    at : ((i ≡ suc k) ⊎ (i ≡ suc k → ⊥)) → (i ≤ k → sum_of (λ j. eqb j i) k w ≡ w i) → sum_of (λ j. eqb j i) k w + cond (eqb (suc k) i) (w (suc k)) 0 ≡ w i
+    at (inl e) ih =
+        let z = none k (omega arith) in let c = ap {B = ℕ} (λ b. cond b (w (suc k)) 0) (eq-eqb (suc k) i (sym e)) in let v = ap w e in omega (arith, z, c, v)
+    at (inr d) ih =
+        let c = ap {B = ℕ} (λ b. cond b (w (suc k)) 0) (ne_eqb (suc k) i (λ e. d (sym e))) in let r = ih (omega (arith, d)) in omega (arith, c, r)
+
+module _ (set : ℕ → Bool) (i m : ℕ) (first : 1 ≤ i) (last : i ≤ m) (member : set i ≡ true) where
+  joined : (j : ℕ) → (set j && true) ≡ ((set j && not (eqb j i)) || eqb j i)
+  joined j = at (set j) (eqb j i) (λ e. ap set (eqb-true j i e) ∙ member)
+    where
+      at : (b c : Bool) → (c ≡ true → b ≡ true) → (b && true) ≡ ((b && not c) || c)
+      at true true h = refl
+      at true false h = refl
+      at false true h = absurd (both_ways false refl (h refl))
+      at false false h = refl
+
+  apart : (j : ℕ) → (set j && not (eqb j i)) ≡ true → eqb j i ≡ false
+  apart j h = at (eqb j i) (and_parts (set j) (not (eqb j i)) h).1
+    where
+      at : (c : Bool) → not c ≡ true → c ≡ false
+      at true e = sym e
+      at false e = refl
+
+  pub times_parted : (f : ℕ → (ℕ → ℕ) → ℕ) (a : ℕ → ℕ) → times_of (λ j. set j && true) m f a ≡ times_of (λ j. set j && not (eqb j i)) m f a * f i a
+  times_parted f a =
+      times_agree f (λ j. set j && true) (λ j. (set j && not (eqb j i)) || eqb j i) m a (λ j _ _. joined j)
+      ∙ times_union f (λ j. set j && not (eqb j i)) (λ j. eqb j i) m a apart
+      ∙ ap (λ n. times_of (λ j. set j && not (eqb j i)) m f a * n) (times_one f i m a first last)
+
+  pub sum_parted : (w : ℕ → ℕ) → sum_of (λ j. set j && true) m w ≡ sum_of (λ j. set j && not (eqb j i)) m w + w i
+  sum_parted w =
+      ap (λ (s : ℕ → Bool). sum_of s m w) (fun_ext joined)
+      ∙ sum_union (λ j. set j && not (eqb j i)) (λ j. eqb j i) m w apart
+      ∙ ap (λ n. sum_of (λ j. set j && not (eqb j i)) m w + n) (sum_one i m w first last)
+
+-- a product over no clique
+pub none_times : (set : ℕ → Bool) (m : ℕ) (f : ℕ → (ℕ → ℕ) → ℕ) (a : ℕ → ℕ) → sum_of set m (λ j. 1) ≡ 0 → times_of set m f a ≡ 1
+none_times set zero f a h = refl
+none_times set (suc k) f a h = at (set (suc k)) h (none_times set k f a)
+  where
+    at : (b : Bool) → sum_of set k (λ j. 1) + cond b 1 0 ≡ 0 → (sum_of set k (λ j. 1) ≡ 0 → times_of set k f a ≡ 1) → times_of set k f a * cond b (f (suc k) a) 1 ≡ 1
+    at true e ih = absurd (omega (arith, e))
+    at false e ih = mul-one _ ∙ ih (omega (arith, e))
+
+-- how many neighbours a clique has beside one of them
+sum_by_ones : (xs : List ℕ) → sum_by (λ x. 1) xs ≡ length xs
+sum_by_ones [] = refl
+sum_by_ones (x ∷ xs) = let ih = sum_by_ones xs in let e = sum_by-cons (λ (x : ℕ). 1) x xs in omega (arith, ih, e)
+
+pub others_counted : (tree : GivenTree) (k i : ℕ) → 1 ≤ i → i ≤ length tree.cliques → linked_to (link_of tree) (length tree.cliques) k i ≡ true
+    → length (neighbours tree k) ≡ sum_of (is_input tree k (Some i)) (length tree.cliques) (λ j. 1) + 1
+others_counted tree k i first last member =
+    sym (sum_by_ones (neighbours tree k)) ∙ sum_inputs tree k None (λ j. 1)
+    ∙ sum_parted (linked_to (link_of tree) (length tree.cliques) k) i (length tree.cliques) first last member (λ j. 1)

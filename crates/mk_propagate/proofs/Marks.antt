@@ -1,176 +1,231 @@
--- What is kept over the cores is as its marks say: a sum is that of its clique's table, and a product has the messages into its clique, as they are.
-use Rattle.std.proofs.Common.{◌≡◌, ℕ, ◌-◌, ◌<◌, ◌≤◌, Bool, true, false, ◌⊎◌, inl, inr, List, slice_index_or, slice_set, length, replicate, None, refl, sym, ap, subst, ◌∙◌, arith}
-use Rattle.std.proofs.lemmas.Bool.{both_ways, cases_eq, and_parts}
+-- What is kept over the cores is as its marks say: a sum is that of its clique's table, and a product has the messages into its clique that the mark tells of, as they are.
+use Rattle.std.proofs.Common.{◌≡◌, ℕ, ◌-◌, ◌<◌, ◌≤◌, Bool, true, false, cond, not, ◌⊎◌, inl, inr, eqb, List, slice_index_or, slice_set, length, replicate, Option, Some, None, refl, sym, ap, subst, ◌∙◌, arith, eq-eqb, ne_eqb}
+use Rattle.std.proofs.lemmas.Bool.{both_ways, cases_eq, and_parts, eqb-true}
 use Rattle.std.proofs.lemmas.List.{get_or_default, get_or-set_same, get_or-set_other, get_or-replicate, length-set, length-replicate}
 use Rattle.mk_sums.specs.Trees.{linked_to}
 use Rattle.mk_table.specs.Tables.{TableOf}
 use Rattle.mk_tree.specs.Given.{GivenTree, link_of}
+use Rattle.mk_propagate.specs.declared.gathered.Gathered.{Gathered}
+use Rattle.mk_propagate.specs.declared.gathered.Gathered.TheVariants.{Nothing, Everything, AllBut}
 use Rattle.mk_propagate.specs.Shapes.{ShapeOf, IsClique, are_linked as is_linked}
 use Rattle.mk_propagate.specs.Placings.{Placing}
 use Rattle.mk_propagate.specs.Flows.{FlowOf, HasPlaced, table_at, no_table}
-use Rattle.mk_propagate.specs.inner.Gathered.{is_input, message_in, IsRightIn, HasCore, HasInto}
-use Rattle.mk_propagate.specs.inner.Kept.{IsSummed, IsCurrent, AreMarked, IsKept, IsFlow}
+use Rattle.mk_propagate.specs.inner.Gathered.{is_taken, is_input, message_in, IsRightIn, HasCore, HasInto, HasMarked, leaves_out, still_marked}
+use Rattle.mk_propagate.specs.inner.Kept.{IsSummed, IsGathered, AreMarked, IsKept, IsFlow}
 use Rattle.mk_propagate.proofs.Placed.{table_read}
-use Rattle.mk_propagate.proofs.Sending.{cores_still, kept_over, table_is, sender, receiver_is, with_upward, with_downward, others_up, others_down, kept_upward, kept_downward, upward_child, downward_child}
+use Rattle.mk_propagate.proofs.Sending.{core_moved, cores_still, kept_over, table_is, sender, receiver_is, with_upward, with_downward, others_up, others_down, kept_upward, kept_downward, upward_child, downward_child}
 
--- ---- one mark is taken away, or put
+-- ---- one mark is changed, with its table or without
 
-marked_still : (marks : List Bool) (i j : ℕ) (mark : Bool) → (j ≡ i → ⊥) → slice_index_or (slice_set marks i mark) j false ≡ true → slice_index_or marks j false ≡ true
-marked_still marks i j mark d h = sym (get_or-set_other marks i j mark false d) ∙ h
-
--- where a mark was taken away there is none
-unmarked : (marks : List Bool) (i j : ℕ) → i < length marks → slice_index_or (slice_set marks i false) j false ≡ true → j ≡ i → ⊥
-unmarked marks i j l h e =
-    both_ways (slice_index_or (slice_set marks i false) i false) (get_or-set_same marks i false false l) (ap (λ n. slice_index_or (slice_set marks i false) n false) (sym e) ∙ h)
-
-module _ (tree : GivenTree) (P : ℕ → TableOf → Type 0) (tables : List TableOf) (marks : List Bool) (h : AreMarked tree P tables marks) (k : ℕ) (clique : IsClique tree k) where
+module _ (M : Type 0) (tree : GivenTree) (none : M) (P : ℕ → M → TableOf → Type 0) (tables : List TableOf) (marks : List M) (h : AreMarked M tree none P tables marks) (k : ℕ) (clique : IsClique tree k) where
   pub mark_within : k - 1 < length marks
   mark_within = omega (arith, h.one_mark_each, clique.first, clique.last)
 
-  -- P holds of a marked clique's table
-  pub marked_at : length tables ≡ length tree.cliques → (t : TableOf) → t ≡ slice_index_or tables (k - 1) t → (mark : Bool) → mark ≡ slice_index_or marks (k - 1) mark → mark ≡ true → P k t
-  marked_at long t e mark f m =
-      let is : slice_index_or marks (k - 1) false ≡ mark = get_or_default marks (k - 1) false mark mark_within ∙ sym f in
-      subst (P k) (table_read tables (k - 1) t (omega (arith, long, clique.first, clique.last)) e) (h.marked_is k clique (is ∙ m))
+  pub mark_is : (mark : M) → mark ≡ slice_index_or marks (k - 1) mark → slice_index_or marks (k - 1) none ≡ mark
+  mark_is mark f = get_or_default marks (k - 1) none mark mark_within ∙ sym f
 
-  -- its table is put anew, and marked if P holds of it
-  pub put_anew : length tables ≡ length tree.cliques → (t : TableOf) (mark : Bool) → (mark ≡ true → P k t) → AreMarked tree P (slice_set tables (k - 1) t) (slice_set marks (k - 1) mark)
+  -- P holds of a clique's mark and table
+  pub marked_at : length tables ≡ length tree.cliques → (t : TableOf) → t ≡ slice_index_or tables (k - 1) t → (mark : M) → mark ≡ slice_index_or marks (k - 1) mark → P k mark t
+  marked_at long t e mark f =
+      subst (λ m. P k m t) (mark_is mark f)
+      (subst (λ (u : TableOf). P k (slice_index_or marks (k - 1) none) u) (table_read tables (k - 1) t (omega (arith, long, clique.first, clique.last)) e) (h.marked_is k clique))
+
+  -- both are put anew
+  pub put_anew : length tables ≡ length tree.cliques → (t : TableOf) (mark : M) → P k mark t → AreMarked M tree none P (slice_set tables (k - 1) t) (slice_set marks (k - 1) mark)
   put_anew long t mark is = record {
     one_mark_each = length-set marks (k - 1) mark ∙ h.one_mark_each;
-    marked_is = λ j at marked. from j at marked (cases_eq j k);
+    marked_is = λ j at. from j at (cases_eq j k);
   }
     where
-      from : (j : ℕ) → IsClique tree j → slice_index_or (slice_set marks (k - 1) mark) (j - 1) false ≡ true → ((j ≡ k) ⊎ (j ≡ k → ⊥)) → P j (slice_index_or (slice_set tables (k - 1) t) (j - 1) no_table)
-      from j at marked (inl e) =
-          let m : mark ≡ true = sym (get_or-set_same marks (k - 1) mark false mark_within) ∙ ap (λ n. slice_index_or (slice_set marks (k - 1) mark) (n - 1) false) (sym e) ∙ marked in
-          subst (λ n. P n (slice_index_or (slice_set tables (k - 1) t) (n - 1) no_table)) (sym e)
-          (subst (P k) (sym (get_or-set_same tables (k - 1) t no_table (omega (arith, long, clique.first, clique.last)))) (is m))
-      from j at marked (inr d) =
+      from : (j : ℕ) → IsClique tree j → ((j ≡ k) ⊎ (j ≡ k → ⊥)) → P j (slice_index_or (slice_set marks (k - 1) mark) (j - 1) none) (slice_index_or (slice_set tables (k - 1) t) (j - 1) no_table)
+      from j at (inl e) =
+          subst (λ n. P n (slice_index_or (slice_set marks (k - 1) mark) (n - 1) none) (slice_index_or (slice_set tables (k - 1) t) (n - 1) no_table)) (sym e)
+          (subst (λ m. P k m (slice_index_or (slice_set tables (k - 1) t) (k - 1) no_table)) (sym (get_or-set_same marks (k - 1) mark none mark_within))
+          (subst (P k mark) (sym (get_or-set_same tables (k - 1) t no_table (omega (arith, long, clique.first, clique.last)))) is))
+      from j at (inr d) =
           let apart : j - 1 ≡ k - 1 → ⊥ = λ e. d (omega (arith, e, at.first, clique.first)) in
-          subst (P j) (sym (get_or-set_other tables (k - 1) (j - 1) t no_table apart)) (h.marked_is j at (marked_still marks (k - 1) (j - 1) mark apart marked))
+          subst (λ m. P j m (slice_index_or (slice_set tables (k - 1) t) (j - 1) no_table)) (sym (get_or-set_other marks (k - 1) (j - 1) mark none apart))
+          (subst (P j (slice_index_or marks (j - 1) none)) (sym (get_or-set_other tables (k - 1) (j - 1) t no_table apart)) (h.marked_is j at))
 
-  -- its mark is taken away, and of the others' tables Q holds where P did
-  pub one_unmarked : (Q : ℕ → TableOf → Type 0) → ((j : ℕ) → IsClique tree j → (j ≡ k → ⊥) → (t : TableOf) → P j t → Q j t) → AreMarked tree Q tables (slice_set marks (k - 1) false)
-  one_unmarked Q still = record {
-    one_mark_each = length-set marks (k - 1) false ∙ h.one_mark_each;
-    marked_is = λ j at marked.
-        let apart : j ≡ k → ⊥ = λ e. unmarked marks (k - 1) (j - 1) mark_within marked (ap (λ n. n - 1) e) in
-        still j at apart (slice_index_or tables (j - 1) no_table) (h.marked_is j at (marked_still marks (k - 1) (j - 1) false (λ e. apart (omega (arith, e, at.first, clique.first))) marked));
+  -- its mark is changed, after which Q holds of it, and of the others' as P did
+  pub one_changed : (Q : ℕ → M → TableOf → Type 0) → ((j : ℕ) → IsClique tree j → (j ≡ k → ⊥) → (m : M) (t : TableOf) → P j m t → Q j m t)
+      → (mark : M) → ((t : TableOf) → P k (slice_index_or marks (k - 1) none) t → Q k mark t) → AreMarked M tree none Q tables (slice_set marks (k - 1) mark)
+  one_changed Q still mark here = record {
+    one_mark_each = length-set marks (k - 1) mark ∙ h.one_mark_each;
+    marked_is = λ j at. from j at (cases_eq j k);
   }
+    where
+      from : (j : ℕ) → IsClique tree j → ((j ≡ k) ⊎ (j ≡ k → ⊥)) → Q j (slice_index_or (slice_set marks (k - 1) mark) (j - 1) none) (slice_index_or tables (j - 1) no_table)
+      from j at (inl e) =
+          subst (λ n. Q n (slice_index_or (slice_set marks (k - 1) mark) (n - 1) none) (slice_index_or tables (n - 1) no_table)) (sym e)
+          (subst (λ m. Q k m (slice_index_or tables (k - 1) no_table)) (sym (get_or-set_same marks (k - 1) mark none mark_within)) (here (slice_index_or tables (k - 1) no_table) (h.marked_is k clique)))
+      from j at (inr d) =
+          subst (λ m. Q j m (slice_index_or tables (j - 1) no_table)) (sym (get_or-set_other marks (k - 1) (j - 1) mark none (λ e. d (omega (arith, e, at.first, clique.first)))))
+          (still j at d (slice_index_or marks (j - 1) none) (slice_index_or tables (j - 1) no_table) (h.marked_is j at))
 
--- without a mark
-pub none_marked : (tree : GivenTree) (P : ℕ → TableOf → Type 0) (tables : List TableOf) (marks : List Bool) (count : ℕ) → marks ≡ replicate count false → count ≡ length tree.cliques → AreMarked tree P tables marks
-none_marked tree P tables marks count none long = record {
-  one_mark_each = ap (λ (all : List Bool). length all) none ∙ length-replicate count false ∙ long;
-  marked_is = λ k at marked.
-      absurd (both_ways (slice_index_or marks (k - 1) false) (ap (λ (all : List Bool). slice_index_or all (k - 1) false) none ∙ get_or-replicate count (k - 1) false false (omega (arith, long, at.first, at.last))) marked);
+-- the same mark everywhere, of which P always holds
+pub all_alike : (M : Type 0) (tree : GivenTree) (none : M) (P : ℕ → M → TableOf → Type 0) (tables : List TableOf) (marks : List M) (count : ℕ) → marks ≡ replicate count none → count ≡ length tree.cliques
+    → ((k : ℕ) (t : TableOf) → P k none t) → AreMarked M tree none P tables marks
+all_alike M tree none P tables marks count same long always = record {
+  one_mark_each = ap (λ (all : List M). length all) same ∙ length-replicate count none ∙ long;
+  marked_is = λ k at.
+      subst (λ m. P k m (slice_index_or tables (k - 1) no_table))
+      (sym (ap (λ (all : List M). slice_index_or all (k - 1) none) same ∙ get_or-replicate count (k - 1) none none (omega (arith, long, at.first, at.last)))) (always k (slice_index_or tables (k - 1) no_table));
 }
 
 -- ---- what marks say stays true
 
 -- all messages into a clique are its inputs
-pub all_linked : (tree : GivenTree) (k i : ℕ) → is_input tree k None i ≡ true → linked_to (link_of tree) (length tree.cliques) k i ≡ true
-all_linked tree k i h = (and_parts (linked_to (link_of tree) (length tree.cliques) k i) true h).0
+pub all_linked : (tree : GivenTree) (k : ℕ) (receiver : Option ℕ) (i : ℕ) → is_input tree k receiver i ≡ true → linked_to (link_of tree) (length tree.cliques) k i ≡ true
+all_linked tree k receiver i h = (and_parts (linked_to (link_of tree) (length tree.cliques) k i) (is_taken receiver i) h).0
 
--- with the same messages into the clique
-same_into : (plus : ℕ → ℕ → ℕ) (shape : ShapeOf) (k : ℕ) (up down up_after down_after : List TableOf) (t : TableOf) → ((i : ℕ) → is_input shape.tree k None i ≡ true → message_in up_after down_after i k ≡ message_in up down i k)
-    → HasInto plus shape up down k t → HasInto plus shape up_after down_after k t
-same_into plus shape k up down up_after down_after t messages h = record {
-  into = λ p can. h.into p (record {
-    shape_is = can.shape_is;
-    placing = can.placing;
-    right = λ i input. subst (λ (u : TableOf). IsRightIn plus shape p i k u) (messages i input) (can.right i input);
-  });
-}
+module _ (plus : ℕ → ℕ → ℕ) (shape : ShapeOf) (k : ℕ) (up down up_after down_after : List TableOf) (t : TableOf) where
+  -- with the same messages
+  same_into : (receiver : Option ℕ) → ((i : ℕ) → is_input shape.tree k receiver i ≡ true → message_in up_after down_after i k ≡ message_in up down i k) → HasInto plus shape up down k receiver t
+      → HasInto plus shape up_after down_after k receiver t
+  same_into receiver messages h = record {
+    into = λ p can. h.into p (record {
+      shape_is = can.shape_is;
+      placing = can.placing;
+      right = λ i input. subst (λ (u : TableOf). IsRightIn plus shape p i k u) (messages i input) (can.right i input);
+    });
+  }
+
+  same_marked : (mark : Gathered) → ((i : ℕ) → linked_to (link_of shape.tree) (length shape.tree.cliques) k i ≡ true → message_in up_after down_after i k ≡ message_in up down i k) → HasMarked plus shape up down k mark t
+      → HasMarked plus shape up_after down_after k mark t
+  same_marked Nothing messages h = h
+  same_marked Everything messages h = same_into None (λ i input. messages i (all_linked shape.tree k None i input)) h
+  same_marked (AllBut j) messages h = (h.0, same_into (Some j) (λ i input. messages i (all_linked shape.tree k (Some j) i input)) h.1)
+
+  -- it has those of all but one
+  pub marked_but : (j : ℕ) (mark : Gathered) → leaves_out j mark ≡ true → HasMarked plus shape up down k mark t → HasInto plus shape up down k (Some j) t
+  marked_but j Nothing e h = absurd (both_ways false refl e)
+  marked_but j Everything e h = absurd (both_ways false refl e)
+  marked_but j (AllBut i) e h = subst (λ (n : ℕ). HasInto plus shape up down k (Some n) t) (eqb-true i j e) h.1
+
+  -- with the same messages but a's
+  without_marked : (a : ℕ) (mark : Gathered) → ((i : ℕ) → linked_to (link_of shape.tree) (length shape.tree.cliques) k i ≡ true → (i ≡ a → ⊥) → message_in up_after down_after i k ≡ message_in up down i k)
+      → HasMarked plus shape up down k mark t → HasMarked plus shape up_after down_after k (still_marked a mark) t
+  without_marked a Nothing messages h = tt
+  without_marked a Everything messages h = tt
+  without_marked a (AllBut j) messages h = at (cases_eq j a)
+    where
+      -- a message that is taken is not a's
+      other : (i : ℕ) → j ≡ a → is_input shape.tree k (Some j) i ≡ true → i ≡ a → ⊥
+      other i e input q = both_ways (is_taken (Some j) i) (none (eqb i j) (eq-eqb i j (q ∙ sym e))) (and_parts (linked_to (link_of shape.tree) (length shape.tree.cliques) k i) (is_taken (Some j) i) input).1
+        where
+          none : (c : Bool) → c ≡ true → not c ≡ false
+          none true e = refl
+          none false e = absurd (both_ways false refl e)
+
+      at : ((j ≡ a) ⊎ (j ≡ a → ⊥)) → HasMarked plus shape up_after down_after k (cond (eqb j a) (AllBut j) Nothing) t
+      at (inl e) =
+          subst (λ (c : Bool). HasMarked plus shape up_after down_after k (cond c (AllBut j) Nothing) t) (sym (eq-eqb j a e))
+          (h.0, same_into (Some j) (λ i input. messages i (all_linked shape.tree k (Some j) i input) (other i e input)) h.1)
+      at (inr d) = subst (λ (c : Bool). HasMarked plus shape up_after down_after k (cond c (AllBut j) Nothing) t) (sym (ne_eqb j a d)) tt
 
 -- the parts of a flow as a call is given them
-pub core_moved : (plus : ℕ → ℕ → ℕ) (k : ℕ) (t : TableOf) (s s_after : ShapeOf) (u u_after : TableOf) → s ≡ s_after → u ≡ u_after → HasCore plus s k u t → HasCore plus s_after k u_after t
-core_moved plus k t s s_after u u_after es eu h = subst (λ (y : TableOf). HasCore plus s_after k y t) eu (subst (λ (y : ShapeOf). HasCore plus y k u t) es h)
+pub marked_moved : (plus : ℕ → ℕ → ℕ) (k : ℕ) (mark : Gathered) (t : TableOf) (s s_after : ShapeOf) (u u_after d d_after : List TableOf) → s ≡ s_after → u ≡ u_after → d ≡ d_after → HasMarked plus s u d k mark t
+    → HasMarked plus s_after u_after d_after k mark t
+marked_moved plus k mark t s s_after u u_after d d_after es eu ed h =
+    subst (λ (y : List TableOf). HasMarked plus s_after u_after y k mark t) ed (subst (λ (y : List TableOf). HasMarked plus s_after y d k mark t) eu (subst (λ (y : ShapeOf). HasMarked plus y u d k mark t) es h))
 
-pub into_moved : (plus : ℕ → ℕ → ℕ) (k : ℕ) (t : TableOf) (s s_after : ShapeOf) (u u_after d d_after : List TableOf) → s ≡ s_after → u ≡ u_after → d ≡ d_after → HasInto plus s u d k t → HasInto plus s_after u_after d_after k t
-into_moved plus k t s s_after u u_after d d_after es eu ed h =
-    subst (λ (y : List TableOf). HasInto plus s_after u_after y k t) ed (subst (λ (y : List TableOf). HasInto plus s_after y d k t) eu (subst (λ (y : ShapeOf). HasInto plus y u d k t) es h))
-
-module _ (plus : ℕ → ℕ → ℕ) (flow : FlowOf) (cores products : List TableOf) (summed current : List Bool) (cells : ℕ) (is_flow : IsFlow plus flow cores products summed current cells) (k : ℕ) (clique : IsClique flow.shape.tree k)
+module _ (plus : ℕ → ℕ → ℕ) (flow : FlowOf) (cores products : List TableOf) (summed : List Bool) (gathered : List Gathered) (cells : ℕ) (is_flow : IsFlow plus flow cores products summed gathered cells) (k : ℕ) (clique : IsClique flow.shape.tree k)
     (shape : ShapeOf) (s : shape ≡ flow.shape) where
   -- a marked sum is that of the clique's table
   pub summed_there : (table : TableOf) → table ≡ slice_index_or flow.tables (k - 1) table → (core : TableOf) → core ≡ slice_index_or cores (k - 1) core → (mark : Bool) → mark ≡ slice_index_or summed (k - 1) mark
       → mark ≡ true → HasCore plus shape k table core
   summed_there table t core e mark f m =
       core_moved plus k core flow.shape shape (table_at flow k) table (sym s) (table_is flow cores products cells is_flow.kept k clique table t)
-      (marked_at flow.shape.tree (IsSummed plus flow) cores summed is_flow.summed_are k clique is_flow.kept.cores_are.one_each core e mark f m)
+      (marked_at Bool flow.shape.tree false (IsSummed plus flow) cores summed is_flow.summed_are k clique is_flow.kept.cores_are.one_each core e mark f m)
 
   module _ (upward downward : List TableOf) (u : upward ≡ flow.upward) (d : downward ≡ flow.downward) (was : TableOf) (e : was ≡ slice_index_or products (k - 1) was) where
-    -- a marked product has the messages
-    pub current_there : (mark : Bool) → mark ≡ slice_index_or current (k - 1) mark → mark ≡ true → HasInto plus shape upward downward k was
-    current_there mark f m =
-        into_moved plus k was flow.shape shape flow.upward upward flow.downward downward (sym s) (sym u) (sym d)
-        (marked_at flow.shape.tree (IsCurrent plus flow) products current is_flow.current_are k clique is_flow.kept.products_are.one_each was e mark f m)
+    -- a product has the messages that its mark tells of
+    pub gathered_there : (mark : Gathered) → mark ≡ slice_index_or gathered (k - 1) mark → HasMarked plus shape upward downward k mark was
+    gathered_there mark f =
+        marked_moved plus k mark was flow.shape shape flow.upward upward flow.downward downward (sym s) (sym u) (sym d)
+        (marked_at Gathered flow.shape.tree Nothing (IsGathered plus flow) products gathered is_flow.gathered_are k clique is_flow.kept.products_are.one_each was e mark f)
 
-    -- it has them, and may be marked
-    pub flow_after : (after : TableOf) (mark : Bool) → after.scope ≡ was.scope → HasInto plus shape upward downward k after
-        → IsFlow plus flow cores (slice_set products (k - 1) after) summed (slice_set current (k - 1) mark) cells
-    flow_after after mark same h = record {
+    -- it has them all, and is marked so
+    pub flow_after : (after : TableOf) (mark : Gathered) → after.scope ≡ was.scope → mark ≡ Everything → HasInto plus shape upward downward k None after
+        → IsFlow plus flow cores (slice_set products (k - 1) after) summed (slice_set gathered (k - 1) mark) cells
+    flow_after after mark same m h = record {
       kept = kept_over flow cores products cores (slice_set products (k - 1) after) cells is_flow.kept is_flow.kept.cores_are (cores_still flow products is_flow.kept.products_are k clique was after e same);
       summed_are = is_flow.summed_are;
-      current_are =
-          put_anew flow.shape.tree (IsCurrent plus flow) products current is_flow.current_are k clique is_flow.kept.products_are.one_each after mark
-          (λ _. into_moved plus k after shape flow.shape upward flow.upward downward flow.downward s u d h);
+      gathered_are =
+          put_anew Gathered flow.shape.tree Nothing (IsGathered plus flow) products gathered is_flow.gathered_are k clique is_flow.kept.products_are.one_each after mark
+          (subst (λ (g : Gathered). IsGathered plus flow k g after) (sym m) (marked_moved plus k Everything after shape flow.shape upward flow.upward downward flow.downward s u d h));
     }
 
 -- ---- a clique's table changes
 
-pub table_unmarks : (plus : ℕ → ℕ → ℕ) (old : FlowOf) (tables : List TableOf) (factors b : ℕ) (cores : List TableOf) (summed : List Bool) → AreMarked old.shape.tree (IsSummed plus old) cores summed → IsClique old.shape.tree b
+pub table_unmarks : (plus : ℕ → ℕ → ℕ) (old : FlowOf) (tables : List TableOf) (factors b : ℕ) (cores : List TableOf) (summed : List Bool) → AreMarked Bool old.shape.tree false (IsSummed plus old) cores summed → IsClique old.shape.tree b
     → ((k : ℕ) → IsClique old.shape.tree k → (k ≡ b → ⊥) → slice_index_or tables (k - 1) no_table ≡ table_at old k)
-    → AreMarked old.shape.tree (IsSummed plus (record { shape = old.shape; tables = tables; upward = old.upward; downward = old.downward; factors = factors; computed = old.computed })) cores (slice_set summed (b - 1) false)
+    → AreMarked Bool old.shape.tree false (IsSummed plus (record { shape = old.shape; tables = tables; upward = old.upward; downward = old.downward; factors = factors; computed = old.computed })) cores (slice_set summed (b - 1) false)
 table_unmarks plus old tables factors b cores summed h clique same =
-    one_unmarked old.shape.tree (IsSummed plus old) cores summed h b clique
+    one_changed Bool old.shape.tree false (IsSummed plus old) cores summed h b clique
     (IsSummed plus (record { shape = old.shape; tables = tables; upward = old.upward; downward = old.downward; factors = factors; computed = old.computed }))
-    (λ k at apart t has. subst (λ (u : TableOf). HasCore plus old.shape k u t) (sym (same k at apart)) has)
+    (λ k at apart m t has marked. subst (λ (u : TableOf). HasCore plus old.shape k u t) (sym (same k at apart)) (has marked)) false (λ t has marked. absurd (both_ways false refl marked))
 
 -- ---- a message is sent from a to b
 
-module _ (plus : ℕ → ℕ → ℕ) (old : FlowOf) (cores products : List TableOf) (summed current : List Bool) (cells computed : ℕ) (is_flow : IsFlow plus old cores products summed current cells) (p : Placing) (has : HasPlaced old p) (a b : ℕ)
+module _ (plus : ℕ → ℕ → ℕ) (old : FlowOf) (cores products : List TableOf) (summed : List Bool) (gathered : List Gathered) (cells computed : ℕ) (is_flow : IsFlow plus old cores products summed gathered cells) (p : Placing) (has : HasPlaced old p) (a b : ℕ)
     (linked_too : is_linked old.shape.tree a b ≡ true) (shape : ShapeOf) (s : shape ≡ old.shape) (table : TableOf) (t : table ≡ slice_index_or old.tables (a - 1) table)
     (core_was core : TableOf) (e : core_was ≡ slice_index_or cores (a - 1) core_was) (same : core.scope ≡ core_was.scope) (sum : HasCore plus shape a table core) (mark : Bool)
-    (was product : TableOf) (f : was ≡ slice_index_or products (a - 1) was) (same_too : product.scope ≡ was.scope) (before after : TableOf) (over : after.scope ≡ before.scope) where
+    (upward downward : List TableOf) (u : upward ≡ old.upward) (d : downward ≡ old.downward)
+    (was product : TableOf) (f : was ≡ slice_index_or products (a - 1) was) (same_too : product.scope ≡ was.scope) (sender_mark : Gathered) (marked : HasMarked plus shape upward downward a sender_mark product)
+    (receiver_was receiver_mark : Gathered) (g : receiver_was ≡ slice_index_or (slice_set gathered (a - 1) sender_mark) (b - 1) receiver_was) (left : receiver_mark ≡ still_marked a receiver_was)
+    (before after : TableOf) (over : after.scope ≡ before.scope) where
   clique : IsClique old.shape.tree a
   clique = sender old p has a b linked_too
+
+  receiver : IsClique old.shape.tree b
+  receiver = receiver_is old p has a b linked_too
 
   kept_mid : IsKept old (slice_set cores (a - 1) core) (slice_set products (a - 1) product) cells
   kept_mid =
       kept_over old cores products (slice_set cores (a - 1) core) (slice_set products (a - 1) product) cells is_flow.kept (cores_still old cores is_flow.kept.cores_are a clique core_was core e same)
       (cores_still old products is_flow.kept.products_are a clique was product f same_too)
 
-  summed_mid : AreMarked old.shape.tree (IsSummed plus old) (slice_set cores (a - 1) core) (slice_set summed (a - 1) mark)
+  summed_mid : AreMarked Bool old.shape.tree false (IsSummed plus old) (slice_set cores (a - 1) core) (slice_set summed (a - 1) mark)
   summed_mid =
-      put_anew old.shape.tree (IsSummed plus old) cores summed is_flow.summed_are a clique is_flow.kept.cores_are.one_each core mark
+      put_anew Bool old.shape.tree false (IsSummed plus old) cores summed is_flow.summed_are a clique is_flow.kept.cores_are.one_each core mark
       (λ _. core_moved plus a core shape old.shape table (table_at old a) s (sym (table_is old cores products cells is_flow.kept a clique table t)) sum)
 
-  current_mid : AreMarked old.shape.tree (IsCurrent plus old) (slice_set products (a - 1) product) (slice_set current (a - 1) false)
-  current_mid =
-      put_anew old.shape.tree (IsCurrent plus old) products current is_flow.current_are a clique is_flow.kept.products_are.one_each product false (λ m. absurd (both_ways false refl m))
+  gathered_mid : AreMarked Gathered old.shape.tree Nothing (IsGathered plus old) (slice_set products (a - 1) product) (slice_set gathered (a - 1) sender_mark)
+  gathered_mid =
+      put_anew Gathered old.shape.tree Nothing (IsGathered plus old) products gathered is_flow.gathered_are a clique is_flow.kept.products_are.one_each product sender_mark
+      (marked_moved plus a sender_mark product shape old.shape upward old.upward downward old.downward s u d marked)
+
+  -- with the messages of both ways after, of which only that from a to b is another
+  gathered_new : (up down : List TableOf) → ((i k : ℕ) → is_linked old.shape.tree i k ≡ true → ((i ≡ a) × (k ≡ b) → ⊥) → message_in up down i k ≡ message_in old.upward old.downward i k)
+      → AreMarked Gathered old.shape.tree Nothing (λ k m t. HasMarked plus old.shape up down k m t) (slice_set products (a - 1) product) (slice_set (slice_set gathered (a - 1) sender_mark) (b - 1) receiver_mark)
+  gathered_new up down others =
+      one_changed Gathered old.shape.tree Nothing (IsGathered plus old) (slice_set products (a - 1) product) (slice_set gathered (a - 1) sender_mark) gathered_mid b receiver (λ k m t. HasMarked plus old.shape up down k m t)
+      (λ k at apart m t. same_marked plus old.shape k old.upward old.downward up down t m (λ i input. others i k input (λ q. apart q.1))) receiver_mark
+      (λ t h.
+      subst (λ (m : Gathered). HasMarked plus old.shape up down b m t) (sym left)
+      (without_marked plus old.shape b old.upward old.downward up down t a receiver_was (λ i input other. others i b input (λ q. other q.0))
+      (subst (λ (m : Gathered). HasMarked plus old.shape old.upward old.downward b m t) (mark_is Gathered old.shape.tree Nothing (IsGathered plus old) (slice_set products (a - 1) product) (slice_set gathered (a - 1) sender_mark) gathered_mid b receiver receiver_was g) h)))
 
   pub flow_up : b < a → before ≡ slice_index_or old.upward (a - 2) before
-      → IsFlow plus (with_upward old (a - 2) after computed) (slice_set cores (a - 1) core) (slice_set products (a - 1) product) (slice_set summed (a - 1) mark) (slice_set (slice_set current (a - 1) false) (b - 1) false) cells
-  flow_up l g = record {
+      → IsFlow plus (with_upward old (a - 2) after computed) (slice_set cores (a - 1) core) (slice_set products (a - 1) product) (slice_set summed (a - 1) mark) (slice_set (slice_set gathered (a - 1) sender_mark) (b - 1) receiver_mark) cells
+  flow_up l q = record {
     kept = let c = upward_child old p has a b linked_too l in
-        kept_upward old (slice_set cores (a - 1) core) (slice_set products (a - 1) product) cells computed kept_mid (a - 2) before after (omega (arith, is_flow.kept.one_less_up, c.later, c.within)) g over;
-    summed_are = summed_mid;
-    current_are =
-        one_unmarked old.shape.tree (IsCurrent plus old) (slice_set products (a - 1) product) (slice_set current (a - 1) false) current_mid b (receiver_is old p has a b linked_too) (IsCurrent plus (with_upward old (a - 2) after computed))
-        (λ k at apart u. same_into plus old.shape k old.upward old.downward (slice_set old.upward (a - 2) after) old.downward u
-        (λ i input. others_up old p has a b linked_too computed after l i k (all_linked old.shape.tree k i input) (λ q. apart q.1)));
+        kept_upward old (slice_set cores (a - 1) core) (slice_set products (a - 1) product) cells computed kept_mid (a - 2) before after (omega (arith, is_flow.kept.one_less_up, c.later, c.within)) q over;
+    summed_are = record { one_mark_each = summed_mid.one_mark_each; marked_is = summed_mid.marked_is };
+    gathered_are =
+        let n = gathered_new (slice_set old.upward (a - 2) after) old.downward (others_up old p has a b linked_too computed after l) in
+        record { one_mark_each = n.one_mark_each; marked_is = n.marked_is };
   }
 
   pub flow_down : a ≤ b → before ≡ slice_index_or old.downward (b - 2) before
-      → IsFlow plus (with_downward old (b - 2) after computed) (slice_set cores (a - 1) core) (slice_set products (a - 1) product) (slice_set summed (a - 1) mark) (slice_set (slice_set current (a - 1) false) (b - 1) false) cells
-  flow_down l g = record {
+      → IsFlow plus (with_downward old (b - 2) after computed) (slice_set cores (a - 1) core) (slice_set products (a - 1) product) (slice_set summed (a - 1) mark) (slice_set (slice_set gathered (a - 1) sender_mark) (b - 1) receiver_mark) cells
+  flow_down l q = record {
     kept = let c = downward_child old p has a b linked_too l in
-        kept_downward old (slice_set cores (a - 1) core) (slice_set products (a - 1) product) cells computed kept_mid (b - 2) before after (omega (arith, is_flow.kept.one_less_down, c.later, c.within)) g over;
-    summed_are = summed_mid;
-    current_are =
-        one_unmarked old.shape.tree (IsCurrent plus old) (slice_set products (a - 1) product) (slice_set current (a - 1) false) current_mid b (receiver_is old p has a b linked_too) (IsCurrent plus (with_downward old (b - 2) after computed))
-        (λ k at apart u. same_into plus old.shape k old.upward old.downward old.upward (slice_set old.downward (b - 2) after) u
-        (λ i input. others_down old p has a b linked_too computed after l i k (all_linked old.shape.tree k i input) (λ q. apart q.1)));
+        kept_downward old (slice_set cores (a - 1) core) (slice_set products (a - 1) product) cells computed kept_mid (b - 2) before after (omega (arith, is_flow.kept.one_less_down, c.later, c.within)) q over;
+    summed_are = record { one_mark_each = summed_mid.one_mark_each; marked_is = summed_mid.marked_is };
+    gathered_are =
+        let n = gathered_new old.upward (slice_set old.downward (b - 2) after) (others_down old p has a b linked_too computed after l) in
+        record { one_mark_each = n.one_mark_each; marked_is = n.marked_is };
   }

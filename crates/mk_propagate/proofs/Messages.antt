@@ -1,8 +1,10 @@
 -- What a clique gathers, message by message, and what it sends.
-use Rattle.std.proofs.Common.{◌≡◌, ℕ, ◌+◌, ◌-◌, ◌*◌, ◌<◌, ◌≤◌, ◌==◌, Bool, true, false, cond, not, ◌&&◌, ◌||◌, ◌⊎◌, inl, inr, List, [], take, get_or, slice_index, length, max, Option, Some, refl, sym, ap, subst, ◌∙◌, arith, mul-one, mul_assoc, mul_comm}
+use Rattle.std.proofs.Common.{◌≡◌, ℕ, ◌+◌, ◌-◌, ◌*◌, ◌<◌, ◌≤◌, ◌==◌, Bool, true, false, cond, not, ◌&&◌, ◌||◌, ◌⊎◌, inl, inr, List, [], take, get_or, slice_index, length, max, Option, Some, None, eqb, sum_by, refl, sym, ap, subst, ◌∙◌, arith, mul-one, one-mul, mul_assoc, mul_comm}
 use Rattle.std.proofs.Math.Path.{fun_ext}
 use Rattle.std.proofs.lemmas.Bool.{cases_Bool, both_ways, and_parts}
+use Rattle.std.proofs.Math.Seq.{take-length}
 use Rattle.std.proofs.lemmas.List.{take_more}
+use Rattle.std.proofs.lemmas.List.Elements.{All-weaker}
 use Rattle.std.proofs.lemmas.List.FromFn.{length-range_with_len}
 use Rattle.std.proofs.lemmas.List.Sums.{sum_by_more, sum_by-take-le, sum_by_more_le, length-filter, count_by-le-length}
 use Rattle.mk_net.specs.Network.{sizes}
@@ -14,11 +16,13 @@ use Rattle.mk_cell.specs.inner.Laws.{stands_with_more}
 use Rattle.mk_sums.specs.Sums.{over, Within, Blind}
 use Rattle.mk_sums.specs.Trees.{linked, linked_to, times_of}
 use Rattle.mk_sums.specs.Joint.{variables}
+use Rattle.mk_sums.specs.Cells.{keep, Apart}
 use Rattle.mk_sums.proofs.Groups.{message_law}
 use Rattle.mk_sums.proofs.Hops.{AreLinked, are_linked, linked_back, linked_from, ends}
 use Rattle.mk_sums.proofs.Sums.{over-times, over-union, over_agree, Blind_within}
 use Rattle.mk_sums.proofs.Unread.{message_reads}
-use Rattle.mk_table.specs.Scopes.{ScopeOf, cells_in}
+use Rattle.mk_sums.proofs.Tables.{cell_of_place}
+use Rattle.mk_table.specs.Scopes.{ScopeOf, size_in, cells_in}
 use Rattle.mk_table.specs.Cells.{values_at, cell_in, cells_onto, cells_beside}
 use Rattle.mk_table.specs.Tables.{TableOf, HasNumbers, HasRoom}
 use Rattle.mk_tree.proofs.Cells.{cells_positive}
@@ -26,13 +30,15 @@ use Rattle.mk_tree.specs.Given.{GivenTree, clique_at, holds, link_of}
 use Rattle.mk_propagate.specs.Shapes.{ShapeOf, IsShapeFor, IsClique, clique_scope, core_scope, separator_scope, separator_between, scope_within, in_core, neighbours, clique_cells}
 use Rattle.mk_propagate.specs.Placings.{Placing, IsPlacing, placed_there, factors_in}
 use Rattle.mk_propagate.specs.Flows.{HasCells, exact_message, exact_message_grade}
-use Rattle.mk_propagate.specs.inner.Gathered.{is_taken, is_input, IsRightIn, core_there, core_steps, private_cells, HasCore, gathered, gathered_steps, gathered_factors, HasGathered, IsMargin}
+use Rattle.mk_propagate.specs.inner.Gathered.{is_taken, is_input, IsRightIn, core_there, core_steps, private_cells, HasOutgoing, gathered, gathered_steps, gathered_factors, HasGathered, IsMargin, IsMarginOfProduct}
 use Rattle.mk_propagate.proofs.Scopes.{has_within, variable_of_network, part_has_fewer, clique_counted, clique_small}
 use Rattle.mk_propagate.proofs.Cores.{core_has, core_part, neighbour_linked}
-use Rattle.mk_table.proofs.Owned.{own_more}
+use Rattle.mk_table.proofs.Chosen.{chosen_pass}
+use Rattle.mk_table.proofs.Members.{keep_rising, rising_apart}
+use Rattle.mk_table.proofs.Owned.{own_more, plus_scaled}
 use Rattle.mk_propagate.proofs.Margins.{margin_over, values_of_part}
-use Rattle.mk_propagate.proofs.Inputs.{times_inputs, times_of_blind}
-use Rattle.mk_propagate.proofs.Grading.{few_steps, few_factors, message_steps, message_factors, fewer_steps}
+use Rattle.mk_propagate.proofs.Inputs.{times_inputs, sum_inputs, times_of_blind, times_parted, sum_parted, none_times, others_counted}
+use Rattle.mk_propagate.proofs.Grading.{few_steps, few_factors, message_steps, others_steps, message_factors, fewer_steps}
 use Rattle.mk_propagate.proofs.Placed.{few_in}
 use Rattle.mk_propagate.proofs.Readings.{held_listed, is_tree}
 
@@ -123,6 +129,25 @@ module _ (shape : ShapeOf) (p : Placing) (is : IsShapeFor shape p.network) (plac
             let n : x < length p.network = variable_of_network p.network x (held_listed shape p is placing i x sender.first sender.last both.0) in
             values_of_part plus law p.network (shared i k) whole inside c l x (has_within p.network (shared i k) x n q))
 
+    -- a product over a core times one message more
+    pub times_right : (i k : ℕ) → linked (link_of tree) count i k ≡ true → (f h : (ℕ → ℕ) → ℕ) (n n_after m m_after : ℕ) (old new message : TableOf) → HasCells old (core_scope shape k) f n m → IsRightIn plus shape p i k message
+        → new.scope ≡ old.scope → new.shift ≡ old.shift + message.shift → length new.digits ≡ cells_in new.scope
+        → ((f g : ℕ → ℕ) (n q : ℕ) → HasNumbers old f n → HasNumbers message g q → HasNumbers new (λ c. f c * g (cell_in message.scope old.scope c)) (n + q + 1))
+        → ((a : ℕ → ℕ) → f a * exact_message plus tree p i k a ≡ h a) → n + 3 * exact_message_grade tree p i k + 1 ≤ n_after → m + exact_message_grade tree p i k ≤ m_after
+        → HasCells new (core_scope shape k) h n_after m_after
+    times_right i k l f h n n_after m m_after old new message o right scope shift full numbers same steps factors = record {
+      scope_is = scope ∙ o.scope_is;
+      numbers = numbers_again new (λ c. f (values_at old.scope c) * exact_message plus tree p i k (values_at message.scope (cell_in message.scope old.scope c))) (λ c. h (values_at new.scope c)) (n + 3 * exact_message_grade tree p i k + 1) n_after steps there
+          (numbers (λ c. f (values_at old.scope c)) (λ c. exact_message plus tree p i k (values_at message.scope c)) n (3 * exact_message_grade tree p i k) o.numbers right.numbers);
+      small_shift = let b = o.small_shift in let c = right.small_shift in omega (arith, b, c, shift, factors);
+    }
+      where
+        there : (c : ℕ) → c < length new.digits → f (values_at old.scope c) * exact_message plus tree p i k (values_at message.scope (cell_in message.scope old.scope c)) ≡ h (values_at new.scope c)
+        there c q =
+            let inside : c < cells_in old.scope = let z = ap cells_in scope in omega (arith, q, full, z) in
+            ap (λ v. f (values_at old.scope c) * v) (message_value i k l message.scope old.scope right.scope_is o.scope_is c inside)
+            ∙ same (values_at old.scope c) ∙ ap (λ (s : ScopeOf). h (values_at s c)) (sym scope)
+
     -- outside the core there are the clique's own variables
     abbrev private : ℕ → ℕ → Bool
     private k x = holds tree k x && not (in_core tree k x)
@@ -193,28 +218,14 @@ module _ (shape : ShapeOf) (p : Placing) (is : IsShapeFor shape p.network) (plac
               → ((f g : ℕ → ℕ) (n q : ℕ) → HasNumbers old f n → HasNumbers message g q → HasNumbers new (λ c. f c * g (cell_in message.scope old.scope c)) (n + q + 1))
               → HasGathered plus shape k receiver after first steps factors new p
           taken_too old new message h g right scope shift full numbers = record {
-            cells = record {
-              scope_is = scope ∙ g.cells.scope_is;
-              numbers = numbers_again new (λ c. gathered plus tree p k receiver before first (values_at old.scope c) * exact_message plus tree p i k (values_at message.scope (cell_in message.scope old.scope c)))
-                  (λ c. gathered plus tree p k receiver after first (values_at new.scope c)) (gathered_steps tree p k receiver before steps + 3 * exact_message_grade tree p i k + 1) (gathered_steps tree p k receiver after steps)
-                  (let s = steps_more in let w = ap {B = ℕ} (λ t. cond t (3 * exact_message_grade tree p i k + 1) 0) h in omega (arith, s, w)) same
-                  (numbers (λ c. gathered plus tree p k receiver before first (values_at old.scope c)) (λ c. exact_message plus tree p i k (values_at message.scope c)) (gathered_steps tree p k receiver before steps) (3 * exact_message_grade tree p i k) g.cells.numbers right.numbers);
-              small_shift =
-                  let s = factors_more in let w = ap {B = ℕ} (λ t. cond t (exact_message_grade tree p i k) 0) h in let b = g.cells.small_shift in let c = right.small_shift in
-                  omega (arith, s, w, b, c, shift);
-            };
+            cells = times_right i k (neighbour_linked tree k j i l e) (gathered plus tree p k receiver before first) (gathered plus tree p k receiver after first)
+                (gathered_steps tree p k receiver before steps) (gathered_steps tree p k receiver after steps) (gathered_factors tree p k receiver before factors) (gathered_factors tree p k receiver after factors)
+                old new message g.cells right scope shift full numbers
+                (λ a. ap (λ n. gathered plus tree p k receiver before first a * n) (sym (ap (λ (t : Bool). cond t (exact_message plus tree p i k a) 1) h)) ∙ gathered_more a)
+                (let s = steps_more in let w = ap {B = ℕ} (λ t. cond t (3 * exact_message_grade tree p i k + 1) 0) h in omega (arith, s, w))
+                (let s = factors_more in let w = ap {B = ℕ} (λ t. cond t (exact_message_grade tree p i k) 0) h in omega (arith, s, w));
             full = full;
           }
-            where
-              same : (c : ℕ) → c < length new.digits
-                  → gathered plus tree p k receiver before first (values_at old.scope c) * exact_message plus tree p i k (values_at message.scope (cell_in message.scope old.scope c)) ≡ gathered plus tree p k receiver after first (values_at new.scope c)
-              same c q =
-                  let inside : c < cells_in old.scope = let z = ap cells_in scope in omega (arith, q, full, z) in
-                  ap (λ n. gathered plus tree p k receiver before first (values_at old.scope c) * n)
-                  (message_value i k (neighbour_linked tree k j i l e) message.scope old.scope right.scope_is g.cells.scope_is c inside
-                  ∙ sym (ap (λ (t : Bool). cond t (exact_message plus tree p i k (values_at old.scope c)) 1) h))
-                  ∙ gathered_more (values_at old.scope c)
-                  ∙ ap (λ (s : ScopeOf). gathered plus tree p k receiver after first (values_at s c)) (sym scope)
 
           pub message_room : (message : TableOf) → is_taken receiver i ≡ true → IsRightIn plus shape p i k message → HasRoom message 1
           message_room message h right = record {
@@ -240,16 +251,50 @@ module _ (shape : ShapeOf) (p : Placing) (is : IsShapeFor shape p.network) (plac
             small_shift = let a = sum_by-take-le factors_of (neighbours tree k) j in let b = few_factors shape p is placing k clique receiver in let s = g.cells.small_shift in omega (arith, a, b, s, less);
           }
 
-          pub whole_room : (table : TableOf) → HasGathered plus shape k receiver (neighbours tree k) first steps factors table p → HasRoom table (2 * cells_in table.scope)
-          whole_room table g = record {
-            numbers = λ c. gathered plus tree p k receiver (neighbours tree k) first (values_at table.scope c);
-            steps = gathered_steps tree p k receiver (neighbours tree k) steps;
-            has = g.cells.numbers;
-            few_steps =
-                let b = few_steps shape p is placing k clique receiver in let s = ap cells_in (g.cells.scope_is ∙ is.core_scopes k clique) in let f = core_cells k in let c = clique_small p.network tree is.tree_is k clique.first clique.last in
-                omega (arith, b, s, f, c, few);
-            small_shift = let b = few_factors shape p is placing k clique receiver in let s = g.cells.small_shift in omega (arith, b, s, less);
-          }
+          pub whole_room : (table : TableOf) → HasGathered plus shape k receiver (neighbours tree k) first steps factors table p → HasRoom table 1
+          whole_room table g =
+              taken_room (length (neighbours tree k)) table
+              (subst (λ (xs : List ℕ). HasGathered plus shape k receiver xs first steps factors table p) (sym (take-length (neighbours tree k))) g)
+
+    -- the message of the one neighbour that a product leaves out
+    module _ (k : ℕ) (clique : IsClique tree k) (i : ℕ) (l : linked (link_of tree) count i k ≡ true) where
+      neighbour : IsClique tree i
+      neighbour = (are_ends i k l).0
+
+      product_back : (a : ℕ → ℕ) → gathered plus tree p k (Some i) (neighbours tree k) (λ t. 1) a * exact_message plus tree p i k a ≡ gathered plus tree p k None (neighbours tree k) (λ t. 1) a
+      product_back a =
+          mul_assoc 1 _ (exact_message plus tree p i k a)
+          ∙ ap (λ n. 1 * n)
+          (ap (λ n. n * exact_message plus tree p i k a) (times_inputs tree k (Some i) (λ j. exact_message plus tree p j k) a)
+          ∙ sym (times_parted (linked_to (link_of tree) count k) i count neighbour.first neighbour.last l (λ j. exact_message plus tree p j k) a)
+          ∙ sym (times_inputs tree k None (λ j. exact_message plus tree p j k) a))
+
+      sum_back : (w : ℕ → ℕ) → sum_by (λ j. w j) (neighbours tree k) ≡ sum_by (λ j. cond (is_taken (Some i) j) (w j) 0) (neighbours tree k) + w i
+      sum_back w =
+          sum_inputs tree k None w ∙ sum_parted (linked_to (link_of tree) count k) i count neighbour.first neighbour.last l w
+          ∙ ap (λ n. n + w i) (sym (sum_inputs tree k (Some i) w))
+
+      pub put_back : (old new message : TableOf) → HasGathered plus shape k (Some i) (neighbours tree k) (λ t. 1) 0 0 old p → IsRightIn plus shape p i k message
+          → new.scope ≡ old.scope → new.shift ≡ old.shift + message.shift → length new.digits ≡ cells_in new.scope
+          → ((f g : ℕ → ℕ) (n q : ℕ) → HasNumbers old f n → HasNumbers message g q → HasNumbers new (λ c. f c * g (cell_in message.scope old.scope c)) (n + q + 1))
+          → HasGathered plus shape k None (neighbours tree k) (λ t. 1) 0 0 new p
+      put_back old new message g right scope shift full numbers = record {
+        cells = times_right i k l (gathered plus tree p k (Some i) (neighbours tree k) (λ t. 1)) (gathered plus tree p k None (neighbours tree k) (λ t. 1))
+            (gathered_steps tree p k (Some i) (neighbours tree k) 0) (gathered_steps tree p k None (neighbours tree k) 0) (gathered_factors tree p k (Some i) (neighbours tree k) 0) (gathered_factors tree p k None (neighbours tree k) 0)
+            old new message g.cells right scope shift full numbers product_back
+            (let s = sum_back (λ j. 3 * exact_message_grade tree p j k + 1) in omega (arith, s))
+            (let s = sum_back (λ j. exact_message_grade tree p j k) in omega (arith, s));
+        full = full;
+      }
+
+      pub back_room : (message : TableOf) → IsRightIn plus shape p i k message → HasRoom message 1
+      back_room message right = record {
+        numbers = λ c. exact_message plus tree p i k (values_at message.scope c);
+        steps = 3 * exact_message_grade tree p i k;
+        has = right.numbers;
+        few_steps = let s = sum_back (λ j. 3 * exact_message_grade tree p j k + 1) in let b = few_steps shape p is placing k clique None in omega (arith, s, b);
+        small_shift = let s = sum_back (λ j. exact_message_grade tree p j k) in let b = few_factors shape p is placing k clique None in let c = right.small_shift in omega (arith, s, b, c);
+      }
 
     -- ---- what is placed in a clique, summed over its core
 
@@ -387,41 +432,94 @@ module _ (shape : ShapeOf) (p : Placing) (is : IsShapeFor shape p.network) (plac
               at true false n q = absurd (both_ways false refl (q refl))
               at false w n q = refl
 
-      pub message_sent : (clique_table core product before after : TableOf) → HasCore plus shape a clique_table core
-          → HasGathered plus shape a (Some b) (neighbours tree a) (core_there plus tree p a) (core_steps tree p a) (factors_in p a) product p
-          → before.scope ≡ separator_between shape a b → IsMargin plus product before after → IsRightIn plus shape p a b after
-      message_sent clique_table core product before after c g e m = record {
-        scope_is = m.scope ∙ e;
-        numbers = numbers_again after (λ d. plus_over plus 0 (λ c. sent (values_at product.scope c)) (cells_onto before.scope product.scope d)) (λ d. exact_message plus tree p a b (values_at after.scope d))
-            (gathered_steps tree p a (Some b) (neighbours tree a) (core_steps tree p a) + (2 * cells_beside before.scope product.scope - 1)) (3 * exact_message_grade tree p a b)
-            few
+      sender : IsClique tree a
+      sender = (are_ends a b h).0
+
+      -- what is made of a table over the core, cell by cell, is the message
+      right_of : (core before after : TableOf) (v : ℕ → ℕ) (n : ℕ) → core.scope ≡ core_scope shape a → before.scope ≡ separator_between shape a b → after.scope ≡ before.scope → length after.digits ≡ cells_in after.scope → HasNumbers after v n
+          → ((d : ℕ) → v d ≡ plus_over plus 0 (λ c. sent (values_at core.scope c)) (cells_onto before.scope core.scope d)) → n ≤ 3 * exact_message_grade tree p a b → after.shift ≤ 40 * exact_message_grade tree p a b
+          → IsRightIn plus shape p a b after
+      right_of core before after v n over_core e scope full numbers cells steps shift = record {
+        scope_is = scope ∙ e;
+        numbers = numbers_again after v (λ d. exact_message plus tree p a b (values_at after.scope d)) n (3 * exact_message_grade tree p a b) steps
             (λ d l.
-            let inside : d < cells_in (scope_within p.network (shared a b)) = let z = ap cells_in (m.scope ∙ part_is) in omega (arith, l, m.full, z) in
-            ap (λ (s : ScopeOf). plus_over plus 0 (λ c. sent (values_at s c)) (cells_onto before.scope s d)) whole_is
+            let inside : d < cells_in (scope_within p.network (shared a b)) = let z = ap cells_in (scope ∙ part_is) in omega (arith, l, full, z) in
+            cells d
+            ∙ ap (λ (s : ScopeOf). plus_over plus 0 (λ c. sent (values_at s c)) (cells_onto before.scope s d)) whole_is
             ∙ ap (λ (s : ScopeOf). plus_over plus 0 (λ c. sent (values_at (scope_within p.network (in_core tree a)) c)) (cells_onto s (scope_within p.network (in_core tree a)) d)) part_is
-            ∙ margin d inside ∙ ap (λ (s : ScopeOf). exact_message plus tree p a b (values_at s d)) (sym (m.scope ∙ part_is)))
-            (m.numbers (λ c. sent (values_at product.scope c)) (gathered_steps tree p a (Some b) (neighbours tree a) (core_steps tree p a)) g.cells.numbers);
-        small_shift = let f = message_factors shape p is placing a b h sender in let s = g.cells.small_shift in omega (arith, f, s, m.shift);
+            ∙ margin d inside ∙ ap (λ (s : ScopeOf). exact_message plus tree p a b (values_at s d)) (sym (scope ∙ part_is)))
+            numbers;
+        small_shift = shift;
       }
         where
-          sender : IsClique tree a
-          sender = (are_ends a b h).0
-
           part_is : before.scope ≡ scope_within p.network (shared a b)
           part_is = e ∙ separator_is a b h
 
-          whole_is : product.scope ≡ scope_within p.network (in_core tree a)
-          whole_is = g.cells.scope_is ∙ is.core_scopes a sender
+          whole_is : core.scope ≡ scope_within p.network (in_core tree a)
+          whole_is = over_core ∙ is.core_scopes a sender
 
-          split : cells_in (scope_within p.network (in_core tree a)) * private_cells p.network tree a ≡ clique_cells p.network tree a
-          split =
-              subst (λ (s : ScopeOf). cells_in s * cells_beside s (scope_within p.network (holds tree a)) ≡ cells_in (scope_within p.network (holds tree a))) (is.core_scopes a sender)
-              (subst (λ (s : ScopeOf). cells_in (core_scope shape a) * cells_beside (core_scope shape a) s ≡ cells_in s) (is.clique_scopes a sender) c.split)
+      module _ (core product : TableOf) (out : HasOutgoing plus shape a b core product p) (before after : TableOf) (e : before.scope ≡ separator_between shape a b) where
+        split : cells_in (scope_within p.network (in_core tree a)) * private_cells p.network tree a ≡ clique_cells p.network tree a
+        split =
+            subst (λ (s : ScopeOf). cells_in s * cells_beside s (scope_within p.network (holds tree a)) ≡ cells_in (scope_within p.network (holds tree a))) (is.core_scopes a sender)
+            (subst (λ (s : ScopeOf). cells_in (core_scope shape a) * cells_beside (core_scope shape a) s ≡ cells_in s) (is.clique_scopes a sender) out.split)
 
-          few : gathered_steps tree p a (Some b) (neighbours tree a) (core_steps tree p a) + (2 * cells_beside before.scope product.scope - 1) ≤ 3 * exact_message_grade tree p a b
-          few =
-              let z = ap cells_in whole_is in let some = clique_counted p.network tree a in let more = cells_positive p.network (clique_at tree a) is.legal in
-              let l = fewer_steps (cells_in before.scope) (cells_beside before.scope product.scope) (cells_in (scope_within p.network (in_core tree a))) (private_cells p.network tree a) (clique_cells p.network tree a)
-              (m.beside ∙ z) split (omega (arith, some, more)) in
-              let s = message_steps shape p is placing a b h sender in
-              omega (arith, l, s)
+        -- the two sums cost at most two steps for each cell
+        sums_cost : cells_in before.scope * cells_beside before.scope core.scope ≡ cells_in core.scope
+            → (2 * private_cells p.network tree a - 1) + (2 * cells_beside before.scope core.scope - 1) ≤ 2 * clique_cells p.network tree a
+        sums_cost beside =
+            let z = ap cells_in (out.sums.scope_is ∙ is.core_scopes a sender) in let some = clique_counted p.network tree a in let more = cells_positive p.network (clique_at tree a) is.legal in
+            fewer_steps (cells_in before.scope) (cells_beside before.scope core.scope) (cells_in (scope_within p.network (in_core tree a))) (private_cells p.network tree a) (clique_cells p.network tree a)
+            (beside ∙ z) split (omega (arith, some, more))
+
+        -- without another neighbour
+        alone : length (neighbours tree a) < 2 → (t : ℕ → ℕ) → core_there plus tree p a t ≡ sent t
+        alone few t =
+            let receiver = (are_ends a b h).1 in let c = others_counted tree a b receiver.first receiver.last back in
+            sym (ap (λ n. core_there plus tree p a t * n)
+            (times_inputs tree a (Some b) (λ i. exact_message plus tree p i a) t ∙ none_times (is_input tree a (Some b)) count (λ i. exact_message plus tree p i a) t (omega (arith, c, few)))
+            ∙ mul-one (core_there plus tree p a t))
+
+        pub message_alone : length (neighbours tree a) < 2 → IsMargin plus core before after → IsRightIn plus shape p a b after
+        message_alone few m =
+            right_of core before after (λ d. plus_over plus 0 (λ c. core_there plus tree p a (values_at core.scope c)) (cells_onto before.scope core.scope d)) (core_steps tree p a + (2 * cells_beside before.scope core.scope - 1))
+            out.sums.scope_is e m.scope m.full (m.numbers (λ c. core_there plus tree p a (values_at core.scope c)) (core_steps tree p a) out.sums.numbers)
+            (λ d. ap (λ (f : (ℕ → ℕ) → ℕ). plus_over plus 0 (λ c. f (values_at core.scope c)) (cells_onto before.scope core.scope d)) (fun_ext (alone few)))
+            (let l = sums_cost m.beside in let s = message_steps shape p is placing a b h sender in omega (arith, l, s))
+            (let f = message_factors shape p is placing a b h sender in let s = out.sums.small_shift in omega (arith, f, s, m.shift))
+
+        -- a cell of the core is its own
+        own_cell : (c : ℕ) → c < cells_in core.scope → cell_in core.scope core.scope c ≡ c
+        own_cell c l =
+            cell_of_place (size_in core.scope) core.scope.variables
+            (subst (λ (s : ScopeOf). Apart s.variables) (sym (out.sums.scope_is ∙ is.core_scopes a sender)) (rising_apart (keep (in_core tree a) (variables (sizes p.network))) (keep_rising (in_core tree a) 0 (length (sizes p.network))))) c (λ x. 0) l
+
+        product_there : (d : ℕ) (others : (ℕ → ℕ) → ℕ) → product.scope ≡ core.scope → ((t : ℕ → ℕ) → core_there plus tree p a t * others t ≡ sent t)
+            → plus_over plus 0 (λ c. core_there plus tree p a (values_at core.scope c) * others (values_at product.scope (cell_in product.scope core.scope c))) (cells_onto before.scope core.scope d)
+            ≡ plus_over plus 0 (λ c. sent (values_at core.scope c)) (cells_onto before.scope core.scope d)
+        product_there d others same is_sent =
+            ap (λ (s : ScopeOf). plus_over plus 0 (λ c. core_there plus tree p a (values_at core.scope c) * others (values_at s (cell_in s core.scope c))) (cells_onto before.scope core.scope d)) same
+            ∙ sym (mul-one _)
+            ∙ plus_scaled plus law (λ c. sent (values_at core.scope c)) (λ c. core_there plus tree p a (values_at core.scope c) * others (values_at core.scope (cell_in core.scope core.scope c))) 1 (cells_onto before.scope core.scope d)
+            (All-weaker (λ c. (eqb (cell_in before.scope core.scope c) d ≡ true) × (c < cells_in core.scope)) _
+            (λ c q. mul-one _ ∙ ap (λ n. core_there plus tree p a (values_at core.scope c) * others (values_at core.scope n)) (own_cell c q.1) ∙ is_sent (values_at core.scope c))
+            (cells_onto before.scope core.scope d) (chosen_pass (λ c. eqb (cell_in before.scope core.scope c) d) (cells_in core.scope)))
+
+        pub message_of_both : 1 < length (neighbours tree a) → IsMarginOfProduct plus core product before after → IsRightIn plus shape p a b after
+        message_of_both more m =
+            let g = out.others more in
+            let others : (ℕ → ℕ) → ℕ = gathered plus tree p a (Some b) (neighbours tree a) (λ t. 1) in
+            right_of core before after (λ d. plus_over plus 0 (λ c. core_there plus tree p a (values_at core.scope c) * others (values_at product.scope (cell_in product.scope core.scope c))) (cells_onto before.scope core.scope d))
+            (core_steps tree p a + gathered_steps tree p a (Some b) (neighbours tree a) 0 + (2 * cells_beside before.scope core.scope + 1))
+            out.sums.scope_is e m.scope m.full
+            (m.numbers (λ c. core_there plus tree p a (values_at core.scope c)) (λ c. others (values_at product.scope c)) (core_steps tree p a) (gathered_steps tree p a (Some b) (neighbours tree a) 0) out.sums.numbers g.cells.numbers)
+            (λ d. product_there d others (g.cells.scope_is ∙ sym out.sums.scope_is) (λ t. ap (λ n. core_there plus tree p a t * n) (one-mul _)))
+            (let l = sums_cost m.beside in let s = others_steps shape p is placing a b h sender back (are_ends a b h).1 more in omega (arith, l, s))
+            (let f = message_factors shape p is placing a b h sender in let s = out.sums.small_shift in let t = g.cells.small_shift in omega (arith, f, s, t, m.shift))
+
+        -- room for it
+        pub core_room_there : HasRoom core (2 * cells_in core.scope)
+        core_room_there = core_room a sender core out.sums
+
+        pub product_room_there : 1 < length (neighbours tree a) → HasRoom product 1
+        product_room_there more = whole_room a sender (Some b) (λ t. 1) 0 0 (omega arith) (omega arith) product (out.others more)

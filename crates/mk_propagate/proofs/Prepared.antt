@@ -1,14 +1,25 @@
--- What is prepared over the core of a clique: its table summed there, what it sends, and the messages into it.
-use Rattle.std.proofs.Common.{◌≡◌, ℕ, ◌*◌, List, length, Some, None, sym, subst, arith}
+-- What is prepared over the core of a clique: its table summed there, and the messages into it.
+use Rattle.std.proofs.Common.{◌≡◌, ℕ, ◌+◌, ◌*◌, true, refl, List, length, max, Option, Some, None, sym, ap, subst, ◌∙◌, arith}
 use Rattle.std.proofs.Math.Seq.{take-length}
+use Rattle.std.proofs.lemmas.Bool.{and_from, and_parts}
 use Rattle.mk_exact.specs.Lawful.{Lawful}
-use Rattle.mk_table.specs.Scopes.{ScopeOf, cells_in}
-use Rattle.mk_table.specs.Cells.{cells_beside}
-use Rattle.mk_table.specs.Tables.{TableOf, HasNumbers}
-use Rattle.mk_propagate.specs.Shapes.{ShapeOf, IsClique, clique_scope, core_scope, neighbours}
-use Rattle.mk_propagate.specs.Placings.{Placing, factors_in}
-use Rattle.mk_propagate.specs.inner.Gathered.{CanTake, CanGather, CanBegin, Begins, HasCore, HasGathered, HasInto, HasSent, IsGathering, IsMargin, core_there, core_steps}
-use Rattle.mk_propagate.proofs.Messages.{core_sums, few_core_steps}
+use Rattle.mk_sums.specs.Trees.{linked, linked_to}
+use Rattle.mk_table.specs.Scopes.{ScopeOf, PlacesOf, cells_in}
+use Rattle.mk_table.specs.Cells.{cell_in, cells_beside}
+use Rattle.mk_table.specs.Tables.{TableOf, HasNumbers, HasRoom}
+use Rattle.mk_tree.specs.Given.{link_of}
+use Rattle.mk_propagate.specs.Shapes.{ShapeOf, IsClique, clique_scope, core_scope, separator_scope, separator_between, neighbours}
+use Rattle.mk_propagate.specs.Placings.{Placing}
+use Rattle.mk_propagate.specs.inner.Gathered.{is_taken, message_in, IsRightIn, CanTake, CanBegin, Begins, HasCore, HasGathered, HasInto, IsGathering, IsMargin}
+use Rattle.mk_propagate.proofs.Messages.{core_sums, whole_room, put_back, back_room}
+
+-- the shape has its places in what is gathered so far
+pub places_there : (plus : ℕ → ℕ → ℕ) (shape : ShapeOf) (k i : ℕ) (p : Placing) (old message : TableOf) → old.scope ≡ core_scope shape k
+    → IsRightIn plus shape p i k message → (places : PlacesOf) → places ≡ record { whole = core_scope shape k; part = separator_between shape k i } → places ≡ record { whole = old.scope; part = message.scope }
+places_there plus shape k i p old message scope right places e =
+    let m : max k i ≡ max i k = omega arith in
+    e ∙ ap (λ (s : ScopeOf). record { whole = s; part = separator_between shape k i }) (sym scope)
+    ∙ ap (λ (s : ScopeOf). record { whole = old.scope; part = s }) (ap (separator_scope shape) m ∙ sym right.scope_is)
 
 module _ (plus : ℕ → ℕ → ℕ) (law : Lawful plus) (shape : ShapeOf) (k : ℕ) (clique : IsClique shape.tree k) where
   -- the margin of a clique's table onto its core
@@ -21,41 +32,43 @@ module _ (plus : ℕ → ℕ → ℕ) (law : Lawful plus) (shape : ShapeOf) (k :
   }
 
   module _ (upward downward : List TableOf) where
-    module _ (table core : TableOf) (c : HasCore plus shape k table core) (receiver : ℕ) where
-      begun : (p : Placing) → CanGather plus shape table upward downward k (Some receiver) p → Begins shape k p (core_there plus shape.tree p k) (core_steps shape.tree p k) (factors_in p k) core
-      begun p can = record {
-        cells = c.sums p can.takes.shape_is can.takes.placing can.placed;
-        few_steps = few_core_steps shape p can.takes.shape_is can.takes.placing plus law k clique;
-        few_factors = omega arith;
-      }
-
-      pub can_begin_sent : (p : Placing) → CanGather plus shape table upward downward k (Some receiver) p → (product : TableOf) → product ≡ core → CanBegin plus shape upward downward k (Some receiver) product
-      can_begin_sent p can product e = subst (CanBegin plus shape upward downward k (Some receiver)) (sym e) (record {
-        placing = p;
-        takes = can.takes;
-        first = core_there plus shape.tree p k;
-        steps = core_steps shape.tree p k;
-        factors = factors_in p k;
-        begins = begun p can;
-      })
-
-      pub sent_of : (before product : TableOf) → before ≡ core → IsGathering plus shape upward downward k (Some receiver) (length (neighbours shape.tree k)) before product → HasSent plus shape table upward downward k receiver product
-      sent_of before product e h = record {
-        sent = λ p can.
-            subst (λ (xs : List ℕ). HasGathered plus shape k (Some receiver) xs (core_there plus shape.tree p k) (core_steps shape.tree p k) (factors_in p k) product p) (take-length (neighbours shape.tree k))
-            (h.has p (core_there plus shape.tree p k) (core_steps shape.tree p k) (factors_in p k) can.takes
-            (subst (Begins shape k p (core_there plus shape.tree p k) (core_steps shape.tree p k) (factors_in p k)) (sym e) (begun p can)));
-      }
-
-    module _ (ones : TableOf) (scope : ones.scope ≡ core_scope shape k) (shift : ones.shift ≡ 0) (numbers : HasNumbers ones (λ c. 1) 0) where
+    module _ (ones : TableOf) (scope : ones.scope ≡ core_scope shape k) (shift : ones.shift ≡ 0) (numbers : HasNumbers ones (λ c. 1) 0) (receiver : Option ℕ) where
       blank : (p : Placing) → Begins shape k p (λ a. 1) 0 0 ones
       blank p = record { cells = record { scope_is = scope; numbers = numbers; small_shift = omega (arith, shift) }; few_steps = omega arith; few_factors = omega arith }
 
-      pub can_begin_into : (p : Placing) → CanTake plus shape upward downward k None p → CanBegin plus shape upward downward k None ones
+      pub can_begin_into : (p : Placing) → CanTake plus shape upward downward k receiver p → CanBegin plus shape upward downward k receiver ones
       can_begin_into p can = record { placing = p; takes = can; first = λ a. 1; steps = 0; factors = 0; begins = blank p }
 
-      pub into_of : (product : TableOf) → IsGathering plus shape upward downward k None (length (neighbours shape.tree k)) ones product → HasInto plus shape upward downward k product
+      pub into_of : (product : TableOf) → IsGathering plus shape upward downward k receiver (length (neighbours shape.tree k)) ones product → HasInto plus shape upward downward k receiver product
       into_of product h = record {
         into = λ p can.
-            subst (λ (xs : List ℕ). HasGathered plus shape k None xs (λ a. 1) 0 0 product p) (take-length (neighbours shape.tree k)) (h.has p (λ a. 1) 0 0 can (blank p));
+            subst (λ (xs : List ℕ). HasGathered plus shape k receiver xs (λ a. 1) 0 0 product p) (take-length (neighbours shape.tree k)) (h.has p (λ a. 1) 0 0 can (blank p));
+      }
+
+    -- the message that a product leaves out is put back
+    module _ (i : ℕ) (l : linked (link_of shape.tree) (length shape.tree.cliques) i k ≡ true) (old message : TableOf) (h : HasInto plus shape upward downward k (Some i) old) (same : message ≡ message_in upward downward i k) where
+      all_but : (p : Placing) → CanTake plus shape upward downward k None p → CanTake plus shape upward downward k (Some i) p
+      all_but p can = record {
+        shape_is = can.shape_is;
+        placing = can.placing;
+        right = λ j input. can.right j (and_from (linked_to (link_of shape.tree) (length shape.tree.cliques) k j) true (and_parts (linked_to (link_of shape.tree) (length shape.tree.cliques) k j) (is_taken (Some i) j) input).0 refl);
+      }
+
+      pub left_out : (p : Placing) → CanTake plus shape upward downward k None p → IsRightIn plus shape p i k message
+      left_out p can = subst (λ (t : TableOf). IsRightIn plus shape p i k t) (sym same) (can.right i (and_from (linked_to (link_of shape.tree) (length shape.tree.cliques) k i) true l refl))
+
+      pub left_out_room : (p : Placing) → CanTake plus shape upward downward k None p → HasRoom message 1
+      left_out_room p can = back_room shape p can.shape_is can.placing plus law k clique i l message (left_out p can)
+
+      pub room_for_it : (p : Placing) → CanTake plus shape upward downward k None p → HasRoom old 1
+      room_for_it p can = whole_room shape p can.shape_is can.placing plus law k clique (Some i) (λ a. 1) 0 0 (omega arith) (omega arith) old (h.into p (all_but p can))
+
+      pub scope_before : (p : Placing) → CanTake plus shape upward downward k None p → old.scope ≡ core_scope shape k
+      scope_before p can = (h.into p (all_but p can)).cells.scope_is
+
+      pub into_back : (new : TableOf) → new.scope ≡ old.scope → new.shift ≡ old.shift + message.shift → length new.digits ≡ cells_in new.scope
+          → ((f g : ℕ → ℕ) (n q : ℕ) → HasNumbers old f n → HasNumbers message g q → HasNumbers new (λ c. f c * g (cell_in message.scope old.scope c)) (n + q + 1))
+          → HasInto plus shape upward downward k None new
+      into_back new scope shift full numbers = record {
+        into = λ p can. put_back shape p can.shape_is can.placing plus law k clique i l old new message (h.into p (all_but p can)) (left_out p can) scope shift full numbers;
       }

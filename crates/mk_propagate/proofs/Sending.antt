@@ -1,19 +1,17 @@
 -- One message of a flow is made anew: it is right, and all else stays as it was.
-use Rattle.std.proofs.Common.{◌≡◌, ℕ, ◌+◌, ◌-◌, ◌*◌, ◌<◌, ◌≤◌, Bool, true, cond, ◌⊎◌, inl, inr, ltb, List, length, slice_index_or, slice_set, max, Option, Some, refl, sym, ap, subst, ◌∙◌, arith, lt-ltb, le-ltb}
+use Rattle.std.proofs.Common.{◌≡◌, ℕ, ◌+◌, ◌-◌, ◌<◌, ◌≤◌, Bool, true, cond, ◌⊎◌, inl, inr, ltb, List, length, slice_index_or, slice_set, max, Option, Some, refl, sym, ap, subst, ◌∙◌, arith, lt-ltb, le-ltb}
 use Rattle.std.proofs.lemmas.Bool.{cases_eq, cases_lt}
 use Rattle.std.proofs.lemmas.List.{get_or-set_same, get_or-set_other, length-set}
-use Rattle.mk_exact.specs.Lawful.{Lawful}
 use Rattle.mk_sums.proofs.Hops.{AreLinked, IsChild, are_linked}
-use Rattle.mk_table.specs.Scopes.{ScopeOf, PlacesOf, cells_in}
-use Rattle.mk_table.specs.Tables.{TableOf, HasRoom}
+use Rattle.mk_table.specs.Tables.{TableOf}
 use Rattle.mk_tree.specs.Given.{link_of}
 use Rattle.mk_propagate.specs.Shapes.{ShapeOf, IsClique, are_linked as is_linked, core_scope, separator_scope, separator_between, neighbours}
-use Rattle.mk_propagate.specs.Placings.{Placing, factors_in}
+use Rattle.mk_propagate.specs.Placings.{Placing}
 use Rattle.mk_propagate.specs.Flows.{FlowOf, HasPlaced, IsRight, AreRightBut, no_table, table_at, message_at}
 use Rattle.mk_propagate.specs.inner.Kept.{IsKept, AreOverCores}
-use Rattle.mk_propagate.specs.inner.Gathered.{is_input, IsRightIn, CanTake, CanGather, HasCore, HasGathered, HasSent, IsMargin, core_there, core_steps}
+use Rattle.mk_propagate.specs.inner.Gathered.{is_input, IsRightIn, CanTake, HasCore, HasGathered, HasInto, HasOutgoing}
 use Rattle.mk_propagate.proofs.Placed.{table_read}
-use Rattle.mk_propagate.proofs.Messages.{are_ends, few_core_steps, whole_room, message_sent}
+use Rattle.mk_propagate.proofs.Messages.{are_ends}
 
 -- a list of tables, one of which is put anew over the same scope
 pub same_scopes : (ts : List TableOf) (i j : ℕ) (t : TableOf) → i < length ts → t.scope ≡ (slice_index_or ts i no_table).scope → (slice_index_or (slice_set ts i t) j no_table).scope ≡ (slice_index_or ts j no_table).scope
@@ -41,6 +39,10 @@ module _ (flow : FlowOf) (tables : List TableOf) (are : AreOverCores flow tables
     one_each = length-set tables (k - 1) t ∙ are.one_each;
     scopes = λ i c. same_scopes tables (k - 1) (i - 1) t core_within (s ∙ ap (λ (u : TableOf). u.scope) (sym (core_is was e))) ∙ are.scopes i c;
   }
+
+-- what was put is read back
+pub read_back : (ts : List TableOf) (i : ℕ) (put t : TableOf) → i < length ts → t ≡ slice_index_or (slice_set ts i put) i t → t ≡ put
+read_back ts i put t l e = e ∙ get_or-set_same ts i put t l
 
 module _ (old : FlowOf) (cores products : List TableOf) (cells : ℕ) (kept : IsKept old cores products cells) (k : ℕ) (clique : IsClique old.shape.tree k) where
   pub table_within : k - 1 < length old.tables
@@ -111,14 +113,6 @@ can_take plus flow p k receiver has right shape upward downward s u d =
     (subst (λ (x : List TableOf). CanTake plus flow.shape flow.upward x k receiver p) (sym d)
     (record { shape_is = has.shape_is; placing = has.placing; right = λ i h. (right i h).cells })))
 
-pub can_gather : (plus : ℕ → ℕ → ℕ) (flow : FlowOf) (p : Placing) (k : ℕ) (receiver : Option ℕ) → HasPlaced flow p → IsClique flow.shape.tree k → ((i : ℕ) → is_input flow.shape.tree k receiver i ≡ true → IsRight plus flow p i k)
-    → (shape : ShapeOf) (table : TableOf) (upward downward : List TableOf) → shape ≡ flow.shape → table_at flow k ≡ table → upward ≡ flow.upward → downward ≡ flow.downward
-    → CanGather plus shape table upward downward k receiver p
-can_gather plus flow p k receiver has clique right shape table upward downward s t u d =
-    subst (λ (x : ShapeOf). CanGather plus x table upward downward k receiver p) (sym s)
-    (subst (λ (x : TableOf). CanGather plus flow.shape x upward downward k receiver p) t
-    (record { takes = can_take plus flow p k receiver has right flow.shape upward downward refl u d; placed = has.tables k clique }))
-
 -- a message from a to b, upward or downward
 module _ (old : FlowOf) (p : Placing) (has : HasPlaced old p) (a b : ℕ) (linked_too : is_linked old.shape.tree a b ≡ true) where
   -- the end that is linked to the other
@@ -141,31 +135,6 @@ module _ (old : FlowOf) (p : Placing) (has : HasPlaced old p) (a b : ℕ) (linke
 
   pub downward_child : a ≤ b → IsChild (link_of old.shape.tree) (length old.shape.tree.cliques) b a
   downward_child l = child_down l (are_linked (link_of old.shape.tree) (length old.shape.tree.cliques) a b linked_too)
-
-  -- what is gathered for b over a's core
-  abbrev pub HasOutgoing : (ℕ → ℕ → ℕ) → TableOf → Type 0
-  HasOutgoing plus product =
-      HasGathered plus old.shape a (Some b) (neighbours old.shape.tree a) (core_there plus old.shape.tree p a) (core_steps old.shape.tree p a) (factors_in p a) product p
-
-  module _ (plus : ℕ → ℕ → ℕ) (law : Lawful plus) (product : TableOf) (g : HasOutgoing plus product) where
-    pub send_places : (before : TableOf) → before.scope ≡ separator_between old.shape a b → (places : PlacesOf) → places ≡ record { whole = core_scope old.shape a; part = separator_between old.shape a b }
-        → places ≡ record { whole = product.scope; part = before.scope }
-    send_places before e places q =
-        q ∙ ap (λ (s : ScopeOf). record { whole = s; part = separator_between old.shape a b }) (sym g.cells.scope_is) ∙ ap (λ (s : ScopeOf). record { whole = product.scope; part = s }) (sym e)
-
-    pub send_room : HasRoom product (2 * cells_in product.scope)
-    send_room =
-        whole_room old.shape p has.shape_is has.placing plus law a sender (Some b) (core_there plus old.shape.tree p a) (core_steps old.shape.tree p a) (factors_in p a)
-        (few_core_steps old.shape p has.shape_is has.placing plus law a sender) (omega arith) product g
-
-    pub sent_right : (table core before after : TableOf) → HasCore plus old.shape a table core → before.scope ≡ separator_between old.shape a b → IsMargin plus product before after
-        → (new : FlowOf) → new.shape ≡ old.shape → message_at new a b ≡ after → IsRight plus new p a b
-    sent_right table core before after c e m new s t = record {
-      cells =
-          subst (λ (x : ShapeOf). IsRightIn plus x p a b (message_at new a b)) (sym s)
-          (subst (λ (x : TableOf). IsRightIn plus old.shape p a b x) (sym t)
-          (message_sent old.shape p has.shape_is has.placing plus law a b linked_too table core product before after c g e m));
-    }
 
 -- where the message stands
 pub separator_up : (flow : FlowOf) (cores products : List TableOf) (cells : ℕ) → IsKept flow cores products cells → (a b : ℕ) → IsChild (link_of flow.shape.tree) (length flow.shape.tree.cliques) a b → b < a
@@ -218,43 +187,49 @@ module _ (old : FlowOf) (p : Placing) (has : HasPlaced old p) (a b : ℕ) (linke
           (get_or-set_other old.downward (b - 2) (d - 2) t no_table (λ e.
           let q = same_child d c b a (downward_child old p has c d h m) (downward_child old p has a b linked_too l) e in apart (q.1, q.0)))
 
--- what clique a sends to b, made of the parts of a kept flow
-module _ (plus : ℕ → ℕ → ℕ) (law : Lawful plus) (old : FlowOf) (cores products : List TableOf) (cells : ℕ) (kept : IsKept old cores products cells) (a b : ℕ)
+-- the parts of a flow as a call is given them
+pub core_moved : (plus : ℕ → ℕ → ℕ) (k : ℕ) (t : TableOf) (s s_after : ShapeOf) (u u_after : TableOf) → s ≡ s_after → u ≡ u_after → HasCore plus s k u t → HasCore plus s_after k u_after t
+core_moved plus k t s s_after u u_after es eu h = subst (λ (y : TableOf). HasCore plus s_after k y t) eu (subst (λ (y : ShapeOf). HasCore plus y k u t) es h)
+
+-- what clique a has for b, made of the parts of a kept flow
+module _ (plus : ℕ → ℕ → ℕ) (old : FlowOf) (cores products : List TableOf) (cells : ℕ) (kept : IsKept old cores products cells) (a b : ℕ)
     (shape : ShapeOf) (table : TableOf) (upward downward : List TableOf) (s : shape ≡ old.shape) (t : table ≡ slice_index_or old.tables (a - 1) table) (u : upward ≡ old.upward) (d : downward ≡ old.downward)
-    (core product : TableOf) (c : HasCore plus shape a table core) (h : HasSent plus shape table upward downward a b product) where
-  module _ (p : Placing) (has : HasPlaced old p) (linked_too : is_linked old.shape.tree a b ≡ true) (right : AreRightBut plus old p a b) where
-    outgoing : HasOutgoing old p has a b linked_too plus product
-    outgoing =
-        let clique = sender old p has a b linked_too in
-        subst (λ (x : ShapeOf). HasGathered plus x a (Some b) (neighbours x.tree a) (core_there plus x.tree p a) (core_steps x.tree p a) (factors_in p a) product p) s
-        (h.sent p (can_gather plus old p a (Some b) has clique right shape table upward downward s (table_is old cores products cells kept a clique table t) u d))
+    (core product : TableOf) (c : HasCore plus shape a table core) (o : 1 < length (neighbours shape.tree a) → HasInto plus shape upward downward a (Some b) product)
+    (p : Placing) (has : HasPlaced old p) (linked_too : is_linked old.shape.tree a b ≡ true) (right : AreRightBut plus old p a b) where
+  here : HasCore plus old.shape a (table_at old a) core
+  here = core_moved plus a core shape old.shape table (table_at old a) s (sym (table_is old cores products cells kept a (sender old p has a b linked_too) table t)) c
 
-    pub room_there : HasRoom product (2 * cells_in product.scope)
-    room_there = send_room old p has a b linked_too plus law product outgoing
+  others : 1 < length (neighbours old.shape.tree a) → HasGathered plus old.shape a (Some b) (neighbours old.shape.tree a) (λ t. 1) 0 0 product p
+  others more =
+      subst (λ (x : ShapeOf). HasGathered plus x a (Some b) (neighbours x.tree a) (λ t. 1) 0 0 product p) s
+      ((o (subst (λ (x : ShapeOf). 1 < length (neighbours x.tree a)) (sym s) more)).into p (can_take plus old p a (Some b) has right shape upward downward s u d))
 
-    module _ (before : TableOf) where
-      pub places_up : b < a → before ≡ slice_index_or old.upward (a - 2) before → (places : PlacesOf) → places ≡ record { whole = core_scope shape a; part = separator_between shape a b } → places ≡ record { whole = product.scope; part = before.scope }
-      places_up l e places q =
-          send_places old p has a b linked_too plus law product outgoing before (separator_up old cores products cells kept a b (upward_child old p has a b linked_too l) l before e) places
-          (subst (λ (x : ShapeOf). places ≡ record { whole = core_scope x a; part = separator_between x a b }) s q)
+  pub outgoing : (there : ShapeOf) → there ≡ old.shape → (core_read product_read : TableOf) → core_read ≡ core → product_read ≡ product → HasOutgoing plus there a b core_read product_read p
+  outgoing there e core_read product_read x y =
+      subst (λ (r : TableOf). HasOutgoing plus there a b r product_read p) (sym x)
+      (subst (λ (r : TableOf). HasOutgoing plus there a b core r p) (sym y)
+      (subst (λ (r : ShapeOf). HasOutgoing plus r a b core product p) (sym e) (record {
+        shape_is = has.shape_is;
+        placing = has.placing;
+        split = here.split;
+        sums = here.sums p has.shape_is has.placing (has.tables a (sender old p has a b linked_too));
+        others = others;
+      })))
 
-      pub places_down : a ≤ b → before ≡ slice_index_or old.downward (b - 2) before → (places : PlacesOf) → places ≡ record { whole = core_scope shape a; part = separator_between shape a b } → places ≡ record { whole = product.scope; part = before.scope }
-      places_down l e places q =
-          send_places old p has a b linked_too plus law product outgoing before (separator_down old cores products cells kept a b (downward_child old p has a b linked_too l) l before e) places
-          (subst (λ (x : ShapeOf). places ≡ record { whole = core_scope x a; part = separator_between x a b }) s q)
+-- what it sends, put where the message stands
+module _ (plus : ℕ → ℕ → ℕ) (old : FlowOf) (cores products : List TableOf) (cells : ℕ) (kept : IsKept old cores products cells) (a b : ℕ) (p : Placing) (has : HasPlaced old p) (linked_too : is_linked old.shape.tree a b ≡ true)
+    (shape : ShapeOf) (s : shape ≡ old.shape) (after : TableOf) (computed : ℕ) (right : IsRightIn plus shape p a b after) where
+  sent_right : (new : FlowOf) → new.shape ≡ old.shape → message_at new a b ≡ after → IsRight plus new p a b
+  sent_right new same at = record {
+    cells = subst (λ (x : ShapeOf). IsRightIn plus x p a b (message_at new a b)) (s ∙ sym same) (subst (λ (x : TableOf). IsRightIn plus shape p a b x) (sym at) right);
+  }
 
-      module _ (after : TableOf) (computed : ℕ) (margin : IsMargin plus product before after) where
-        here : HasCore plus old.shape a table core
-        here = subst (λ (x : ShapeOf). HasCore plus x a table core) s c
+  pub right_up : b < a → IsRight plus (with_upward old (a - 2) after computed) p a b
+  right_up l =
+      let c = upward_child old p has a b linked_too l in
+      sent_right (with_upward old (a - 2) after computed) refl (message_up old a b computed after l (omega (arith, kept.one_less_up, c.later, c.within)))
 
-        pub right_up : b < a → before ≡ slice_index_or old.upward (a - 2) before → IsRight plus (with_upward old (a - 2) after computed) p a b
-        right_up l e =
-            let c = upward_child old p has a b linked_too l in
-            sent_right old p has a b linked_too plus law product outgoing table core before after here (separator_up old cores products cells kept a b c l before e) margin (with_upward old (a - 2) after computed) refl
-            (message_up old a b computed after l (omega (arith, kept.one_less_up, c.later, c.within)))
-
-        pub right_down : a ≤ b → before ≡ slice_index_or old.downward (b - 2) before → IsRight plus (with_downward old (b - 2) after computed) p a b
-        right_down l e =
-            let c = downward_child old p has a b linked_too l in
-            sent_right old p has a b linked_too plus law product outgoing table core before after here (separator_down old cores products cells kept a b c l before e) margin (with_downward old (b - 2) after computed) refl
-            (message_down old a b computed after l (omega (arith, kept.one_less_down, c.later, c.within)))
+  pub right_down : a ≤ b → IsRight plus (with_downward old (b - 2) after computed) p a b
+  right_down l =
+      let c = downward_child old p has a b linked_too l in
+      sent_right (with_downward old (b - 2) after computed) refl (message_down old a b computed after l (omega (arith, kept.one_less_down, c.later, c.within)))

@@ -12,6 +12,7 @@ ghost use Rattle.mk_propagate.specs.Placings.{Placing, nothing_placed, with_fact
 ghost use Rattle.mk_propagate.specs.Flows.{HasPlaced, CanPlace, Places, KeepsMessages};
 ghost use Rattle.mk_propagate.specs.inner.Ones.{AreOnes};
 
+use crate::gathered::Gathered;
 use crate::shape::Shape;
 use mk_net::{Network, NoMemory, Pair, Ratio};
 use mk_semiring::Semiring;
@@ -29,12 +30,12 @@ pub struct Flow<R: Semiring> {
     pub(crate) tables: Vec<Table<R>>,
     pub(crate) upward: Vec<Table<R>>,
     pub(crate) downward: Vec<Table<R>>,
-    // Over the core of each clique: its table, summed there where that is marked, and a product of messages, which has those of all its
-    // neighbours where it is current.
+    // Over the core of each clique: its table, summed there where that is marked, and a product of messages, with a mark of whose
+    // messages it has.
     pub(crate) cores: Vec<Table<R>>,
     pub(crate) summed: Vec<bool>,
     pub(crate) products: Vec<Table<R>>,
-    pub(crate) current: Vec<bool>,
+    pub(crate) gathered: Vec<Gathered>,
     // Where the cells of an event are listed.
     pub(crate) chosen: CellList,
     // Of all cliques.
@@ -65,7 +66,7 @@ impl<R: Semiring> Model for Flow<R> {
       downward = f.downward.items;
       factors = f.factors;
       computed = f.computed;
-    }) f.cores.items f.products.items f.summed.items f.current.items f.cells };
+    }) f.cores.items f.products.items f.summed.items f.gathered.items f.cells };
 }
 
 impl<R: Semiring> Flow<R> {
@@ -90,7 +91,7 @@ impl<R: Semiring> Flow<R> {
             cores,
             summed: vec![in alloc; false; of.cliques() as usize]?,
             products,
-            current: vec![in alloc; false; of.cliques() as usize]?,
+            gathered: vec![in alloc; Gathered::Nothing; of.cliques() as usize]?,
             chosen: CellList::new(),
             cells: count_cells(of),
             factors: 0,

@@ -3,6 +3,7 @@
 
 mod collect;
 mod flow;
+mod gathered;
 mod message;
 mod read;
 mod shape;

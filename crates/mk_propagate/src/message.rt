@@ -3,12 +3,14 @@
 ghost use Rattle.std.specs.Prelude.{◌≡◌, ◌≢◌, ℕ, ◌+◌, ◌-◌, ◌*◌, ◌<◌, ◌≤◌, length, true, None, Some, if◌then◌else◌};
 ghost use Rattle.mk_table.specs.Scopes.{cells_in};
 ghost use Rattle.mk_table.specs.Tables.{HasRoom};
-ghost use Rattle.mk_propagate.specs.Shapes.{IsClique, are_linked, clique_scope, core_scope, neighbours};
+ghost use Rattle.mk_propagate.specs.declared.gathered.Gathered.TheVariants.{Everything};
+ghost use Rattle.mk_propagate.specs.Shapes.{IsClique, are_linked, clique_scope, core_scope, separator_between, neighbours};
 ghost use Rattle.mk_propagate.specs.Placings.{Placing};
 ghost use Rattle.mk_propagate.specs.Flows.{HasPlaced, AreRightBut, IsRight, CanSend, KeepsTables, message_at, counted_on};
-ghost use Rattle.mk_propagate.specs.inner.Gathered.{is_taken, message_in, AreMessages, CanTake, CanGather, CanBegin, HasCore, HasInto, HasSent, IsGathering, IsMargin};
+ghost use Rattle.mk_propagate.specs.inner.Gathered.{is_taken, message_in, IsRightIn, AreMessages, CanTake, CanBegin, HasCore, HasInto, HasMarked, HasOutgoing, IsGathering, IsMargin, IsMarginOfProduct};
 
 use crate::flow::Flow;
+use crate::gathered::Gathered;
 use crate::shape::Shape;
 use mk_semiring::Semiring;
 use mk_table::{Places, Table};
@@ -16,7 +18,7 @@ use mk_table::{Places, Table};
 impl<R: Semiring> Flow<R> {
     /// Makes the message from a clique to one that is linked to it: the plus, over what the separator does not hold, of what is placed
     /// in the clique times the messages from its other neighbours. The plus over what no neighbour holds is made first, and kept: the
-    /// rest is over the core, which has fewer cells.
+    /// rest is over the core, which has fewer cells. The product of the other messages is kept too, without what is placed.
     pub fn message(&mut self, from: u32, to: u32)
         requires { CanSend R.plus_of self.old from to }
         ensures right { (p : Placing) → HasPlaced self.old p → AreRightBut R.plus_of self.old p from to → IsRight R.plus_of self.new p from to }
@@ -25,67 +27,100 @@ impl<R: Semiring> Flow<R> {
         ensures counted { self.new.computed ≡ counted_on self.old.computed 1 }
     {
         let place = from as usize - 1;
-        let product = &mut self.products[place];
-        prepare(
+        sum_core(
             &mut self.cores[place],
             &mut self.summed[place],
-            product,
             &self.tables[place],
+            &self.shape,
+            from,
+        );
+        gather_others(
+            &mut self.products[place],
+            &mut self.gathered[place],
             &self.shape,
             &self.upward,
             &self.downward,
             from,
             to,
         );
-        let places = self.shape.places(from, to);
-        self.current[place] = false;
-        self.current[to as usize - 1] = false;
+        let mark = &mut self.gathered[to as usize - 1];
+        *mark = mark.without(from);
         self.computed = self.computed.saturating_add(1);
+        let core = &self.cores[place];
+        let product = &self.products[place];
         if to < from {
-            send(product, places, &mut self.upward[from as usize - 2]);
+            send(
+                core,
+                product,
+                &self.shape,
+                from,
+                to,
+                &mut self.upward[from as usize - 2],
+            );
         } else {
-            send(product, places, &mut self.downward[to as usize - 2]);
+            send(
+                core,
+                product,
+                &self.shape,
+                from,
+                to,
+                &mut self.downward[to as usize - 2],
+            );
         }
     }
 }
 
-/// Puts into a message the plus, over what it does not hold, of what its sender has for the receiver.
-fn send<R: Semiring>(sent: &Table<R>, places: &Places, message: &mut Table<R>)
-    requires places { places.now ≡ record { whole = sent.now.scope; part = message.old.scope } }
-    requires room { HasRoom sent.now (2 * cells_in sent.now.scope) }
-    ensures { IsMargin R.plus_of sent.now message.old message.new }
+/// Makes a message of the sums over its sender's core and the product of the other messages there.
+fn send<R: Semiring>(
+    core: &Table<R>,
+    product: &Table<R>,
+    shape: &Shape,
+    from: u32,
+    to: u32,
+    message: &mut Table<R>,
+)
+    requires linked { are_linked shape.now.tree from to ≡ true }
+    requires scope { message.old.scope ≡ separator_between shape.now from to }
+    requires has { (p : Placing) × HasOutgoing R.plus_of shape.now from to core.now product.now p }
+    ensures scope { message.new.scope ≡ message.old.scope }
+    ensures right { (p : Placing) → HasOutgoing R.plus_of shape.now from to core.now product.now p → IsRightIn R.plus_of shape.now p from to message.new }
 {
-    sent.margin_into(places, message);
-    // The proof learns here that the table has a place for each cell of its scope, and no more.
-    let _ = message.cells();
+    let places = shape.places(from, to);
+    if shape.neighbours(from).len() < 2 {
+        margin(core, places, message);
+    } else {
+        margin_of_product(core, places, shape.own_places(from), product, message);
+    }
 }
 
-/// Sums a clique's table over its core, and puts into a product over the core what the clique sends to a neighbour.
-fn prepare<R: Semiring>(
-    core: &mut Table<R>,
-    summed: &mut bool,
-    product: &mut Table<R>,
-    table: &Table<R>,
-    shape: &Shape,
-    upward: &[Table<R>],
-    downward: &[Table<R>],
-    clique: u32,
-    receiver: u32,
-)
-    requires clique { IsClique shape.now.tree clique }
-    requires core_scope { core.old.scope ≡ core_scope shape.now clique }
-    requires product_scope { product.old.scope ≡ core_scope shape.now clique }
-    requires messages { AreMessages shape.now upward.now downward.now }
-    requires right { (p : Placing) × CanGather R.plus_of shape.now table.now upward.now downward.now clique (Some receiver) p }
-    requires summed { summed.old ≡ true → HasCore R.plus_of shape.now clique table.now core.old }
-    ensures core_scope { core.new.scope ≡ core.old.scope }
-    ensures product_scope { product.new.scope ≡ product.old.scope }
-    ensures core { HasCore R.plus_of shape.now clique table.now core.new }
-    ensures sent { HasSent R.plus_of shape.now table.now upward.now downward.now clique receiver product.new }
+/// Puts into a table over some of the variables of a whole the plus, over the others, of the whole's cells.
+fn margin<R: Semiring>(whole: &Table<R>, places: &Places, part: &mut Table<R>)
+    requires places { places.now ≡ record { whole = whole.now.scope; part = part.old.scope } }
+    requires room { HasRoom whole.now (2 * cells_in whole.now.scope) }
+    ensures { IsMargin R.plus_of whole.now part.old part.new }
 {
-    sum_core(core, summed, table, shape, clique);
-    core.copy_into(product);
-    gather(product, shape, upward, downward, clique, Some(receiver));
+    whole.margin_into(places, part);
+    // The proof learns here that the table has a place for each cell of its scope, and no more.
+    let _ = part.cells();
+}
+
+/// Puts into a table over some of the variables of two others the plus, over the rest, of the products of their cells.
+fn margin_of_product<R: Semiring>(
+    core: &Table<R>,
+    places: &Places,
+    own: &Places,
+    product: &Table<R>,
+    part: &mut Table<R>,
+)
+    requires places { places.now ≡ record { whole = core.now.scope; part = part.old.scope } }
+    requires own { own.now ≡ record { whole = core.now.scope; part = product.now.scope } }
+    requires room { HasRoom core.now (2 * cells_in core.now.scope) }
+    requires product_room { HasRoom product.now 1 }
+    ensures { IsMarginOfProduct R.plus_of core.now product.now part.old part.new }
+{
+    core.margin_times_into(places, own, product, part);
+    // As in `margin`.
+    let _ = part.cells();
 }
 
 /// Sums a clique's table over its core, unless that is done.
@@ -105,15 +140,47 @@ fn sum_core<R: Semiring>(
     ensures core { HasCore R.plus_of shape.now clique table.now core.new }
 {
     if !*summed {
-        send(table, shape.core_places(clique), core);
+        margin(table, shape.core_places(clique), core);
         *summed = true;
     }
+}
+
+/// Multiplies 1 by the messages of all neighbours of a clique but a receiver, unless the product has them. Where there are none, it
+/// leaves the product as it is.
+fn gather_others<R: Semiring>(
+    product: &mut Table<R>,
+    gathered: &mut Gathered,
+    shape: &Shape,
+    upward: &[Table<R>],
+    downward: &[Table<R>],
+    clique: u32,
+    receiver: u32,
+)
+    requires clique { IsClique shape.now.tree clique }
+    requires linked { are_linked shape.now.tree receiver clique ≡ true }
+    requires scope { product.old.scope ≡ core_scope shape.now clique }
+    requires messages { AreMessages shape.now upward.now downward.now }
+    requires right { (p : Placing) × CanTake R.plus_of shape.now upward.now downward.now clique (Some receiver) p }
+    requires marked { HasMarked R.plus_of shape.now upward.now downward.now clique gathered.old product.old }
+    ensures scope { product.new.scope ≡ product.old.scope }
+    ensures marked { HasMarked R.plus_of shape.now upward.now downward.now clique gathered.new product.new }
+    ensures others { 1 < length (neighbours shape.now.tree clique) → HasInto R.plus_of shape.now upward.now downward.now clique (Some receiver) product.new }
+{
+    if shape.neighbours(clique).len() < 2 {
+        return;
+    }
+    if gathered.leaves_out(receiver) {
+        return;
+    }
+    product.clear();
+    gather(product, shape, upward, downward, clique, Some(receiver));
+    *gathered = Gathered::AllBut(receiver);
 }
 
 /// Multiplies 1 by the messages of all neighbours of a clique, unless the product has them.
 pub(crate) fn refresh<R: Semiring>(
     product: &mut Table<R>,
-    current: &mut bool,
+    gathered: &mut Gathered,
     shape: &Shape,
     upward: &[Table<R>],
     downward: &[Table<R>],
@@ -123,15 +190,47 @@ pub(crate) fn refresh<R: Semiring>(
     requires scope { product.old.scope ≡ core_scope shape.now clique }
     requires messages { AreMessages shape.now upward.now downward.now }
     requires right { (p : Placing) × CanTake R.plus_of shape.now upward.now downward.now clique None p }
-    requires current { current.old ≡ true → HasInto R.plus_of shape.now upward.now downward.now clique product.old }
+    requires marked { HasMarked R.plus_of shape.now upward.now downward.now clique gathered.old product.old }
     ensures scope { product.new.scope ≡ product.old.scope }
-    ensures into { HasInto R.plus_of shape.now upward.now downward.now clique product.new }
+    ensures into { HasInto R.plus_of shape.now upward.now downward.now clique None product.new }
+    ensures marked { gathered.new ≡ Everything }
 {
-    if !*current {
-        product.clear();
-        gather(product, shape, upward, downward, clique, None);
-        *current = true;
+    match *gathered {
+        Gathered::Everything => return,
+        Gathered::AllBut(missing) => {
+            put_back(product, shape, upward, downward, clique, missing);
+        }
+        Gathered::Nothing => {
+            product.clear();
+            gather(product, shape, upward, downward, clique, None);
+        }
     }
+    *gathered = Gathered::Everything;
+}
+
+/// Multiplies a product of the messages of all neighbours of a clique but one by that one's.
+fn put_back<R: Semiring>(
+    product: &mut Table<R>,
+    shape: &Shape,
+    upward: &[Table<R>],
+    downward: &[Table<R>],
+    clique: u32,
+    missing: u32,
+)
+    requires clique { IsClique shape.now.tree clique }
+    requires linked { are_linked shape.now.tree missing clique ≡ true }
+    requires messages { AreMessages shape.now upward.now downward.now }
+    requires right { (p : Placing) × CanTake R.plus_of shape.now upward.now downward.now clique None p }
+    requires has { HasInto R.plus_of shape.now upward.now downward.now clique (Some missing) product.old }
+    ensures scope { product.new.scope ≡ product.old.scope }
+    ensures into { HasInto R.plus_of shape.now upward.now downward.now clique None product.new }
+{
+    product.times_message(
+        shape.places(clique, missing),
+        message_of(upward, downward, missing, clique),
+    );
+    // As in `margin`.
+    let _ = product.cells();
 }
 
 /// Multiplies a table over the core of a clique by the messages of its neighbours, but for a receiver's.
@@ -148,7 +247,7 @@ fn gather<R: Semiring>(
     requires right { CanBegin R.plus_of shape.now upward.now downward.now clique receiver product.old }
     ensures { IsGathering R.plus_of shape.now upward.now downward.now clique receiver (length (neighbours shape.now.tree clique)) product.old product.new }
 {
-    // As in `send`, for the product.
+    // As in `margin`.
     let _ = product.cells();
     for neighbour in shape.neighbours(clique) {
         if is_taken(receiver, *neighbour) {

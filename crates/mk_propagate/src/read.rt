@@ -28,7 +28,7 @@ impl<R: Semiring> Flow<R> {
         let into = &mut self.products[place];
         refresh(
             into,
-            &mut self.current[place],
+            &mut self.gathered[place],
             &self.shape,
             &self.upward,
             &self.downward,

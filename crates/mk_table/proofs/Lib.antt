@@ -24,3 +24,4 @@ pub mod Paired
 pub mod Multiplied
 pub mod Appended
 pub mod Spread
+pub mod Pluses

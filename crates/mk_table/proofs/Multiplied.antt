@@ -1,39 +1,39 @@
--- A table's cells times those of a message that have their values, where an event holds.
-use Rattle.std.proofs.Common.{◌≡◌, ℕ, ◌+◌, ◌*◌, ◌/◌, ◌^◌, ◌<◌, ◌≤◌, true, List, length, get_or, slice_index, All, sym, subst, ◌∙◌, arith}
+-- A table's cells times those of a message that have their values, for the cells that pass a test.
+use Rattle.std.proofs.Common.{◌≡◌, ℕ, ◌+◌, ◌*◌, ◌/◌, ◌^◌, ◌<◌, ◌≤◌, Bool, true, false, List, length, filter, slice_index, All, sym, ap, subst, ◌∙◌, arith}
 use Rattle.std.proofs.lemmas.List.{get_or_default}
 use Rattle.std.proofs.lemmas.List.Elements.{All-weaker}
 use Rattle.mk_net.specs.declared.words.Pair.{Pair}
 use Rattle.mk_exact.specs.Lawful.{Lawful}
-use Rattle.mk_exact.specs.States.{plus_over}
+use Rattle.mk_exact.specs.States.{plus_over, numbers_below}
 use Rattle.mk_sums.specs.There.{holds_there}
 use Rattle.mk_cell.specs.declared.cell.Cell.{Cell}
 use Rattle.mk_cell.specs.Cell.{Stands, StandsAt, IsOwnAt}
 use Rattle.mk_cell.specs.inner.Laws.{stands_with_more}
 use Rattle.mk_table.specs.Scopes.{LiesIn, cells_in}
-use Rattle.mk_table.specs.Cells.{values_at, cell_in, cells_where}
-use Rattle.mk_table.specs.Tables.{TableOf, HasNumbers, is_untouched}
+use Rattle.mk_table.specs.Cells.{values_at, cell_in}
+use Rattle.mk_table.specs.Tables.{TableOf, HasNumbers, is_touched, is_untouched}
 use Rattle.mk_table.specs.inner.Blank.{one_digits, one_exponent, filled}
-use Rattle.mk_table.specs.inner.Parts.{StandPairs, StandListed, IsPlusOfPairs}
+use Rattle.mk_table.specs.inner.Parts.{StandPairs, StandListed, IsPlusOfPairs, cells_at}
 use Rattle.mk_table.specs.inner.Touched.{HasTouched}
 use Rattle.mk_table.proofs.Chosen.{chosen_pass, chosen_few}
 use Rattle.mk_table.proofs.Kept.{cell_within}
 use Rattle.mk_table.proofs.Owned.{own_is, own_stands, scaled_times, plus_scaled}
-use Rattle.mk_table.proofs.Paired.{blank_others}
+use Rattle.mk_table.proofs.Paired.{blank_others, cells_zero, full_made}
 use Rattle.mk_table.proofs.Untouched.{touched_in, untouched_there}
 
-module _ (t m : TableOf) (event : List Pair) (lies : LiesIn m.scope t.scope) where
+module _ (t m : TableOf) (passes : ℕ → Bool) (lies : LiesIn m.scope t.scope) where
   abbrev pub goes : ℕ → ℕ
   goes c = cell_in m.scope t.scope c
 
   abbrev pub chosen : List ℕ
-  chosen = cells_where t.scope event
+  chosen = filter passes (numbers_below (cells_in t.scope))
 
-  each_chosen : (P : ℕ → Type 0) → ((c : ℕ) → holds_there event (values_at t.scope c) ≡ true → c < cells_in t.scope → P c) → All P chosen
+  each_chosen : (P : ℕ → Type 0) → ((c : ℕ) → passes c ≡ true → c < cells_in t.scope → P c) → All P chosen
   each_chosen P h =
-      All-weaker (λ c. (holds_there event (values_at t.scope c) ≡ true) × (c < cells_in t.scope)) P (λ c p. h c p.0 p.1) chosen (chosen_pass (λ c. holds_there event (values_at t.scope c)) (cells_in t.scope))
+      All-weaker (λ c. (passes c ≡ true) × (c < cells_in t.scope)) P (λ c p. h c p.0 p.1) chosen (chosen_pass passes (cells_in t.scope))
 
   pub few_chosen : length chosen ≤ cells_in t.scope
-  few_chosen = chosen_few (λ c. holds_there event (values_at t.scope c)) (cells_in t.scope)
+  few_chosen = chosen_few passes (cells_in t.scope)
 
   pub chosen_within : (count : ℕ) → count ≡ cells_in t.scope → All (λ c. c < count) chosen
   chosen_within count e = each_chosen (λ c. c < count) (λ c h l. omega (arith, e, l))
@@ -56,15 +56,14 @@ module _ (t m : TableOf) (event : List Pair) (lies : LiesIn m.scope t.scope) whe
     }
 
     -- and where no ratio touched them for numbers of their own
-    module _ (there : HasTouched m.scope m.touched) (untouched : is_untouched t event ≡ true) (untouched_too : is_untouched m event ≡ true) where
-      own_left : (c : ℕ) → holds_there event (values_at t.scope c) ≡ true → c < cells_in t.scope → IsOwnAt t.shift (slice_index t.digits c) (slice_index t.exponents c) (f c) n
-      own_left c e l = has.own c (omega (arith, l, full)) (untouched_there t.touched event (values_at t.scope c) untouched e)
+    module _ (free : (c : ℕ) → passes c ≡ true → c < cells_in t.scope → is_touched t c ≡ false) (other_free : (c : ℕ) → passes c ≡ true → c < cells_in t.scope → is_touched m (goes c) ≡ false) where
+      own_left : (c : ℕ) → passes c ≡ true → c < cells_in t.scope → IsOwnAt t.shift (slice_index t.digits c) (slice_index t.exponents c) (f c) n
+      own_left c e l = has.own c (omega (arith, l, full)) (free c e l)
 
-      own_right : (c : ℕ) → holds_there event (values_at t.scope c) ≡ true → c < cells_in t.scope → IsOwnAt m.shift (slice_index m.digits (goes c)) (slice_index m.exponents (goes c)) (g (goes c)) p
-      own_right c e l =
-          other.own (goes c) (within c l) (touched_in m.scope t.scope m.touched lies there c l ∙ untouched_there m.touched event (values_at t.scope c) untouched_too e)
+      own_right : (c : ℕ) → passes c ≡ true → c < cells_in t.scope → IsOwnAt m.shift (slice_index m.digits (goes c)) (slice_index m.exponents (goes c)) (g (goes c)) p
+      own_right c e l = other.own (goes c) (within c l) (other_free c e l)
 
-      own_product : (c : ℕ) → holds_there event (values_at t.scope c) ≡ true → c < cells_in t.scope → f c / 2 ^ t.shift * (g (goes c) / 2 ^ m.shift) * 2 ^ (t.shift + m.shift) ≡ f c * g (goes c)
+      own_product : (c : ℕ) → passes c ≡ true → c < cells_in t.scope → f c / 2 ^ t.shift * (g (goes c) / 2 ^ m.shift) * 2 ^ (t.shift + m.shift) ≡ f c * g (goes c)
       own_product c e l =
           sym (scaled_times t.shift m.shift (f c) (g (goes c)) (f c / 2 ^ t.shift) (g (goes c) / 2 ^ m.shift)
           (sym (own_is t.shift (slice_index t.digits c) (slice_index t.exponents c) (f c) n (own_left c e l)))
@@ -87,30 +86,12 @@ module _ (t m : TableOf) (event : List Pair) (lies : LiesIn m.scope t.scope) whe
 
   -- by the arrays and the lists that the code reads
   pub from_code : (d e md me onto xs : List ℕ) → d ≡ t.digits → e ≡ t.exponents → md ≡ m.digits → me ≡ m.exponents → xs ≡ chosen → ((c : ℕ) → c < cells_in t.scope → slice_index onto c ≡ goes c)
-      → (plus : ℕ → ℕ → ℕ) (cell : Cell) → IsPlusOfPairs plus d e md me (slice_index onto) xs (2 * length xs + 1) cell
+      → (plus : ℕ → ℕ → ℕ) (cell : Cell) → IsPlusOfPairs plus d e md me (slice_index onto) (cells_at 0 xs) (2 * length xs + 1) cell
       → (j k : ℕ) (a b : ℕ → ℕ) (n p : ℕ) → StandPairs j k t.digits t.exponents m.digits m.exponents goes a b n p chosen → Stands (j + k) cell (plus_over plus 0 (λ c. a c * b c) chosen) (n + p + 2 * cells_in t.scope + 1)
   from_code d e md me onto xs di ei mdi mei xi onto_is plus cell made j k a b n p h =
       stands_with_more (j + k) cell.digits cell.exponent (plus_over plus 0 (λ c. a c * b c) chosen) (n + p + (2 * length chosen + 1)) (n + p + 2 * cells_in t.scope + 1) (omega (arith, few_chosen))
-      (subst (λ (ys : List ℕ). StandsAt (j + k) cell.digits cell.exponent (plus_over plus 0 (λ c. a c * b c) ys) (n + p + (2 * length ys + 1))) xi (made j k a b n p pairs))
-    where
-      below : All (λ c. c < cells_in t.scope) chosen
-      below = each_chosen (λ c. c < cells_in t.scope) (λ c e l. l)
-
-      found : StandPairs j k t.digits t.exponents m.digits m.exponents (slice_index onto) a b n p chosen
-      found = record {
-        left = h.left;
-        right = λ i z l.
-            let c = get_or chosen i z in
-            subst (λ y. StandsAt k (slice_index m.digits y) (slice_index m.exponents y) (b c) p) (sym (onto_is c (below i z l))) (h.right i z l);
-      }
-
-      pairs : StandPairs j k d e md me (slice_index onto) a b n p xs
-      pairs =
-          subst (λ (ys : List ℕ). StandPairs j k ys e md me (slice_index onto) a b n p xs) (sym di)
-          (subst (λ (ys : List ℕ). StandPairs j k t.digits ys md me (slice_index onto) a b n p xs) (sym ei)
-          (subst (λ (ys : List ℕ). StandPairs j k t.digits t.exponents ys me (slice_index onto) a b n p xs) (sym mdi)
-          (subst (λ (ys : List ℕ). StandPairs j k t.digits t.exponents m.digits ys (slice_index onto) a b n p xs) (sym mei)
-          (subst (λ (ys : List ℕ). StandPairs j k t.digits t.exponents m.digits m.exponents (slice_index onto) a b n p ys) (sym xi) found))))
+      (full_made plus t.digits t.exponents m.digits m.exponents goes 0 xs chosen (cells_zero xs ∙ xi) (length chosen) (ap length xi) cell.digits cell.exponent d e md me onto di ei mdi mei
+      (each_chosen (λ c. slice_index onto c ≡ goes c) (λ c e l. onto_is c l)) made j k a b n p h)
 
   -- where nothing is written of the message
   pub from_blank : (xs ys : List ℕ) → m.digits ≡ filled one_digits (cells_in m.scope) xs → m.exponents ≡ filled one_exponent (cells_in m.scope) ys → length xs ≡ 0 → length ys ≡ 0
@@ -121,3 +102,15 @@ module _ (t m : TableOf) (event : List Pair) (lies : LiesIn m.scope t.scope) whe
       subst (λ s. StandsAt (j + k) q x (plus_over plus 0 (λ c. a c * b c) chosen) s) steps
       (made (j + k) (λ c. a c * b c) (n + p + 1)
       (blank_others t.digits t.exponents m.digits m.exponents chosen goes (cells_in m.scope) xs ys di ei none none_too (each_chosen (λ c. goes c < cells_in m.scope) (λ c e l. cell_within m.scope t.scope lies c l)) j k a b n p h))
+
+-- ---- the cells where an event holds
+
+abbrev pub event_passes : TableOf → List Pair → ℕ → Bool
+event_passes t event c = holds_there event (values_at t.scope c)
+
+module _ (t m : TableOf) (event : List Pair) (lies : LiesIn m.scope t.scope) where
+  pub event_free : is_untouched t event ≡ true → (c : ℕ) → event_passes t event c ≡ true → c < cells_in t.scope → is_touched t c ≡ false
+  event_free untouched c e l = untouched_there t.touched event (values_at t.scope c) untouched e
+
+  pub event_free_too : HasTouched m.scope m.touched → is_untouched m event ≡ true → (c : ℕ) → event_passes t event c ≡ true → c < cells_in t.scope → is_touched m (cell_in m.scope t.scope c) ≡ false
+  event_free_too there untouched c e l = touched_in m.scope t.scope m.touched lies there c l ∙ untouched_there m.touched event (values_at t.scope c) untouched e

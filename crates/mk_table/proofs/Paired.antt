@@ -1,15 +1,19 @@
 -- The plus of products: each chosen cell of a table times the cell of another that has its values.
-use Rattle.std.proofs.Common.{◌≡◌, ℕ, ◌+◌, ◌*◌, ◌^◌, ◌<◌, ◌≤◌, List, length, get_or, slice_index, All, sym, ap, subst, ◌∙◌, ⊎_elim, arith, lt_of_le_of_lt}
+use Rattle.std.proofs.Common.{◌≡◌, ℕ, ◌+◌, ◌*◌, ◌^◌, ◌<◌, ◌≤◌, List, [], ◌∷◌, length, get_or, take, drop, slice_index, All, refl, sym, ap, subst, ◌∙◌, ⊎_elim, arith, lt_of_le_of_lt, zero-add}
 use Rattle.std.proofs.lemmas.Bool.{cases_lt}
 use Rattle.std.proofs.lemmas.Nat.{pow_pos, shl_below}
 use Rattle.std.proofs.Math.Nat.{mul_comm, mul-le-mul_left}
+use Rattle.std.proofs.lemmas.List.{take-map, drop-map}
+use Rattle.mk_exact.specs.Lawful.{Lawful}
 use Rattle.mk_exact.specs.States.{plus_over}
+use Rattle.mk_exact.proofs.Sums.{plus_over-map}
+use Rattle.mk_cell.specs.Passes.{plus_below}
 use Rattle.mk_scaled.specs.Range.{two_to, two_to-small, two_to-lt, mul_at_most, exponent_below, pow-lt_reflects}
 use Rattle.mk_cell.specs.Cell.{bias, bias-is, IsCell, StandsAt, AllStand}
 use Rattle.mk_cell.specs.inner.LowerEnd.{at_least_one}
 use Rattle.mk_table.specs.inner.Blank.{one_digits, one_exponent, filled}
-use Rattle.mk_table.specs.inner.Parts.{StandPairs, StandListed, HaveRoom, block_of}
-use Rattle.mk_table.proofs.Blocked.{AreGathered, block_within}
+use Rattle.mk_table.specs.inner.Parts.{StandPairs, StandListed, MakesPlusOfPairs, HaveRoom, block_of, cells_at}
+use Rattle.mk_table.proofs.Blocked.{AreGathered, block_within, gathered_all}
 use Rattle.mk_table.proofs.Filled.{one_at}
 use Rattle.mk_table.proofs.OnesSum.{times_one}
 
@@ -60,6 +64,20 @@ gathered_each at count d e gd ge h k v n a = record {
       subst (λ y. StandsAt k y (slice_index ge i) (v i) n) (sym (h.digits_are i p)) (subst (λ y. StandsAt k (slice_index d (at i)) y (v i) n) (sym (h.exponents_are i p)) (a i p));
 }
 
+-- ---- cells that lie so far from a base
+
+-- so far from the first
+pub cells_zero : (xs : List ℕ) → cells_at 0 xs ≡ xs
+cells_zero [] = refl
+cells_zero (x ∷ xs) = ap (λ y. y ∷ cells_at 0 xs) (zero-add x) ∙ ap (λ (ys : List ℕ). x ∷ ys) (cells_zero xs)
+
+pub gathered_at : (plus : ℕ → ℕ → ℕ) → Lawful plus → (f : ℕ → ℕ) (base : ℕ) (xs : List ℕ) → plus_below plus (length xs) (λ k. f (base + slice_index xs k)) ≡ plus_over plus 0 f (cells_at base xs)
+gathered_at plus law f base xs = gathered_all plus law (λ c. f (base + c)) xs ∙ sym (plus_over-map plus 0 f (λ c. base + c) xs)
+
+pub block_at : (base : ℕ) (xs : List ℕ) (b : ℕ) (ys : List ℕ) → ys ≡ block_of xs b → cells_at base ys ≡ block_of (cells_at base xs) b
+block_at base xs b ys e =
+    ap (cells_at base) e ∙ sym (take-map (λ c. base + c) 64 (drop (b * 64) xs)) ∙ ap (take 64) (sym (drop-map (λ c. base + c) (b * 64) xs))
+
 -- ---- cells of 1
 
 -- a table's cell times the cell of 1
@@ -84,17 +102,23 @@ blank_pairs count d e md me chosen onto h t within j k f g n p pairs = λ i z l.
     (one_at one_digits count c d h (within i z l)) (one_at one_exponent count c e t (within i z l)) (pairs.left i z l) (pairs.right i z l)
 
 -- and of a blank message the table's own
+pub blank_products : (d e md me chosen : List ℕ) (onto : ℕ → ℕ) (count : ℕ) (xs ys : List ℕ) → md ≡ filled one_digits count xs → me ≡ filled one_exponent count ys → length xs ≡ 0 → length ys ≡ 0
+    → All (λ c. onto c < count) chosen → (j k : ℕ) (f g : ℕ → ℕ) (n p : ℕ)
+    → StandPairs j k d e md me onto f g n p chosen → All (λ c. StandsAt (j + k) (slice_index d c) (slice_index e c) (f c * g c) (n + p + 1)) chosen
+blank_products d e md me chosen onto count xs ys a b h t within j k f g n p pairs = λ i z l.
+    let c = get_or chosen i z in
+    times_one_stands j k (slice_index d c) (slice_index e c) (slice_index md (onto c)) (slice_index me (onto c)) (f c) (g c) n p
+    (ap (λ (zs : List ℕ). slice_index zs (onto c)) a ∙ one_at one_digits count (onto c) xs h (within i z l)) (ap (λ (zs : List ℕ). slice_index zs (onto c)) b ∙ one_at one_exponent count (onto c) ys t (within i z l))
+    (pairs.left i z l) (pairs.right i z l)
+
 pub blank_others : (d e md me chosen : List ℕ) (onto : ℕ → ℕ) (count : ℕ) (xs ys : List ℕ) → md ≡ filled one_digits count xs → me ≡ filled one_exponent count ys → length xs ≡ 0 → length ys ≡ 0
     → All (λ c. onto c < count) chosen → (j k : ℕ) (f g : ℕ → ℕ) (n p : ℕ)
     → StandPairs j k d e md me onto f g n p chosen → StandListed (j + k) d e (λ c. f c * g c) (n + p + 1) 0 chosen
 blank_others d e md me chosen onto count xs ys a b h t within j k f g n p pairs = record {
   listed = λ i z l.
-      let c = get_or chosen i z in
-      let moved : c ≡ 0 + c = omega arith in
+      let moved : get_or chosen i z ≡ 0 + get_or chosen i z = omega arith in
       subst (λ y. StandsAt (j + k) (slice_index d y) (slice_index e y) (f y * g y) (n + p + 1)) moved
-      (times_one_stands j k (slice_index d c) (slice_index e c) (slice_index md (onto c)) (slice_index me (onto c)) (f c) (g c) n p
-      (ap (λ (zs : List ℕ). slice_index zs (onto c)) a ∙ one_at one_digits count (onto c) xs h (within i z l)) (ap (λ (zs : List ℕ). slice_index zs (onto c)) b ∙ one_at one_exponent count (onto c) ys t (within i z l))
-      (pairs.left i z l) (pairs.right i z l));
+      (blank_products d e md me chosen onto count xs ys a b h t within j k f g n p pairs i z l);
 }
 
 -- ---- some of the pairs
@@ -103,6 +127,29 @@ pub pairs_of_full : (d e md me chosen : List ℕ) (onto : ℕ → ℕ) (fd fe : 
     → StandPairs j k fd fe md me onto f g n p chosen → StandPairs j k d e md me onto f g n p chosen
 pairs_of_full d e md me chosen onto fd fe a b j k f g n p h =
     subst (λ (ys : List ℕ). StandPairs j k ys e md me onto f g n p chosen) a (subst (λ (ys : List ℕ). StandPairs j k fd ys md me onto f g n p chosen) b h)
+
+-- the pairs of equal arrays and lists
+pairs_moved : (d e md me d' e' md' me' : List ℕ) (onto goes : ℕ → ℕ) (xs ys : List ℕ) → d' ≡ d → e' ≡ e → md' ≡ md → me' ≡ me → xs ≡ ys → All (λ c. onto c ≡ goes c) ys
+    → (j k : ℕ) (f g : ℕ → ℕ) (n p : ℕ) → StandPairs j k d e md me goes f g n p ys → StandPairs j k d' e' md' me' onto f g n p xs
+pairs_moved d e md me d' e' md' me' onto goes xs ys di ei mdi mei xi onto_is j k f g n p h =
+    subst (λ (zs : List ℕ). StandPairs j k zs e' md' me' onto f g n p xs) (sym di)
+    (subst (λ (zs : List ℕ). StandPairs j k d zs md' me' onto f g n p xs) (sym ei)
+    (subst (λ (zs : List ℕ). StandPairs j k d e zs me' onto f g n p xs) (sym mdi)
+    (subst (λ (zs : List ℕ). StandPairs j k d e md zs onto f g n p xs) (sym mei)
+    (subst (λ (zs : List ℕ). StandPairs j k d e md me onto f g n p zs) (sym xi) (record {
+      left = h.left;
+      right = λ i z l. subst (λ y. StandsAt k (slice_index md y) (slice_index me y) (g (get_or ys i z)) p) (sym (onto_is i z l)) (h.right i z l);
+    })))))
+
+-- by the arrays and the lists that the code reads
+pub full_made : (plus : ℕ → ℕ → ℕ) (d e md me : List ℕ) (goes : ℕ → ℕ) (base : ℕ) (offsets chosen : List ℕ) → cells_at base offsets ≡ chosen → (count : ℕ) → length offsets ≡ count → (q x : ℕ)
+    → (d' e' md' me' onto : List ℕ) → d' ≡ d → e' ≡ e → md' ≡ md → me' ≡ me → All (λ c. slice_index onto c ≡ goes c) chosen
+    → MakesPlusOfPairs plus d' e' md' me' (slice_index onto) (cells_at base offsets) (2 * length offsets + 1) q x → MakesPlusOfPairs plus d e md me goes chosen (2 * count + 1) q x
+full_made plus d e md me goes base offsets chosen listed count long q x d' e' md' me' onto di ei mdi mei onto_is made = λ j k f g n p pairs.
+    let product : ℕ → ℕ = λ c. f c * g c in
+    subst (λ m. StandsAt (j + k) q x (plus_over plus 0 product chosen) (n + p + (2 * m + 1))) long
+    (subst (λ (zs : List ℕ). StandsAt (j + k) q x (plus_over plus 0 product zs) (n + p + (2 * length offsets + 1))) listed
+    (made j k f g n p (pairs_moved d e md me d' e' md' me' (slice_index onto) goes (cells_at base offsets) chosen di ei mdi mei listed onto_is j k f g n p pairs)))
 
 -- the pairs of a block
 pub block_pairs : (d e md me xs : List ℕ) (onto : ℕ → ℕ) (b j k : ℕ) (f g : ℕ → ℕ) (n p : ℕ) → StandPairs j k d e md me onto f g n p xs → StandPairs j k d e md me onto f g n p (block_of xs b)

@@ -158,7 +158,7 @@ module _ (t : TableOf) (scope : ScopeOf) (shift : ℕ) (od oe : List ℕ) (are :
 
 -- ---- sums
 
-All_unmap : (P : ℕ → Type 0) (f : ℕ → ℕ) (xs : List ℕ) → All P (map f xs) → All (λ x. P (f x)) xs
+pub All_unmap : (P : ℕ → Type 0) (f : ℕ → ℕ) (xs : List ℕ) → All P (map f xs) → All (λ x. P (f x)) xs
 All_unmap P f xs h k d l = subst P (get_or-map f xs k d) (h k (f d) (let m = length-map xs f in omega (arith, m)))
 
 -- each of the cells that go to a cell of a part is a cell

@@ -3,6 +3,7 @@
 
 mod blank;
 mod blocks;
+mod joined;
 mod part;
 mod picked;
 mod products;

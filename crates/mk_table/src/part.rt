@@ -16,7 +16,8 @@ use std::rc::Rc;
 /// from it the runs of cells with these values begin. They are the same distances for each cell of the part. The cells of a run
 /// lie side by side.
 ///
-/// For each cell of the whole, the part's cell that has its values is kept too.
+/// For each cell of the whole, the part's cell that has its values is kept too, and so is how far from the first cell each cell
+/// of the runs lies.
 #[derive(Drop)]
 pub struct Places {
     whole: Rc<Scope>,
@@ -25,6 +26,7 @@ pub struct Places {
     offsets: Vec<u16>,
     run: usize,
     onto: Vec<u16>,
+    beside: Vec<u16>,
 }
 
 impl Model for Places {
@@ -36,7 +38,7 @@ impl Model for Places {
 
     ghost view = { λ p. record { whole = p.whole.value; part = p.part.value } };
 
-    ghost invariant = { λ p. AreKeptPlaces p.part.value p.whole.value p.bases.items (runs_of p.run p.offsets.items) p.run p.onto.items };
+    ghost invariant = { λ p. AreKeptPlaces p.part.value p.whole.value p.bases.items (runs_of p.run p.offsets.items) p.run p.onto.items p.beside.items };
 }
 
 impl Places {
@@ -52,13 +54,16 @@ impl Places {
         ensures { IfOk result (λ places. places ≡ record { whole = whole.now.value; part = part.now.value }) }
     {
         let run = whole.cells_onto(part, bases, offsets);
+        let firsts = Vec::from_slice(alloc, offsets)?;
+        whole.cells_beside(part, offsets);
         Ok(Places {
             whole: whole.clone()?,
             part: part.clone()?,
             bases: Vec::from_slice(alloc, bases)?,
-            offsets: Vec::from_slice(alloc, offsets)?,
+            offsets: firsts,
             run,
             onto: cells_of_part(alloc, whole, part)?,
+            beside: Vec::from_slice(alloc, offsets)?,
         })
     }
 
@@ -82,6 +87,13 @@ impl Places {
         ensures { ArePlaces self.now.part self.now.whole result.0.now (runs_of result.2 result.1.now) result.2 }
     {
         (&self.bases, &self.offsets, self.run)
+    }
+
+    /// The first cell of the whole for each cell of the part, and how far from it each cell with its values lies.
+    pub(crate) fn single_lists(&self) -> (&[u16], &[u16])
+        ensures { ArePlaces self.now.part self.now.whole result.0.now result.1.now 1 }
+    {
+        (&self.bases, &self.beside)
     }
 
     /// The part's cell with the values of each cell of the whole.

@@ -5,7 +5,7 @@ ghost use Rattle.mk_net.specs.Bounds.{max_clique_cells};
 ghost use Rattle.mk_exact.specs.States.{plus_over};
 ghost use Rattle.mk_cell.specs.Cell.{AreCells, Stands, StandsAt};
 ghost use Rattle.mk_table.specs.inner.Blank.{one_digits, one_exponent, filled};
-ghost use Rattle.mk_table.specs.inner.Parts.{AreBlankOrFull, HaveRoom, IsPlusOfPairs};
+ghost use Rattle.mk_table.specs.inner.Parts.{AreBlankOrFull, HaveRoom, IsPlusOfPairs, cells_at};
 
 use crate::blocks::block_of;
 use mk_cell::Cell;
@@ -17,23 +17,25 @@ const FEW: usize = 8;
 /// The cells of a block, and the blocks of a list.
 const BLOCK: usize = 64;
 
-/// The plus of the products of chosen cells by the message's cells that have their values. A blank table is not read.
+/// The plus of the products of the cells that lie so far from a base by the message's cells that have their values. A blank
+/// table is not read.
 pub(crate) fn plus_of_products<R: Semiring>(
     digits: &[u64],
     exponents: &[u32],
     onto: &[u16],
     other_digits: &[u64],
     other_exponents: &[u32],
+    base: usize,
     chosen: &[u16],
 ) -> Cell
     requires few { length chosen.now ≤ max_clique_cells }
-    requires within { All (λ c. c < length onto.now) chosen.now }
+    requires within { All (λ c. base + c < length onto.now) chosen.now }
     requires onto { All (λ d. d < length other_digits.now) onto.now }
     requires whole { AreBlankOrFull (length onto.now) digits.now exponents.now }
     requires room { (k : ℕ) × HaveRoom k (filled one_digits (length onto.now) digits.now) (filled one_exponent (length onto.now) exponents.now) (2 * length chosen.now) }
     requires other_room { (k : ℕ) × HaveRoom k other_digits.now other_exponents.now 1 }
     ensures { IsPlusOfPairs R.plus_of (filled one_digits (length onto.now) digits.now) (filled one_exponent (length onto.now) exponents.now)
-        other_digits.now other_exponents.now (slice_index onto.now) chosen.now (2 * length chosen.now + 1) result }
+        other_digits.now other_exponents.now (slice_index onto.now) (cells_at base chosen.now) (2 * length chosen.now + 1) result }
 {
     if chosen.len() <= FEW {
         products_of_block::<R, FEW>(
@@ -42,6 +44,7 @@ pub(crate) fn plus_of_products<R: Semiring>(
             onto,
             other_digits,
             other_exponents,
+            base,
             chosen,
         )
     } else if chosen.len() <= BLOCK {
@@ -51,6 +54,7 @@ pub(crate) fn plus_of_products<R: Semiring>(
             onto,
             other_digits,
             other_exponents,
+            base,
             chosen,
         )
     } else {
@@ -60,6 +64,7 @@ pub(crate) fn plus_of_products<R: Semiring>(
             onto,
             other_digits,
             other_exponents,
+            base,
             chosen,
         )
     }
@@ -72,17 +77,18 @@ fn products_by_blocks<R: Semiring>(
     onto: &[u16],
     other_digits: &[u64],
     other_exponents: &[u32],
+    base: usize,
     chosen: &[u16],
 ) -> Cell
     requires many { 64 < length chosen.now }
     requires few { length chosen.now ≤ max_clique_cells }
-    requires within { All (λ c. c < length onto.now) chosen.now }
+    requires within { All (λ c. base + c < length onto.now) chosen.now }
     requires onto { All (λ d. d < length other_digits.now) onto.now }
     requires whole { AreBlankOrFull (length onto.now) digits.now exponents.now }
     requires room { (k : ℕ) × HaveRoom k (filled one_digits (length onto.now) digits.now) (filled one_exponent (length onto.now) exponents.now) (2 * length chosen.now) }
     requires other_room { (k : ℕ) × HaveRoom k other_digits.now other_exponents.now 1 }
     ensures { IsPlusOfPairs R.plus_of (filled one_digits (length onto.now) digits.now) (filled one_exponent (length onto.now) exponents.now)
-        other_digits.now other_exponents.now (slice_index onto.now) chosen.now (2 * length chosen.now + 1) result }
+        other_digits.now other_exponents.now (slice_index onto.now) (cells_at base chosen.now) (2 * length chosen.now + 1) result }
 {
     let blocks = chosen.len().div_ceil(BLOCK);
     let mut block_digits = [0u64; BLOCK];
@@ -95,6 +101,7 @@ fn products_by_blocks<R: Semiring>(
             onto,
             other_digits,
             other_exponents,
+            base,
             listed,
         );
         block_digits[block] = cell.digits;
@@ -110,20 +117,21 @@ fn products_of_block<R: Semiring, const N: usize>(
     onto: &[u16],
     other_digits: &[u64],
     other_exponents: &[u32],
+    base: usize,
     chosen: &[u16],
 ) -> Cell
     requires few { length chosen.now ≤ N }
     requires small { N ≤ 64 }
-    requires within { All (λ c. c < length onto.now) chosen.now }
+    requires within { All (λ c. base + c < length onto.now) chosen.now }
     requires onto { All (λ d. d < length other_digits.now) onto.now }
     requires whole { AreBlankOrFull (length onto.now) digits.now exponents.now }
     requires room { (k : ℕ) × HaveRoom k (filled one_digits (length onto.now) digits.now) (filled one_exponent (length onto.now) exponents.now) (2 * length chosen.now) }
     requires other_room { (k : ℕ) × HaveRoom k other_digits.now other_exponents.now 1 }
     ensures { IsPlusOfPairs R.plus_of (filled one_digits (length onto.now) digits.now) (filled one_exponent (length onto.now) exponents.now)
-        other_digits.now other_exponents.now (slice_index onto.now) chosen.now (2 * length chosen.now + 1) result }
+        other_digits.now other_exponents.now (slice_index onto.now) (cells_at base chosen.now) (2 * length chosen.now + 1) result }
 {
     if digits.len() < onto.len() {
-        plus_of_others::<R, N>(onto, other_digits, other_exponents, chosen)
+        plus_of_others::<R, N>(onto, other_digits, other_exponents, base, chosen)
     } else {
         products_of_cells::<R, N>(
             digits,
@@ -131,28 +139,30 @@ fn products_of_block<R: Semiring, const N: usize>(
             onto,
             other_digits,
             other_exponents,
+            base,
             chosen,
         )
     }
 }
 
-/// The plus of the products of at most `N` cells.
+/// The plus of the products of at most `N` cells that lie so far from a base.
 fn products_of_cells<R: Semiring, const N: usize>(
     digits: &[u64],
     exponents: &[u32],
     onto: &[u16],
     other_digits: &[u64],
     other_exponents: &[u32],
+    base: usize,
     chosen: &[u16],
 ) -> Cell
     requires few { length chosen.now ≤ N }
     requires small { N ≤ 64 }
-    requires within { All (λ c. c < length onto.now) chosen.now }
+    requires within { All (λ c. base + c < length onto.now) chosen.now }
     requires onto { All (λ d. d < length other_digits.now) onto.now }
     requires full { length digits.now ≡ length onto.now }
     requires cells { AreCells digits.now exponents.now }
     requires other_cells { AreCells other_digits.now other_exponents.now }
-    ensures { IsPlusOfPairs R.plus_of digits.now exponents.now other_digits.now other_exponents.now (slice_index onto.now) chosen.now (2 * length chosen.now + 1) result }
+    ensures { IsPlusOfPairs R.plus_of digits.now exponents.now other_digits.now other_exponents.now (slice_index onto.now) (cells_at base chosen.now) (2 * length chosen.now + 1) result }
 {
     let count = chosen.len();
     let mut left_digits = [0u64; N];
@@ -160,7 +170,7 @@ fn products_of_cells<R: Semiring, const N: usize>(
     let mut right_digits = [0u64; N];
     let mut right_exponents = [0u32; N];
     for place in 0..count {
-        let cell = chosen[place] as usize;
+        let cell = base + chosen[place] as usize;
         let other = onto[cell] as usize;
         left_digits[place] = digits[cell];
         left_exponents[place] = exponents[cell];
@@ -175,27 +185,28 @@ fn products_of_cells<R: Semiring, const N: usize>(
     )
 }
 
-/// The plus of the message's cells that have the values of at most `N` cells.
+/// The plus of the message's cells that have the values of at most `N` cells that lie so far from a base.
 fn plus_of_others<R: Semiring, const N: usize>(
     onto: &[u16],
     other_digits: &[u64],
     other_exponents: &[u32],
+    base: usize,
     chosen: &[u16],
 ) -> Cell
     requires few { length chosen.now ≤ N }
     requires small { N ≤ 64 }
-    requires within { All (λ c. c < length onto.now) chosen.now }
+    requires within { All (λ c. base + c < length onto.now) chosen.now }
     requires onto { All (λ d. d < length other_digits.now) onto.now }
     requires other_cells { AreCells other_digits.now other_exponents.now }
     ensures { (k : ℕ) (f : ℕ → ℕ) (n : ℕ)
-        → All (λ c. StandsAt k (slice_index other_digits.now (slice_index onto.now c)) (slice_index other_exponents.now (slice_index onto.now c)) (f c) n) chosen.now
-        → Stands k result (plus_over R.plus_of 0 f chosen.now) (n + length chosen.now) }
+        → All (λ c. StandsAt k (slice_index other_digits.now (slice_index onto.now c)) (slice_index other_exponents.now (slice_index onto.now c)) (f c) n) (cells_at base chosen.now)
+        → Stands k result (plus_over R.plus_of 0 f (cells_at base chosen.now)) (n + length chosen.now) }
 {
     let count = chosen.len();
     let mut block_digits = [0u64; N];
     let mut block_exponents = [0u32; N];
     for place in 0..count {
-        let other = onto[chosen[place] as usize] as usize;
+        let other = onto[base + chosen[place] as usize] as usize;
         block_digits[place] = other_digits[other];
         block_exponents[place] = other_exponents[other];
     }

@@ -152,12 +152,20 @@ impl Scope {
         ensures beside { length bases.new.items * length (runs_of result offsets.new.items) ≡ cells_in self.now }
         ensures some { 1 ≤ result }
         ensures scope { IsScope self.now }
+        ensures listed { runs_of result offsets.new.items ≡ cells_with (size_in self.now) (values_moved self.now part.now false) self.now.variables }
     {
         let _ = (part.cells(), self.cells());
         let tail = self.tail_outside(part);
         self.cells_moved(part, true, no_tail(), bases);
         self.cells_moved(part, false, tail, offsets);
         tail.cells
+    }
+
+    /// Lists how far each cell lies from the first one with the values that it gives a part.
+    pub(crate) fn cells_beside(&self, part: &Scope, cells: &mut CellList)
+        ensures { cells.new.items ≡ cells_with (size_in self.now) (values_moved self.now part.now false) self.now.variables }
+    {
+        self.cells_moved(part, false, no_tail(), cells);
     }
 
     /// Lists the cells where each variable has its first value, but for those that a part has, or those that it has not. Of

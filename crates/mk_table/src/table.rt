@@ -14,13 +14,14 @@ ghost use Rattle.mk_table.specs.Tables.{HasNumbers, HasRoom, is_untouched};
 ghost use Rattle.mk_table.specs.inner.Parts.{IsFull, StandListed};
 
 use crate::blank::{copy_over, fill, one, plus_of_each, plus_of_listed, times_held};
+use crate::joined::margin_times;
 use crate::part::Places;
 use crate::picked::RATIO_SHIFT;
 use crate::products::plus_of_products;
 use crate::scope::Scope;
 use crate::strides::CellList;
 use crate::times::{keep_value, times_shares, times_units};
-use crate::touched::{beside, is_untouched_by, put_within, take_either};
+use crate::touched::{beside, is_untouched_by, put_either_within, put_within, take_either};
 use mk_cell::Cell;
 use mk_net::{Event, Network, NoMemory, Pair, Ratio};
 use mk_semiring::Semiring;
@@ -244,6 +245,40 @@ impl<R: Semiring> Table<R> {
         put_within(&self.touched, &out.scope, &mut out.touched);
     }
 
+    /// Puts into each cell of a table over some of the variables the plus, over the cells that have its values, of each cell times the cell of
+    /// another table that has the same values.
+    pub fn margin_times_into(
+        &self,
+        places: &Places,
+        other_places: &Places,
+        other: &Table<R>,
+        out: &mut Table<R>,
+    )
+        requires places { places.now ≡ record { whole = self.now.scope; part = out.old.scope } }
+        requires other_places { other_places.now ≡ record { whole = self.now.scope; part = other.now.scope } }
+        requires room { HasRoom self.now (2 * cells_in self.now.scope) }
+        requires other_room { HasRoom other.now 1 }
+        ensures scope { out.new.scope ≡ out.old.scope }
+        ensures shift { out.new.shift ≡ self.now.shift + other.now.shift }
+        ensures numbers { (f g : ℕ → ℕ) (n p : ℕ) → HasNumbers self.now f n → HasNumbers other.now g p
+            → HasNumbers out.new (λ d. plus_over R.plus_of 0 (λ c. f c * g (cell_in other.now.scope self.now.scope c)) (cells_onto out.old.scope self.now.scope d))
+            (n + p + (2 * cells_beside out.old.scope self.now.scope + 1)) }
+        ensures beside { cells_in out.old.scope * cells_beside out.old.scope self.now.scope ≡ cells_in self.now.scope }
+    {
+        margin_times::<R>(
+            &self.digits,
+            &self.exponents,
+            places,
+            &other.digits,
+            &other.exponents,
+            other_places,
+            &mut out.digits,
+            &mut out.exponents,
+        );
+        out.shift = self.shift + other.shift;
+        put_either_within(&self.touched, &other.touched, &out.scope, &mut out.touched);
+    }
+
     /// The plus of the cells where an event holds; absent where none is. The list is where their numbers are written. Where
     /// no ratio touched a cell of the event, the plus also has a number of its own.
     pub fn total(&self, event: &Event, chosen: &mut CellList) -> Cell
@@ -288,6 +323,7 @@ impl<R: Semiring> Table<R> {
             places.onto(),
             &message.digits,
             &message.exponents,
+            0,
             chosen,
         )
     }

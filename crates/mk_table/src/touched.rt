@@ -4,7 +4,7 @@
 ghost use Rattle.std.specs.Prelude.{◌≡◌, ◌⊎◌, [], ◌∷◌, ◌++◌, List, Option};
 ghost use Rattle.mk_table.specs.Scopes.{HasEvent};
 ghost use Rattle.mk_table.specs.Tables.{contradicts, contradicts_pair, is_untouched_by};
-ghost use Rattle.mk_table.specs.inner.Touched.{has_pair, IsPart, IsEither, IsBeside, IsWithin};
+ghost use Rattle.mk_table.specs.inner.Touched.{has_pair, IsPart, IsEither, IsBeside, IsWithin, IsEitherWithin};
 
 use crate::scope::Scope;
 use mk_net::{Event, Pair};
@@ -55,6 +55,25 @@ pub(crate) fn put_within(touched: &Option<Event>, scope: &Scope, out: &mut Optio
     match touched {
         Some(event) => *out = Some(pairs_within(event, scope)),
         None => *out = None,
+    }
+}
+
+/// Puts into a place an event that holds wherever one of two does: the pairs that both have, or those of the one that there
+/// is, whose variables a scope has.
+pub(crate) fn put_either_within(
+    first: &Option<Event>,
+    second: &Option<Event>,
+    scope: &Scope,
+    out: &mut Option<Event>,
+)
+    ensures { IsEitherWithin scope.now first.now second.now out.new }
+{
+    match first {
+        Some(event) => match second {
+            Some(other) => *out = Some(common(&pairs_within(event, scope), other.pairs())),
+            None => *out = Some(pairs_within(event, scope)),
+        },
+        None => put_within(second, scope, out),
     }
 }
 

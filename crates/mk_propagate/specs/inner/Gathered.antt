@@ -1,15 +1,18 @@
--- What is gathered over the core of a clique: what is placed in the clique, summed there, or 1, times the messages of its neighbours, or of all but one.
-use Rattle.std.specs.Prelude.{◌≡◌, ℕ, ◌+◌, ◌-◌, ◌*◌, ◌≤◌, Bool, true, not, ◌&&◌, ◌==◌, nat_lt, if◌then◌else◌, List, length, take, sum_by, Option, Some, None, slice_index, slice_index_or}
+-- What is kept over the core of a clique: what is placed in the clique, summed there, and the product of the messages of its neighbours, or of all but one;
+-- and what the clique sends, made of both.
+use Rattle.std.specs.Prelude.{◌≡◌, ℕ, ◌+◌, ◌-◌, ◌*◌, ◌<◌, ◌≤◌, ⊤, Bool, true, false, not, ◌&&◌, ◌==◌, nat_lt, if◌then◌else◌, List, length, take, sum_by, Option, Some, None, slice_index, slice_index_or}
 use Rattle.mk_net.specs.Network.{Variable, sizes}
 use Rattle.mk_exact.specs.States.{plus_over, product_by}
 use Rattle.mk_sums.specs.Sums.{over}
 use Rattle.mk_sums.specs.Joint.{variables}
 use Rattle.mk_sums.specs.Trees.{linked_to}
 use Rattle.mk_table.specs.Scopes.{cells_in}
-use Rattle.mk_table.specs.Cells.{cells_onto, cells_beside}
+use Rattle.mk_table.specs.Cells.{cell_in, cells_onto, cells_beside}
 use Rattle.mk_table.specs.Tables.{TableOf, HasNumbers}
 use Rattle.mk_tree.specs.Given.{GivenTree, holds, link_of}
-use Rattle.mk_propagate.specs.Shapes.{ShapeOf, IsShapeFor, clique_scope, core_scope, separator_between, scope_within, in_core, neighbours, clique_cells}
+use Rattle.mk_propagate.specs.declared.gathered.Gathered.{Gathered}
+use Rattle.mk_propagate.specs.declared.gathered.Gathered.TheVariants.{Nothing, Everything, AllBut}
+use Rattle.mk_propagate.specs.Shapes.{ShapeOf, IsShapeFor, are_linked, clique_scope, core_scope, separator_between, scope_within, in_core, neighbours, clique_cells}
 use Rattle.mk_propagate.specs.Placings.{Placing, IsPlacing, placed_there, factors_in}
 use Rattle.mk_propagate.specs.Flows.{HasCells, exact_message, exact_message_grade, no_table}
 
@@ -41,11 +44,6 @@ pub record CanTake (plus : ℕ → ℕ → ℕ) (shape : ShapeOf) (upward downwa
   pub shape_is : IsShapeFor shape p.network
   pub placing : IsPlacing shape.tree p
   pub right : (i : ℕ) → is_input shape.tree k receiver i ≡ true → IsRightIn plus shape p i k (message_in upward downward i k)
-
--- and clique k's table has what is placed there
-pub record CanGather (plus : ℕ → ℕ → ℕ) (shape : ShapeOf) (table : TableOf) (upward downward : List TableOf) (k : ℕ) (receiver : Option ℕ) (p : Placing) : Type 0 where
-  pub takes : CanTake plus shape upward downward k receiver p
-  pub placed : HasCells table (clique_scope shape k) (placed_there p k) (factors_in p k) (factors_in p k)
 
 -- ---- the core of a clique
 
@@ -111,14 +109,35 @@ pub record CanBegin (plus : ℕ → ℕ → ℕ) (shape : ShapeOf) (upward downw
   pub factors : ℕ
   pub begins : Begins shape k placing first steps factors t
 
--- a table has the messages of all neighbours
-pub record HasInto (plus : ℕ → ℕ → ℕ) (shape : ShapeOf) (upward downward : List TableOf) (k : ℕ) (t : TableOf) : Type 0 where
-  pub into : (p : Placing) → CanTake plus shape upward downward k None p → HasGathered plus shape k None (neighbours shape.tree k) (λ a. 1) 0 0 t p
+-- a table has the messages of all neighbours, or of all but a receiver
+pub record HasInto (plus : ℕ → ℕ → ℕ) (shape : ShapeOf) (upward downward : List TableOf) (k : ℕ) (receiver : Option ℕ) (t : TableOf) : Type 0 where
+  pub into : (p : Placing) → CanTake plus shape upward downward k receiver p → HasGathered plus shape k receiver (neighbours shape.tree k) (λ a. 1) 0 0 t p
 
--- a table has what clique k sends to another: what is placed there, summed over the core, times the messages of its other neighbours
-pub record HasSent (plus : ℕ → ℕ → ℕ) (shape : ShapeOf) (table : TableOf) (upward downward : List TableOf) (k receiver : ℕ) (t : TableOf) : Type 0 where
-  pub sent : (p : Placing) → CanGather plus shape table upward downward k (Some receiver) p
-      → HasGathered plus shape k (Some receiver) (neighbours shape.tree k) (core_there plus shape.tree p k) (core_steps shape.tree p k) (factors_in p k) t p
+-- it has those that a mark tells of
+abbrev pub HasMarked : (ℕ → ℕ → ℕ) → ShapeOf → List TableOf → List TableOf → ℕ → Gathered → TableOf → Type 0
+HasMarked plus shape upward downward k Nothing t = ⊤
+HasMarked plus shape upward downward k Everything t = HasInto plus shape upward downward k None t
+HasMarked plus shape upward downward k (AllBut i) t = (are_linked shape.tree i k ≡ true) × HasInto plus shape upward downward k (Some i) t
+
+-- a mark tells of the messages of all neighbours but one
+abbrev pub leaves_out : ℕ → Gathered → Bool
+leaves_out neighbour Nothing = false
+leaves_out neighbour Everything = false
+leaves_out neighbour (AllBut i) = i == neighbour
+
+-- what a mark still tells once the message of a neighbour is made anew
+abbrev pub still_marked : ℕ → Gathered → Gathered
+still_marked neighbour mark = if leaves_out neighbour mark then mark else Nothing
+
+-- ---- what a clique sends
+
+-- clique a has it for b: what is placed there, summed over its core, and, where it has other neighbours, the product of their messages
+pub record HasOutgoing (plus : ℕ → ℕ → ℕ) (shape : ShapeOf) (a b : ℕ) (core product : TableOf) (p : Placing) : Type 0 where
+  pub shape_is : IsShapeFor shape p.network
+  pub placing : IsPlacing shape.tree p
+  pub split : cells_in (core_scope shape a) * cells_beside (core_scope shape a) (clique_scope shape a) ≡ cells_in (clique_scope shape a)
+  pub sums : HasCells core (core_scope shape a) (core_there plus shape.tree p a) (core_steps shape.tree p a) (factors_in p a)
+  pub others : 1 < length (neighbours shape.tree a) → HasGathered plus shape a (Some b) (neighbours shape.tree a) (λ t. 1) 0 0 product p
 
 -- a table that was over some of the variables of another has in each cell the plus of the other's cells with its values
 pub record IsMargin (plus : ℕ → ℕ → ℕ) (whole before after : TableOf) : Type 0 where
@@ -128,3 +147,12 @@ pub record IsMargin (plus : ℕ → ℕ → ℕ) (whole before after : TableOf) 
   pub beside : cells_in before.scope * cells_beside before.scope whole.scope ≡ cells_in whole.scope
   pub numbers : (f : ℕ → ℕ) (n : ℕ) → HasNumbers whole f n
       → HasNumbers after (λ d. plus_over plus 0 f (cells_onto before.scope whole.scope d)) (n + (2 * cells_beside before.scope whole.scope - 1))
+
+-- one that was over some of the variables of two others, which are over the same, has in each cell the plus of the products of the others' cells with its values
+pub record IsMarginOfProduct (plus : ℕ → ℕ → ℕ) (core product before after : TableOf) : Type 0 where
+  pub scope : after.scope ≡ before.scope
+  pub shift : after.shift ≡ core.shift + product.shift
+  pub full : length after.digits ≡ cells_in after.scope
+  pub beside : cells_in before.scope * cells_beside before.scope core.scope ≡ cells_in core.scope
+  pub numbers : (f g : ℕ → ℕ) (n q : ℕ) → HasNumbers core f n → HasNumbers product g q
+      → HasNumbers after (λ d. plus_over plus 0 (λ c. f c * g (cell_in product.scope core.scope c)) (cells_onto before.scope core.scope d)) (n + q + (2 * cells_beside before.scope core.scope + 1))

@@ -1,5 +1,5 @@
 -- How a flow is kept: its tables and messages lie over the scopes of its shape. Beside them it keeps, over the core of each clique, the clique's table
--- summed, marked where that is done, and a product of messages, marked where it has those of all neighbours as they are.
+-- summed, marked where that is done, and a product of messages, with a mark of whose messages it has.
 use Rattle.std.specs.Prelude.{◌≡◌, ℕ, ◌+◌, ◌-◌, ◌<◌, Bool, true, false, List, length, slice_index_or}
 use Rattle.mk_sums.specs.Trees.{sum_of}
 use Rattle.mk_table.specs.Scopes.{cells_in}
@@ -7,7 +7,9 @@ use Rattle.mk_table.specs.Tables.{TableOf}
 use Rattle.mk_tree.specs.Given.{GivenTree, AreLinked}
 use Rattle.mk_propagate.specs.Shapes.{IsClique, clique_scope, core_scope, separator_scope}
 use Rattle.mk_propagate.specs.Flows.{FlowOf, table_at, no_table}
-use Rattle.mk_propagate.specs.inner.Gathered.{HasCore, HasInto}
+use Rattle.mk_propagate.specs.declared.gathered.Gathered.{Gathered}
+use Rattle.mk_propagate.specs.declared.gathered.Gathered.TheVariants.{Nothing}
+use Rattle.mk_propagate.specs.inner.Gathered.{HasCore, HasMarked}
 
 -- a table over the core of each clique
 pub record AreOverCores (flow : FlowOf) (tables : List TableOf) : Type 0 where
@@ -26,20 +28,20 @@ pub record IsKept (flow : FlowOf) (cores products : List TableOf) (cells : ℕ) 
   pub downward_scopes : (k : ℕ) → IsClique flow.shape.tree k → 1 < k → (slice_index_or flow.downward (k - 2) no_table).scope ≡ separator_scope flow.shape k
   pub cells_are : cells ≡ sum_of (λ k. true) (length flow.shape.tree.cliques) (λ k. cells_in (clique_scope flow.shape k))
 
--- a mark for each clique, and at each marked one P holds of its table
-pub record AreMarked (tree : GivenTree) (P : ℕ → TableOf → Type 0) (tables : List TableOf) (marks : List Bool) : Type 0 where
+-- a mark for each clique, and P holds of each clique's mark and table
+pub record AreMarked (M : Type 0) (tree : GivenTree) (none : M) (P : ℕ → M → TableOf → Type 0) (tables : List TableOf) (marks : List M) : Type 0 where
   pub one_mark_each : length marks ≡ length tree.cliques
-  pub marked_is : (k : ℕ) → IsClique tree k → slice_index_or marks (k - 1) false ≡ true → P k (slice_index_or tables (k - 1) no_table)
+  pub marked_is : (k : ℕ) → IsClique tree k → P k (slice_index_or marks (k - 1) none) (slice_index_or tables (k - 1) no_table)
 
--- a table has clique k's table summed over its core
-abbrev pub IsSummed : (ℕ → ℕ → ℕ) → FlowOf → ℕ → TableOf → Type 0
-IsSummed plus flow k t = HasCore plus flow.shape k (table_at flow k) t
+-- where it is marked, a table has clique k's table summed over its core
+abbrev pub IsSummed : (ℕ → ℕ → ℕ) → FlowOf → ℕ → Bool → TableOf → Type 0
+IsSummed plus flow k mark t = mark ≡ true → HasCore plus flow.shape k (table_at flow k) t
 
--- a table has the messages of all neighbours of clique k
-abbrev pub IsCurrent : (ℕ → ℕ → ℕ) → FlowOf → ℕ → TableOf → Type 0
-IsCurrent plus flow k t = HasInto plus flow.shape flow.upward flow.downward k t
+-- a table has the messages to clique k that its mark tells of
+abbrev pub IsGathered : (ℕ → ℕ → ℕ) → FlowOf → ℕ → Gathered → TableOf → Type 0
+IsGathered plus flow k mark t = HasMarked plus flow.shape flow.upward flow.downward k mark t
 
-pub record IsFlow (plus : ℕ → ℕ → ℕ) (flow : FlowOf) (cores products : List TableOf) (summed current : List Bool) (cells : ℕ) : Type 0 where
+pub record IsFlow (plus : ℕ → ℕ → ℕ) (flow : FlowOf) (cores products : List TableOf) (summed : List Bool) (gathered : List Gathered) (cells : ℕ) : Type 0 where
   pub kept : IsKept flow cores products cells
-  pub summed_are : AreMarked flow.shape.tree (IsSummed plus flow) cores summed
-  pub current_are : AreMarked flow.shape.tree (IsCurrent plus flow) products current
+  pub summed_are : AreMarked Bool flow.shape.tree false (IsSummed plus flow) cores summed
+  pub gathered_are : AreMarked Gathered flow.shape.tree Nothing (IsGathered plus flow) products gathered

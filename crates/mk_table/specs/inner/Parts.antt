@@ -3,7 +3,7 @@ use Rattle.std.specs.Prelude.{◌≡◌, ℕ, ◌+◌, ◌*◌, ◌<◌, ◌≤�
 use Rattle.mk_net.specs.declared.words.Pair.{Pair}
 use Rattle.mk_exact.specs.States.{plus_over}
 use Rattle.mk_cell.specs.declared.cell.Cell.{Cell}
-use Rattle.mk_cell.specs.Cell.{AllStand, Stands, StandsAt, IsOwnAt}
+use Rattle.mk_cell.specs.Cell.{AllStand, StandsAt, IsOwnAt}
 use Rattle.mk_table.specs.Scopes.{ScopeOf, IsScope, LiesIn, cells_in}
 use Rattle.mk_table.specs.Cells.{cell_in, cells_onto}
 use Rattle.mk_table.specs.Tables.{max_steps, max_shift}
@@ -44,11 +44,16 @@ pub record StandPairs (j k : ℕ) (digits exponents other_digits other_exponents
   pub left : All (λ c. StandsAt j (slice_index digits c) (slice_index exponents c) (f c) n) chosen
   pub right : All (λ c. StandsAt k (slice_index other_digits (onto c)) (slice_index other_exponents (onto c)) (g c) p) chosen
 
--- a cell stands for the plus of the products of pairs, whatever numbers these stand for
+-- digits and an exponent stand for the plus of the products of pairs, whatever numbers these stand for
+abbrev pub MakesPlusOfPairs : (ℕ → ℕ → ℕ) → List ℕ → List ℕ → List ℕ → List ℕ → (ℕ → ℕ) → List ℕ → ℕ → ℕ → ℕ → Type 0
+MakesPlusOfPairs plus digits exponents other_digits other_exponents onto chosen more digit exponent =
+    (j k : ℕ) (f g : ℕ → ℕ) (n p : ℕ) → StandPairs j k digits exponents other_digits other_exponents onto f g n p chosen
+    → StandsAt (j + k) digit exponent (plus_over plus 0 (λ c. f c * g c) chosen) (n + p + more)
+
+-- so does a cell
 abbrev pub IsPlusOfPairs : (ℕ → ℕ → ℕ) → List ℕ → List ℕ → List ℕ → List ℕ → (ℕ → ℕ) → List ℕ → ℕ → Cell → Type 0
 IsPlusOfPairs plus digits exponents other_digits other_exponents onto chosen more cell =
-    (j k : ℕ) (f g : ℕ → ℕ) (n p : ℕ) → StandPairs j k digits exponents other_digits other_exponents onto f g n p chosen
-    → Stands (j + k) cell (plus_over plus 0 (λ c. f c * g c) chosen) (n + p + more)
+    MakesPlusOfPairs plus digits exponents other_digits other_exponents onto chosen more cell.digits cell.exponent
 
 -- two arrays whose cells stand under a shift, with room for so many steps more
 pub record HaveRoom (shift : ℕ) (digits exponents : List ℕ) (more : ℕ) : Type 0 where
@@ -121,10 +126,11 @@ pub record AreOnto (part whole : ScopeOf) (onto : List ℕ) : Type 0 where
   pub one_each : length onto ≡ cells_in whole
   pub cell : (c : ℕ) → c < cells_in whole → slice_index onto c ≡ cell_in part whole c
 
--- both, as they are kept
-pub record AreKeptPlaces (part whole : ScopeOf) (bases offsets : List ℕ) (run : ℕ) (onto : List ℕ) : Type 0 where
+-- both, as they are kept, and the cells of the runs one by one
+pub record AreKeptPlaces (part whole : ScopeOf) (bases offsets : List ℕ) (run : ℕ) (onto beside : List ℕ) : Type 0 where
   pub are : ArePlaces part whole bases offsets run
   pub onto_are : AreOnto part whole onto
+  pub beside_are : beside ≡ offsets
 
 -- a block of a list of cells
 abbrev pub block_of : List ℕ → ℕ → List ℕ

@@ -33,3 +33,9 @@ pub record IsBeside (pair : Pair) (before after : Option (List Pair)) : Type 0 w
 pub record IsWithin (scope : ScopeOf) (before after : Option (List Pair)) : Type 0 where
   pub holds : (a : ℕ → ℕ) → touches before a ≡ true → touches after a ≡ true
   pub there : HasTouched scope after
+
+-- an event that holds wherever one of two does, and names none but the scope's variables
+pub record IsEitherWithin (scope : ScopeOf) (first second after : Option (List Pair)) : Type 0 where
+  pub of_first : (a : ℕ → ℕ) → touches first a ≡ true → touches after a ≡ true
+  pub of_second : (a : ℕ → ℕ) → touches second a ≡ true → touches after a ≡ true
+  pub there : HasTouched scope after

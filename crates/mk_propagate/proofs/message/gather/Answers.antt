@@ -1,17 +1,18 @@
-use Rattle.std.proofs.Common.{◌≡◌, ℕ, ◌+◌, ◌*◌, ◌<◌, Bool, true, false, List, Option, length, get_or, max, slice_index_or, refl, sym, ap, subst, ◌∙◌, arith}
+use Rattle.std.proofs.Common.{◌≡◌, ℕ, ◌+◌, ◌*◌, ◌<◌, Bool, true, false, List, Option, length, get_or, slice_index_or, refl, sym, ap, subst, ◌∙◌, arith}
 use Rattle.std.proofs.lemmas.Bool.{and_from}
 use Rattle.mk_exact.specs.Lawful.{Lawful}
 use Rattle.mk_sums.specs.Trees.{linked}
 use Rattle.mk_sums.proofs.Hops.{are_linked, linked_back, linked_from}
-use Rattle.mk_table.specs.Scopes.{ScopeOf, PlacesOf, cells_in}
+use Rattle.mk_table.specs.Scopes.{cells_in}
 use Rattle.mk_table.specs.Cells.{cell_in}
 use Rattle.mk_table.specs.Tables.{TableOf, HasNumbers}
 use Rattle.mk_tree.specs.Given.{link_of}
-use Rattle.mk_propagate.specs.Shapes.{ShapeOf, IsClique, core_scope, separator_scope, neighbours, separator_between}
+use Rattle.mk_propagate.specs.Shapes.{ShapeOf, IsClique, neighbours}
 use Rattle.mk_propagate.specs.Placings.{Placing}
 use Rattle.mk_propagate.specs.inner.Gathered.{is_taken, message_in, CanTake, IsGathering, IsRightIn}
 use Rattle.mk_propagate.proofs.Cores.{neighbour_linked}
 use Rattle.mk_propagate.proofs.Messages.{are_ends, begins, passed_by, taken_too, taken_room, message_room}
+use Rattle.mk_propagate.proofs.Prepared.{places_there}
 use Rattle.mk_propagate.proofs.message.gather.Goals as goal
 use Rattle.mk_propagate.proofs.message.gather.Goals.{then-is_taken, else-is_taken}
 
@@ -59,14 +60,6 @@ right_there : (plus : ℕ → ℕ → ℕ) (shape : ShapeOf) (upward downward : 
 right_there plus shape upward downward k j i receiver p taken message h at is took same =
     subst (λ (t : TableOf). IsRightIn plus shape p i k t) (sym same)
     (h.right i (and_from (linked (link_of shape.tree) (length shape.tree.cliques) i k) (is_taken receiver i) (linked_there shape k j i at) (sym is ∙ took)))
-
--- the shape has its places in what is gathered so far
-places_there : (plus : ℕ → ℕ → ℕ) (shape : ShapeOf) (k i : ℕ) (p : Placing) (old message : TableOf) → old.scope ≡ core_scope shape k
-    → IsRightIn plus shape p i k message → (places : PlacesOf) → places ≡ record { whole = core_scope shape k; part = separator_between shape k i } → places ≡ record { whole = old.scope; part = message.scope }
-places_there plus shape k i p old message scope right places e =
-    let m : max k i ≡ max i k = omega arith in
-    e ∙ ap (λ (s : ScopeOf). record { whole = s; part = separator_between shape k i }) (sym scope)
-    ∙ ap (λ (s : ScopeOf). record { whole = old.scope; part = s }) (ap (separator_scope shape) m ∙ sym right.scope_is)
 
 pub places-requires : goal.places-requires
 places-requires g c =

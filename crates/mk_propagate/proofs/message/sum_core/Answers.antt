@@ -4,12 +4,12 @@ use Rattle.mk_propagate.specs.Shapes.{core_scope}
 use Rattle.mk_propagate.proofs.Prepared.{core_of_margin}
 use Rattle.mk_propagate.proofs.message.sum_core.Goals as goal
 
-pub send-requires-clause-places : goal.send-requires-clause-places
-send-requires-clause-places g c =
+pub margin-requires-clause-places : goal.margin-requires-clause-places
+margin-requires-clause-places g c =
     c.core_places.ensures
     ∙ ap (λ (s : ScopeOf). record { whole = s; part = core_scope c.args.shape.now c.args.clique }) (sym c.requires.table_scope)
     ∙ ap (λ (s : ScopeOf). record { whole = c.args.table.now.scope; part = s }) (sym c.requires.core_scope)
 
 pub returns-then-not-summed-clause-core : goal.returns-then-not-summed-clause-core
 returns-then-not-summed-clause-core g c =
-    core_of_margin g.R.Semiring.plus_of g.met.R.Semiring.lawful c.args.shape.now c.args.clique c.requires.clique c.args.table.now c.args.core.now c.send.new.message c.requires.core_scope c.requires.table_scope c.send.ensures
+    core_of_margin g.R.Semiring.plus_of g.met.R.Semiring.lawful c.args.shape.now c.args.clique c.requires.clique c.args.table.now c.args.core.now c.margin.new.part c.requires.core_scope c.requires.table_scope c.margin.ensures

@@ -1,5 +1,5 @@
 use Rattle.std.proofs.Common.{◌≡◌, ℕ, ◌<◌, length, slice_index}
-use Rattle.mk_table.specs.inner.Parts.{block_of}
+use Rattle.mk_table.specs.inner.Parts.{block_of, cells_at}
 use Rattle.mk_table.proofs.Paired.{MakesPairs}
 use Rattle.mk_table.proofs.products.products_by_blocks.Given as goal
 
@@ -7,5 +7,5 @@ abbrev pub invariant-loop-block : goal.invariant-loop-block
 invariant-loop-block g l = record {
   long : length l.block_digits ≡ 64;
   long_too : length l.block_exponents ≡ 64;
-  stand : (b : ℕ) → b < l.block → MakesPairs g.R.Semiring.plus_of l.digits l.exponents l.onto l.other_digits l.other_exponents l.chosen (block_of l.chosen b) (slice_index l.block_digits b) (slice_index l.block_exponents b);
+  stand : (b : ℕ) → b < l.block → MakesPairs g.R.Semiring.plus_of l.digits l.exponents l.onto l.other_digits l.other_exponents (cells_at l.base l.chosen) (block_of (cells_at l.base l.chosen) b) (slice_index l.block_digits b) (slice_index l.block_exponents b);
 }

@@ -1,29 +1,37 @@
-use Rattle.std.proofs.Common.{◌≡◌, ℕ, ◌+◌, ◌-◌, ◌*◌, Bool, true, List, length, slice_index_or, None, sym, ap, subst, ◌∙◌, arith}
+use Rattle.std.proofs.Common.{◌≡◌, ℕ, ◌+◌, ◌-◌, ◌*◌, Bool, true, false, List, length, slice_index_or, None, sym, ap, subst, ◌∙◌, arith}
 use Rattle.std.specs.List.{list_all}
 use Rattle.mk_net.specs.declared.words.Pair.{Pair}
 use Rattle.mk_table.specs.Scopes.{cells_in}
 use Rattle.mk_table.specs.Tables.{TableOf}
+use Rattle.mk_propagate.specs.declared.gathered.Gathered.{Gathered}
 use Rattle.mk_propagate.specs.Shapes.{ShapeOf, IsClique, in_core}
 use Rattle.mk_propagate.specs.Flows.{FlowOf, HasPlaced, AreRightInto, CanRead, IsReading, table_at}
 use Rattle.mk_propagate.specs.inner.Kept.{IsFlow, IsSummed}
 use Rattle.mk_propagate.specs.inner.Gathered.{HasCore}
 use Rattle.mk_propagate.proofs.Sending.{table_is, can_take}
-use Rattle.mk_propagate.proofs.Marks.{flow_after, marked_at}
+use Rattle.mk_propagate.proofs.Marks.{gathered_there, flow_after, marked_at}
 use Rattle.mk_propagate.proofs.Believing.{all_inputs, into_there, event_there, total_room, into_room, some_cells, few_before, can_total, reading_of, core_event, core_total_room, core_can_total, core_reading_of}
 use Rattle.mk_propagate.proofs.flow.Flow.read.Goals as goal
 
 -- where a clique's table is marked as summed, its core has the sums
-core_sums_there : (plus : ℕ → ℕ → ℕ) (flow : FlowOf) (cores products : List TableOf) (summed current : List Bool) (cells : ℕ) → IsFlow plus flow cores products summed current cells
+core_sums_there : (plus : ℕ → ℕ → ℕ) (flow : FlowOf) (cores products : List TableOf) (summed : List Bool) (gathered : List Gathered) (cells : ℕ) → IsFlow plus flow cores products summed gathered cells
     → (k : ℕ) → IsClique flow.shape.tree k → (table : TableOf) → table_at flow k ≡ table → (core : TableOf) → core ≡ slice_index_or cores (k - 1) core → (mark : Bool) → mark ≡ slice_index_or summed (k - 1) mark → mark ≡ true
     → HasCore plus flow.shape k table core
-core_sums_there plus flow cores products summed current cells h k clique table is core e mark f m =
-    subst (λ (t : TableOf). HasCore plus flow.shape k t core) is (marked_at flow.shape.tree (IsSummed plus flow) cores summed h.summed_are k clique h.kept.cores_are.one_each core e mark f m)
+core_sums_there plus flow cores products summed gathered cells h k clique table is core e mark f m =
+    subst (λ (t : TableOf). HasCore plus flow.shape k t core) is (marked_at Bool flow.shape.tree false (IsSummed plus flow) cores summed h.summed_are k clique h.kept.cores_are.one_each core e mark f m)
 
 pub refresh-requires-clause-right : goal.refresh-requires-clause-right
 refresh-requires-clause-right g c =
     let plus = g.R.Semiring.plus_of in let law = g.met.R.Semiring.lawful in let k = c.args.clique in let event = c.args.event.now in
     let can = subst (λ (f : FlowOf). CanRead plus f k event) (sym c.self.view_is) c.requires in
     (can.placing, can_take plus _ can.placing k None can.has (all_inputs plus _ can.placing k can.right) c.deref.result.now c.deref-2.result.now c.deref-3.result.now c.deref.ensures c.deref-2.ensures.value c.deref-3.ensures.value)
+
+pub refresh-requires-clause-marked : goal.refresh-requires-clause-marked
+refresh-requires-clause-marked g c =
+    let plus = g.R.Semiring.plus_of in let law = g.met.R.Semiring.lawful in let k = c.args.clique in let event = c.args.event.now in
+    let can = subst (λ (f : FlowOf). CanRead plus f k event) (sym c.self.view_is) c.requires in
+    gathered_there plus _ _ _ _ _ _ c.self.invariant k can.clique_is c.deref.result.now c.deref.ensures c.deref-2.result.now c.deref-3.result.now c.deref-2.ensures.value c.deref-3.ensures.value
+    c.index_mut-into.result.now c.index_mut-into.ensures.value c.index_mut.result.now c.index_mut.ensures.value
 
 pub overflow_add-grade : goal.overflow_add-grade
 overflow_add-grade g c =
@@ -169,14 +177,14 @@ invariant_of-self g c =
     let plus = g.R.Semiring.plus_of in let law = g.met.R.Semiring.lawful in let k = c.args.clique in let event = c.args.event.now in
     let can = subst (λ (f : FlowOf). CanRead plus f k event) (sym c.self.view_is) c.requires in
     flow_after plus _ _ _ _ _ _ c.self.invariant k can.clique_is c.deref.result.now c.deref.ensures c.deref-2.result.now c.deref-3.result.now c.deref-2.ensures.value c.deref-3.ensures.value
-    c.index_mut-into.result.now c.index_mut-into.ensures.value c.refresh.new.product c.refresh.new.current c.refresh.ensures.scope c.refresh.ensures.into
+    c.index_mut-into.result.now c.index_mut-into.ensures.value c.refresh.new.product c.refresh.new.gathered c.refresh.ensures.scope c.refresh.ensures.marked c.refresh.ensures.into
 
 pub invariant_of-self-2 : goal.invariant_of-self-2
 invariant_of-self-2 g c =
     let plus = g.R.Semiring.plus_of in let law = g.met.R.Semiring.lawful in let k = c.args.clique in let event = c.args.event.now in
     let can = subst (λ (f : FlowOf). CanRead plus f k event) (sym c.self.view_is) c.requires in
     flow_after plus _ _ _ _ _ _ c.self.invariant k can.clique_is c.deref.result.now c.deref.ensures c.deref-2.result.now c.deref-3.result.now c.deref-2.ensures.value c.deref-3.ensures.value
-    c.index_mut-into.result.now c.index_mut-into.ensures.value c.refresh.new.product c.refresh.new.current c.refresh.ensures.scope c.refresh.ensures.into
+    c.index_mut-into.result.now c.index_mut-into.ensures.value c.refresh.new.product c.refresh.new.gathered c.refresh.ensures.scope c.refresh.ensures.marked c.refresh.ensures.into
 
 pub returns-then-core_holds-clause-reading : goal.returns-then-core_holds-clause-reading
 returns-then-core_holds-clause-reading g c = λ p h r.

@@ -27,7 +27,7 @@ pub invariant_of-self : goal.invariant_of-self
 invariant_of-self g c =
     let inside = c.self.inside in
     let old : FlowOf = record { shape = inside.shape.value; tables = inside.tables.items; upward = inside.upward.items; downward = inside.downward.items; factors = inside.factors; computed = inside.computed } in
-    still_flow old c.args.self.now c.self.view_is inside.cores.items inside.products.items inside.cells c.self.invariant.kept c.requires.0 c.requires.1.has c.args.clique c.requires.2.clique_is c.index_mut.result.now c.index_mut.ensures.value c.times_ratio.new.self c.times_ratio.ensures.scope g.R.Semiring.plus_of (inside.factors + 1) inside.summed.items inside.current.items c.self.invariant.summed_are c.self.invariant.current_are
+    still_flow old c.args.self.now c.self.view_is inside.cores.items inside.products.items inside.cells c.self.invariant.kept c.requires.0 c.requires.1.has c.args.clique c.requires.2.clique_is c.index_mut.result.now c.index_mut.ensures.value c.times_ratio.new.self c.times_ratio.ensures.scope g.R.Semiring.plus_of (inside.factors + 1) inside.summed.items inside.gathered.items c.self.invariant.summed_are c.self.invariant.gathered_are
 
 pub returns-clause-places : goal.returns-clause-places
 returns-clause-places g c = λ p h.
