@@ -111,7 +111,7 @@ fn products_by_blocks<R: Semiring>(
 }
 
 /// The plus of at most `N` products.
-fn products_of_block<R: Semiring, const N: usize>(
+pub(crate) fn products_of_block<R: Semiring, const N: usize>(
     digits: &[u64],
     exponents: &[u32],
     onto: &[u16],

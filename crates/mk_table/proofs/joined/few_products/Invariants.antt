@@ -1,7 +1,7 @@
 use Rattle.std.proofs.Common.{◌≡◌, ℕ, ◌+◌, ◌*◌, ◌<◌, length, slice_index}
 use Rattle.mk_table.specs.inner.Blank.{one_digits, one_exponent, filled}
 use Rattle.mk_table.specs.inner.Parts.{MakesPlusOfPairs, cells_at}
-use Rattle.mk_table.proofs.joined.products_at_each.Given as goal
+use Rattle.mk_table.proofs.joined.few_products.Given as goal
 
 abbrev pub invariant-loop-place : goal.invariant-loop-place
 invariant-loop-place g l = record {
