@@ -109,10 +109,7 @@ fn cells_of_part(alloc: Global, whole: &Scope, part: &Scope) -> Result<Vec<u16>,
     requires { LiesIn part.now whole.now }
     ensures { IfOk result (λ onto. AreOnto part.now whole.now onto.items) }
 {
-    let count = whole.cells();
-    let mut onto = Vec::with_capacity(alloc, count)?;
-    for cell in 0..count {
-        onto.push_reserved(part.cell_of(whole, cell) as u16);
-    }
+    let mut onto = vec![in alloc; 0; whole.cells()]?;
+    part.count_cells(whole, &mut onto);
     Ok(onto)
 }

@@ -8,8 +8,9 @@ ghost use Rattle.mk_sums.specs.Cells.{keep, cells};
 ghost use Rattle.mk_sums.specs.Joint.{variables};
 ghost use Rattle.mk_exact.specs.States.{numbers_below};
 ghost use Rattle.mk_table.specs.Scopes.{IsScope, LiesIn, Rising, scope_of, size_in, cells_in, has_variable, HasEvent};
-ghost use Rattle.mk_table.specs.Cells.{values_at, cell_in, cells_where, cells_onto};
+ghost use Rattle.mk_table.specs.Cells.{values_at, cells_where, cells_onto};
 ghost use Rattle.mk_table.specs.inner.Columns.{HaveColumns};
+ghost use Rattle.mk_table.specs.inner.Parts.{AreOnto};
 ghost use Rattle.mk_table.specs.inner.Strides.{IsTail, cells_with, runs_of, values_let, values_moved};
 
 use crate::strides::{CellList, begin, is_free, is_moved, take_moved, take_values};
@@ -200,23 +201,20 @@ impl Scope {
         long_tail(self.variables.len(), cells)
     }
 
-    /// The cell with the values of a cell of a whole.
+    /// Counts the cell with the values of each cell of a whole.
     ///
-    /// The number grows variable by variable, the first one first: the last variable's values change fastest.
-    pub(crate) fn cell_of(&self, whole: &Scope, cell: usize) -> usize
+    /// The numbers grow variable by variable, the first one first: the last variable's values change fastest.
+    pub(crate) fn count_cells(&self, whole: &Scope, numbers: &mut [u16])
         requires lies_in { LiesIn self.now whole.now }
-        requires cell { cell < cells_in whole.now }
-        ensures cell { result ≡ cell_in self.now whole.now cell }
-        ensures within { result < cells_in self.now }
-        ensures scope { IsScope self.now }
+        requires one_each { length numbers.old ≡ cells_in whole.now }
+        requires none { (c : ℕ) → c < length numbers.old → slice_index numbers.old c ≡ 0 }
+        ensures { AreOnto self.now whole.now numbers.new }
     {
-        let _ = self.cells();
-        let mut number = 0;
+        let _ = whole.cells();
         for place in 0..self.variables.len() {
-            let value = whole.value(cell, self.variables[place]) as usize;
-            number = number * self.sizes[place] as usize + value;
+            let values = whole.column(self.variables[place]);
+            count_values(numbers, values, self.sizes[place]);
         }
-        number
     }
 
     /// Whether the scope has a variable.
@@ -287,6 +285,18 @@ fn cells_of(net: &Network, variables: &[u32]) -> usize
         cells *= net.values(*variable) as usize;
     }
     cells
+}
+
+/// Counts the values of one variable more, which has so many.
+fn count_values(numbers: &mut [u16], values: &[u8], size: u32)
+    requires one_each { length values.now ≡ length numbers.old }
+    requires few { (c : ℕ) → c < length numbers.old → slice_index numbers.old c * size + slice_index values.now c < max_clique_cells }
+    ensures one_each { length numbers.new ≡ length numbers.old }
+    ensures counted { (c : ℕ) → c < length numbers.old → slice_index numbers.new c ≡ slice_index numbers.old c * size + slice_index values.now c }
+{
+    for cell in 0..numbers.len() {
+        numbers[cell] = (numbers[cell] as u32 * size + values[cell] as u32) as u16;
+    }
 }
 
 /// The first of some variables, and how many variables there are from it to their last.
