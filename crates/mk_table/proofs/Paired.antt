@@ -10,11 +10,13 @@ use Rattle.mk_exact.proofs.Sums.{plus_over-map}
 use Rattle.mk_cell.specs.Passes.{plus_below}
 use Rattle.mk_scaled.specs.Range.{two_to, two_to-small, two_to-lt, mul_at_most, exponent_below, pow-lt_reflects}
 use Rattle.mk_cell.specs.Cell.{bias, bias-is, IsCell, StandsAt, AllStand}
+use Rattle.mk_cell.specs.inner.Laws.{stands_with_more}
 use Rattle.mk_cell.specs.inner.LowerEnd.{at_least_one}
+use Rattle.std.proofs.lemmas.List.Elements.{All-map}
 use Rattle.mk_table.specs.inner.Blank.{one_digits, one_exponent, filled}
 use Rattle.mk_table.specs.inner.Parts.{StandPairs, StandListed, MakesPlusOfPairs, HaveRoom, block_of, cells_at}
 use Rattle.mk_table.proofs.Blocked.{AreGathered, block_within, gathered_all}
-use Rattle.mk_table.proofs.Filled.{one_at}
+use Rattle.mk_table.proofs.Filled.{one_at, filled_full}
 use Rattle.mk_table.proofs.OnesSum.{times_one}
 
 -- ---- a product of two cells leaves room for one more
@@ -101,6 +103,14 @@ blank_pairs count d e md me chosen onto h t within j k f g n p pairs = λ i z l.
     one_times_stands j k (slice_index (filled one_digits count d) c) (slice_index (filled one_exponent count e) c) (slice_index md (onto c)) (slice_index me (onto c)) (f c) (g c) n p
     (one_at one_digits count c d h (within i z l)) (one_at one_exponent count c e t (within i z l)) (pairs.left i z l) (pairs.right i z l)
 
+pub others_made : (plus : ℕ → ℕ → ℕ) (count : ℕ) (d e md me : List ℕ) (onto : ℕ → ℕ) (base : ℕ) (xs : List ℕ) → length d ≡ 0 → length e ≡ 0 → All (λ c. base + c < count) xs → (q x : ℕ)
+    → ((k : ℕ) (f : ℕ → ℕ) (n : ℕ) → All (λ c. StandsAt k (slice_index md (onto c)) (slice_index me (onto c)) (f c) n) (cells_at base xs) → StandsAt k q x (plus_over plus 0 f (cells_at base xs)) (n + length xs))
+    → MakesPlusOfPairs plus (filled one_digits count d) (filled one_exponent count e) md me onto (cells_at base xs) (2 * length xs + 1) q x
+others_made plus count d e md me onto base xs h t within q x made = λ j k f g n p pairs.
+    let product : ℕ → ℕ = λ c. f c * g c in
+    stands_with_more (j + k) q x (plus_over plus 0 product (cells_at base xs)) (n + p + 1 + length xs) (n + p + (2 * length xs + 1)) (omega arith)
+    (made (j + k) product (n + p + 1) (blank_pairs count d e md me (cells_at base xs) onto h t (All-map (λ c. c < count) (λ c. base + c) xs within) j k f g n p pairs))
+
 -- and of a blank message the table's own
 pub blank_products : (d e md me chosen : List ℕ) (onto : ℕ → ℕ) (count : ℕ) (xs ys : List ℕ) → md ≡ filled one_digits count xs → me ≡ filled one_exponent count ys → length xs ≡ 0 → length ys ≡ 0
     → All (λ c. onto c < count) chosen → (j k : ℕ) (f g : ℕ → ℕ) (n p : ℕ)
@@ -123,10 +133,11 @@ blank_others d e md me chosen onto count xs ys a b h t within j k f g n p pairs 
 
 -- ---- some of the pairs
 
-pub pairs_of_full : (d e md me chosen : List ℕ) (onto : ℕ → ℕ) (fd fe : List ℕ) → fd ≡ d → fe ≡ e → (j k : ℕ) (f g : ℕ → ℕ) (n p : ℕ)
-    → StandPairs j k fd fe md me onto f g n p chosen → StandPairs j k d e md me onto f g n p chosen
-pairs_of_full d e md me chosen onto fd fe a b j k f g n p h =
-    subst (λ (ys : List ℕ). StandPairs j k ys e md me onto f g n p chosen) a (subst (λ (ys : List ℕ). StandPairs j k fd ys md me onto f g n p chosen) b h)
+pub made_of_full : (plus : ℕ → ℕ → ℕ) (count : ℕ) (d e md me : List ℕ) (onto : ℕ → ℕ) (chosen : List ℕ) (more q x : ℕ) → count ≤ length d → count ≤ length e
+    → MakesPlusOfPairs plus d e md me onto chosen more q x → MakesPlusOfPairs plus (filled one_digits count d) (filled one_exponent count e) md me onto chosen more q x
+made_of_full plus count d e md me onto chosen more q x l m made =
+    subst (λ (ys : List ℕ). MakesPlusOfPairs plus ys (filled one_exponent count e) md me onto chosen more q x) (sym (filled_full one_digits count d l))
+    (subst (λ (ys : List ℕ). MakesPlusOfPairs plus d ys md me onto chosen more q x) (sym (filled_full one_exponent count e m)) made)
 
 -- the pairs of equal arrays and lists
 pairs_moved : (d e md me d' e' md' me' : List ℕ) (onto goes : ℕ → ℕ) (xs ys : List ℕ) → d' ≡ d → e' ≡ e → md' ≡ md → me' ≡ me → xs ≡ ys → All (λ c. onto c ≡ goes c) ys

@@ -9,7 +9,7 @@ ghost use Rattle.mk_table.specs.inner.Parts.{AreBlankOrFull, AreHeld, HaveRoom, 
 
 use crate::blank::{fill, plus_of_each};
 use crate::part::Places;
-use crate::products::{plus_of_products, products_of_block};
+use crate::products::{plus_of_others, plus_of_products, products_of_cells};
 use mk_semiring::Semiring;
 
 /// Puts into each cell of a part the plus, over the cells of the whole that have its values, of each times the other table's
@@ -96,6 +96,19 @@ fn products_at_each<R: Semiring>(
     ensures same_digits { length out_digits.new ≡ length out_digits.old }
     ensures same_exponents { length out_exponents.new ≡ length out_exponents.old }
 {
+    if digits.len() < onto.len() {
+        return others_at_each::<R>(
+            digits,
+            exponents,
+            onto,
+            other_digits,
+            other_exponents,
+            bases,
+            offsets,
+            out_digits,
+            out_exponents,
+        );
+    }
     match offsets.len() {
         1 => few_products::<R, 1>(
             digits,
@@ -166,6 +179,103 @@ fn products_at_each<R: Semiring>(
     }
 }
 
+/// The same where nothing is written of the cells that are multiplied.
+fn others_at_each<R: Semiring>(
+    digits: &[u64],
+    exponents: &[u32],
+    onto: &[u16],
+    other_digits: &[u64],
+    other_exponents: &[u32],
+    bases: &[u16],
+    offsets: &[u16],
+    out_digits: &mut [u64],
+    out_exponents: &mut [u32],
+)
+    requires blank { length digits.now < length onto.now }
+    requires few { length offsets.now ≤ max_clique_cells }
+    requires within { (b : ℕ) → b < length bases.now → All (λ c. slice_index bases.now b + c < length onto.now) offsets.now }
+    requires onto { All (λ d. d < length other_digits.now) onto.now }
+    requires whole { AreBlankOrFull (length onto.now) digits.now exponents.now }
+    requires room { (k : ℕ) × HaveRoom k (filled one_digits (length onto.now) digits.now) (filled one_exponent (length onto.now) exponents.now) (2 * length offsets.now) }
+    requires other_room { (k : ℕ) × HaveRoom k other_digits.now other_exponents.now 1 }
+    requires digits { length out_digits.old ≡ length bases.now }
+    requires exponents { length out_exponents.old ≡ length bases.now }
+    ensures made { (b : ℕ) → b < length bases.now
+        → MakesPlusOfPairs R.plus_of (filled one_digits (length onto.now) digits.now) (filled one_exponent (length onto.now) exponents.now) other_digits.now other_exponents.now
+        (slice_index onto.now) (cells_at (slice_index bases.now b) offsets.now) (2 * length offsets.now + 1) (slice_index out_digits.new b) (slice_index out_exponents.new b) }
+    ensures same_digits { length out_digits.new ≡ length out_digits.old }
+    ensures same_exponents { length out_exponents.new ≡ length out_exponents.old }
+{
+    match offsets.len() {
+        1 => few_others::<R, 1>(
+            digits,
+            exponents,
+            onto,
+            other_digits,
+            other_exponents,
+            bases,
+            offsets,
+            out_digits,
+            out_exponents,
+        ),
+        2 => few_others::<R, 2>(
+            digits,
+            exponents,
+            onto,
+            other_digits,
+            other_exponents,
+            bases,
+            offsets,
+            out_digits,
+            out_exponents,
+        ),
+        4 => few_others::<R, 4>(
+            digits,
+            exponents,
+            onto,
+            other_digits,
+            other_exponents,
+            bases,
+            offsets,
+            out_digits,
+            out_exponents,
+        ),
+        8 => few_others::<R, 8>(
+            digits,
+            exponents,
+            onto,
+            other_digits,
+            other_exponents,
+            bases,
+            offsets,
+            out_digits,
+            out_exponents,
+        ),
+        16 => few_others::<R, 16>(
+            digits,
+            exponents,
+            onto,
+            other_digits,
+            other_exponents,
+            bases,
+            offsets,
+            out_digits,
+            out_exponents,
+        ),
+        _ => any_products::<R>(
+            digits,
+            exponents,
+            onto,
+            other_digits,
+            other_exponents,
+            bases,
+            offsets,
+            out_digits,
+            out_exponents,
+        ),
+    }
+}
+
 /// The same for any number of offsets.
 fn any_products<R: Semiring>(
     digits: &[u64],
@@ -207,7 +317,8 @@ fn any_products<R: Semiring>(
     }
 }
 
-/// The same for `N` offsets. The compiler knows their number, and writes the passes over them without a loop.
+/// The same for `N` offsets where each cell is written. The compiler knows their number, and writes the passes over them without
+/// a loop.
 fn few_products<R: Semiring, const N: usize>(
     digits: &[u64],
     exponents: &[u32],
@@ -221,6 +332,7 @@ fn few_products<R: Semiring, const N: usize>(
 )
     requires count { length offsets.now ≡ N }
     requires small { N ≤ 64 }
+    requires full { length onto.now ≤ length digits.now }
     requires within { (b : ℕ) → b < length bases.now → All (λ c. slice_index bases.now b + c < length onto.now) offsets.now }
     requires onto { All (λ d. d < length other_digits.now) onto.now }
     requires whole { AreBlankOrFull (length onto.now) digits.now exponents.now }
@@ -235,9 +347,50 @@ fn few_products<R: Semiring, const N: usize>(
     ensures same_exponents { length out_exponents.new ≡ length out_exponents.old }
 {
     for place in 0..bases.len() {
-        let cell = products_of_block::<R, N>(
+        let cell = products_of_cells::<R, N>(
             digits,
             exponents,
+            onto,
+            other_digits,
+            other_exponents,
+            bases[place] as usize,
+            &offsets[..N],
+        );
+        out_digits[place] = cell.digits;
+        out_exponents[place] = cell.exponent;
+    }
+}
+
+/// The same for `N` offsets where none is.
+fn few_others<R: Semiring, const N: usize>(
+    digits: &[u64],
+    exponents: &[u32],
+    onto: &[u16],
+    other_digits: &[u64],
+    other_exponents: &[u32],
+    bases: &[u16],
+    offsets: &[u16],
+    out_digits: &mut [u64],
+    out_exponents: &mut [u32],
+)
+    requires count { length offsets.now ≡ N }
+    requires small { N ≤ 64 }
+    requires blank { length digits.now < length onto.now }
+    requires within { (b : ℕ) → b < length bases.now → All (λ c. slice_index bases.now b + c < length onto.now) offsets.now }
+    requires onto { All (λ d. d < length other_digits.now) onto.now }
+    requires whole { AreBlankOrFull (length onto.now) digits.now exponents.now }
+    requires room { (k : ℕ) × HaveRoom k (filled one_digits (length onto.now) digits.now) (filled one_exponent (length onto.now) exponents.now) (2 * length offsets.now) }
+    requires other_room { (k : ℕ) × HaveRoom k other_digits.now other_exponents.now 1 }
+    requires digits { length out_digits.old ≡ length bases.now }
+    requires exponents { length out_exponents.old ≡ length bases.now }
+    ensures made { (b : ℕ) → b < length bases.now
+        → MakesPlusOfPairs R.plus_of (filled one_digits (length onto.now) digits.now) (filled one_exponent (length onto.now) exponents.now) other_digits.now other_exponents.now
+        (slice_index onto.now) (cells_at (slice_index bases.now b) offsets.now) (2 * length offsets.now + 1) (slice_index out_digits.new b) (slice_index out_exponents.new b) }
+    ensures same_digits { length out_digits.new ≡ length out_digits.old }
+    ensures same_exponents { length out_exponents.new ≡ length out_exponents.old }
+{
+    for place in 0..bases.len() {
+        let cell = plus_of_others::<R, N>(
             onto,
             other_digits,
             other_exponents,

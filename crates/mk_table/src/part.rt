@@ -17,7 +17,7 @@ use std::rc::Rc;
 /// lie side by side.
 ///
 /// For each cell of the whole, the part's cell that has its values is kept too, and so is how far from the first cell each cell
-/// of the runs lies.
+/// of longer runs lies.
 #[derive(Drop)]
 pub struct Places {
     whole: Rc<Scope>,
@@ -55,7 +55,11 @@ impl Places {
     {
         let run = whole.cells_onto(part, bases, offsets);
         let firsts = Vec::from_slice(alloc, offsets)?;
-        whole.cells_beside(part, offsets);
+        if run > 1 {
+            whole.cells_beside(part, offsets);
+        } else {
+            offsets.clear();
+        }
         Ok(Places {
             whole: whole.clone()?,
             part: part.clone()?,
@@ -93,7 +97,11 @@ impl Places {
     pub(crate) fn single_lists(&self) -> (&[u16], &[u16])
         ensures { ArePlaces self.now.part self.now.whole result.0.now result.1.now 1 }
     {
-        (&self.bases, &self.beside)
+        if self.run > 1 {
+            (&self.bases, &self.beside)
+        } else {
+            (&self.bases, &self.offsets)
+        }
     }
 
     /// The part's cell with the values of each cell of the whole.

@@ -111,7 +111,7 @@ fn products_by_blocks<R: Semiring>(
 }
 
 /// The plus of at most `N` products.
-pub(crate) fn products_of_block<R: Semiring, const N: usize>(
+fn products_of_block<R: Semiring, const N: usize>(
     digits: &[u64],
     exponents: &[u32],
     onto: &[u16],
@@ -146,7 +146,8 @@ pub(crate) fn products_of_block<R: Semiring, const N: usize>(
 }
 
 /// The plus of the products of at most `N` cells that lie so far from a base.
-fn products_of_cells<R: Semiring, const N: usize>(
+#[inline]
+pub(crate) fn products_of_cells<R: Semiring, const N: usize>(
     digits: &[u64],
     exponents: &[u32],
     onto: &[u16],
@@ -186,7 +187,8 @@ fn products_of_cells<R: Semiring, const N: usize>(
 }
 
 /// The plus of the message's cells that have the values of at most `N` cells that lie so far from a base.
-fn plus_of_others<R: Semiring, const N: usize>(
+#[inline]
+pub(crate) fn plus_of_others<R: Semiring, const N: usize>(
     onto: &[u16],
     other_digits: &[u64],
     other_exponents: &[u32],

@@ -1,7 +1,7 @@
 //! The event that ratios may have touched: no ratio touched a cell where it does not hold. Leaving a pair out is always right,
 //! since more cells count as touched then.
 
-ghost use Rattle.std.specs.Prelude.{◌≡◌, ◌⊎◌, [], ◌∷◌, ◌++◌, List, Option};
+ghost use Rattle.std.specs.Prelude.{◌≡◌, ◌⊎◌, [], ◌∷◌, ◌++◌, List, Option, Some};
 ghost use Rattle.mk_table.specs.Scopes.{HasEvent};
 ghost use Rattle.mk_table.specs.Tables.{contradicts, contradicts_pair, is_untouched_by};
 ghost use Rattle.mk_table.specs.inner.Touched.{has_pair, IsPart, IsEither, IsBeside, IsWithin, IsEitherWithin};
@@ -60,6 +60,7 @@ pub(crate) fn put_within(touched: &Option<Event>, scope: &Scope, out: &mut Optio
 
 /// Puts into a place an event that holds wherever one of two does: the pairs that both have, or those of the one that there
 /// is, whose variables a scope has.
+#[inline]
 pub(crate) fn put_either_within(
     first: &Option<Event>,
     second: &Option<Event>,
@@ -69,11 +70,19 @@ pub(crate) fn put_either_within(
     ensures { IsEitherWithin scope.now first.now second.now out.new }
 {
     match first {
-        Some(event) => match second {
-            Some(other) => *out = Some(common(&pairs_within(event, scope), other.pairs())),
-            None => *out = Some(pairs_within(event, scope)),
-        },
+        Some(event) => put_with_within(event, second, scope, out),
         None => put_within(second, scope, out),
+    }
+}
+
+/// The same for an event that there is.
+#[inline]
+fn put_with_within(event: &Event, other: &Option<Event>, scope: &Scope, out: &mut Option<Event>)
+    ensures { IsEitherWithin scope.now (Some event.now) other.now out.new }
+{
+    match other {
+        Some(pairs) => *out = Some(common_within(event, pairs.pairs(), scope)),
+        None => *out = Some(pairs_within(event, scope)),
     }
 }
 
@@ -120,6 +129,8 @@ fn common(event: &Event, others: &[Pair]) -> Event
 }
 
 /// The pairs of an event whose variables a scope has.
+// It stays out of line, since most tables keep no event.
+#[inline(never)]
 fn pairs_within(event: &Event, scope: &Scope) -> Event
     ensures part { IsPart result event.now }
     ensures there { HasEvent scope.now result }
@@ -134,6 +145,23 @@ fn pairs_within(event: &Event, scope: &Scope) -> Event
         }
     }
     kept
+}
+
+/// The pairs of an event that are some of others, and whose variables a scope has.
+// It stays out of line, since most tables keep no event.
+#[inline(never)]
+fn common_within(event: &Event, others: &[Pair], scope: &Scope) -> Event
+    ensures first { IsPart result event.now }
+    ensures second { IsPart result others.now }
+    ensures there { HasEvent scope.now result }
+{
+    let mut shared = Event::empty();
+    for pair in event.pairs() {
+        if has_pair(others, *pair) && scope.has(pair.variable) {
+            shared = with_pair(&shared, *pair);
+        }
+    }
+    shared
 }
 
 /// The event with one pair more, where it has room for it and does not speak of its variable.

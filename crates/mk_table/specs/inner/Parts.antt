@@ -126,11 +126,11 @@ pub record AreOnto (part whole : ScopeOf) (onto : List ℕ) : Type 0 where
   pub one_each : length onto ≡ cells_in whole
   pub cell : (c : ℕ) → c < cells_in whole → slice_index onto c ≡ cell_in part whole c
 
--- both, as they are kept, and the cells of the runs one by one
+-- both, as they are kept, and the cells of longer runs one by one
 pub record AreKeptPlaces (part whole : ScopeOf) (bases offsets : List ℕ) (run : ℕ) (onto beside : List ℕ) : Type 0 where
   pub are : ArePlaces part whole bases offsets run
   pub onto_are : AreOnto part whole onto
-  pub beside_are : beside ≡ offsets
+  pub beside_are : 1 < run → beside ≡ offsets
 
 -- a block of a list of cells
 abbrev pub block_of : List ℕ → ℕ → List ℕ
