@@ -88,6 +88,15 @@ listed_at [] i d h = absurd (omega arith)
 listed_at (x ∷ xs) zero d h = or_left (eqb x x) (listed xs x) (eq-eqb x x refl)
 listed_at (x ∷ xs) (suc i) d h = or_right (eqb (get_or xs i d) x) (listed xs (get_or xs i d)) (listed_at xs i d (omega arith))
 
+pub listed_take : (xs : List ℕ) (i x : ℕ) → listed (take i xs) x ≡ true → listed xs x ≡ true
+listed_take xs zero x p = absurd (both_ways false refl p)
+listed_take [] (suc i) x p = p
+listed_take (y ∷ xs) (suc i) x p = at (eqb x y) p (listed_take xs i x)
+  where
+    at : (b : Bool) → (b || listed (take i xs) x) ≡ true → (listed (take i xs) x ≡ true → listed xs x ≡ true) → (b || listed xs x) ≡ true
+    at true q ih = refl
+    at false q ih = ih q
+
 pub listed_drop : (xs : List ℕ) (i x : ℕ) → listed (drop i xs) x ≡ true → listed xs x ≡ true
 listed_drop xs zero x p = p
 listed_drop [] (suc i) x p = p

@@ -1,19 +1,17 @@
 -- Columns written one after the other.
-use Rattle.std.proofs.Common.{◌≡◌, ℕ, zero, suc, ◌+◌, ◌-◌, ◌*◌, ◌/◌, ◌%◌, ◌<◌, ◌≤◌, replicate, true, false, ◌||◌, ◌⊎◌, inl, inr, eqb, List, [], ◌∷◌, ◌++◌, map, length, get_or, set, take, drop, slice_index, All, refl, sym, ap, subst, ◌∙◌, arith, add-one, length-append, append_assoc}
-use Rattle.std.proofs.Math.Nat.{le-mul_of_pos_right, mul-le-mul_right, div-add-mod'}
-use Rattle.std.proofs.lemmas.Nat.{div-mul-add, mod-mul-add, mod_below}
-use Rattle.std.proofs.lemmas.Bool.{cases_eq, both_ways, or_cases, or_left, or_right, eqb-true}
-use Rattle.std.proofs.lemmas.List.{append-nil, replicate_more, drop_more, take_more, length-set, get_or-set_same, get_or-set_other, get_or_append_left, get_or-append-add}
+use Rattle.std.proofs.Common.{◌≡◌, ℕ, ◌+◌, ◌-◌, ◌*◌, ◌/◌, ◌%◌, ◌<◌, ◌≤◌, true, false, ◌||◌, ◌⊎◌, inl, inr, eqb, List, [], ◌∷◌, ◌++◌, length, get_or, set, take, drop, slice_index, All, refl, sym, ap, subst, ◌∙◌, arith, add-one}
+use Rattle.std.proofs.Math.Nat.{mul-add-mod_self_right, le-mul_of_pos_right, mul-le-mul_right}
+use Rattle.std.proofs.lemmas.Nat.{div-mul-add}
+use Rattle.std.proofs.lemmas.Bool.{cases_eq, cases_lt, both_ways, or_cases, or_left, or_right, eqb-true}
+use Rattle.std.proofs.lemmas.List.{drop_more, take_more, length-take-le, get_or-take, length-set, get_or-set_same, get_or-set_other}
 use Rattle.std.proofs.lemmas.List.Elements.{All-head, All-tail}
-use Rattle.std.proofs.lemmas.List.FromFn.{length-map-range_with_len, get_or-map-range_with_len, map-range_with_len_more}
 use Rattle.mk_net.specs.Network.{Variable, sizes, IsNetwork}
 use Rattle.mk_net.specs.Named.{nobody}
-use Rattle.mk_exact.specs.States.{numbers_below}
 use Rattle.mk_exact.proofs.Positive.{size_at, few_values_at}
 use Rattle.mk_sums.specs.Sums.{listed}
 use Rattle.mk_sums.specs.Cells.{cells, Apart}
 use Rattle.mk_table.specs.inner.Columns.{IsColumn, HaveColumns}
-use Rattle.mk_table.proofs.Values.{cells_pos, cells_split, place_at, listed_at, listed_drop}
+use Rattle.mk_table.proofs.Values.{cells_pos, cells_split, place_at, listed_at, listed_drop, listed_take}
 
 pub listed_all : (P : ℕ → Type 0) (xs : List ℕ) → All P xs → (x : ℕ) → listed xs x ≡ true → P x
 listed_all P [] h x p = absurd (both_ways false refl p)
@@ -54,6 +52,25 @@ count_small size xs i n total bounds h e =
 exact_div : (n k s : ℕ) → n ≡ k * s → 1 ≤ s → n / s * s ≡ n
 exact_div n k s e p = ap (λ m. m / s * s) (omega (arith, e)) ∙ ap (λ m. m * s) (div-mul-add k s 0 p) ∙ sym e
 
+-- what is written behind the columns so far
+pub record IsWritten (count span stride : ℕ) (columns next : List ℕ) : Type 0 where
+  pub long : length next ≡ length columns + count
+  pub before : (c : ℕ) → c < length columns → slice_index next c ≡ slice_index columns c
+  pub written : (c : ℕ) → c < count → slice_index next (length columns + c) ≡ c % span / stride
+
+pub column_next : (start count span stride : ℕ) (old new : List ℕ) → start + count ≤ length old → length new ≡ length old
+    → ((c : ℕ) → c < start → slice_index new c ≡ slice_index old c) → ((c : ℕ) → c < count → slice_index new (start + c) ≡ c % span / stride)
+    → IsWritten count span stride (take start old) (take (start + count) new)
+column_next start count span stride old new within long before written =
+    let front : length (take start old) ≡ start = length-take-le start old (omega (arith, within)) in
+    record {
+      long = length-take-le (start + count) new (omega (arith, within, long)) ∙ ap (λ n. n + count) (sym front);
+      before = λ c l.
+          let m : c < start = omega (arith, l, front) in
+          get_or-take (start + count) new c 0 (omega (arith, m)) ∙ before c m ∙ sym (get_or-take start old c 0 m);
+      written = λ c l. ap (λ n. slice_index (take (start + count) new) (n + c)) front ∙ get_or-take (start + count) new (start + c) 0 (omega (arith, l)) ∙ written c l;
+    }
+
 -- one column more
 module _ (size : ℕ → ℕ) (xs : List ℕ) (bounds : (x : ℕ) → listed xs x ≡ true → (2 ≤ size x) × (size x ≤ 16)) where
   pub record IsNext (i span stride : ℕ) : Type 0 where
@@ -62,10 +79,10 @@ module _ (size : ℕ → ℕ) (xs : List ℕ) (bounds : (x : ℕ) → listed xs 
     pub few : span ≤ stride * 16
     pub some : 1 ≤ span
     pub exact : span / stride * stride ≡ span
-    pub whole : cells size xs / stride * stride ≡ cells size xs
+    pub within : span ≤ cells size xs
 
   pub next_stride : (i span size_here : ℕ) → i < length xs → span ≡ cells size (drop i xs) → size_here ≡ size (get_or xs i 0) → IsNext i span (span / size_here)
-  next_stride i span n h e f = rw (divided) (record { stride_is = refl; stride_pos = p; few = few; some = omega (arith, g, le-mul_of_pos_right (size (get_or xs i 0)) p, b.0); exact = exact_div span (size (get_or xs i 0)) (cells size (drop (i + 1) xs)) g p; whole = exact_div (cells size xs) (cells size (take (i + 1) xs)) (cells size (drop (i + 1) xs)) (cells_split size xs (i + 1)) p })
+  next_stride i span n h e f = rw (divided) (record { stride_is = refl; stride_pos = p; few = few; some = omega (arith, g, le-mul_of_pos_right (size (get_or xs i 0)) p, b.0); exact = exact_div span (size (get_or xs i 0)) (cells size (drop (i + 1) xs)) g p; within = omega (arith, e, cells_split size xs i, le-mul_of_pos_right (cells size (drop i xs)) front) })
     where
       p : 1 ≤ cells size (drop (i + 1) xs)
       p = cells_pos size (drop (i + 1) xs) (λ x q. let l = (bounds x (listed_drop xs (i + 1) x q)).0 in omega arith)
@@ -75,6 +92,9 @@ module _ (size : ℕ → ℕ) (xs : List ℕ) (bounds : (x : ℕ) → listed xs 
 
       g : span ≡ size (get_or xs i 0) * cells size (drop (i + 1) xs)
       g = e ∙ cells_from size xs i 0 h
+
+      front : 1 ≤ cells size (take i xs)
+      front = cells_pos size (take i xs) (λ x q. let l = (bounds x (listed_take xs i x q)).0 in omega arith)
 
       few : span ≤ cells size (drop (i + 1) xs) * 16
       few = let l = mul-le-mul_right (cells size (drop (i + 1) xs)) b.1 in omega (arith, g, l)
@@ -97,42 +117,30 @@ module _ (size : ℕ → ℕ) (xs : List ℕ) (bounds : (x : ℕ) → listed xs 
       at (inl e) ih = or_left (eqb y z) (listed ys y) e
       at (inr p) ih = or_right (eqb y z) (listed ys y) (ih p)
 
-  pub more_columns : Apart xs → (i span stride first : ℕ) (starts columns : List ℕ) → i < length xs → span ≡ cells size (drop i xs) → stride ≡ cells size (drop (i + 1) xs)
-      → first ≤ get_or xs i 0 → get_or xs i 0 - first < length starts → HaveColumns size xs (take i xs) first starts columns
-      → HaveColumns size xs (take (i + 1) xs) first (set starts (get_or xs i 0 - first) (length columns)) (columns ++ map (λ c. c % span / stride) (numbers_below (cells size xs)))
-  more_columns apart i span stride first starts columns h e f b l have y c p q = at (cases_eq y x)
+  pub more_columns : Apart xs → (i span stride first : ℕ) (starts columns next : List ℕ) → i < length xs → span ≡ cells size (drop i xs) → stride ≡ cells size (drop (i + 1) xs)
+      → first ≤ get_or xs i 0 → get_or xs i 0 - first < length starts → IsWritten (cells size xs) span stride columns next → HaveColumns size xs (take i xs) first starts columns
+      → HaveColumns size xs (take (i + 1) xs) first (set starts (get_or xs i 0 - first) (length columns)) next
+  more_columns apart i span stride first starts columns next h e f b l more have y c p q = at (cases_eq y x)
     where
       x : ℕ
       x = get_or xs i 0
 
-      column : List ℕ
-      column = map (λ c. c % span / stride) (numbers_below (cells size xs))
-
       written : List ℕ
       written = set starts (x - first) (length columns)
-
-      long : length column ≡ cells size xs
-      long = length-map-range_with_len (λ c. c % span / stride) 0 (cells size xs)
-
-      both : length (columns ++ column) ≡ length columns + cells size xs
-      both = length-append columns column ∙ ap (λ n. length columns + n) long
-
-      read : get_or column c 0 ≡ c % span / stride
-      read = get_or-map-range_with_len (λ c. c % span / stride) 0 (cells size xs) c c 0 q (omega arith)
 
       there : slice_index written (x - first) ≡ length columns
       there = get_or-set_same starts (x - first) (length columns) 0 l
 
-      here : IsColumn size xs first written (columns ++ column) x c
+      here : IsColumn size xs first written next x c
       here = record {
         reached = b;
         started = rw length-set l;
-        within = omega (arith, there, both);
-        value = ap (λ s. slice_index (columns ++ column) (s + c)) there ∙ get_or-append-add columns column c 0 ∙ read
+        within = omega (arith, there, more.long, q);
+        value = ap (λ s. slice_index next (s + c)) there ∙ more.written c q
             ∙ ap (λ n. c % n / stride) e ∙ ap (λ n. c % cells size (drop i xs) / n) (f ∙ ap (λ k. cells size (drop k xs)) (add-one i)) ∙ sym (place_at size xs apart i c (λ y. 0) h q);
       }
 
-      other : (y ≡ x → ⊥) → IsColumn size xs first written (columns ++ column) y c
+      other : (y ≡ x → ⊥) → IsColumn size xs first written next y c
       other d =
           let o = have y c (listed_push (take i xs) x y (subst (λ (ys : List ℕ). listed ys y ≡ true) (take_more xs i 0 h) p) d) q in
           let elsewhere : y - first ≡ x - first → ⊥ = λ k. d (omega (arith, k, b, o.reached)) in
@@ -141,49 +149,49 @@ module _ (size : ℕ → ℕ) (xs : List ℕ) (bounds : (x : ℕ) → listed xs 
           record {
             reached = o.reached;
             started = rw length-set o.started;
-            within = omega (arith, s, both, w);
-            value = ap (λ s. slice_index (columns ++ column) (s + c)) s ∙ get_or_append_left columns column 0 (slice_index starts (y - first) + c) w ∙ o.value;
+            within = omega (arith, s, more.long, w);
+            value = ap (λ s. slice_index next (s + c)) s ∙ more.before (slice_index starts (y - first) + c) w ∙ o.value;
           }
 
-      at : ((y ≡ x) ⊎ (y ≡ x → ⊥)) → IsColumn size xs first written (columns ++ column) y c
-      at (inl g) = subst (λ z. IsColumn size xs first written (columns ++ column) z c) (sym g) here
+      at : ((y ≡ x) ⊎ (y ≡ x → ⊥)) → IsColumn size xs first written next y c
+      at (inl g) = subst (λ z. IsColumn size xs first written next z c) (sym g) here
       at (inr d) = other d
 
--- one number more of a column
-pub column_more : (before : List ℕ) (f : ℕ → ℕ) (n : ℕ) → (before ++ map f (numbers_below n)) ++ f n ∷ [] ≡ before ++ map f (numbers_below (n + 1))
-column_more before f n = append_assoc before (map f (numbers_below n)) (f n ∷ []) ∙ ap (λ ys. before ++ ys) (sym (map-range_with_len_more f 0 n n (omega arith)))
-
-pub column_long : (before : List ℕ) (f : ℕ → ℕ) (n : ℕ) → length (before ++ map f (numbers_below n)) ≡ length before + n
-column_long before f n = length-append before (map f (numbers_below n)) ∙ ap (λ k. length before + k) (length-map-range_with_len f 0 n)
-
--- one value of a column: the cells of a stride have it
-pub run_value : (span stride run j : ℕ) → 1 ≤ span → span / stride * stride ≡ span → j < stride → (run * stride + j) % span / stride ≡ run % (span / stride)
-run_value span stride run j some exact l =
-    let size = span / stride in let q = run / size in let r = run % size in
-    let pos : 0 < size = size_pos size (exact) in
-    let parts : q * size + r ≡ run = div-add-mod' run size in
-    let below : r < size = mod_below run size pos in
-    let up : r + 1 ≤ size = omega (arith, below) in
-    let next : (r + 1) * stride ≤ size * stride = mul-le-mul_right stride up in
-    let within : r * stride + j < size * stride = omega (arith, next, l) in
-    let cell : run * stride + j ≡ q * (size * stride) + (r * stride + j) = ap (λ n. n * stride + j) (sym parts) ∙ omega arith in
-    ap (λ n. (run * stride + j) % n / stride) (sym exact) ∙ ap (λ n. n % (size * stride) / stride) cell
-    ∙ ap (λ n. n / stride) (mod-mul-add q (size * stride) (r * stride + j) within) ∙ div-mul-add r stride j l
+-- one value more of a column
+pub values_more : (start stride value : ℕ) (before after : List ℕ) → ((c : ℕ) → c < value * stride → slice_index before (start + c) ≡ c / stride)
+    → ((c : ℕ) → c < start + value * stride → slice_index after c ≡ slice_index before c)
+    → ((c : ℕ) → c < stride → slice_index after (start + value * stride + c) ≡ value)
+    → (c : ℕ) → c < (value + 1) * stride → slice_index after (start + c) ≡ c / stride
+values_more start stride value before after written same more c l = at (cases_lt c (value * stride))
   where
-    size_pos : (n : ℕ) → n * stride ≡ span → 0 < n
-    size_pos zero e = omega (arith, e, some)
-    size_pos (suc n) e = omega arith
+    at : ((c < value * stride) ⊎ (value * stride ≤ c)) → slice_index after (start + c) ≡ c / stride
+    at (inl m) = same (start + c) (omega (arith, m)) ∙ written c m
+    at (inr m) =
+        let j = c - value * stride in
+        let next : (value + 1) * stride ≡ value * stride + stride = omega arith in
+        let k : j < stride = omega (arith, l, m, next) in
+        let there : start + value * stride + j ≡ start + c = omega (arith, m) in
+        let parts : value * stride + j ≡ c = omega (arith, m) in
+        ap (slice_index after) (sym there) ∙ more j k ∙ sym (ap (λ n. n / stride) (sym parts) ∙ div-mul-add value stride j k)
 
--- so many cells more of a column that have one value
-pub column_run : (before : List ℕ) (f : ℕ → ℕ) (n k v : ℕ) → ((j : ℕ) → j < k → f (n + j) ≡ v) → (before ++ map f (numbers_below n)) ++ replicate k v ≡ before ++ map f (numbers_below (n + k))
-column_run before f n zero v h =
-    let same : n ≡ n + zero = omega arith in
-    append-nil (before ++ map f (numbers_below n)) ∙ ap (λ m. before ++ map f (numbers_below m)) same
-column_run before f n (suc k) v h =
-    let more : suc k ≡ k + 1 = omega arith in
-    let last : n + k + 1 ≡ n + suc k = omega arith in
-    ap (λ ys. (before ++ map f (numbers_below n)) ++ ys) (ap (λ m. replicate m v) more ∙ sym (replicate_more k v))
-    ∙ sym (append_assoc (before ++ map f (numbers_below n)) (replicate k v) (v ∷ []))
-    ∙ ap (λ ys. ys ++ v ∷ []) (column_run before f n k v (λ j l. h j (omega (arith, l))))
-    ∙ ap (λ y. (before ++ map f (numbers_below (n + k))) ++ y ∷ []) (sym (h k (omega arith)))
-    ∙ column_more before f (n + k) ∙ ap (λ m. before ++ map f (numbers_below m)) last
+-- one cell more of a column, whose values come round
+pub column_again : (start span stride n value : ℕ) (xs : List ℕ) → 1 ≤ span → span ≤ n → start + n < length xs → value ≡ slice_index xs (start + n - span)
+    → ((c : ℕ) → c < n → slice_index xs (start + c) ≡ c % span / stride)
+    → (c : ℕ) → c < n + 1 → slice_index (set xs (start + n) value) (start + c) ≡ c % span / stride
+column_again start span stride n value xs some round l is written c m = at (cases_eq c n)
+  where
+    back : start + n - span ≡ start + (n - span)
+    back = omega (arith, round)
+
+    whole : 1 * span + (n - span) ≡ n
+    whole = omega (arith, round)
+
+    there : value ≡ n % span / stride
+    there =
+        is ∙ ap (slice_index xs) back ∙ written (n - span) (omega (arith, some, round))
+        ∙ ap (λ k. k / stride) (sym (mul-add-mod_self_right 1 span (n - span)) ∙ ap (λ k. k % span) whole)
+
+    at : ((c ≡ n) ⊎ (c ≡ n → ⊥)) → slice_index (set xs (start + n) value) (start + c) ≡ c % span / stride
+    at (inl e) =
+        ap (λ k. slice_index (set xs (start + n) value) (start + k)) e ∙ get_or-set_same xs (start + n) value 0 l ∙ there ∙ ap (λ k. k % span / stride) (sym e)
+    at (inr d) = get_or-set_other xs (start + n) (start + c) value 0 (λ e. d (omega (arith, e))) ∙ written c (omega (arith, m, d))

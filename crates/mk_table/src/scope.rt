@@ -1,12 +1,11 @@
 //! The scope of a table.
 
-ghost use Rattle.std.specs.Prelude.{◌≡◌, ℕ, ◌+◌, ◌<◌, ◌≤◌, ◌*◌, ◌/◌, ◌%◌, List, [], ◌++◌, All, map, length, replicate, slice_index, true, false, IfOk, OnOk};
+ghost use Rattle.std.specs.Prelude.{◌≡◌, ℕ, ◌+◌, ◌<◌, ◌≤◌, ◌*◌, ◌/◌, ◌%◌, List, All, map, length, slice_index, true, false, IfOk};
 ghost use Rattle.mk_net.specs.Bounds.{max_clique_cells, max_values, max_variables};
 ghost use Rattle.mk_net.specs.Sets.{is_member};
 ghost use Rattle.mk_net.specs.Network.{sizes, IsNetwork};
 ghost use Rattle.mk_sums.specs.Cells.{keep, cells};
 ghost use Rattle.mk_sums.specs.Joint.{variables};
-ghost use Rattle.mk_exact.specs.States.{numbers_below};
 ghost use Rattle.mk_table.specs.Scopes.{IsScope, LiesIn, Rising, scope_of, size_in, cells_in, has_variable, HasEvent};
 ghost use Rattle.mk_table.specs.Cells.{values_at, cells_where, cells_onto};
 ghost use Rattle.mk_table.specs.inner.Columns.{HaveColumns};
@@ -55,8 +54,8 @@ impl Scope {
         let cells = cells_of(net, &variables);
         let (first, reach) = reach(&variables);
         let mut starts = vec![in alloc; 0; reach]?;
-        let mut columns = Vec::with_capacity(alloc, cells * variables.len())?;
-        lay_out(net, &variables, cells, first, &mut starts, &mut columns)?;
+        let mut columns = vec![in alloc; 0; variables.len() * cells]?;
+        lay_out(net, &variables, cells, first, &mut starts, &mut columns);
         Ok(Scope {
             variables,
             sizes,
@@ -318,57 +317,72 @@ fn lay_out(
     variables: &[u32],
     count: usize,
     first: u32,
-    starts: &mut Vec<u32>,
-    columns: &mut Vec<u8>,
-) -> Result<(), NoMemory>
+    starts: &mut [u32],
+    columns: &mut [u8],
+)
     requires of_network { All (λ x. x < length net.now) variables.now }
     requires rising { Rising variables.now }
     requires few_variables { length variables.now ≤ max_variables }
     requires cells { count ≡ cells (slice_index (sizes net.now)) variables.now }
     requires few_cells { count ≤ max_clique_cells }
-    requires starts { All (λ x. (first ≤ x) × (x < first + length starts.old.items)) variables.now }
-    requires empty { columns.old.items ≡ [] }
-    ensures { OnOk result (HaveColumns (slice_index (sizes net.now)) variables.now variables.now first starts.new.items columns.new.items) }
+    requires starts { All (λ x. (first ≤ x) × (x < first + length starts.old)) variables.now }
+    requires columns { length columns.old ≡ length variables.now * count }
+    ensures { HaveColumns (slice_index (sizes net.now)) variables.now variables.now first starts.new columns.new }
 {
     let _ = net.variables();
     let mut span = count;
+    let mut start = 0;
     for variable in variables {
         let stride = span / net.values(*variable) as usize;
-        starts[(*variable - first) as usize] = columns.len() as u32;
-        write_column(columns, count, span, stride)?;
+        starts[(*variable - first) as usize] = start as u32;
+        write_column(columns, start, count, span, stride);
+        start += count;
         span = stride;
     }
-    Ok(())
 }
 
-/// Writes the value of each cell, for a variable whose values come round every `span` cells and change every `stride`. A value
-/// is written for a whole stride, so that no cell costs a division.
-fn write_column(
-    columns: &mut Vec<u8>,
-    count: usize,
-    span: usize,
-    stride: usize,
-) -> Result<(), NoMemory>
+/// Writes the value of each cell, for a variable whose values come round every `span` cells and change every `stride`. They are
+/// written once, and then come again, so that no cell costs a division.
+fn write_column(columns: &mut [u8], start: usize, count: usize, span: usize, stride: usize)
+    requires there { start + count ≤ length columns.old }
     requires stride { 1 ≤ stride }
     requires few { span ≤ stride * max_values }
     requires some { 1 ≤ span }
+    requires within { span ≤ count }
     requires exact { span / stride * stride ≡ span }
-    requires whole { count / stride * stride ≡ count }
-    ensures { OnOk result (columns.new.items ≡ columns.old.items ++ map (λ c. c % span / stride) (numbers_below count)) }
+    ensures long { length columns.new ≡ length columns.old }
+    ensures before { (c : ℕ) → c < start → slice_index columns.new c ≡ slice_index columns.old c }
+    ensures written { (c : ℕ) → c < count → slice_index columns.new (start + c) ≡ c % span / stride }
 {
-    let values = span / stride;
-    for run in 0..count / stride {
-        write_run(columns, (run % values) as u8, stride)?;
+    write_values(columns, start, span / stride, stride);
+    for cell in span..count {
+        columns[start + cell] = columns[start + cell - span];
     }
-    Ok(())
+}
+
+/// Writes each value for so many cells.
+fn write_values(columns: &mut [u8], start: usize, values: usize, stride: usize)
+    requires there { start + values * stride ≤ length columns.old }
+    requires few { values ≤ max_values }
+    ensures long { length columns.new ≡ length columns.old }
+    ensures before { (c : ℕ) → c < start → slice_index columns.new c ≡ slice_index columns.old c }
+    ensures written { (c : ℕ) → c < values * stride → slice_index columns.new (start + c) ≡ c / stride }
+{
+    let mut first = start;
+    for value in 0..values {
+        write_run(columns, first, stride, value as u8);
+        first += stride;
+    }
 }
 
 /// Writes one value so many times.
-fn write_run(columns: &mut Vec<u8>, value: u8, count: usize) -> Result<(), NoMemory>
-    ensures { OnOk result (columns.new.items ≡ columns.old.items ++ replicate count value) }
+fn write_run(columns: &mut [u8], first: usize, count: usize, value: u8)
+    requires { first + count ≤ length columns.old }
+    ensures long { length columns.new ≡ length columns.old }
+    ensures before { (c : ℕ) → c < first → slice_index columns.new c ≡ slice_index columns.old c }
+    ensures written { (c : ℕ) → c < count → slice_index columns.new (first + c) ≡ value }
 {
-    for _ in 0..count {
-        columns.push(value)?;
+    for cell in first..first + count {
+        columns[cell] = value;
     }
-    Ok(())
 }

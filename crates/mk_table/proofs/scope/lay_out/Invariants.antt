@@ -7,7 +7,8 @@ use Rattle.mk_table.proofs.scope.lay_out.Given as goal
 abbrev pub invariant-loop-variable : goal.invariant-loop-variable
 invariant-loop-variable l = record {
   span : l.span ≡ cells (slice_index (sizes l.net)) (drop l.variable-index l.variables);
-  starts : length l.starts.items ≡ length l.fn.starts.items;
-  columns : length l.columns.items ≡ l.variable-index * l.count;
-  have : HaveColumns (slice_index (sizes l.net)) l.variables (take l.variable-index l.variables) l.first l.starts.items l.columns.items;
+  starts : length l.starts ≡ length l.fn.starts;
+  columns : length l.columns ≡ length l.fn.columns;
+  start : l.start ≡ l.variable-index * l.count;
+  have : HaveColumns (slice_index (sizes l.net)) l.variables (take l.variable-index l.variables) l.first l.starts (take l.start l.columns);
 }

@@ -1,12 +1,15 @@
-use Rattle.std.proofs.Common.{◌≡◌, ◌+◌, ◌*◌, ◌/◌, ◌%◌, ◌++◌, ℕ, map, ap, arith, ◌∙◌}
-use Rattle.mk_exact.specs.States.{numbers_below}
-use Rattle.mk_table.proofs.Writing.{column_run, run_value}
+use Rattle.std.proofs.Common.{◌+◌, ◌-◌, ◌<◌, ◌∙◌, length, slice_index, arith, refl}
+use Rattle.std.proofs.lemmas.List.{length-set, get_or-set_other}
+use Rattle.mk_table.proofs.Writing.{column_again}
 use Rattle.mk_table.proofs.scope.write_column.Goals as goal
 
-pub loop-run-preserved : goal.loop-run-preserved
-loop-run-preserved c =
-    let before = c.args.columns.now.items in let span = c.args.span in let stride = c.args.stride in let run = c.loop-run.run in
-    let f : ℕ → ℕ = λ n. n % span / stride in
-    let next : run * stride + stride ≡ (run + 1) * stride = omega arith in
-    rw (c.in_ok-write_run.ensures, c.loop-run.invariant)
-    (column_run before f (run * stride) stride (run % (span / stride)) (λ j l. run_value span stride run j c.requires.some c.requires.exact l) ∙ ap (λ m. before ++ map f (numbers_below m)) next)
+pub loop-cell-preserved : goal.loop-cell-preserved
+loop-cell-preserved c =
+    let xs = c.loop-cell.columns in let at = c.args.start + c.loop-cell.cell in let value = slice_index xs (at - c.args.span) in
+    let before = c.loop-cell.invariant in
+    let within : at < length xs = omega (arith, before.long, c.requires.there, c.loop-cell-test.true) in
+    record {
+      long = rw length-set before.long;
+      before = λ k l. get_or-set_other xs at k value 0 (λ e. omega (arith, e, l)) ∙ before.before k l;
+      written = column_again c.args.start c.args.span c.args.stride c.loop-cell.cell value xs c.requires.some c.loop-cell.auto.cell within refl before.written;
+    }
