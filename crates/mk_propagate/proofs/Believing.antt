@@ -38,7 +38,7 @@ use Rattle.mk_propagate.proofs.Margins.{apart, parted, total_over, values_of_par
 use Rattle.mk_propagate.proofs.Inputs.{times_inputs, times_same}
 use Rattle.mk_propagate.proofs.Grading.{few_grades, reading_steps}
 use Rattle.mk_propagate.proofs.Readings.{pairs_read, read_there, belief_is_read, belief_at_most}
-use Rattle.mk_propagate.proofs.Messages.{message_within, shared_in_core, core_cells, core_room, few_core_steps, table_room, taken_room}
+use Rattle.mk_propagate.proofs.Messages.{message_within, shared_in_core, core_cells, core_room, few_core_steps, table_room, whole_room}
 use Rattle.mk_propagate.proofs.Placed.{sum_same}
 use Rattle.mk_propagate.proofs.Required.{all_pass}
 use Rattle.mk_propagate.proofs.Sending.{can_take}
@@ -50,14 +50,14 @@ all_inputs plus flow p k right i h = right i (all_linked flow.shape.tree k None 
 -- the messages into a clique, taken from the parts of a kept flow
 pub into_there : (plus : ℕ → ℕ → ℕ) (flow : FlowOf) (k : ℕ) (p : Placing) → HasPlaced flow p → AreRightInto plus flow p k
     → (shape : ShapeOf) (upward downward : List TableOf) → shape ≡ flow.shape → upward ≡ flow.upward → downward ≡ flow.downward → (t : TableOf) → HasInto plus shape upward downward k None t
-    → HasGathered plus flow.shape k None (neighbours flow.shape.tree k) (λ a. 1) 0 0 t p
+    → HasGathered plus flow.shape k None (neighbours flow.shape.tree k) t p
 into_there plus flow k p has right shape upward downward s u d t h =
-    subst (λ (x : ShapeOf). HasGathered plus x k None (neighbours x.tree k) (λ a. 1) 0 0 t p) s
+    subst (λ (x : ShapeOf). HasGathered plus x k None (neighbours x.tree k) t p) s
     (h.into p (can_take plus flow p k None has (all_inputs plus flow p k right) shape upward downward s u d))
 
 module _ (plus : ℕ → ℕ → ℕ) (law : Lawful plus) (flow : FlowOf) (cores products : List TableOf) (cells : ℕ) (kept : IsKept flow cores products cells) (k : ℕ) (event : List Pair) (table : TableOf) (is : table_at flow k ≡ table) (into : TableOf)
     (p : Placing) (has : HasPlaced flow p) (clique : IsClique flow.shape.tree k) (inside : holds_event event (clique_at flow.shape.tree k) ≡ true)
-    (g : HasGathered plus flow.shape k None (neighbours flow.shape.tree k) (λ a. 1) 0 0 into p) where
+    (g : HasGathered plus flow.shape k None (neighbours flow.shape.tree k) into p) where
   abbrev tree : GivenTree
   tree = flow.shape.tree
 
@@ -82,9 +82,7 @@ module _ (plus : ℕ → ℕ → ℕ) (law : Lawful plus) (flow : FlowOf) (cores
   total_room = table_room flow.shape p has.shape_is has.placing plus law k clique table placed
 
   pub into_room : HasRoom into 1
-  into_room =
-      taken_room flow.shape p has.shape_is has.placing plus law k clique None (λ a. 1) 0 0 (omega arith) (omega arith) (length (neighbours tree k)) into
-      (subst (λ (xs : List ℕ). HasGathered plus flow.shape k None xs (λ a. 1) 0 0 into p) (sym (take-length (neighbours tree k))) g)
+  into_room = whole_room flow.shape p has.shape_is has.placing plus law k clique None into g
 
   pub total_places : (places : PlacesOf) → places ≡ record { whole = clique_scope flow.shape k; part = core_scope flow.shape k } → places ≡ record { whole = table.scope; part = into.scope }
   total_places places e =
@@ -108,7 +106,7 @@ module _ (plus : ℕ → ℕ → ℕ) (law : Lawful plus) (flow : FlowOf) (cores
 
   -- the total
   abbrev taken : (ℕ → ℕ) → ℕ
-  taken = gathered plus tree p k None (neighbours tree k) (λ a. 1)
+  taken = gathered plus tree p k None (neighbours tree k)
 
   abbrev pub totalled : ℕ
   totalled = plus_over plus 0 (λ c. placed_there p k (values_at table.scope c) * taken (values_at into.scope (cell_in into.scope table.scope c))) (cells_where table.scope event)
@@ -119,8 +117,7 @@ module _ (plus : ℕ → ℕ → ℕ) (law : Lawful plus) (flow : FlowOf) (cores
 
   all_taken : (a : ℕ → ℕ) → taken a ≡ messages a
   all_taken a =
-      one-mul _
-      ∙ times_inputs tree k None (λ i. exact_message plus tree p i k) a
+      times_inputs tree k None (λ i. exact_message plus tree p i k) a
       ∙ times_agree (λ i. exact_message plus tree p i k) (is_input tree k None) (linked_to (link_of tree) (length tree.cliques) k) (length tree.cliques) a (λ j _ _. and_true (linked_to (link_of tree) (length tree.cliques) k j))
     where
       and_true : (b : Bool) → (b && true) ≡ b
@@ -161,7 +158,7 @@ module _ (plus : ℕ → ℕ → ℕ) (law : Lawful plus) (flow : FlowOf) (cores
       ∙ belief_is_read flow.shape p has.shape_is has.placing plus law event k clique inside
 
   abbrev steps : ℕ
-  steps = factors_in p k + gathered_steps tree p k None (neighbours tree k) 0 + 2 * cells_in table.scope + 1
+  steps = factors_in p k + gathered_steps tree p k None (neighbours tree k) + 2 * cells_in table.scope + 1
 
   pub few : (grade : ℕ) → grade ≡ counted_grade → steps ≤ 3 * grade
   few grade is = let l = reading_steps flow.shape p has.shape_is has.placing k clique None in let e = grade_is in let s = ap cells_in scope_is in let n = some_cells in omega (arith, l, e, s, is, n)
@@ -171,7 +168,7 @@ module _ (plus : ℕ → ℕ → ℕ) (law : Lawful plus) (flow : FlowOf) (cores
     numbers = λ c. placed_there p k (values_at table.scope c);
     others = λ d. taken (values_at into.scope d);
     steps = factors_in p k;
-    other_steps = gathered_steps tree p k None (neighbours tree k) 0;
+    other_steps = gathered_steps tree p k None (neighbours tree k);
     has = placed.numbers;
     has_others = g.cells.numbers;
     within = few grade is;
@@ -285,7 +282,7 @@ module _ (plus : ℕ → ℕ → ℕ) (law : Lawful plus) (flow : FlowOf) (cores
         ∙ sym (total_over plus law p.network (holds tree k) event (read_there flow.shape p has.shape_is has.placing plus law event k))
         ∙ belief_is_read flow.shape p has.shape_is has.placing plus law event k clique inside
 
-    pub core_few : (grade : ℕ) → grade ≡ counted_grade → core_steps tree p k + gathered_steps tree p k None (neighbours tree k) 0 + 2 * cells_in core.scope + 1 ≤ 3 * grade
+    pub core_few : (grade : ℕ) → grade ≡ counted_grade → core_steps tree p k + gathered_steps tree p k None (neighbours tree k) + 2 * cells_in core.scope + 1 ≤ 3 * grade
     core_few grade is =
         let l = reading_steps flow.shape p has.shape_is has.placing k clique None in let e = grade_is in let s = ap cells_in scope_is in let n = some_cells in
         let d = ap cells_in core_scope_is in let f = core_cells flow.shape p has.shape_is has.placing plus law k in let m = few_core_steps flow.shape p has.shape_is has.placing plus law k clique in
@@ -296,7 +293,7 @@ module _ (plus : ℕ → ℕ → ℕ) (law : Lawful plus) (flow : FlowOf) (cores
       numbers = λ c. there (values_at core.scope c);
       others = λ d. taken (values_at into.scope d);
       steps = core_steps tree p k;
-      other_steps = gathered_steps tree p k None (neighbours tree k) 0;
+      other_steps = gathered_steps tree p k None (neighbours tree k);
       has = core_placed.numbers;
       has_others = g.cells.numbers;
       within = core_few grade is;

@@ -139,7 +139,7 @@ module _ (shape : ShapeOf) (p : Placing) (is : IsShapeFor shape p.network) (plac
         omega (arith, e, l)
 
     -- for each message three steps for each of its grade and one, which with five more are three for each of its grade and 2
-    steps_with_each : gathered_steps tree p k receiver (neighbours tree k) (factors_in p k) + 5 * sum_of (is_input tree k receiver) (length tree.cliques) (λ i. 1) ≤ factors_in p k + 3 * input_grades
+    steps_with_each : factors_in p k + gathered_steps tree p k receiver (neighbours tree k) + 5 * sum_of (is_input tree k receiver) (length tree.cliques) (λ i. 1) ≤ factors_in p k + 3 * input_grades
     steps_with_each =
         let m = length tree.cliques in
         let e = sum_inputs tree k receiver (λ i. 3 * exact_message_grade tree p i k + 1) in
@@ -155,24 +155,24 @@ module _ (shape : ShapeOf) (p : Placing) (is : IsShapeFor shape p.network) (plac
             at true ih = omega (arith, ih)
             at false ih = omega (arith, ih)
 
-    steps_at_most : gathered_steps tree p k receiver (neighbours tree k) (factors_in p k) ≤ factors_in p k + 3 * input_grades
+    steps_at_most : factors_in p k + gathered_steps tree p k receiver (neighbours tree k) ≤ factors_in p k + 3 * input_grades
     steps_at_most = let e = steps_with_each in omega (arith, e)
 
-    factors_at_most_grades : gathered_factors tree p k receiver (neighbours tree k) (factors_in p k) ≤ factors_in p k + input_grades
+    factors_at_most_grades : factors_in p k + gathered_factors tree p k receiver (neighbours tree k) ≤ factors_in p k + input_grades
     factors_at_most_grades =
         let m = length tree.cliques in
         let e = sum_inputs tree k receiver (λ i. exact_message_grade tree p i k) in
         let t = sum_of_at_most (is_input tree k receiver) (is_input tree k receiver) m (λ i. exact_message_grade tree p i k) (λ i. exact_message_grade tree p i k + 2) (λ i h. h) (λ i. omega arith) in
         omega (arith, e, t)
 
-    pub few_steps : gathered_steps tree p k receiver (neighbours tree k) (factors_in p k) + 2 * clique_cells p.network tree k ≤ 3 * 99072
+    pub few_steps : factors_in p k + gathered_steps tree p k receiver (neighbours tree k) + 2 * clique_cells p.network tree k ≤ 3 * 99072
     few_steps = let a = steps_at_most in let b = within_whole in let c = whole_parts in let d = few_grades in omega (arith, a, b, c, d)
 
-    pub few_factors : gathered_factors tree p k receiver (neighbours tree k) (factors_in p k) ≤ 99072
+    pub few_factors : factors_in p k + gathered_factors tree p k receiver (neighbours tree k) ≤ 99072
     few_factors = let a = factors_at_most_grades in let b = within_whole in let c = whole_parts in let d = few_grades in omega (arith, a, b, c, d)
 
     -- a reading has three steps for each of its grade
-    pub reading_steps : gathered_steps tree p k receiver (neighbours tree k) (factors_in p k) + 6 * clique_cells p.network tree k ≤ 3 * reading_grade tree p k
+    pub reading_steps : factors_in p k + gathered_steps tree p k receiver (neighbours tree k) + 6 * clique_cells p.network tree k ≤ 3 * reading_grade tree p k
     reading_steps = let a = steps_at_most in let b = within_whole in let c = whole_parts in let s = is.tree_is.linked.some in omega (arith, a, b, c, s)
 
   -- and so has a message
@@ -180,14 +180,14 @@ module _ (shape : ShapeOf) (p : Placing) (is : IsShapeFor shape p.network) (plac
     grade_is : exact_message_grade tree p a b ≡ factors_in p a + clique_cells p.network tree a + input_grades a clique (Some b)
     grade_is = grades_add (link_of tree) (length tree.cliques) is.tree_is.linked.earlier (factors_in p) (clique_cells p.network tree) a b linked_too
 
-    pub message_steps : gathered_steps tree p a (Some b) (neighbours tree a) (factors_in p a) + 2 * clique_cells p.network tree a ≤ 3 * exact_message_grade tree p a b
+    pub message_steps : factors_in p a + gathered_steps tree p a (Some b) (neighbours tree a) + 2 * clique_cells p.network tree a ≤ 3 * exact_message_grade tree p a b
     message_steps = let s = steps_at_most a clique (Some b) in let g = grade_is in omega (arith, s, g)
 
     -- where there is another neighbour, some steps more
     pub others_steps : linked_to (link_of tree) (length tree.cliques) a b ≡ true → IsClique tree b → 1 < length (neighbours tree a)
-        → gathered_steps tree p a (Some b) (neighbours tree a) (factors_in p a) + 2 * clique_cells p.network tree a + 2 ≤ 3 * exact_message_grade tree p a b
+        → factors_in p a + gathered_steps tree p a (Some b) (neighbours tree a) + 2 * clique_cells p.network tree a + 2 ≤ 3 * exact_message_grade tree p a b
     others_steps back receiver more =
         let s = steps_with_each a clique (Some b) in let g = grade_is in let c = others_counted tree a b receiver.first receiver.last back in omega (arith, s, g, c, more)
 
-    pub message_factors : gathered_factors tree p a (Some b) (neighbours tree a) (factors_in p a) ≤ exact_message_grade tree p a b
+    pub message_factors : factors_in p a + gathered_factors tree p a (Some b) (neighbours tree a) ≤ exact_message_grade tree p a b
     message_factors = let s = factors_at_most_grades a clique (Some b) in let g = grade_is in omega (arith, s, g)

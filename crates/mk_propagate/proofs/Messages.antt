@@ -165,122 +165,113 @@ module _ (shape : ShapeOf) (p : Placing) (is : IsShapeFor shape p.network) (plac
       abbrev factors_of : ℕ → ℕ
       factors_of i = cond (is_taken receiver i) (exact_message_grade tree p i k) 0
 
-      module _ (first : (ℕ → ℕ) → ℕ) (steps factors : ℕ) where
-        -- before the first neighbour
-        pub begins : (table : TableOf) → HasCells table (core_scope shape k) first steps factors → length table.digits ≡ cells_in table.scope
-            → HasGathered plus shape k receiver [] first steps factors table p
-        begins table h full = record {
+      -- before the first neighbour
+      pub begins : (table : TableOf) → table.scope ≡ core_scope shape k → table.shift ≡ 0 → HasNumbers table (λ c. 1) 0 → length table.digits ≡ cells_in table.scope → HasGathered plus shape k receiver [] table p
+      begins table scope shift ones full = record {
+        cells = record {
+          scope_is = scope;
+          numbers = numbers_again table (λ c. 1) (λ c. gathered plus tree p k receiver [] (values_at table.scope c)) 0 (gathered_steps tree p k receiver []) (omega arith) (λ c _. refl) ones;
+          small_shift = omega (arith, shift);
+        };
+        full = full;
+      }
+
+      module _ (j i : ℕ) (l : j < length (neighbours tree k)) (e : i ≡ get_or (neighbours tree k) j 0) where
+        abbrev before : List ℕ
+        before = take j (neighbours tree k)
+
+        abbrev after : List ℕ
+        after = take (j + 1) (neighbours tree k)
+
+        gathered_more : (a : ℕ → ℕ) → gathered plus tree p k receiver before a * message_there a i ≡ gathered plus tree p k receiver after a
+        gathered_more a = sym (product_more (message_there a) (neighbours tree k) j i l e)
+
+        steps_more : gathered_steps tree p k receiver after ≡ gathered_steps tree p k receiver before + steps_of i
+        steps_more = let s = sum_by_more steps_of (neighbours tree k) j 0 l in let q = ap steps_of e in omega (arith, s, q)
+
+        factors_more : gathered_factors tree p k receiver after ≡ gathered_factors tree p k receiver before + factors_of i
+        factors_more = let s = sum_by_more factors_of (neighbours tree k) j 0 l in let q = ap factors_of e in omega (arith, s, q)
+
+        -- a neighbour whose message is not taken
+        pub passed_by : (table : TableOf) → is_taken receiver i ≡ false → HasGathered plus shape k receiver before table p → HasGathered plus shape k receiver after table p
+        passed_by table h g = record {
           cells = record {
-            scope_is = h.scope_is;
-            numbers = numbers_again table (λ c. first (values_at table.scope c)) (λ c. gathered plus tree p k receiver [] first (values_at table.scope c)) steps (gathered_steps tree p k receiver [] steps) (omega arith)
-                (λ c _. sym (mul-one (first (values_at table.scope c)))) h.numbers;
-            small_shift = omega (arith, h.small_shift);
+            scope_is = g.cells.scope_is;
+            numbers = numbers_again table (λ c. gathered plus tree p k receiver before (values_at table.scope c)) (λ c. gathered plus tree p k receiver after (values_at table.scope c)) (gathered_steps tree p k receiver before) (gathered_steps tree p k receiver after)
+                (let s = steps_more in omega (arith, s)) (λ c _. same (values_at table.scope c)) g.cells.numbers;
+            small_shift = let s = factors_more in let b = g.cells.small_shift in omega (arith, s, b);
           };
+          full = g.full;
+        }
+          where
+            same : (a : ℕ → ℕ) → gathered plus tree p k receiver before a ≡ gathered plus tree p k receiver after a
+            same a = sym (ap (λ (t : Bool). gathered plus tree p k receiver before a * cond t (exact_message plus tree p i k a) 1) h ∙ mul-one (gathered plus tree p k receiver before a)) ∙ gathered_more a
+
+        -- a neighbour whose message is taken
+        pub taken_too : (old new message : TableOf) → is_taken receiver i ≡ true → HasGathered plus shape k receiver before old p → IsRightIn plus shape p i k message
+            → new.scope ≡ old.scope → new.shift ≡ old.shift + message.shift → length new.digits ≡ cells_in new.scope
+            → ((f g : ℕ → ℕ) (n q : ℕ) → HasNumbers old f n → HasNumbers message g q → HasNumbers new (λ c. f c * g (cell_in message.scope old.scope c)) (n + q + 1))
+            → HasGathered plus shape k receiver after new p
+        taken_too old new message h g right scope shift full numbers = record {
+          cells = times_right i k (neighbour_linked tree k j i l e) (gathered plus tree p k receiver before) (gathered plus tree p k receiver after)
+              (gathered_steps tree p k receiver before) (gathered_steps tree p k receiver after) (gathered_factors tree p k receiver before) (gathered_factors tree p k receiver after)
+              old new message g.cells right scope shift full numbers
+              (λ a. ap (λ n. gathered plus tree p k receiver before a * n) (sym (ap (λ (t : Bool). cond t (exact_message plus tree p i k a) 1) h)) ∙ gathered_more a)
+              (let s = steps_more in let w = ap {B = ℕ} (λ t. cond t (3 * exact_message_grade tree p i k + 1) 0) h in omega (arith, s, w))
+              (let s = factors_more in let w = ap {B = ℕ} (λ t. cond t (exact_message_grade tree p i k) 0) h in omega (arith, s, w));
           full = full;
         }
 
-        module _ (j i : ℕ) (l : j < length (neighbours tree k)) (e : i ≡ get_or (neighbours tree k) j 0) where
-          abbrev before : List ℕ
-          before = take j (neighbours tree k)
+        pub message_room : (message : TableOf) → is_taken receiver i ≡ true → IsRightIn plus shape p i k message → HasRoom message 1
+        message_room message h right = record {
+          numbers = λ c. exact_message plus tree p i k (values_at message.scope c);
+          steps = 3 * exact_message_grade tree p i k;
+          has = right.numbers;
+          few_steps =
+              let a = sum_by_more_le steps_of (neighbours tree k) j 0 l in let b = few_steps shape p is placing k clique receiver in let w = ap {B = ℕ} (λ t. cond t (3 * exact_message_grade tree p i k + 1) 0) h in let q = ap steps_of e in
+              omega (arith, a, b, w, q);
+          small_shift =
+              let a = sum_by_more_le factors_of (neighbours tree k) j 0 l in let b = few_factors shape p is placing k clique receiver in let w = ap {B = ℕ} (λ t. cond t (exact_message_grade tree p i k) 0) h in let q = ap factors_of e in
+              let s = right.small_shift in omega (arith, a, b, w, q, s);
+        }
 
-          abbrev after : List ℕ
-          after = take (j + 1) (neighbours tree k)
+      -- room for a message more
+      pub taken_room : (j : ℕ) (old : TableOf) → HasGathered plus shape k receiver (take j (neighbours tree k)) old p → HasRoom old 1
+      taken_room j old g = record {
+        numbers = λ c. gathered plus tree p k receiver (take j (neighbours tree k)) (values_at old.scope c);
+        steps = gathered_steps tree p k receiver (take j (neighbours tree k));
+        has = g.cells.numbers;
+        few_steps = let a = sum_by-take-le steps_of (neighbours tree k) j in let b = few_steps shape p is placing k clique receiver in omega (arith, a, b);
+        small_shift = let a = sum_by-take-le factors_of (neighbours tree k) j in let b = few_factors shape p is placing k clique receiver in let s = g.cells.small_shift in omega (arith, a, b, s);
+      }
 
-          gathered_more : (a : ℕ → ℕ) → gathered plus tree p k receiver before first a * message_there a i ≡ gathered plus tree p k receiver after first a
-          gathered_more a =
-              mul_assoc (first a) (product_by (message_there a) before) (message_there a i)
-              ∙ ap (λ n. first a * n) (sym (product_more (message_there a) (neighbours tree k) j i l e))
-
-          steps_more : gathered_steps tree p k receiver after steps ≡ gathered_steps tree p k receiver before steps + steps_of i
-          steps_more = let s = sum_by_more steps_of (neighbours tree k) j 0 l in let q = ap steps_of e in omega (arith, s, q)
-
-          factors_more : gathered_factors tree p k receiver after factors ≡ gathered_factors tree p k receiver before factors + factors_of i
-          factors_more = let s = sum_by_more factors_of (neighbours tree k) j 0 l in let q = ap factors_of e in omega (arith, s, q)
-
-          -- a neighbour whose message is not taken
-          pub passed_by : (table : TableOf) → is_taken receiver i ≡ false → HasGathered plus shape k receiver before first steps factors table p → HasGathered plus shape k receiver after first steps factors table p
-          passed_by table h g = record {
-            cells = record {
-              scope_is = g.cells.scope_is;
-              numbers = numbers_again table (λ c. gathered plus tree p k receiver before first (values_at table.scope c)) (λ c. gathered plus tree p k receiver after first (values_at table.scope c)) (gathered_steps tree p k receiver before steps) (gathered_steps tree p k receiver after steps)
-                  (let s = steps_more in omega (arith, s)) (λ c _. same (values_at table.scope c)) g.cells.numbers;
-              small_shift = let s = factors_more in let b = g.cells.small_shift in omega (arith, s, b);
-            };
-            full = g.full;
-          }
-            where
-              same : (a : ℕ → ℕ) → gathered plus tree p k receiver before first a ≡ gathered plus tree p k receiver after first a
-              same a = sym (ap (λ (t : Bool). gathered plus tree p k receiver before first a * cond t (exact_message plus tree p i k a) 1) h ∙ mul-one (gathered plus tree p k receiver before first a)) ∙ gathered_more a
-
-          -- a neighbour whose message is taken
-          pub taken_too : (old new message : TableOf) → is_taken receiver i ≡ true → HasGathered plus shape k receiver before first steps factors old p → IsRightIn plus shape p i k message
-              → new.scope ≡ old.scope → new.shift ≡ old.shift + message.shift → length new.digits ≡ cells_in new.scope
-              → ((f g : ℕ → ℕ) (n q : ℕ) → HasNumbers old f n → HasNumbers message g q → HasNumbers new (λ c. f c * g (cell_in message.scope old.scope c)) (n + q + 1))
-              → HasGathered plus shape k receiver after first steps factors new p
-          taken_too old new message h g right scope shift full numbers = record {
-            cells = times_right i k (neighbour_linked tree k j i l e) (gathered plus tree p k receiver before first) (gathered plus tree p k receiver after first)
-                (gathered_steps tree p k receiver before steps) (gathered_steps tree p k receiver after steps) (gathered_factors tree p k receiver before factors) (gathered_factors tree p k receiver after factors)
-                old new message g.cells right scope shift full numbers
-                (λ a. ap (λ n. gathered plus tree p k receiver before first a * n) (sym (ap (λ (t : Bool). cond t (exact_message plus tree p i k a) 1) h)) ∙ gathered_more a)
-                (let s = steps_more in let w = ap {B = ℕ} (λ t. cond t (3 * exact_message_grade tree p i k + 1) 0) h in omega (arith, s, w))
-                (let s = factors_more in let w = ap {B = ℕ} (λ t. cond t (exact_message_grade tree p i k) 0) h in omega (arith, s, w));
-            full = full;
-          }
-
-          pub message_room : (message : TableOf) → is_taken receiver i ≡ true → IsRightIn plus shape p i k message → HasRoom message 1
-          message_room message h right = record {
-            numbers = λ c. exact_message plus tree p i k (values_at message.scope c);
-            steps = 3 * exact_message_grade tree p i k;
-            has = right.numbers;
-            few_steps =
-                let a = sum_by_more_le steps_of (neighbours tree k) j 0 l in let b = few_steps shape p is placing k clique receiver in let w = ap {B = ℕ} (λ t. cond t (3 * exact_message_grade tree p i k + 1) 0) h in let q = ap steps_of e in
-                omega (arith, a, b, w, q);
-            small_shift =
-                let a = sum_by_more_le factors_of (neighbours tree k) j 0 l in let b = few_factors shape p is placing k clique receiver in let w = ap {B = ℕ} (λ t. cond t (exact_message_grade tree p i k) 0) h in let q = ap factors_of e in
-                let s = right.small_shift in omega (arith, a, b, w, q, s);
-          }
-
-        -- room for a message more, and for the plus over cells
-        module _ (few : steps ≤ factors_in p k + 2 * clique_cells p.network tree k) (less : factors ≤ factors_in p k) where
-          pub taken_room : (j : ℕ) (old : TableOf) → HasGathered plus shape k receiver (take j (neighbours tree k)) first steps factors old p → HasRoom old 1
-          taken_room j old g = record {
-            numbers = λ c. gathered plus tree p k receiver (take j (neighbours tree k)) first (values_at old.scope c);
-            steps = gathered_steps tree p k receiver (take j (neighbours tree k)) steps;
-            has = g.cells.numbers;
-            few_steps = let a = sum_by-take-le steps_of (neighbours tree k) j in let b = few_steps shape p is placing k clique receiver in omega (arith, a, b, few);
-            small_shift = let a = sum_by-take-le factors_of (neighbours tree k) j in let b = few_factors shape p is placing k clique receiver in let s = g.cells.small_shift in omega (arith, a, b, s, less);
-          }
-
-          pub whole_room : (table : TableOf) → HasGathered plus shape k receiver (neighbours tree k) first steps factors table p → HasRoom table 1
-          whole_room table g =
-              taken_room (length (neighbours tree k)) table
-              (subst (λ (xs : List ℕ). HasGathered plus shape k receiver xs first steps factors table p) (sym (take-length (neighbours tree k))) g)
+      pub whole_room : (table : TableOf) → HasGathered plus shape k receiver (neighbours tree k) table p → HasRoom table 1
+      whole_room table g =
+          taken_room (length (neighbours tree k)) table (subst (λ (xs : List ℕ). HasGathered plus shape k receiver xs table p) (sym (take-length (neighbours tree k))) g)
 
     -- the message of the one neighbour that a product leaves out
     module _ (k : ℕ) (clique : IsClique tree k) (i : ℕ) (l : linked (link_of tree) count i k ≡ true) where
       neighbour : IsClique tree i
       neighbour = (are_ends i k l).0
 
-      product_back : (a : ℕ → ℕ) → gathered plus tree p k (Some i) (neighbours tree k) (λ t. 1) a * exact_message plus tree p i k a ≡ gathered plus tree p k None (neighbours tree k) (λ t. 1) a
+      product_back : (a : ℕ → ℕ) → gathered plus tree p k (Some i) (neighbours tree k) a * exact_message plus tree p i k a ≡ gathered plus tree p k None (neighbours tree k) a
       product_back a =
-          mul_assoc 1 _ (exact_message plus tree p i k a)
-          ∙ ap (λ n. 1 * n)
-          (ap (λ n. n * exact_message plus tree p i k a) (times_inputs tree k (Some i) (λ j. exact_message plus tree p j k) a)
+          ap (λ n. n * exact_message plus tree p i k a) (times_inputs tree k (Some i) (λ j. exact_message plus tree p j k) a)
           ∙ sym (times_parted (linked_to (link_of tree) count k) i count neighbour.first neighbour.last l (λ j. exact_message plus tree p j k) a)
-          ∙ sym (times_inputs tree k None (λ j. exact_message plus tree p j k) a))
+          ∙ sym (times_inputs tree k None (λ j. exact_message plus tree p j k) a)
 
       sum_back : (w : ℕ → ℕ) → sum_by (λ j. w j) (neighbours tree k) ≡ sum_by (λ j. cond (is_taken (Some i) j) (w j) 0) (neighbours tree k) + w i
       sum_back w =
           sum_inputs tree k None w ∙ sum_parted (linked_to (link_of tree) count k) i count neighbour.first neighbour.last l w
           ∙ ap (λ n. n + w i) (sym (sum_inputs tree k (Some i) w))
 
-      pub put_back : (old new message : TableOf) → HasGathered plus shape k (Some i) (neighbours tree k) (λ t. 1) 0 0 old p → IsRightIn plus shape p i k message
+      pub put_back : (old new message : TableOf) → HasGathered plus shape k (Some i) (neighbours tree k) old p → IsRightIn plus shape p i k message
           → new.scope ≡ old.scope → new.shift ≡ old.shift + message.shift → length new.digits ≡ cells_in new.scope
           → ((f g : ℕ → ℕ) (n q : ℕ) → HasNumbers old f n → HasNumbers message g q → HasNumbers new (λ c. f c * g (cell_in message.scope old.scope c)) (n + q + 1))
-          → HasGathered plus shape k None (neighbours tree k) (λ t. 1) 0 0 new p
+          → HasGathered plus shape k None (neighbours tree k) new p
       put_back old new message g right scope shift full numbers = record {
-        cells = times_right i k l (gathered plus tree p k (Some i) (neighbours tree k) (λ t. 1)) (gathered plus tree p k None (neighbours tree k) (λ t. 1))
-            (gathered_steps tree p k (Some i) (neighbours tree k) 0) (gathered_steps tree p k None (neighbours tree k) 0) (gathered_factors tree p k (Some i) (neighbours tree k) 0) (gathered_factors tree p k None (neighbours tree k) 0)
+        cells = times_right i k l (gathered plus tree p k (Some i) (neighbours tree k)) (gathered plus tree p k None (neighbours tree k))
+            (gathered_steps tree p k (Some i) (neighbours tree k)) (gathered_steps tree p k None (neighbours tree k)) (gathered_factors tree p k (Some i) (neighbours tree k)) (gathered_factors tree p k None (neighbours tree k))
             old new message g.cells right scope shift full numbers product_back
             (let s = sum_back (λ j. 3 * exact_message_grade tree p j k + 1) in omega (arith, s))
             (let s = sum_back (λ j. exact_message_grade tree p j k) in omega (arith, s));
@@ -412,7 +403,7 @@ module _ (shape : ShapeOf) (p : Placing) (is : IsShapeFor shape p.network) (plac
           ∙ over-times plus law size (private a) vars times (placed_there p a) s times_blind ∙ mul_comm (times s) (core_there plus tree p a s)))
 
       abbrev sent : (ℕ → ℕ) → ℕ
-      sent = gathered plus tree p a (Some b) (neighbours tree a) (core_there plus tree p a)
+      sent t = core_there plus tree p a t * gathered plus tree p a (Some b) (neighbours tree a) t
 
       margin : (d : ℕ) → d < cells_in (scope_within p.network (shared a b))
           → plus_over plus 0 (λ c. sent (values_at (scope_within p.network (in_core tree a)) c)) (cells_onto (scope_within p.network (shared a b)) (scope_within p.network (in_core tree a)) d)
@@ -508,12 +499,12 @@ module _ (shape : ShapeOf) (p : Placing) (is : IsShapeFor shape p.network) (plac
         pub message_of_both : 1 < length (neighbours tree a) → IsMarginOfProduct plus core product before after → IsRightIn plus shape p a b after
         message_of_both more m =
             let g = out.others more in
-            let others : (ℕ → ℕ) → ℕ = gathered plus tree p a (Some b) (neighbours tree a) (λ t. 1) in
+            let others : (ℕ → ℕ) → ℕ = gathered plus tree p a (Some b) (neighbours tree a) in
             right_of core before after (λ d. plus_over plus 0 (λ c. core_there plus tree p a (values_at core.scope c) * others (values_at product.scope (cell_in product.scope core.scope c))) (cells_onto before.scope core.scope d))
-            (core_steps tree p a + gathered_steps tree p a (Some b) (neighbours tree a) 0 + (2 * cells_beside before.scope core.scope + 1))
+            (core_steps tree p a + gathered_steps tree p a (Some b) (neighbours tree a) + (2 * cells_beside before.scope core.scope + 1))
             out.sums.scope_is e m.scope m.full
-            (m.numbers (λ c. core_there plus tree p a (values_at core.scope c)) (λ c. others (values_at product.scope c)) (core_steps tree p a) (gathered_steps tree p a (Some b) (neighbours tree a) 0) out.sums.numbers g.cells.numbers)
-            (λ d. product_there d others (g.cells.scope_is ∙ sym out.sums.scope_is) (λ t. ap (λ n. core_there plus tree p a t * n) (one-mul _)))
+            (m.numbers (λ c. core_there plus tree p a (values_at core.scope c)) (λ c. others (values_at product.scope c)) (core_steps tree p a) (gathered_steps tree p a (Some b) (neighbours tree a)) out.sums.numbers g.cells.numbers)
+            (λ d. product_there d others (g.cells.scope_is ∙ sym out.sums.scope_is) (λ t. refl))
             (let l = sums_cost m.beside in let s = others_steps shape p is placing a b h sender back (are_ends a b h).1 more in omega (arith, l, s))
             (let f = message_factors shape p is placing a b h sender in let s = out.sums.small_shift in let t = g.cells.small_shift in omega (arith, f, s, t, m.shift))
 
@@ -522,4 +513,4 @@ module _ (shape : ShapeOf) (p : Placing) (is : IsShapeFor shape p.network) (plac
         core_room_there = core_room a sender core out.sums
 
         pub product_room_there : 1 < length (neighbours tree a) → HasRoom product 1
-        product_room_there more = whole_room a sender (Some b) (λ t. 1) 0 0 (omega arith) (omega arith) product (out.others more)
+        product_room_there more = whole_room a sender (Some b) product (out.others more)

@@ -10,7 +10,7 @@ use Rattle.mk_table.specs.Tables.{TableOf, HasNumbers, HasRoom}
 use Rattle.mk_tree.specs.Given.{link_of}
 use Rattle.mk_propagate.specs.Shapes.{ShapeOf, IsClique, clique_scope, core_scope, separator_scope, separator_between, neighbours}
 use Rattle.mk_propagate.specs.Placings.{Placing}
-use Rattle.mk_propagate.specs.inner.Gathered.{is_taken, message_in, IsRightIn, CanTake, CanBegin, Begins, HasCore, HasGathered, HasInto, IsGathering, IsMargin}
+use Rattle.mk_propagate.specs.inner.Gathered.{is_taken, message_in, IsRightIn, CanTake, HasCore, HasGathered, HasInto, IsGathering, IsMargin}
 use Rattle.mk_propagate.proofs.Messages.{core_sums, whole_room, put_back, back_room}
 
 -- the shape has its places in what is gathered so far
@@ -32,18 +32,11 @@ module _ (plus : ℕ → ℕ → ℕ) (law : Lawful plus) (shape : ShapeOf) (k :
   }
 
   module _ (upward downward : List TableOf) where
-    module _ (ones : TableOf) (scope : ones.scope ≡ core_scope shape k) (shift : ones.shift ≡ 0) (numbers : HasNumbers ones (λ c. 1) 0) (receiver : Option ℕ) where
-      blank : (p : Placing) → Begins shape k p (λ a. 1) 0 0 ones
-      blank p = record { cells = record { scope_is = scope; numbers = numbers; small_shift = omega (arith, shift) }; few_steps = omega arith; few_factors = omega arith }
-
-      pub can_begin_into : (p : Placing) → CanTake plus shape upward downward k receiver p → CanBegin plus shape upward downward k receiver ones
-      can_begin_into p can = record { placing = p; takes = can; first = λ a. 1; steps = 0; factors = 0; begins = blank p }
-
-      pub into_of : (product : TableOf) → IsGathering plus shape upward downward k receiver (length (neighbours shape.tree k)) ones product → HasInto plus shape upward downward k receiver product
-      into_of product h = record {
-        into = λ p can.
-            subst (λ (xs : List ℕ). HasGathered plus shape k receiver xs (λ a. 1) 0 0 product p) (take-length (neighbours shape.tree k)) (h.has p (λ a. 1) 0 0 can (blank p));
-      }
+    -- after the last neighbour
+    pub into_of : (receiver : Option ℕ) (product : TableOf) → IsGathering plus shape upward downward k receiver (length (neighbours shape.tree k)) product → HasInto plus shape upward downward k receiver product
+    into_of receiver product h = record {
+      into = λ p can. subst (λ (xs : List ℕ). HasGathered plus shape k receiver xs product p) (take-length (neighbours shape.tree k)) (h.has p can);
+    }
 
     -- the message that a product leaves out is put back
     module _ (i : ℕ) (l : linked (link_of shape.tree) (length shape.tree.cliques) i k ≡ true) (old message : TableOf) (h : HasInto plus shape upward downward k (Some i) old) (same : message ≡ message_in upward downward i k) where
@@ -61,7 +54,7 @@ module _ (plus : ℕ → ℕ → ℕ) (law : Lawful plus) (shape : ShapeOf) (k :
       left_out_room p can = back_room shape p can.shape_is can.placing plus law k clique i l message (left_out p can)
 
       pub room_for_it : (p : Placing) → CanTake plus shape upward downward k None p → HasRoom old 1
-      room_for_it p can = whole_room shape p can.shape_is can.placing plus law k clique (Some i) (λ a. 1) 0 0 (omega arith) (omega arith) old (h.into p (all_but p can))
+      room_for_it p can = whole_room shape p can.shape_is can.placing plus law k clique (Some i) old (h.into p (all_but p can))
 
       pub scope_before : (p : Placing) → CanTake plus shape upward downward k None p → old.scope ≡ core_scope shape k
       scope_before p can = (h.into p (all_but p can)).cells.scope_is

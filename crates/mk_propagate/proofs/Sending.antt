@@ -199,9 +199,9 @@ module _ (plus : ℕ → ℕ → ℕ) (old : FlowOf) (cores products : List Tabl
   here : HasCore plus old.shape a (table_at old a) core
   here = core_moved plus a core shape old.shape table (table_at old a) s (sym (table_is old cores products cells kept a (sender old p has a b linked_too) table t)) c
 
-  others : 1 < length (neighbours old.shape.tree a) → HasGathered plus old.shape a (Some b) (neighbours old.shape.tree a) (λ t. 1) 0 0 product p
+  others : 1 < length (neighbours old.shape.tree a) → HasGathered plus old.shape a (Some b) (neighbours old.shape.tree a) product p
   others more =
-      subst (λ (x : ShapeOf). HasGathered plus x a (Some b) (neighbours x.tree a) (λ t. 1) 0 0 product p) s
+      subst (λ (x : ShapeOf). HasGathered plus x a (Some b) (neighbours x.tree a) product p) s
       ((o (subst (λ (x : ShapeOf). 1 < length (neighbours x.tree a)) (sym s) more)).into p (can_take plus old p a (Some b) has right shape upward downward s u d))
 
   pub outgoing : (there : ShapeOf) → there ≡ old.shape → (core_read product_read : TableOf) → core_read ≡ core → product_read ≡ product → HasOutgoing plus there a b core_read product_read p

@@ -7,7 +7,7 @@ ghost use Rattle.mk_propagate.specs.declared.gathered.Gathered.TheVariants.{Ever
 ghost use Rattle.mk_propagate.specs.Shapes.{IsClique, are_linked, clique_scope, core_scope, separator_between, neighbours};
 ghost use Rattle.mk_propagate.specs.Placings.{Placing};
 ghost use Rattle.mk_propagate.specs.Flows.{HasPlaced, AreRightBut, IsRight, CanSend, KeepsTables, message_at, counted_on};
-ghost use Rattle.mk_propagate.specs.inner.Gathered.{is_taken, message_in, IsRightIn, AreMessages, CanTake, CanBegin, HasCore, HasInto, HasMarked, HasOutgoing, IsGathering, IsMargin, IsMarginOfProduct};
+ghost use Rattle.mk_propagate.specs.inner.Gathered.{is_taken, message_in, IsRightIn, AreMessages, CanTake, HasCore, HasInto, HasMarked, HasOutgoing, IsMargin, IsMarginOfProduct};
 
 use crate::flow::Flow;
 use crate::gathered::Gathered;
@@ -172,7 +172,6 @@ fn gather_others<R: Semiring>(
     if gathered.leaves_out(receiver) {
         return;
     }
-    product.clear();
     gather(product, shape, upward, downward, clique, Some(receiver));
     *gathered = Gathered::AllBut(receiver);
 }
@@ -201,7 +200,6 @@ pub(crate) fn refresh<R: Semiring>(
             put_back(product, shape, upward, downward, clique, missing);
         }
         Gathered::Nothing => {
-            product.clear();
             gather(product, shape, upward, downward, clique, None);
         }
     }
@@ -233,7 +231,7 @@ fn put_back<R: Semiring>(
     let _ = product.cells();
 }
 
-/// Multiplies a table over the core of a clique by the messages of its neighbours, but for a receiver's.
+/// Makes the product of the messages of a clique's neighbours, but for a receiver's, over its core.
 fn gather<R: Semiring>(
     product: &mut Table<R>,
     shape: &Shape,
@@ -243,12 +241,13 @@ fn gather<R: Semiring>(
     receiver: Option<u32>,
 )
     requires clique { IsClique shape.now.tree clique }
+    requires scope { product.old.scope ≡ core_scope shape.now clique }
     requires messages { AreMessages shape.now upward.now downward.now }
-    requires right { CanBegin R.plus_of shape.now upward.now downward.now clique receiver product.old }
-    ensures { IsGathering R.plus_of shape.now upward.now downward.now clique receiver (length (neighbours shape.now.tree clique)) product.old product.new }
+    requires right { (p : Placing) × CanTake R.plus_of shape.now upward.now downward.now clique receiver p }
+    ensures scope { product.new.scope ≡ product.old.scope }
+    ensures into { HasInto R.plus_of shape.now upward.now downward.now clique receiver product.new }
 {
-    // As in `margin`.
-    let _ = product.cells();
+    product.clear();
     for neighbour in shape.neighbours(clique) {
         if is_taken(receiver, *neighbour) {
             product.times_message(

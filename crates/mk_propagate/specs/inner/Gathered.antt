@@ -67,51 +67,31 @@ pub record HasCore (plus : ℕ → ℕ → ℕ) (shape : ShapeOf) (k : ℕ) (tab
 
 -- ---- a product of messages over a core
 
--- it begins with a table over the core, of no more steps and factors than are placed in the clique and summed there
-pub record Begins (shape : ShapeOf) (k : ℕ) (p : Placing) (first : (ℕ → ℕ) → ℕ) (steps factors : ℕ) (t : TableOf) : Type 0 where
-  pub cells : HasCells t (core_scope shape k) first steps factors
-  pub few_steps : steps ≤ factors_in p k + 2 * clique_cells p.network shape.tree k
-  pub few_factors : factors ≤ factors_in p k
-
--- what it begins with, times the messages of those listed that are taken
-abbrev pub gathered : (ℕ → ℕ → ℕ) → GivenTree → Placing → ℕ → Option ℕ → List ℕ → ((ℕ → ℕ) → ℕ) → (ℕ → ℕ) → ℕ
-gathered plus tree p k receiver listed first a =
-    first a * product_by (λ i. if is_taken receiver i then exact_message plus tree p i k a else 1) listed
+-- that of the messages of those listed that are taken
+abbrev pub gathered : (ℕ → ℕ → ℕ) → GivenTree → Placing → ℕ → Option ℕ → List ℕ → (ℕ → ℕ) → ℕ
+gathered plus tree p k receiver listed a = product_by (λ i. if is_taken receiver i then exact_message plus tree p i k a else 1) listed
 
 -- the steps that this costs: for each message its own and one more
-abbrev pub gathered_steps : GivenTree → Placing → ℕ → Option ℕ → List ℕ → ℕ → ℕ
-gathered_steps tree p k receiver listed steps =
-    steps + sum_by (λ i. if is_taken receiver i then 3 * exact_message_grade tree p i k + 1 else 0) listed
+abbrev pub gathered_steps : GivenTree → Placing → ℕ → Option ℕ → List ℕ → ℕ
+gathered_steps tree p k receiver listed = sum_by (λ i. if is_taken receiver i then 3 * exact_message_grade tree p i k + 1 else 0) listed
 
 -- the number of factors in it, at most
-abbrev pub gathered_factors : GivenTree → Placing → ℕ → Option ℕ → List ℕ → ℕ → ℕ
-gathered_factors tree p k receiver listed factors =
-    factors + sum_by (λ i. if is_taken receiver i then exact_message_grade tree p i k else 0) listed
+abbrev pub gathered_factors : GivenTree → Placing → ℕ → Option ℕ → List ℕ → ℕ
+gathered_factors tree p k receiver listed = sum_by (λ i. if is_taken receiver i then exact_message_grade tree p i k else 0) listed
 
 -- a table has it
-pub record HasGathered (plus : ℕ → ℕ → ℕ) (shape : ShapeOf) (k : ℕ) (receiver : Option ℕ) (listed : List ℕ) (first : (ℕ → ℕ) → ℕ) (steps factors : ℕ) (table : TableOf) (p : Placing) : Type 0 where
-  pub cells : HasCells table (core_scope shape k) (gathered plus shape.tree p k receiver listed first)
-      (gathered_steps shape.tree p k receiver listed steps) (gathered_factors shape.tree p k receiver listed factors)
+pub record HasGathered (plus : ℕ → ℕ → ℕ) (shape : ShapeOf) (k : ℕ) (receiver : Option ℕ) (listed : List ℕ) (table : TableOf) (p : Placing) : Type 0 where
+  pub cells : HasCells table (core_scope shape k) (gathered plus shape.tree p k receiver listed) (gathered_steps shape.tree p k receiver listed) (gathered_factors shape.tree p k receiver listed)
   pub full : length table.digits ≡ cells_in table.scope
 
--- a table has it for the first so many neighbours, whatever the table before began with
-pub record IsGathering (plus : ℕ → ℕ → ℕ) (shape : ShapeOf) (upward downward : List TableOf) (k : ℕ) (receiver : Option ℕ) (passed : ℕ) (before t : TableOf) : Type 0 where
-  pub scope : t.scope ≡ before.scope
-  pub has : (p : Placing) (first : (ℕ → ℕ) → ℕ) (steps factors : ℕ) → CanTake plus shape upward downward k receiver p → Begins shape k p first steps factors before
-      → HasGathered plus shape k receiver (take passed (neighbours shape.tree k)) first steps factors t p
-
--- a table from which messages can be taken
-pub record CanBegin (plus : ℕ → ℕ → ℕ) (shape : ShapeOf) (upward downward : List TableOf) (k : ℕ) (receiver : Option ℕ) (t : TableOf) : Type 0 where
-  pub placing : Placing
-  pub takes : CanTake plus shape upward downward k receiver placing
-  pub first : (ℕ → ℕ) → ℕ
-  pub steps : ℕ
-  pub factors : ℕ
-  pub begins : Begins shape k placing first steps factors t
+-- a table has it for the first so many neighbours
+pub record IsGathering (plus : ℕ → ℕ → ℕ) (shape : ShapeOf) (upward downward : List TableOf) (k : ℕ) (receiver : Option ℕ) (passed : ℕ) (t : TableOf) : Type 0 where
+  pub scope : t.scope ≡ core_scope shape k
+  pub has : (p : Placing) → CanTake plus shape upward downward k receiver p → HasGathered plus shape k receiver (take passed (neighbours shape.tree k)) t p
 
 -- a table has the messages of all neighbours, or of all but a receiver
 pub record HasInto (plus : ℕ → ℕ → ℕ) (shape : ShapeOf) (upward downward : List TableOf) (k : ℕ) (receiver : Option ℕ) (t : TableOf) : Type 0 where
-  pub into : (p : Placing) → CanTake plus shape upward downward k receiver p → HasGathered plus shape k receiver (neighbours shape.tree k) (λ a. 1) 0 0 t p
+  pub into : (p : Placing) → CanTake plus shape upward downward k receiver p → HasGathered plus shape k receiver (neighbours shape.tree k) t p
 
 -- it has those that a mark tells of
 abbrev pub HasMarked : (ℕ → ℕ → ℕ) → ShapeOf → List TableOf → List TableOf → ℕ → Gathered → TableOf → Type 0
@@ -137,7 +117,7 @@ pub record HasOutgoing (plus : ℕ → ℕ → ℕ) (shape : ShapeOf) (a b : ℕ
   pub placing : IsPlacing shape.tree p
   pub split : cells_in (core_scope shape a) * cells_beside (core_scope shape a) (clique_scope shape a) ≡ cells_in (clique_scope shape a)
   pub sums : HasCells core (core_scope shape a) (core_there plus shape.tree p a) (core_steps shape.tree p a) (factors_in p a)
-  pub others : 1 < length (neighbours shape.tree a) → HasGathered plus shape a (Some b) (neighbours shape.tree a) (λ t. 1) 0 0 product p
+  pub others : 1 < length (neighbours shape.tree a) → HasGathered plus shape a (Some b) (neighbours shape.tree a) product p
 
 -- a table that was over some of the variables of another has in each cell the plus of the other's cells with its values
 pub record IsMargin (plus : ℕ → ℕ → ℕ) (whole before after : TableOf) : Type 0 where

@@ -12,7 +12,7 @@ use Rattle.mk_propagate.specs.Placings.{Placing}
 use Rattle.mk_propagate.specs.inner.Gathered.{is_taken, message_in, CanTake, IsGathering, IsRightIn}
 use Rattle.mk_propagate.proofs.Cores.{neighbour_linked}
 use Rattle.mk_propagate.proofs.Messages.{are_ends, begins, passed_by, taken_too, taken_room, message_room}
-use Rattle.mk_propagate.proofs.Prepared.{places_there}
+use Rattle.mk_propagate.proofs.Prepared.{places_there, into_of}
 use Rattle.mk_propagate.proofs.message.gather.Goals as goal
 use Rattle.mk_propagate.proofs.message.gather.Goals.{then-is_taken, else-is_taken}
 
@@ -29,29 +29,30 @@ linked_there shape k j i at = neighbour_linked shape.tree k j i at.within at.is
 
 pub loop-neighbour-init : goal.loop-neighbour-init
 loop-neighbour-init g c = record {
-  scope = refl;
-  has = λ p first steps factors can begin.
-      begins c.args.shape.now p can.shape_is can.placing g.R.Semiring.plus_of g.met.R.Semiring.lawful c.args.clique c.requires.clique c.args.receiver first steps factors c.args.product.now begin.cells c.cells.ensures.full;
+  scope = c.clear.ensures.scope ∙ c.requires.scope;
+  has = λ p can.
+      begins c.args.shape.now p can.shape_is can.placing g.R.Semiring.plus_of g.met.R.Semiring.lawful c.args.clique c.requires.clique c.args.receiver c.clear.new.self (c.clear.ensures.scope ∙ c.requires.scope)
+      c.clear.ensures.shift c.clear.ensures.ones c.clear.ensures.full;
 }
 
 pub message_of-requires-clause-first : goal.message_of-requires-clause-first
 message_of-requires-clause-first g c =
-    let shape = c.args.shape.now in let k = c.args.clique in let h = c.requires.right.takes in
+    let shape = c.args.shape.now in let k = c.args.clique in let h = c.requires.right.1 in
     let at = at_place shape k c.loop-neighbour.neighbour-index c.neighbours-neighbour-items.result.now c.neighbours-neighbour-items.ensures c.loop-neighbour-test.true in
-    (are_ends shape c.requires.right.placing h.shape_is h.placing _ k (linked_there shape k _ _ at)).0.first
+    (are_ends shape c.requires.right.0 h.shape_is h.placing _ k (linked_there shape k _ _ at)).0.first
 
 pub message_of-requires-clause-last : goal.message_of-requires-clause-last
 message_of-requires-clause-last g c =
-    let shape = c.args.shape.now in let k = c.args.clique in let h = c.requires.right.takes in
+    let shape = c.args.shape.now in let k = c.args.clique in let h = c.requires.right.1 in
     let at = at_place shape k c.loop-neighbour.neighbour-index c.neighbours-neighbour-items.result.now c.neighbours-neighbour-items.ensures c.loop-neighbour-test.true in
-    let l = (are_ends shape c.requires.right.placing h.shape_is h.placing _ k (linked_there shape k _ _ at)).0.last in
+    let l = (are_ends shape c.requires.right.0 h.shape_is h.placing _ k (linked_there shape k _ _ at)).0.last in
     omega (arith, l, c.requires.messages.one_less_up)
 
 pub message_of-requires-clause-apart : goal.message_of-requires-clause-apart
 message_of-requires-clause-apart g c =
-    let shape = c.args.shape.now in let k = c.args.clique in let h = c.requires.right.takes in
+    let shape = c.args.shape.now in let k = c.args.clique in let h = c.requires.right.1 in
     let at = at_place shape k c.loop-neighbour.neighbour-index c.neighbours-neighbour-items.result.now c.neighbours-neighbour-items.ensures c.loop-neighbour-test.true in
-    (are_ends shape c.requires.right.placing h.shape_is h.placing _ k (linked_there shape k _ _ at)).2
+    (are_ends shape c.requires.right.0 h.shape_is h.placing _ k (linked_there shape k _ _ at)).2
 
 -- the message that is taken is right
 right_there : (plus : ℕ → ℕ → ℕ) (shape : ShapeOf) (upward downward : List TableOf) (k j i : ℕ) (receiver : Option ℕ) (p : Placing) (taken : Bool) (message : TableOf)
@@ -69,45 +70,45 @@ places-requires g c =
 
 pub times_message-requires-clause-places : goal.times_message-requires-clause-places
 times_message-requires-clause-places g c =
-    let plus = g.R.Semiring.plus_of in let shape = c.args.shape.now in let k = c.args.clique in let can = c.requires.right in
+    let plus = g.R.Semiring.plus_of in let shape = c.args.shape.now in let k = c.args.clique in let p = c.requires.right.0 in let can = c.requires.right.1 in
     let j = c.loop-neighbour.neighbour-index in let items = c.neighbours-neighbour-items.result.now in
     let at = at_place shape k j items c.neighbours-neighbour-items.ensures c.loop-neighbour-test.true in
-    let right = right_there plus shape c.args.upward.now c.args.downward.now k j (slice_index_or items j 0) c.args.receiver can.placing c.is_taken.result c.message_of.result.now can.takes at c.is_taken.ensures c.if-is_taken.true c.message_of.ensures in
-    places_there plus shape k (slice_index_or items j 0) can.placing c.loop-neighbour.product c.message_of.result.now (c.loop-neighbour.invariant.scope ∙ can.begins.cells.scope_is) right c.places.result.now c.places.ensures
+    let right = right_there plus shape c.args.upward.now c.args.downward.now k j (slice_index_or items j 0) c.args.receiver p c.is_taken.result c.message_of.result.now can at c.is_taken.ensures c.if-is_taken.true c.message_of.ensures in
+    places_there plus shape k (slice_index_or items j 0) p c.loop-neighbour.product c.message_of.result.now c.loop-neighbour.invariant.scope right c.places.result.now c.places.ensures
 
 pub times_message-requires-clause-room : goal.times_message-requires-clause-room
 times_message-requires-clause-room g c =
-    let plus = g.R.Semiring.plus_of in let shape = c.args.shape.now in let k = c.args.clique in let can = c.requires.right in let p = can.placing in
-    taken_room shape p can.takes.shape_is can.takes.placing plus g.met.R.Semiring.lawful k c.requires.clique c.args.receiver can.first can.steps can.factors can.begins.few_steps can.begins.few_factors
-    c.loop-neighbour.neighbour-index c.loop-neighbour.product (c.loop-neighbour.invariant.has p can.first can.steps can.factors can.takes can.begins)
+    let plus = g.R.Semiring.plus_of in let shape = c.args.shape.now in let k = c.args.clique in let p = c.requires.right.0 in let can = c.requires.right.1 in
+    taken_room shape p can.shape_is can.placing plus g.met.R.Semiring.lawful k c.requires.clique c.args.receiver
+    c.loop-neighbour.neighbour-index c.loop-neighbour.product (c.loop-neighbour.invariant.has p can)
 
 pub times_message-requires-clause-message_room : goal.times_message-requires-clause-message_room
 times_message-requires-clause-message_room g c =
-    let plus = g.R.Semiring.plus_of in let shape = c.args.shape.now in let k = c.args.clique in let can = c.requires.right in let p = can.placing in
+    let plus = g.R.Semiring.plus_of in let shape = c.args.shape.now in let k = c.args.clique in let p = c.requires.right.0 in let can = c.requires.right.1 in
     let j = c.loop-neighbour.neighbour-index in let items = c.neighbours-neighbour-items.result.now in
     let at = at_place shape k j items c.neighbours-neighbour-items.ensures c.loop-neighbour-test.true in
-    let right = right_there plus shape c.args.upward.now c.args.downward.now k j (slice_index_or items j 0) c.args.receiver p c.is_taken.result c.message_of.result.now can.takes at c.is_taken.ensures c.if-is_taken.true c.message_of.ensures in
-    message_room shape p can.takes.shape_is can.takes.placing plus g.met.R.Semiring.lawful k c.requires.clique c.args.receiver can.first can.steps can.factors j (slice_index_or items j 0) at.within at.is c.message_of.result.now (sym c.is_taken.ensures ∙ c.if-is_taken.true) right
+    let right = right_there plus shape c.args.upward.now c.args.downward.now k j (slice_index_or items j 0) c.args.receiver p c.is_taken.result c.message_of.result.now can at c.is_taken.ensures c.if-is_taken.true c.message_of.ensures in
+    message_room shape p can.shape_is can.placing plus g.met.R.Semiring.lawful k c.requires.clique c.args.receiver j (slice_index_or items j 0) at.within at.is c.message_of.result.now (sym c.is_taken.ensures ∙ c.if-is_taken.true) right
 
 -- one neighbour more, whose message is taken, or is not
 module _ (plus : ℕ → ℕ → ℕ) (law : Lawful plus) (shape : ShapeOf) (upward downward : List TableOf) (k j i : ℕ) (clique : IsClique shape.tree k) (receiver : Option ℕ) (at : IsAt shape k j i) (taken : Bool)
-    (is : taken ≡ is_taken receiver i) (begun : TableOf) where
-  taken_step : (old new message : TableOf) → taken ≡ true → message ≡ message_in upward downward i k → IsGathering plus shape upward downward k receiver j begun old
+    (is : taken ≡ is_taken receiver i) where
+  taken_step : (old new message : TableOf) → taken ≡ true → message ≡ message_in upward downward i k → IsGathering plus shape upward downward k receiver j old
       → new.scope ≡ old.scope → new.shift ≡ old.shift + message.shift → length new.digits ≡ cells_in new.scope
       → ((f g : ℕ → ℕ) (n q : ℕ) → HasNumbers old f n → HasNumbers message g q → HasNumbers new (λ c. f c * g (cell_in message.scope old.scope c)) (n + q + 1))
-      → IsGathering plus shape upward downward k receiver (j + 1) begun new
+      → IsGathering plus shape upward downward k receiver (j + 1) new
   taken_step old new message took same h scope shift full numbers = record {
     scope = scope ∙ h.scope;
-    has = λ p first steps factors can begin.
-        taken_too shape p can.shape_is can.placing plus law k clique receiver first steps factors j i at.within at.is old new message (sym is ∙ took) (h.has p first steps factors can begin)
+    has = λ p can.
+        taken_too shape p can.shape_is can.placing plus law k clique receiver j i at.within at.is old new message (sym is ∙ took) (h.has p can)
         (right_there plus shape upward downward k j i receiver p taken message can at is took same) scope shift full numbers;
   }
 
-  passed_step : (old new : TableOf) → taken ≡ false → IsGathering plus shape upward downward k receiver j begun old → new ≡ old → IsGathering plus shape upward downward k receiver (j + 1) begun new
-  passed_step old new not_taken h e = subst (IsGathering plus shape upward downward k receiver (j + 1) begun) (sym e) (record {
+  passed_step : (old new : TableOf) → taken ≡ false → IsGathering plus shape upward downward k receiver j old → new ≡ old → IsGathering plus shape upward downward k receiver (j + 1) new
+  passed_step old new not_taken h e = subst (IsGathering plus shape upward downward k receiver (j + 1)) (sym e) (record {
     scope = h.scope;
-    has = λ p first steps factors can begin.
-        passed_by shape p can.shape_is can.placing plus law k clique receiver first steps factors j i at.within at.is old (sym is ∙ not_taken) (h.has p first steps factors can begin);
+    has = λ p can.
+        passed_by shape p can.shape_is can.placing plus law k clique receiver j i at.within at.is old (sym is ∙ not_taken) (h.has p can);
   })
 
 pub loop-neighbour-preserved : goal.loop-neighbour-preserved
@@ -118,18 +119,22 @@ loop-neighbour-preserved g c =
     let at = at_place shape k j items c.neighbours-neighbour-items.ensures c.loop-neighbour-test.true in
     elim c.if-is_taken.branch [
       | then-is_taken w ↦
-          subst (IsGathering plus shape upward downward k receiver (j + 1) c.args.product.now) (sym w.product-is)
-          (taken_step plus law shape upward downward k j (slice_index_or items j 0) c.requires.clique receiver at c.is_taken.result c.is_taken.ensures c.args.product.now c.loop-neighbour.product w.times_message.new.self w.message_of.result.now
-          w.if-is_taken.true w.message_of.ensures c.loop-neighbour.invariant w.times_message.ensures.scope w.times_message.ensures.shift w.cells-then-is_taken.ensures.full w.times_message.ensures.numbers)
+          subst (IsGathering plus shape upward downward k receiver (j + 1)) (sym w.product-is)
+          (taken_step plus law shape upward downward k j (slice_index_or items j 0) c.requires.clique receiver at c.is_taken.result c.is_taken.ensures c.loop-neighbour.product w.times_message.new.self w.message_of.result.now
+          w.if-is_taken.true w.message_of.ensures c.loop-neighbour.invariant w.times_message.ensures.scope w.times_message.ensures.shift w.cells.ensures.full w.times_message.ensures.numbers)
       | else-is_taken w ↦
-          passed_step plus law shape upward downward k j (slice_index_or items j 0) c.requires.clique receiver at c.is_taken.result c.is_taken.ensures c.args.product.now c.loop-neighbour.product c.if-is_taken.product
+          passed_step plus law shape upward downward k j (slice_index_or items j 0) c.requires.clique receiver at c.is_taken.result c.is_taken.ensures c.loop-neighbour.product c.if-is_taken.product
           w.if-is_taken.false c.loop-neighbour.invariant w.product-is
     ]
 
 -- after the last neighbour
-pub returns : goal.returns
-returns g c =
-    let shape = c.args.shape.now in let k = c.args.clique in let j = c.loop-neighbour.neighbour-index in
+pub returns-clause-scope : goal.returns-clause-scope
+returns-clause-scope g c = c.loop-neighbour.invariant.scope ∙ sym c.requires.scope
+
+pub returns-clause-into : goal.returns-clause-into
+returns-clause-into g c =
+    let plus = g.R.Semiring.plus_of in let shape = c.args.shape.now in let k = c.args.clique in let j = c.loop-neighbour.neighbour-index in
     let long : j ≡ length (neighbours shape.tree k) =
     let e = ap (λ (xs : List ℕ). length xs) c.neighbours-neighbour-items.ensures in omega (arith, e, c.loop-neighbour-test.false, c.loop-neighbour.auto.neighbour-index-end) in
-    subst (λ n. IsGathering g.R.Semiring.plus_of shape c.args.upward.now c.args.downward.now k c.args.receiver n c.args.product.now c.loop-neighbour.product) long c.loop-neighbour.invariant
+    into_of plus g.met.R.Semiring.lawful shape k c.requires.clique c.args.upward.now c.args.downward.now c.args.receiver c.loop-neighbour.product
+    (subst (λ n. IsGathering plus shape c.args.upward.now c.args.downward.now k c.args.receiver n c.loop-neighbour.product) long c.loop-neighbour.invariant)
