@@ -6,10 +6,9 @@ use crate::users::Users;
 use mk_cash::Ledger;
 use mk_engine::Engine;
 use mk_file::MarketFile;
-use mk_net::{Network, NoMemory};
+use mk_net::NoMemory;
 use mk_reply::Payments;
 use mk_semiring::{MinProd, SumProd};
-use mk_tree::Tree;
 use std::alloc::Global;
 
 impl<P: Engine<SumProd>, A: Engine<MinProd>> Market<P, A> {
@@ -25,15 +24,32 @@ impl<P: Engine<SumProd>, A: Engine<MinProd>> Market<P, A> {
         requires assets { A.suits file.net file.tree }
         ensures { IfOk result (λ market. market ≡ record { market = market_of file; standing = opening }) }
     {
-        let prices = weighed::<P>(alloc, &file.net, &file.tree)?;
-        let plan = A::plan(alloc, &file.net, &file.tree)?;
+        let prices = P::plan(alloc, &file.net, &file.tree)?;
+        let assets = A::plan(alloc, &file.net, &file.tree)?;
+        Self::with_plans(alloc, file, &prices, assets)
+    }
+
+    /// The same over plans that are there: that of the engine of all weights, and that from which users' engines start. Where both
+    /// engines have one kind of plan, one is enough.
+    pub fn with_plans(
+        alloc: Global,
+        file: MarketFile,
+        prices: &P::Plan,
+        assets: A::Plan,
+    ) -> Result<Market<P, A>, NoMemory>
+        requires tree { IsTreeOf file.net file.tree }
+        requires prices { P.plan_for prices.now file.net file.tree }
+        requires assets { A.plan_for assets file.net file.tree }
+        ensures { IfOk result (λ market. market ≡ record { market = market_of file; standing = opening }) }
+    {
+        let prices = weighed::<P>(alloc, &file, prices)?;
         let ledger = Ledger::start(alloc)?;
         let journal = Journal::start(alloc, file.max_trades)?;
         let payments = Payments::start(alloc)?;
         Ok(Market {
             file,
             prices,
-            plan,
+            plan: assets,
             users: Users::none(alloc),
             ledger,
             journal,
@@ -48,16 +64,19 @@ ghost use Rattle.mk_tree.specs.Checked.{IsTreeOf};
 ghost use Rattle.mk_beliefs.specs.Meanings.{weights_of};
 
 /// An engine with the rows of each variable, once.
-fn weighed<P: Engine<SumProd>>(alloc: Global, net: &Network, tree: &Tree) -> Result<P, NoMemory>
-    requires tree { IsTreeOf net.now tree.now }
-    requires suits { P.suits net.now tree.now }
-    ensures stands { IfOk result (λ engine. P.stands_for engine (weights_of net.now tree.now [])) }
-    ensures network { IfOk result (λ _. IsNetwork net.now) }
+fn weighed<P: Engine<SumProd>>(
+    alloc: Global,
+    file: &MarketFile,
+    plan: &P::Plan,
+) -> Result<P, NoMemory>
+    requires tree { IsTreeOf file.now.net file.now.tree }
+    requires plan { P.plan_for plan.now file.now.net file.now.tree }
+    ensures stands { IfOk result (λ engine. P.stands_for engine (weights_of file.now.net file.now.tree [])) }
+    ensures network { IfOk result (λ _. IsNetwork file.now.net) }
 {
-    let plan = P::plan(alloc, net, tree)?;
-    let mut engine = P::start(alloc, &plan)?;
-    for variable in 0..net.variables() {
-        engine.weigh(net, variable);
+    let mut engine = P::start(alloc, plan)?;
+    for variable in 0..file.net.variables() {
+        engine.weigh(&file.net, variable);
     }
     Ok(engine)
 }

@@ -11,18 +11,13 @@ ghost use Rattle.mk_session.specs.Transcript.{AreReplied};
 ghost use Rattle.mk_session.specs.Outcome.{HasCauses, CountsNone};
 ghost use Rattle.mk_session.specs.inner.Progress.{Gathers, AreGathered, IsReady, IsSoFar, IsEnded};
 
+use crate::market::TreeMarket;
 use crate::print::{LineBuffer, print_reply_line};
 use crate::waiting::{put_line, write_before_read};
 use mk_command::{Words, read_command};
 use mk_io::{Inputs, Lines, Next, Sink, SinkFailed, Status};
-use mk_market::Market;
 use mk_reply::{Refusal, Reply};
-use mk_semiring::{MinProd, SumProd};
-use mk_tree_engine::TreeEngine;
 use std::alloc::Global;
-
-/// A market whose prices and least factors come by messages along its tree.
-pub type TreeMarket = Market<TreeEngine<SumProd>, TreeEngine<MinProd>>;
 
 /// Whether a line holds no byte but spaces.
 pub(crate) fn is_blank(line: &[u8]) -> bool

@@ -10,7 +10,8 @@ ghost use Rattle.mk_rules.specs.Transcript.{opening};
 ghost use Rattle.mk_session.specs.Tally.{TallyEnds};
 ghost use Rattle.mk_session.specs.inner.Counting.{is_want, IsWithin, HasRoom, CountsLine, IsCountedSoFar, counted_as};
 
-use crate::answer::{TreeMarket, is_blank, reply_to};
+use crate::answer::{is_blank, reply_to};
+use crate::market::{TreeMarket, open};
 use crate::counts::{Tally, TallyFault};
 use mk_command::Words;
 use mk_file::{FileFault, MarketFile, read_market};
@@ -42,7 +43,7 @@ fn tally_file(alloc: Global, file: MarketFile, commands: &[u8]) -> Result<Tally,
     requires tree { IsTreeOf file.net file.tree }
     ensures { TallyEnds result (Ok (market_of file)) commands.now }
 {
-    let Ok(mut market) = TreeMarket::start(alloc, file) else {
+    let Ok(mut market) = open(alloc, file) else {
         return Err(TallyFault::Memory);
     };
     let Ok(commands) = commands.to_vec(alloc) else {

@@ -4,6 +4,7 @@
 mod answer;
 mod counting;
 mod counts;
+mod market;
 mod print;
 mod quiet;
 mod run;

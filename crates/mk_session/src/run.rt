@@ -11,7 +11,8 @@ ghost use Rattle.mk_session.specs.Outcome.{Adds, Ends, Opened, Outcome, HasCause
 ghost use Rattle.mk_session.specs.Complete.{AreWithin};
 ghost use Rattle.mk_session.specs.inner.Loading.{opened_part, IsTaken, HasLoadCause};
 
-use crate::answer::{TreeMarket, answer_lines};
+use crate::answer::answer_lines;
+use crate::market::open;
 use crate::print::{LineBuffer, print_fault_line, print_ready};
 use mk_file::{FileFault, MarketFile, read_market};
 use mk_io::{InputFailed, Inputs, Sink, Status, write_all};
@@ -101,7 +102,7 @@ fn answer_file<I: Inputs, S: Sink>(
     ensures causes { HasCauses result (I.faults inputs.old) (I.faults inputs.new) (S.faults out.old) (S.faults out.new) }
     ensures not_usage { result ≢ Status.Usage }
 {
-    let mut market = match TreeMarket::start(alloc, file) {
+    let mut market = match open(alloc, file) {
         Ok(market) => market,
         Err(_) => return Status::Memory,
     };

@@ -217,6 +217,33 @@ fn check(rt: &impl Abort, cell: Cell, n: u64, shift: u32) {
     );
 }
 
+/// The total of the middle wind of a table times a message, by a margin whose product is never made.
+fn joined_total<R: Semiring>(
+    alloc: Global,
+    weather: &Weather,
+    table: &Table<R>,
+    message: &Table<R>,
+) -> Result<Cell, NoMemory>
+    requires scope { table.now.scope ≡ of_all }
+    requires room { HasRoom table.now 24 }
+    requires message_scope { message.now.scope ≡ of_rain }
+    requires message_room { HasRoom message.now 1 }
+{
+    let mut winds = Table::<R>::ones(alloc, &weather.wind.scope)?;
+    table.margin_times_into(
+        &weather.wind.places,
+        &weather.rain.places,
+        message,
+        &mut winds,
+    );
+    Ok(winds.get(1))
+}
+
+/// Both are one cell.
+fn check_same(rt: &impl Abort, cell: Cell, other: Cell) {
+    assert_eq!(rt; (cell.digits, cell.exponent), (other.digits, other.exponent));
+}
+
 /// The total of the middle wind of a table times a message with the rows of the rain, and times one that was cleared.
 fn times_totals<R: Semiring>(
     rt: &impl Abort,
@@ -233,9 +260,13 @@ fn times_totals<R: Semiring>(
     let mut chosen = CellList::new();
     let middle = only(rt, MIDDLE);
     let before = table.total_times(&weather.rain.places, &message, &middle, &mut chosen);
+    let joined = joined_total::<R>(alloc, weather, table, &message)?;
+    check_same(rt, joined, before);
     message.clear();
     check(rt, message.get(1), 1, 0);
     let after = table.total_times(&weather.rain.places, &message, &middle, &mut chosen);
+    let joined = joined_total::<R>(alloc, weather, table, &message)?;
+    check_same(rt, joined, after);
     Ok((before, after))
 }
 

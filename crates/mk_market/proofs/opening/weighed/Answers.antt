@@ -5,7 +5,7 @@ use Rattle.mk_market.proofs.opening.weighed.Goals as goal
 
 pub weigh-requires : goal.weigh-requires
 weigh-requires g c =
-    let net = c.args.net.now in let tree = c.args.tree.now in let k = c.loop-variable.variable in
+    let net = c.args.file.now.net in let tree = c.args.file.now.tree in let k = c.loop-variable.variable in
     record {
       meaning = first_rows net tree k;
       stands = c.loop-variable.invariant;
@@ -16,13 +16,13 @@ weigh-requires g c =
 
 pub loop-variable-preserved : goal.loop-variable-preserved
 loop-variable-preserved g c =
-    let net = c.args.net.now in let tree = c.args.tree.now in let k = c.loop-variable.variable in
+    let net = c.args.file.now.net in let tree = c.args.file.now.tree in let k = c.loop-variable.variable in
     subst (λ (m : Meaning). g.P.Engine.stands_for c.weigh.new.self m) (one_more net tree k)
     (c.weigh.ensures (first_rows net tree k) c.loop-variable.invariant refl)
 
 pub returns-clause-stands : goal.returns-clause-stands
 returns-clause-stands g c =
-    let net = c.args.net.now in let tree = c.args.tree.now in
+    let net = c.args.file.now.net in let tree = c.args.file.now.tree in
     let done : c.loop-variable.variable ≡ length net =
     omega (arith, c.loop-variable-test.false, c.variables-variable-end.ensures.count, c.loop-variable.auto.variable-end) in
     subst (g.P.Engine.stands_for c.loop-variable.engine) (all_rows net tree)

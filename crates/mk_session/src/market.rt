@@ -1,0 +1,27 @@
+//! The market of a run.
+
+ghost use Rattle.std.specs.Prelude.{◌≡◌, IfOk};
+ghost use Rattle.mk_tree.specs.Checked.{IsTreeOf};
+ghost use Rattle.mk_file.specs.MarketOf.{market_of};
+ghost use Rattle.mk_rules.specs.Transcript.{opening};
+
+use mk_engine::Engine;
+use mk_file::MarketFile;
+use mk_market::Market;
+use mk_net::NoMemory;
+use mk_semiring::{MinProd, SumProd};
+use mk_tree_engine::TreeEngine;
+use std::alloc::Global;
+
+/// A market whose prices and least factors come by messages along its tree.
+pub type TreeMarket = Market<TreeEngine<SumProd>, TreeEngine<MinProd>>;
+
+/// The market of an accepted file, before any command. Its engines share one plan, since that of a long chain takes long to make.
+pub(crate) fn open(alloc: Global, file: MarketFile) -> Result<TreeMarket, NoMemory>
+    requires { IsTreeOf file.net file.tree }
+    ensures { IfOk result (λ market. market ≡ record { market = market_of file; standing = opening }) }
+{
+    let plan = TreeEngine::<SumProd>::plan(alloc, &file.net, &file.tree)?;
+    let users = plan.clone()?;
+    TreeMarket::with_plans(alloc, file, &plan, users)
+}
