@@ -146,7 +146,7 @@ fn products_of_block<R: Semiring, const N: usize>(
 }
 
 /// The plus of the products of at most `N` cells that lie so far from a base.
-#[inline]
+#[inline(always)]
 pub(crate) fn products_of_cells<R: Semiring, const N: usize>(
     digits: &[u64],
     exponents: &[u32],
@@ -187,7 +187,7 @@ pub(crate) fn products_of_cells<R: Semiring, const N: usize>(
 }
 
 /// The plus of the message's cells that have the values of at most `N` cells that lie so far from a base.
-#[inline]
+#[inline(always)]
 pub(crate) fn plus_of_others<R: Semiring, const N: usize>(
     onto: &[u16],
     other_digits: &[u64],

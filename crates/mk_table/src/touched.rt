@@ -1,7 +1,7 @@
 //! The event that ratios may have touched: no ratio touched a cell where it does not hold. Leaving a pair out is always right,
 //! since more cells count as touched then.
 
-ghost use Rattle.std.specs.Prelude.{◌≡◌, ◌⊎◌, [], ◌∷◌, ◌++◌, List, Option, Some};
+ghost use Rattle.std.specs.Prelude.{◌≡◌, ◌⊎◌, [], ◌∷◌, ◌++◌, List, Option, Some, true};
 ghost use Rattle.mk_table.specs.Scopes.{HasEvent};
 ghost use Rattle.mk_table.specs.Tables.{contradicts, contradicts_pair, is_untouched_by};
 ghost use Rattle.mk_table.specs.inner.Touched.{has_pair, IsPart, IsEither, IsBeside, IsWithin, IsEitherWithin};
@@ -26,7 +26,7 @@ pub(crate) fn take_either(touched: &mut Option<Event>, other: &Option<Event>)
 {
     if let Some(event) = other {
         match touched {
-            Some(kept) => *kept = common(kept, event.pairs()),
+            Some(kept) => keep_common(kept, event.pairs()),
             None => *touched = Some(*event),
         }
     }
@@ -53,8 +53,30 @@ pub(crate) fn put_within(touched: &Option<Event>, scope: &Scope, out: &mut Optio
     ensures { IsWithin scope.now touched.now out.new }
 {
     match touched {
-        Some(event) => *out = Some(pairs_within(event, scope)),
+        Some(event) => put_pairs(event, scope, out),
         None => *out = None,
+    }
+}
+
+/// The same for an event that there is. Nothing is written where both hold everywhere, as after a trade without a condition.
+#[inline]
+fn put_pairs(event: &Event, scope: &Scope, out: &mut Option<Event>)
+    ensures { IsWithin scope.now (Some event.now) out.new }
+{
+    if event.pairs().is_empty() && is_everywhere(out) {
+        return;
+    }
+    *out = Some(pairs_within(event, scope));
+}
+
+/// Whether there is an event that holds everywhere.
+#[inline]
+fn is_everywhere(event: &Option<Event>) -> bool
+    ensures { result ≡ true → event.now ≡ Some [] }
+{
+    match event {
+        Some(pairs) => pairs.pairs().is_empty(),
+        None => false,
     }
 }
 
@@ -82,7 +104,7 @@ fn put_with_within(event: &Event, other: &Option<Event>, scope: &Scope, out: &mu
 {
     match other {
         Some(pairs) => *out = Some(common_within(event, pairs.pairs(), scope)),
-        None => *out = Some(pairs_within(event, scope)),
+        None => put_pairs(event, scope, out),
     }
 }
 
@@ -111,14 +133,22 @@ fn has_pair(pairs: &[Pair], pair: Pair) -> bool
         .any(|p| p.variable == pair.variable && p.value == pair.value)
 }
 
+/// Leaves of an event the pairs that are some of others.
+#[inline]
+fn keep_common(event: &mut Event, others: &[Pair])
+    ensures first { IsPart event.new event.old }
+    ensures second { IsPart event.new others.now }
+{
+    if !event.pairs().is_empty() {
+        *event = common(event, others);
+    }
+}
+
 /// The pairs of an event that are some of others.
 fn common(event: &Event, others: &[Pair]) -> Event
     ensures first { IsPart result event.now }
     ensures second { IsPart result others.now }
 {
-    if event.pairs().is_empty() {
-        return *event;
-    }
     let mut shared = Event::empty();
     for pair in event.pairs() {
         if has_pair(others, *pair) {
@@ -129,7 +159,7 @@ fn common(event: &Event, others: &[Pair]) -> Event
 }
 
 /// The pairs of an event whose variables a scope has.
-// It stays out of line, since most tables keep no event.
+// It stays out of line, since few events have pairs.
 #[inline(never)]
 fn pairs_within(event: &Event, scope: &Scope) -> Event
     ensures part { IsPart result event.now }
@@ -148,7 +178,7 @@ fn pairs_within(event: &Event, scope: &Scope) -> Event
 }
 
 /// The pairs of an event that are some of others, and whose variables a scope has.
-// It stays out of line, since most tables keep no event.
+// It stays out of line, since few events have pairs.
 #[inline(never)]
 fn common_within(event: &Event, others: &[Pair], scope: &Scope) -> Event
     ensures first { IsPart result event.now }

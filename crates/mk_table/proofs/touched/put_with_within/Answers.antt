@@ -18,10 +18,10 @@ returns-in-Some c =
 
 pub returns-in-None : goal.returns-in-None
 returns-in-None c =
-    let kept = c.pairs_within.result in
-    subst (λ (o : Option (List Pair)). IsEitherWithin c.args.scope.now (Some c.args.event.now) o (Some kept)) (sym c.in-None.is)
+    let after = c.put_pairs.new.out in
+    subst (λ (o : Option (List Pair)). IsEitherWithin c.args.scope.now (Some c.args.event.now) o after) (sym c.in-None.is)
     (record {
-      of_first = λ a h. part_holds kept c.args.event.now a c.pairs_within.ensures.part h;
+      of_first = c.put_pairs.ensures.holds;
       of_second = λ a h. absurd (false≢true h);
-      there = c.pairs_within.ensures.there;
+      there = c.put_pairs.ensures.there;
     })

@@ -7,6 +7,6 @@ use Rattle.mk_table.proofs.touched.take_either.Goals as goal
 
 pub returns-in-Some-touched : goal.returns-in-Some-touched
 returns-in-Some-touched c =
-    subst (λ (o : Option (List Pair)). IsEither o c.args.other.now (Some c.common.result)) (sym c.in-Some-touched.is)
-    (subst (λ (o : Option (List Pair)). IsEither (Some c.in-Some-touched.kept) o (Some c.common.result)) (sym c.in-Some.is)
-    (shared_pairs c.in-Some-touched.kept c.in-Some.event c.common.result c.common.ensures.first (subst (λ (ps : List Pair). IsPart c.common.result ps) c.pairs.ensures.pairs c.common.ensures.second)))
+    subst (λ (o : Option (List Pair)). IsEither o c.args.other.now (Some c.keep_common.new.event)) (sym c.in-Some-touched.is)
+    (subst (λ (o : Option (List Pair)). IsEither (Some c.in-Some-touched.kept) o (Some c.keep_common.new.event)) (sym c.in-Some.is)
+    (shared_pairs c.in-Some-touched.kept c.in-Some.event c.keep_common.new.event c.keep_common.ensures.first (subst (λ (ps : List Pair). IsPart c.keep_common.new.event ps) c.pairs.ensures.pairs c.keep_common.ensures.second)))
