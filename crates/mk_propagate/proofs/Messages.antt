@@ -1,5 +1,5 @@
 -- What a clique gathers, message by message, and what it sends.
-use Rattle.std.proofs.Common.{◌≡◌, ℕ, ◌+◌, ◌-◌, ◌*◌, ◌<◌, ◌≤◌, ◌==◌, Bool, true, false, cond, not, ◌&&◌, ◌||◌, ◌⊎◌, inl, inr, List, [], take, get_or, slice_index, length, max, Option, Some, None, eqb, sum_by, refl, sym, ap, subst, ◌∙◌, arith, mul-one, one-mul, mul_assoc, mul_comm}
+use Rattle.std.proofs.Common.{◌≡◌, ℕ, ◌+◌, ◌-◌, ◌*◌, ◌<◌, ◌≤◌, ◌==◌, Bool, true, false, cond, not, ◌&&◌, ◌||◌, ◌⊎◌, inl, inr, List, [], take, get_or, slice_index, length, max, Option, Some, None, eqb, sum_by, refl, sym, ap, subst, ◌∙◌, arith, mul-one, mul_comm}
 use Rattle.std.proofs.Math.Path.{fun_ext}
 use Rattle.std.proofs.lemmas.Bool.{cases_Bool, both_ways, and_parts}
 use Rattle.std.proofs.Math.Seq.{take-length}

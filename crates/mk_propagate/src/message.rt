@@ -49,23 +49,11 @@ impl<R: Semiring> Flow<R> {
         let core = &self.cores[place];
         let product = &self.products[place];
         if to < from {
-            send(
-                core,
-                product,
-                &self.shape,
-                from,
-                to,
-                &mut self.upward[from as usize - 2],
-            );
+            let message = &mut self.upward[from as usize - 2];
+            send(core, product, &self.shape, from, to, message);
         } else {
-            send(
-                core,
-                product,
-                &self.shape,
-                from,
-                to,
-                &mut self.downward[to as usize - 2],
-            );
+            let message = &mut self.downward[to as usize - 2];
+            send(core, product, &self.shape, from, to, message);
         }
     }
 }

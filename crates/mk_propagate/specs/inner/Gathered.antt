@@ -1,6 +1,6 @@
 -- What is kept over the core of a clique: what is placed in the clique, summed there, and the product of the messages of its neighbours, or of all but one;
 -- and what the clique sends, made of both.
-use Rattle.std.specs.Prelude.{◌≡◌, ℕ, ◌+◌, ◌-◌, ◌*◌, ◌<◌, ◌≤◌, ⊤, Bool, true, false, not, ◌&&◌, ◌==◌, nat_lt, if◌then◌else◌, List, length, take, sum_by, Option, Some, None, slice_index, slice_index_or}
+use Rattle.std.specs.Prelude.{◌≡◌, ℕ, ◌+◌, ◌-◌, ◌*◌, ◌<◌, ⊤, Bool, true, false, not, ◌&&◌, ◌==◌, nat_lt, if◌then◌else◌, List, length, take, sum_by, Option, Some, None, slice_index, slice_index_or}
 use Rattle.mk_net.specs.Network.{Variable, sizes}
 use Rattle.mk_exact.specs.States.{plus_over, product_by}
 use Rattle.mk_sums.specs.Sums.{over}
@@ -12,7 +12,7 @@ use Rattle.mk_table.specs.Tables.{TableOf, HasNumbers}
 use Rattle.mk_tree.specs.Given.{GivenTree, holds, link_of}
 use Rattle.mk_propagate.specs.declared.gathered.Gathered.{Gathered}
 use Rattle.mk_propagate.specs.declared.gathered.Gathered.TheVariants.{Nothing, Everything, AllBut}
-use Rattle.mk_propagate.specs.Shapes.{ShapeOf, IsShapeFor, are_linked, clique_scope, core_scope, separator_between, scope_within, in_core, neighbours, clique_cells}
+use Rattle.mk_propagate.specs.Shapes.{ShapeOf, IsShapeFor, are_linked, clique_scope, core_scope, separator_between, scope_within, in_core, neighbours}
 use Rattle.mk_propagate.specs.Placings.{Placing, IsPlacing, placed_there, factors_in}
 use Rattle.mk_propagate.specs.Flows.{HasCells, exact_message, exact_message_grade, no_table}
 

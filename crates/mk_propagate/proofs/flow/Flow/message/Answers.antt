@@ -59,7 +59,7 @@ pub send-requires-clause-scope : goal.send-requires-clause-scope
 send-requires-clause-scope g c =
     let plus = g.R.Semiring.plus_of in let law = g.met.R.Semiring.lawful in let a = c.args.from in let b = c.args.to in
     let can = subst (λ (f : FlowOf). CanSend plus f a b) (sym c.self.view_is) c.requires in let clique = sender _ can.placing can.has a b can.linked_too in
-    separator_up _ _ _ _ c.self.invariant.kept a b (upward_child _ can.placing can.has a b can.linked_too c.if-to-from.true) c.if-to-from.true c.index_mut-then-to-from.result.now c.index_mut-then-to-from.ensures.value ∙ ap (λ (s : ShapeOf). separator_between s a b) (sym c.deref-then-to-from.ensures)
+    separator_up _ _ _ _ c.self.invariant.kept a b (upward_child _ can.placing can.has a b can.linked_too c.if-to-from.true) c.if-to-from.true c.index_mut-message.result.now c.index_mut-message.ensures.value ∙ ap (λ (s : ShapeOf). separator_between s a b) (sym c.deref-then-to-from.ensures)
 
 pub send-requires-clause-has : goal.send-requires-clause-has
 send-requires-clause-has g c =
@@ -82,7 +82,7 @@ invariant_of-self g c =
     c.deref-3.result.now c.deref-4.result.now c.deref-3.ensures.value c.deref-4.ensures.value
     c.index_mut-3.result.now c.gather_others.new.product c.index_mut-3.ensures.value c.gather_others.ensures.scope c.gather_others.new.gathered c.gather_others.ensures.marked
     c.index_mut-mark.result.now c.without.result c.index_mut-mark.ensures.value c.without.ensures
-    c.index_mut-then-to-from.result.now c.send.new.message c.send.ensures.scope c.if-to-from.true c.index_mut-then-to-from.ensures.value
+    c.index_mut-message.result.now c.send.new.message c.send.ensures.scope c.if-to-from.true c.index_mut-message.ensures.value
 
 pub returns-then-to-from-clause-right : goal.returns-then-to-from-clause-right
 returns-then-to-from-clause-right g c = λ p h r.
@@ -108,7 +108,7 @@ pub send-requires-else-to-from-clause-scope : goal.send-requires-else-to-from-cl
 send-requires-else-to-from-clause-scope g c =
     let plus = g.R.Semiring.plus_of in let law = g.met.R.Semiring.lawful in let a = c.args.from in let b = c.args.to in
     let can = subst (λ (f : FlowOf). CanSend plus f a b) (sym c.self.view_is) c.requires in let clique = sender _ can.placing can.has a b can.linked_too in
-    separator_down _ _ _ _ c.self.invariant.kept a b (downward_child _ can.placing can.has a b can.linked_too c.if-to-from.false) c.if-to-from.false c.index_mut-else-to-from.result.now c.index_mut-else-to-from.ensures.value ∙ ap (λ (s : ShapeOf). separator_between s a b) (sym c.deref-else-to-from.ensures)
+    separator_down _ _ _ _ c.self.invariant.kept a b (downward_child _ can.placing can.has a b can.linked_too c.if-to-from.false) c.if-to-from.false c.index_mut-message-else-to-from.result.now c.index_mut-message-else-to-from.ensures.value ∙ ap (λ (s : ShapeOf). separator_between s a b) (sym c.deref-else-to-from.ensures)
 
 pub send-requires-else-to-from-clause-has : goal.send-requires-else-to-from-clause-has
 send-requires-else-to-from-clause-has g c =
@@ -131,7 +131,7 @@ invariant_of-self-else-to-from g c =
     c.deref-3.result.now c.deref-4.result.now c.deref-3.ensures.value c.deref-4.ensures.value
     c.index_mut-3.result.now c.gather_others.new.product c.index_mut-3.ensures.value c.gather_others.ensures.scope c.gather_others.new.gathered c.gather_others.ensures.marked
     c.index_mut-mark.result.now c.without.result c.index_mut-mark.ensures.value c.without.ensures
-    c.index_mut-else-to-from.result.now c.send-else-to-from.new.message c.send-else-to-from.ensures.scope c.if-to-from.false c.index_mut-else-to-from.ensures.value
+    c.index_mut-message-else-to-from.result.now c.send-else-to-from.new.message c.send-else-to-from.ensures.scope c.if-to-from.false c.index_mut-message-else-to-from.ensures.value
 
 pub returns-else-to-from-clause-right : goal.returns-else-to-from-clause-right
 returns-else-to-from-clause-right g c = λ p h r.
