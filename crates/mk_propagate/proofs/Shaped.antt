@@ -1,8 +1,9 @@
 -- One clique more of what a shape keeps, and the next cliques on the ways.
-use Rattle.std.proofs.Common.{◌≡◌, ◌≢◌, ℕ, suc, ◌+◌, ◌-◌, ◌<◌, ◌≤◌, Bool, true, false, cond, ◌⊎◌, inl, inr, List, [], ◌∷◌, ◌++◌, map, filter, length, slice_index, slice_index_or, get_or, refl, sym, ap, subst, ◌∙◌, arith}
+use Rattle.std.proofs.Common.{◌≡◌, ◌≢◌, ℕ, suc, ◌+◌, ◌-◌, ◌<◌, ◌≤◌, Bool, true, false, cond, ◌⊎◌, inl, inr, List, [], ◌∷◌, ◌++◌, map, filter, length, slice_index, slice_index_or, get_or, set, take, refl, sym, ap, subst, ◌∙◌, arith, length-set, get_or-set_other, get_or-take}
+use Rattle.std.proofs.lemmas.Grind.{get_or-set_at}
 use Rattle.std.specs.List.{range_with_len}
 use Rattle.std.proofs.lemmas.Bool.{cases_eq}
-use Rattle.std.proofs.lemmas.List.{length-map, length_push, get_or_push, get_or_default}
+use Rattle.std.proofs.lemmas.List.{length-map, length-take-le, length_push, get_or_push, get_or_default}
 use Rattle.std.proofs.lemmas.List.FromFn.{map-range_with_len_more, get_or-map-range_with_len, length-map-range_with_len}
 use Rattle.std.proofs.Math.ListN.{get_or-map, get_or-append}
 use Rattle.mk_sums.proofs.Hops.{IsChild, ends, hop_linked, hop_near, hop_up, hop_step}
@@ -108,6 +109,33 @@ next_more tree to count next old new h pushed last = record {
     at from p q d (inr f) =
         let l : from - 1 < length old = omega (arith, h.long) in
         ap (λ ns. slice_index ns (from - 1)) pushed ∙ get_or-append old (next ∷ []) 0 (from - 1) l ∙ h.next_is from p (omega arith) d
+
+-- to the first clique no way from an earlier one goes
+pub next_at_first : (tree : GivenTree) (next : ℕ) → AreNextTo tree 1 1 (next ∷ [])
+next_at_first tree next = record { long = refl; next_is = λ from p q d. absurd (d (omega (arith, p, q))) }
+
+-- to a later one the ways from earlier ones go as to its link, but from the link itself
+pub next_earlier : (tree : GivenTree) (linked : given.AreLinked tree) (to above : ℕ) → 1 < to → to ≤ length tree.cliques → link_of tree to ≡ above → 1 ≤ above → above < to
+    → (old : List ℕ) → AreNextTo tree above (length tree.cliques) old → AreNextTo tree to to (set (take to old) (above - 1) to)
+next_earlier tree linked to above later within up first below old h = record {
+  long = length-set (take to old) (above - 1) to ∙ long;
+  next_is = λ from p q d. at from p q d (cases_eq from above);
+}
+  where
+    long : length (take to old) ≡ to
+    long = length-take-le to old (omega (arith, h.long, within))
+
+    at : (from : ℕ) → 1 ≤ from → from ≤ to → from ≢ to → ((from ≡ above) ⊎ (from ≡ above → ⊥)) → slice_index (set (take to old) (above - 1) to) (from - 1) ≡ next_on_way tree from to
+    at from p q d (inl e) =
+        let is : IsClique tree from = record { first = p; last = omega (arith, q, within) } in
+        get_or-set_at (take to old) (above - 1) (from - 1) to 0 (omega (arith, e)) (omega (arith, long, first, below))
+        ∙ next_near tree linked from is to later within (up ∙ sym e)
+    at from p q d (inr f) =
+        let is : IsClique tree from = record { first = p; last = omega (arith, q, within) } in
+        get_or-set_other (take to old) (above - 1) (from - 1) to 0 (λ e. f (omega (arith, e, p, first)))
+        ∙ get_or-take to old (from - 1) 0 (omega (arith, p, q))
+        ∙ h.next_is from p (omega (arith, q, within)) f ∙ ap (next_on_way tree from) (sym up)
+        ∙ next_down tree linked from is to later within (omega (arith, q, d)) (λ e. f (sym e ∙ up))
 
 -- the ways to one clique more
 pub ways_more : (tree : GivenTree) (count : ℕ) (old new : List (List ℕ)) (next : List ℕ) → AreWays tree count old → new ≡ old ++ next ∷ []

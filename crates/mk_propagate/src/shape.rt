@@ -35,7 +35,7 @@ pub struct Shape {
     in_whole: Vec<Places>,
     in_itself: Vec<Places>,
     neighbours: Vec<Vec<u32>>,
-    ways: Vec<Vec<u32>>,
+    ways: Vec<Vec<u16>>,
     starts: Vec<u32>,
 }
 
@@ -211,7 +211,7 @@ impl Shape {
     }
 
     /// The first cliques on the ways from each clique to one; the place of that one says nothing.
-    pub fn ways_to(&self, to: u32) -> &[u32]
+    pub fn ways_to(&self, to: u32) -> &[u16]
         requires { IsClique self.now.tree to }
         ensures { AreNextTo self.now.tree to (length self.now.tree.cliques) result.now }
     {
@@ -226,7 +226,7 @@ impl Shape {
         ensures next { result ≡ next_on_way self.now.tree from to }
         ensures clique { IsClique self.now.tree result }
     {
-        self.ways[to as usize - 1][from as usize - 1]
+        self.ways[to as usize - 1][from as usize - 1] as u32
     }
 }
 
@@ -478,7 +478,7 @@ fn neighbours_of(alloc: Global, tree: &Tree, k: u32) -> Result<Vec<u32>, NoMemor
 }
 
 /// The next cliques on the ways to each clique.
-fn ways(alloc: Global, tree: &Tree) -> Result<Vec<Vec<u32>>, NoMemory>
+fn ways(alloc: Global, tree: &Tree) -> Result<Vec<Vec<u16>>, NoMemory>
     ensures { IfOk result (λ ways. AreWays tree.now (length tree.now.cliques) (map (λ next. next.items) ways.items)) }
 {
     let mut ways = Vec::new(alloc);
@@ -489,39 +489,37 @@ fn ways(alloc: Global, tree: &Tree) -> Result<Vec<Vec<u32>>, NoMemory>
     Ok(ways)
 }
 
-/// The next cliques on the ways to a clique, from those on the ways to the cliques before it.
-fn next_to(alloc: Global, tree: &Tree, ways: &[Vec<u32>], to: u32) -> Result<Vec<u32>, NoMemory>
+/// The next cliques on the ways to a clique, from those on the ways to the cliques before it. From a later clique the way goes up.
+fn next_to(alloc: Global, tree: &Tree, ways: &[Vec<u16>], to: u32) -> Result<Vec<u16>, NoMemory>
     requires clique { IsClique tree.now to }
     requires ways { AreWays tree.now (to - 1) (map (λ next. next.items) ways.now) }
     ensures { IfOk result (λ next. AreNextTo tree.now to (length tree.now.cliques) next.items) }
 {
-    let mut next = Vec::new(alloc);
-    for passed in 0..tree.cliques() {
-        next.push(next_on_way(tree, ways, passed + 1, to))?;
+    let mut next = next_from_earlier(alloc, tree, ways, to)?;
+    for passed in to..tree.cliques() {
+        next.push(link(tree, passed + 1) as u16)?;
     }
     Ok(next)
 }
 
-/// The next clique on the way from one clique to another, from those on the ways to the cliques before that other.
-///
-/// To an earlier clique the way goes up. To a later one it goes as to its link, but from the link itself.
-fn next_on_way(tree: &Tree, ways: &[Vec<u32>], from: u32, to: u32) -> u32
-    requires from { IsClique tree.now from }
-    requires to { IsClique tree.now to }
+/// Those from the cliques up to it. From an earlier clique the way goes as to the link, but from the link itself.
+fn next_from_earlier(
+    alloc: Global,
+    tree: &Tree,
+    ways: &[Vec<u16>],
+    to: u32,
+) -> Result<Vec<u16>, NoMemory>
+    requires clique { IsClique tree.now to }
     requires ways { AreWays tree.now (to - 1) (map (λ next. next.items) ways.now) }
-    ensures { from ≢ to → result ≡ next_on_way tree.now from to }
+    ensures { IfOk result (λ next. AreNextTo tree.now to to next.items) }
 {
-    let _ = tree.cliques();
-    if from == to {
-        return from;
-    }
-    if to < from {
-        return link(tree, from);
-    }
-    let above = link(tree, to);
-    if above == from {
-        to
+    let mut next = Vec::with_capacity(alloc, tree.cliques() as usize)?;
+    if to == 1 {
+        next.push(1)?;
     } else {
-        ways[above as usize - 1][from as usize - 1]
+        let above = link(tree, to) as usize;
+        next.extend_from_slice(&ways[above - 1][..to as usize])?;
+        next[above - 1] = to as u16;
     }
+    Ok(next)
 }

@@ -107,7 +107,7 @@ fn mark_earlier(up: &mut [bool], down: &mut [bool], shape: &Shape, clique: u32)
     let ways = shape.ways_to(clique);
     for k in 2..clique {
         let place = k as usize - 2;
-        if ways[place + 1] < k {
+        if (ways[place + 1] as u32) < k {
             down[place] = true;
         } else {
             up[place] = true;
