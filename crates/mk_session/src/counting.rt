@@ -11,8 +11,8 @@ ghost use Rattle.mk_session.specs.Tally.{TallyEnds};
 ghost use Rattle.mk_session.specs.inner.Counting.{is_want, IsWithin, HasRoom, CountsLine, IsCountedSoFar, counted_as};
 
 use crate::answer::{is_blank, reply_to};
-use crate::market::{TreeMarket, open};
 use crate::counts::{Tally, TallyFault};
+use crate::market::{TreeMarket, open};
 use mk_command::Words;
 use mk_file::{FileFault, MarketFile, read_market};
 use mk_io::{Lines, Next, QuietInputs};

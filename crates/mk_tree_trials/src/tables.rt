@@ -241,7 +241,10 @@ fn joined_total<R: Semiring>(
 
 /// Both are one cell.
 fn check_same(rt: &impl Abort, cell: Cell, other: Cell) {
-    assert_eq!(rt; (cell.digits, cell.exponent), (other.digits, other.exponent));
+    assert_eq!(rt;
+        (cell.digits, cell.exponent),
+        (other.digits, other.exponent)
+    );
 }
 
 /// The total of the middle wind of a table times a message with the rows of the rain, and times one that was cleared.
