@@ -12,6 +12,13 @@ use crate::part::Places;
 use crate::products::{plus_of_others, plus_of_products, products_of_cells};
 use mk_semiring::Semiring;
 
+/// The digits and the exponents of some cells.
+#[derive(Clone, Copy)]
+struct Columns<'a> {
+    digits: &'a [u64],
+    exponents: &'a [u32],
+}
+
 /// Puts into each cell of a part the plus, over the cells of the whole that have its values, of each times the other table's
 /// cell that has the same values. Of a blank table no cell is read.
 pub(crate) fn margin_times<R: Semiring>(
@@ -55,12 +62,15 @@ pub(crate) fn margin_times<R: Semiring>(
     } else {
         let (bases, offsets) = places.single_lists();
         fill(out_digits, out_exponents, bases.len());
+        let left = Columns { digits, exponents };
+        let right = Columns {
+            digits: other_digits,
+            exponents: other_exponents,
+        };
         products_at_each::<R>(
-            digits,
-            exponents,
+            left,
             other_places.onto(),
-            other_digits,
-            other_exponents,
+            right,
             bases,
             offsets,
             out_digits,
@@ -72,332 +82,192 @@ pub(crate) fn margin_times<R: Semiring>(
 /// Puts into each cell of a table the plus of the products of the cells that lie so far from the cell's base by the message's
 /// cells that have their values.
 fn products_at_each<R: Semiring>(
-    digits: &[u64],
-    exponents: &[u32],
+    left: Columns,
     onto: &[u16],
-    other_digits: &[u64],
-    other_exponents: &[u32],
+    right: Columns,
     bases: &[u16],
     offsets: &[u16],
-    out_digits: &mut [u64],
-    out_exponents: &mut [u32],
+    digits: &mut [u64],
+    exponents: &mut [u32],
 )
     requires few { length offsets.now ≤ max_clique_cells }
     requires within { (b : ℕ) → b < length bases.now → All (λ c. slice_index bases.now b + c < length onto.now) offsets.now }
-    requires onto { All (λ d. d < length other_digits.now) onto.now }
-    requires whole { AreBlankOrFull (length onto.now) digits.now exponents.now }
-    requires room { (k : ℕ) × HaveRoom k (filled one_digits (length onto.now) digits.now) (filled one_exponent (length onto.now) exponents.now) (2 * length offsets.now) }
-    requires other_room { (k : ℕ) × HaveRoom k other_digits.now other_exponents.now 1 }
-    requires digits { length out_digits.old ≡ length bases.now }
-    requires exponents { length out_exponents.old ≡ length bases.now }
+    requires onto { All (λ d. d < length right.digits.now) onto.now }
+    requires whole { AreBlankOrFull (length onto.now) left.digits.now left.exponents.now }
+    requires room { (k : ℕ) × HaveRoom k (filled one_digits (length onto.now) left.digits.now) (filled one_exponent (length onto.now) left.exponents.now) (2 * length offsets.now) }
+    requires other_room { (k : ℕ) × HaveRoom k right.digits.now right.exponents.now 1 }
+    requires digits { length digits.old ≡ length bases.now }
+    requires exponents { length exponents.old ≡ length bases.now }
     ensures made { (b : ℕ) → b < length bases.now
-        → MakesPlusOfPairs R.plus_of (filled one_digits (length onto.now) digits.now) (filled one_exponent (length onto.now) exponents.now) other_digits.now other_exponents.now
-        (slice_index onto.now) (cells_at (slice_index bases.now b) offsets.now) (2 * length offsets.now + 1) (slice_index out_digits.new b) (slice_index out_exponents.new b) }
-    ensures same_digits { length out_digits.new ≡ length out_digits.old }
-    ensures same_exponents { length out_exponents.new ≡ length out_exponents.old }
+        → MakesPlusOfPairs R.plus_of (filled one_digits (length onto.now) left.entry.digits.now) (filled one_exponent (length onto.now) left.entry.exponents.now) right.entry.digits.now right.entry.exponents.now
+        (slice_index onto.now) (cells_at (slice_index bases.now b) offsets.now) (2 * length offsets.now + 1) (slice_index digits.new b) (slice_index exponents.new b) }
+    ensures same_digits { length digits.new ≡ length digits.old }
+    ensures same_exponents { length exponents.new ≡ length exponents.old }
 {
-    if digits.len() < onto.len() {
-        return others_at_each::<R>(
-            digits,
-            exponents,
-            onto,
-            other_digits,
-            other_exponents,
-            bases,
-            offsets,
-            out_digits,
-            out_exponents,
-        );
+    if left.digits.len() < onto.len() {
+        return others_at_each::<R>(left, onto, right, bases, offsets, digits, exponents);
     }
     match offsets.len() {
-        1 => few_products::<R, 1>(
-            digits,
-            exponents,
-            onto,
-            other_digits,
-            other_exponents,
-            bases,
-            offsets,
-            out_digits,
-            out_exponents,
-        ),
-        2 => few_products::<R, 2>(
-            digits,
-            exponents,
-            onto,
-            other_digits,
-            other_exponents,
-            bases,
-            offsets,
-            out_digits,
-            out_exponents,
-        ),
-        4 => few_products::<R, 4>(
-            digits,
-            exponents,
-            onto,
-            other_digits,
-            other_exponents,
-            bases,
-            offsets,
-            out_digits,
-            out_exponents,
-        ),
-        8 => few_products::<R, 8>(
-            digits,
-            exponents,
-            onto,
-            other_digits,
-            other_exponents,
-            bases,
-            offsets,
-            out_digits,
-            out_exponents,
-        ),
-        16 => few_products::<R, 16>(
-            digits,
-            exponents,
-            onto,
-            other_digits,
-            other_exponents,
-            bases,
-            offsets,
-            out_digits,
-            out_exponents,
-        ),
-        _ => any_products::<R>(
-            digits,
-            exponents,
-            onto,
-            other_digits,
-            other_exponents,
-            bases,
-            offsets,
-            out_digits,
-            out_exponents,
-        ),
+        1 => few_products::<R, 1>(left, onto, right, bases, offsets, digits, exponents),
+        2 => few_products::<R, 2>(left, onto, right, bases, offsets, digits, exponents),
+        4 => few_products::<R, 4>(left, onto, right, bases, offsets, digits, exponents),
+        8 => few_products::<R, 8>(left, onto, right, bases, offsets, digits, exponents),
+        16 => few_products::<R, 16>(left, onto, right, bases, offsets, digits, exponents),
+        _ => any_products::<R>(left, onto, right, bases, offsets, digits, exponents),
     }
 }
 
 /// The same where nothing is written of the cells that are multiplied.
 fn others_at_each<R: Semiring>(
-    digits: &[u64],
-    exponents: &[u32],
+    left: Columns,
     onto: &[u16],
-    other_digits: &[u64],
-    other_exponents: &[u32],
+    right: Columns,
     bases: &[u16],
     offsets: &[u16],
-    out_digits: &mut [u64],
-    out_exponents: &mut [u32],
+    digits: &mut [u64],
+    exponents: &mut [u32],
 )
-    requires blank { length digits.now < length onto.now }
+    requires blank { length left.digits.now < length onto.now }
     requires few { length offsets.now ≤ max_clique_cells }
     requires within { (b : ℕ) → b < length bases.now → All (λ c. slice_index bases.now b + c < length onto.now) offsets.now }
-    requires onto { All (λ d. d < length other_digits.now) onto.now }
-    requires whole { AreBlankOrFull (length onto.now) digits.now exponents.now }
-    requires room { (k : ℕ) × HaveRoom k (filled one_digits (length onto.now) digits.now) (filled one_exponent (length onto.now) exponents.now) (2 * length offsets.now) }
-    requires other_room { (k : ℕ) × HaveRoom k other_digits.now other_exponents.now 1 }
-    requires digits { length out_digits.old ≡ length bases.now }
-    requires exponents { length out_exponents.old ≡ length bases.now }
+    requires onto { All (λ d. d < length right.digits.now) onto.now }
+    requires whole { AreBlankOrFull (length onto.now) left.digits.now left.exponents.now }
+    requires room { (k : ℕ) × HaveRoom k (filled one_digits (length onto.now) left.digits.now) (filled one_exponent (length onto.now) left.exponents.now) (2 * length offsets.now) }
+    requires other_room { (k : ℕ) × HaveRoom k right.digits.now right.exponents.now 1 }
+    requires digits { length digits.old ≡ length bases.now }
+    requires exponents { length exponents.old ≡ length bases.now }
     ensures made { (b : ℕ) → b < length bases.now
-        → MakesPlusOfPairs R.plus_of (filled one_digits (length onto.now) digits.now) (filled one_exponent (length onto.now) exponents.now) other_digits.now other_exponents.now
-        (slice_index onto.now) (cells_at (slice_index bases.now b) offsets.now) (2 * length offsets.now + 1) (slice_index out_digits.new b) (slice_index out_exponents.new b) }
-    ensures same_digits { length out_digits.new ≡ length out_digits.old }
-    ensures same_exponents { length out_exponents.new ≡ length out_exponents.old }
+        → MakesPlusOfPairs R.plus_of (filled one_digits (length onto.now) left.entry.digits.now) (filled one_exponent (length onto.now) left.entry.exponents.now) right.entry.digits.now right.entry.exponents.now
+        (slice_index onto.now) (cells_at (slice_index bases.now b) offsets.now) (2 * length offsets.now + 1) (slice_index digits.new b) (slice_index exponents.new b) }
+    ensures same_digits { length digits.new ≡ length digits.old }
+    ensures same_exponents { length exponents.new ≡ length exponents.old }
 {
     match offsets.len() {
-        1 => few_others::<R, 1>(
-            digits,
-            exponents,
-            onto,
-            other_digits,
-            other_exponents,
-            bases,
-            offsets,
-            out_digits,
-            out_exponents,
-        ),
-        2 => few_others::<R, 2>(
-            digits,
-            exponents,
-            onto,
-            other_digits,
-            other_exponents,
-            bases,
-            offsets,
-            out_digits,
-            out_exponents,
-        ),
-        4 => few_others::<R, 4>(
-            digits,
-            exponents,
-            onto,
-            other_digits,
-            other_exponents,
-            bases,
-            offsets,
-            out_digits,
-            out_exponents,
-        ),
-        8 => few_others::<R, 8>(
-            digits,
-            exponents,
-            onto,
-            other_digits,
-            other_exponents,
-            bases,
-            offsets,
-            out_digits,
-            out_exponents,
-        ),
-        16 => few_others::<R, 16>(
-            digits,
-            exponents,
-            onto,
-            other_digits,
-            other_exponents,
-            bases,
-            offsets,
-            out_digits,
-            out_exponents,
-        ),
-        _ => any_products::<R>(
-            digits,
-            exponents,
-            onto,
-            other_digits,
-            other_exponents,
-            bases,
-            offsets,
-            out_digits,
-            out_exponents,
-        ),
+        1 => few_others::<R, 1>(left, onto, right, bases, offsets, digits, exponents),
+        2 => few_others::<R, 2>(left, onto, right, bases, offsets, digits, exponents),
+        4 => few_others::<R, 4>(left, onto, right, bases, offsets, digits, exponents),
+        8 => few_others::<R, 8>(left, onto, right, bases, offsets, digits, exponents),
+        16 => few_others::<R, 16>(left, onto, right, bases, offsets, digits, exponents),
+        _ => any_products::<R>(left, onto, right, bases, offsets, digits, exponents),
     }
 }
 
 /// The same for any number of offsets.
 fn any_products<R: Semiring>(
-    digits: &[u64],
-    exponents: &[u32],
+    left: Columns,
     onto: &[u16],
-    other_digits: &[u64],
-    other_exponents: &[u32],
+    right: Columns,
     bases: &[u16],
     offsets: &[u16],
-    out_digits: &mut [u64],
-    out_exponents: &mut [u32],
+    digits: &mut [u64],
+    exponents: &mut [u32],
 )
     requires few { length offsets.now ≤ max_clique_cells }
     requires within { (b : ℕ) → b < length bases.now → All (λ c. slice_index bases.now b + c < length onto.now) offsets.now }
-    requires onto { All (λ d. d < length other_digits.now) onto.now }
-    requires whole { AreBlankOrFull (length onto.now) digits.now exponents.now }
-    requires room { (k : ℕ) × HaveRoom k (filled one_digits (length onto.now) digits.now) (filled one_exponent (length onto.now) exponents.now) (2 * length offsets.now) }
-    requires other_room { (k : ℕ) × HaveRoom k other_digits.now other_exponents.now 1 }
-    requires digits { length out_digits.old ≡ length bases.now }
-    requires exponents { length out_exponents.old ≡ length bases.now }
+    requires onto { All (λ d. d < length right.digits.now) onto.now }
+    requires whole { AreBlankOrFull (length onto.now) left.digits.now left.exponents.now }
+    requires room { (k : ℕ) × HaveRoom k (filled one_digits (length onto.now) left.digits.now) (filled one_exponent (length onto.now) left.exponents.now) (2 * length offsets.now) }
+    requires other_room { (k : ℕ) × HaveRoom k right.digits.now right.exponents.now 1 }
+    requires digits { length digits.old ≡ length bases.now }
+    requires exponents { length exponents.old ≡ length bases.now }
     ensures made { (b : ℕ) → b < length bases.now
-        → MakesPlusOfPairs R.plus_of (filled one_digits (length onto.now) digits.now) (filled one_exponent (length onto.now) exponents.now) other_digits.now other_exponents.now
-        (slice_index onto.now) (cells_at (slice_index bases.now b) offsets.now) (2 * length offsets.now + 1) (slice_index out_digits.new b) (slice_index out_exponents.new b) }
-    ensures same_digits { length out_digits.new ≡ length out_digits.old }
-    ensures same_exponents { length out_exponents.new ≡ length out_exponents.old }
+        → MakesPlusOfPairs R.plus_of (filled one_digits (length onto.now) left.entry.digits.now) (filled one_exponent (length onto.now) left.entry.exponents.now) right.entry.digits.now right.entry.exponents.now
+        (slice_index onto.now) (cells_at (slice_index bases.now b) offsets.now) (2 * length offsets.now + 1) (slice_index digits.new b) (slice_index exponents.new b) }
+    ensures same_digits { length digits.new ≡ length digits.old }
+    ensures same_exponents { length exponents.new ≡ length exponents.old }
 {
     for place in 0..bases.len() {
         let cell = plus_of_products::<R>(
-            digits,
-            exponents,
+            left.digits,
+            left.exponents,
             onto,
-            other_digits,
-            other_exponents,
+            right.digits,
+            right.exponents,
             bases[place] as usize,
             offsets,
         );
-        out_digits[place] = cell.digits;
-        out_exponents[place] = cell.exponent;
+        digits[place] = cell.digits;
+        exponents[place] = cell.exponent;
     }
 }
 
 /// The same for `N` offsets where each cell is written. The compiler knows their number, and writes the passes over them without
 /// a loop.
 fn few_products<R: Semiring, const N: usize>(
-    digits: &[u64],
-    exponents: &[u32],
+    left: Columns,
     onto: &[u16],
-    other_digits: &[u64],
-    other_exponents: &[u32],
+    right: Columns,
     bases: &[u16],
     offsets: &[u16],
-    out_digits: &mut [u64],
-    out_exponents: &mut [u32],
+    digits: &mut [u64],
+    exponents: &mut [u32],
 )
     requires count { length offsets.now ≡ N }
     requires small { N ≤ 64 }
-    requires full { length onto.now ≤ length digits.now }
+    requires full { length onto.now ≤ length left.digits.now }
     requires within { (b : ℕ) → b < length bases.now → All (λ c. slice_index bases.now b + c < length onto.now) offsets.now }
-    requires onto { All (λ d. d < length other_digits.now) onto.now }
-    requires whole { AreBlankOrFull (length onto.now) digits.now exponents.now }
-    requires room { (k : ℕ) × HaveRoom k (filled one_digits (length onto.now) digits.now) (filled one_exponent (length onto.now) exponents.now) (2 * length offsets.now) }
-    requires other_room { (k : ℕ) × HaveRoom k other_digits.now other_exponents.now 1 }
-    requires digits { length out_digits.old ≡ length bases.now }
-    requires exponents { length out_exponents.old ≡ length bases.now }
+    requires onto { All (λ d. d < length right.digits.now) onto.now }
+    requires whole { AreBlankOrFull (length onto.now) left.digits.now left.exponents.now }
+    requires room { (k : ℕ) × HaveRoom k (filled one_digits (length onto.now) left.digits.now) (filled one_exponent (length onto.now) left.exponents.now) (2 * length offsets.now) }
+    requires other_room { (k : ℕ) × HaveRoom k right.digits.now right.exponents.now 1 }
+    requires digits { length digits.old ≡ length bases.now }
+    requires exponents { length exponents.old ≡ length bases.now }
     ensures made { (b : ℕ) → b < length bases.now
-        → MakesPlusOfPairs R.plus_of (filled one_digits (length onto.now) digits.now) (filled one_exponent (length onto.now) exponents.now) other_digits.now other_exponents.now
-        (slice_index onto.now) (cells_at (slice_index bases.now b) offsets.now) (2 * length offsets.now + 1) (slice_index out_digits.new b) (slice_index out_exponents.new b) }
-    ensures same_digits { length out_digits.new ≡ length out_digits.old }
-    ensures same_exponents { length out_exponents.new ≡ length out_exponents.old }
+        → MakesPlusOfPairs R.plus_of (filled one_digits (length onto.now) left.entry.digits.now) (filled one_exponent (length onto.now) left.entry.exponents.now) right.entry.digits.now right.entry.exponents.now
+        (slice_index onto.now) (cells_at (slice_index bases.now b) offsets.now) (2 * length offsets.now + 1) (slice_index digits.new b) (slice_index exponents.new b) }
+    ensures same_digits { length digits.new ≡ length digits.old }
+    ensures same_exponents { length exponents.new ≡ length exponents.old }
 {
     for place in 0..bases.len() {
         let cell = products_of_cells::<R, N>(
-            digits,
-            exponents,
+            left.digits,
+            left.exponents,
             onto,
-            other_digits,
-            other_exponents,
+            right.digits,
+            right.exponents,
             bases[place] as usize,
             &offsets[..N],
         );
-        out_digits[place] = cell.digits;
-        out_exponents[place] = cell.exponent;
+        digits[place] = cell.digits;
+        exponents[place] = cell.exponent;
     }
 }
 
 /// The same for `N` offsets where none is.
 fn few_others<R: Semiring, const N: usize>(
-    digits: &[u64],
-    exponents: &[u32],
+    left: Columns,
     onto: &[u16],
-    other_digits: &[u64],
-    other_exponents: &[u32],
+    right: Columns,
     bases: &[u16],
     offsets: &[u16],
-    out_digits: &mut [u64],
-    out_exponents: &mut [u32],
+    digits: &mut [u64],
+    exponents: &mut [u32],
 )
     requires count { length offsets.now ≡ N }
     requires small { N ≤ 64 }
-    requires blank { length digits.now < length onto.now }
+    requires blank { length left.digits.now < length onto.now }
     requires within { (b : ℕ) → b < length bases.now → All (λ c. slice_index bases.now b + c < length onto.now) offsets.now }
-    requires onto { All (λ d. d < length other_digits.now) onto.now }
-    requires whole { AreBlankOrFull (length onto.now) digits.now exponents.now }
-    requires room { (k : ℕ) × HaveRoom k (filled one_digits (length onto.now) digits.now) (filled one_exponent (length onto.now) exponents.now) (2 * length offsets.now) }
-    requires other_room { (k : ℕ) × HaveRoom k other_digits.now other_exponents.now 1 }
-    requires digits { length out_digits.old ≡ length bases.now }
-    requires exponents { length out_exponents.old ≡ length bases.now }
+    requires onto { All (λ d. d < length right.digits.now) onto.now }
+    requires whole { AreBlankOrFull (length onto.now) left.digits.now left.exponents.now }
+    requires room { (k : ℕ) × HaveRoom k (filled one_digits (length onto.now) left.digits.now) (filled one_exponent (length onto.now) left.exponents.now) (2 * length offsets.now) }
+    requires other_room { (k : ℕ) × HaveRoom k right.digits.now right.exponents.now 1 }
+    requires digits { length digits.old ≡ length bases.now }
+    requires exponents { length exponents.old ≡ length bases.now }
     ensures made { (b : ℕ) → b < length bases.now
-        → MakesPlusOfPairs R.plus_of (filled one_digits (length onto.now) digits.now) (filled one_exponent (length onto.now) exponents.now) other_digits.now other_exponents.now
-        (slice_index onto.now) (cells_at (slice_index bases.now b) offsets.now) (2 * length offsets.now + 1) (slice_index out_digits.new b) (slice_index out_exponents.new b) }
-    ensures same_digits { length out_digits.new ≡ length out_digits.old }
-    ensures same_exponents { length out_exponents.new ≡ length out_exponents.old }
+        → MakesPlusOfPairs R.plus_of (filled one_digits (length onto.now) left.entry.digits.now) (filled one_exponent (length onto.now) left.entry.exponents.now) right.entry.digits.now right.entry.exponents.now
+        (slice_index onto.now) (cells_at (slice_index bases.now b) offsets.now) (2 * length offsets.now + 1) (slice_index digits.new b) (slice_index exponents.new b) }
+    ensures same_digits { length digits.new ≡ length digits.old }
+    ensures same_exponents { length exponents.new ≡ length exponents.old }
 {
     for place in 0..bases.len() {
         let cell = plus_of_others::<R, N>(
             onto,
-            other_digits,
-            other_exponents,
+            right.digits,
+            right.exponents,
             bases[place] as usize,
             &offsets[..N],
         );
-        out_digits[place] = cell.digits;
-        out_exponents[place] = cell.exponent;
+        digits[place] = cell.digits;
+        exponents[place] = cell.exponent;
     }
 }

@@ -10,12 +10,12 @@ loop-place-preserved g c =
     let R = g.R.Semiring in let b = c.loop-place.place in let cell = c.plus_of_products-cell.result in let count = length c.args.onto.now in
     let l = c.loop-place-test.true in
     record {
-      long = length-set c.loop-place.out_digits b cell.digits ∙ c.loop-place.invariant.long;
-      long_too = length-set c.loop-place.out_exponents b cell.exponent ∙ c.loop-place.invariant.long_too;
+      long = length-set c.loop-place.digits b cell.digits ∙ c.loop-place.invariant.long;
+      long_too = length-set c.loop-place.exponents b cell.exponent ∙ c.loop-place.invariant.long_too;
       made = written_next
-          (λ i q x. MakesPlusOfPairs R.plus_of (filled one_digits count c.args.digits.now) (filled one_exponent count c.args.exponents.now) c.args.other_digits.now c.args.other_exponents.now
+          (λ i q x. MakesPlusOfPairs R.plus_of (filled one_digits count c.args.left.digits.now) (filled one_exponent count c.args.left.exponents.now) c.args.right.digits.now c.args.right.exponents.now
           (slice_index c.args.onto.now) (cells_at (slice_index c.args.bases.now i) c.args.offsets.now) (2 * length c.args.offsets.now + 1) q x)
-          b cell.digits cell.exponent c.loop-place.out_digits c.loop-place.out_exponents
+          b cell.digits cell.exponent c.loop-place.digits c.loop-place.exponents
           (omega (arith, l, c.loop-place.invariant.long)) (omega (arith, l, c.loop-place.invariant.long_too)) c.loop-place.invariant.made c.plus_of_products-cell.ensures;
     }
 

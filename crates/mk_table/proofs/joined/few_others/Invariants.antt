@@ -5,8 +5,8 @@ use Rattle.mk_table.proofs.joined.few_others.Given as goal
 
 abbrev pub invariant-loop-place : goal.invariant-loop-place
 invariant-loop-place g l = record {
-  long : length l.out_digits ≡ length l.bases;
-  long_too : length l.out_exponents ≡ length l.bases;
-  made : (b : ℕ) → b < l.place → MakesPlusOfPairs g.R.Semiring.plus_of (filled one_digits (length l.onto) l.digits) (filled one_exponent (length l.onto) l.exponents) l.other_digits l.other_exponents
-      (slice_index l.onto) (cells_at (slice_index l.bases b) l.offsets) (2 * length l.offsets + 1) (slice_index l.out_digits b) (slice_index l.out_exponents b);
+  long : length l.digits ≡ length l.bases;
+  long_too : length l.exponents ≡ length l.bases;
+  made : (b : ℕ) → b < l.place → MakesPlusOfPairs g.R.Semiring.plus_of (filled one_digits (length l.onto) l.left.digits.now) (filled one_exponent (length l.onto) l.left.exponents.now) l.right.digits.now l.right.exponents.now
+      (slice_index l.onto) (cells_at (slice_index l.bases b) l.offsets) (2 * length l.offsets + 1) (slice_index l.digits b) (slice_index l.exponents b);
 }

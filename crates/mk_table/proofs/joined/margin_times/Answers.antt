@@ -69,7 +69,7 @@ returns-else-other_digits-part_cells-clause-made g c = λ d l.
     let written : count ≤ length c.args.other_digits.now = omega (arith, c.part_cells.ensures.cells, c.if-other_digits-part_cells.false) in
     let long : length places ≡ cells_in whole = c.onto.ensures.one_each ∙ ap cells_in c.requires.one_whole in
     let goes_are : (i : ℕ) → i < cells_in whole → slice_index places i ≡ goes i = subst (λ (s : ScopeOf). (i : ℕ) → i < cells_in s → slice_index places i ≡ cell_in other s i) c.requires.one_whole c.onto.ensures.cell in
-    let nd = c.products_at_each.new.out_digits in let ne = c.products_at_each.new.out_exponents in
+    let nd = c.products_at_each.new.digits in let ne = c.products_at_each.new.exponents in
     let made = full_made R.plus_of od oe md me goes (slice_index bases d) offsets onto (are.onto d l) (cells_beside part whole) (places_beside part whole bases offsets 1 are)
     (slice_index nd d) (slice_index ne d) (filled one_digits (length places) c.args.digits.now) (filled one_exponent (length places) c.args.exponents.now) c.args.other_digits.now c.args.other_exponents.now places
     (ap (λ m. filled one_digits m c.args.digits.now) long) (ap (λ m. filled one_exponent m c.args.exponents.now) long)
@@ -77,7 +77,7 @@ returns-else-other_digits-part_cells-clause-made g c = λ d l.
     (each_onto part whole d (λ i. slice_index places i ≡ goes i) goes_are)
     (c.products_at_each.ensures.made d (omega (arith, l, are.one_each))) in
     let all = are.one_each in
-    let i = held_items one_digits (cells_in part) c.fill.new.digits nd (omega (arith, c.products_at_each.auto.out_digits, c.deref_mut.ensures.len)) (omega (arith, c.fill.ensures.all_digits, all)) in
-    let j = held_items one_exponent (cells_in part) c.fill.new.exponents ne (omega (arith, c.products_at_each.auto.out_exponents, c.deref_mut-else-other_digits-part_cells.ensures.len)) (omega (arith, c.fill.ensures.all_exponents, all)) in
+    let i = held_items one_digits (cells_in part) c.fill.new.digits nd (omega (arith, c.products_at_each.auto.digits, c.deref_mut.ensures.len)) (omega (arith, c.fill.ensures.all_digits, all)) in
+    let j = held_items one_exponent (cells_in part) c.fill.new.exponents ne (omega (arith, c.products_at_each.auto.exponents, c.deref_mut-else-other_digits-part_cells.ensures.len)) (omega (arith, c.fill.ensures.all_exponents, all)) in
     subst (λ (ys : List ℕ). MakesPlusOfPairs R.plus_of od oe md me goes onto (2 * cells_beside part whole + 1) (slice_index (filled one_digits (cells_in part) (with_items c.fill.new.digits nd).items) d) (slice_index ys d)) (sym j)
     (subst (λ (ys : List ℕ). MakesPlusOfPairs R.plus_of od oe md me goes onto (2 * cells_beside part whole + 1) (slice_index ys d) (slice_index ne d)) (sym i) made)
