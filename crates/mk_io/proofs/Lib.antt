@@ -4,3 +4,4 @@ pub mod Cuts
 pub mod Answered
 pub mod InMemory
 pub mod WholeLines
+pub mod AtOnce

@@ -7,6 +7,7 @@ ghost use Rattle.mk_io.specs.inner.Cut.{CutsLine, CountsCutFault, IsWhole};
 use crate::outside::Inputs;
 use crate::pending::Pending;
 use crate::text::Text;
+use memchr::memchr;
 
 /// How the bytes of a line ended.
 pub enum Cut {
@@ -20,8 +21,29 @@ pub enum Cut {
     Full,
 }
 
-/// Takes the bytes of a line up to its LF, of which there may be `room`, and keeps the first of them.
+/// Takes the bytes of a line up to its LF, of which there may be `room`, and keeps the first of them. A line that was read whole is
+/// taken at once.
 pub fn cut_line<I: Inputs>(pending: &mut Pending, text: &mut Text, inputs: &mut I, room: u64) -> Cut
+    ensures cut { CutsLine result 1025 text.new room
+        (prepend_known pending.old (I.commands inputs.old)) pending.new (I.commands inputs.new) }
+    ensures rest { LeavesRest (I.market inputs.old) (I.market inputs.new) (I.file inputs.old) (I.file inputs.new) }
+    ensures cause { CountsCutFault result (I.faults inputs.old) (I.faults inputs.new) }
+    ensures unread { Contains pending.old 10 → inputs.new ≡ inputs.old }
+    ensures whole { Contains pending.old 10 → length pending.old ≤ room → IsWhole result }
+{
+    match memchr(b'\n', pending.as_slice()) {
+        Some(end) if (end as u64) < room => {
+            text.put(&pending.as_slice()[..end]);
+            pending.pass(end + 1);
+            Cut::Whole(end as u64 + 1)
+        }
+        _ => cut_by_bytes(pending, text, inputs, room),
+    }
+}
+
+/// The same, byte by byte.
+#[inline(never)]
+fn cut_by_bytes<I: Inputs>(pending: &mut Pending, text: &mut Text, inputs: &mut I, room: u64) -> Cut
     ensures cut { CutsLine result 1025 text.new room
         (prepend_known pending.old (I.commands inputs.old)) pending.new (I.commands inputs.new) }
     ensures rest { LeavesRest (I.market inputs.old) (I.market inputs.new) (I.file inputs.old) (I.file inputs.new) }

@@ -1,10 +1,11 @@
 //! Bytes that were read and are still to be taken.
 
-ghost use Rattle.std.specs.Prelude.{◌≡◌, ℕ, ◌<◌, ◌↔◌, List, [], ◌∷◌, Option, Ok, true, IsTrue, Contains, length};
+ghost use Rattle.std.specs.Prelude.{◌≡◌, ℕ, ◌<◌, ◌≤◌, ◌↔◌, List, [], ◌∷◌, Option, Ok, true, IsTrue, Contains, length, drop};
 ghost use Rattle.mk_io.specs.Outside.{HasCause, LeavesRest};
 ghost use Rattle.mk_io.specs.inner.Cut.{Refills};
 
 use crate::outside::{InputFailed, Inputs};
+use memchr::memchr;
 use std::marker::Model;
 
 const READ_BYTES: usize = 4096;
@@ -82,7 +83,22 @@ impl Pending {
     pub fn holds(&self, byte: u8) -> bool
         ensures { IsTrue result ↔ Contains self.now byte }
     {
-        self.buf[self.from..self.to].contains(&byte)
+        memchr(byte, self.as_slice()).is_some()
+    }
+
+    /// The bytes, in their order.
+    pub fn as_slice(&self) -> &[u8]
+        ensures { result.now ≡ self.now }
+    {
+        &self.buf[self.from..self.to]
+    }
+
+    /// Passes over the first bytes.
+    pub fn pass(&mut self, count: usize)
+        requires { count ≤ length self.old }
+        ensures { self.new ≡ drop count self.old }
+    {
+        self.from += count;
     }
 
     /// Takes the next byte.

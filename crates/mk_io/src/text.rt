@@ -46,6 +46,15 @@ impl Text {
         self.len = 0;
     }
 
+    /// Puts the first bytes of some in place of those that are there, as many as there is room for.
+    pub fn put(&mut self, bytes: &[u8])
+        ensures { self.new ≡ front 1025 bytes.now }
+    {
+        let count = bytes.len().min(TEXT_BYTES);
+        self.buf[..count].copy_from_slice(&bytes[..count]);
+        self.len = count;
+    }
+
     /// Adds a byte where there is room for it.
     pub fn push(&mut self, byte: u8)
         ensures { self.new ≡ front 1025 (self.old ++ byte ∷ []) }

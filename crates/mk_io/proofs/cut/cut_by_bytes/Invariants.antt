@@ -1,7 +1,7 @@
 use Rattle.std.proofs.Common.{◌-◌, Contains}
 use Rattle.mk_io.specs.Outside.{prepend_known}
 use Rattle.mk_io.proofs.Cuts.{CutSoFar, Elsewhere, Held}
-use Rattle.mk_io.proofs.cut.cut_line.Given as goal
+use Rattle.mk_io.proofs.cut.cut_by_bytes.Given as goal
 
 abbrev pub invariant-loop-pending : goal.invariant-loop-pending
 invariant-loop-pending g l =
