@@ -10,23 +10,23 @@ use Rattle.mk_net.specs.declared.words.PairText.{PairText}
 use Rattle.mk_net.specs.declared.words.QuestionText.{QuestionText}
 use Rattle.mk_net.specs.declared.sets.VarSet.{VarSet}
 use Rattle.mk_net.specs.Asked.{Asked}
-use Rattle.mk_net.specs.Bounds.{million}
-use Rattle.mk_net.specs.Events.{IsQuestion, pairs_asked}
+use Rattle.mk_net.specs.Bounds.{max_condition, million}
+use Rattle.mk_net.specs.Events.{speaks_of, AreApart, IsQuestion, pairs_asked}
 use Rattle.mk_net.specs.Firsts.{fault_if, or_else, first_of}
 use Rattle.mk_net.specs.Network.{Variable}
 use Rattle.mk_net.specs.Named.{pair_named, variable_at}
 use Rattle.mk_net.specs.Sets.{is_member}
-use Rattle.mk_exact.specs.History.{Entry}
+use Rattle.mk_exact.specs.History.{Entry, is_settled}
 use Rattle.mk_exact.specs.Proper.{IsPairOf}
 use Rattle.mk_tree.specs.Given.{GivenTree, home, holds_event}
 use Rattle.mk_tree.specs.Tests.{members}
 use Rattle.mk_file.specs.declared.market_file.MarketFile.{MarketFile}
 use Rattle.mk_file.specs.MarketOf.{market_of}
-use Rattle.mk_command.specs.declared.command.Command.TheVariants.{Edit}
+use Rattle.mk_command.specs.declared.command.Command.TheVariants.{Price, Edit}
 use Rattle.mk_reply.specs.declared.refusal.Refusal.{Refusal}
-use Rattle.mk_reply.specs.declared.refusal.Refusal.TheVariants.{Unknown, Wide, Unresolved, Impossible}
+use Rattle.mk_reply.specs.declared.refusal.Refusal.TheVariants.{Settled, Unknown, Resolved, Wide, Unresolved, Impossible}
 use Rattle.mk_rules.specs.Refusals.{pairs_of, names_in, variables_in, known_pairs, question_named, is_resolved, contradicts, passes, is_wide, unknown, resolved, impossible, wide_question, unresolved, twice, settled, no_user, stale, range, trades_full, first_refusal}
-use Rattle.mk_rules.proofs.Unrefused.{not_mapped, question_known, target_named, not_resolved, condition_agrees}
+use Rattle.mk_rules.proofs.Unrefused.{not_mapped, question_known, target_named, variable_known, not_resolved, condition_agrees}
 use Rattle.mk_market.specs.Refused.{refusal_in, IsQuestionFor}
 
 -- one that applies is the first, where those before it do not
@@ -277,6 +277,49 @@ can_answer file H q asked named known question free agreed held =
         home = has_home (home file.tree (pairs_asked asked)) held;
       };
     }
+
+-- a list with no items is empty
+pub none_held : {X : Type 0} (xs : List X) → (length xs == 0) ≡ true → xs ≡ []
+none_held [] h = refl
+none_held (x ∷ xs) h = absurd (let none : length (x ∷ xs) ≡ 0 = eqb-true (length (x ∷ xs)) 0 h in omega (arith, none))
+
+-- a question without a condition, whose target is not resolved, and which has a home
+module _ (file : MarketFile) (H : List Entry) (q : QuestionText) (asked : Asked) (named : question_named file.net q ≡ Some asked) (known : unknown file.net (pairs_of q) ≡ None)
+    (plain : q.condition.items ≡ []) (free : is_resolved H asked.target.variable ≡ false) (held : is_some (home file.tree (pairs_asked asked)) ≡ true) where
+  plain_free : resolved file.net H q.target.variable ≡ None
+  plain_free =
+      let number = variable_known file.net q.target asked.target (target_named file.net q asked named).0 in
+      ap (λ (o : Option (ℕ × Variable)). fault_if (passes (λ (numbered : ℕ × Variable). is_resolved H (numbered.0)) o) (Resolved q.target.variable)) number.1
+      ∙ ap (λ (b : Bool). fault_if b (Resolved q.target.variable)) free
+
+  plain_agreed : impossible file.net H q.condition.items ≡ None
+  plain_agreed = ap (impossible file.net H) plain
+
+  at_home : fault_if (is_none (home file.tree (pairs_asked asked))) Wide ≡ None
+  at_home = not_homeless (home file.tree (pairs_asked asked)) held
+    where
+      not_homeless : (o : Option ℕ) → is_some o ≡ true → fault_if (is_none o) Wide ≡ None
+      not_homeless None h = cc
+      not_homeless (Some k) h = refl
+
+  pub plain_unrefused : is_settled H ≡ false → twice (names_in (pairs_of q)) ≡ None → first_refusal (market_of file) H (Price q) ≡ None
+  plain_unrefused running once =
+      none_of_six _ _ _ _ _ _ (ap (λ (b : Bool). fault_if b Settled) running) known once plain_free plain_agreed (wide_is_homeless file H q asked named known ∙ at_home)
+    where
+      none_of_six : (a b c d e f : Option Refusal) → a ≡ None → b ≡ None → c ≡ None → d ≡ None → e ≡ None → f ≡ None → first_of (a ∷ b ∷ c ∷ d ∷ e ∷ f ∷ []) ≡ None
+      none_of_six a b c d e f ha hb hc hd he hf = rw (ha, hb, hc, hd, he, hf) refl
+
+  plain_question : IsQuestion asked
+  plain_question =
+      let none : asked.condition ≡ [] = (target_named file.net q asked named).1 ∙ ap (known_pairs file.net) plain in
+      record {
+        few = subst (λ (ps : List Pair). length ps ≤ max_condition) (sym none) (omega arith);
+        apart = subst AreApart (sym none) tt;
+        target_apart = subst (λ (ps : List Pair). speaks_of ps asked.target.variable ≡ false) (sym none) refl;
+      }
+
+  pub plain_answered : IsQuestionFor (market_of file) file.tree H q asked
+  plain_answered = can_answer file H q asked named known plain_question plain_free plain_agreed at_home
 
 pub where_ok : {P : Type 0} (r : Result ⊤ Refusal) → (refusal_in r ≡ None → P) → IfOk r (λ _. P)
 where_ok (Ok x) h = h refl

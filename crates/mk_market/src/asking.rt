@@ -1,6 +1,6 @@
 //! Questions in words, and what they are in the numbers of a network.
 
-ghost use Rattle.std.specs.Prelude.{◌≡◌, ◌≤◌, [], ◌∷◌, ◌++◌, length, if◌then◌else◌, is_none, Some, IfOk};
+ghost use Rattle.std.specs.Prelude.{◌≡◌, ◌≤◌, [], ◌∷◌, ◌++◌, length, if◌then◌else◌, is_none, Some, None, IfOk, IfSome};
 ghost use Rattle.mk_net.specs.Bounds.{max_condition};
 ghost use Rattle.mk_net.specs.Events.{speaks_of};
 ghost use Rattle.mk_net.specs.Firsts.{fault_if, or_else};
@@ -8,7 +8,9 @@ ghost use Rattle.mk_net.specs.Named.{pair_named};
 ghost use Rattle.mk_exact.specs.Proper.{IsPairOf, IsQuestionOf};
 ghost use Rattle.mk_spread.specs.Spreads.{IsSpreadOf};
 ghost use Rattle.mk_quote.specs.Questions.{spread_in};
-ghost use Rattle.mk_rules.specs.Refusals.{pairs_of, names_in, question_named, spread_named, unknown, no_variable, twice};
+ghost use Rattle.mk_rules.specs.Refusals as rules;
+ghost use Rattle.mk_rules.specs.Refusals.{pairs_of, names_in, question_named, spread_named, no_variable, twice};
+ghost use Rattle.mk_reply.specs.declared.refusal.Refusal.TheVariants.{Unknown};
 ghost use Rattle.mk_market.specs.Refused.{refusal_in};
 ghost use Rattle.mk_market.specs.inner.Gathered.{IsGathered};
 
@@ -18,11 +20,34 @@ use mk_reply::Refusal;
 
 /// The numbers of a pair. It is refused where the network does not know the pair.
 pub fn known(net: &Network, words: &PairText) -> Result<Pair, Refusal>
-    ensures refusal { refusal_in result ≡ unknown net.now (words.now ∷ []) }
+    ensures refusal { refusal_in result ≡ rules.unknown net.now (words.now ∷ []) }
     ensures named { IfOk result (λ pair. pair_named net.now words.now ≡ Some pair) }
     ensures pair { IfOk result (λ pair. IsPairOf net.now pair) }
 {
-    net.find(words).ok_or(Refusal::Unknown { pair: *words })
+    match net.find(words) {
+        Some(pair) => Ok(pair),
+        None => Err(unknown(words)),
+    }
+}
+
+/// The refusal of a pair that the network does not know. It is a call of its own, since a refusal has 160 bytes, which every pair
+/// would else clear and copy.
+#[inline(never)]
+fn unknown(words: &PairText) -> Refusal
+    ensures { result ≡ Unknown words.now }
+{
+    Refusal::Unknown { pair: *words }
+}
+
+/// The question that the words ask without a condition. None where the network does not know the target.
+pub(crate) fn ask_plain(net: &Network, question: &QuestionText) -> Option<Question>
+    requires { question.now.condition.items ≡ [] }
+    ensures known { IfSome result (λ asked. rules.unknown net.now (pairs_of question.now) ≡ None) }
+    ensures named { IfSome result (λ asked. question_named net.now question.now ≡ Some asked) }
+    ensures once { IfSome result (λ asked. twice (names_in (pairs_of question.now)) ≡ None) }
+{
+    let target = net.find(&question.target)?;
+    Question::make(target, Event::empty())
 }
 
 /// The pairs of a condition before the first whose variable occurs earlier in it, and that variable.
@@ -51,7 +76,7 @@ impl Gathered {
 /// Looks up each pair of a condition, and gathers them. It is refused for the first that the network does not know.
 fn gather(net: &Network, pairs: &[PairText]) -> Result<Gathered, Refusal>
     requires { length pairs.now ≤ max_condition }
-    ensures refusal { refusal_in result ≡ unknown net.now pairs.now }
+    ensures refusal { refusal_in result ≡ rules.unknown net.now pairs.now }
     ensures gathered { IfOk result (λ found. IsGathered net.now pairs.now found.condition found.repeated) }
 {
     let mut found = Gathered {
@@ -68,7 +93,7 @@ fn gather(net: &Network, pairs: &[PairText]) -> Result<Gathered, Refusal>
 /// The question that the words ask, in the numbers of the network. It is refused for the first pair that the network does
 /// not know, the target first, and else for the first variable that occurs a second time.
 pub fn ask(net: &Network, question: &QuestionText) -> Result<Question, Refusal>
-    ensures refusal { refusal_in result ≡ or_else (unknown net.now (pairs_of question.now)) (twice (names_in (pairs_of question.now))) }
+    ensures refusal { refusal_in result ≡ or_else (rules.unknown net.now (pairs_of question.now)) (twice (names_in (pairs_of question.now))) }
     ensures named { IfOk result (λ asked. question_named net.now question.now ≡ Some asked) }
     ensures in_range { IfOk result (λ asked. IsQuestionOf net.now asked) }
 {
@@ -95,7 +120,7 @@ pub fn ask_spread(
 ) -> Result<SpreadQuestion, Refusal>
     requires { length condition.now ≤ max_condition }
     ensures refusal { refusal_in result
-        ≡ or_else (no_variable net.now variable.now) (or_else (unknown net.now condition.now) (twice (variable.now ∷ names_in condition.now))) }
+        ≡ or_else (no_variable net.now variable.now) (or_else (rules.unknown net.now condition.now) (twice (variable.now ∷ names_in condition.now))) }
     ensures named { IfOk result (λ asked. spread_named net.now variable.now condition.now ≡ Some (spread_in asked)) }
     ensures in_range { IfOk result (λ asked. IsSpreadOf net.now (spread_in asked)) }
 {

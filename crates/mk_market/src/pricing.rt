@@ -1,7 +1,7 @@
 //! What a question is worth, and what a user is worth at least.
 
 use crate::market::Market;
-use crate::refusals::{refuse_price, refuse_worst};
+use crate::refusals::{plain_price, refuse_price, refuse_worst};
 use mk_answers::{least_of, price_of};
 use mk_cash::cash;
 use mk_engine::Engine;
@@ -12,6 +12,20 @@ use mk_semiring::{MinProd, SumProd};
 impl<P: Engine<SumProd>, A: Engine<MinProd>> Market<P, A> {
     ghost use Rattle.mk_command.specs.declared.command.Command.TheVariants.{Price, Worst};
     ghost use Rattle.mk_market.specs.Trading.{IsAnswered, reply_of};
+    ghost use Rattle.std.specs.Prelude.{◌≡◌, IfSome, IfNone};
+    ghost use Rattle.mk_reply.specs.declared.reply.Reply.TheVariants as reply;
+
+    /// The price of a question without a condition that nothing refuses. None leaves all as it was, and says nothing.
+    // A call of its own, so that it does not stand on the stack of all commands.
+    #[inline(never)]
+    pub(crate) fn plain_price(&mut self, question: &QuestionText) -> Option<(u64, u64)>
+        ensures priced { IfSome result (λ price. IsAnswered self.old self.new (Price question.now) (reply.Price price.0 price.1)) }
+        ensures unpriced { IfNone result (self.new ≡ self.old) }
+    {
+        let asked = plain_price(&self.file, &self.journal, question)?;
+        let values = self.file.net.values(asked.target().variable);
+        Some(price_of(&mut self.prices, &asked, values))
+    }
 
     /// The price of a question.
     pub(crate) fn price(&mut self, question: &QuestionText) -> Result<Reply, Refusal>

@@ -16,7 +16,7 @@ ghost use Rattle.mk_rules.specs.Refusals as rules;
 ghost use Rattle.mk_market.specs.Members.{names_of};
 ghost use Rattle.mk_market.specs.Refused.{refusal_in, IsUser, IsQuestionFor, HasRoomForUser, HasRoomForTransfer, CanBeTraded, CanBeResolved, CanBeSettled};
 
-use crate::asking::{ask, known};
+use crate::asking::{ask, ask_plain, known};
 use crate::journal::Journal;
 use crate::users::Users;
 use mk_engine::Engine;
@@ -86,6 +86,26 @@ pub(crate) fn refuse_price(
     let asked = ask(&file.net, question)?;
     can_be_answered(file, journal, question, &asked)?;
     Ok(asked)
+}
+
+/// The question of a price without a condition that nothing refuses. None says nothing: no step to it can hold a refusal, which would
+/// cost more than the step.
+pub(crate) fn plain_price(
+    file: &MarketFile,
+    journal: &Journal,
+    question: &QuestionText,
+) -> Option<Question>
+    ensures refusal { IfSome result (λ asked. rules.first_refusal (market_of file.now) journal.now.history (command.Price question.now) ≡ None) }
+    ensures question { IfSome result (λ asked. IsQuestionFor (market_of file.now) file.now.tree journal.now.history question.now asked) }
+{
+    if journal.is_settled() || !question.condition.is_empty() {
+        return None;
+    }
+    let asked = ask_plain(&file.net, question)?;
+    if journal.is_resolved(asked.target().variable) || file.tree.home(&asked.event()).is_none() {
+        return None;
+    }
+    Some(asked)
 }
 
 /// What `limits` is refused for: as a price, and behind a settlement for an unknown user.

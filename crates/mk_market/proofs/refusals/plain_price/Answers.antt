@@ -1,0 +1,23 @@
+use Rattle.std.proofs.Common.{List, sym, ap, ◌∙◌}
+use Rattle.std.specs.Prelude.{is_some}
+use Rattle.mk_net.specs.declared.words.Pair.{Pair}
+use Rattle.mk_tree.specs.Given.{home}
+use Rattle.mk_rules.specs.Refusals.{is_resolved}
+use Rattle.mk_market.proofs.Refusing.{none_held, plain_unrefused, plain_answered}
+use Rattle.mk_market.proofs.refusals.plain_price.Goals as goal
+
+pub returns-clause-refusal : goal.returns-clause-refusal
+returns-clause-refusal c =
+    let file = c.args.file.now in let H = c.args.journal.now.history in let asked = c.in_ok-asked.asked in
+    let plain = none_held c.args.question.now.condition.items (sym c.is_empty.ensures ∙ c.if-not-is_empty.false) in
+    let free = ap (λ (p : Pair). is_resolved H p.variable) (sym c.target.ensures) ∙ sym c.is_resolved.ensures ∙ c.if-is_resolved.false in
+    let held = ap (λ (ps : List Pair). is_some (home file.tree ps)) (sym c.event.ensures.pairs) ∙ ap is_some (sym c.home.ensures.home) ∙ c.if-is_none.ensures in
+    plain_unrefused file H c.args.question.now asked c.in_ok-asked.ensures.named c.in_ok-asked.ensures.known plain free held (sym c.is_settled.ensures ∙ c.if-is_settled.false) c.in_ok-asked.ensures.once
+
+pub returns-clause-question : goal.returns-clause-question
+returns-clause-question c =
+    let file = c.args.file.now in let H = c.args.journal.now.history in let asked = c.in_ok-asked.asked in
+    let plain = none_held c.args.question.now.condition.items (sym c.is_empty.ensures ∙ c.if-not-is_empty.false) in
+    let free = ap (λ (p : Pair). is_resolved H p.variable) (sym c.target.ensures) ∙ sym c.is_resolved.ensures ∙ c.if-is_resolved.false in
+    let held = ap (λ (ps : List Pair). is_some (home file.tree ps)) (sym c.event.ensures.pairs) ∙ ap is_some (sym c.home.ensures.home) ∙ c.if-is_none.ensures in
+    plain_answered file H c.args.question.now asked c.in_ok-asked.ensures.named c.in_ok-asked.ensures.known plain free held
