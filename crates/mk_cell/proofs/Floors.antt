@@ -66,3 +66,15 @@ close_half_floors n g low t f fl =
     let m : added n low ≤ (added n t + n) * g = added_loss n g low t (upper_of n g low t fl) in
     close_between (added n t * g) (added n t * g) (added n low) ((added n t + n) * g) (2 * n) (le_refl _) m
     (close_scaled (added n t) (added n t + n) g (2 * n) (close_loss_half (added n t) n f))
+
+-- a lower end that is cut to 63 digits is one in two steps more
+pub lower_half_cut : (t g whole s low v : ℕ) → 1 ≤ g → 1 ≤ whole → 2 ^ 62 ≤ t → (g < 2 * whole → (h : ℕ) × (whole ≡ h * g)) → IsFloor t g low → IsLowerEnd low (v * whole) whole s → IsLowerEnd (t * g) (v * whole) whole (s + 2)
+lower_half_cut t g whole s low v p q f d fl h =
+    let u = fl.upper in
+    let lost : IsClose (t * g) low 2 = close_between (t * g) (t * g) low ((t + 1) * g) 2 (le_refl _) (omega arith) (close_scaled t (t + 1) g 2 (close_loss_half t 1 f)) in
+    let i : s + 2 ≡ 2 + s = omega arith in
+    record {
+      below = le_trans fl.lower h.below;
+      close = rw i (close_trans (t * g) low (v * whole) 2 s lost h.close);
+      same = λ l. let w = d (part_below t g whole f q l) in part_same t t g low v whole w.0 s p (le_refl t) w.1 l fl h;
+    }

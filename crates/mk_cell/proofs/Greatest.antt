@@ -1,5 +1,5 @@
 -- The greatest of some numbers.
-use Rattle.std.proofs.Common.{◌≡◌, ℕ, zero, suc, ◌+◌, ◌<◌, ◌≤◌, max, sym, ap, ◌∙◌, arith, ⊎_elim}
+use Rattle.std.proofs.Common.{◌≡◌, ℕ, zero, suc, ◌+◌, ◌<◌, ◌≤◌, max, sym, ap, ap₂, ◌∙◌, arith, ⊎_elim}
 use Rattle.std.proofs.lemmas.Bool.{cases_lt}
 use Rattle.mk_cell.specs.Passes.{folded, folded-zero, folded-suc, folded-next}
 
@@ -36,6 +36,11 @@ greatest_at_most (suc n) b f h =
     let k = greatest_at_most n b f (λ c l. h c (omega arith)) in
     let l = h n (omega arith) in
     omega arith
+
+pub greatest_same : (n : ℕ) (f g : ℕ → ℕ) → ((c : ℕ) → c < n → f c ≡ g c) → folded max 0 n f ≡ folded max 0 n g
+greatest_same zero f g h = folded-zero max 0 f ∙ sym (folded-zero max 0 g)
+greatest_same (suc n) f g h =
+    folded-suc max 0 n f ∙ ap₂ (λ x y. max x y) (greatest_same n f g (λ c l. h c (omega arith))) (h n (omega arith)) ∙ sym (folded-suc max 0 n g)
 
 pub greatest_next : (n t r : ℕ) (f : ℕ → ℕ) → t ≡ folded max 0 n f → r ≡ max t (f n) → r ≡ folded max 0 (n + 1) f
 greatest_next n t r f h k = k ∙ ap (λ x. max x (f n)) h ∙ sym (folded-next max 0 n f)

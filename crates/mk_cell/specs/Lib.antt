@@ -1,4 +1,5 @@
 pub mod Cell
 pub mod Passes
+pub mod Products
 pub mod Least
 pub mod inner

@@ -10,4 +10,4 @@ mod sums;
 pub use cell::Cell;
 pub use minima::{least, least_of_products};
 pub use scaling::times_each;
-pub use sums::{sum, sum_of_products};
+pub use sums::{first_places, sum, sum_of_products};

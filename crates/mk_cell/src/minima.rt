@@ -3,6 +3,7 @@ ghost use Rattle.std.specs.Prelude.{◌≡◌, ℕ, ◌+◌, ◌-◌, ◌*◌, �
 ghost use Rattle.mk_cell.specs.Cell.{AllStand, AreCells, Stands};
 ghost use Rattle.mk_cell.specs.Least.{IsLeastOf, IsNextTo, least};
 ghost use Rattle.mk_cell.specs.Passes.{plus_below};
+ghost use Rattle.mk_cell.specs.Products.{AreUnrounded, PairsStand};
 
 use crate::{Cell, cell};
 
@@ -16,7 +17,7 @@ pub fn least(digits: &[u64], exponents: &[u32]) -> Cell
     ensures { (k : ℕ) (f : ℕ → ℕ) (n : ℕ) → AllStand k digits.now exponents.now f n
         → Stands k result (plus_below least (length digits.now) f) n }
 {
-    let exponent = lowest(exponents);
+    let exponent = lowest(exponents, 1);
     if exponent == u32::MAX {
         return Cell::ABSENT;
     }
@@ -26,42 +27,28 @@ pub fn least(digits: &[u64], exponents: &[u32]) -> Cell
     }
 }
 
-/// The least of the products of cells that are there, rounded down as a product is.
-pub fn least_of_products(
-    left_digits: &[u64],
-    left_exponents: &[u32],
-    right_digits: &[u64],
-    right_exponents: &[u32],
-) -> Cell
-    requires left { AreCells left_digits.now left_exponents.now }
-    requires right { AreCells right_digits.now right_exponents.now }
-    requires same_length { length right_digits.now ≡ length left_digits.now }
-    ensures { (j k : ℕ) (f g : ℕ → ℕ) (n p : ℕ)
-        → AllStand j left_digits.now left_exponents.now f n
-        → AllStand k right_digits.now right_exponents.now g p
-        → Stands (j + k) result (plus_below least (length left_digits.now) (λ c. f c * g c)) (n + p + 1) }
+/// The least of products of cells that are there, rounded down, of which the first 64 places are given: the others do not count.
+pub fn least_of_products(places: &[u64], exponents: &[u32]) -> Cell
+    requires { (a e b d : ℕ → ℕ) × AreUnrounded a e b d places.now exponents.now }
+    ensures { (a e b d : ℕ → ℕ) → AreUnrounded a e b d places.now exponents.now
+        → (j k : ℕ) (f g : ℕ → ℕ) (n p : ℕ) → PairsStand (length places.now) a e b d j k f g n p
+        → Stands (j + k) result (plus_below least (length places.now) (λ c. f c * g c)) (n + p + 2 * length places.now + 1) }
 {
-    let exponent = lowest_sum(left_exponents, right_exponents);
+    let exponent = lowest(exponents, PRODUCT_LOW);
     if exponent == u32::MAX {
         return Cell::ABSENT;
     }
-    let product = least_product(
-        left_digits,
-        left_exponents,
-        right_digits,
-        right_exponents,
-        exponent,
-    );
-    cell::rounded(product, exponent + 1)
+    let least = least_places(places, exponents, exponent);
+    cell::rounded(least as u128, exponent + 64)
 }
 
-/// The least exponent of a cell that is there, or `u32::MAX`.
-fn lowest(exponents: &[u32]) -> u32
-    ensures { IsLeastOf (length exponents.now) (λ c. 1 ≤ slice_index exponents.now c) u32.MAX (slice_index exponents.now) result }
+/// The least exponent from `low` on, or `u32::MAX`.
+fn lowest(exponents: &[u32], low: u32) -> u32
+    ensures { IsLeastOf (length exponents.now) (λ c. low ≤ slice_index exponents.now c) u32.MAX (slice_index exponents.now) result }
 {
     let mut lowest = u32::MAX;
     for c in 0..exponents.len() {
-        lowest = lowest.min(from(exponents[c], 1));
+        lowest = lowest.min(from(exponents[c], low));
     }
     lowest
 }
@@ -96,54 +83,34 @@ fn at(digits: u64, exponent: u32, wanted: u32) -> u64
     if exponent == wanted { digits } else { u64::MAX }
 }
 
-/// The least sum of the exponents of two cells that are there, or `u32::MAX`.
-fn lowest_sum(left: &[u32], right: &[u32]) -> u32
-    requires same_length { length right.now ≡ length left.now }
-    requires small { (c : ℕ) → c < length left.now → slice_index left.now c + slice_index right.now c ≤ 2 ^ 30 }
-    ensures { IsLeastOf (length left.now) (λ c. PRODUCT_LOW ≤ slice_index left.now c + slice_index right.now c) u32.MAX (λ c. slice_index left.now c + slice_index right.now c) result }
+/// The least of the places whose exponent is the lowest or one more, in units of `2^(lowest + 64)`; `u64::MAX` where there is none
+/// below it.
+fn least_places(places: &[u64], exponents: &[u32], lowest: u32) -> u64
+    requires same_length { length exponents.now ≡ length places.now }
+    requires small { (c : ℕ) → c < length places.now → slice_index exponents.now c ≤ 2 ^ 30 }
+    requires lowest_at_most { lowest ≤ 2 ^ 30 }
+    ensures { IsLeastOf (length places.now) (λ c. IsNextTo lowest (slice_index exponents.now c)) u64.MAX
+        (λ c. slice_index places.now c * 2 ^ (slice_index exponents.now c - lowest)) result }
 {
-    let mut lowest = u32::MAX;
-    for c in 0..left.len() {
-        lowest = lowest.min(from(left[c] + right[c], PRODUCT_LOW));
-    }
-    lowest
-}
-
-/// The least of the products whose exponents come to `exponent` or one more, in units of
-/// `2^(exponent + 1)` and rounded down; `u128::MAX` where there is none.
-fn least_product(
-    left_digits: &[u64],
-    left_exponents: &[u32],
-    right_digits: &[u64],
-    right_exponents: &[u32],
-    exponent: u32,
-) -> u128
-    requires left_length { length left_exponents.now ≡ length left_digits.now }
-    requires digits_length { length right_digits.now ≡ length left_digits.now }
-    requires exponents_length { length right_exponents.now ≡ length left_digits.now }
-    requires small { (c : ℕ) → c < length left_digits.now → slice_index left_exponents.now c + slice_index right_exponents.now c ≤ 2 ^ 30 }
-    requires exponent_at_most { exponent ≤ 2 ^ 30 }
-    ensures { IsLeastOf (length left_digits.now)
-        (λ c. IsNextTo exponent (slice_index left_exponents.now c + slice_index right_exponents.now c)) u128.MAX
-        (λ c. slice_index left_digits.now c * slice_index right_digits.now c
-        / 2 ^ (exponent + 1 - (slice_index left_exponents.now c + slice_index right_exponents.now c))) result }
-{
-    let mut least = u128::MAX;
-    for c in 0..left_digits.len() {
-        let distance = (left_exponents[c] + right_exponents[c]).wrapping_sub(exponent);
-        least = least.min(near(left_digits[c], right_digits[c], distance));
+    let mut least = u64::MAX;
+    for c in 0..places.len() {
+        let distance = exponents[c].wrapping_sub(lowest);
+        least = least.min(near(places[c], distance));
     }
     least
 }
 
-/// Half the product, or the product where it lies one place higher; `u128::MAX` beyond.
+/// The places, twice them where they lie one place higher, or `u64::MAX` beyond and where twice them is above it.
+// It makes no choice between the first two, which would be guessed wrong every other time.
 #[inline]
-fn near(left: u64, right: u64, distance: u32) -> u128
-    ensures near { distance ≤ 1 → result ≡ left * right / 2 ^ (1 - distance) }
-    ensures far { 1 < distance → result ≡ u128.MAX }
+fn near(places: u64, distance: u32) -> u64
+    ensures fits { distance ≤ 1 → places * 2 ^ distance ≤ u64.MAX → result ≡ places * 2 ^ distance }
+    ensures over { distance ≤ 1 → u64.MAX < places * 2 ^ distance → result ≡ u64.MAX }
+    ensures far { 1 < distance → result ≡ u64.MAX }
 {
     if distance > 1 {
-        return u128::MAX;
+        return u64::MAX;
     }
-    (left as u128 * right as u128) >> (1 - distance)
+    let over = (places >> 63) & distance as u64;
+    (places << distance) | over.wrapping_neg()
 }

@@ -1,9 +1,11 @@
 //! Answers at the edges. The values were computed by Python's whole numbers: a product is the greatest
 //! number of 64 digits that is not above it, and a sum that of its parts, each cut to the places of the
-//! greatest cell.
+//! greatest cell. A product in a sum or a least is cut to the first 64 of its 128 places before: where the
+//! first of them is 0, so is the last of the 64 digits.
 ghost use Rattle.std.specs.Prelude.{◌≡◌, length, slice_index};
 ghost use Rattle.mk_cell.specs.Cell.{AreCells, IsCell};
 
+use crate::products::unrounded;
 use mk_cell::{Cell, least, least_of_products, sum, sum_of_products, times_each};
 use mk_enclose::Enclosure;
 use std::process::Abort;
@@ -179,7 +181,7 @@ const ROWS: [Row; 12] = [
     },
 ];
 
-const PRODUCTS: [Products; 11] = [
+const PRODUCTS: [Products; 13] = [
     Products {
         left_digits: [9223372036854775808, 9223372036854775808],
         left_exponents: [268435456, 268435456],
@@ -290,6 +292,28 @@ const PRODUCTS: [Products; 11] = [
         sum: (9223372036854775810, 268435520),
         least: (9223372036854775810, 268435519),
     },
+    // The least loses the last digit of its product.
+    Products {
+        left_digits: [9223372036854775808, 18446744073709551615],
+        left_exponents: [268435456, 268435456],
+        right_digits: [18446744073709551615, 18446744073709551615],
+        right_exponents: [268435456, 268435456],
+        each_digits: [18446744073709551615, 18446744073709551614],
+        each_exponents: [268435519, 268435520],
+        sum: (13835058055282163710, 268435521),
+        least: (18446744073709551614, 268435519),
+    },
+    // The greater product has full places one place higher.
+    Products {
+        left_digits: [18446744073709551615, 18446744073709551615],
+        left_exponents: [268435456, 268435457],
+        right_digits: [18446744073709551615, 18446744073709551615],
+        right_exponents: [268435456, 268435456],
+        each_digits: [18446744073709551614, 18446744073709551614],
+        each_exponents: [268435520, 268435521],
+        sum: (13835058055282163710, 268435522),
+        least: (18446744073709551614, 268435520),
+    },
 ];
 
 fn parts(cell: Cell) -> Parts {
@@ -341,18 +365,14 @@ fn check_row(rt: &impl Abort, row: Row) {
 fn check_products(rt: &impl Abort, row: Products) {
     check_cells(rt, &row.left_digits, &row.left_exponents);
     check_cells(rt, &row.right_digits, &row.right_exponents);
-    let sum = sum_of_products(
+    let (places, exponents) = unrounded(
         &row.left_digits,
         &row.left_exponents,
         &row.right_digits,
         &row.right_exponents,
     );
-    let least = least_of_products(
-        &row.left_digits,
-        &row.left_exponents,
-        &row.right_digits,
-        &row.right_exponents,
-    );
+    let sum = sum_of_products(&places, &exponents);
+    let least = least_of_products(&places, &exponents);
     assert_eq!(rt; parts(sum), row.sum);
     assert_eq!(rt; parts(least), row.least);
 }

@@ -9,6 +9,8 @@ mod cells;
 #[cfg(test)]
 mod enclosures;
 #[cfg(test)]
+mod products;
+#[cfg(test)]
 mod quotes;
 #[cfg(test)]
 mod scaled;

@@ -1,7 +1,9 @@
-//! Each semiring through its trait. What the tables of edges hold was worked out by Python's whole numbers.
+//! Each semiring through its trait. What the tables of edges hold was worked out by Python's whole numbers; a
+//! product in a sum or a least is cut to the first 64 of its 128 places before.
 ghost use Rattle.std.specs.Prelude.{◌≡◌, ◌≤◌, length};
 ghost use Rattle.mk_cell.specs.Cell.{AreCells, IsCell};
 
+use crate::products::unrounded;
 use mk_cell::Cell;
 use mk_semiring::{Held, MinProd, Semiring, SumProd};
 use std::process::Abort;
@@ -71,7 +73,7 @@ const ROWS: [Row; 7] = [
         sum: (9223372036854775808, 268435520),
         least: (9223372036854775808, 268435455),
         sum_of_products: (9223372036854775810, 268435583),
-        least_of_products: (18446744073709551615, 268435448),
+        least_of_products: (18446744073709551614, 268435448),
     },
     // One digit of the lesser is left.
     Row {
@@ -90,7 +92,7 @@ const ROWS: [Row; 7] = [
         sum: (9223372036854775810, 268435519),
         least: (9223372036854775808, 268435456),
         sum_of_products: (9223372036854775810, 268435582),
-        least_of_products: (18446744073709551615, 268435456),
+        least_of_products: (18446744073709551614, 268435456),
     },
     // Each product has an absent factor.
     Row {
@@ -116,7 +118,7 @@ const ROWS: [Row; 7] = [
         sum: (13835058055282163711, 268435450),
         least: (18446744073709551615, 268435448),
         sum_of_products: (13835058055282163710, 268435514),
-        least_of_products: (18446744073709551615, 268435512),
+        least_of_products: (18446744073709551614, 268435512),
     },
     // 2^63 - 1 in whole ones.
     Row {
@@ -289,13 +291,13 @@ fn check_row<R: Semiring>(rt: &impl Abort, row: Row, plus: Parts, plus_of_produc
     check_cells(rt, &row.digits, &row.exponents);
     check_cells(rt, &row.other_digits, &row.other_exponents);
     assert_eq!(rt; parts(R::over(&row.digits, &row.exponents)), plus);
-    let products = R::over_products(
+    let (places, sums) = unrounded(
         &row.digits,
         &row.exponents,
         &row.other_digits,
         &row.other_exponents,
     );
-    assert_eq!(rt; parts(products), plus_of_products);
+    assert_eq!(rt; parts(R::over_products(&places, &sums)), plus_of_products);
 }
 
 /// The value of the plus of two numbers, as cells under a shift.

@@ -157,6 +157,17 @@ module _ (plus : ℕ → ℕ → ℕ) (flow : FlowOf) (cores products : List Tab
           (subst (λ (g : Gathered). IsGathered plus flow k g after) (sym m) (marked_moved plus k Everything after shape flow.shape upward flow.upward downward flow.downward s u d h));
     }
 
+  -- a clique's table is summed over its core, whatever it is marked
+  pub flow_summed : (table : TableOf) → table_at flow k ≡ table → (was core : TableOf) → was ≡ slice_index_or cores (k - 1) was → core.scope ≡ was.scope → HasCore plus shape k table core → (mark : Bool)
+      → IsFlow plus flow (slice_set cores (k - 1) core) products (slice_set summed (k - 1) mark) gathered cells
+  flow_summed table t was core e same sum mark = record {
+    kept = kept_over flow cores products (slice_set cores (k - 1) core) products cells is_flow.kept (cores_still flow cores is_flow.kept.cores_are k clique was core e same) is_flow.kept.products_are;
+    summed_are =
+        put_anew Bool flow.shape.tree false (IsSummed plus flow) cores summed is_flow.summed_are k clique is_flow.kept.cores_are.one_each core mark
+        (λ _. core_moved plus k core shape flow.shape table (table_at flow k) s (sym t) sum);
+    gathered_are = is_flow.gathered_are;
+  }
+
 -- ---- a clique's table changes
 
 pub table_unmarks : (plus : ℕ → ℕ → ℕ) (old : FlowOf) (tables : List TableOf) (factors b : ℕ) (cores : List TableOf) (summed : List Bool) → AreMarked Bool old.shape.tree false (IsSummed plus old) cores summed → IsClique old.shape.tree b

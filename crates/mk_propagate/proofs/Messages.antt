@@ -1,7 +1,9 @@
 -- What a clique gathers, message by message, and what it sends.
-use Rattle.std.proofs.Common.{◌≡◌, ℕ, ◌+◌, ◌-◌, ◌*◌, ◌<◌, ◌≤◌, ◌==◌, Bool, true, false, cond, not, ◌&&◌, ◌||◌, ◌⊎◌, inl, inr, List, [], take, get_or, slice_index, length, max, Option, Some, None, eqb, sum_by, refl, sym, ap, subst, ◌∙◌, arith, mul-one, mul_comm}
+use Rattle.std.proofs.Common.{◌≡◌, ℕ, ◌+◌, ◌-◌, ◌*◌, ◌<◌, ◌≤◌, ◌==◌, Bool, true, false, cond, not, ◌&&◌, ◌||◌, ◌⊎◌, inl, inr, List, [], ◌∷◌, take, get_or, slice_index, length, max, Option, Some, None, eqb, sum_by, refl, sym, ap, subst, ◌∙◌, arith, mul-one, mul_comm}
 use Rattle.std.proofs.Math.Path.{fun_ext}
+use Rattle.std.proofs.Math.Nat.{one-mul}
 use Rattle.std.proofs.lemmas.Bool.{cases_Bool, both_ways, and_parts}
+use Rattle.std.specs.List.{list_any}
 use Rattle.std.proofs.Math.Seq.{take-length}
 use Rattle.std.proofs.lemmas.List.{take_more}
 use Rattle.std.proofs.lemmas.List.Elements.{All-weaker}
@@ -30,7 +32,7 @@ use Rattle.mk_tree.specs.Given.{GivenTree, clique_at, holds, link_of}
 use Rattle.mk_propagate.specs.Shapes.{ShapeOf, IsShapeFor, IsClique, clique_scope, core_scope, separator_scope, separator_between, scope_within, in_core, neighbours, clique_cells}
 use Rattle.mk_propagate.specs.Placings.{Placing, IsPlacing, placed_there, factors_in}
 use Rattle.mk_propagate.specs.Flows.{HasCells, exact_message, exact_message_grade}
-use Rattle.mk_propagate.specs.inner.Gathered.{is_taken, is_input, IsRightIn, core_there, core_steps, private_cells, HasOutgoing, gathered, gathered_steps, gathered_factors, HasGathered, IsMargin, IsMarginOfProduct}
+use Rattle.mk_propagate.specs.inner.Gathered.{is_taken, is_input, IsRightIn, core_there, core_steps, private_cells, HasOutgoing, gathered, gathered_steps, gathered_factors, HasGathered, IsMargin, IsMarginOfProduct, IsMessageAlone}
 use Rattle.mk_propagate.proofs.Scopes.{has_within, variable_of_network, part_has_fewer, clique_counted, clique_small}
 use Rattle.mk_propagate.proofs.Cores.{core_has, core_part, neighbour_linked}
 use Rattle.mk_table.proofs.Chosen.{chosen_pass}
@@ -60,6 +62,17 @@ beside_at_most part whole =
 -- one factor more of a product over a list
 product_more : (f : ℕ → ℕ) (xs : List ℕ) (j i : ℕ) → j < length xs → i ≡ get_or xs j 0 → product_by f (take (j + 1) xs) ≡ product_by f (take j xs) * f i
 product_more f xs j i l e = ap (product_by f) (take_more xs j 0 l) ∙ product_by_push f (take j xs) (get_or xs j 0) ∙ ap (λ x. product_by f (take j xs) * f x) (sym e)
+
+-- a product over a list of which nothing passes the test is 1
+none_listed : (test : ℕ → Bool) (f : ℕ → ℕ) (xs : List ℕ) → list_any test xs ≡ false → product_by (λ i. cond (test i) (f i) 1) xs ≡ 1
+none_listed test f [] h = refl
+none_listed test f (x ∷ xs) h =
+    let q = neither (test x) (list_any test xs) h in
+    ap (λ (t : Bool). cond t (f x) 1 * product_by (λ i. cond (test i) (f i) 1) xs) q.0 ∙ ap (λ n. 1 * n) (none_listed test f xs q.1)
+  where
+    neither : (b c : Bool) → (b || c) ≡ false → (b ≡ false) × (c ≡ false)
+    neither true c e = absurd (both_ways true e refl)
+    neither false c e = (refl, e)
 
 module _ (shape : ShapeOf) (p : Placing) (is : IsShapeFor shape p.network) (placing : IsPlacing shape.tree p) where
   abbrev tree : GivenTree
@@ -148,6 +161,23 @@ module _ (shape : ShapeOf) (p : Placing) (is : IsShapeFor shape p.network) (plac
             ap (λ v. f (values_at old.scope c) * v) (message_value i k l message.scope old.scope right.scope_is o.scope_is c inside)
             ∙ same (values_at old.scope c) ∙ ap (λ (s : ScopeOf). h (values_at s c)) (sym scope)
 
+    -- a message alone over a core
+    pub alone_right : (i k : ℕ) → linked (link_of tree) count i k ≡ true → (h : (ℕ → ℕ) → ℕ) (n_after m_after : ℕ) (old new message : TableOf) → old.scope ≡ core_scope shape k → IsRightIn plus shape p i k message → IsMessageAlone message old new
+        → ((a : ℕ → ℕ) → exact_message plus tree p i k a ≡ h a) → 3 * exact_message_grade tree p i k ≤ n_after → exact_message_grade tree p i k ≤ m_after
+        → HasCells new (core_scope shape k) h n_after m_after
+    alone_right i k l h n_after m_after old new message over_core right m same steps factors = record {
+      scope_is = m.scope ∙ over_core;
+      numbers = numbers_again new (λ c. exact_message plus tree p i k (values_at message.scope (cell_in message.scope old.scope c))) (λ c. h (values_at new.scope c)) (3 * exact_message_grade tree p i k) n_after steps there
+          (m.numbers (λ c. exact_message plus tree p i k (values_at message.scope c)) (3 * exact_message_grade tree p i k) right.numbers);
+      small_shift = let c = right.small_shift in omega (arith, c, m.shift, factors);
+    }
+      where
+        there : (c : ℕ) → c < length new.digits → exact_message plus tree p i k (values_at message.scope (cell_in message.scope old.scope c)) ≡ h (values_at new.scope c)
+        there c q =
+            let inside : c < cells_in old.scope = let z = ap cells_in m.scope in omega (arith, q, m.full, z) in
+            message_value i k l message.scope old.scope right.scope_is over_core c inside
+            ∙ same (values_at old.scope c) ∙ ap (λ (s : ScopeOf). h (values_at s c)) (sym m.scope)
+
     -- outside the core there are the clique's own variables
     abbrev private : ℕ → ℕ → Bool
     private k x = holds tree k x && not (in_core tree k x)
@@ -165,12 +195,14 @@ module _ (shape : ShapeOf) (p : Placing) (is : IsShapeFor shape p.network) (plac
       abbrev factors_of : ℕ → ℕ
       factors_of i = cond (is_taken receiver i) (exact_message_grade tree p i k) 0
 
-      -- before the first neighbour
-      pub begins : (table : TableOf) → table.scope ≡ core_scope shape k → table.shift ≡ 0 → HasNumbers table (λ c. 1) 0 → length table.digits ≡ cells_in table.scope → HasGathered plus shape k receiver [] table p
-      begins table scope shift ones full = record {
+      -- where no message is taken
+      pub none_gathered : (listed : List ℕ) (table : TableOf) → list_any (is_taken receiver) listed ≡ false → table.scope ≡ core_scope shape k → table.shift ≡ 0 → HasNumbers table (λ c. 1) 0 → length table.digits ≡ cells_in table.scope
+          → HasGathered plus shape k receiver listed table p
+      none_gathered listed table none scope shift ones full = record {
         cells = record {
           scope_is = scope;
-          numbers = numbers_again table (λ c. 1) (λ c. gathered plus tree p k receiver [] (values_at table.scope c)) 0 (gathered_steps tree p k receiver []) (omega arith) (λ c _. refl) ones;
+          numbers = numbers_again table (λ c. 1) (λ c. gathered plus tree p k receiver listed (values_at table.scope c)) 0 (gathered_steps tree p k receiver listed) (omega arith)
+              (λ c _. sym (none_listed (is_taken receiver) (λ i. exact_message plus tree p i k (values_at table.scope c)) listed none)) ones;
           small_shift = omega (arith, shift);
         };
         full = full;
@@ -220,6 +252,20 @@ module _ (shape : ShapeOf) (p : Placing) (is : IsShapeFor shape p.network) (plac
               (let s = steps_more in let w = ap {B = ℕ} (λ t. cond t (3 * exact_message_grade tree p i k + 1) 0) h in omega (arith, s, w))
               (let s = factors_more in let w = ap {B = ℕ} (λ t. cond t (exact_message_grade tree p i k) 0) h in omega (arith, s, w));
           full = full;
+        }
+
+        -- the first neighbour whose message is taken
+        pub first_taken : (old new message : TableOf) → is_taken receiver i ≡ true → list_any (is_taken receiver) before ≡ false → old.scope ≡ core_scope shape k → IsRightIn plus shape p i k message → IsMessageAlone message old new
+            → HasGathered plus shape k receiver after new p
+        first_taken old new message h none over_core right m = record {
+          cells = alone_right i k (neighbour_linked tree k j i l e) (gathered plus tree p k receiver after) (gathered_steps tree p k receiver after) (gathered_factors tree p k receiver after) old new message over_core right m
+              (λ a.
+              sym (one-mul (exact_message plus tree p i k a))
+              ∙ ap (λ n. n * exact_message plus tree p i k a) (sym (none_listed (is_taken receiver) (λ i. exact_message plus tree p i k a) before none))
+              ∙ ap (λ n. gathered plus tree p k receiver before a * n) (sym (ap (λ (t : Bool). cond t (exact_message plus tree p i k a) 1) h)) ∙ gathered_more a)
+              (let s = steps_more in let w = ap {B = ℕ} (λ t. cond t (3 * exact_message_grade tree p i k + 1) 0) h in omega (arith, s, w))
+              (let s = factors_more in let w = ap {B = ℕ} (λ t. cond t (exact_message_grade tree p i k) 0) h in omega (arith, s, w));
+          full = m.full;
         }
 
         pub message_room : (message : TableOf) → is_taken receiver i ≡ true → IsRightIn plus shape p i k message → HasRoom message 1

@@ -1,6 +1,7 @@
 -- What is prepared over the core of a clique: its table summed there, and the messages into it.
-use Rattle.std.proofs.Common.{◌≡◌, ℕ, ◌+◌, ◌*◌, true, refl, List, length, max, Option, Some, None, sym, ap, subst, ◌∙◌, arith}
+use Rattle.std.proofs.Common.{◌≡◌, ℕ, ◌+◌, ◌*◌, true, false, refl, List, length, max, Option, Some, None, sym, ap, subst, ◌∙◌, arith}
 use Rattle.std.proofs.Math.Seq.{take-length}
+use Rattle.std.specs.List.{list_any}
 use Rattle.std.proofs.lemmas.Bool.{and_from, and_parts}
 use Rattle.mk_exact.specs.Lawful.{Lawful}
 use Rattle.mk_sums.specs.Trees.{linked, linked_to}
@@ -11,7 +12,7 @@ use Rattle.mk_tree.specs.Given.{link_of}
 use Rattle.mk_propagate.specs.Shapes.{ShapeOf, IsClique, clique_scope, core_scope, separator_scope, separator_between, neighbours}
 use Rattle.mk_propagate.specs.Placings.{Placing}
 use Rattle.mk_propagate.specs.inner.Gathered.{is_taken, message_in, IsRightIn, CanTake, HasCore, HasGathered, HasInto, IsGathering, IsMargin}
-use Rattle.mk_propagate.proofs.Messages.{core_sums, whole_room, put_back, back_room}
+use Rattle.mk_propagate.proofs.Messages.{core_sums, none_gathered, whole_room, put_back, back_room}
 
 -- the shape has its places in what is gathered so far
 pub places_there : (plus : ℕ → ℕ → ℕ) (shape : ShapeOf) (k i : ℕ) (p : Placing) (old message : TableOf) → old.scope ≡ core_scope shape k
@@ -32,10 +33,19 @@ module _ (plus : ℕ → ℕ → ℕ) (law : Lawful plus) (shape : ShapeOf) (k :
   }
 
   module _ (upward downward : List TableOf) where
-    -- after the last neighbour
-    pub into_of : (receiver : Option ℕ) (product : TableOf) → IsGathering plus shape upward downward k receiver (length (neighbours shape.tree k)) product → HasInto plus shape upward downward k receiver product
+    -- after the last neighbour, once a message was taken
+    pub into_of : (receiver : Option ℕ) (product : TableOf) → IsGathering plus shape upward downward k receiver (length (neighbours shape.tree k)) false product → HasInto plus shape upward downward k receiver product
     into_of receiver product h = record {
-      into = λ p can. subst (λ (xs : List ℕ). HasGathered plus shape k receiver xs product p) (take-length (neighbours shape.tree k)) (h.has p can);
+      into = λ p can. subst (λ (xs : List ℕ). HasGathered plus shape k receiver xs product p) (take-length (neighbours shape.tree k)) (h.has refl p can);
+    }
+
+    -- where none was taken it is 1
+    pub into_none : (receiver : Option ℕ) (before product : TableOf) → IsGathering plus shape upward downward k receiver (length (neighbours shape.tree k)) true before
+        → product.scope ≡ before.scope → product.shift ≡ 0 → HasNumbers product (λ c. 1) 0 → length product.digits ≡ cells_in product.scope → HasInto plus shape upward downward k receiver product
+    into_none receiver before product h scope shift ones full = record {
+      into = λ p can.
+          none_gathered shape p can.shape_is can.placing plus law k clique receiver (neighbours shape.tree k) product
+          (subst (λ (xs : List ℕ). list_any (is_taken receiver) xs ≡ false) (take-length (neighbours shape.tree k)) (h.none refl)) (scope ∙ h.scope) shift ones full;
     }
 
     -- the message that a product leaves out is put back

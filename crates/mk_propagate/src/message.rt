@@ -1,13 +1,13 @@
 //! Messages.
 
-ghost use Rattle.std.specs.Prelude.{◌≡◌, ◌≢◌, ℕ, ◌+◌, ◌-◌, ◌*◌, ◌<◌, ◌≤◌, length, true, None, Some, if◌then◌else◌};
+ghost use Rattle.std.specs.Prelude.{◌≡◌, ◌≢◌, ℕ, ◌+◌, ◌-◌, ◌*◌, ◌<◌, ◌≤◌, length, true, false, None, Some, if◌then◌else◌};
 ghost use Rattle.mk_table.specs.Scopes.{cells_in};
 ghost use Rattle.mk_table.specs.Tables.{HasRoom};
 ghost use Rattle.mk_propagate.specs.declared.gathered.Gathered.TheVariants.{Everything};
 ghost use Rattle.mk_propagate.specs.Shapes.{IsClique, are_linked, clique_scope, core_scope, separator_between, neighbours};
 ghost use Rattle.mk_propagate.specs.Placings.{Placing};
 ghost use Rattle.mk_propagate.specs.Flows.{HasPlaced, AreRightBut, IsRight, CanSend, KeepsTables, message_at, counted_on};
-ghost use Rattle.mk_propagate.specs.inner.Gathered.{is_taken, message_in, IsRightIn, AreMessages, CanTake, HasCore, HasInto, HasMarked, HasOutgoing, IsMargin, IsMarginOfProduct};
+ghost use Rattle.mk_propagate.specs.inner.Gathered.{is_taken, message_in, IsRightIn, AreMessages, CanTake, HasCore, HasInto, HasMarked, HasOutgoing, IsMargin, IsMarginOfProduct, IsMessageAlone, IsTimesMessage};
 
 use crate::flow::Flow;
 use crate::gathered::Gathered;
@@ -112,7 +112,7 @@ fn margin_of_product<R: Semiring>(
 }
 
 /// Sums a clique's table over its core, unless that is done.
-fn sum_core<R: Semiring>(
+pub(crate) fn sum_core<R: Semiring>(
     core: &mut Table<R>,
     summed: &mut bool,
     table: &Table<R>,
@@ -235,16 +235,34 @@ fn gather<R: Semiring>(
     ensures scope { product.new.scope ≡ product.old.scope }
     ensures into { HasInto R.plus_of shape.now upward.now downward.now clique receiver product.new }
 {
-    product.clear();
+    let mut first = true;
     for neighbour in shape.neighbours(clique) {
         if is_taken(receiver, *neighbour) {
-            product.times_message(
-                shape.places(clique, *neighbour),
-                message_of(upward, downward, *neighbour, clique),
-            );
-            let _ = product.cells();
+            let message = message_of(upward, downward, *neighbour, clique);
+            take(product, shape.places(clique, *neighbour), message, first);
+            first = false;
         }
     }
+    if first {
+        product.clear();
+    }
+}
+
+/// Multiplies a product by a message. The first message is put in place of what was there: 1 times a cell is that cell.
+fn take<R: Semiring>(product: &mut Table<R>, places: &Places, message: &Table<R>, first: bool)
+    requires places { places.now ≡ record { whole = product.old.scope; part = message.now.scope } }
+    requires room { first ≡ false → HasRoom product.old 1 }
+    requires message_room { HasRoom message.now 1 }
+    ensures first { first ≡ true → IsMessageAlone message.now product.old product.new }
+    ensures more { first ≡ false → IsTimesMessage message.now product.old product.new }
+{
+    if first {
+        product.put_message(places, message);
+    } else {
+        product.times_message(places, message);
+    }
+    // As in `margin`.
+    let _ = product.cells();
 }
 
 /// Whether a neighbour's message is taken: it is not the receiver.

@@ -9,15 +9,15 @@ ghost use Rattle.mk_propagate.specs.Flows.{HasPlaced, AreRightInto, CanRead, IsR
 ghost use Rattle.mk_propagate.specs.inner.Totals.{HaveTotal, IsWithin, total_of};
 
 use crate::flow::Flow;
-use crate::message::refresh;
+use crate::message::{refresh, sum_core};
 use mk_net::Event;
 use mk_semiring::Semiring;
 use mk_table::{CellList, Places, Table};
 
 impl<R: Semiring> Flow<R> {
     /// The belief in an event, read in a clique that holds it: the plus, over the cells where the event holds, of what is placed in
-    /// the clique times the messages from all its neighbours. Where the core has the event, and what is placed was summed over it, it
-    /// is read there, in fewer cells.
+    /// the clique times the messages from all its neighbours. Where the core has the event, it is read there, in fewer cells; what is
+    /// placed is summed over it first, which the next message needs too.
     pub fn read(&mut self, clique: u32, event: &Event) -> R::Value
         requires { CanRead R.plus_of self.old clique event.now }
         ensures kept { self.new ≡ self.old }
@@ -37,7 +37,14 @@ impl<R: Semiring> Flow<R> {
         let table = &self.tables[place];
         let separators = self.shape.cliques() - 1;
         let grade = self.factors + self.cells + 2 * separators + table.cells() as u32;
-        if self.summed[place] && self.shape.core_holds(clique, event) {
+        if self.shape.core_holds(clique, event) {
+            sum_core(
+                &mut self.cores[place],
+                &mut self.summed[place],
+                table,
+                &self.shape,
+                clique,
+            );
             return value_of(
                 &self.cores[place],
                 self.shape.own_places(clique),

@@ -4,6 +4,7 @@ ghost use Rattle.mk_net.specs.Bounds.{number_limit};
 ghost use Rattle.mk_exact.specs.Lawful.{Lawful};
 ghost use Rattle.mk_cell.specs.Cell.{AllStand, AreCells, Stands, IsOwnOf};
 ghost use Rattle.mk_cell.specs.Passes.{plus_below};
+ghost use Rattle.mk_cell.specs.Products.{AreUnrounded, PairsStand};
 
 use mk_cell::Cell;
 
@@ -71,20 +72,12 @@ pub trait Semiring {
         ensures { (k : ℕ) (f : ℕ → ℕ) (n : ℕ) → AllStand k digits.now exponents.now f n
             → Stands k result (plus_below plus_of (length digits.now) f) (n + length digits.now) };
 
-    /// The plus of the products of cells.
-    fn over_products(
-        left_digits: &[u64],
-        left_exponents: &[u32],
-        right_digits: &[u64],
-        right_exponents: &[u32],
-    ) -> Cell
-        requires left { AreCells left_digits.now left_exponents.now }
-        requires right { AreCells right_digits.now right_exponents.now }
-        requires same_length { length right_digits.now ≡ length left_digits.now }
-        ensures { (j k : ℕ) (f g : ℕ → ℕ) (n p : ℕ)
-            → AllStand j left_digits.now left_exponents.now f n
-            → AllStand k right_digits.now right_exponents.now g p
-            → Stands (j + k) result (plus_below plus_of (length left_digits.now) (λ c. f c * g c)) (n + p + 2 * length left_digits.now + 1) };
+    /// The plus of products of cells, of which the first 64 places are given.
+    fn over_products(places: &[u64], exponents: &[u32]) -> Cell
+        requires { (a e b d : ℕ → ℕ) × AreUnrounded a e b d places.now exponents.now }
+        ensures { (a e b d : ℕ → ℕ) → AreUnrounded a e b d places.now exponents.now
+            → (j k : ℕ) (f g : ℕ → ℕ) (n p : ℕ) → PairsStand (length places.now) a e b d j k f g n p
+            → Stands (j + k) result (plus_below plus_of (length places.now) (λ c. f c * g c)) (n + p + 2 * length places.now + 1) };
 
     /// The value of a cell that stands for its number in at most three steps for each of the grade. An untouched cell also
     /// stands, under no shift, for a number of its own: where that is below `2^63` the value is exact, and it encloses the

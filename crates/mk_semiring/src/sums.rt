@@ -65,13 +65,8 @@ impl Semiring for SumProd {
         mk_cell::sum(digits, exponents)
     }
 
-    fn over_products(
-        left_digits: &[u64],
-        left_exponents: &[u32],
-        right_digits: &[u64],
-        right_exponents: &[u32],
-    ) -> Cell {
-        mk_cell::sum_of_products(left_digits, left_exponents, right_digits, right_exponents)
+    fn over_products(places: &[u64], exponents: &[u32]) -> Cell {
+        mk_cell::sum_of_products(places, exponents)
     }
 
     fn of_cell(cell: Cell, shift: u32, untouched: bool, grade: u32) -> Held {

@@ -21,7 +21,7 @@ pub mod Runs
 pub mod Ready
 pub mod Numbered
 pub mod Paired
+pub mod Unrounded
 pub mod Multiplied
-pub mod Appended
 pub mod Spread
 pub mod Pluses

@@ -1,4 +1,4 @@
--- What a blank table becomes where it is multiplied by a message: the message's cells.
+-- Tables whose cells become a message's: so do those of a blank table that is multiplied by it.
 use Rattle.std.proofs.Common.{◌≡◌, ℕ, ◌+◌, ◌*◌, ◌<◌, ◌≤◌, List, length, slice_index, sym, ap, subst, ◌∙◌, arith}
 use Rattle.std.proofs.Math.Nat.{mul_comm}
 use Rattle.std.proofs.lemmas.List.{get_or_past}
@@ -7,7 +7,7 @@ use Rattle.mk_table.specs.Scopes.{ScopeOf, LiesIn, cells_in}
 use Rattle.mk_table.specs.Cells.{cell_in}
 use Rattle.mk_table.specs.inner.Blank.{one_digits, one_exponent, filled}
 use Rattle.mk_table.specs.inner.Parts.{AreBlankOrFull, AreOnto, IsChanged, IsTimesCell}
-use Rattle.mk_table.proofs.Filled.{all_full, filled_length, filled_full, one_at}
+use Rattle.mk_table.proofs.Filled.{at_most, filled_length, filled_full, one_at}
 use Rattle.mk_table.proofs.Kept.{cell_within}
 use Rattle.mk_table.proofs.OnesSum.{times_one}
 
@@ -24,51 +24,29 @@ one_times q x form = record {
   };
 }
 
--- the message's cells are put where they belong, into a table of which nothing is written
-module _ (part whole : ScopeOf) (lies : LiesIn part whole) (onto d e md me nd ne : List ℕ) (places : AreOnto part whole onto)
-    (blank : (length d ≡ 0) × (length e ≡ 0)) (message : AreBlankOrFull (cells_in part) md me) (full : cells_in part ≤ length md)
-    (forms : (c : ℕ) → c < length md → IsForm (slice_index md c) (slice_index me c)) (long : length nd ≡ length onto) (long_too : length ne ≡ length onto)
-    (digits_are : (c : ℕ) → c < length onto → slice_index nd c ≡ slice_index md (slice_index onto c))
-    (exponents_are : (c : ℕ) → c < length onto → slice_index ne c ≡ slice_index me (slice_index onto c)) where
+-- the message's cells stand where they belong, in a table of which nothing was written
+module _ (part whole : ScopeOf) (lies : LiesIn part whole) (d e md me nd ne : List ℕ)
+    (blank : (length d ≡ 0) × (length e ≡ 0)) (held : AreBlankOrFull (cells_in whole) nd ne)
+    (forms : (p : ℕ) → p < cells_in part → IsForm (slice_index (filled one_digits (cells_in part) md) p) (slice_index (filled one_exponent (cells_in part) me) p))
+    (digits_are : (c : ℕ) → c < cells_in whole → slice_index (filled one_digits (cells_in whole) nd) c ≡ slice_index (filled one_digits (cells_in part) md) (cell_in part whole c))
+    (exponents_are : (c : ℕ) → c < cells_in whole → slice_index (filled one_exponent (cells_in whole) ne) c ≡ slice_index (filled one_exponent (cells_in part) me) (cell_in part whole c)) where
   abbrev pub n : ℕ
   n = cells_in whole
 
-  abbrev pub m : ℕ
-  m = cells_in part
+  abbrev pub q : ℕ → ℕ
+  q c = slice_index (filled one_digits (cells_in part) md) (cell_in part whole c)
 
-  nd_is : filled one_digits n nd ≡ nd
-  nd_is = filled_full one_digits n nd (omega (arith, long, places.one_each))
+  abbrev pub x : ℕ → ℕ
+  x c = slice_index (filled one_exponent (cells_in part) me) (cell_in part whole c)
 
-  ne_is : filled one_exponent n ne ≡ ne
-  ne_is = filled_full one_exponent n ne (omega (arith, long_too, places.one_each))
-
-  md_is : filled one_digits m md ≡ md
-  md_is = filled_full one_digits m md full
-
-  me_is : filled one_exponent m me ≡ me
-  me_is = filled_full one_exponent m me (all_full m md me message full)
-
-  spread_cell : (c : ℕ) → c < n → IsTimesCell (slice_index (filled one_digits n d) c) (slice_index (filled one_exponent n e) c)
-      (slice_index (filled one_digits m md) (cell_in part whole c)) (slice_index (filled one_exponent m me) (cell_in part whole c))
+  spread_cell : (c : ℕ) → c < n → IsTimesCell (slice_index (filled one_digits n d) c) (slice_index (filled one_exponent n e) c) (q c) (x c)
       (slice_index (filled one_digits n nd) c) (slice_index (filled one_exponent n ne) c)
   spread_cell c l =
-      let p = cell_in part whole c in
-      let k : c < length onto = omega (arith, l, places.one_each) in
-      let w = cell_within part whole lies c l in
-      let q = slice_index md p in let x = slice_index me p in
-      let made : IsTimesCell one_digits one_exponent q x q x = one_times q x (forms p (omega (arith, w, full))) in
-      let nq : slice_index (filled one_digits n nd) c ≡ q = ap (λ ys. slice_index ys c) nd_is ∙ digits_are c k ∙ ap (slice_index md) (places.cell c l) in
-      let nx : slice_index (filled one_exponent n ne) c ≡ x = ap (λ ys. slice_index ys c) ne_is ∙ exponents_are c k ∙ ap (slice_index me) (places.cell c l) in
-      let mq : slice_index (filled one_digits m md) p ≡ q = ap (λ ys. slice_index ys p) md_is in
-      let mx : slice_index (filled one_exponent m me) p ≡ x = ap (λ ys. slice_index ys p) me_is in
-      subst (λ y. IsTimesCell y (slice_index (filled one_exponent n e) c) (slice_index (filled one_digits m md) p) (slice_index (filled one_exponent m me) p) (slice_index (filled one_digits n nd) c) (slice_index (filled one_exponent n ne) c))
-      (sym (one_at one_digits n c d blank.0 l))
-      (subst (λ y. IsTimesCell one_digits y (slice_index (filled one_digits m md) p) (slice_index (filled one_exponent m me) p) (slice_index (filled one_digits n nd) c) (slice_index (filled one_exponent n ne) c))
-      (sym (one_at one_exponent n c e blank.1 l))
-      (subst (λ y. IsTimesCell one_digits one_exponent y (slice_index (filled one_exponent m me) p) (slice_index (filled one_digits n nd) c) (slice_index (filled one_exponent n ne) c)) (sym mq)
-      (subst (λ y. IsTimesCell one_digits one_exponent q y (slice_index (filled one_digits n nd) c) (slice_index (filled one_exponent n ne) c)) (sym mx)
-      (subst (λ y. IsTimesCell one_digits one_exponent q x y (slice_index (filled one_exponent n ne) c)) (sym nq)
-      (subst (λ y. IsTimesCell one_digits one_exponent q x q y) (sym nx) made)))))
+      subst (λ y. IsTimesCell y (slice_index (filled one_exponent n e) c) (q c) (x c) (slice_index (filled one_digits n nd) c) (slice_index (filled one_exponent n ne) c)) (sym (one_at one_digits n c d blank.0 l))
+      (subst (λ y. IsTimesCell one_digits y (q c) (x c) (slice_index (filled one_digits n nd) c) (slice_index (filled one_exponent n ne) c)) (sym (one_at one_exponent n c e blank.1 l))
+      (subst (λ y. IsTimesCell one_digits one_exponent (q c) (x c) y (slice_index (filled one_exponent n ne) c)) (sym (digits_are c l))
+      (subst (λ y. IsTimesCell one_digits one_exponent (q c) (x c) (q c) y) (sym (exponents_are c l))
+      (one_times (q c) (x c) (forms (cell_in part whole c) (cell_within part whole lies c l))))))
 
   -- nothing is there beyond the cells
   left : (one : ℕ) (xs ys : List ℕ) → length (filled one n xs) ≡ n → length (filled one n ys) ≡ n → (c : ℕ) → (c < n → ⊥) → slice_index (filled one n ys) c ≡ slice_index (filled one n xs) c
@@ -81,13 +59,12 @@ module _ (part whole : ScopeOf) (lies : LiesIn part whole) (onto d e md me nd ne
   e_long = filled_length one_exponent n e (omega (arith, blank.1))
 
   nd_long : length (filled one_digits n nd) ≡ n
-  nd_long = filled_length one_digits n nd (omega (arith, long, places.one_each))
+  nd_long = filled_length one_digits n nd (at_most n nd ne held).0
 
   ne_long : length (filled one_exponent n ne) ≡ n
-  ne_long = filled_length one_exponent n ne (omega (arith, long_too, places.one_each))
+  ne_long = filled_length one_exponent n ne (at_most n nd ne held).1
 
-  pub spread_changed : IsChanged (λ c q x y z. IsTimesCell q x (slice_index (filled one_digits m md) (cell_in part whole c)) (slice_index (filled one_exponent m me) (cell_in part whole c)) y z) (λ c. c < n)
-      (filled one_digits n d) (filled one_exponent n e) (filled one_digits n nd) (filled one_exponent n ne)
+  pub spread_changed : IsChanged (λ c a b y z. IsTimesCell a b (q c) (x c) y z) (λ c. c < n) (filled one_digits n d) (filled one_exponent n e) (filled one_digits n nd) (filled one_exponent n ne)
   spread_changed = record {
     as_many_digits = nd_long ∙ sym d_long;
     as_many_exponents = ne_long ∙ sym e_long;
@@ -95,3 +72,16 @@ module _ (part whole : ScopeOf) (lies : LiesIn part whole) (onto d e md me nd ne
     digits_left = left one_digits d nd d_long nd_long;
     exponents_left = left one_exponent e ne e_long ne_long;
   }
+
+-- the message's cells are put where they belong, one array at a time
+module _ (part whole : ScopeOf) (lies : LiesIn part whole) (one : ℕ) (ms ns : List ℕ) where
+  -- a blank message's
+  pub blank_put : length ms ≡ 0 → length ns ≡ 0 → (c : ℕ) → c < cells_in whole
+      → slice_index (filled one (cells_in whole) ns) c ≡ slice_index (filled one (cells_in part) ms) (cell_in part whole c)
+  blank_put h i c l = one_at one (cells_in whole) c ns i l ∙ sym (one_at one (cells_in part) (cell_in part whole c) ms h (cell_within part whole lies c l))
+
+  -- those of a message that is written
+  pub full_put : (onto : List ℕ) → AreOnto part whole onto → cells_in part ≤ length ms → ((c : ℕ) → c < length onto → slice_index ns c ≡ slice_index ms (slice_index onto c)) → (c : ℕ) → c < cells_in whole
+      → slice_index ns c ≡ slice_index (filled one (cells_in part) ms) (cell_in part whole c)
+  full_put onto places full h c l =
+      h c (omega (arith, l, places.one_each)) ∙ ap (slice_index ms) (places.cell c l) ∙ sym (ap (λ ys. slice_index ys (cell_in part whole c)) (filled_full one (cells_in part) ms full))

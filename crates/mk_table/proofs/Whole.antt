@@ -156,6 +156,34 @@ module _ (t : TableOf) (scope : ScopeOf) (shift : ℕ) (od oe : List ℕ) (are :
           (subst (λ (ys : List ℕ). AreNumbers (touched_cells m.touched m.scope) m.shift ys me g p) (sym others.digits_are)
           (subst (λ (ys : List ℕ). AreNumbers (touched_cells m.touched m.scope) m.shift m.digits ys g p) (sym others.exponents_are) (record { stand = other.stand; own = other.own }))))
 
+-- each cell is a message's cell
+pub put_numbers : (m : TableOf) (part : ScopeOf) (k : ℕ) (md me : List ℕ) → AreParts m part k md me → (s scope : ScopeOf) → scope ≡ s → LiesIn m.scope s → (nd ne : List ℕ) → length nd ≡ cells_in scope
+    → ((c : ℕ) → c < cells_in scope → slice_index nd c ≡ slice_index md (cell_in part scope c)) → ((c : ℕ) → c < cells_in scope → slice_index ne c ≡ slice_index me (cell_in part scope c))
+    → (g : ℕ → ℕ) (p : ℕ) → HasNumbers m g p → AreNumbers (touched_cells m.touched s) k nd ne (λ c. g (cell_in m.scope s c)) p
+put_numbers m part k md me others s scope same lies nd ne long digits_are exponents_are g p has =
+    subst (λ (t : ScopeOf). AreNumbers (touched_cells m.touched t) k nd ne (λ c. g (cell_in m.scope t c)) p) same
+    (subst (λ (t : ScopeOf). AreNumbers (touched_cells m.touched scope) k nd ne (λ c. g (cell_in t scope c)) p) others.scope_is
+    (record {
+      stand = record {
+        each = λ c l.
+            let i : c < cells_in scope = omega (arith, l, long) in let d = cell_in part scope c in
+            subst (λ y. StandsAt k y (slice_index ne c) (g d) p) (sym (digits_are c i)) (subst (λ y. StandsAt k (slice_index md d) y (g d) p) (sym (exponents_are c i)) (message.stand.each d (within c i)));
+      };
+      own = λ c l t.
+          let i : c < cells_in scope = omega (arith, l, long) in let d = cell_in part scope c in
+          subst (λ y. IsOwnAt k y (slice_index ne c) (g d) p) (sym (digits_are c i))
+          (subst (λ y. IsOwnAt k (slice_index md d) y (g d) p) (sym (exponents_are c i)) (message.own d (within c i) (touched_in part scope m.touched lies_too (parts_there m part k md me others) c i ∙ t)));
+    }))
+  where
+    lies_too : LiesIn part scope
+    lies_too = subst (λ (t : ScopeOf). LiesIn t scope) (sym others.scope_is) (subst (λ (t : ScopeOf). LiesIn m.scope t) (sym same) lies)
+
+    message : AreNumbers (touched_cells m.touched part) k md me g p
+    message = parts_numbers m part k md me others g p has
+
+    within : (c : ℕ) → c < cells_in scope → cell_in part scope c < length md
+    within c l = let full = parts_full m part k md me others in omega (arith, full.as_many_digits, cell_within part scope lies_too c l)
+
 -- ---- sums
 
 pub All_unmap : (P : ℕ → Type 0) (f : ℕ → ℕ) (xs : List ℕ) → All P (map f xs) → All (λ x. P (f x)) xs

@@ -25,3 +25,7 @@ cells_beside part whole = length (cells_onto part whole 0)
 -- the cells where an event holds
 abbrev pub cells_where : ScopeOf → List Pair → List ℕ
 cells_where scope event = filter (λ c. holds_there event (values_at scope c)) (numbers_below (cells_in scope))
+
+-- a list of cells, as it is kept
+pub record ListedCells : Type 0 where
+  pub items : List ℕ

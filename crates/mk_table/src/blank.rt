@@ -119,43 +119,65 @@ pub(crate) fn times_held(
         return;
     }
     if digits.len() < places.whole_cells() {
-        spread(
-            digits,
-            exponents,
-            places.onto(),
-            other_digits,
-            other_exponents,
-        );
+        put_held(digits, exponents, places, other_digits, other_exponents);
     } else {
         times_cells(digits, exponents, places, other_digits, other_exponents);
     }
 }
 
-/// Puts into each cell of a blank table the message's cell that has its values: 1 times a cell is that cell.
-fn spread(
+/// Puts into each cell the message's cell that has its values. A blank message leaves nothing written.
+pub(crate) fn put_held(
     digits: &mut Vec<u64>,
     exponents: &mut Vec<u32>,
+    places: &Places,
+    other_digits: &[u64],
+    other_exponents: &[u32],
+)
+    requires held { AreHeld (cells_in places.now.whole) digits.old.items exponents.old.items (vec_capacity digits.old) (vec_capacity exponents.old) }
+    requires other { AreBlankOrFull (cells_in places.now.part) other_digits.now other_exponents.now }
+    ensures digits { (c : ℕ) → c < cells_in places.now.whole → slice_index (filled one_digits (cells_in places.now.whole) digits.new.items) c
+        ≡ slice_index (filled one_digits (cells_in places.now.part) other_digits.now) (cell_in places.now.part places.now.whole c) }
+    ensures exponents { (c : ℕ) → c < cells_in places.now.whole → slice_index (filled one_exponent (cells_in places.now.whole) exponents.new.items) c
+        ≡ slice_index (filled one_exponent (cells_in places.now.part) other_exponents.now) (cell_in places.now.part places.now.whole c) }
+    ensures held { AreHeld (cells_in places.now.whole) digits.new.items exponents.new.items (vec_capacity digits.new) (vec_capacity exponents.new) }
+    ensures lies_in { LiesIn places.now.part places.now.whole }
+{
+    if other_digits.len() < places.part_cells() {
+        digits.clear();
+        exponents.clear();
+        return;
+    }
+    fill(digits, exponents, places.whole_cells());
+    put_cells(
+        digits,
+        exponents,
+        places.onto(),
+        other_digits,
+        other_exponents,
+    );
+}
+
+/// Puts into each cell the other's cell that is listed for it.
+fn put_cells(
+    digits: &mut [u64],
+    exponents: &mut [u32],
     onto: &[u16],
     other_digits: &[u64],
     other_exponents: &[u32],
 )
-    requires blank { vec_len digits.old ≡ 0 }
-    requires blank_exponents { vec_len exponents.old ≡ 0 }
-    requires digits_fit { length onto.now ≤ vec_capacity digits.old }
-    requires exponents_fit { length onto.now ≤ vec_capacity exponents.old }
+    requires all { length digits.old ≡ length onto.now }
+    requires all_exponents { length exponents.old ≡ length onto.now }
     requires within { All (λ d. d < length other_digits.now) onto.now }
     requires same_length { length other_exponents.now ≡ length other_digits.now }
-    ensures all_digits { length digits.new.items ≡ length onto.now }
-    ensures all_exponents { length exponents.new.items ≡ length onto.now }
-    ensures digits { (c : ℕ) → c < length onto.now → slice_index digits.new.items c ≡ slice_index other_digits.now (slice_index onto.now c) }
-    ensures exponents { (c : ℕ) → c < length onto.now → slice_index exponents.new.items c ≡ slice_index other_exponents.now (slice_index onto.now c) }
-    ensures digits_room { vec_capacity digits.new ≡ vec_capacity digits.old }
-    ensures exponents_room { vec_capacity exponents.new ≡ vec_capacity exponents.old }
+    ensures same_digits { length digits.new ≡ length digits.old }
+    ensures same_exponents { length exponents.new ≡ length exponents.old }
+    ensures digits { (c : ℕ) → c < length onto.now → slice_index digits.new c ≡ slice_index other_digits.now (slice_index onto.now c) }
+    ensures exponents { (c : ℕ) → c < length onto.now → slice_index exponents.new c ≡ slice_index other_exponents.now (slice_index onto.now c) }
 {
-    for place in 0..onto.len() {
-        let cell = onto[place] as usize;
-        digits.push_reserved(other_digits[cell]);
-        exponents.push_reserved(other_exponents[cell]);
+    for cell in 0..onto.len() {
+        let other = onto[cell] as usize;
+        digits[cell] = other_digits[other];
+        exponents[cell] = other_exponents[other];
     }
 }
 

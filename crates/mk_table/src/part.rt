@@ -54,7 +54,7 @@ impl Places {
         ensures { IfOk result (λ places. places ≡ record { whole = whole.now.value; part = part.now.value }) }
     {
         let run = whole.cells_onto(part, bases, offsets);
-        let firsts = Vec::from_slice(alloc, offsets)?;
+        let firsts = Vec::from_slice(alloc, offsets.as_slice())?;
         if run > 1 {
             whole.cells_beside(part, offsets);
         } else {
@@ -63,11 +63,11 @@ impl Places {
         Ok(Places {
             whole: whole.clone()?,
             part: part.clone()?,
-            bases: Vec::from_slice(alloc, bases)?,
+            bases: Vec::from_slice(alloc, bases.as_slice())?,
             offsets: firsts,
             run,
             onto: cells_of_part(alloc, whole, part)?,
-            beside: Vec::from_slice(alloc, offsets)?,
+            beside: Vec::from_slice(alloc, offsets.as_slice())?,
         })
     }
 

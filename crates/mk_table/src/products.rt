@@ -8,7 +8,7 @@ ghost use Rattle.mk_table.specs.inner.Blank.{one_digits, one_exponent, filled};
 ghost use Rattle.mk_table.specs.inner.Parts.{AreBlankOrFull, HaveRoom, IsPlusOfPairs, cells_at};
 
 use crate::blocks::block_of;
-use mk_cell::Cell;
+use mk_cell::{Cell, first_places};
 use mk_semiring::Semiring;
 
 /// The cells of a short list, which are gathered in arrays that cost little to clear.
@@ -145,6 +145,15 @@ fn products_of_block<R: Semiring, const N: usize>(
     }
 }
 
+/// The base of some cells, or 0 where there are none, since their base may then lie beyond the table.
+#[inline(always)]
+fn base_of(base: usize, count: usize) -> usize
+    ensures some { 0 < count → result ≡ base }
+    ensures none { count ≡ 0 → result ≡ 0 }
+{
+    if count > 0 { base } else { 0 }
+}
+
 /// The plus of the products of at most `N` cells that lie so far from a base.
 #[inline(always)]
 pub(crate) fn products_of_cells<R: Semiring, const N: usize>(
@@ -166,24 +175,20 @@ pub(crate) fn products_of_cells<R: Semiring, const N: usize>(
     ensures { IsPlusOfPairs R.plus_of digits.now exponents.now other_digits.now other_exponents.now (slice_index onto.now) (cells_at base chosen.now) (2 * length chosen.now + 1) result }
 {
     let count = chosen.len();
-    let mut left_digits = [0u64; N];
-    let mut left_exponents = [0u32; N];
-    let mut right_digits = [0u64; N];
-    let mut right_exponents = [0u32; N];
+    let mut places = [0u64; N];
+    let mut sums = [0u32; N];
+    // From the base on, so that nothing is added for each cell.
+    let first = base_of(base, count);
+    let digits = &digits[first..];
+    let exponents = &exponents[first..];
+    let onto = &onto[first..];
     for place in 0..count {
-        let cell = base + chosen[place] as usize;
+        let cell = chosen[place] as usize;
         let other = onto[cell] as usize;
-        left_digits[place] = digits[cell];
-        left_exponents[place] = exponents[cell];
-        right_digits[place] = other_digits[other];
-        right_exponents[place] = other_exponents[other];
+        places[place] = first_places(digits[cell], other_digits[other]);
+        sums[place] = exponents[cell] + other_exponents[other];
     }
-    R::over_products(
-        &left_digits[..count],
-        &left_exponents[..count],
-        &right_digits[..count],
-        &right_exponents[..count],
-    )
+    R::over_products(&places[..count], &sums[..count])
 }
 
 /// The plus of the message's cells that have the values of at most `N` cells that lie so far from a base.

@@ -1,31 +1,75 @@
 //! Cells that are found by strides, without a division.
 
-ghost use Rattle.std.specs.Prelude.{◌≡◌, ℕ, ◌+◌, ◌*◌, ◌<◌, ◌≤◌, true, [], ◌∷◌, ◌++◌, All, map, filter, take, drop, length, slice_index, Option, IfSome, IfNone, ◌==◌, if◌then◌else◌, not};
+ghost use Rattle.std.specs.Prelude.{◌≡◌, ℕ, ◌+◌, ◌*◌, ◌<◌, ◌≤◌, true, [], ◌∷◌, ◌++◌, All, map, filter, take, length, Option, IfSome, IfNone, ◌==◌, if◌then◌else◌, not};
 ghost use Rattle.mk_net.specs.Bounds.{max_clique_cells};
 ghost use Rattle.mk_exact.specs.States.{numbers_below};
-ghost use Rattle.mk_net.specs.Events.{speaks_of, IsEvent};
-ghost use Rattle.mk_table.specs.Scopes.{HasEvent, size_in};
-ghost use Rattle.mk_table.specs.Cells.{cells_where};
+ghost use Rattle.mk_net.specs.Events.{IsEvent};
 ghost use Rattle.mk_table.specs.inner.Strides.{repeated, lets};
 
-use arrayvec::ArrayVec;
 use mk_net::Pair;
+use std::marker::Model;
 
-/// The numbers of some cells of a scope.
-pub type CellList = ArrayVec<u16, 4096>;
+/// The most cells of a table.
+const MAX_CELLS: usize = 4096;
 
-/// So many cells are moved one by one.
-const FEW: usize = 8;
+/// The numbers of some cells of a scope, with room for each cell of a table.
+#[derive(Drop)]
+pub struct CellList {
+    cells: [u16; MAX_CELLS],
+    count: usize,
+}
 
-/// The cells that are moved together.
-const BLOCK: usize = 64;
+impl Model for CellList {
+    ghost use Rattle.std.specs.Prelude.{◌≤◌, take};
+    ghost use Rattle.mk_net.specs.Bounds.{max_clique_cells};
+    ghost use Rattle.mk_table.specs.Cells.{ListedCells};
+
+    ghost Value = { ListedCells };
+
+    ghost view = { λ l. record { items = take l.count l.cells } };
+
+    ghost invariant = { λ l. l.count ≤ max_clique_cells };
+}
+
+impl CellList {
+    /// No cells.
+    pub fn new() -> CellList
+        ensures { result.items ≡ [] }
+    {
+        CellList {
+            cells: [0; MAX_CELLS],
+            count: 0,
+        }
+    }
+
+    /// Lists no cells.
+    pub(crate) fn clear(&mut self)
+        ensures { self.new.items ≡ [] }
+    {
+        self.count = 0;
+    }
+
+    /// How many cells are listed.
+    fn len(&self) -> usize
+        ensures { result ≡ length self.now.items }
+    {
+        self.count
+    }
+
+    /// Their numbers, in the order in which they are listed.
+    pub fn as_slice(&self) -> &[u16]
+        ensures { result.now ≡ self.now.items }
+    {
+        &self.cells[..self.count]
+    }
+}
 
 /// Lists the first cell alone.
 pub(crate) fn begin(cells: &mut CellList)
     ensures { cells.new.items ≡ 0 ∷ [] }
 {
-    cells.clear();
-    cells.push(0);
+    cells.cells[0] = 0;
+    cells.count = 1;
 }
 
 /// Repeats what is listed for each value that the pairs let a variable have.
@@ -121,45 +165,30 @@ fn append_moved(cells: &mut CellList, count: usize, by: usize)
     requires below { All (λ c. by + c < max_clique_cells) (take count cells.old.items) }
     ensures { cells.new.items ≡ cells.old.items ++ map (λ c. by + c) (take count cells.old.items) }
 {
-    if count < FEW {
-        push_moved(cells, count, by);
-        return;
-    }
-    let mut listed = 0;
-    while listed < count {
-        let more = BLOCK.min(count - listed);
-        append_block(cells, listed, more, by);
-        listed += more;
-    }
+    write_again(&mut cells.cells, cells.count, count, by);
+    cells.count += count;
 }
 
-/// Lists the first cells once more, one after the other.
-fn push_moved(cells: &mut CellList, count: usize, by: usize)
-    requires there { count ≤ length cells.old.items }
-    requires room { length cells.old.items + count ≤ max_clique_cells }
-    requires below { All (λ c. by + c < max_clique_cells) (take count cells.old.items) }
-    ensures { cells.new.items ≡ cells.old.items ++ map (λ c. by + c) (take count cells.old.items) }
+/// Writes the first numbers of an array once more, increased, behind those that are listed.
+fn write_again(cells: &mut [u16], listed: usize, count: usize, by: usize)
+    requires there { count ≤ listed }
+    requires room { listed + count ≤ length cells.old }
+    requires below { All (λ c. by + c < max_clique_cells) (take count cells.old) }
+    ensures { take (listed + count) cells.new ≡ take listed cells.old ++ map (λ c. by + c) (take count cells.old) }
 {
-    for place in 0..count {
-        let cell = cells[place];
-        cells.push(by as u16 + cell);
-    }
+    let (listed, room) = cells.split_at_mut(listed);
+    write_moved(&listed[..count], &mut room[..count], by);
 }
 
-/// Lists at most a block of cells once more, which are moved together.
-fn append_block(cells: &mut CellList, first: usize, count: usize, by: usize)
-    requires there { first + count ≤ length cells.old.items }
-    requires few { count ≤ 64 }
-    requires room { length cells.old.items + count ≤ max_clique_cells }
-    requires below { (k : ℕ) → k < count → by + slice_index cells.old.items (first + k) < max_clique_cells }
-    ensures { cells.new.items ≡ cells.old.items ++ map (λ c. by + c) (take count (drop first cells.old.items)) }
+/// Writes each number, increased, in its place of another array. As these are two, the compiler moves several at a time.
+fn write_moved(listed: &[u16], moved: &mut [u16], by: usize)
+    requires one_each { length moved.old ≡ length listed.now }
+    requires below { All (λ c. by + c < max_clique_cells) listed.now }
+    ensures { moved.new ≡ map (λ c. by + c) listed.now }
 {
-    let mut moved = [0u16; BLOCK];
-    for place in 0..count {
-        moved[place] = by as u16 + cells[first + place];
+    for place in 0..listed.len() {
+        moved[place] = by as u16 + listed[place];
     }
-    // There is room, so it succeeds.
-    let _ = cells.try_extend_from_slice(&moved[..count]);
 }
 
 /// Moves each cell of a list.
@@ -167,7 +196,7 @@ fn move_all(cells: &mut CellList, by: usize)
     requires { All (λ c. by + c < max_clique_cells) cells.old.items }
     ensures { cells.new.items ≡ map (λ c. by + c) cells.old.items }
 {
-    for place in 0..cells.len() {
-        cells[place] += by as u16;
+    for place in 0..cells.count {
+        cells.cells[place] += by as u16;
     }
 }

@@ -13,7 +13,7 @@ ghost use Rattle.mk_table.specs.Cells.{values_at, cell_in, cells_onto, cells_bes
 ghost use Rattle.mk_table.specs.Tables.{HasNumbers, HasRoom, is_untouched};
 ghost use Rattle.mk_table.specs.inner.Parts.{IsFull, StandListed};
 
-use crate::blank::{copy_over, fill, one, plus_of_each, plus_of_listed, times_held};
+use crate::blank::{copy_over, fill, one, plus_of_each, plus_of_listed, put_held, times_held};
 use crate::joined::margin_times;
 use crate::part::Places;
 use crate::picked::RATIO_SHIFT;
@@ -156,7 +156,7 @@ impl<R: Semiring> Table<R> {
             &mut self.exponents,
             &self.scope,
             ratio,
-            chosen,
+            chosen.as_slice(),
         );
         self.shift += RATIO_SHIFT;
         take_either(&mut self.touched, &Some(ratio.condition));
@@ -181,6 +181,25 @@ impl<R: Semiring> Table<R> {
         );
         self.shift += message.shift;
         take_either(&mut self.touched, &message.touched);
+    }
+
+    /// Puts into each cell the message's cell that has its values, whatever was there.
+    pub fn put_message(&mut self, places: &Places, message: &Table<R>)
+        requires places { places.now ≡ record { whole = self.old.scope; part = message.now.scope } }
+        ensures scope { self.new.scope ≡ self.old.scope }
+        ensures shift { self.new.shift ≡ message.now.shift }
+        ensures numbers { (g : ℕ → ℕ) (p : ℕ) → HasNumbers message.now g p
+            → HasNumbers self.new (λ c. g (cell_in message.now.scope self.old.scope c)) p }
+    {
+        put_held(
+            &mut self.digits,
+            &mut self.exponents,
+            places,
+            &message.digits,
+            &message.exponents,
+        );
+        self.shift = message.shift;
+        self.touched = message.touched;
     }
 
     /// Makes absent each cell that gives the pair's variable another value.
@@ -324,7 +343,7 @@ impl<R: Semiring> Table<R> {
             &message.digits,
             &message.exponents,
             0,
-            chosen,
+            chosen.as_slice(),
         )
     }
 
@@ -341,7 +360,7 @@ impl<R: Semiring> Table<R> {
             &self.digits,
             &self.exponents,
             self.scope.cells(),
-            chosen,
+            chosen.as_slice(),
             run,
         )
     }

@@ -1,6 +1,7 @@
 -- What is kept over the core of a clique: what is placed in the clique, summed there, and the product of the messages of its neighbours, or of all but one;
 -- and what the clique sends, made of both.
 use Rattle.std.specs.Prelude.{◌≡◌, ℕ, ◌+◌, ◌-◌, ◌*◌, ◌<◌, ⊤, Bool, true, false, not, ◌&&◌, ◌==◌, nat_lt, if◌then◌else◌, List, length, take, sum_by, Option, Some, None, slice_index, slice_index_or}
+use Rattle.std.specs.List.{list_any}
 use Rattle.mk_net.specs.Network.{Variable, sizes}
 use Rattle.mk_exact.specs.States.{plus_over, product_by}
 use Rattle.mk_sums.specs.Sums.{over}
@@ -84,10 +85,25 @@ pub record HasGathered (plus : ℕ → ℕ → ℕ) (shape : ShapeOf) (k : ℕ) 
   pub cells : HasCells table (core_scope shape k) (gathered plus shape.tree p k receiver listed) (gathered_steps shape.tree p k receiver listed) (gathered_factors shape.tree p k receiver listed)
   pub full : length table.digits ≡ cells_in table.scope
 
--- a table has it for the first so many neighbours
-pub record IsGathering (plus : ℕ → ℕ → ℕ) (shape : ShapeOf) (upward downward : List TableOf) (k : ℕ) (receiver : Option ℕ) (passed : ℕ) (t : TableOf) : Type 0 where
+-- a table has it for the first so many neighbours; while the first message that is taken is still to come, the table may have anything
+pub record IsGathering (plus : ℕ → ℕ → ℕ) (shape : ShapeOf) (upward downward : List TableOf) (k : ℕ) (receiver : Option ℕ) (passed : ℕ) (first : Bool) (t : TableOf) : Type 0 where
   pub scope : t.scope ≡ core_scope shape k
-  pub has : (p : Placing) → CanTake plus shape upward downward k receiver p → HasGathered plus shape k receiver (take passed (neighbours shape.tree k)) t p
+  pub none : first ≡ true → list_any (is_taken receiver) (take passed (neighbours shape.tree k)) ≡ false
+  pub has : first ≡ false → (p : Placing) → CanTake plus shape upward downward k receiver p → HasGathered plus shape k receiver (take passed (neighbours shape.tree k)) t p
+
+-- a table that was over a core has in each cell the cell of a message with its values
+pub record IsMessageAlone (message before after : TableOf) : Type 0 where
+  pub scope : after.scope ≡ before.scope
+  pub shift : after.shift ≡ message.shift
+  pub full : length after.digits ≡ cells_in after.scope
+  pub numbers : (g : ℕ → ℕ) (q : ℕ) → HasNumbers message g q → HasNumbers after (λ c. g (cell_in message.scope before.scope c)) q
+
+-- it has in each cell what was there times that
+pub record IsTimesMessage (message before after : TableOf) : Type 0 where
+  pub scope : after.scope ≡ before.scope
+  pub shift : after.shift ≡ before.shift + message.shift
+  pub full : length after.digits ≡ cells_in after.scope
+  pub numbers : (f g : ℕ → ℕ) (n q : ℕ) → HasNumbers before f n → HasNumbers message g q → HasNumbers after (λ c. f c * g (cell_in message.scope before.scope c)) (n + q + 1)
 
 -- a table has the messages of all neighbours, or of all but a receiver
 pub record HasInto (plus : ℕ → ℕ → ℕ) (shape : ShapeOf) (upward downward : List TableOf) (k : ℕ) (receiver : Option ℕ) (t : TableOf) : Type 0 where

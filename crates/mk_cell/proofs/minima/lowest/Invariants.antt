@@ -3,4 +3,4 @@ use Rattle.mk_cell.specs.Least.{IsLeastOf}
 use Rattle.mk_cell.proofs.minima.lowest.Given as goal
 
 abbrev pub invariant-loop-c : goal.invariant-loop-c
-invariant-loop-c l = IsLeastOf l.c (λ i. 1 ≤ slice_index l.exponents i) 4294967295 (slice_index l.exponents) l.lowest
+invariant-loop-c l = IsLeastOf l.c (λ i. l.low ≤ slice_index l.exponents i) 4294967295 (slice_index l.exponents) l.lowest

@@ -1,18 +1,17 @@
-use Rattle.std.proofs.Common.{◌≡◌, ℕ, ◌+◌, ◌*◌, ◌<◌, Bool, true, false, List, Option, length, get_or, slice_index_or, sym, ap, subst, ◌∙◌, arith}
-use Rattle.std.proofs.lemmas.Bool.{and_from}
+use Rattle.std.proofs.Common.{◌≡◌, ℕ, ◌+◌, ◌<◌, Bool, true, false, ◌||◌, List, Option, length, get_or, slice_index_or, refl, sym, ap, subst, ◌∙◌, arith}
+use Rattle.std.proofs.lemmas.Bool.{and_from, both_ways}
+use Rattle.std.proofs.lemmas.List.Folds.{list_any_more}
 use Rattle.mk_exact.specs.Lawful.{Lawful}
 use Rattle.mk_sums.specs.Trees.{linked}
 use Rattle.mk_sums.proofs.Hops.{are_linked, linked_back, linked_from}
-use Rattle.mk_table.specs.Scopes.{cells_in}
-use Rattle.mk_table.specs.Cells.{cell_in}
-use Rattle.mk_table.specs.Tables.{TableOf, HasNumbers}
+use Rattle.mk_table.specs.Tables.{TableOf}
 use Rattle.mk_tree.specs.Given.{link_of}
 use Rattle.mk_propagate.specs.Shapes.{ShapeOf, IsClique, neighbours}
 use Rattle.mk_propagate.specs.Placings.{Placing}
-use Rattle.mk_propagate.specs.inner.Gathered.{is_taken, message_in, CanTake, IsGathering, IsRightIn}
+use Rattle.mk_propagate.specs.inner.Gathered.{is_taken, message_in, CanTake, IsGathering, IsMessageAlone, IsTimesMessage, IsRightIn}
 use Rattle.mk_propagate.proofs.Cores.{neighbour_linked}
-use Rattle.mk_propagate.proofs.Messages.{are_ends, begins, passed_by, taken_too, taken_room, message_room}
-use Rattle.mk_propagate.proofs.Prepared.{places_there, into_of}
+use Rattle.mk_propagate.proofs.Messages.{are_ends, first_taken, passed_by, taken_too, taken_room, message_room}
+use Rattle.mk_propagate.proofs.Prepared.{places_there, into_of, into_none}
 use Rattle.mk_propagate.proofs.message.gather.Goals as goal
 use Rattle.mk_propagate.proofs.message.gather.Goals.{then-is_taken, else-is_taken}
 
@@ -28,28 +27,23 @@ linked_there : (shape : ShapeOf) (k j i : ℕ) → IsAt shape k j i → linked (
 linked_there shape k j i at = neighbour_linked shape.tree k j i at.within at.is
 
 pub loop-neighbour-init : goal.loop-neighbour-init
-loop-neighbour-init g c = record {
-  scope = c.clear.ensures.scope ∙ c.requires.scope;
-  has = λ p can.
-      begins c.args.shape.now p can.shape_is can.placing g.R.Semiring.plus_of g.met.R.Semiring.lawful c.args.clique c.requires.clique c.args.receiver c.clear.new.self (c.clear.ensures.scope ∙ c.requires.scope)
-      c.clear.ensures.shift c.clear.ensures.ones c.clear.ensures.full;
-}
+loop-neighbour-init g c = record { scope = c.requires.scope; none = λ _. refl; has = λ e. absurd (both_ways true e refl) }
 
-pub message_of-requires-clause-first : goal.message_of-requires-clause-first
-message_of-requires-clause-first g c =
+pub message_of-message-requires-clause-first : goal.message_of-message-requires-clause-first
+message_of-message-requires-clause-first g c =
     let shape = c.args.shape.now in let k = c.args.clique in let h = c.requires.right.1 in
     let at = at_place shape k c.loop-neighbour.neighbour-index c.neighbours-neighbour-items.result.now c.neighbours-neighbour-items.ensures c.loop-neighbour-test.true in
     (are_ends shape c.requires.right.0 h.shape_is h.placing _ k (linked_there shape k _ _ at)).0.first
 
-pub message_of-requires-clause-last : goal.message_of-requires-clause-last
-message_of-requires-clause-last g c =
+pub message_of-message-requires-clause-last : goal.message_of-message-requires-clause-last
+message_of-message-requires-clause-last g c =
     let shape = c.args.shape.now in let k = c.args.clique in let h = c.requires.right.1 in
     let at = at_place shape k c.loop-neighbour.neighbour-index c.neighbours-neighbour-items.result.now c.neighbours-neighbour-items.ensures c.loop-neighbour-test.true in
     let l = (are_ends shape c.requires.right.0 h.shape_is h.placing _ k (linked_there shape k _ _ at)).0.last in
     omega (arith, l, c.requires.messages.one_less_up)
 
-pub message_of-requires-clause-apart : goal.message_of-requires-clause-apart
-message_of-requires-clause-apart g c =
+pub message_of-message-requires-clause-apart : goal.message_of-message-requires-clause-apart
+message_of-message-requires-clause-apart g c =
     let shape = c.args.shape.now in let k = c.args.clique in let h = c.requires.right.1 in
     let at = at_place shape k c.loop-neighbour.neighbour-index c.neighbours-neighbour-items.result.now c.neighbours-neighbour-items.ensures c.loop-neighbour-test.true in
     (are_ends shape c.requires.right.0 h.shape_is h.placing _ k (linked_there shape k _ _ at)).2
@@ -68,48 +62,58 @@ places-requires g c =
     let at = at_place shape k c.loop-neighbour.neighbour-index c.neighbours-neighbour-items.result.now c.neighbours-neighbour-items.ensures c.loop-neighbour-test.true in
     linked_from (link_of shape.tree) (length shape.tree.cliques) k _ (linked_back (link_of shape.tree) (length shape.tree.cliques) _ k (are_linked (link_of shape.tree) (length shape.tree.cliques) _ k (linked_there shape k _ _ at)))
 
-pub times_message-requires-clause-places : goal.times_message-requires-clause-places
-times_message-requires-clause-places g c =
+pub take-requires-clause-places : goal.take-requires-clause-places
+take-requires-clause-places g c =
     let plus = g.R.Semiring.plus_of in let shape = c.args.shape.now in let k = c.args.clique in let p = c.requires.right.0 in let can = c.requires.right.1 in
     let j = c.loop-neighbour.neighbour-index in let items = c.neighbours-neighbour-items.result.now in
     let at = at_place shape k j items c.neighbours-neighbour-items.ensures c.loop-neighbour-test.true in
-    let right = right_there plus shape c.args.upward.now c.args.downward.now k j (slice_index_or items j 0) c.args.receiver p c.is_taken.result c.message_of.result.now can at c.is_taken.ensures c.if-is_taken.true c.message_of.ensures in
-    places_there plus shape k (slice_index_or items j 0) p c.loop-neighbour.product c.message_of.result.now c.loop-neighbour.invariant.scope right c.places.result.now c.places.ensures
+    let right = right_there plus shape c.args.upward.now c.args.downward.now k j (slice_index_or items j 0) c.args.receiver p c.is_taken.result c.message_of-message.result.now can at c.is_taken.ensures c.if-is_taken.true c.message_of-message.ensures in
+    places_there plus shape k (slice_index_or items j 0) p c.loop-neighbour.product c.message_of-message.result.now c.loop-neighbour.invariant.scope right c.places.result.now c.places.ensures
 
-pub times_message-requires-clause-room : goal.times_message-requires-clause-room
-times_message-requires-clause-room g c =
+pub take-requires-clause-room : goal.take-requires-clause-room
+take-requires-clause-room g c = λ later.
     let plus = g.R.Semiring.plus_of in let shape = c.args.shape.now in let k = c.args.clique in let p = c.requires.right.0 in let can = c.requires.right.1 in
     taken_room shape p can.shape_is can.placing plus g.met.R.Semiring.lawful k c.requires.clique c.args.receiver
-    c.loop-neighbour.neighbour-index c.loop-neighbour.product (c.loop-neighbour.invariant.has p can)
+    c.loop-neighbour.neighbour-index c.loop-neighbour.product (c.loop-neighbour.invariant.has later p can)
 
-pub times_message-requires-clause-message_room : goal.times_message-requires-clause-message_room
-times_message-requires-clause-message_room g c =
+pub take-requires-clause-message_room : goal.take-requires-clause-message_room
+take-requires-clause-message_room g c =
     let plus = g.R.Semiring.plus_of in let shape = c.args.shape.now in let k = c.args.clique in let p = c.requires.right.0 in let can = c.requires.right.1 in
     let j = c.loop-neighbour.neighbour-index in let items = c.neighbours-neighbour-items.result.now in
     let at = at_place shape k j items c.neighbours-neighbour-items.ensures c.loop-neighbour-test.true in
-    let right = right_there plus shape c.args.upward.now c.args.downward.now k j (slice_index_or items j 0) c.args.receiver p c.is_taken.result c.message_of.result.now can at c.is_taken.ensures c.if-is_taken.true c.message_of.ensures in
-    message_room shape p can.shape_is can.placing plus g.met.R.Semiring.lawful k c.requires.clique c.args.receiver j (slice_index_or items j 0) at.within at.is c.message_of.result.now (sym c.is_taken.ensures ∙ c.if-is_taken.true) right
+    let right = right_there plus shape c.args.upward.now c.args.downward.now k j (slice_index_or items j 0) c.args.receiver p c.is_taken.result c.message_of-message.result.now can at c.is_taken.ensures c.if-is_taken.true c.message_of-message.ensures in
+    message_room shape p can.shape_is can.placing plus g.met.R.Semiring.lawful k c.requires.clique c.args.receiver j (slice_index_or items j 0) at.within at.is c.message_of-message.result.now (sym c.is_taken.ensures ∙ c.if-is_taken.true) right
 
 -- one neighbour more, whose message is taken, or is not
 module _ (plus : ℕ → ℕ → ℕ) (law : Lawful plus) (shape : ShapeOf) (upward downward : List TableOf) (k j i : ℕ) (clique : IsClique shape.tree k) (receiver : Option ℕ) (at : IsAt shape k j i) (taken : Bool)
     (is : taken ≡ is_taken receiver i) where
-  taken_step : (old new message : TableOf) → taken ≡ true → message ≡ message_in upward downward i k → IsGathering plus shape upward downward k receiver j old
-      → new.scope ≡ old.scope → new.shift ≡ old.shift + message.shift → length new.digits ≡ cells_in new.scope
-      → ((f g : ℕ → ℕ) (n q : ℕ) → HasNumbers old f n → HasNumbers message g q → HasNumbers new (λ c. f c * g (cell_in message.scope old.scope c)) (n + q + 1))
-      → IsGathering plus shape upward downward k receiver (j + 1) new
-  taken_step old new message took same h scope shift full numbers = record {
-    scope = scope ∙ h.scope;
-    has = λ p can.
-        taken_too shape p can.shape_is can.placing plus law k clique receiver j i at.within at.is old new message (sym is ∙ took) (h.has p can)
-        (right_there plus shape upward downward k j i receiver p taken message can at is took same) scope shift full numbers;
+  taken_step : (first : Bool) (old new message : TableOf) → taken ≡ true → message ≡ message_in upward downward i k → IsGathering plus shape upward downward k receiver j first old
+      → (first ≡ true → IsMessageAlone message old new) → (first ≡ false → IsTimesMessage message old new)
+      → IsGathering plus shape upward downward k receiver (j + 1) false new
+  taken_step true old new message took same h alone more = let m = alone refl in record {
+    scope = m.scope ∙ h.scope;
+    none = λ e. absurd (both_ways false refl e);
+    has = λ _ p can.
+        first_taken shape p can.shape_is can.placing plus law k clique receiver j i at.within at.is old new message (sym is ∙ took) (h.none refl) h.scope
+        (right_there plus shape upward downward k j i receiver p taken message can at is took same) m;
+  }
+  taken_step false old new message took same h alone more = let m = more refl in record {
+    scope = m.scope ∙ h.scope;
+    none = λ e. absurd (both_ways false refl e);
+    has = λ _ p can.
+        taken_too shape p can.shape_is can.placing plus law k clique receiver j i at.within at.is old new message (sym is ∙ took) (h.has refl p can)
+        (right_there plus shape upward downward k j i receiver p taken message can at is took same) m.scope m.shift m.full m.numbers;
   }
 
-  passed_step : (old new : TableOf) → taken ≡ false → IsGathering plus shape upward downward k receiver j old → new ≡ old → IsGathering plus shape upward downward k receiver (j + 1) new
-  passed_step old new not_taken h e = subst (IsGathering plus shape upward downward k receiver (j + 1)) (sym e) (record {
+  passed_step : (first : Bool) (old : TableOf) → taken ≡ false → IsGathering plus shape upward downward k receiver j first old → IsGathering plus shape upward downward k receiver (j + 1) first old
+  passed_step first old not_taken h = record {
     scope = h.scope;
-    has = λ p can.
-        passed_by shape p can.shape_is can.placing plus law k clique receiver j i at.within at.is old (sym is ∙ not_taken) (h.has p can);
-  })
+    none = λ e.
+        list_any_more (is_taken receiver) (neighbours shape.tree k) j 0 at.within
+        ∙ ap (λ b. b || is_taken receiver (get_or (neighbours shape.tree k) j 0)) (h.none e) ∙ sym (ap (is_taken receiver) at.is) ∙ sym is ∙ not_taken;
+    has = λ e p can.
+        passed_by shape p can.shape_is can.placing plus law k clique receiver j i at.within at.is old (sym is ∙ not_taken) (h.has e p can);
+  }
 
 pub loop-neighbour-preserved : goal.loop-neighbour-preserved
 loop-neighbour-preserved g c =
@@ -119,22 +123,40 @@ loop-neighbour-preserved g c =
     let at = at_place shape k j items c.neighbours-neighbour-items.ensures c.loop-neighbour-test.true in
     elim c.if-is_taken.branch [
       | then-is_taken w ↦
-          subst (IsGathering plus shape upward downward k receiver (j + 1)) (sym w.product-is)
-          (taken_step plus law shape upward downward k j (slice_index_or items j 0) c.requires.clique receiver at c.is_taken.result c.is_taken.ensures c.loop-neighbour.product w.times_message.new.self w.message_of.result.now
-          w.if-is_taken.true w.message_of.ensures c.loop-neighbour.invariant w.times_message.ensures.scope w.times_message.ensures.shift w.cells.ensures.full w.times_message.ensures.numbers)
+          subst (λ (b : Bool). IsGathering plus shape upward downward k receiver (j + 1) b c.if-is_taken.product) (sym w.first-is)
+          (subst (IsGathering plus shape upward downward k receiver (j + 1) false) (sym w.product-is)
+          (taken_step plus law shape upward downward k j (slice_index_or items j 0) c.requires.clique receiver at c.is_taken.result c.is_taken.ensures c.loop-neighbour.first c.loop-neighbour.product w.take.new.product
+          w.message_of-message.result.now w.if-is_taken.true w.message_of-message.ensures c.loop-neighbour.invariant w.take.ensures.first w.take.ensures.more))
       | else-is_taken w ↦
-          passed_step plus law shape upward downward k j (slice_index_or items j 0) c.requires.clique receiver at c.is_taken.result c.is_taken.ensures c.loop-neighbour.product c.if-is_taken.product
-          w.if-is_taken.false c.loop-neighbour.invariant w.product-is
+          subst (λ (b : Bool). IsGathering plus shape upward downward k receiver (j + 1) b c.if-is_taken.product) (sym w.first-is)
+          (subst (IsGathering plus shape upward downward k receiver (j + 1) c.loop-neighbour.first) (sym w.product-is)
+          (passed_step plus law shape upward downward k j (slice_index_or items j 0) c.requires.clique receiver at c.is_taken.result c.is_taken.ensures c.loop-neighbour.first c.loop-neighbour.product
+          w.if-is_taken.false c.loop-neighbour.invariant))
     ]
 
--- after the last neighbour
-pub returns-clause-scope : goal.returns-clause-scope
-returns-clause-scope g c = c.loop-neighbour.invariant.scope ∙ sym c.requires.scope
+-- after the last neighbour, where no message was taken
+pub returns-then-first-clause-scope : goal.returns-then-first-clause-scope
+returns-then-first-clause-scope g c = c.clear.ensures.scope ∙ c.loop-neighbour.invariant.scope ∙ sym c.requires.scope
 
-pub returns-clause-into : goal.returns-clause-into
-returns-clause-into g c =
+pub returns-then-first-clause-into : goal.returns-then-first-clause-into
+returns-then-first-clause-into g c =
+    let plus = g.R.Semiring.plus_of in let shape = c.args.shape.now in let k = c.args.clique in let j = c.loop-neighbour.neighbour-index in
+    let long : j ≡ length (neighbours shape.tree k) =
+    let e = ap (λ (xs : List ℕ). length xs) c.neighbours-neighbour-items.ensures in omega (arith, e, c.loop-neighbour-test.false, c.loop-neighbour.auto.neighbour-index-end) in
+    into_none plus g.met.R.Semiring.lawful shape k c.requires.clique c.args.upward.now c.args.downward.now c.args.receiver c.loop-neighbour.product c.clear.new.self
+    (subst (λ n. IsGathering plus shape c.args.upward.now c.args.downward.now k c.args.receiver n true c.loop-neighbour.product) long
+    (subst (λ (b : Bool). IsGathering plus shape c.args.upward.now c.args.downward.now k c.args.receiver j b c.loop-neighbour.product) c.if-first.true c.loop-neighbour.invariant))
+    c.clear.ensures.scope c.clear.ensures.shift c.clear.ensures.ones c.clear.ensures.full
+
+-- and where one was
+pub returns-else-first-clause-scope : goal.returns-else-first-clause-scope
+returns-else-first-clause-scope g c = c.loop-neighbour.invariant.scope ∙ sym c.requires.scope
+
+pub returns-else-first-clause-into : goal.returns-else-first-clause-into
+returns-else-first-clause-into g c =
     let plus = g.R.Semiring.plus_of in let shape = c.args.shape.now in let k = c.args.clique in let j = c.loop-neighbour.neighbour-index in
     let long : j ≡ length (neighbours shape.tree k) =
     let e = ap (λ (xs : List ℕ). length xs) c.neighbours-neighbour-items.ensures in omega (arith, e, c.loop-neighbour-test.false, c.loop-neighbour.auto.neighbour-index-end) in
     into_of plus g.met.R.Semiring.lawful shape k c.requires.clique c.args.upward.now c.args.downward.now c.args.receiver c.loop-neighbour.product
-    (subst (λ n. IsGathering plus shape c.args.upward.now c.args.downward.now k c.args.receiver n c.loop-neighbour.product) long c.loop-neighbour.invariant)
+    (subst (λ n. IsGathering plus shape c.args.upward.now c.args.downward.now k c.args.receiver n false c.loop-neighbour.product) long
+    (subst (λ (b : Bool). IsGathering plus shape c.args.upward.now c.args.downward.now k c.args.receiver j b c.loop-neighbour.product) c.if-first.false c.loop-neighbour.invariant))

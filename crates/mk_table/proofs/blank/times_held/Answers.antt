@@ -1,6 +1,5 @@
 use Rattle.std.proofs.Common.{◌≡◌, ◌<◌, ◌≤◌, ℕ, List, length, slice_index, refl, arith, subst, sym, ◌∙◌}
 use Rattle.std.specs.Prelude.{vec_len}
-use Rattle.std.proofs.lemmas.List.{get_or_default}
 use Rattle.mk_table.specs.Scopes.{cells_in}
 use Rattle.mk_table.specs.Cells.{cell_in}
 use Rattle.mk_table.specs.inner.Blank.{one_digits, one_exponent, filled}
@@ -32,15 +31,6 @@ returns-then-other_digits-part_cells-clause-changed c =
       exponents_left = λ j l. refl;
     }
 
--- the message has a cell written for each of its scope's
-pub spread-requires-clause-within : goal.spread-requires-clause-within
-spread-requires-clause-within c = λ k z l.
-    let part = c.args.places.now.part in let whole = c.args.places.now.whole in
-    let i : k < cells_in whole = omega (arith, l, c.onto.ensures.one_each) in
-    let w = cell_within part whole c.part_cells.ensures.lies_in k i in
-    subst (λ y. y < length c.args.other_digits.now) (sym (get_or_default c.onto.result.now k z 0 l ∙ c.onto.ensures.cell k i))
-    (omega (arith, w, c.if-other_digits-part_cells.false, c.part_cells.ensures.cells))
-
 pub times_cells-requires-clause-room : goal.times_cells-requires-clause-room
 times_cells-requires-clause-room c =
     let n = cells_in c.args.places.now.whole in let k = c.requires.room.0 in
@@ -63,11 +53,11 @@ pub returns-then-len-whole_cells-clause-changed : goal.returns-then-len-whole_ce
 returns-then-len-whole_cells-clause-changed c =
     let part = c.args.places.now.part in let whole = c.args.places.now.whole in let n = cells_in whole in let m = cells_in part in
     let d = c.args.digits.now.items in let e = c.args.exponents.now.items in let md = c.args.other_digits.now in let me = c.args.other_exponents.now in
-    let l : m ≤ length md = omega (arith, c.if-other_digits-part_cells.false, c.part_cells.ensures.cells) in
     let few : length d < n = omega (arith, c.if-len-whole_cells.true, c.len.ensures, c.whole_cells.ensures, c.args.digits.now.ok.0) in
-    let room = full_room m md me c.requires.other l c.requires.other_room.0 1 c.requires.other_room.1 in
-    spread_changed part whole c.part_cells.ensures.lies_in c.onto.result.now d e md me c.spread.new.digits.items c.spread.new.exponents.items c.onto.ensures
-    (all_blank n d e c.requires.held.whole few) c.requires.other l (λ j k. (room.stand.each j k).form) c.spread.ensures.all_digits c.spread.ensures.all_exponents c.spread.ensures.digits c.spread.ensures.exponents
+    let long = filled_length one_digits m md (at_most m md me c.requires.other).0 in
+    let room = c.requires.other_room.1 in
+    spread_changed part whole c.part_cells.ensures.lies_in d e md me c.put_held.new.digits.items c.put_held.new.exponents.items (all_blank n d e c.requires.held.whole few) c.put_held.ensures.held.whole
+    (λ p l. (room.stand.each p (omega (arith, l, long))).form) c.put_held.ensures.digits c.put_held.ensures.exponents
 
 pub returns-else-len-whole_cells-clause-changed : goal.returns-else-len-whole_cells-clause-changed
 returns-else-len-whole_cells-clause-changed c =

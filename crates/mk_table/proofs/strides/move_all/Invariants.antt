@@ -3,7 +3,8 @@ use Rattle.mk_table.proofs.strides.move_all.Given as goal
 
 abbrev pub invariant-loop-place : goal.invariant-loop-place
 invariant-loop-place l = record {
-  long : length l.cells.items ≡ length l.fn.cells.items;
-  moved : (k : ℕ) → k < l.place → slice_index l.cells.items k ≡ l.by + slice_index l.fn.cells.items k;
-  left : (k : ℕ) → l.place ≤ k → slice_index l.cells.items k ≡ slice_index l.fn.cells.items k;
+  long : length l.cells-inside.cells ≡ 4096;
+  count : l.cells-inside.count ≡ length l.fn.cells.items;
+  moved : (k : ℕ) → k < l.place → slice_index l.cells-inside.cells k ≡ l.by + slice_index l.fn.cells.items k;
+  left : (k : ℕ) → l.place ≤ k → k < length l.fn.cells.items → slice_index l.cells-inside.cells k ≡ slice_index l.fn.cells.items k;
 }

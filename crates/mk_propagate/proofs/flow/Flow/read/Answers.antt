@@ -1,24 +1,22 @@
-use Rattle.std.proofs.Common.{◌≡◌, ℕ, ◌+◌, ◌-◌, ◌*◌, Bool, true, false, List, length, slice_index_or, None, sym, ap, subst, ◌∙◌, arith}
+use Rattle.std.proofs.Common.{◌≡◌, ℕ, ◌+◌, ◌-◌, ◌*◌, true, List, length, slice_index_or, slice_set, None, refl, sym, ap, subst, ◌∙◌, arith}
 use Rattle.std.specs.List.{list_all}
 use Rattle.mk_net.specs.declared.words.Pair.{Pair}
 use Rattle.mk_table.specs.Scopes.{cells_in}
 use Rattle.mk_table.specs.Tables.{TableOf}
-use Rattle.mk_propagate.specs.declared.gathered.Gathered.{Gathered}
-use Rattle.mk_propagate.specs.Shapes.{ShapeOf, IsClique, in_core}
-use Rattle.mk_propagate.specs.Flows.{FlowOf, HasPlaced, AreRightInto, CanRead, IsReading, table_at}
-use Rattle.mk_propagate.specs.inner.Kept.{IsFlow, IsSummed}
+use Rattle.mk_propagate.specs.Shapes.{ShapeOf, IsClique, clique_scope, core_scope, in_core}
+use Rattle.mk_propagate.specs.Flows.{FlowOf, HasPlaced, AreRightInto, CanRead, IsReading}
+use Rattle.mk_propagate.specs.inner.Kept.{IsKept}
 use Rattle.mk_propagate.specs.inner.Gathered.{HasCore}
-use Rattle.mk_propagate.proofs.Sending.{table_is, can_take}
-use Rattle.mk_propagate.proofs.Marks.{gathered_there, flow_after, marked_at}
+use Rattle.mk_propagate.proofs.Sending.{core_within, core_fits, core_moved, read_back, table_is, can_take}
+use Rattle.mk_propagate.proofs.Marks.{summed_there, gathered_there, flow_after, flow_summed}
 use Rattle.mk_propagate.proofs.Believing.{all_inputs, into_there, event_there, total_room, into_room, some_cells, few_before, can_total, reading_of, core_event, core_total_room, core_can_total, core_reading_of}
 use Rattle.mk_propagate.proofs.flow.Flow.read.Goals as goal
 
--- where a clique's table is marked as summed, its core has the sums
-core_sums_there : (plus : ℕ → ℕ → ℕ) (flow : FlowOf) (cores products : List TableOf) (summed : List Bool) (gathered : List Gathered) (cells : ℕ) → IsFlow plus flow cores products summed gathered cells
-    → (k : ℕ) → IsClique flow.shape.tree k → (table : TableOf) → table_at flow k ≡ table → (core : TableOf) → core ≡ slice_index_or cores (k - 1) core → (mark : Bool) → mark ≡ slice_index_or summed (k - 1) mark → mark ≡ true
-    → HasCore plus flow.shape k table core
-core_sums_there plus flow cores products summed gathered cells h k clique table is core e mark f m =
-    subst (λ (t : TableOf). HasCore plus flow.shape k t core) is (marked_at Bool flow.shape.tree false (IsSummed plus flow) cores summed h.summed_are k clique h.kept.cores_are.one_each core e mark f m)
+-- a clique's table that was summed over its core is read back there
+core_sums_there : (plus : ℕ → ℕ → ℕ) (flow : FlowOf) (cores products : List TableOf) (cells : ℕ) → IsKept flow cores products cells → (k : ℕ) → IsClique flow.shape.tree k → (shape : ShapeOf) → shape ≡ flow.shape
+    → (table sum : TableOf) → HasCore plus shape k table sum → (core : TableOf) → core ≡ slice_index_or (slice_set cores (k - 1) sum) (k - 1) core → HasCore plus flow.shape k table core
+core_sums_there plus flow cores products cells kept k clique shape s table sum h core e =
+    subst (HasCore plus flow.shape k table) (sym (read_back cores (k - 1) sum core (core_within flow cores kept.cores_are k clique) e)) (core_moved plus k sum shape flow.shape table table s refl h)
 
 pub refresh-requires-clause-right : goal.refresh-requires-clause-right
 refresh-requires-clause-right g c =
@@ -59,15 +57,43 @@ overflow_add-grade-3 g c =
     let count = c.cliques-separators.ensures.count ∙ ap (λ (s : ShapeOf). length s.tree.cliques) c.deref-4.ensures in
     let l = few_before plus law _ _ _ _ c.self.invariant.kept k event c.index-table.result.now is c.refresh.new.product can.placing can.has can.clique_is can.holds_it there in omega (arith, count, c.cells.ensures.few, l)
 
+pub sum_core-requires-clause-core_scope : goal.sum_core-requires-clause-core_scope
+sum_core-requires-clause-core_scope g c =
+    let plus = g.R.Semiring.plus_of in let law = g.met.R.Semiring.lawful in let k = c.args.clique in let event = c.args.event.now in
+    let can = subst (λ (f : FlowOf). CanRead plus f k event) (sym c.self.view_is) c.requires in
+    core_fits _ _ c.self.invariant.kept.cores_are k can.clique_is c.index_mut-then-core_holds.result.now c.index_mut-then-core_holds.ensures.value ∙ ap (λ (s : ShapeOf). core_scope s k) (sym c.deref-then-core_holds.ensures)
+
+pub sum_core-requires-clause-table_scope : goal.sum_core-requires-clause-table_scope
+sum_core-requires-clause-table_scope g c =
+    let plus = g.R.Semiring.plus_of in let law = g.met.R.Semiring.lawful in let k = c.args.clique in let event = c.args.event.now in
+    let can = subst (λ (f : FlowOf). CanRead plus f k event) (sym c.self.view_is) c.requires in
+    let is = table_is _ _ _ _ c.self.invariant.kept k can.clique_is c.index-table.result.now c.index-table.ensures in
+    ap (λ (t : TableOf). t.scope) (sym is) ∙ c.self.invariant.kept.table_scopes k can.clique_is ∙ ap (λ (s : ShapeOf). clique_scope s k) (sym c.deref-then-core_holds.ensures)
+
+pub sum_core-requires-clause-room : goal.sum_core-requires-clause-room
+sum_core-requires-clause-room g c =
+    let plus = g.R.Semiring.plus_of in let law = g.met.R.Semiring.lawful in let k = c.args.clique in let event = c.args.event.now in
+    let can = subst (λ (f : FlowOf). CanRead plus f k event) (sym c.self.view_is) c.requires in
+    let there = into_there plus _ k can.placing can.has can.right c.deref.result.now c.deref-2.result.now c.deref-3.result.now c.deref.ensures c.deref-2.ensures.value c.deref-3.ensures.value c.refresh.new.product c.refresh.ensures.into in
+    let is = table_is _ _ _ _ c.self.invariant.kept k can.clique_is c.index-table.result.now c.index-table.ensures in
+    total_room plus law _ _ _ _ c.self.invariant.kept k event c.index-table.result.now is c.refresh.new.product can.placing can.has can.clique_is can.holds_it there
+
+pub sum_core-requires-clause-summed : goal.sum_core-requires-clause-summed
+sum_core-requires-clause-summed g c =
+    let plus = g.R.Semiring.plus_of in let law = g.met.R.Semiring.lawful in let k = c.args.clique in let event = c.args.event.now in
+    let can = subst (λ (f : FlowOf). CanRead plus f k event) (sym c.self.view_is) c.requires in
+    summed_there plus _ _ _ _ _ _ c.self.invariant k can.clique_is c.deref-then-core_holds.result.now c.deref-then-core_holds.ensures c.index-table.result.now c.index-table.ensures
+    c.index_mut-then-core_holds.result.now c.index_mut-then-core_holds.ensures.value c.index_mut-then-core_holds-2.result.now c.index_mut-then-core_holds-2.ensures.value
+
 pub value_of-requires-clause-event : goal.value_of-requires-clause-event
 value_of-requires-clause-event g c =
     let plus = g.R.Semiring.plus_of in let law = g.met.R.Semiring.lawful in let k = c.args.clique in let event = c.args.event.now in
     let can = subst (λ (f : FlowOf). CanRead plus f k event) (sym c.self.view_is) c.requires in
     let there = into_there plus _ k can.placing can.has can.right c.deref.result.now c.deref-2.result.now c.deref-3.result.now c.deref.ensures c.deref-2.ensures.value c.deref-3.ensures.value c.refresh.new.product c.refresh.ensures.into in
     let is = table_is _ _ _ _ c.self.invariant.kept k can.clique_is c.index-table.result.now c.index-table.ensures in
-    let core = c.index-then-core_holds.result.now in
-    let sums = core_sums_there plus _ _ _ _ _ _ c.self.invariant k can.clique_is c.index-table.result.now is core c.index-then-core_holds.ensures c.index.result.now c.index.ensures c.if-index.true in
-    let within = subst (λ (s : ShapeOf). list_all (λ (q : Pair). in_core s.tree k q.variable) event ≡ true) c.deref-then-index.ensures (sym c.core_holds.ensures ∙ c.if-core_holds.true) in
+    let core = c.index.result.now in
+    let sums = core_sums_there plus _ _ _ _ c.self.invariant.kept k can.clique_is c.deref-then-core_holds.result.now c.deref-then-core_holds.ensures c.index-table.result.now c.sum_core.new.core c.sum_core.ensures.core core c.index.ensures in
+    let within = subst (λ (s : ShapeOf). list_all (λ (q : Pair). in_core s.tree k q.variable) event ≡ true) c.deref-5.ensures (sym c.core_holds.ensures ∙ c.if-core_holds.true) in
     core_event plus law _ _ _ _ c.self.invariant.kept k event c.index-table.result.now is c.refresh.new.product can.placing can.has can.clique_is can.holds_it there core sums within
 
 pub value_of-requires-clause-room : goal.value_of-requires-clause-room
@@ -76,9 +102,9 @@ value_of-requires-clause-room g c =
     let can = subst (λ (f : FlowOf). CanRead plus f k event) (sym c.self.view_is) c.requires in
     let there = into_there plus _ k can.placing can.has can.right c.deref.result.now c.deref-2.result.now c.deref-3.result.now c.deref.ensures c.deref-2.ensures.value c.deref-3.ensures.value c.refresh.new.product c.refresh.ensures.into in
     let is = table_is _ _ _ _ c.self.invariant.kept k can.clique_is c.index-table.result.now c.index-table.ensures in
-    let core = c.index-then-core_holds.result.now in
-    let sums = core_sums_there plus _ _ _ _ _ _ c.self.invariant k can.clique_is c.index-table.result.now is core c.index-then-core_holds.ensures c.index.result.now c.index.ensures c.if-index.true in
-    let within = subst (λ (s : ShapeOf). list_all (λ (q : Pair). in_core s.tree k q.variable) event ≡ true) c.deref-then-index.ensures (sym c.core_holds.ensures ∙ c.if-core_holds.true) in
+    let core = c.index.result.now in
+    let sums = core_sums_there plus _ _ _ _ c.self.invariant.kept k can.clique_is c.deref-then-core_holds.result.now c.deref-then-core_holds.ensures c.index-table.result.now c.sum_core.new.core c.sum_core.ensures.core core c.index.ensures in
+    let within = subst (λ (s : ShapeOf). list_all (λ (q : Pair). in_core s.tree k q.variable) event ≡ true) c.deref-5.ensures (sym c.core_holds.ensures ∙ c.if-core_holds.true) in
     core_total_room plus law _ _ _ _ c.self.invariant.kept k event c.index-table.result.now is c.refresh.new.product can.placing can.has can.clique_is can.holds_it there core sums within
 
 pub value_of-requires-clause-into_room : goal.value_of-requires-clause-into_room
@@ -112,9 +138,9 @@ value_of-requires-clause-total g c =
     let can = subst (λ (f : FlowOf). CanRead plus f k event) (sym c.self.view_is) c.requires in
     let there = into_there plus _ k can.placing can.has can.right c.deref.result.now c.deref-2.result.now c.deref-3.result.now c.deref.ensures c.deref-2.ensures.value c.deref-3.ensures.value c.refresh.new.product c.refresh.ensures.into in
     let is = table_is _ _ _ _ c.self.invariant.kept k can.clique_is c.index-table.result.now c.index-table.ensures in
-    let core = c.index-then-core_holds.result.now in
-    let sums = core_sums_there plus _ _ _ _ _ _ c.self.invariant k can.clique_is c.index-table.result.now is core c.index-then-core_holds.ensures c.index.result.now c.index.ensures c.if-index.true in
-    let within = subst (λ (s : ShapeOf). list_all (λ (q : Pair). in_core s.tree k q.variable) event ≡ true) c.deref-then-index.ensures (sym c.core_holds.ensures ∙ c.if-core_holds.true) in
+    let core = c.index.result.now in
+    let sums = core_sums_there plus _ _ _ _ c.self.invariant.kept k can.clique_is c.deref-then-core_holds.result.now c.deref-then-core_holds.ensures c.index-table.result.now c.sum_core.new.core c.sum_core.ensures.core core c.index.ensures in
+    let within = subst (λ (s : ShapeOf). list_all (λ (q : Pair). in_core s.tree k q.variable) event ≡ true) c.deref-5.ensures (sym c.core_holds.ensures ∙ c.if-core_holds.true) in
     let count = c.cliques-separators.ensures.count ∙ ap (λ (s : ShapeOf). length s.tree.cliques) c.deref-4.ensures in
     let grade = c.self.inside.factors + c.self.inside.cells + 2 * (c.cliques-separators.result - 1) + c.cells.result in
     let counted : grade ≡ c.self.inside.factors + c.self.inside.cells + 2 * (length c.self.inside.shape.value.tree.cliques - 1) + cells_in c.index-table.result.now.scope = omega (arith, count, c.cells.ensures.cells) in
@@ -176,8 +202,11 @@ pub invariant_of-self : goal.invariant_of-self
 invariant_of-self g c =
     let plus = g.R.Semiring.plus_of in let law = g.met.R.Semiring.lawful in let k = c.args.clique in let event = c.args.event.now in
     let can = subst (λ (f : FlowOf). CanRead plus f k event) (sym c.self.view_is) c.requires in
-    flow_after plus _ _ _ _ _ _ c.self.invariant k can.clique_is c.deref.result.now c.deref.ensures c.deref-2.result.now c.deref-3.result.now c.deref-2.ensures.value c.deref-3.ensures.value
-    c.index_mut-into.result.now c.index_mut-into.ensures.value c.refresh.new.product c.refresh.new.gathered c.refresh.ensures.scope c.refresh.ensures.marked c.refresh.ensures.into
+    let is = table_is _ _ _ _ c.self.invariant.kept k can.clique_is c.index-table.result.now c.index-table.ensures in
+    flow_summed plus _ _ _ _ _ _
+    (flow_after plus _ _ _ _ _ _ c.self.invariant k can.clique_is c.deref.result.now c.deref.ensures c.deref-2.result.now c.deref-3.result.now c.deref-2.ensures.value c.deref-3.ensures.value
+    c.index_mut-into.result.now c.index_mut-into.ensures.value c.refresh.new.product c.refresh.new.gathered c.refresh.ensures.scope c.refresh.ensures.marked c.refresh.ensures.into)
+    k can.clique_is c.deref-then-core_holds.result.now c.deref-then-core_holds.ensures c.index-table.result.now is c.index_mut-then-core_holds.result.now c.sum_core.new.core c.index_mut-then-core_holds.ensures.value c.sum_core.ensures.scope c.sum_core.ensures.core c.sum_core.new.summed
 
 pub invariant_of-self-2 : goal.invariant_of-self-2
 invariant_of-self-2 g c =
@@ -195,9 +224,9 @@ returns-then-core_holds-clause-reading g c = λ p h r.
     let right = subst (λ (f : FlowOf). AreRightInto plus f p k) (sym c.self.view_is) r in
     let there = into_there plus _ k p has right c.deref.result.now c.deref-2.result.now c.deref-3.result.now c.deref.ensures c.deref-2.ensures.value c.deref-3.ensures.value c.refresh.new.product c.refresh.ensures.into in
     let is = table_is _ _ _ _ c.self.invariant.kept k can.clique_is c.index-table.result.now c.index-table.ensures in
-    let core = c.index-then-core_holds.result.now in
-    let sums = core_sums_there plus _ _ _ _ _ _ c.self.invariant k can.clique_is c.index-table.result.now is core c.index-then-core_holds.ensures c.index.result.now c.index.ensures c.if-index.true in
-    let within = subst (λ (s : ShapeOf). list_all (λ (q : Pair). in_core s.tree k q.variable) event ≡ true) c.deref-then-index.ensures (sym c.core_holds.ensures ∙ c.if-core_holds.true) in
+    let core = c.index.result.now in
+    let sums = core_sums_there plus _ _ _ _ c.self.invariant.kept k can.clique_is c.deref-then-core_holds.result.now c.deref-then-core_holds.ensures c.index-table.result.now c.sum_core.new.core c.sum_core.ensures.core core c.index.ensures in
+    let within = subst (λ (s : ShapeOf). list_all (λ (q : Pair). in_core s.tree k q.variable) event ≡ true) c.deref-5.ensures (sym c.core_holds.ensures ∙ c.if-core_holds.true) in
     let count = c.cliques-separators.ensures.count ∙ ap (λ (s : ShapeOf). length s.tree.cliques) c.deref-4.ensures in
     let grade = c.self.inside.factors + c.self.inside.cells + 2 * (c.cliques-separators.result - 1) + c.cells.result in
     let counted : grade ≡ c.self.inside.factors + c.self.inside.cells + 2 * (length c.self.inside.shape.value.tree.cliques - 1) + cells_in c.index-table.result.now.scope = omega (arith, count, c.cells.ensures.cells) in

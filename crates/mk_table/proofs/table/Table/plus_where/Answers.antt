@@ -13,7 +13,7 @@ use Rattle.mk_table.proofs.table.Table.plus_where.Goals as goal
 pub plus_of_listed-requires-clause-within : goal.plus_of_listed-requires-clause-within
 plus_of_listed-requires-clause-within g c =
     let scope = c.deref.result.now in
-    let chosen : runs_of c.runs_where-run.result c.deref-5.result.now ≡ cells_where scope c.args.event.now = ap (runs_of c.runs_where-run.result) c.deref-5.ensures.0 ∙ c.runs_where-run.ensures.cells in
+    let chosen : runs_of c.runs_where-run.result c.as_slice.result.now ≡ cells_where scope c.args.event.now = ap (runs_of c.runs_where-run.result) c.as_slice.ensures ∙ c.runs_where-run.ensures.cells in
     let count : c.cells.result ≡ cells_in scope = c.cells.ensures.cells ∙ ap cells_in (c.deref-4.ensures ∙ sym c.deref.ensures) in
     rw (chosen, count) (where_within scope c.args.event.now)
 
@@ -23,10 +23,10 @@ plus_of_listed-requires-clause-room g c =
     c.self.view_is (table_full _ _ _ _ _ _ c.self.invariant) c.self.invariant.there c.deref.ensures
     (ap (λ k. filled one_digits k c.deref-2.result.now) (c.cells.ensures.cells ∙ ap cells_in c.deref-4.ensures) ∙ ap (filled one_digits (cells_in c.self.inside.scope.value)) c.deref-2.ensures.value)
     (ap (λ k. filled one_exponent k c.deref-3.result.now) (c.cells.ensures.cells ∙ ap cells_in c.deref-4.ensures) ∙ ap (filled one_exponent (cells_in c.self.inside.scope.value)) c.deref-3.ensures.value) in
-    let few : length (runs_of c.runs_where-run.result c.deref-5.result.now) ≤ cells_in c.args.self.now.scope =
-    let e = ap (λ (ys : List ℕ). length (runs_of c.runs_where-run.result ys)) c.deref-5.ensures.0 ∙ ap (λ (ys : List ℕ). length ys) c.runs_where-run.ensures.cells in
+    let few : length (runs_of c.runs_where-run.result c.as_slice.result.now) ≤ cells_in c.args.self.now.scope =
+    let e = ap (λ (ys : List ℕ). length (runs_of c.runs_where-run.result ys)) c.as_slice.ensures ∙ ap (λ (ys : List ℕ). length ys) c.runs_where-run.ensures.cells in
     let s = ap (λ (s : ScopeOf). cells_in s) parts.scope_is in omega (arith, e, s, c.runs_where-run.ensures.few) in
-    parts_room _ _ _ _ _ parts (2 * cells_in c.args.self.now.scope) (2 * length (runs_of c.runs_where-run.result c.deref-5.result.now)) c.requires.room (omega (arith, few))
+    parts_room _ _ _ _ _ parts (2 * cells_in c.args.self.now.scope) (2 * length (runs_of c.runs_where-run.result c.as_slice.result.now)) c.requires.room (omega (arith, few))
 
 pub returns-clause-stands : goal.returns-clause-stands
 returns-clause-stands g c = λ k f n h.
@@ -36,12 +36,12 @@ returns-clause-stands g c = λ k f n h.
     (ap (λ k. filled one_exponent k c.deref-3.result.now) (c.cells.ensures.cells ∙ ap cells_in c.deref-4.ensures) ∙ ap (filled one_exponent (cells_in c.self.inside.scope.value)) c.deref-3.ensures.value) in
     let R = g.R.Semiring in let now = c.args.self.now in
     let od = filled one_digits c.cells.result c.deref-2.result.now in let oe = filled one_exponent c.cells.result c.deref-3.result.now in
-    let chosen : runs_of c.runs_where-run.result c.deref-5.result.now ≡ cells_where now.scope c.args.event.now =
-    ap (runs_of c.runs_where-run.result) c.deref-5.ensures.0 ∙ c.runs_where-run.ensures.cells ∙ ap (λ (s : ScopeOf). cells_where s c.args.event.now) parts.scope_is in
+    let chosen : runs_of c.runs_where-run.result c.as_slice.result.now ≡ cells_where now.scope c.args.event.now =
+    ap (runs_of c.runs_where-run.result) c.as_slice.ensures ∙ c.runs_where-run.ensures.cells ∙ ap (λ (s : ScopeOf). cells_where s c.args.event.now) parts.scope_is in
     let few : length (cells_where now.scope c.args.event.now) ≤ cells_in now.scope =
-    let e = ap (λ (ys : List ℕ). length ys) (sym c.runs_where-run.ensures.cells ∙ sym (ap (runs_of c.runs_where-run.result) c.deref-5.ensures.0) ∙ chosen) in
+    let e = ap (λ (ys : List ℕ). length ys) (sym c.runs_where-run.ensures.cells ∙ sym (ap (runs_of c.runs_where-run.result) c.as_slice.ensures) ∙ chosen) in
     let s = ap (λ (s : ScopeOf). cells_in s) parts.scope_is in omega (arith, e, s, c.runs_where-run.ensures.few) in
-    let listed : StandListed k od oe f n 0 (runs_of c.runs_where-run.result c.deref-5.result.now) =
+    let listed : StandListed k od oe f n 0 (runs_of c.runs_where-run.result c.as_slice.result.now) =
     subst (λ (ys : List ℕ). StandListed k od oe f n 0 ys) (sym chosen)
     (subst (λ (ys : List ℕ). StandListed k ys oe f n 0 (cells_where now.scope c.args.event.now)) (sym parts.digits_are)
     (subst (λ (ys : List ℕ). StandListed k now.digits ys f n 0 (cells_where now.scope c.args.event.now)) (sym parts.exponents_are) h)) in

@@ -19,8 +19,8 @@ cells_where-requires g c =
 pub returns-clause-numbers : goal.returns-clause-numbers
 returns-clause-numbers g c = λ f n h.
     let parts = parts_of _ c.args.self.now c.deref-3.result.now c.deref_mut.result.now c.deref_mut-2.result.now c.self.view_is (table_full _ _ _ _ _ _ c.self.invariant) c.self.invariant.there c.deref-3.ensures (c.deref_mut.ensures.value ∙ c.fill.ensures.digits ∙ ap (λ k. filled one_digits k c.self.inside.digits.items) (c.cells.ensures.cells ∙ ap cells_in c.deref-2.ensures)) (c.deref_mut-2.ensures.value ∙ c.fill.ensures.exponents ∙ ap (λ k. filled one_exponent k c.self.inside.exponents.items) (c.cells.ensures.cells ∙ ap cells_in c.deref-2.ensures)) in
-    let chosen : c.deref-4.result.now ≡ cells_where c.deref-3.result.now c.args.ratio.now.condition =
-    c.deref-4.ensures.0 ∙ c.cells_where.ensures.cells ∙ ap (λ (s : ScopeOf). cells_where s c.args.ratio.now.condition) (c.deref.ensures ∙ sym c.deref-3.ensures) in
+    let chosen : c.as_slice.result.now ≡ cells_where c.deref-3.result.now c.args.ratio.now.condition =
+    c.as_slice.ensures ∙ c.cells_where.ensures.cells ∙ ap (λ (s : ScopeOf). cells_where s c.args.ratio.now.condition) (c.deref.ensures ∙ sym c.deref-3.ensures) in
     has_after _ c.args.self.now c.self.view_is c.fill.new.digits c.fill.new.exponents c.times_units.new.digits c.times_units.new.exponents
     (record {
       digits = omega (arith, c.times_units.auto.digits, c.deref_mut.ensures.len);
@@ -28,7 +28,7 @@ returns-clause-numbers g c = λ f n h.
       all_digits = c.fill.ensures.all_digits ∙ c.cells.ensures.cells ∙ ap cells_in c.deref-2.ensures;
       all_exponents = c.fill.ensures.all_exponents ∙ c.cells.ensures.cells ∙ ap cells_in c.deref-2.ensures;
     }) _ _ _ _
-    (ratio_numbers c.args.self.now _ _ _ _ parts (trade_ratio c.args.ratio.now) c.deref-4.result.now c.times_units.new.digits c.times_units.new.exponents c.take_either.new.touched chosen c.times_units.ensures (subst (λ (o : Option (List Pair)). IsEither o (Some c.args.ratio.now.condition) c.take_either.new.touched) (ap (λ (u : TableOf). u.touched) c.self.view_is) c.take_either.ensures) f n h)
+    (ratio_numbers c.args.self.now _ _ _ _ parts (trade_ratio c.args.ratio.now) c.as_slice.result.now c.times_units.new.digits c.times_units.new.exponents c.take_either.new.touched chosen c.times_units.ensures (subst (λ (o : Option (List Pair)). IsEither o (Some c.args.ratio.now.condition) c.take_either.new.touched) (ap (λ (u : TableOf). u.touched) c.self.view_is) c.take_either.ensures) f n h)
 
 pub invariant_of-self : goal.invariant_of-self
 invariant_of-self g c =

@@ -44,9 +44,9 @@ pub plus_of_products-requires-clause-within : goal.plus_of_products-requires-cla
 plus_of_products-requires-clause-within g c =
     let now = c.args.self.now in let other = c.args.message.now in let event = c.args.event.now in
     let lies : LiesIn other.scope now.scope = subst (λ (s : PlacesOf). LiesIn s.part s.whole) c.requires.places c.part_cells.ensures.lies_in in
-    let onto = c.onto.result.now in let xs = c.deref-6.result.now in
+    let onto = c.onto.result.now in let xs = c.as_slice.result.now in
     let onto_long : length onto ≡ cells_in now.scope = subst (λ (s : PlacesOf). length onto ≡ cells_in s.whole) c.requires.places c.onto.ensures.one_each in
-    let listed : xs ≡ cells_where now.scope event = c.deref-6.ensures.0 ∙ c.cells_where.ensures.cells ∙ ap (λ (s : ScopeOf). cells_where s event) (c.deref.ensures ∙ ap (λ (t : TableOf). t.scope) c.self.view_is) in
+    let listed : xs ≡ cells_where now.scope event = c.as_slice.ensures ∙ c.cells_where.ensures.cells ∙ ap (λ (s : ScopeOf). cells_where s event) (c.deref.ensures ∙ ap (λ (t : TableOf). t.scope) c.self.view_is) in
     let within = chosen_within now other (event_passes now event) lies (length onto) onto_long in
     subst (λ (ys : List ℕ). All (λ k. 0 + k < length onto) ys) (sym listed) (λ i z l. let w = within i z l in omega (arith, w))
 
@@ -56,7 +56,7 @@ plus_of_products-requires-clause-onto g c =
     let lies : LiesIn other.scope now.scope = subst (λ (s : PlacesOf). LiesIn s.part s.whole) c.requires.places c.part_cells.ensures.lies_in in
     let kept = c.message.inside.scope.value in let d = c.message.inside.digits.items in let e = c.message.inside.exponents.items in
     let part_is : c.args.places.now.part ≡ kept = ap (λ (s : PlacesOf). s.part) c.requires.places ∙ sym (ap (λ (t : TableOf). t.scope) c.message.view_is) in
-    let onto = c.onto.result.now in let xs = c.deref-6.result.now in
+    let onto = c.onto.result.now in let xs = c.as_slice.result.now in
     let onto_is : (k : ℕ) → k < cells_in now.scope → slice_index onto k ≡ cell_in other.scope now.scope k = subst (λ (s : PlacesOf). (k : ℕ) → k < cells_in s.whole → slice_index onto k ≡ cell_in s.part s.whole k) c.requires.places c.onto.ensures.cell in
     let onto_long : length onto ≡ cells_in now.scope = subst (λ (s : PlacesOf). length onto ≡ cells_in s.whole) c.requires.places c.onto.ensures.one_each in
     let written : cells_in kept ≤ length d = let p = ap cells_in part_is in omega (arith, c.len.ensures, c.part_cells.ensures.cells, c.if-len-part_cells.false, p, c.message.inside.digits.ok.0) in
@@ -67,7 +67,7 @@ plus_of_products-requires-clause-onto g c =
 pub plus_of_products-requires-clause-whole : goal.plus_of_products-requires-clause-whole
 plus_of_products-requires-clause-whole g c =
     let now = c.args.self.now in let other = c.args.message.now in let event = c.args.event.now in
-    let onto = c.onto.result.now in let xs = c.deref-6.result.now in
+    let onto = c.onto.result.now in let xs = c.as_slice.result.now in
     let onto_long : length onto ≡ cells_in now.scope = subst (λ (s : PlacesOf). length onto ≡ cells_in s.whole) c.requires.places c.onto.ensures.one_each in
     let count : length onto ≡ cells_in c.self.inside.scope.value = onto_long ∙ sym (ap (λ (t : TableOf). cells_in t.scope) c.self.view_is) in
     rw (count, c.deref-2.ensures.value, c.deref-3.ensures.value) c.self.invariant.held.whole
@@ -76,9 +76,9 @@ pub plus_of_products-requires-clause-room : goal.plus_of_products-requires-claus
 plus_of_products-requires-clause-room g c =
     let now = c.args.self.now in let other = c.args.message.now in let event = c.args.event.now in
     let lies : LiesIn other.scope now.scope = subst (λ (s : PlacesOf). LiesIn s.part s.whole) c.requires.places c.part_cells.ensures.lies_in in
-    let onto = c.onto.result.now in let xs = c.deref-6.result.now in
+    let onto = c.onto.result.now in let xs = c.as_slice.result.now in
     let onto_long : length onto ≡ cells_in now.scope = subst (λ (s : PlacesOf). length onto ≡ cells_in s.whole) c.requires.places c.onto.ensures.one_each in
-    let listed : xs ≡ cells_where now.scope event = c.deref-6.ensures.0 ∙ c.cells_where.ensures.cells ∙ ap (λ (s : ScopeOf). cells_where s event) (c.deref.ensures ∙ ap (λ (t : TableOf). t.scope) c.self.view_is) in
+    let listed : xs ≡ cells_where now.scope event = c.as_slice.ensures ∙ c.cells_where.ensures.cells ∙ ap (λ (s : ScopeOf). cells_where s event) (c.deref.ensures ∙ ap (λ (t : TableOf). t.scope) c.self.view_is) in
     let count : length onto ≡ cells_in c.self.inside.scope.value = onto_long ∙ sym (ap (λ (t : TableOf). cells_in t.scope) c.self.view_is) in
     let digits : filled one_digits (length onto) c.deref-2.result.now ≡ now.digits = ap (λ k. filled one_digits k c.deref-2.result.now) count ∙ ap (filled one_digits (cells_in c.self.inside.scope.value)) c.deref-2.ensures.value ∙ ap (λ (t : TableOf). t.digits) c.self.view_is in
     let exponents : filled one_exponent (length onto) c.deref-3.result.now ≡ now.exponents = ap (λ k. filled one_exponent k c.deref-3.result.now) count ∙ ap (filled one_exponent (cells_in c.self.inside.scope.value)) c.deref-3.ensures.value ∙ ap (λ (t : TableOf). t.exponents) c.self.view_is in
@@ -110,10 +110,10 @@ returns-clause-stands g c = λ f h n p has has_other.
     let lies : LiesIn other.scope now.scope = subst (λ (s : PlacesOf). LiesIn s.part s.whole) c.requires.places c.part_cells.ensures.lies_in in
     let kept = c.message.inside.scope.value in let d = c.message.inside.digits.items in let e = c.message.inside.exponents.items in
     let part_is : c.args.places.now.part ≡ kept = ap (λ (s : PlacesOf). s.part) c.requires.places ∙ sym (ap (λ (t : TableOf). t.scope) c.message.view_is) in
-    let onto = c.onto.result.now in let xs = c.deref-6.result.now in
+    let onto = c.onto.result.now in let xs = c.as_slice.result.now in
     let onto_is : (k : ℕ) → k < cells_in now.scope → slice_index onto k ≡ cell_in other.scope now.scope k = subst (λ (s : PlacesOf). (k : ℕ) → k < cells_in s.whole → slice_index onto k ≡ cell_in s.part s.whole k) c.requires.places c.onto.ensures.cell in
     let onto_long : length onto ≡ cells_in now.scope = subst (λ (s : PlacesOf). length onto ≡ cells_in s.whole) c.requires.places c.onto.ensures.one_each in
-    let listed : xs ≡ cells_where now.scope event = c.deref-6.ensures.0 ∙ c.cells_where.ensures.cells ∙ ap (λ (s : ScopeOf). cells_where s event) (c.deref.ensures ∙ ap (λ (t : TableOf). t.scope) c.self.view_is) in
+    let listed : xs ≡ cells_where now.scope event = c.as_slice.ensures ∙ c.cells_where.ensures.cells ∙ ap (λ (s : ScopeOf). cells_where s event) (c.deref.ensures ∙ ap (λ (t : TableOf). t.scope) c.self.view_is) in
     let count : length onto ≡ cells_in c.self.inside.scope.value = onto_long ∙ sym (ap (λ (t : TableOf). cells_in t.scope) c.self.view_is) in
     let digits : filled one_digits (length onto) c.deref-2.result.now ≡ now.digits = ap (λ k. filled one_digits k c.deref-2.result.now) count ∙ ap (filled one_digits (cells_in c.self.inside.scope.value)) c.deref-2.ensures.value ∙ ap (λ (t : TableOf). t.digits) c.self.view_is in
     let exponents : filled one_exponent (length onto) c.deref-3.result.now ≡ now.exponents = ap (λ k. filled one_exponent k c.deref-3.result.now) count ∙ ap (filled one_exponent (cells_in c.self.inside.scope.value)) c.deref-3.ensures.value ∙ ap (λ (t : TableOf). t.exponents) c.self.view_is in
@@ -132,10 +132,10 @@ returns-clause-own g c = λ untouched untouched_too f h n p has has_other.
     let lies : LiesIn other.scope now.scope = subst (λ (s : PlacesOf). LiesIn s.part s.whole) c.requires.places c.part_cells.ensures.lies_in in
     let kept = c.message.inside.scope.value in let d = c.message.inside.digits.items in let e = c.message.inside.exponents.items in
     let part_is : c.args.places.now.part ≡ kept = ap (λ (s : PlacesOf). s.part) c.requires.places ∙ sym (ap (λ (t : TableOf). t.scope) c.message.view_is) in
-    let onto = c.onto.result.now in let xs = c.deref-6.result.now in
+    let onto = c.onto.result.now in let xs = c.as_slice.result.now in
     let onto_is : (k : ℕ) → k < cells_in now.scope → slice_index onto k ≡ cell_in other.scope now.scope k = subst (λ (s : PlacesOf). (k : ℕ) → k < cells_in s.whole → slice_index onto k ≡ cell_in s.part s.whole k) c.requires.places c.onto.ensures.cell in
     let onto_long : length onto ≡ cells_in now.scope = subst (λ (s : PlacesOf). length onto ≡ cells_in s.whole) c.requires.places c.onto.ensures.one_each in
-    let listed : xs ≡ cells_where now.scope event = c.deref-6.ensures.0 ∙ c.cells_where.ensures.cells ∙ ap (λ (s : ScopeOf). cells_where s event) (c.deref.ensures ∙ ap (λ (t : TableOf). t.scope) c.self.view_is) in
+    let listed : xs ≡ cells_where now.scope event = c.as_slice.ensures ∙ c.cells_where.ensures.cells ∙ ap (λ (s : ScopeOf). cells_where s event) (c.deref.ensures ∙ ap (λ (t : TableOf). t.scope) c.self.view_is) in
     let count : length onto ≡ cells_in c.self.inside.scope.value = onto_long ∙ sym (ap (λ (t : TableOf). cells_in t.scope) c.self.view_is) in
     let digits : filled one_digits (length onto) c.deref-2.result.now ≡ now.digits = ap (λ k. filled one_digits k c.deref-2.result.now) count ∙ ap (filled one_digits (cells_in c.self.inside.scope.value)) c.deref-2.ensures.value ∙ ap (λ (t : TableOf). t.digits) c.self.view_is in
     let exponents : filled one_exponent (length onto) c.deref-3.result.now ≡ now.exponents = ap (λ k. filled one_exponent k c.deref-3.result.now) count ∙ ap (filled one_exponent (cells_in c.self.inside.scope.value)) c.deref-3.ensures.value ∙ ap (λ (t : TableOf). t.exponents) c.self.view_is in
