@@ -25,3 +25,5 @@ pub mod Unrounded
 pub mod Multiplied
 pub mod Spread
 pub mod Pluses
+pub mod Anew
+pub mod Margins

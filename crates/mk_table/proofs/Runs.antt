@@ -33,6 +33,14 @@ pub runs_single : (xs : List ℕ) → runs_of 1 xs ≡ xs
 runs_single [] = refl
 runs_single (x ∷ xs) = ap (λ (ys : List ℕ). x ∷ ys) (runs_single xs)
 
+-- where a run has one cell
+pub runs_one : (run : ℕ) → 1 ≤ run → run ≤ 1 → (xs : List ℕ) → runs_of run xs ≡ xs
+runs_one run some one xs = let e : run ≡ 1 = omega (arith, some, one) in ap (λ r. runs_of r xs) e ∙ runs_single xs
+
+pub within_one : (run : ℕ) → 1 ≤ run → run ≤ 1 → (bases xs : List ℕ) (count : ℕ) → ((b : ℕ) → b < length bases → All (λ c. slice_index bases b + c < count) (runs_of run xs))
+    → (b : ℕ) → b < length bases → All (λ c. slice_index bases b + c < count) xs
+within_one run some one bases xs count h b l = subst (λ (ys : List ℕ). All (λ c. slice_index bases b + c < count) ys) (runs_one run some one xs) (h b l)
+
 pub runs_first : (run : ℕ) → runs_of run (0 ∷ []) ≡ numbers_below run
 runs_first run = append-nil (range_with_len 0 run)
 

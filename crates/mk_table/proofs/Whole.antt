@@ -1,5 +1,5 @@
 -- What the calls of a table do to the numbers that its cells stand for.
-use Rattle.std.proofs.Common.{◌≡◌, ℕ, ◌+◌, ◌-◌, ◌*◌, ◌/◌, ◌^◌, ◌<◌, ◌≤◌, Bool, true, false, cond, ◌==◌, List, map, length, slice_index, All, sym, ap, subst, ◌∙◌, arith, zero-add}
+use Rattle.std.proofs.Common.{◌≡◌, ℕ, ◌+◌, ◌-◌, ◌*◌, ◌/◌, ◌^◌, ◌<◌, ◌≤◌, Bool, true, cond, ◌==◌, List, map, length, slice_index, All, sym, ap, subst, ◌∙◌, arith, zero-add}
 use Rattle.std.proofs.Math.ListN.{get_or-map}
 use Rattle.std.proofs.Math.Path.{fun_ext}
 use Rattle.std.specs.Prelude.{Vec, Option, Some, vec_len, vec_capacity}
@@ -12,21 +12,19 @@ use Rattle.mk_net.specs.Asked.{TradeRatio}
 use Rattle.mk_exact.specs.Lawful.{Lawful}
 use Rattle.mk_exact.specs.States.{plus_over}
 use Rattle.mk_exact.specs.Ratios.{units_of}
-use Rattle.mk_exact.proofs.Sums.{plus_over-map}
 use Rattle.mk_sums.specs.There.{holds_there, ratio_there}
 use Rattle.mk_cell.specs.Cell.{AllStand, StandsAt, IsOwnAt}
 use Rattle.mk_cell.specs.inner.Laws.{stands_with_more}
 use Rattle.mk_table.specs.Scopes.{ScopeOf, LiesIn, cells_in}
-use Rattle.mk_table.specs.Cells.{values_at, cell_in, cells_onto, cells_beside, cells_where}
+use Rattle.mk_table.specs.Cells.{values_at, cell_in, cells_onto, cells_where}
 use Rattle.mk_table.specs.Tables.{TableOf, HasNumbers, HasRoom, touches, is_untouched_by}
 use Rattle.mk_table.specs.inner.Parts.{IsFull, IsTable, HaveRoom, IsTimes, IsTimesCell, IsChanged, IsAmong, IsRestricted, StandListed, AreNumbers}
 use Rattle.mk_table.specs.inner.Blank.{one_digits, one_exponent, filled}
-use Rattle.mk_table.specs.inner.Touched.{HasTouched, IsEither, IsBeside, IsWithin}
+use Rattle.mk_table.specs.inner.Touched.{HasTouched, IsEither, IsBeside}
 use Rattle.mk_table.proofs.Kept.{cell_within}
-use Rattle.mk_table.proofs.Blocked.{all_listed}
 use Rattle.mk_table.proofs.Filled.{at_most, filled_length, held_items, held_after}
 use Rattle.mk_table.proofs.Untouched.{touched_in, untouched_there, false_before}
-use Rattle.mk_table.proofs.Owned.{rows_are, some_are, cells_are, kept_are, own_over, own_more}
+use Rattle.mk_table.proofs.Owned.{rows_are, some_are, cells_are, kept_are, own_over}
 use Rattle.mk_table.proofs.Chosen.{among_chosen, none_among, chosen_pass}
 
 -- a table's parts, as a call takes them
@@ -208,47 +206,6 @@ ArePluses plus bases offsets od oe nd ne =
     → StandsAt k (slice_index nd b) (slice_index ne b) (plus_over plus 0 (λ c. f (slice_index bases b + c)) offsets) (n + (2 * length offsets - 1))
 
 module _ (plus : ℕ → ℕ → ℕ) (law : Lawful plus) where
-  module _ (part whole : ScopeOf) (lies : LiesIn part whole) (bases offsets od oe nd ne : List ℕ) (full : IsFull whole od oe) (beside : length offsets ≡ cells_beside part whole)
-      (bases_long : length bases ≡ cells_in part) (onto : (d : ℕ) → d < cells_in part → map (λ c. slice_index bases d + c) offsets ≡ cells_onto part whole d)
-      (long : length nd ≡ cells_in part) (pluses : ArePluses plus bases offsets od oe nd ne) where
-    sum_is : (f : ℕ → ℕ) (d : ℕ) → d < cells_in part → plus_over plus 0 (λ c. f (slice_index bases d + c)) offsets ≡ plus_over plus 0 f (cells_onto part whole d)
-    sum_is f d l = sym (plus_over-map plus 0 f (λ c. slice_index bases d + c) offsets) ∙ ap (plus_over plus 0 f) (onto d l)
-
-    stand_onto : (k : ℕ) (f : ℕ → ℕ) (n : ℕ) → AllStand k od oe f n → (d : ℕ) → d < cells_in part
-        → StandsAt k (slice_index nd d) (slice_index ne d) (plus_over plus 0 f (cells_onto part whole d)) (n + (2 * cells_beside part whole - 1))
-    stand_onto k f n a d l =
-        let within : All (λ c. slice_index bases d + c < length od) offsets = rw full.as_many_digits (onto_within part whole (slice_index bases d) offsets d (onto d l)) in
-        stands_with_more k (slice_index nd d) (slice_index ne d) (plus_over plus 0 f (cells_onto part whole d)) (n + (2 * length offsets - 1)) (n + (2 * cells_beside part whole - 1)) (omega (arith, beside))
-        (subst (λ v. StandsAt k (slice_index nd d) (slice_index ne d) v (n + (2 * length offsets - 1))) (sum_is f d l)
-        (pluses d (omega arith) k f n (all_listed k od oe f n (slice_index bases d) offsets within a)))
-
-    own_onto : (before after : Option (List Pair)) → IsWithin part before after → (k : ℕ) (f : ℕ → ℕ) (n : ℕ) → AreNumbers (touched_cells before whole) k od oe f n → (d : ℕ) → d < cells_in part
-        → touched_cells after part d ≡ false → IsOwnAt k (slice_index nd d) (slice_index ne d) (plus_over plus 0 f (cells_onto part whole d)) (n + (2 * cells_beside part whole - 1))
-    own_onto before after within k f n a d l t =
-        own_more k (slice_index nd d) (slice_index ne d) (plus_over plus 0 f (cells_onto part whole d)) (n + (2 * length offsets - 1)) (n + (2 * cells_beside part whole - 1)) (omega (arith, beside))
-        (subst (λ v. IsOwnAt k (slice_index nd d) (slice_index ne d) v (n + (2 * length offsets - 1))) (sum_is f d l)
-        (own_over plus law k od oe f n (slice_index bases d) offsets (slice_index nd d) (slice_index ne d) (n + (2 * length offsets - 1)) listed (pluses d (omega arith) 0 (λ c. f c / 2 ^ k) n)))
-      where
-        cell_own : (c : ℕ) → (cell_in part whole c == d) ≡ true → c < cells_in whole → IsOwnAt k (slice_index od c) (slice_index oe c) (f c) n
-        cell_own c e m =
-            let out : touched_cells after whole c ≡ false =
-            sym (touched_in part whole after lies within.there c m) ∙ ap (touched_cells after part) (eqb-true (cell_in part whole c) d e) ∙ t in
-            a.own c (omega (arith, m, full.as_many_digits)) (false_before (touched_cells before whole c) (touched_cells after whole c) (within.holds (values_at whole c)) out)
-
-        listed : All (λ c. IsOwnAt k (slice_index od (slice_index bases d + c)) (slice_index oe (slice_index bases d + c)) (f (slice_index bases d + c)) n) offsets
-        listed =
-            All_unmap (λ c. IsOwnAt k (slice_index od c) (slice_index oe c) (f c) n) (λ c. slice_index bases d + c) offsets
-            (subst (λ (ys : List ℕ). All (λ c. IsOwnAt k (slice_index od c) (slice_index oe c) (f c) n) ys) (sym (onto d l))
-            (All-weaker (λ c. ((cell_in part whole c == d) ≡ true) × (c < cells_in whole)) (λ c. IsOwnAt k (slice_index od c) (slice_index oe c) (f c) n) (λ c h. cell_own c h.0 h.1)
-            (cells_onto part whole d) (chosen_pass (λ c. cell_in part whole c == d) (cells_in whole))))
-
-    pub margin_numbers : (before after : Option (List Pair)) → IsWithin part before after → (k : ℕ) (f : ℕ → ℕ) (n : ℕ) → AreNumbers (touched_cells before whole) k od oe f n
-        → AreNumbers (touched_cells after part) k nd ne (λ d. plus_over plus 0 f (cells_onto part whole d)) (n + (2 * cells_beside part whole - 1))
-    margin_numbers before after within k f n a = record {
-      stand = record { each = λ d l. stand_onto k f n a.stand d (omega (arith, l, long)) };
-      own = λ d l t. own_onto before after within k f n a d (omega (arith, l, long)) t;
-    }
-
   -- the cells of an event that no ratio touched
   pub total_own : (scope : ScopeOf) (event : List Pair) (touched : Option (List Pair)) (od oe : List ℕ) → IsFull scope od oe → is_untouched_by touched event ≡ true
       → (k : ℕ) (f : ℕ → ℕ) (n : ℕ) → AreNumbers (touched_cells touched scope) k od oe f n → (q x m : ℕ)

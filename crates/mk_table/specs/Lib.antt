@@ -1,4 +1,5 @@
 pub mod Scopes
 pub mod Cells
 pub mod Tables
+pub mod Margins
 pub mod inner

@@ -256,7 +256,7 @@ fn plus_of_run<R: Semiring>(digits: &[u64], exponents: &[u32], first: usize, run
 }
 
 /// The plus of at most `N` cells that lie so far from a base.
-fn plus_of_cells<R: Semiring, const N: usize>(
+pub(crate) fn plus_of_cells<R: Semiring, const N: usize>(
     digits: &[u64],
     exponents: &[u32],
     base: usize,

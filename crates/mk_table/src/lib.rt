@@ -1,6 +1,7 @@
 //! Tables over scopes: one cell for each list of values of some variables.
 #![tactic(auto)]
 
+mod again;
 mod blank;
 mod blocks;
 mod joined;

@@ -10,9 +10,11 @@ ghost use Rattle.mk_sums.specs.There.{share_there, ratio_there};
 ghost use Rattle.mk_cell.specs.Cell.{Stands, IsOwnOf};
 ghost use Rattle.mk_table.specs.Scopes.{HasEvent, HasOneEach, HasSized, cells_in, has_variable};
 ghost use Rattle.mk_table.specs.Cells.{values_at, cell_in, cells_onto, cells_beside, cells_where};
-ghost use Rattle.mk_table.specs.Tables.{HasNumbers, HasRoom, is_untouched};
+ghost use Rattle.mk_table.specs.Tables.{TableOf, HasNumbers, HasRoom, is_untouched};
+ghost use Rattle.mk_table.specs.Margins.{IsMarginOf, IsSameOutside};
 ghost use Rattle.mk_table.specs.inner.Parts.{IsFull, StandListed};
 
+use crate::again::plus_at_chosen;
 use crate::blank::{copy_over, fill, one, plus_of_each, plus_of_listed, put_held, times_held};
 use crate::joined::margin_times;
 use crate::part::Places;
@@ -21,7 +23,9 @@ use crate::products::plus_of_products;
 use crate::scope::Scope;
 use crate::strides::CellList;
 use crate::times::{keep_value, times_shares, times_units};
-use crate::touched::{beside, is_untouched_by, put_either_within, put_within, take_either};
+use crate::touched::{
+    beside, is_untouched_by, pairs_within, put_either_within, put_within, take_either,
+};
 use mk_cell::Cell;
 use mk_net::{Event, Network, NoMemory, Pair, Ratio};
 use mk_semiring::Semiring;
@@ -148,6 +152,7 @@ impl<R: Semiring> Table<R> {
         ensures shift { self.new.shift ≡ self.old.shift + 40 }
         ensures numbers { (f : ℕ → ℕ) (n : ℕ) → HasNumbers self.old f n
             → HasNumbers self.new (λ c. f c * ratio_there (trade_ratio ratio.now) (values_at self.old.scope c)) (n + 1) }
+        ensures others { IsSameOutside ratio.now.condition self.old self.new }
     {
         self.scope.cells_where(&ratio.condition, chosen);
         fill(&mut self.digits, &mut self.exponents, self.scope.cells());
@@ -248,6 +253,7 @@ impl<R: Semiring> Table<R> {
         ensures numbers { (f : ℕ → ℕ) (n : ℕ) → HasNumbers self.now f n
             → HasNumbers out.new (λ d. plus_over R.plus_of 0 f (cells_onto out.old.scope self.now.scope d)) (n + (2 * cells_beside out.old.scope self.now.scope - 1)) }
         ensures beside { cells_in out.old.scope * cells_beside out.old.scope self.now.scope ≡ cells_in self.now.scope }
+        ensures margin { IsMarginOf R.plus_of self.now out.new }
     {
         let (bases, offsets, run) = places.lists();
         plus_of_each::<R>(
@@ -262,6 +268,44 @@ impl<R: Semiring> Table<R> {
         );
         out.shift = self.shift;
         put_within(&self.touched, &out.scope, &mut out.touched);
+    }
+
+    /// Makes anew, in a table over some of the variables that is a margin but for cells where an event holds, the cells whose values the
+    /// event allows. The list is where their numbers are written.
+    pub fn margin_again_into(
+        &self,
+        places: &Places,
+        event: &Event,
+        chosen: &mut CellList,
+        out: &mut Table<R>,
+    )
+        requires places { places.now ≡ record { whole = self.now.scope; part = out.old.scope } }
+        requires room { HasRoom self.now (2 * cells_in self.now.scope) }
+        requires margin { (before : TableOf) × IsMarginOf R.plus_of before out.old × IsSameOutside event.now before self.now }
+        ensures scope { out.new.scope ≡ out.old.scope }
+        ensures margin { IsMarginOf R.plus_of self.now out.new }
+    {
+        if self.digits.len() < self.scope.cells() {
+            self.margin_into(places, out);
+            return;
+        }
+        let allowed = pairs_within(event, &out.scope);
+        out.scope.cells_where(&allowed, chosen);
+        let (bases, offsets, run) = places.lists();
+        fill(&mut out.digits, &mut out.exponents, bases.len());
+        plus_at_chosen::<R>(
+            &self.digits,
+            &self.exponents,
+            bases,
+            offsets,
+            run,
+            chosen.as_slice(),
+            &mut out.digits,
+            &mut out.exponents,
+        );
+        let touched = &self.touched;
+        out.shift = self.shift;
+        put_within(touched, &out.scope, &mut out.touched);
     }
 
     /// Puts into each cell of a table over some of the variables the plus, over the cells that have its values, of each cell times the cell of

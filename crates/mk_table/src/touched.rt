@@ -161,7 +161,7 @@ fn common(event: &Event, others: &[Pair]) -> Event
 /// The pairs of an event whose variables a scope has.
 // It stays out of line, since few events have pairs.
 #[inline(never)]
-fn pairs_within(event: &Event, scope: &Scope) -> Event
+pub(crate) fn pairs_within(event: &Event, scope: &Scope) -> Event
     ensures part { IsPart result event.now }
     ensures there { HasEvent scope.now result }
 {

@@ -100,6 +100,15 @@ pub record IsBetween (first end c : ℕ) : Type 0 where
 abbrev pub IsOfRuns : ℕ → ℕ → List ℕ → ℕ → ℕ → Type 0
 IsOfRuns base run offsets n c = (k : ℕ) × (k < n) × IsBetween (base + slice_index offsets k) (base + slice_index offsets k + run) c
 
+-- Of two arrays the first `count` chosen cells are pluses, each of the cells that lie so far from its base, and the others are as they were.
+pub record AreMadeAnew (plus : ℕ → ℕ → ℕ) (digits exponents bases offsets : List ℕ) (more : ℕ) (chosen : List ℕ) (count : ℕ) (old_digits old_exponents new_digits new_exponents : List ℕ) : Type 0 where
+  pub as_many_digits : length new_digits ≡ length old_digits
+  pub as_many_exponents : length new_exponents ≡ length old_exponents
+  pub stand : (b : ℕ) → IsAmong chosen count b → (k : ℕ) (f : ℕ → ℕ) (n : ℕ) → StandListed k digits exponents f n (slice_index bases b) offsets
+      → StandsAt k (slice_index new_digits b) (slice_index new_exponents b) (plus_over plus 0 (λ c. f (slice_index bases b + c)) offsets) (n + more)
+  pub digits_left : (b : ℕ) → (IsAmong chosen count b → ⊥) → slice_index new_digits b ≡ slice_index old_digits b
+  pub exponents_left : (b : ℕ) → (IsAmong chosen count b → ⊥) → slice_index new_exponents b ≡ slice_index old_exponents b
+
 -- what a restriction makes of a cell that it keeps, or does not keep
 pub record IsRestricted (kept : Bool) (digits exponent new_digits new_exponent : ℕ) : Type 0 where
   pub same_digits : kept ≡ true → new_digits ≡ digits

@@ -1,30 +1,24 @@
-use Rattle.std.proofs.Common.{◌≡◌, ℕ, ◌+◌, ◌-◌, ◌*◌, ◌<◌, ◌≤◌, List, All, length, slice_index, arith, ap, subst, sym, ◌∙◌}
+use Rattle.std.proofs.Common.{ℕ, ◌+◌, ◌-◌, ◌*◌, ◌<◌, ◌≤◌, List, length, slice_index, arith, subst, sym}
 use Rattle.mk_exact.specs.States.{plus_over}
 use Rattle.mk_cell.specs.Cell.{StandsAt}
 use Rattle.mk_cell.specs.inner.Laws.{stands_with_more}
 use Rattle.mk_table.specs.inner.Parts.{StandListed}
 use Rattle.mk_table.specs.inner.Strides.{runs_of}
 use Rattle.mk_table.proofs.Blocked.{cells_of_room}
-use Rattle.mk_table.proofs.Runs.{runs_single}
+use Rattle.mk_table.proofs.Runs.{runs_one, within_one}
 use Rattle.mk_table.proofs.blocks.plus_at_each.Goals as goal
 
 -- where a run has one cell
 module _ (run : ℕ) (some : 1 ≤ run) (one : run ≤ 1) (bases xs : List ℕ) where
-  runs : runs_of run xs ≡ xs
-  runs = let e : run ≡ 1 = omega (arith, some, one) in ap (λ r. runs_of r xs) e ∙ runs_single xs
-
-  within_one : (count : ℕ) → ((b : ℕ) → b < length bases → All (λ c. slice_index bases b + c < count) (runs_of run xs)) → (b : ℕ) → b < length bases → All (λ c. slice_index bases b + c < count) xs
-  within_one count h b l = subst (λ (ys : List ℕ). All (λ c. slice_index bases b + c < count) ys) runs (h b l)
-
   stand_one : (plus : ℕ → ℕ → ℕ) (d e od oe : List ℕ) → 1 ≤ length xs
       → ((b : ℕ) → b < length bases → (k : ℕ) (f : ℕ → ℕ) (n : ℕ) → StandListed k d e f n (slice_index bases b) xs
       → StandsAt k (slice_index od b) (slice_index oe b) (plus_over plus 0 (λ c. f (slice_index bases b + c)) xs) (n + length xs))
       → (b : ℕ) → b < length bases → (k : ℕ) (f : ℕ → ℕ) (n : ℕ) → StandListed k d e f n (slice_index bases b) (runs_of run xs)
       → StandsAt k (slice_index od b) (slice_index oe b) (plus_over plus 0 (λ c. f (slice_index bases b + c)) (runs_of run xs)) (n + (2 * length (runs_of run xs) - 1))
   stand_one plus d e od oe many h b l k f n a =
-      subst (λ (ys : List ℕ). StandsAt k (slice_index od b) (slice_index oe b) (plus_over plus 0 (λ c. f (slice_index bases b + c)) ys) (n + (2 * length ys - 1))) (sym runs)
+      subst (λ (ys : List ℕ). StandsAt k (slice_index od b) (slice_index oe b) (plus_over plus 0 (λ c. f (slice_index bases b + c)) ys) (n + (2 * length ys - 1))) (sym (runs_one run some one xs))
       (stands_with_more k _ _ _ (n + length xs) (n + (2 * length xs - 1)) (omega (arith, many))
-      (h b l k f n (subst (λ (ys : List ℕ). StandListed k d e f n (slice_index bases b) ys) runs a)))
+      (h b l k f n (subst (λ (ys : List ℕ). StandListed k d e f n (slice_index bases b) ys) (runs_one run some one xs) a)))
 
 pub few_at_each-requires-clause-within : goal.few_at_each-requires-clause-within
 few_at_each-requires-clause-within g c = within_one c.args.run c.requires.some (omega (arith, c.if-run-gt1.false)) c.args.bases.now c.args.offsets.now (length c.args.digits.now) c.requires.within

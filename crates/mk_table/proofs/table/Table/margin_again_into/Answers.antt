@@ -1,0 +1,74 @@
+use Rattle.std.proofs.Common.{◌≡◌, ◌+◌, ◌*◌, ◌<◌, ◌≤◌, ℕ, length, slice_index, All, arith, ap, subst, sym, ◌∙◌}
+use Rattle.std.specs.Prelude.{List, Option}
+use Rattle.std.proofs.lemmas.List.Elements.{All-weaker}
+use Rattle.mk_net.specs.declared.words.Pair.{Pair}
+use Rattle.mk_table.specs.Scopes.{ScopeOf, PlacesOf, HasEvent, cells_in}
+use Rattle.mk_table.specs.Cells.{cells_where}
+use Rattle.mk_table.specs.Tables.{TableOf}
+use Rattle.mk_table.specs.inner.Parts.{ArePlaces}
+use Rattle.mk_table.specs.inner.Touched.{IsWithin}
+use Rattle.mk_table.specs.inner.Strides.{runs_of}
+use Rattle.mk_table.specs.inner.Blank.{one_digits, one_exponent, filled}
+use Rattle.mk_table.proofs.Whole.{parts_room, parts_full, onto_within, where_within}
+use Rattle.mk_table.proofs.Onto.{all_beside}
+use Rattle.mk_table.proofs.Margins.{full_parts, margin_after}
+use Rattle.mk_table.proofs.table.Table.margin_again_into.Goals as goal
+
+-- the places, by the scopes of the two tables
+places_of : (places : PlacesOf) (whole part kept : ScopeOf) (bases offsets : List ℕ) (run : ℕ) → places ≡ record { whole = whole; part = part } → kept ≡ part → ArePlaces places.part places.whole bases offsets run
+    → ArePlaces kept whole bases offsets run
+places_of places whole part kept bases offsets run e i are =
+    subst (λ (s : ScopeOf). ArePlaces s whole bases offsets run) (sym i) (subst (λ (p : PlacesOf). ArePlaces p.part p.whole bases offsets run) e are)
+
+pub plus_at_chosen-requires-clause-within : goal.plus_at_chosen-requires-clause-within
+plus_at_chosen-requires-clause-within g c = λ b l.
+    let whole = c.args.self.now.scope in let part = c.out.inside.scope.value in let bases = c.lists-run.result.0.now in let offsets = runs_of c.lists-run.result.2 c.lists-run.result.1.now in
+    let are = places_of c.args.places.now whole c.args.out.now.scope part bases offsets c.lists-run.result.2 c.requires.places (ap (λ (t : TableOf). t.scope) c.out.view_is) c.lists-run.ensures in
+    let long : cells_in c.self.inside.scope.value ≤ length c.self.inside.digits.items =
+    let n = c.cells.ensures.cells ∙ ap cells_in c.deref.ensures in let v = ap (λ (ys : List ℕ). length ys) c.deref-4.ensures.value in omega (arith, n, v, c.deref-4.ensures.len, c.len.ensures, c.if-len-cells.false) in
+    let parts = full_parts c.args.self.now _ _ _ _ _ _ _ c.self.view_is c.self.invariant long c.deref-4.result.now c.deref-5.result.now c.deref-4.ensures.value c.deref-5.ensures.value in
+    let full = parts_full _ _ _ _ _ parts in
+    rw full.as_many_digits (onto_within part whole (slice_index bases b) offsets b (are.onto b (omega (arith, l, are.one_each))))
+
+pub plus_at_chosen-requires-clause-room : goal.plus_at_chosen-requires-clause-room
+plus_at_chosen-requires-clause-room g c =
+    let whole = c.args.self.now.scope in let part = c.out.inside.scope.value in let bases = c.lists-run.result.0.now in let offsets = runs_of c.lists-run.result.2 c.lists-run.result.1.now in
+    let are = places_of c.args.places.now whole c.args.out.now.scope part bases offsets c.lists-run.result.2 c.requires.places (ap (λ (t : TableOf). t.scope) c.out.view_is) c.lists-run.ensures in
+    let long : cells_in c.self.inside.scope.value ≤ length c.self.inside.digits.items =
+    let n = c.cells.ensures.cells ∙ ap cells_in c.deref.ensures in let v = ap (λ (ys : List ℕ). length ys) c.deref-4.ensures.value in omega (arith, n, v, c.deref-4.ensures.len, c.len.ensures, c.if-len-cells.false) in
+    let parts = full_parts c.args.self.now _ _ _ _ _ _ _ c.self.view_is c.self.invariant long c.deref-4.result.now c.deref-5.result.now c.deref-4.ensures.value c.deref-5.ensures.value in
+    let few = are.few in
+    parts_room _ _ _ _ _ parts (2 * cells_in whole) (2 * length offsets) c.requires.room (omega (arith, few))
+
+pub plus_at_chosen-requires-clause-chosen : goal.plus_at_chosen-requires-clause-chosen
+plus_at_chosen-requires-clause-chosen g c =
+    let whole = c.args.self.now.scope in let part = c.out.inside.scope.value in let bases = c.lists-run.result.0.now in let offsets = runs_of c.lists-run.result.2 c.lists-run.result.1.now in
+    let are = places_of c.args.places.now whole c.args.out.now.scope part bases offsets c.lists-run.result.2 c.requires.places (ap (λ (t : TableOf). t.scope) c.out.view_is) c.lists-run.ensures in
+    let allowed = c.pairs_within-allowed.result in
+    let chosen : c.as_slice.result.now ≡ cells_where part allowed = c.as_slice.ensures ∙ c.cells_where.ensures.cells ∙ ap (λ (s : ScopeOf). cells_where s allowed) c.deref-3.ensures in
+    subst (λ (ys : List ℕ). All (λ b. b < length bases) ys) (sym chosen)
+    (All-weaker (λ b. 0 + b < cells_in part) (λ b. b < length bases) (λ b h. omega (arith, h, are.one_each)) (cells_where part allowed) (where_within part allowed))
+
+pub returns-clause-margin : goal.returns-clause-margin
+returns-clause-margin g c =
+    let whole = c.args.self.now.scope in let part = c.out.inside.scope.value in let bases = c.lists-run.result.0.now in let offsets = runs_of c.lists-run.result.2 c.lists-run.result.1.now in
+    let are = places_of c.args.places.now whole c.args.out.now.scope part bases offsets c.lists-run.result.2 c.requires.places (ap (λ (t : TableOf). t.scope) c.out.view_is) c.lists-run.ensures in
+    let long : cells_in c.self.inside.scope.value ≤ length c.self.inside.digits.items =
+    let n = c.cells.ensures.cells ∙ ap cells_in c.deref.ensures in let v = ap (λ (ys : List ℕ). length ys) c.deref-4.ensures.value in omega (arith, n, v, c.deref-4.ensures.len, c.len.ensures, c.if-len-cells.false) in
+    let parts = full_parts c.args.self.now _ _ _ _ _ _ _ c.self.view_is c.self.invariant long c.deref-4.result.now c.deref-5.result.now c.deref-4.ensures.value c.deref-5.ensures.value in
+    let allowed = c.pairs_within-allowed.result in let after = c.put_within.new.out in
+    let within : IsWithin part c.args.self.now.touched after =
+    subst (λ (o : Option (List Pair)). IsWithin part o after) (ap (λ (t : TableOf). t.touched) c.self.view_is) (subst (λ (s : ScopeOf). IsWithin s c.self.inside.touched after) c.deref-6.ensures c.put_within.ensures) in
+    margin_after g.R.Semiring.plus_of c.args.self.now _ c.args.out.now c.out.view_is c.args.event.now allowed c.requires.margin bases offsets c.as_slice.result.now c.lists-run.result.2 are
+    (all_beside part whole bases offsets c.lists-run.result.2 are) c.pairs_within-allowed.ensures.part (subst (λ (s : ScopeOf). HasEvent s allowed) c.deref-2.ensures c.pairs_within-allowed.ensures.there)
+    (c.as_slice.ensures ∙ c.cells_where.ensures.cells ∙ ap (λ (s : ScopeOf). cells_where s allowed) c.deref-3.ensures)
+    c.deref-4.result.now c.deref-5.result.now c.deref_mut.result.now c.deref_mut-2.result.now parts.digits_are parts.exponents_are parts.full.as_many_digits
+    (c.deref_mut.ensures.value ∙ c.fill.ensures.digits ∙ ap (λ k. filled one_digits k c.out.inside.digits.items) are.one_each)
+    (c.deref_mut-2.ensures.value ∙ c.fill.ensures.exponents ∙ ap (λ k. filled one_exponent k c.out.inside.exponents.items) are.one_each)
+    c.fill.new.digits c.fill.new.exponents c.plus_at_chosen.new.out_digits c.plus_at_chosen.new.out_exponents
+    (record {
+      digits = omega (arith, c.plus_at_chosen.auto.out_digits, c.deref_mut.ensures.len);
+      exponents = omega (arith, c.plus_at_chosen.auto.out_exponents, c.deref_mut-2.ensures.len);
+      all_digits = c.fill.ensures.all_digits ∙ are.one_each;
+      all_exponents = c.fill.ensures.all_exponents ∙ are.one_each;
+    }) c.plus_at_chosen.ensures c.self.inside.shift after (ap (λ (t : TableOf). t.shift) c.self.view_is) within
