@@ -38,6 +38,7 @@ use Rattle.mk_propagate.proofs.Inputs.{times_inputs, times_same}
 use Rattle.mk_propagate.proofs.Grading.{few_grades, reading_steps}
 use Rattle.mk_propagate.proofs.Readings.{pairs_read, read_there, belief_is_read, belief_at_most}
 use Rattle.mk_propagate.proofs.Messages.{message_within, shared_in_core, core_cells, core_room, few_core_steps, table_room, whole_room}
+use Rattle.mk_propagate.proofs.Prepared.{core_summed}
 use Rattle.mk_propagate.proofs.Placed.{sum_same}
 use Rattle.mk_propagate.proofs.Required.{all_pass}
 use Rattle.mk_propagate.proofs.Sending.{can_take}
@@ -200,7 +201,7 @@ module _ (plus : ℕ → ℕ → ℕ) (law : Lawful plus) (flow : FlowOf) (cores
     scope_of_core = scope_within p.network (in_core tree k)
 
     pub core_placed : HasCells core (core_scope flow.shape k) there (core_steps tree p k) (factors_in p k)
-    core_placed = sums.sums p has.shape_is has.placing placed
+    core_placed = core_summed plus law flow.shape k clique table core sums p has.shape_is has.placing placed
 
     core_scope_is : core.scope ≡ scope_of_core
     core_scope_is = core_placed.scope_is ∙ has.shape_is.core_scopes k clique

@@ -1,23 +1,27 @@
 -- A call that changes the table of one clique: `old` is the flow as its parts give it, and `now` as contracts see it.
 use Rattle.std.proofs.Common.{◌≡◌, ℕ, ◌+◌, ◌-◌, ◌*◌, ◌<◌, ◌≤◌, Bool, true, false, ◌==◌, if◌then◌else◌, List, length, All, get_or, slice_index_or, slice_set, sym, ap, subst, ◌∙◌, arith}
-use Rattle.std.proofs.lemmas.List.{get_or-set_other}
+use Rattle.std.proofs.lemmas.List.{get_or-set_same, get_or-set_other}
 use Rattle.mk_net.specs.declared.words.Pair.{Pair}
 use Rattle.mk_net.specs.Network.{Variable, sizes}
 use Rattle.mk_net.specs.Named.{variable_at}
 use Rattle.mk_net.specs.Asked.{TradeRatio, ratio_pairs}
-use Rattle.mk_table.specs.Scopes.{has_variable, HasEvent, HasOneEach, HasSized}
+use Rattle.mk_exact.specs.Lawful.{Lawful}
+use Rattle.mk_table.specs.Scopes.{cells_in, has_variable, HasEvent, HasOneEach, HasSized}
 use Rattle.mk_table.specs.Cells.{values_at}
 use Rattle.mk_table.specs.Tables.{TableOf, HasNumbers, HasRoom}
 use Rattle.mk_tree.specs.Given.{holds}
 use Rattle.mk_engine.specs.Meaning.{Factor, RowsOf, RatioOf, max_factors, factor_there}
 use Rattle.mk_propagate.specs.declared.gathered.Gathered.{Gathered}
 use Rattle.mk_propagate.specs.declared.gathered.Gathered.TheVariants.{Nothing}
-use Rattle.mk_propagate.specs.Shapes.{IsShapeFor, IsClique, clique_scope, scope_within, no_scope}
+use Rattle.mk_propagate.specs.Shapes.{ShapeOf, IsShapeFor, IsClique, clique_scope, scope_within, no_scope}
 use Rattle.mk_propagate.specs.Placings.{Placing, with_factor_in, with_pair_in, placed_there, factors_in, IsPlacedFactor, IsPlacedPair}
 use Rattle.mk_propagate.specs.Flows.{FlowOf, table_at, no_table, HasCells, HasPlaced, Places}
+use Rattle.mk_propagate.specs.inner.Gathered.{HasCore}
 use Rattle.mk_propagate.specs.inner.Kept.{IsKept, IsSummed, IsGathered, AreMarked, IsFlow}
 use Rattle.mk_propagate.proofs.Placed.{with_table, table_read, factor_placed, pair_placed, kept_with}
-use Rattle.mk_propagate.proofs.Marks.{table_unmarks}
+use Rattle.mk_propagate.proofs.Messages.{table_room}
+use Rattle.mk_propagate.proofs.Sending.{kept_over, cores_still, core_moved, read_back}
+use Rattle.mk_propagate.proofs.Marks.{table_unmarks, table_sums}
 use Rattle.mk_propagate.proofs.Placed as placed
 use Rattle.mk_propagate.proofs.Required as required
 
@@ -70,15 +74,39 @@ module _ (old now : FlowOf) (view : old ≡ now) (cores products : List TableOf)
     still_kept : (count : ℕ) → IsKept (with_table old clique t count) cores products cells
     still_kept count = kept_with old cores products cells clique count read t kept clique_old.first within reads scope
 
+    tables_apart : (k : ℕ) → IsClique old.shape.tree k → (k ≡ clique → ⊥) → slice_index_or (slice_set old.tables (clique - 1) t) (k - 1) no_table ≡ table_at old k
+    tables_apart k at apart = get_or-set_other old.tables (clique - 1) (k - 1) t no_table (λ e. apart (let here = clique_old in omega (arith, e, at.first, here.first)))
+
+    table_there : slice_index_or (slice_set old.tables (clique - 1) t) (clique - 1) no_table ≡ t
+    table_there = get_or-set_same old.tables (clique - 1) t no_table within
+
+    -- it is read where it was put
+    pub table_again : (table : TableOf) → table ≡ slice_index_or (slice_set old.tables (clique - 1) t) (clique - 1) table → table ≡ t
+    table_again table f = read_back old.tables (clique - 1) t table within f
+
+    -- its core is marked as not summed
     pub still_flow : (plus : ℕ → ℕ → ℕ) (count : ℕ) (summed : List Bool) (gathered : List Gathered) → AreMarked Bool old.shape.tree false (IsSummed plus old) cores summed → AreMarked Gathered old.shape.tree Nothing (IsGathered plus old) products gathered
         → IsFlow plus (with_table old clique t count) cores products (slice_set summed (clique - 1) false) gathered cells
     still_flow plus count summed gathered marked products_marked = record {
       kept = still_kept count;
-      summed_are =
-          table_unmarks plus old (slice_set old.tables (clique - 1) t) count clique cores summed marked clique_old
-          (λ k at apart. get_or-set_other old.tables (clique - 1) (k - 1) t no_table (λ e. apart (let here = clique_old in omega (arith, e, at.first, here.first))));
+      summed_are = table_unmarks plus old (slice_set old.tables (clique - 1) t) count clique cores summed marked clique_old tables_apart;
       gathered_are = record { one_mark_each = products_marked.one_mark_each; marked_is = products_marked.marked_is };
     }
+
+    -- the sums over its core change too, with their mark
+    pub flow_summed_again : (plus : ℕ → ℕ → ℕ) (count : ℕ) (summed : List Bool) (gathered : List Gathered) → AreMarked Bool old.shape.tree false (IsSummed plus old) cores summed → AreMarked Gathered old.shape.tree Nothing (IsGathered plus old) products gathered
+        → (was core : TableOf) → was ≡ slice_index_or cores (clique - 1) was → core.scope ≡ was.scope → (shape : ShapeOf) → shape ≡ old.shape → (table : TableOf) → table ≡ slice_index_or (slice_set old.tables (clique - 1) t) (clique - 1) table
+        → (mark : Bool) → (mark ≡ true → HasCore plus shape clique table core)
+        → IsFlow plus (with_table old clique t count) (slice_set cores (clique - 1) core) products (slice_set summed (clique - 1) mark) gathered cells
+    flow_summed_again plus count summed gathered marked products_marked was core e same shape s table f mark sum =
+        let k = still_kept count in
+        record {
+          kept = kept_over (with_table old clique t count) cores products (slice_set cores (clique - 1) core) products cells k (cores_still (with_table old clique t count) cores k.cores_are clique clique_old was core e same) k.products_are;
+          summed_are =
+              table_sums plus old (slice_set old.tables (clique - 1) t) count clique cores summed marked clique_old tables_apart kept.cores_are.one_each core mark
+              (λ m. core_moved plus clique core shape old.shape table (slice_index_or (slice_set old.tables (clique - 1) t) (clique - 1) no_table) s (table_again table f ∙ sym table_there) (sum m));
+          gathered_are = record { one_mark_each = products_marked.one_mark_each; marked_is = products_marked.marked_is };
+        }
 
     pub places_factor : (plus : ℕ → ℕ → ℕ) (f : Factor) → IsPlacedFactor p.network now.shape.tree (record { clique = clique; factor = f }) → now.factors < max_factors → t.shift ≤ read.shift + 40
         → ((g : ℕ → ℕ) (n : ℕ) → HasNumbers read g n → HasNumbers t (λ c. g c * factor_there p.network f (values_at read.scope c)) (n + 1))
@@ -88,6 +116,14 @@ module _ (old now : FlowOf) (view : old ≡ now) (cores products : List TableOf)
         (factor_placed plus old p clique read t placed_old clique_old within reads scope f
         (subst (λ (o : FlowOf). IsPlacedFactor p.network o.shape.tree (record { clique = clique; factor = f })) (sym view) fits)
         (let e = ap (λ (o : FlowOf). o.factors) view in omega (arith, few, e)) shift numbers)
+
+    -- with a factor more it still has room to be summed
+    pub room_with_factor : (plus : ℕ → ℕ → ℕ) → Lawful plus → (f : Factor) → IsPlacedFactor p.network now.shape.tree (record { clique = clique; factor = f }) → now.factors < max_factors → t.shift ≤ read.shift + 40
+        → ((g : ℕ → ℕ) (n : ℕ) → HasNumbers read g n → HasNumbers t (λ c. g c * factor_there p.network f (values_at read.scope c)) (n + 1)) → HasRoom t (2 * cells_in t.scope)
+    room_with_factor plus law f fits few shift numbers =
+        let after = with_factor_in clique f p in let has = (places_factor plus f fits few shift numbers).placed in
+        table_room old.shape after has.shape_is has.placing plus law clique clique_old t
+        (subst (λ (u : TableOf). HasCells u (clique_scope old.shape clique) (placed_there after clique) (factors_in after clique) (factors_in after clique)) table_there (has.tables clique clique_old))
 
     pub places_pair : (plus : ℕ → ℕ → ℕ) (q : Pair) → IsPlacedPair p.network now.shape.tree (record { clique = clique; pair = q }) → t.shift ≡ read.shift
         → ((g : ℕ → ℕ) (n : ℕ) → HasNumbers read g n → HasNumbers t (λ c. if values_at read.scope c q.variable == q.value then g c else 0) n)

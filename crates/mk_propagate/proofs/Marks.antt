@@ -30,22 +30,28 @@ module _ (M : Type 0) (tree : GivenTree) (none : M) (P : ℕ → M → TableOf �
       subst (λ m. P k m t) (mark_is mark f)
       (subst (λ (u : TableOf). P k (slice_index_or marks (k - 1) none) u) (table_read tables (k - 1) t (omega (arith, long, clique.first, clique.last)) e) (h.marked_is k clique))
 
-  -- both are put anew
-  pub put_anew : length tables ≡ length tree.cliques → (t : TableOf) (mark : M) → P k mark t → AreMarked M tree none P (slice_set tables (k - 1) t) (slice_set marks (k - 1) mark)
-  put_anew long t mark is = record {
+  -- both are put anew, after which Q holds of them, and of the others' as P did
+  pub both_changed : (Q : ℕ → M → TableOf → Type 0) → ((j : ℕ) → IsClique tree j → (j ≡ k → ⊥) → (m : M) (t : TableOf) → P j m t → Q j m t) → length tables ≡ length tree.cliques → (t : TableOf) (mark : M) → Q k mark t
+      → AreMarked M tree none Q (slice_set tables (k - 1) t) (slice_set marks (k - 1) mark)
+  both_changed Q still long t mark is = record {
     one_mark_each = length-set marks (k - 1) mark ∙ h.one_mark_each;
     marked_is = λ j at. from j at (cases_eq j k);
   }
     where
-      from : (j : ℕ) → IsClique tree j → ((j ≡ k) ⊎ (j ≡ k → ⊥)) → P j (slice_index_or (slice_set marks (k - 1) mark) (j - 1) none) (slice_index_or (slice_set tables (k - 1) t) (j - 1) no_table)
+      from : (j : ℕ) → IsClique tree j → ((j ≡ k) ⊎ (j ≡ k → ⊥)) → Q j (slice_index_or (slice_set marks (k - 1) mark) (j - 1) none) (slice_index_or (slice_set tables (k - 1) t) (j - 1) no_table)
       from j at (inl e) =
-          subst (λ n. P n (slice_index_or (slice_set marks (k - 1) mark) (n - 1) none) (slice_index_or (slice_set tables (k - 1) t) (n - 1) no_table)) (sym e)
-          (subst (λ m. P k m (slice_index_or (slice_set tables (k - 1) t) (k - 1) no_table)) (sym (get_or-set_same marks (k - 1) mark none mark_within))
-          (subst (P k mark) (sym (get_or-set_same tables (k - 1) t no_table (omega (arith, long, clique.first, clique.last)))) is))
+          subst (λ n. Q n (slice_index_or (slice_set marks (k - 1) mark) (n - 1) none) (slice_index_or (slice_set tables (k - 1) t) (n - 1) no_table)) (sym e)
+          (subst (λ m. Q k m (slice_index_or (slice_set tables (k - 1) t) (k - 1) no_table)) (sym (get_or-set_same marks (k - 1) mark none mark_within))
+          (subst (Q k mark) (sym (get_or-set_same tables (k - 1) t no_table (omega (arith, long, clique.first, clique.last)))) is))
       from j at (inr d) =
           let apart : j - 1 ≡ k - 1 → ⊥ = λ e. d (omega (arith, e, at.first, clique.first)) in
-          subst (λ m. P j m (slice_index_or (slice_set tables (k - 1) t) (j - 1) no_table)) (sym (get_or-set_other marks (k - 1) (j - 1) mark none apart))
-          (subst (P j (slice_index_or marks (j - 1) none)) (sym (get_or-set_other tables (k - 1) (j - 1) t no_table apart)) (h.marked_is j at))
+          subst (λ m. Q j m (slice_index_or (slice_set tables (k - 1) t) (j - 1) no_table)) (sym (get_or-set_other marks (k - 1) (j - 1) mark none apart))
+          (subst (Q j (slice_index_or marks (j - 1) none)) (sym (get_or-set_other tables (k - 1) (j - 1) t no_table apart))
+          (still j at d (slice_index_or marks (j - 1) none) (slice_index_or tables (j - 1) no_table) (h.marked_is j at)))
+
+  -- both are put anew
+  pub put_anew : length tables ≡ length tree.cliques → (t : TableOf) (mark : M) → P k mark t → AreMarked M tree none P (slice_set tables (k - 1) t) (slice_set marks (k - 1) mark)
+  put_anew = both_changed P (λ j at d m t has. has)
 
   -- its mark is changed, after which Q holds of it, and of the others' as P did
   pub one_changed : (Q : ℕ → M → TableOf → Type 0) → ((j : ℕ) → IsClique tree j → (j ≡ k → ⊥) → (m : M) (t : TableOf) → P j m t → Q j m t)
@@ -177,6 +183,16 @@ table_unmarks plus old tables factors b cores summed h clique same =
     one_changed Bool old.shape.tree false (IsSummed plus old) cores summed h b clique
     (IsSummed plus (record { shape = old.shape; tables = tables; upward = old.upward; downward = old.downward; factors = factors; computed = old.computed }))
     (λ k at apart m t has marked. subst (λ (u : TableOf). HasCore plus old.shape k u t) (sym (same k at apart)) (has marked)) false (λ t has marked. absurd (both_ways false refl marked))
+
+-- so do the sums over its core, with their mark
+pub table_sums : (plus : ℕ → ℕ → ℕ) (old : FlowOf) (tables : List TableOf) (factors b : ℕ) (cores : List TableOf) (summed : List Bool) → AreMarked Bool old.shape.tree false (IsSummed plus old) cores summed → IsClique old.shape.tree b
+    → ((k : ℕ) → IsClique old.shape.tree k → (k ≡ b → ⊥) → slice_index_or tables (k - 1) no_table ≡ table_at old k) → length cores ≡ length old.shape.tree.cliques
+    → (core : TableOf) (mark : Bool) → (mark ≡ true → HasCore plus old.shape b (slice_index_or tables (b - 1) no_table) core)
+    → AreMarked Bool old.shape.tree false (IsSummed plus (record { shape = old.shape; tables = tables; upward = old.upward; downward = old.downward; factors = factors; computed = old.computed })) (slice_set cores (b - 1) core) (slice_set summed (b - 1) mark)
+table_sums plus old tables factors b cores summed h clique same long core mark sum =
+    both_changed Bool old.shape.tree false (IsSummed plus old) cores summed h b clique
+    (IsSummed plus (record { shape = old.shape; tables = tables; upward = old.upward; downward = old.downward; factors = factors; computed = old.computed }))
+    (λ k at apart m t has marked. subst (λ (u : TableOf). HasCore plus old.shape k u t) (sym (same k at apart)) (has marked)) long core mark sum
 
 -- ---- a message is sent from a to b
 

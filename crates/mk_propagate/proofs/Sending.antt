@@ -2,6 +2,7 @@
 use Rattle.std.proofs.Common.{◌≡◌, ℕ, ◌+◌, ◌-◌, ◌<◌, ◌≤◌, Bool, true, cond, ◌⊎◌, inl, inr, ltb, List, length, slice_index_or, slice_set, max, Option, Some, refl, sym, ap, subst, ◌∙◌, arith, lt-ltb, le-ltb}
 use Rattle.std.proofs.lemmas.Bool.{cases_eq, cases_lt}
 use Rattle.std.proofs.lemmas.List.{get_or-set_same, get_or-set_other, length-set}
+use Rattle.mk_exact.specs.Lawful.{Lawful}
 use Rattle.mk_sums.proofs.Hops.{AreLinked, IsChild, are_linked}
 use Rattle.mk_table.specs.Tables.{TableOf}
 use Rattle.mk_tree.specs.Given.{link_of}
@@ -12,6 +13,7 @@ use Rattle.mk_propagate.specs.inner.Kept.{IsKept, AreOverCores}
 use Rattle.mk_propagate.specs.inner.Gathered.{is_input, IsRightIn, CanTake, HasCore, HasGathered, HasInto, HasOutgoing}
 use Rattle.mk_propagate.proofs.Placed.{table_read}
 use Rattle.mk_propagate.proofs.Messages.{are_ends}
+use Rattle.mk_propagate.proofs.Prepared.{core_split, core_summed}
 
 -- a list of tables, one of which is put anew over the same scope
 pub same_scopes : (ts : List TableOf) (i j : ℕ) (t : TableOf) → i < length ts → t.scope ≡ (slice_index_or ts i no_table).scope → (slice_index_or (slice_set ts i t) j no_table).scope ≡ (slice_index_or ts j no_table).scope
@@ -192,7 +194,7 @@ pub core_moved : (plus : ℕ → ℕ → ℕ) (k : ℕ) (t : TableOf) (s s_after
 core_moved plus k t s s_after u u_after es eu h = subst (λ (y : TableOf). HasCore plus s_after k y t) eu (subst (λ (y : ShapeOf). HasCore plus y k u t) es h)
 
 -- what clique a has for b, made of the parts of a kept flow
-module _ (plus : ℕ → ℕ → ℕ) (old : FlowOf) (cores products : List TableOf) (cells : ℕ) (kept : IsKept old cores products cells) (a b : ℕ)
+module _ (plus : ℕ → ℕ → ℕ) (law : Lawful plus) (old : FlowOf) (cores products : List TableOf) (cells : ℕ) (kept : IsKept old cores products cells) (a b : ℕ)
     (shape : ShapeOf) (table : TableOf) (upward downward : List TableOf) (s : shape ≡ old.shape) (t : table ≡ slice_index_or old.tables (a - 1) table) (u : upward ≡ old.upward) (d : downward ≡ old.downward)
     (core product : TableOf) (c : HasCore plus shape a table core) (o : 1 < length (neighbours shape.tree a) → HasInto plus shape upward downward a (Some b) product)
     (p : Placing) (has : HasPlaced old p) (linked_too : is_linked old.shape.tree a b ≡ true) (right : AreRightBut plus old p a b) where
@@ -211,8 +213,8 @@ module _ (plus : ℕ → ℕ → ℕ) (old : FlowOf) (cores products : List Tabl
       (subst (λ (r : ShapeOf). HasOutgoing plus r a b core product p) (sym e) (record {
         shape_is = has.shape_is;
         placing = has.placing;
-        split = here.split;
-        sums = here.sums p has.shape_is has.placing (has.tables a (sender old p has a b linked_too));
+        split = core_split plus law old.shape a (sender old p has a b linked_too) (table_at old a) core here;
+        sums = core_summed plus law old.shape a (sender old p has a b linked_too) (table_at old a) core here p has.shape_is has.placing (has.tables a (sender old p has a b linked_too));
         others = others;
       })))
 

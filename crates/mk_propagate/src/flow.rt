@@ -13,6 +13,7 @@ ghost use Rattle.mk_propagate.specs.Flows.{HasPlaced, CanPlace, Places, KeepsMes
 ghost use Rattle.mk_propagate.specs.inner.Ones.{AreOnes};
 
 use crate::gathered::Gathered;
+use crate::message::sum_again;
 use crate::shape::Shape;
 use mk_net::{Network, NoMemory, Pair, Ratio};
 use mk_semiring::Semiring;
@@ -137,7 +138,15 @@ impl<R: Semiring> Flow<R> {
     {
         let place = clique as usize - 1;
         self.tables[place].times_ratio(ratio, &mut self.chosen);
-        self.summed[place] = false;
+        sum_again(
+            &mut self.cores[place],
+            &mut self.summed[place],
+            &self.tables[place],
+            &self.shape,
+            clique,
+            &ratio.condition,
+            &mut self.chosen,
+        );
         self.factors += 1;
     }
 

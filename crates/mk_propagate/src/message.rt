@@ -2,7 +2,8 @@
 
 ghost use Rattle.std.specs.Prelude.{◌≡◌, ◌≢◌, ℕ, ◌+◌, ◌-◌, ◌*◌, ◌<◌, ◌≤◌, length, true, false, None, Some, if◌then◌else◌};
 ghost use Rattle.mk_table.specs.Scopes.{cells_in};
-ghost use Rattle.mk_table.specs.Tables.{HasRoom};
+ghost use Rattle.mk_table.specs.Tables.{TableOf, HasRoom};
+ghost use Rattle.mk_table.specs.Margins.{IsMarginOf, IsSameOutside};
 ghost use Rattle.mk_propagate.specs.declared.gathered.Gathered.TheVariants.{Everything};
 ghost use Rattle.mk_propagate.specs.Shapes.{IsClique, are_linked, clique_scope, core_scope, separator_between, neighbours};
 ghost use Rattle.mk_propagate.specs.Placings.{Placing};
@@ -12,8 +13,9 @@ ghost use Rattle.mk_propagate.specs.inner.Gathered.{is_taken, message_in, IsRigh
 use crate::flow::Flow;
 use crate::gathered::Gathered;
 use crate::shape::Shape;
+use mk_net::Event;
 use mk_semiring::Semiring;
-use mk_table::{Places, Table};
+use mk_table::{CellList, Places, Table};
 
 impl<R: Semiring> Flow<R> {
     /// Makes the message from a clique to one that is linked to it: the plus, over what the separator does not hold, of what is placed
@@ -85,7 +87,8 @@ fn send<R: Semiring>(
 fn margin<R: Semiring>(whole: &Table<R>, places: &Places, part: &mut Table<R>)
     requires places { places.now ≡ record { whole = whole.now.scope; part = part.old.scope } }
     requires room { HasRoom whole.now (2 * cells_in whole.now.scope) }
-    ensures { IsMargin R.plus_of whole.now part.old part.new }
+    ensures margin { IsMargin R.plus_of whole.now part.old part.new }
+    ensures cells { IsMarginOf R.plus_of whole.now part.new }
 {
     whole.margin_into(places, part);
     // The proof learns here that the table has a place for each cell of its scope, and no more.
@@ -130,6 +133,33 @@ pub(crate) fn sum_core<R: Semiring>(
     if !*summed {
         margin(table, shape.core_places(clique), core);
         *summed = true;
+    }
+}
+
+/// Sums anew the cells of a core that a ratio changed, where the clique's table was summed: those that the ratio's condition allows. A
+/// ratio without one changes them all, and they wait until they are needed.
+pub(crate) fn sum_again<R: Semiring>(
+    core: &mut Table<R>,
+    summed: &mut bool,
+    table: &Table<R>,
+    shape: &Shape,
+    clique: u32,
+    condition: &Event,
+    chosen: &mut CellList,
+)
+    requires clique { IsClique shape.now.tree clique }
+    requires core_scope { core.old.scope ≡ core_scope shape.now clique }
+    requires table_scope { table.now.scope ≡ clique_scope shape.now clique }
+    requires room { HasRoom table.now (2 * cells_in table.now.scope) }
+    requires summed { summed.old ≡ true → (before : TableOf) × HasCore R.plus_of shape.now clique before core.old × IsSameOutside condition.now before table.now }
+    ensures scope { core.new.scope ≡ core.old.scope }
+    ensures summed { summed.new ≡ true → HasCore R.plus_of shape.now clique table.now core.new }
+{
+    if condition.pairs().is_empty() {
+        *summed = false;
+    }
+    if *summed {
+        table.margin_again_into(shape.core_places(clique), condition, chosen, core);
     }
 }
 

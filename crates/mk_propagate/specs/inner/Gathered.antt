@@ -10,6 +10,7 @@ use Rattle.mk_sums.specs.Trees.{linked_to}
 use Rattle.mk_table.specs.Scopes.{cells_in}
 use Rattle.mk_table.specs.Cells.{cell_in, cells_onto, cells_beside}
 use Rattle.mk_table.specs.Tables.{TableOf, HasNumbers}
+use Rattle.mk_table.specs.Margins.{IsMarginOf}
 use Rattle.mk_tree.specs.Given.{GivenTree, holds, link_of}
 use Rattle.mk_propagate.specs.declared.gathered.Gathered.{Gathered}
 use Rattle.mk_propagate.specs.declared.gathered.Gathered.TheVariants.{Nothing, Everything, AllBut}
@@ -60,11 +61,11 @@ private_cells network tree k = cells_beside (scope_within network (in_core tree 
 abbrev pub core_steps : GivenTree → Placing → ℕ → ℕ
 core_steps tree p k = factors_in p k + (2 * private_cells p.network tree k - 1)
 
--- a table over the core has it, where the clique's table has what is placed there
+-- a table over the core has it: it is the margin of the clique's table
 pub record HasCore (plus : ℕ → ℕ → ℕ) (shape : ShapeOf) (k : ℕ) (table core : TableOf) : Type 0 where
-  pub split : cells_in (core_scope shape k) * cells_beside (core_scope shape k) (clique_scope shape k) ≡ cells_in (clique_scope shape k)
-  pub sums : (p : Placing) → IsShapeFor shape p.network → IsPlacing shape.tree p → HasCells table (clique_scope shape k) (placed_there p k) (factors_in p k) (factors_in p k)
-      → HasCells core (core_scope shape k) (core_there plus shape.tree p k) (core_steps shape.tree p k) (factors_in p k)
+  pub over_clique : table.scope ≡ clique_scope shape k
+  pub over_core : core.scope ≡ core_scope shape k
+  pub margin : IsMarginOf plus table core
 
 -- ---- a product of messages over a core
 

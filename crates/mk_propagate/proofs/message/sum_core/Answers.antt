@@ -12,4 +12,4 @@ margin-requires-clause-places g c =
 
 pub returns-then-not-summed-clause-core : goal.returns-then-not-summed-clause-core
 returns-then-not-summed-clause-core g c =
-    core_of_margin g.R.Semiring.plus_of g.met.R.Semiring.lawful c.args.shape.now c.args.clique c.requires.clique c.args.table.now c.args.core.now c.margin.new.part c.requires.core_scope c.requires.table_scope c.margin.ensures
+    core_of_margin g.R.Semiring.plus_of c.args.shape.now c.args.clique c.args.table.now c.args.core.now c.margin.new.part c.requires.core_scope c.requires.table_scope c.margin.ensures.margin.scope c.margin.ensures.cells

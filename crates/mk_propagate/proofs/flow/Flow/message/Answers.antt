@@ -66,7 +66,7 @@ send-requires-clause-has g c =
     let plus = g.R.Semiring.plus_of in let law = g.met.R.Semiring.lawful in let a = c.args.from in let b = c.args.to in
     let can = subst (λ (f : FlowOf). CanSend plus f a b) (sym c.self.view_is) c.requires in let clique = sender _ can.placing can.has a b can.linked_too in (
       can.placing,
-      outgoing plus _ _ _ _ c.self.invariant.kept a b c.deref-2.result.now c.index.result.now c.deref-3.result.now c.deref-4.result.now c.deref-2.ensures c.index.ensures c.deref-3.ensures.value c.deref-4.ensures.value
+      outgoing plus law _ _ _ _ c.self.invariant.kept a b c.deref-2.result.now c.index.result.now c.deref-3.result.now c.deref-4.result.now c.deref-2.ensures c.index.ensures c.deref-3.ensures.value c.deref-4.ensures.value
           c.sum_core.new.core c.gather_others.new.product (core_moved plus a c.sum_core.new.core c.deref.result.now c.deref-2.result.now c.index.result.now c.index.result.now (c.deref.ensures ∙ sym c.deref-2.ensures) refl c.sum_core.ensures.core) c.gather_others.ensures.others can.placing can.has can.linked_too can.right
           c.deref-then-to-from.result.now c.deref-then-to-from.ensures c.index-core.result.now c.index-product.result.now
           (read_back c.self.inside.cores.items (a - 1) c.sum_core.new.core c.index-core.result.now (core_within _ _ c.self.invariant.kept.cores_are a clique) c.index-core.ensures)
@@ -90,7 +90,7 @@ returns-then-to-from-clause-right g c = λ p h r.
     let can = subst (λ (f : FlowOf). CanSend plus f a b) (sym c.self.view_is) c.requires in let clique = sender _ can.placing can.has a b can.linked_too in
     let has = subst (λ (f : FlowOf). HasPlaced f p) (sym c.self.view_is) h in let right = subst (λ (f : FlowOf). AreRightBut plus f p a b) (sym c.self.view_is) r in
     right_up plus _ _ _ _ c.self.invariant.kept a b p has can.linked_too c.deref-then-to-from.result.now c.deref-then-to-from.ensures c.send.new.message c.saturating_add-self-inside.result
-    (c.send.ensures.right p (outgoing plus _ _ _ _ c.self.invariant.kept a b c.deref-2.result.now c.index.result.now c.deref-3.result.now c.deref-4.result.now c.deref-2.ensures c.index.ensures c.deref-3.ensures.value c.deref-4.ensures.value
+    (c.send.ensures.right p (outgoing plus law _ _ _ _ c.self.invariant.kept a b c.deref-2.result.now c.index.result.now c.deref-3.result.now c.deref-4.result.now c.deref-2.ensures c.index.ensures c.deref-3.ensures.value c.deref-4.ensures.value
     c.sum_core.new.core c.gather_others.new.product (core_moved plus a c.sum_core.new.core c.deref.result.now c.deref-2.result.now c.index.result.now c.index.result.now (c.deref.ensures ∙ sym c.deref-2.ensures) refl c.sum_core.ensures.core) c.gather_others.ensures.others p has can.linked_too right
     c.deref-then-to-from.result.now c.deref-then-to-from.ensures c.index-core.result.now c.index-product.result.now
     (read_back c.self.inside.cores.items (a - 1) c.sum_core.new.core c.index-core.result.now (core_within _ _ c.self.invariant.kept.cores_are a clique) c.index-core.ensures)
@@ -115,7 +115,7 @@ send-requires-else-to-from-clause-has g c =
     let plus = g.R.Semiring.plus_of in let law = g.met.R.Semiring.lawful in let a = c.args.from in let b = c.args.to in
     let can = subst (λ (f : FlowOf). CanSend plus f a b) (sym c.self.view_is) c.requires in let clique = sender _ can.placing can.has a b can.linked_too in (
       can.placing,
-      outgoing plus _ _ _ _ c.self.invariant.kept a b c.deref-2.result.now c.index.result.now c.deref-3.result.now c.deref-4.result.now c.deref-2.ensures c.index.ensures c.deref-3.ensures.value c.deref-4.ensures.value
+      outgoing plus law _ _ _ _ c.self.invariant.kept a b c.deref-2.result.now c.index.result.now c.deref-3.result.now c.deref-4.result.now c.deref-2.ensures c.index.ensures c.deref-3.ensures.value c.deref-4.ensures.value
           c.sum_core.new.core c.gather_others.new.product (core_moved plus a c.sum_core.new.core c.deref.result.now c.deref-2.result.now c.index.result.now c.index.result.now (c.deref.ensures ∙ sym c.deref-2.ensures) refl c.sum_core.ensures.core) c.gather_others.ensures.others can.placing can.has can.linked_too can.right
           c.deref-else-to-from.result.now c.deref-else-to-from.ensures c.index-core.result.now c.index-product.result.now
           (read_back c.self.inside.cores.items (a - 1) c.sum_core.new.core c.index-core.result.now (core_within _ _ c.self.invariant.kept.cores_are a clique) c.index-core.ensures)
@@ -139,7 +139,7 @@ returns-else-to-from-clause-right g c = λ p h r.
     let can = subst (λ (f : FlowOf). CanSend plus f a b) (sym c.self.view_is) c.requires in let clique = sender _ can.placing can.has a b can.linked_too in
     let has = subst (λ (f : FlowOf). HasPlaced f p) (sym c.self.view_is) h in let right = subst (λ (f : FlowOf). AreRightBut plus f p a b) (sym c.self.view_is) r in
     right_down plus _ _ _ _ c.self.invariant.kept a b p has can.linked_too c.deref-else-to-from.result.now c.deref-else-to-from.ensures c.send-else-to-from.new.message c.saturating_add-self-inside.result
-    (c.send-else-to-from.ensures.right p (outgoing plus _ _ _ _ c.self.invariant.kept a b c.deref-2.result.now c.index.result.now c.deref-3.result.now c.deref-4.result.now c.deref-2.ensures c.index.ensures c.deref-3.ensures.value c.deref-4.ensures.value
+    (c.send-else-to-from.ensures.right p (outgoing plus law _ _ _ _ c.self.invariant.kept a b c.deref-2.result.now c.index.result.now c.deref-3.result.now c.deref-4.result.now c.deref-2.ensures c.index.ensures c.deref-3.ensures.value c.deref-4.ensures.value
     c.sum_core.new.core c.gather_others.new.product (core_moved plus a c.sum_core.new.core c.deref.result.now c.deref-2.result.now c.index.result.now c.index.result.now (c.deref.ensures ∙ sym c.deref-2.ensures) refl c.sum_core.ensures.core) c.gather_others.ensures.others p has can.linked_too right
     c.deref-else-to-from.result.now c.deref-else-to-from.ensures c.index-core.result.now c.index-product.result.now
     (read_back c.self.inside.cores.items (a - 1) c.sum_core.new.core c.index-core.result.now (core_within _ _ c.self.invariant.kept.cores_are a clique) c.index-core.ensures)
