@@ -4,7 +4,7 @@ use Rattle.std.proofs.lemmas.Bool.{cases_lt}
 use Rattle.std.proofs.lemmas.Nat.{pow_pos}
 use Rattle.std.proofs.Math.Nat.{mul-le-mul, mul-le-mul_left, mul-le-mul_right, pow-suc}
 use Rattle.mk_scaled.specs.Range.{pow_le}
-use Rattle.mk_cell.specs.Cell.{bias, IsCell, StandsAt}
+use Rattle.mk_cell.specs.Cell.{bias, IsCell, IsForm, StandsAt}
 use Rattle.mk_cell.specs.Passes.{plus_below, plus_below-folded}
 use Rattle.mk_cell.specs.Least.{least, IsLeastOf}
 use Rattle.mk_cell.proofs.Standing.{no_digits, absent_stands}
@@ -20,29 +20,21 @@ no_digits_at m e h l =
     (λ (p : m ≤ 0). let z : m ≡ 0 = omega arith in z)
     (cases_lt 0 m)
 
-pub no_cell_stands : (n : ℕ) (m e f : ℕ → ℕ) (k s low : ℕ) → ((c : ℕ) → c < n → IsCell (m c) (e c)) → ((c : ℕ) → c < n → StandsAt k (m c) (e c) (f c) s) → IsLeastOf n (λ c. 1 ≤ e c) 4294967295 e low → low ≡ 4294967295 → StandsAt k 0 0 (plus_below least n f) s
-no_cell_stands n m e f k s low g h l z =
+-- the number by which cells are ordered: the exponent first, and then the digits
+abbrev pub ranks : (ℕ → ℕ) → (ℕ → ℕ) → ℕ → ℕ
+ranks m e c = e c * 2 ^ 64 + m c
+
+-- the least rank of the cells that are there
+abbrev pub IsLeastRank : ℕ → (ℕ → ℕ) → (ℕ → ℕ) → ℕ → Type 0
+IsLeastRank n m e rank = IsLeastOf n (λ c. 1 ≤ e c) (4294967295 * 2 ^ 64) (ranks m e) rank
+
+pub no_cell_stands : (n : ℕ) (m e f : ℕ → ℕ) (k s rank : ℕ) → ((c : ℕ) → c < n → IsCell (m c) (e c)) → ((c : ℕ) → c < n → StandsAt k (m c) (e c) (f c) s) → IsLeastRank n m e rank → 4294967295 * 2 ^ 64 ≤ rank → StandsAt k 0 0 (plus_below least n f) s
+no_cell_stands n m e f k s rank g h l z =
     absent_stands k (plus_below least n f) s
     (plus_below-folded least n f
-    ∙ lesser_none n f (λ c o. no_digits k (m c) (e c) (f c) s (h c o) (no_digits_at (m c) (e c) (g c o) (λ p. let b = l.below c o p in omega arith))))
-
--- the cell that has the least exponent, and the least digits at it
-record IsLeastCell (n : ℕ) (m e : ℕ → ℕ) (q low : ℕ) : Type 0 where
-  place : ℕ
-  within : place < n
-  digits : m place ≡ q
-  exponent : e place ≡ low
-
-least_cell : (n : ℕ) (m e : ℕ → ℕ) (q low : ℕ) → ((c : ℕ) → c < n → IsCell (m c) (e c)) → IsLeastOf n (λ c. 1 ≤ e c) 4294967295 e low → low < 4294967295 → IsLeastOf n (λ c. e c ≡ low) 18446744073709551615 m q → IsLeastCell n m e q low
-least_cell n m e q low g l o d =
-    ⊎_elim
-    (λ (p : q < 18446744073709551615). let w = d.attained p in record { place = w.0; within = w.1; digits = w.3; exponent = w.2 })
-    (λ (p : 18446744073709551615 ≤ q).
-    let w = l.attained o in
-    let b = d.below w.0 w.1 w.3 in
-    let f : m w.0 < 2 ^ 64 = let k = g w.0 w.1 in k.form.fits in
-    record { place = w.0; within = w.1; digits = omega arith; exponent = w.3 })
-    (cases_lt q 18446744073709551615)
+    ∙ lesser_none n f (λ c o.
+    no_digits k (m c) (e c) (f c) s (h c o)
+    (no_digits_at (m c) (e c) (g c o) (λ p. let b = l.below c o p in let y = g c o in let u = y.form.fits in omega arith))))
 
 -- full digits are ordered by their exponents first
 lesser_exponent : (m a n b : ℕ) → m < 2 ^ 64 → 2 ^ 63 ≤ n → a < b → m * 2 ^ a ≤ n * 2 ^ b
@@ -52,14 +44,13 @@ lesser_exponent m a n b h f l =
     let z : 2 ^ suc a ≡ 2 ^ a * 2 = pow-suc 2 a in
     omega arith
 
-at_least : (n : ℕ) (m e : ℕ → ℕ) (k q low : ℕ) → ((c : ℕ) → c < n → IsCell (m c) (e c)) → IsLeastOf n (λ c. 1 ≤ e c) 4294967295 e low → IsLeastOf n (λ c. e c ≡ low) 18446744073709551615 m q → q < 2 ^ 64 → (c : ℕ) → c < n → 0 < m c → q * 2 ^ (low + k) ≤ m c * 2 ^ (e c + k)
-at_least n m e k q low g l d b c o p =
-    let x = g c o in
-    let y = l.below c o (exponent_there (m c) (e c) x p) in
+-- the digits and exponents of cells that are there are ordered as their ranks
+lesser_rank : (m a n b k : ℕ) → m < 2 ^ 64 → IsForm n b → 0 < n → a * 2 ^ 64 + m ≤ b * 2 ^ 64 + n → m * 2 ^ (a + k) ≤ n * 2 ^ (b + k)
+lesser_rank m a n b k h g p l =
     ⊎_elim
-    (λ (r : low < e c). lesser_exponent q (low + k) (m c) (e c + k) b (x.form.full p) (omega arith))
-    (λ (r : e c ≤ low). let i : e c ≡ low = omega arith in rw i (mul-le-mul_right (2 ^ (low + k)) (d.below c o i)))
-    (cases_lt low (e c))
+    (λ (r : a < b). lesser_exponent m (a + k) n (b + k) h (g.full p) (omega arith))
+    (λ (r : b ≤ a). let u = g.fits in let i : b ≡ a = omega arith in rw i (mul-le-mul_right (2 ^ (a + k)) (omega arith)))
+    (cases_lt a b)
 
 pub digits_there : (m a : ℕ) → 0 < m * 2 ^ a → 0 < m
 digits_there zero a h = absurd (omega arith)
@@ -78,17 +69,22 @@ stands_at n i k s m e f l p h first =
     let y = lesser_at_most n i f l (was_there (m i * 2 ^ (e i + k)) (f i) (2 ^ bias) s q x.lower) in
     record { form = x.form; lower = low; size = lt_of_le_of_lt y.1 x.size }
 
-pub least_stands : (n : ℕ) (m e f : ℕ → ℕ) (k s q low : ℕ) → ((c : ℕ) → c < n → IsCell (m c) (e c)) → ((c : ℕ) → c < n → StandsAt k (m c) (e c) (f c) s) → IsLeastOf n (λ c. 1 ≤ e c) 4294967295 e low → low < 4294967295 → IsLeastOf n (λ c. e c ≡ low) 18446744073709551615 m q → StandsAt k q low (plus_below least n f) s
-least_stands n m e f k s q low g h l o d =
-    let w = least_cell n m e q low g l o d in
-    let i = w.digits in
-    let j = w.exponent in
-    let x = g w.place w.within in
-    let a = l.attained o in
-    let low_there : 1 ≤ low = let y = a.2 in let z = a.3 in omega arith in
-    let p : 0 < m w.place = has_digits (m w.place) (e w.place) x (omega arith) in
-    let b : q < 2 ^ 64 = let y = x.form.fits in omega arith in
-    let r = stands_at n w.place k s m e f w.within p h (λ c u t. rw (i, j) (at_least n m e k q low g l d b c u t)) in
+pub least_stands : (n : ℕ) (m e f : ℕ → ℕ) (k s q low rank : ℕ) → ((c : ℕ) → c < n → IsCell (m c) (e c)) → ((c : ℕ) → c < n → StandsAt k (m c) (e c) (f c) s) → IsLeastRank n m e rank → rank < 4294967295 * 2 ^ 64 → q < 2 ^ 64 → low * 2 ^ 64 + q ≡ rank → StandsAt k q low (plus_below least n f) s
+least_stands n m e f k s q low rank g h l o b t =
+    let w = l.attained o in
+    let x = g w.0 w.1 in
+    let u = x.form.fits in
+    let there : 1 ≤ e w.0 = w.2 in
+    let same : e w.0 * 2 ^ 64 + m w.0 ≡ rank = w.3 in
+    let i : m w.0 ≡ q = omega arith in
+    let j : e w.0 ≡ low = omega arith in
+    let p : 0 < m w.0 = has_digits (m w.0) (e w.0) x there in
+    let first : (c : ℕ) → c < n → 0 < m c → m w.0 * 2 ^ (e w.0 + k) ≤ m c * 2 ^ (e c + k) =
+    λ c v d.
+    let y = g c v in
+    let below : rank ≤ e c * 2 ^ 64 + m c = l.below c v (exponent_there (m c) (e c) y d) in
+    lesser_rank (m w.0) (e w.0) (m c) (e c) k u y.form d (omega arith) in
+    let r = stands_at n w.0 k s m e f w.1 p h first in
     rw (plus_below-folded least n f) (rw (i, j) at r)
   where
     has_digits : (a b : ℕ) → IsCell a b → 1 ≤ b → 0 < a

@@ -14,14 +14,14 @@ use Rattle.mk_cell.proofs.Greatest.{IsAt}
 pub none_yet : (counts : ℕ → Type 0) (far : ℕ) (f : ℕ → ℕ) → IsLeastOf 0 counts far f far
 none_yet counts far f = record { below = λ c l h. absurd (omega arith); attained = λ l. absurd (omega arith) }
 
--- what a place adds: its value where it counts, and else nothing
+-- what a place adds: its value where it counts, and else nothing below the bound
 pub record Adds (counts : Type 0) (far value x : ℕ) : Type 0 where
   pub here : counts → x ≡ value
-  pub elsewhere : (counts ⊎ (x ≡ far))
+  pub elsewhere : (counts ⊎ (far ≤ x))
 
--- a number that counts from a bound on
-pub adds_from : (low far e x : ℕ) → (low ≤ e → x ≡ e) → (e < low → x ≡ far) → Adds (low ≤ e) far e x
-adds_from low far e x h k = record {
+-- a place that counts where its number is at least a bound
+pub adds_from : (low far e value x : ℕ) → (low ≤ e → x ≡ value) → (e < low → far ≤ x) → Adds (low ≤ e) far value x
+adds_from low far e value x h k = record {
   here = h;
   elsewhere = ⊎_elim (λ (l : e < low). inr (k l)) (λ (l : low ≤ e). inl l) (cases_lt e low);
 }
@@ -54,7 +54,7 @@ next_attained n counts far f t x r h a e l =
     new p q =
         ⊎_elim
         (λ (k : counts n). let i = a.here k in (n, omega arith, k, sym i ∙ sym q))
-        (λ (k : x ≡ far). absurd (omega arith))
+        (λ (k : far ≤ x). absurd (omega arith))
         a.elsewhere
 
 pub least_next : (n : ℕ) (counts : ℕ → Type 0) (far : ℕ) (f : ℕ → ℕ) (t x r : ℕ) → IsLeastOf n counts far f t → Adds (counts n) far (f n) x → r ≡ min t x → IsLeastOf (n + 1) counts far f r

@@ -30,10 +30,10 @@ adds_near e low far m x d h k i fits over beyond = record {
       rw (← o) (capped (omega arith));
   elsewhere =
       ⊎_elim
-      (λ (l : e < low). inr (beyond (omega arith)))
+      (λ (l : e < low). inr (let y = beyond (omega arith) in omega arith))
       (λ (l : low ≤ e).
       ⊎_elim
-      (λ (o : low + 1 < e). inr (beyond (omega arith)))
+      (λ (o : low + 1 < e). inr (let y = beyond (omega arith) in omega arith))
       (λ (o : e ≤ low + 1). inl (record { low = l; high = o }))
       (cases_lt (low + 1) e))
       (cases_lt e low);

@@ -1,5 +1,5 @@
-//! Minima of cells, in two passes: the least exponent, and then the least digits near it.
-ghost use Rattle.std.specs.Prelude.{◌≡◌, ℕ, ◌+◌, ◌-◌, ◌*◌, ◌/◌, ◌^◌, ◌<◌, ◌≤◌, length, slice_index, ◌≢◌};
+//! Minima of cells, and of products of cells.
+ghost use Rattle.std.specs.Prelude.{◌≡◌, ℕ, ◌+◌, ◌-◌, ◌*◌, ◌/◌, ◌^◌, ◌<◌, ◌≤◌, length, slice_index};
 ghost use Rattle.mk_cell.specs.Cell.{AllStand, AreCells, Stands};
 ghost use Rattle.mk_cell.specs.Least.{IsLeastOf, IsNextTo, least};
 ghost use Rattle.mk_cell.specs.Passes.{plus_below};
@@ -11,18 +11,22 @@ use crate::{Cell, cell};
 /// less.
 const PRODUCT_LOW: u32 = 6 << 26;
 
+/// A rank behind that of each cell that is there.
+const LAST: u128 = (u32::MAX as u128) << 64;
+
 /// The least of the cells that are there. Nothing is rounded.
 pub fn least(digits: &[u64], exponents: &[u32]) -> Cell
     requires { AreCells digits.now exponents.now }
     ensures { (k : ℕ) (f : ℕ → ℕ) (n : ℕ) → AllStand k digits.now exponents.now f n
         → Stands k result (plus_below least (length digits.now) f) n }
 {
-    let exponent = lowest(exponents, 1);
+    let rank = least_rank(digits, exponents);
+    let exponent = (rank >> 64) as u32;
     if exponent == u32::MAX {
         return Cell::ABSENT;
     }
     Cell {
-        digits: least_digits(digits, exponents, exponent),
+        digits: (rank & u64::MAX as u128) as u64,
         exponent,
     }
 }
@@ -62,25 +66,29 @@ fn from(exponent: u32, low: u32) -> u32
     if exponent < low { u32::MAX } else { exponent }
 }
 
-/// The least digits of the cells with an exponent, or `u64::MAX`.
-fn least_digits(digits: &[u64], exponents: &[u32], exponent: u32) -> u64
+/// The least rank of the cells that are there, or `LAST`.
+fn least_rank(digits: &[u64], exponents: &[u32]) -> u128
     requires { length exponents.now ≡ length digits.now }
-    ensures { IsLeastOf (length digits.now) (λ c. slice_index exponents.now c ≡ exponent) u64.MAX (slice_index digits.now) result }
+    ensures least { IsLeastOf (length digits.now) (λ c. 1 ≤ slice_index exponents.now c) (u32.MAX * 2 ^ 64)
+        (λ c. slice_index exponents.now c * 2 ^ 64 + slice_index digits.now c) result }
+    ensures at_most { result ≤ u32.MAX * 2 ^ 64 }
 {
-    let mut least = u64::MAX;
+    let mut least = LAST;
     for c in 0..digits.len() {
-        least = least.min(at(digits[c], exponents[c], exponent));
+        least = least.min(rank(digits[c], exponents[c]));
     }
     least
 }
 
-/// The digits, or `u64::MAX` where the exponent is another than the one that is wanted.
+/// Where a cell stands among others: by its exponent first, and then by its digits, since those are full. An absent one stands behind
+/// all that are there.
+// One comparison of one number is made without a jump. One of exponents and another of digits is not, and is guessed wrong every other time.
 #[inline]
-fn at(digits: u64, exponent: u32, wanted: u32) -> u64
-    ensures at { exponent ≡ wanted → result ≡ digits }
-    ensures other { exponent ≢ wanted → result ≡ u64.MAX }
+fn rank(digits: u64, exponent: u32) -> u128
+    ensures there { 1 ≤ exponent → result ≡ exponent * 2 ^ 64 + digits }
+    ensures absent { exponent < 1 → result ≡ u32.MAX * 2 ^ 64 + digits }
 {
-    if exponent == wanted { digits } else { u64::MAX }
+    ((from(exponent, 1) as u128) << 64) | digits as u128
 }
 
 /// The least of the places whose exponent is the lowest or one more, in units of `2^(lowest + 64)`; `u64::MAX` where there is none
