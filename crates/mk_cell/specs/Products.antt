@@ -2,7 +2,7 @@
 use Rattle.std.specs.Prelude.{◌≡◌, ℕ, ◌+◌, ◌*◌, ◌/◌, ◌^◌, ◌<◌, List, length, slice_index}
 use Rattle.mk_cell.specs.Cell.{IsCell, StandsAt}
 
--- the first 64 places of the product of two cells, of which the first may be 0, and the sum of their exponents
+-- the first 64 of the 128 places that the product of two cells' digits may have, so the first place may be 0; and the sum of the cells' exponents
 pub record IsUnrounded (left left_exponent right right_exponent places exponent : ℕ) : Type 0 where
   pub left_cell : IsCell left left_exponent
   pub right_cell : IsCell right right_exponent
