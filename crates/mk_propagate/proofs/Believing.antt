@@ -27,9 +27,9 @@ use Rattle.mk_tree.specs.Given.{GivenTree, clique_at, holds, link_of, holds_even
 use Rattle.mk_engine.specs.Meaning.{exact_belief}
 use Rattle.mk_propagate.specs.Shapes.{ShapeOf, IsClique, clique_scope, core_scope, clique_cells, scope_within, in_core, neighbours}
 use Rattle.mk_propagate.specs.Placings.{Placing, placed_there, factors_in, meaning_of}
-use Rattle.mk_propagate.specs.Flows.{FlowOf, HasCells, HasPlaced, AreRightInto, IsRight, IsReading, exact_message, all_cells, reading_grade, table_at}
+use Rattle.mk_propagate.specs.Flows.{FlowOf, HasCells, HasSums, HasPlaced, core_there, core_steps, AreRightInto, IsRight, IsReading, exact_message, all_cells, reading_grade, table_at}
 use Rattle.mk_propagate.specs.inner.Kept.{IsKept}
-use Rattle.mk_propagate.specs.inner.Gathered.{is_input, gathered, gathered_steps, HasCore, HasGathered, HasInto, core_there, core_steps}
+use Rattle.mk_propagate.specs.inner.Gathered.{is_input, gathered, gathered_steps, HasGathered, HasInto}
 use Rattle.mk_propagate.specs.inner.Totals.{HaveTotal}
 use Rattle.mk_propagate.proofs.Scopes.{has_within, clique_counted}
 use Rattle.mk_propagate.proofs.Cores.{core_part}
@@ -38,7 +38,6 @@ use Rattle.mk_propagate.proofs.Inputs.{times_inputs, times_same}
 use Rattle.mk_propagate.proofs.Grading.{few_grades, reading_steps}
 use Rattle.mk_propagate.proofs.Readings.{pairs_read, read_there, belief_is_read, belief_at_most}
 use Rattle.mk_propagate.proofs.Messages.{message_within, shared_in_core, core_cells, core_room, few_core_steps, table_room, whole_room}
-use Rattle.mk_propagate.proofs.Prepared.{core_summed}
 use Rattle.mk_propagate.proofs.Placed.{sum_same}
 use Rattle.mk_propagate.proofs.Required.{all_pass}
 use Rattle.mk_propagate.proofs.Sending.{can_take}
@@ -48,15 +47,15 @@ pub all_inputs : (plus : ℕ → ℕ → ℕ) (flow : FlowOf) (p : Placing) (k :
 all_inputs plus flow p k right i h = right i (all_linked flow.shape.tree k None i h)
 
 -- the messages into a clique, taken from the parts of a kept flow
-pub into_there : (plus : ℕ → ℕ → ℕ) (flow : FlowOf) (k : ℕ) (p : Placing) → HasPlaced flow p → AreRightInto plus flow p k
+pub into_there : (plus : ℕ → ℕ → ℕ) (flow : FlowOf) (k : ℕ) (p : Placing) → HasPlaced plus flow p → AreRightInto plus flow p k
     → (shape : ShapeOf) (upward downward : List TableOf) → shape ≡ flow.shape → upward ≡ flow.upward → downward ≡ flow.downward → (t : TableOf) → HasInto plus shape upward downward k None t
     → HasGathered plus flow.shape k None (neighbours flow.shape.tree k) t p
 into_there plus flow k p has right shape upward downward s u d t h =
     subst (λ (x : ShapeOf). HasGathered plus x k None (neighbours x.tree k) t p) s
     (h.into p (can_take plus flow p k None has (all_inputs plus flow p k right) shape upward downward s u d))
 
-module _ (plus : ℕ → ℕ → ℕ) (law : Lawful plus) (flow : FlowOf) (cores products : List TableOf) (cells : ℕ) (kept : IsKept flow cores products cells) (k : ℕ) (event : List Pair) (table : TableOf) (is : table_at flow k ≡ table) (into : TableOf)
-    (p : Placing) (has : HasPlaced flow p) (clique : IsClique flow.shape.tree k) (inside : holds_event event (clique_at flow.shape.tree k) ≡ true)
+module _ (plus : ℕ → ℕ → ℕ) (law : Lawful plus) (flow : FlowOf) (products : List TableOf) (cells : ℕ) (kept : IsKept flow products cells) (k : ℕ) (event : List Pair) (table : TableOf) (is : table_at flow k ≡ table) (into : TableOf)
+    (p : Placing) (has : HasPlaced plus flow p) (clique : IsClique flow.shape.tree k) (inside : holds_event event (clique_at flow.shape.tree k) ≡ true)
     (g : HasGathered plus flow.shape k None (neighbours flow.shape.tree k) into p) where
   abbrev tree : GivenTree
   tree = flow.shape.tree
@@ -182,9 +181,9 @@ module _ (plus : ℕ → ℕ → ℕ) (law : Lawful plus) (flow : FlowOf) (cores
     exact = λ small. exact (let t = total_is in let l = belief_at_most plus law (meaning_of tree p) event in omega (arith, t, l, small));
   }
 
-  -- ---- read in the core, where it has the event and the clique's table was summed over it
+  -- ---- read in the core, where it has the event and the sums
 
-  module _ (core : TableOf) (sums : HasCore plus flow.shape k table core) (within_core : list_all (λ (q : Pair). in_core tree k q.variable) event ≡ true) where
+  module _ (core : TableOf) (core_placed : HasSums plus flow.shape p k core) (within_core : list_all (λ (q : Pair). in_core tree k q.variable) event ≡ true) where
     abbrev size : ℕ → ℕ
     size = slice_index (sizes p.network)
 
@@ -199,9 +198,6 @@ module _ (plus : ℕ → ℕ → ℕ) (law : Lawful plus) (flow : FlowOf) (cores
 
     abbrev scope_of_core : ScopeOf
     scope_of_core = scope_within p.network (in_core tree k)
-
-    pub core_placed : HasCells core (core_scope flow.shape k) there (core_steps tree p k) (factors_in p k)
-    core_placed = core_summed plus law flow.shape k clique table core sums p has.shape_is has.placing placed
 
     core_scope_is : core.scope ≡ scope_of_core
     core_scope_is = core_placed.scope_is ∙ has.shape_is.core_scopes k clique

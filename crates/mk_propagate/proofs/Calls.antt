@@ -1,6 +1,7 @@
 -- A call that changes the table of one clique: `old` is the flow as its parts give it, and `now` as contracts see it.
-use Rattle.std.proofs.Common.{◌≡◌, ℕ, ◌+◌, ◌-◌, ◌*◌, ◌<◌, ◌≤◌, Bool, true, false, ◌==◌, if◌then◌else◌, List, length, All, get_or, slice_index_or, slice_set, sym, ap, subst, ◌∙◌, arith}
-use Rattle.std.proofs.lemmas.List.{get_or-set_same, get_or-set_other}
+use Rattle.std.proofs.Common.{◌≡◌, ℕ, ◌+◌, ◌-◌, ◌*◌, ◌<◌, ◌≤◌, Bool, true, false, ◌==◌, if◌then◌else◌, List, length, All, get_or, slice_index_or, slice_set, refl, sym, ap, subst, ◌∙◌, arith}
+use Rattle.std.proofs.lemmas.Bool.{both_ways}
+use Rattle.std.proofs.lemmas.List.{get_or-set_same, get_or-set_other, length-set}
 use Rattle.mk_net.specs.declared.words.Pair.{Pair}
 use Rattle.mk_net.specs.Network.{Variable, sizes}
 use Rattle.mk_net.specs.Named.{variable_at}
@@ -15,20 +16,19 @@ use Rattle.mk_propagate.specs.declared.gathered.Gathered.{Gathered}
 use Rattle.mk_propagate.specs.declared.gathered.Gathered.TheVariants.{Nothing}
 use Rattle.mk_propagate.specs.Shapes.{ShapeOf, IsShapeFor, IsClique, clique_scope, scope_within, no_scope}
 use Rattle.mk_propagate.specs.Placings.{Placing, with_factor_in, with_pair_in, placed_there, factors_in, IsPlacedFactor, IsPlacedPair}
-use Rattle.mk_propagate.specs.Flows.{FlowOf, table_at, no_table, HasCells, HasPlaced, Places}
-use Rattle.mk_propagate.specs.inner.Gathered.{HasCore}
-use Rattle.mk_propagate.specs.inner.Kept.{IsKept, IsSummed, IsGathered, AreMarked, IsFlow}
-use Rattle.mk_propagate.proofs.Placed.{with_table, table_read, factor_placed, pair_placed, kept_with}
-use Rattle.mk_propagate.proofs.Messages.{table_room}
-use Rattle.mk_propagate.proofs.Sending.{kept_over, cores_still, core_moved, read_back}
-use Rattle.mk_propagate.proofs.Marks.{table_unmarks, table_sums}
+use Rattle.mk_propagate.specs.Flows.{FlowOf, table_at, no_table, HasCells, HasSums, HasPlaced, Places}
+use Rattle.mk_propagate.specs.inner.Gathered.{IsFollowed, IsPlacedIn}
+use Rattle.mk_propagate.specs.inner.Kept.{IsKept, IsGathered, AreMarked, AreOverCores, IsFlow}
+use Rattle.mk_propagate.proofs.Placed.{AreOthersKept, with_table, table_read, factor_placed, pair_placed, kept_with}
+use Rattle.mk_propagate.proofs.Messages.{core_room_one, table_room}
+use Rattle.mk_propagate.proofs.Sending.{core_is, core_put, cores_still, mark_is, mark_put, mark_within, others_set, read_back}
 use Rattle.mk_propagate.proofs.Placed as placed
 use Rattle.mk_propagate.proofs.Required as required
 
-module _ (old now : FlowOf) (view : old ≡ now) (cores products : List TableOf) (cells : ℕ) (kept : IsKept old cores products cells)
-    (p : Placing) (h : HasPlaced now p) (clique : ℕ) (is : IsClique now.shape.tree clique) (read : TableOf) (value : read ≡ get_or old.tables (clique - 1) read) where
-  placed_old : HasPlaced old p
-  placed_old = subst (λ (o : FlowOf). HasPlaced o p) (sym view) h
+module _ (plus : ℕ → ℕ → ℕ) (old now : FlowOf) (view : old ≡ now) (products : List TableOf) (cells : ℕ) (kept : IsKept old products cells)
+    (p : Placing) (h : HasPlaced plus now p) (clique : ℕ) (is : IsClique now.shape.tree clique) (read : TableOf) (value : read ≡ get_or old.tables (clique - 1) read) where
+  placed_old : HasPlaced plus old p
+  placed_old = subst (λ (o : FlowOf). HasPlaced plus o p) (sym view) h
 
   clique_old : IsClique old.shape.tree clique
   clique_old = subst (λ (o : FlowOf). IsClique o.shape.tree clique) (sym view) is
@@ -71,12 +71,6 @@ module _ (old now : FlowOf) (view : old ≡ now) (cores products : List TableOf)
   pair_variable q f = required.has_pair p.network now.shape.tree clique read.scope (scope_of_read p.network h.shape_is) q f.in_range f.holds_it
 
   module _ (t : TableOf) (scope : t.scope ≡ read.scope) where
-    still_kept : (count : ℕ) → IsKept (with_table old clique t count) cores products cells
-    still_kept count = kept_with old cores products cells clique count read t kept clique_old.first within reads scope
-
-    tables_apart : (k : ℕ) → IsClique old.shape.tree k → (k ≡ clique → ⊥) → slice_index_or (slice_set old.tables (clique - 1) t) (k - 1) no_table ≡ table_at old k
-    tables_apart k at apart = get_or-set_other old.tables (clique - 1) (k - 1) t no_table (λ e. apart (let here = clique_old in omega (arith, e, at.first, here.first)))
-
     table_there : slice_index_or (slice_set old.tables (clique - 1) t) (clique - 1) no_table ≡ t
     table_there = get_or-set_same old.tables (clique - 1) t no_table within
 
@@ -84,57 +78,115 @@ module _ (old now : FlowOf) (view : old ≡ now) (cores products : List TableOf)
     pub table_again : (table : TableOf) → table ≡ slice_index_or (slice_set old.tables (clique - 1) t) (clique - 1) table → table ≡ t
     table_again table f = read_back old.tables (clique - 1) t table within f
 
-    -- its core is marked as not summed
-    pub still_flow : (plus : ℕ → ℕ → ℕ) (count : ℕ) (summed : List Bool) (gathered : List Gathered) → AreMarked Bool old.shape.tree false (IsSummed plus old) cores summed → AreMarked Gathered old.shape.tree Nothing (IsGathered plus old) products gathered
-        → IsFlow plus (with_table old clique t count) cores products (slice_set summed (clique - 1) false) gathered cells
-    still_flow plus count summed gathered marked products_marked = record {
-      kept = still_kept count;
-      summed_are = table_unmarks plus old (slice_set old.tables (clique - 1) t) count clique cores summed marked clique_old tables_apart;
-      gathered_are = record { one_mark_each = products_marked.one_mark_each; marked_is = products_marked.marked_is };
-    }
+    -- with others over the cores
+    module _ (cores : List TableOf) (summed : List Bool) (others : AreOthersKept old clique cores summed) where
+      pub flow_with : (count : ℕ) (gathered : List Gathered) → AreMarked Gathered old.shape.tree Nothing (IsGathered plus old) products gathered → AreOverCores old cores → length summed ≡ length old.summed
+          → (slice_index_or summed (clique - 1) false ≡ true → (slice_index_or cores (clique - 1) no_table).shift ≡ t.shift) → IsFlow plus (with_table old clique t cores summed count) products gathered cells
+      flow_with count gathered marked over marks shift = record {
+        kept = kept_with old products cells clique count read t cores summed kept over marks others shift clique_old.first within reads scope;
+        gathered_are = record { one_mark_each = marked.one_mark_each; marked_is = marked.marked_is };
+      }
 
-    -- the sums over its core change too, with their mark
-    pub flow_summed_again : (plus : ℕ → ℕ → ℕ) (count : ℕ) (summed : List Bool) (gathered : List Gathered) → AreMarked Bool old.shape.tree false (IsSummed plus old) cores summed → AreMarked Gathered old.shape.tree Nothing (IsGathered plus old) products gathered
-        → (was core : TableOf) → was ≡ slice_index_or cores (clique - 1) was → core.scope ≡ was.scope → (shape : ShapeOf) → shape ≡ old.shape → (table : TableOf) → table ≡ slice_index_or (slice_set old.tables (clique - 1) t) (clique - 1) table
-        → (mark : Bool) → (mark ≡ true → HasCore plus shape clique table core)
-        → IsFlow plus (with_table old clique t count) (slice_set cores (clique - 1) core) products (slice_set summed (clique - 1) mark) gathered cells
-    flow_summed_again plus count summed gathered marked products_marked was core e same shape s table f mark sum =
-        let k = still_kept count in
-        record {
-          kept = kept_over (with_table old clique t count) cores products (slice_set cores (clique - 1) core) products cells k (cores_still (with_table old clique t count) cores k.cores_are clique clique_old was core e same) k.products_are;
-          summed_are =
-              table_sums plus old (slice_set old.tables (clique - 1) t) count clique cores summed marked clique_old tables_apart kept.cores_are.one_each core mark
-              (λ m. core_moved plus clique core shape old.shape table (slice_index_or (slice_set old.tables (clique - 1) t) (clique - 1) no_table) s (table_again table f ∙ sym table_there) (sum m));
-          gathered_are = record { one_mark_each = products_marked.one_mark_each; marked_is = products_marked.marked_is };
-        }
+      pub places_factor : (f : Factor) → IsPlacedFactor p.network now.shape.tree (record { clique = clique; factor = f }) → now.factors < max_factors → t.shift ≤ read.shift + 40
+          → ((g : ℕ → ℕ) (n : ℕ) → HasNumbers read g n → HasNumbers t (λ c. g c * factor_there p.network f (values_at read.scope c)) (n + 1))
+          → (slice_index_or summed (clique - 1) false ≡ true → HasSums plus old.shape (with_factor_in clique f p) clique (slice_index_or cores (clique - 1) no_table))
+          → Places plus now (with_table old clique t cores summed (old.factors + 1)) clique p (with_factor_in clique f p)
+      places_factor f fits few shift numbers sums =
+          subst (λ (o : FlowOf). Places plus o (with_table old clique t cores summed (old.factors + 1)) clique p (with_factor_in clique f p)) view
+          (factor_placed plus old p clique read t cores summed placed_old clique_old within reads scope others f
+          (subst (λ (o : FlowOf). IsPlacedFactor p.network o.shape.tree (record { clique = clique; factor = f })) (sym view) fits)
+          (let e = ap (λ (o : FlowOf). o.factors) view in omega (arith, few, e)) shift numbers sums)
 
-    pub places_factor : (plus : ℕ → ℕ → ℕ) (f : Factor) → IsPlacedFactor p.network now.shape.tree (record { clique = clique; factor = f }) → now.factors < max_factors → t.shift ≤ read.shift + 40
+    -- what is not summed
+    not_summed : slice_index_or (slice_set old.summed (clique - 1) false) (clique - 1) false ≡ true → ⊥
+    not_summed marked = both_ways (slice_index_or (slice_set old.summed (clique - 1) false) (clique - 1) false) (get_or-set_same old.summed (clique - 1) false false (mark_within old products cells kept clique clique_old)) marked
+
+    unmarked : AreOthersKept old clique old.cores (slice_set old.summed (clique - 1) false)
+    unmarked k at apart = (refl, get_or-set_other old.summed (clique - 1) (k - 1) false false (λ e. apart (let here = clique_old in omega (arith, e, at.first, here.first))))
+
+    pub flow_unmarked : (count : ℕ) (gathered : List Gathered) → AreMarked Gathered old.shape.tree Nothing (IsGathered plus old) products gathered
+        → IsFlow plus (with_table old clique t old.cores (slice_set old.summed (clique - 1) false) count) products gathered cells
+    flow_unmarked count gathered marked =
+        flow_with old.cores (slice_set old.summed (clique - 1) false) unmarked count gathered marked kept.cores_are (length-set old.summed (clique - 1) false) (λ m. absurd (not_summed m))
+
+    pub places_unmarked : (f : Factor) → IsPlacedFactor p.network now.shape.tree (record { clique = clique; factor = f }) → now.factors < max_factors → t.shift ≤ read.shift + 40
         → ((g : ℕ → ℕ) (n : ℕ) → HasNumbers read g n → HasNumbers t (λ c. g c * factor_there p.network f (values_at read.scope c)) (n + 1))
-        → Places plus now (with_table old clique t (old.factors + 1)) clique p (with_factor_in clique f p)
-    places_factor plus f fits few shift numbers =
-        subst (λ (o : FlowOf). Places plus o (with_table old clique t (old.factors + 1)) clique p (with_factor_in clique f p)) view
-        (factor_placed plus old p clique read t placed_old clique_old within reads scope f
-        (subst (λ (o : FlowOf). IsPlacedFactor p.network o.shape.tree (record { clique = clique; factor = f })) (sym view) fits)
-        (let e = ap (λ (o : FlowOf). o.factors) view in omega (arith, few, e)) shift numbers)
+        → Places plus now (with_table old clique t old.cores (slice_set old.summed (clique - 1) false) (old.factors + 1)) clique p (with_factor_in clique f p)
+    places_unmarked f fits few shift numbers = places_factor old.cores (slice_set old.summed (clique - 1) false) unmarked f fits few shift numbers (λ m. absurd (not_summed m))
 
-    -- with a factor more it still has room to be summed
-    pub room_with_factor : (plus : ℕ → ℕ → ℕ) → Lawful plus → (f : Factor) → IsPlacedFactor p.network now.shape.tree (record { clique = clique; factor = f }) → now.factors < max_factors → t.shift ≤ read.shift + 40
-        → ((g : ℕ → ℕ) (n : ℕ) → HasNumbers read g n → HasNumbers t (λ c. g c * factor_there p.network f (values_at read.scope c)) (n + 1)) → HasRoom t (2 * cells_in t.scope)
-    room_with_factor plus law f fits few shift numbers =
-        let after = with_factor_in clique f p in let has = (places_factor plus f fits few shift numbers).placed in
-        table_room old.shape after has.shape_is has.placing plus law clique clique_old t
-        (subst (λ (u : TableOf). HasCells u (clique_scope old.shape clique) (placed_there after clique) (factors_in after clique) (factors_in after clique)) table_there (has.tables clique clique_old))
-
-    pub places_pair : (plus : ℕ → ℕ → ℕ) (q : Pair) → IsPlacedPair p.network now.shape.tree (record { clique = clique; pair = q }) → t.shift ≡ read.shift
+    pub places_pair : (q : Pair) → IsPlacedPair p.network now.shape.tree (record { clique = clique; pair = q }) → t.shift ≡ read.shift
         → ((g : ℕ → ℕ) (n : ℕ) → HasNumbers read g n → HasNumbers t (λ c. if values_at read.scope c q.variable == q.value then g c else 0) n)
-        → Places plus now (with_table old clique t old.factors) clique p (with_pair_in clique q p)
-    places_pair plus q fits shift numbers =
-        subst (λ (o : FlowOf). Places plus o (with_table old clique t old.factors) clique p (with_pair_in clique q p)) view
-        (pair_placed plus old p clique read t placed_old clique_old within reads scope q
-        (subst (λ (o : FlowOf). IsPlacedPair p.network o.shape.tree (record { clique = clique; pair = q })) (sym view) fits) shift numbers)
+        → Places plus now (with_table old clique t old.cores (slice_set old.summed (clique - 1) false) old.factors) clique p (with_pair_in clique q p)
+    places_pair q fits shift numbers =
+        subst (λ (o : FlowOf). Places plus o (with_table old clique t old.cores (slice_set old.summed (clique - 1) false) old.factors) clique p (with_pair_in clique q p)) view
+        (pair_placed plus old p clique read t old.cores (slice_set old.summed (clique - 1) false) placed_old clique_old within reads scope unmarked q
+        (subst (λ (o : FlowOf). IsPlacedPair p.network o.shape.tree (record { clique = clique; pair = q })) (sym view) fits) shift numbers not_summed)
+
+    -- with a factor more the table has what is placed there, and room to be summed
+    module _ (law : Lawful plus) (f : Factor) (fits : IsPlacedFactor p.network now.shape.tree (record { clique = clique; factor = f })) (few : now.factors < max_factors) (shift : t.shift ≤ read.shift + 40)
+        (numbers : (g : ℕ → ℕ) (n : ℕ) → HasNumbers read g n → HasNumbers t (λ c. g c * factor_there p.network f (values_at read.scope c)) (n + 1)) where
+      pub placed_with : IsPlacedIn old.shape (with_factor_in clique f p) clique t
+      placed_with =
+          let has = (places_unmarked f fits few shift numbers).placed in
+          record {
+            shape_is = has.shape_is;
+            placing = has.placing;
+            cells = subst (λ (u : TableOf). HasCells u (clique_scope old.shape clique) (placed_there (with_factor_in clique f p) clique) (factors_in (with_factor_in clique f p) clique)
+                (factors_in (with_factor_in clique f p) clique)) table_there (has.tables clique clique_old);
+          }
+
+      pub room_with : HasRoom t (2 * cells_in t.scope)
+      room_with = table_room old.shape (with_factor_in clique f p) placed_with.shape_is placed_with.placing plus law clique clique_old t placed_with.cells
+
+    -- the sums over its core follow it
+    module _ (was core : TableOf) (e : was ≡ slice_index_or old.cores (clique - 1) was) (same : core.scope ≡ was.scope) (mark_was mark : Bool) (m : mark_was ≡ slice_index_or old.summed (clique - 1) mark_was)
+        (table : TableOf) (again : table ≡ slice_index_or (slice_set old.tables (clique - 1) t) (clique - 1) table) where
+      core_there : slice_index_or (slice_set old.cores (clique - 1) core) (clique - 1) no_table ≡ core
+      core_there = core_put old products cells kept clique clique_old was core e same mark
+
+      mark_there : slice_index_or (slice_set old.summed (clique - 1) mark) (clique - 1) false ≡ mark
+      mark_there = mark_put old products cells kept clique clique_old was core e same mark
+
+      abbrev others : AreOthersKept old clique (slice_set old.cores (clique - 1) core) (slice_set old.summed (clique - 1) mark)
+      others = others_set old clique clique_old.first core mark
+
+      pub flow_followed : (mark ≡ true → core.shift ≡ table.shift) → (count : ℕ) (gathered : List Gathered) → AreMarked Gathered old.shape.tree Nothing (IsGathered plus old) products gathered
+          → IsFlow plus (with_table old clique t (slice_set old.cores (clique - 1) core) (slice_set old.summed (clique - 1) mark) count) products gathered cells
+      flow_followed shift count gathered marked =
+          flow_with (slice_set old.cores (clique - 1) core) (slice_set old.summed (clique - 1) mark) others count gathered marked
+          (cores_still old old.cores kept.cores_are clique clique_old was core e same) (length-set old.summed (clique - 1) mark)
+          (λ here. ap (λ (u : TableOf). u.shift) core_there ∙ shift (sym mark_there ∙ here) ∙ ap (λ (u : TableOf). u.shift) (table_again table again))
+
+      had_sums : mark_was ≡ true → HasSums plus old.shape p clique was
+      had_sums marked =
+          subst (λ (u : TableOf). HasSums plus old.shape p clique u) (core_is old old.cores kept.cores_are clique clique_old was e)
+          (placed_old.sums clique clique_old (mark_is old products cells kept clique clique_old mark_was m ∙ marked))
+
+      pub core_had_room : Lawful plus → mark_was ≡ true → HasRoom was 1
+      core_had_room law marked = core_room_one old.shape p placed_old.shape_is placed_old.placing plus law clique clique_old was (had_sums marked)
+
+      module _ (law : Lawful plus) (ratio : TradeRatio) (fits : IsPlacedFactor p.network now.shape.tree (record { clique = clique; factor = RatioOf ratio })) (few : now.factors < max_factors) (shift : t.shift ≤ read.shift + 40)
+          (numbers : (g : ℕ → ℕ) (n : ℕ) → HasNumbers read g n → HasNumbers t (λ c. g c * factor_there p.network (RatioOf ratio) (values_at read.scope c)) (n + 1)) where
+        pub places_followed : (shape : ShapeOf) → shape ≡ old.shape → (mark ≡ true → mark_was ≡ true) → (mark ≡ true → IsFollowed plus shape clique ratio table was core)
+            → Places plus now (with_table old clique t (slice_set old.cores (clique - 1) core) (slice_set old.summed (clique - 1) mark) (old.factors + 1)) clique p (with_factor_in clique (RatioOf ratio) p)
+        places_followed shape s were followed =
+            places_factor (slice_set old.cores (clique - 1) core) (slice_set old.summed (clique - 1) mark) others (RatioOf ratio) fits few shift numbers (λ here. sums (sym mark_there ∙ here))
+          where
+            fits_old : IsPlacedFactor p.network old.shape.tree (record { clique = clique; factor = RatioOf ratio })
+            fits_old = subst (λ (o : FlowOf). IsPlacedFactor p.network o.shape.tree (record { clique = clique; factor = RatioOf ratio })) (sym view) fits
+
+            follows : mark ≡ true → IsFollowed plus old.shape clique ratio t was core
+            follows marked =
+                subst (λ (u : TableOf). IsFollowed plus old.shape clique ratio u was core) (table_again table again)
+                (subst (λ (x : ShapeOf). IsFollowed plus x clique ratio table was core) s (followed marked))
+
+            sums : mark ≡ true → HasSums plus old.shape (with_factor_in clique (RatioOf ratio) p) clique (slice_index_or (slice_set old.cores (clique - 1) core) (clique - 1) no_table)
+            sums marked =
+                subst (λ (u : TableOf). HasSums plus old.shape (with_factor_in clique (RatioOf ratio) p) clique u) (sym core_there)
+                (follows marked p fits_old (placed_with law (RatioOf ratio) fits few shift numbers) (had_sums (were marked)))
 
 -- what fits one placing of a flow fits each
-module _ (now : FlowOf) (p q : Placing) (h : HasPlaced now p) (other : HasPlaced now q) where
+module _ (plus : ℕ → ℕ → ℕ) (now : FlowOf) (p q : Placing) (h : HasPlaced plus now p) (other : HasPlaced plus now q) where
   sized_alike : sizes p.network ≡ sizes q.network
   sized_alike = required.same_sizes now.shape p.network q.network h.shape_is other.shape_is
 

@@ -1,5 +1,6 @@
 pub mod Scopes
 pub mod Cores
+pub mod Split
 pub mod Starts
 pub mod Shaped
 pub mod Laid
@@ -15,6 +16,7 @@ pub mod Grading
 pub mod Readings
 pub mod Messages
 pub mod Prepared
+pub mod Followed
 pub mod Sending
 pub mod Believing
 pub mod Marks

@@ -9,11 +9,11 @@ use Rattle.mk_propagate.specs.declared.gathered.Gathered.{Gathered}
 use Rattle.mk_propagate.specs.declared.gathered.Gathered.TheVariants.{Nothing, Everything, AllBut}
 use Rattle.mk_propagate.specs.Shapes.{ShapeOf, IsClique, are_linked as is_linked}
 use Rattle.mk_propagate.specs.Placings.{Placing}
-use Rattle.mk_propagate.specs.Flows.{FlowOf, HasPlaced, table_at, no_table}
-use Rattle.mk_propagate.specs.inner.Gathered.{is_taken, is_input, message_in, IsRightIn, HasCore, HasInto, HasMarked, leaves_out, still_marked}
-use Rattle.mk_propagate.specs.inner.Kept.{IsSummed, IsGathered, AreMarked, IsKept, IsFlow}
+use Rattle.mk_propagate.specs.Flows.{FlowOf, HasPlaced, HasSums, KeepsTables, AreRightBut, is_summed, no_table}
+use Rattle.mk_propagate.specs.inner.Gathered.{is_taken, is_input, message_in, IsPlacedIn, IsRightIn, HasInto, HasMarked, leaves_out, still_marked}
+use Rattle.mk_propagate.specs.inner.Kept.{IsGathered, AreMarked, IsKept, IsFlow}
 use Rattle.mk_propagate.proofs.Placed.{table_read}
-use Rattle.mk_propagate.proofs.Sending.{core_moved, cores_still, kept_over, table_is, sender, receiver_is, with_upward, with_downward, others_up, others_down, kept_upward, kept_downward, upward_child, downward_child}
+use Rattle.mk_propagate.proofs.Sending.{core_is, cores_still, table_is, mark_is as core_mark_is, kept_over, with_core, kept_core, placed_core, sender, receiver_is, with_upward, with_downward, others_up, others_down, kept_upward, kept_downward, upward_child, downward_child}
 
 -- ---- one mark is changed, with its table or without
 
@@ -79,6 +79,13 @@ all_alike M tree none P tables marks count same long always = record {
       (sym (ap (λ (all : List M). slice_index_or all (k - 1) none) same ∙ get_or-replicate count (k - 1) none none (omega (arith, long, at.first, at.last)))) (always k (slice_index_or tables (k - 1) no_table));
 }
 
+-- no core was summed
+pub none_summed : (tree : GivenTree) (marks : List Bool) (count : ℕ) → marks ≡ replicate count false → count ≡ length tree.cliques → (k : ℕ) → IsClique tree k → slice_index_or marks (k - 1) false ≡ false
+none_summed tree marks count same long k at = ap (λ (all : List Bool). slice_index_or all (k - 1) false) same ∙ get_or-replicate count (k - 1) false false (omega (arith, long, at.first, at.last))
+
+pub one_mark_each : (tree : GivenTree) (marks : List Bool) (count : ℕ) → marks ≡ replicate count false → count ≡ length tree.cliques → length marks ≡ length tree.cliques
+one_mark_each tree marks count same long = ap (λ (all : List Bool). length all) same ∙ length-replicate count false ∙ long
+
 -- ---- what marks say stays true
 
 -- all messages into a clique are its inputs
@@ -136,15 +143,8 @@ pub marked_moved : (plus : ℕ → ℕ → ℕ) (k : ℕ) (mark : Gathered) (t :
 marked_moved plus k mark t s s_after u u_after d d_after es eu ed h =
     subst (λ (y : List TableOf). HasMarked plus s_after u_after y k mark t) ed (subst (λ (y : List TableOf). HasMarked plus s_after y d k mark t) eu (subst (λ (y : ShapeOf). HasMarked plus y u d k mark t) es h))
 
-module _ (plus : ℕ → ℕ → ℕ) (flow : FlowOf) (cores products : List TableOf) (summed : List Bool) (gathered : List Gathered) (cells : ℕ) (is_flow : IsFlow plus flow cores products summed gathered cells) (k : ℕ) (clique : IsClique flow.shape.tree k)
+module _ (plus : ℕ → ℕ → ℕ) (flow : FlowOf) (products : List TableOf) (gathered : List Gathered) (cells : ℕ) (is_flow : IsFlow plus flow products gathered cells) (k : ℕ) (clique : IsClique flow.shape.tree k)
     (shape : ShapeOf) (s : shape ≡ flow.shape) where
-  -- a marked sum is that of the clique's table
-  pub summed_there : (table : TableOf) → table ≡ slice_index_or flow.tables (k - 1) table → (core : TableOf) → core ≡ slice_index_or cores (k - 1) core → (mark : Bool) → mark ≡ slice_index_or summed (k - 1) mark
-      → mark ≡ true → HasCore plus shape k table core
-  summed_there table t core e mark f m =
-      core_moved plus k core flow.shape shape (table_at flow k) table (sym s) (table_is flow cores products cells is_flow.kept k clique table t)
-      (marked_at Bool flow.shape.tree false (IsSummed plus flow) cores summed is_flow.summed_are k clique is_flow.kept.cores_are.one_each core e mark f m)
-
   module _ (upward downward : List TableOf) (u : upward ≡ flow.upward) (d : downward ≡ flow.downward) (was : TableOf) (e : was ≡ slice_index_or products (k - 1) was) where
     -- a product has the messages that its mark tells of
     pub gathered_there : (mark : Gathered) → mark ≡ slice_index_or gathered (k - 1) mark → HasMarked plus shape upward downward k mark was
@@ -154,70 +154,90 @@ module _ (plus : ℕ → ℕ → ℕ) (flow : FlowOf) (cores products : List Tab
 
     -- it has them all, and is marked so
     pub flow_after : (after : TableOf) (mark : Gathered) → after.scope ≡ was.scope → mark ≡ Everything → HasInto plus shape upward downward k None after
-        → IsFlow plus flow cores (slice_set products (k - 1) after) summed (slice_set gathered (k - 1) mark) cells
+        → IsFlow plus flow (slice_set products (k - 1) after) (slice_set gathered (k - 1) mark) cells
     flow_after after mark same m h = record {
-      kept = kept_over flow cores products cores (slice_set products (k - 1) after) cells is_flow.kept is_flow.kept.cores_are (cores_still flow products is_flow.kept.products_are k clique was after e same);
-      summed_are = is_flow.summed_are;
+      kept = kept_over flow products cells is_flow.kept k clique (slice_set products (k - 1) after) (cores_still flow products is_flow.kept.products_are k clique was after e same);
       gathered_are =
           put_anew Gathered flow.shape.tree Nothing (IsGathered plus flow) products gathered is_flow.gathered_are k clique is_flow.kept.products_are.one_each after mark
           (subst (λ (g : Gathered). IsGathered plus flow k g after) (sym m) (marked_moved plus k Everything after shape flow.shape upward flow.upward downward flow.downward s u d h));
     }
 
-  -- a clique's table is summed over its core, whatever it is marked
-  pub flow_summed : (table : TableOf) → table_at flow k ≡ table → (was core : TableOf) → was ≡ slice_index_or cores (k - 1) was → core.scope ≡ was.scope → HasCore plus shape k table core → (mark : Bool)
-      → IsFlow plus flow (slice_set cores (k - 1) core) products (slice_set summed (k - 1) mark) gathered cells
-  flow_summed table t was core e same sum mark = record {
-    kept = kept_over flow cores products (slice_set cores (k - 1) core) products cells is_flow.kept (cores_still flow cores is_flow.kept.cores_are k clique was core e same) is_flow.kept.products_are;
-    summed_are =
-        put_anew Bool flow.shape.tree false (IsSummed plus flow) cores summed is_flow.summed_are k clique is_flow.kept.cores_are.one_each core mark
-        (λ _. core_moved plus k core shape flow.shape table (table_at flow k) s (sym t) sum);
-    gathered_are = is_flow.gathered_are;
-  }
+-- ---- a core is summed
 
--- ---- a clique's table changes
+module _ (plus : ℕ → ℕ → ℕ) (old : FlowOf) (products : List TableOf) (gathered : List Gathered) (cells : ℕ) (is_flow : IsFlow plus old products gathered cells) (k : ℕ) (clique : IsClique old.shape.tree k) (shape : ShapeOf) (s : shape ≡ old.shape)
+    (table : TableOf) (t : table ≡ slice_index_or old.tables (k - 1) table) (was : TableOf) (e : was ≡ slice_index_or old.cores (k - 1) was) (mark_was : Bool) (m : mark_was ≡ slice_index_or old.summed (k - 1) mark_was) where
+  pub table_placed : (p : Placing) → HasPlaced plus old p → IsPlacedIn shape p k table
+  table_placed p h =
+      subst (λ (x : ShapeOf). IsPlacedIn x p k table) (sym s)
+      (subst (λ (u : TableOf). IsPlacedIn old.shape p k u) (table_is old products cells is_flow.kept k clique table t) (record { shape_is = h.shape_is; placing = h.placing; cells = h.tables k clique }))
 
-pub table_unmarks : (plus : ℕ → ℕ → ℕ) (old : FlowOf) (tables : List TableOf) (factors b : ℕ) (cores : List TableOf) (summed : List Bool) → AreMarked Bool old.shape.tree false (IsSummed plus old) cores summed → IsClique old.shape.tree b
-    → ((k : ℕ) → IsClique old.shape.tree k → (k ≡ b → ⊥) → slice_index_or tables (k - 1) no_table ≡ table_at old k)
-    → AreMarked Bool old.shape.tree false (IsSummed plus (record { shape = old.shape; tables = tables; upward = old.upward; downward = old.downward; factors = factors; computed = old.computed })) cores (slice_set summed (b - 1) false)
-table_unmarks plus old tables factors b cores summed h clique same =
-    one_changed Bool old.shape.tree false (IsSummed plus old) cores summed h b clique
-    (IsSummed plus (record { shape = old.shape; tables = tables; upward = old.upward; downward = old.downward; factors = factors; computed = old.computed }))
-    (λ k at apart m t has marked. subst (λ (u : TableOf). HasCore plus old.shape k u t) (sym (same k at apart)) (has marked)) false (λ t has marked. absurd (both_ways false refl marked))
+  marked_was : mark_was ≡ true → is_summed old k ≡ true
+  marked_was marked = core_mark_is old products cells is_flow.kept k clique mark_was m ∙ marked
 
--- so do the sums over its core, with their mark
-pub table_sums : (plus : ℕ → ℕ → ℕ) (old : FlowOf) (tables : List TableOf) (factors b : ℕ) (cores : List TableOf) (summed : List Bool) → AreMarked Bool old.shape.tree false (IsSummed plus old) cores summed → IsClique old.shape.tree b
-    → ((k : ℕ) → IsClique old.shape.tree k → (k ≡ b → ⊥) → slice_index_or tables (k - 1) no_table ≡ table_at old k) → length cores ≡ length old.shape.tree.cliques
-    → (core : TableOf) (mark : Bool) → (mark ≡ true → HasCore plus old.shape b (slice_index_or tables (b - 1) no_table) core)
-    → AreMarked Bool old.shape.tree false (IsSummed plus (record { shape = old.shape; tables = tables; upward = old.upward; downward = old.downward; factors = factors; computed = old.computed })) (slice_set cores (b - 1) core) (slice_set summed (b - 1) mark)
-table_sums plus old tables factors b cores summed h clique same long core mark sum =
-    both_changed Bool old.shape.tree false (IsSummed plus old) cores summed h b clique
-    (IsSummed plus (record { shape = old.shape; tables = tables; upward = old.upward; downward = old.downward; factors = factors; computed = old.computed }))
-    (λ k at apart m t has marked. subst (λ (u : TableOf). HasCore plus old.shape k u t) (sym (same k at apart)) (has marked)) long core mark sum
+  pub sums_before : (p : Placing) → HasPlaced plus old p → mark_was ≡ true → HasSums plus shape p k was
+  sums_before p h marked =
+      subst (λ (x : ShapeOf). HasSums plus x p k was) (sym s)
+      (subst (λ (u : TableOf). HasSums plus old.shape p k u) (core_is old old.cores is_flow.kept.cores_are k clique was e) (h.sums k clique (marked_was marked)))
+
+  pub shift_before : mark_was ≡ true → was.shift ≡ table.shift
+  shift_before marked =
+      ap (λ (u : TableOf). u.shift) (sym (core_is old old.cores is_flow.kept.cores_are k clique was e)) ∙ is_flow.kept.core_shifts k clique (marked_was marked)
+      ∙ ap (λ (u : TableOf). u.shift) (table_is old products cells is_flow.kept k clique table t)
+
+  module _ (core : TableOf) (same : core.scope ≡ was.scope) (mark : Bool) (shift : core.shift ≡ table.shift)
+      (sums : (p : Placing) → IsPlacedIn shape p k table → (mark_was ≡ true → HasSums plus shape p k was) → HasSums plus shape p k core) where
+    pub flow_mid : IsFlow plus (with_core old k core mark) products gathered cells
+    flow_mid = record {
+      kept = kept_core old products cells is_flow.kept k clique was core e same mark (λ _. shift ∙ ap (λ (u : TableOf). u.shift) (sym (table_is old products cells is_flow.kept k clique table t)));
+      gathered_are = record { one_mark_each = is_flow.gathered_are.one_mark_each; marked_is = is_flow.gathered_are.marked_is };
+    }
+
+    pub placed_mid : (p : Placing) → HasPlaced plus old p → HasPlaced plus (with_core old k core mark) p
+    placed_mid p h =
+        placed_core old products cells is_flow.kept k clique was core e same mark plus p h
+        (λ _. subst (λ (x : ShapeOf). HasSums plus x p k core) s (sums p (table_placed p h) (sums_before p h)))
+
+    pub rights_mid : (p : Placing) (a b : ℕ) → AreRightBut plus old p a b → AreRightBut plus (with_core old k core mark) p a b
+    rights_mid p a b right i l = record { cells = (right i l).cells }
+
+    -- with whatever messages
+    abbrev pub mid_with : List TableOf → List TableOf → ℕ → FlowOf
+    mid_with upward downward computed = record {
+      shape = old.shape;
+      tables = old.tables;
+      cores = slice_set old.cores (k - 1) core;
+      summed = slice_set old.summed (k - 1) mark;
+      upward = upward;
+      downward = downward;
+      factors = old.factors;
+      computed = computed;
+    }
+
+    pub mid_keeps : (now : FlowOf) → old ≡ now → (upward downward : List TableOf) (computed : ℕ) → KeepsTables plus now (mid_with upward downward computed)
+    mid_keeps now view upward downward computed =
+        subst (λ (f : FlowOf). KeepsTables plus f (mid_with upward downward computed)) view (record {
+          same_shape = refl;
+          same_tables = refl;
+          same_factors = refl;
+          placed = λ p h. let n = placed_mid p h in record { shape_is = n.shape_is; placing = n.placing; counted = n.counted; tables = n.tables; sums = n.sums };
+        })
 
 -- ---- a message is sent from a to b
 
-module _ (plus : ℕ → ℕ → ℕ) (old : FlowOf) (cores products : List TableOf) (summed : List Bool) (gathered : List Gathered) (cells computed : ℕ) (is_flow : IsFlow plus old cores products summed gathered cells) (p : Placing) (has : HasPlaced old p) (a b : ℕ)
-    (linked_too : is_linked old.shape.tree a b ≡ true) (shape : ShapeOf) (s : shape ≡ old.shape) (table : TableOf) (t : table ≡ slice_index_or old.tables (a - 1) table)
-    (core_was core : TableOf) (e : core_was ≡ slice_index_or cores (a - 1) core_was) (same : core.scope ≡ core_was.scope) (sum : HasCore plus shape a table core) (mark : Bool)
+module _ (plus : ℕ → ℕ → ℕ) (old : FlowOf) (products : List TableOf) (gathered : List Gathered) (cells computed : ℕ) (is_flow : IsFlow plus old products gathered cells) (p : Placing) (has : HasPlaced plus old p) (a b : ℕ)
+    (linked_too : is_linked old.shape.tree a b ≡ true) (shape : ShapeOf) (s : shape ≡ old.shape)
     (upward downward : List TableOf) (u : upward ≡ old.upward) (d : downward ≡ old.downward)
     (was product : TableOf) (f : was ≡ slice_index_or products (a - 1) was) (same_too : product.scope ≡ was.scope) (sender_mark : Gathered) (marked : HasMarked plus shape upward downward a sender_mark product)
     (receiver_was receiver_mark : Gathered) (g : receiver_was ≡ slice_index_or (slice_set gathered (a - 1) sender_mark) (b - 1) receiver_was) (left : receiver_mark ≡ still_marked a receiver_was)
     (before after : TableOf) (over : after.scope ≡ before.scope) where
   clique : IsClique old.shape.tree a
-  clique = sender old p has a b linked_too
+  clique = sender plus old p has a b linked_too
 
   receiver : IsClique old.shape.tree b
-  receiver = receiver_is old p has a b linked_too
+  receiver = receiver_is plus old p has a b linked_too
 
-  kept_mid : IsKept old (slice_set cores (a - 1) core) (slice_set products (a - 1) product) cells
-  kept_mid =
-      kept_over old cores products (slice_set cores (a - 1) core) (slice_set products (a - 1) product) cells is_flow.kept (cores_still old cores is_flow.kept.cores_are a clique core_was core e same)
-      (cores_still old products is_flow.kept.products_are a clique was product f same_too)
-
-  summed_mid : AreMarked Bool old.shape.tree false (IsSummed plus old) (slice_set cores (a - 1) core) (slice_set summed (a - 1) mark)
-  summed_mid =
-      put_anew Bool old.shape.tree false (IsSummed plus old) cores summed is_flow.summed_are a clique is_flow.kept.cores_are.one_each core mark
-      (λ _. core_moved plus a core shape old.shape table (table_at old a) s (sym (table_is old cores products cells is_flow.kept a clique table t)) sum)
+  kept_mid : IsKept old (slice_set products (a - 1) product) cells
+  kept_mid = kept_over old products cells is_flow.kept a clique (slice_set products (a - 1) product) (cores_still old products is_flow.kept.products_are a clique was product f same_too)
 
   gathered_mid : AreMarked Gathered old.shape.tree Nothing (IsGathered plus old) (slice_set products (a - 1) product) (slice_set gathered (a - 1) sender_mark)
   gathered_mid =
@@ -236,23 +256,21 @@ module _ (plus : ℕ → ℕ → ℕ) (old : FlowOf) (cores products : List Tabl
       (subst (λ (m : Gathered). HasMarked plus old.shape old.upward old.downward b m t) (mark_is Gathered old.shape.tree Nothing (IsGathered plus old) (slice_set products (a - 1) product) (slice_set gathered (a - 1) sender_mark) gathered_mid b receiver receiver_was g) h)))
 
   pub flow_up : b < a → before ≡ slice_index_or old.upward (a - 2) before
-      → IsFlow plus (with_upward old (a - 2) after computed) (slice_set cores (a - 1) core) (slice_set products (a - 1) product) (slice_set summed (a - 1) mark) (slice_set (slice_set gathered (a - 1) sender_mark) (b - 1) receiver_mark) cells
+      → IsFlow plus (with_upward old (a - 2) after computed) (slice_set products (a - 1) product) (slice_set (slice_set gathered (a - 1) sender_mark) (b - 1) receiver_mark) cells
   flow_up l q = record {
-    kept = let c = upward_child old p has a b linked_too l in
-        kept_upward old (slice_set cores (a - 1) core) (slice_set products (a - 1) product) cells computed kept_mid (a - 2) before after (omega (arith, is_flow.kept.one_less_up, c.later, c.within)) q over;
-    summed_are = record { one_mark_each = summed_mid.one_mark_each; marked_is = summed_mid.marked_is };
+    kept = let c = upward_child plus old p has a b linked_too l in
+        kept_upward old (slice_set products (a - 1) product) cells computed kept_mid (a - 2) before after (omega (arith, is_flow.kept.one_less_up, c.later, c.within)) q over;
     gathered_are =
-        let n = gathered_new (slice_set old.upward (a - 2) after) old.downward (others_up old p has a b linked_too computed after l) in
+        let n = gathered_new (slice_set old.upward (a - 2) after) old.downward (others_up plus old p has a b linked_too computed after l) in
         record { one_mark_each = n.one_mark_each; marked_is = n.marked_is };
   }
 
   pub flow_down : a ≤ b → before ≡ slice_index_or old.downward (b - 2) before
-      → IsFlow plus (with_downward old (b - 2) after computed) (slice_set cores (a - 1) core) (slice_set products (a - 1) product) (slice_set summed (a - 1) mark) (slice_set (slice_set gathered (a - 1) sender_mark) (b - 1) receiver_mark) cells
+      → IsFlow plus (with_downward old (b - 2) after computed) (slice_set products (a - 1) product) (slice_set (slice_set gathered (a - 1) sender_mark) (b - 1) receiver_mark) cells
   flow_down l q = record {
-    kept = let c = downward_child old p has a b linked_too l in
-        kept_downward old (slice_set cores (a - 1) core) (slice_set products (a - 1) product) cells computed kept_mid (b - 2) before after (omega (arith, is_flow.kept.one_less_down, c.later, c.within)) q over;
-    summed_are = record { one_mark_each = summed_mid.one_mark_each; marked_is = summed_mid.marked_is };
+    kept = let c = downward_child plus old p has a b linked_too l in
+        kept_downward old (slice_set products (a - 1) product) cells computed kept_mid (b - 2) before after (omega (arith, is_flow.kept.one_less_down, c.later, c.within)) q over;
     gathered_are =
-        let n = gathered_new old.upward (slice_set old.downward (b - 2) after) (others_down old p has a b linked_too computed after l) in
+        let n = gathered_new old.upward (slice_set old.downward (b - 2) after) (others_down plus old p has a b linked_too computed after l) in
         record { one_mark_each = n.one_mark_each; marked_is = n.marked_is };
   }

@@ -9,7 +9,7 @@ use Rattle.std.proofs.lemmas.List.{take_more}
 use Rattle.std.proofs.lemmas.List.Elements.{All-weaker}
 use Rattle.std.proofs.lemmas.List.FromFn.{length-range_with_len}
 use Rattle.std.proofs.lemmas.List.Sums.{sum_by_more, sum_by-take-le, sum_by_more_le, length-filter, count_by-le-length}
-use Rattle.mk_net.specs.Network.{sizes}
+use Rattle.mk_net.specs.Network.{Variable, sizes}
 use Rattle.mk_exact.specs.States.{plus_over, product_by, numbers_below}
 use Rattle.mk_exact.specs.Lawful.{Lawful}
 use Rattle.mk_exact.proofs.Sums.{product_by_push}
@@ -31,8 +31,8 @@ use Rattle.mk_tree.proofs.Cells.{cells_positive}
 use Rattle.mk_tree.specs.Given.{GivenTree, clique_at, holds, link_of}
 use Rattle.mk_propagate.specs.Shapes.{ShapeOf, IsShapeFor, IsClique, clique_scope, core_scope, separator_scope, separator_between, scope_within, in_core, neighbours, clique_cells}
 use Rattle.mk_propagate.specs.Placings.{Placing, IsPlacing, placed_there, factors_in}
-use Rattle.mk_propagate.specs.Flows.{HasCells, exact_message, exact_message_grade}
-use Rattle.mk_propagate.specs.inner.Gathered.{is_taken, is_input, IsRightIn, core_there, core_steps, private_cells, HasOutgoing, gathered, gathered_steps, gathered_factors, HasGathered, IsMargin, IsMarginOfProduct, IsMessageAlone}
+use Rattle.mk_propagate.specs.Flows.{HasCells, core_there, core_steps, private_cells, exact_message, exact_message_grade}
+use Rattle.mk_propagate.specs.inner.Gathered.{is_taken, is_input, IsRightIn, HasOutgoing, gathered, gathered_steps, gathered_factors, HasGathered, IsMargin, IsMarginOfProduct, IsMessageAlone}
 use Rattle.mk_propagate.proofs.Scopes.{has_within, variable_of_network, part_has_fewer, clique_counted, clique_small}
 use Rattle.mk_propagate.proofs.Cores.{core_has, core_part, neighbour_linked}
 use Rattle.mk_table.proofs.Chosen.{chosen_pass}
@@ -73,6 +73,21 @@ none_listed test f (x ∷ xs) h =
     neither : (b c : Bool) → (b || c) ≡ false → (b ≡ false) × (c ≡ false)
     neither true c e = absurd (both_ways true e refl)
     neither false c e = (refl, e)
+
+-- the plus over the cells of a clique that have the values of a cell of its core
+pub margin_onto_core : (plus : ℕ → ℕ → ℕ) → Lawful plus → (network : List Variable) (tree : GivenTree) (k : ℕ) (part whole : ScopeOf) → part ≡ scope_within network (in_core tree k) → whole ≡ scope_within network (holds tree k)
+    → (f : (ℕ → ℕ) → ℕ) (d : ℕ) → d < cells_in part
+    → plus_over plus 0 (λ c. f (values_at whole c)) (cells_onto part whole d) ≡ over plus (slice_index (sizes network)) (λ x. holds tree k x && not (in_core tree k x)) (variables (sizes network)) f (values_at part d)
+margin_onto_core plus law network tree k part whole part_is whole_is f d l =
+    let inside : d < cells_in (scope_within network (in_core tree k)) = let z = ap cells_in part_is in omega (arith, l, z) in
+    ap (λ (s : ScopeOf). plus_over plus 0 (λ c. f (values_at s c)) (cells_onto part s d)) whole_is
+    ∙ ap (λ (s : ScopeOf). plus_over plus 0 (λ c. f (values_at (scope_within network (holds tree k)) c)) (cells_onto s (scope_within network (holds tree k)) d)) part_is
+    ∙ margin_over plus law network (in_core tree k) (holds tree k) (core_part tree k) f d inside
+    ∙ ap (λ (s : ScopeOf). over plus (slice_index (sizes network)) (λ x. holds tree k x && not (in_core tree k x)) (variables (sizes network)) f (values_at s d)) (sym part_is)
+
+-- how many these are
+pub beside_core : (network : List Variable) (tree : GivenTree) (k : ℕ) (part whole : ScopeOf) → part ≡ scope_within network (in_core tree k) → whole ≡ scope_within network (holds tree k) → cells_beside part whole ≡ private_cells network tree k
+beside_core network tree k part whole part_is whole_is = ap (λ (s : ScopeOf). cells_beside s whole) part_is ∙ ap (cells_beside (scope_within network (in_core tree k))) whole_is
 
 module _ (shape : ShapeOf) (p : Placing) (is : IsShapeFor shape p.network) (placing : IsPlacing shape.tree p) where
   abbrev tree : GivenTree
@@ -360,21 +375,22 @@ module _ (shape : ShapeOf) (p : Placing) (is : IsShapeFor shape p.network) (plac
       small_shift = let n = few_in p k in omega (arith, n, placing.few, h.small_shift);
     }
 
-    pub core_sums : (k : ℕ) → IsClique tree k → (table before after : TableOf) → HasCells table (clique_scope shape k) (placed_there p k) (factors_in p k) (factors_in p k) → before.scope ≡ core_scope shape k → IsMargin plus table before after
+    -- what has those pluses in its cells has the sums
+    pub sums_onto : (k : ℕ) → IsClique tree k → (table before after : TableOf) → HasCells table (clique_scope shape k) (placed_there p k) (factors_in p k) (factors_in p k) → before.scope ≡ core_scope shape k
+        → after.scope ≡ before.scope → after.shift ≡ table.shift → length after.digits ≡ cells_in after.scope
+        → HasNumbers after (λ d. plus_over plus 0 (λ c. placed_there p k (values_at table.scope c)) (cells_onto before.scope table.scope d)) (factors_in p k + (2 * cells_beside before.scope table.scope - 1))
         → HasCells after (core_scope shape k) (core_there plus tree p k) (core_steps tree p k) (factors_in p k)
-    core_sums k clique table before after h e m = record {
-      scope_is = m.scope ∙ e;
+    sums_onto k clique table before after h e scope shift full numbers = record {
+      scope_is = scope ∙ e;
       numbers = numbers_again after (λ d. plus_over plus 0 (λ c. placed_there p k (values_at table.scope c)) (cells_onto before.scope table.scope d)) (λ d. core_there plus tree p k (values_at after.scope d))
           (factors_in p k + (2 * cells_beside before.scope table.scope - 1)) (core_steps tree p k)
-          (let n = ap (λ (s : ScopeOf). cells_beside s table.scope) part_is in let w = ap (cells_beside (scope_within p.network (in_core tree k))) whole_is in omega (arith, n, w))
+          (let n = beside_core p.network tree k before.scope table.scope part_is whole_is in omega (arith, n))
           (λ d l.
-          let inside : d < cells_in (scope_within p.network (in_core tree k)) = let z = ap cells_in (m.scope ∙ part_is) in omega (arith, l, m.full, z) in
-          ap (λ (s : ScopeOf). plus_over plus 0 (λ c. placed_there p k (values_at s c)) (cells_onto before.scope s d)) whole_is
-          ∙ ap (λ (s : ScopeOf). plus_over plus 0 (λ c. placed_there p k (values_at (scope_within p.network (holds tree k)) c)) (cells_onto s (scope_within p.network (holds tree k)) d)) part_is
-          ∙ margin_over plus law p.network (in_core tree k) (holds tree k) (core_part tree k) (placed_there p k) d inside
-          ∙ ap (λ (s : ScopeOf). core_there plus tree p k (values_at s d)) (sym (m.scope ∙ part_is)))
-          (m.numbers (λ c. placed_there p k (values_at table.scope c)) (factors_in p k) h.numbers);
-      small_shift = omega (arith, h.small_shift, m.shift);
+          let inside : d < cells_in before.scope = let z = ap cells_in scope in omega (arith, l, full, z) in
+          margin_onto_core plus law p.network tree k before.scope table.scope part_is whole_is (placed_there p k) d inside
+          ∙ ap (λ (s : ScopeOf). core_there plus tree p k (values_at s d)) (sym scope))
+          numbers;
+      small_shift = omega (arith, h.small_shift, shift);
     }
       where
         part_is : before.scope ≡ scope_within p.network (in_core tree k)
@@ -382,6 +398,20 @@ module _ (shape : ShapeOf) (p : Placing) (is : IsShapeFor shape p.network) (plac
 
         whole_is : table.scope ≡ scope_within p.network (holds tree k)
         whole_is = h.scope_is ∙ is.clique_scopes k clique
+
+    pub core_room_one : (k : ℕ) → IsClique tree k → (core : TableOf) → HasCells core (core_scope shape k) (core_there plus tree p k) (core_steps tree p k) (factors_in p k) → HasRoom core 1
+    core_room_one k clique core h = record {
+      numbers = λ d. core_there plus tree p k (values_at core.scope d);
+      steps = core_steps tree p k;
+      has = h.numbers;
+      few_steps = let n = few_in p k in let m = few_core_steps k clique in let c = clique_small p.network tree is.tree_is k clique.first clique.last in omega (arith, n, m, c, placing.few);
+      small_shift = let n = few_in p k in omega (arith, n, placing.few, h.small_shift);
+    }
+
+    pub core_sums : (k : ℕ) → IsClique tree k → (table before after : TableOf) → HasCells table (clique_scope shape k) (placed_there p k) (factors_in p k) (factors_in p k) → before.scope ≡ core_scope shape k → IsMargin plus table before after
+        → HasCells after (core_scope shape k) (core_there plus tree p k) (core_steps tree p k) (factors_in p k)
+    core_sums k clique table before after h e m =
+        sums_onto k clique table before after h e m.scope m.shift m.full (m.numbers (λ c. placed_there p k (values_at table.scope c)) (factors_in p k) h.numbers)
 
     -- ---- what a clique sends
 

@@ -62,8 +62,8 @@ same_left test left made all first fails_here e =
     let f = ap (count_of test) n in
     omega (arith, e, c, f)
 
-unmoved : (flow : FlowOf) → KeepsTables flow flow
-unmoved flow = record { same_shape = refl; same_tables = refl; same_factors = refl }
+unmoved : (plus : ℕ → ℕ → ℕ) (flow : FlowOf) → KeepsTables plus flow flow
+unmoved plus flow = record { same_shape = refl; same_tables = refl; same_factors = refl; placed = λ p h. h }
 
 -- a pass over the cliques from the last to the first, of which those up to `left` are not passed yet
 pub record CollectsBack (plus : ℕ → ℕ → ℕ) (start now : FlowOf) (root left : ℕ) : Type 0 where
@@ -100,7 +100,7 @@ module _ (plus : ℕ → ℕ → ℕ) (start : FlowOf) (tied : given.AreLinked s
   collect_back_begins fits left e = record {
     made = 0;
     counts = let f = ap (count_of (leads_up start.shape.tree root)) e in omega (arith, f);
-    so_far = record { kept = unmoved start; right = λ p has b j at h. absurd (omega (arith, h.0, at.last, e)); counted = counted_none start.computed fits };
+    so_far = record { kept = unmoved plus start; right = λ p has b j at h. absurd (omega (arith, h.0, at.last, e)); counted = counted_none start.computed fits };
   }
 
   module _ (now : FlowOf) (left : ℕ) (h : CollectsBack plus start now root left) (is : IsClique start.shape.tree left) where
@@ -117,7 +117,7 @@ module _ (plus : ℕ → ℕ → ℕ) (start : FlowOf) (tied : given.AreLinked s
     }
 
     module _ (holds_here : leads_up start.shape.tree root left ≡ true) (to : ℕ) (to_is : to ≡ next_on_way start.shape.tree left root) where
-      pub collect_back_can : (p : Placing) → HasPlaced start p → CanSend plus now left to
+      pub collect_back_can : (p : Placing) → HasPlaced plus start p → CanSend plus now left to
       collect_back_can p has =
           can_collect plus start now Always root (after (leads_up start.shape.tree root) left) h.made h.so_far tied at_root left is (up_apart left holds_here)
           (λ i o. input_up start.shape.tree tied root at_root left i is holds_here o) to to_is p has tt
@@ -132,16 +132,16 @@ module _ (plus : ℕ → ℕ → ℕ) (start : FlowOf) (tied : given.AreLinked s
             (after (leads_up start.shape.tree root) (left - 1)) (one_fewer (leads_up start.shape.tree root) root left is.first up_apart);
       }
 
-  pub collect_back_right : (now : FlowOf) (left : ℕ) → left ≡ 0 → CollectsBack plus start now root left → (p : Placing) → HasPlaced start p
+  pub collect_back_right : (now : FlowOf) (left : ℕ) → left ≡ 0 → CollectsBack plus start now root left → (p : Placing) → HasPlaced plus start p
       → AreRightFrom plus now p root (λ k. leads_up start.shape.tree root k ≡ true)
   collect_back_right now left e h p has =
-      subst (λ (t : GivenTree). (k : ℕ) → IsClique t k → leads_up start.shape.tree root k ≡ true → IsRight plus now p k (next_on_way t k root)) (sym (tree_kept start now h.so_far.kept))
+      subst (λ (t : GivenTree). (k : ℕ) → IsClique t k → leads_up start.shape.tree root k ≡ true → IsRight plus now p k (next_on_way t k root)) (sym (tree_kept plus start now h.so_far.kept))
       (λ k at u. h.so_far.right p has tt k at (omega (arith, e, at.first), u))
 
   -- ---- its second
 
   pub collect_on_begins : start.computed < 18446744073709551616 → CollectsOn plus start start root 0
-  collect_on_begins fits = record { kept = unmoved start; right = λ p has b j at h. from p b j at h; counted = counted_none start.computed fits }
+  collect_on_begins fits = record { kept = unmoved plus start; right = λ p has b j at h. from p b j at h; counted = counted_none start.computed fits }
     where
       from : (p : Placing) → AreRightFrom plus start p root (λ k. leads_up start.shape.tree root k ≡ true) → (j : ℕ) → IsClique start.shape.tree j
           → up_to (leads_up start.shape.tree root) (leads_down start.shape.tree root) 0 j → IsRight plus start p j (next_on_way start.shape.tree j root)
@@ -165,7 +165,7 @@ module _ (plus : ℕ → ℕ → ℕ) (start : FlowOf) (tied : given.AreLinked s
           at (inl u) = inl u
           at (inr v) = inr (omega (arith, v.0), v.1)
 
-      pub collect_on_can : (p : Placing) → HasPlaced start p → AreRightFrom plus start p root (λ k. leads_up start.shape.tree root k ≡ true) → CanSend plus now (passed + 1) to
+      pub collect_on_can : (p : Placing) → HasPlaced plus start p → AreRightFrom plus start p root (λ k. leads_up start.shape.tree root k ≡ true) → CanSend plus now (passed + 1) to
       collect_on_can p has b =
           can_collect plus start now (λ p. AreRightFrom plus start p root (λ k. leads_up start.shape.tree root k ≡ true)) root (up_to
           (leads_up start.shape.tree root) (leads_down start.shape.tree root) passed) (count_of (leads_down start.shape.tree root) passed) h
@@ -182,9 +182,9 @@ module _ (plus : ℕ → ℕ → ℕ) (start : FlowOf) (tied : given.AreLinked s
           (one_further (leads_up start.shape.tree root) (leads_down start.shape.tree root) root passed up_apart down_apart))
 
   pub collect_on_right : (now : FlowOf) (passed : ℕ) → length start.shape.tree.cliques ≤ passed → CollectsOn plus start now root passed
-      → (p : Placing) → HasPlaced start p → AreRightFrom plus start p root (λ k. leads_up start.shape.tree root k ≡ true) → AreRightTowards plus now p root
+      → (p : Placing) → HasPlaced plus start p → AreRightFrom plus start p root (λ k. leads_up start.shape.tree root k ≡ true) → AreRightTowards plus now p root
   collect_on_right now passed all h p has b =
-      subst (λ (t : GivenTree). (k : ℕ) → IsClique t k → k ≢ root → IsRight plus now p k (next_on_way t k root)) (sym (tree_kept start now h.kept))
+      subst (λ (t : GivenTree). (k : ℕ) → IsClique t k → k ≢ root → IsRight plus now p k (next_on_way t k root)) (sym (tree_kept plus start now h.kept))
       (λ k at d. h.right p has b k at (either k at (up_or_down start.shape.tree tied root at_root k at d)))
     where
       either : (k : ℕ) → IsClique start.shape.tree k → ((leads_up start.shape.tree root k ≡ true) ⊎ (leads_down start.shape.tree root k ≡ true))
@@ -198,7 +198,7 @@ module _ (plus : ℕ → ℕ → ℕ) (start : FlowOf) (tied : given.AreLinked s
   distribute_back_begins fits left e = record {
     made = 0;
     counts = let f = ap (count_of (leads_down start.shape.tree root)) e in omega (arith, f);
-    so_far = record { kept = unmoved start; towards = λ p has b. b; right = λ p has b j at h. absurd (omega (arith, h.0, at.last, e)); counted = counted_none start.computed fits };
+    so_far = record { kept = unmoved plus start; towards = λ p has b. b; right = λ p has b j at h. absurd (omega (arith, h.0, at.last, e)); counted = counted_none start.computed fits };
   }
 
   module _ (now : FlowOf) (left : ℕ) (h : DistributesBack plus start now root left) (is : IsClique start.shape.tree left) where
@@ -216,7 +216,7 @@ module _ (plus : ℕ → ℕ → ℕ) (start : FlowOf) (tied : given.AreLinked s
     }
 
     module _ (holds_here : leads_down start.shape.tree root left ≡ true) (from : ℕ) (from_is : from ≡ next_on_way start.shape.tree left root) where
-      pub distribute_back_can : (p : Placing) → HasPlaced start p → AreRightTowards plus start p root → CanSend plus now from left
+      pub distribute_back_can : (p : Placing) → HasPlaced plus start p → AreRightTowards plus start p root → CanSend plus now from left
       distribute_back_can p has b =
           can_distribute plus start now (λ p. AreRightTowards plus start p root) root (after (leads_down start.shape.tree root) left) h.made h.so_far tied at_root left is (down_apart left holds_here)
           (away_down start.shape.tree tied root at_root left is holds_here) from from_is p has b
@@ -232,15 +232,15 @@ module _ (plus : ℕ → ℕ → ℕ) (start : FlowOf) (tied : given.AreLinked s
             (one_fewer (leads_down start.shape.tree root) root left is.first down_apart);
       }
 
-  pub distribute_back_right : (now : FlowOf) (left : ℕ) → left ≡ 0 → DistributesBack plus start now root left → (p : Placing) → HasPlaced start p → AreRightTowards plus start p root
+  pub distribute_back_right : (now : FlowOf) (left : ℕ) → left ≡ 0 → DistributesBack plus start now root left → (p : Placing) → HasPlaced plus start p → AreRightTowards plus start p root
       → AreRightTo plus now p root (λ k. leads_down start.shape.tree root k ≡ true)
   distribute_back_right now left e h p has b =
-      subst (λ (t : GivenTree). (k : ℕ) → IsClique t k → leads_down start.shape.tree root k ≡ true → IsRight plus now p (next_on_way t k root) k) (sym (tree_kept start now h.so_far.kept))
+      subst (λ (t : GivenTree). (k : ℕ) → IsClique t k → leads_down start.shape.tree root k ≡ true → IsRight plus now p (next_on_way t k root) k) (sym (tree_kept plus start now h.so_far.kept))
       (λ k at u. h.so_far.right p has b k at (omega (arith, e, at.first), u))
 
-  pub still_towards : (now : FlowOf) (left : ℕ) → DistributesBack plus start now root left → (p : Placing) → HasPlaced start p → AreRightTowards plus start p root → AreRightTowards plus now p root
+  pub still_towards : (now : FlowOf) (left : ℕ) → DistributesBack plus start now root left → (p : Placing) → HasPlaced plus start p → AreRightTowards plus start p root → AreRightTowards plus now p root
   still_towards now left h p has b =
-      subst (λ (t : GivenTree). (k : ℕ) → IsClique t k → k ≢ root → IsRight plus now p k (next_on_way t k root)) (sym (tree_kept start now h.so_far.kept)) (h.so_far.towards p has b)
+      subst (λ (t : GivenTree). (k : ℕ) → IsClique t k → k ≢ root → IsRight plus now p k (next_on_way t k root)) (sym (tree_kept plus start now h.so_far.kept)) (h.so_far.towards p has b)
 
   -- ---- its second
 
@@ -248,7 +248,7 @@ module _ (plus : ℕ → ℕ → ℕ) (start : FlowOf) (tied : given.AreLinked s
   Distributed p = AreRightTowards plus start p root × AreRightTo plus start p root (λ k. leads_down start.shape.tree root k ≡ true)
 
   pub distribute_on_begins : start.computed < 18446744073709551616 → DistributesOn plus start start root 0
-  distribute_on_begins fits = record { kept = unmoved start; towards = λ p has b. b.0; right = λ p has b j at h. from p b.1 j at h; counted = counted_none start.computed fits }
+  distribute_on_begins fits = record { kept = unmoved plus start; towards = λ p has b. b.0; right = λ p has b j at h. from p b.1 j at h; counted = counted_none start.computed fits }
     where
       from : (p : Placing) → AreRightTo plus start p root (λ k. leads_down start.shape.tree root k ≡ true) → (j : ℕ) → IsClique start.shape.tree j
           → up_to (leads_down start.shape.tree root) (leads_up start.shape.tree root) 0 j → IsRight plus start p (next_on_way start.shape.tree j root) j
@@ -275,7 +275,7 @@ module _ (plus : ℕ → ℕ → ℕ) (start : FlowOf) (tied : given.AreLinked s
           at (inl u) = inl u
           at (inr v) = inr (omega (arith, v.0), v.1)
 
-      pub distribute_on_can : (p : Placing) → HasPlaced start p → Distributed p → CanSend plus now from (passed + 1)
+      pub distribute_on_can : (p : Placing) → HasPlaced plus start p → Distributed p → CanSend plus now from (passed + 1)
       distribute_on_can p has b =
           can_distribute plus start now Distributed root (up_to (leads_down start.shape.tree root) (leads_up start.shape.tree root) passed) (count_of (leads_up start.shape.tree root) passed) h
           tied at_root (passed + 1) is (up_apart (passed + 1) holds_here) sender_done from from_is p has b
@@ -289,9 +289,9 @@ module _ (plus : ℕ → ℕ → ℕ) (start : FlowOf) (tied : given.AreLinked s
           (one_further (leads_down start.shape.tree root) (leads_up start.shape.tree root) root passed down_apart up_apart))
 
   pub distribute_on_right : (now : FlowOf) (passed : ℕ) → length start.shape.tree.cliques ≤ passed → DistributesOn plus start now root passed
-      → (p : Placing) → HasPlaced start p → AreRightTowards plus start p root → AreRightTo plus start p root (λ k. leads_down start.shape.tree root k ≡ true) → AreAllRight plus now p
+      → (p : Placing) → HasPlaced plus start p → AreRightTowards plus start p root → AreRightTo plus start p root (λ k. leads_down start.shape.tree root k ≡ true) → AreAllRight plus now p
   distribute_on_right now passed all h p has b b2 =
-      subst (λ (t : GivenTree). (i j : ℕ) → are_linked t i j ≡ true → IsRight plus now p i j) (sym (tree_kept start now h.kept)) (λ i j l. way i j (one_way start.shape.tree tied root at_root i j l))
+      subst (λ (t : GivenTree). (i j : ℕ) → are_linked t i j ≡ true → IsRight plus now p i j) (sym (tree_kept plus start now h.kept)) (λ i j l. way i j (one_way start.shape.tree tied root at_root i j l))
     where
       either : (k : ℕ) → IsClique start.shape.tree k → ((leads_up start.shape.tree root k ≡ true) ⊎ (leads_down start.shape.tree root k ≡ true))
           → up_to (leads_down start.shape.tree root) (leads_up start.shape.tree root) passed k
@@ -318,13 +318,13 @@ module _ (start seen : ShapeOf) (same : seen ≡ start) (root k : ℕ) where
   clique_seen is = subst (λ (s : ShapeOf). IsClique s.tree k) (sym same) is
 
 -- two passes make a message over each link
-module _ (old mid : FlowOf) (kept : KeepsTables old mid) (tied : given.AreLinked old.shape.tree) (root : ℕ) (at_root : IsClique old.shape.tree root) (computed : ℕ) where
+module _ (plus : ℕ → ℕ → ℕ) (old mid : FlowOf) (kept : KeepsTables plus old mid) (tied : given.AreLinked old.shape.tree) (root : ℕ) (at_root : IsClique old.shape.tree root) (computed : ℕ) where
   pub counted_up_down : mid.computed ≡ counted_on old.computed (count_of (leads_up old.shape.tree root) (length old.shape.tree.cliques))
       → computed ≡ counted_on mid.computed (count_of (leads_down mid.shape.tree root) (length mid.shape.tree.cliques)) → computed ≡ counted_on old.computed (separators_of old.shape.tree)
   counted_up_down e f =
       counted_both old.computed mid.computed computed (count_of (leads_up old.shape.tree root) (length old.shape.tree.cliques)) (count_of
       (leads_down old.shape.tree root) (length old.shape.tree.cliques)) e
-      (f ∙ ap (λ (t : GivenTree). counted_on mid.computed (count_of (leads_down t root) (length t.cliques))) (tree_kept old mid kept))
+      (f ∙ ap (λ (t : GivenTree). counted_on mid.computed (count_of (leads_down t root) (length t.cliques))) (tree_kept plus old mid kept))
       ∙ ap (counted_on old.computed) (one_less old.shape.tree tied root at_root)
 
   pub counted_down_up : mid.computed ≡ counted_on old.computed (count_of (leads_down old.shape.tree root) (length old.shape.tree.cliques))
@@ -335,5 +335,5 @@ module _ (old mid : FlowOf) (kept : KeepsTables old mid) (tied : given.AreLinked
       (length old.shape.tree.cliques) ≡ length old.shape.tree.cliques - 1 = omega (arith, n) in
       counted_both old.computed mid.computed computed (count_of (leads_down old.shape.tree root) (length old.shape.tree.cliques)) (count_of
       (leads_up old.shape.tree root) (length old.shape.tree.cliques)) e
-      (f ∙ ap (λ (t : GivenTree). counted_on mid.computed (count_of (leads_up t root) (length t.cliques))) (tree_kept old mid kept))
+      (f ∙ ap (λ (t : GivenTree). counted_on mid.computed (count_of (leads_up t root) (length t.cliques))) (tree_kept plus old mid kept))
       ∙ ap (counted_on old.computed) m

@@ -1,5 +1,5 @@
 -- One factor or one known pair more in a clique.
-use Rattle.std.proofs.Common.{◌≡◌, ◌≢◌, ℕ, suc, zero, ◌+◌, ◌-◌, ◌*◌, ◌<◌, ◌≤◌, Bool, true, false, cond, ◌==◌, if◌then◌else◌, ◌⊎◌, inl, inr, List, [], ◌∷◌, ◌++◌, map, length, slice_index, slice_index_or, get_or, refl, sym, ap, subst, ◌∙◌, arith, mul_assoc, mul_comm, mul-one, eq-eqb, ne_eqb}
+use Rattle.std.proofs.Common.{◌≡◌, ◌≢◌, ℕ, suc, zero, ◌+◌, ◌-◌, ◌*◌, ◌<◌, ◌≤◌, Bool, true, false, cond, not, ◌&&◌, ◌==◌, if◌then◌else◌, ◌⊎◌, inl, inr, List, [], ◌∷◌, ◌++◌, map, length, slice_index, slice_index_or, get_or, refl, sym, ap, subst, ◌∙◌, arith, mul_assoc, mul_comm, mul-one, eq-eqb, ne_eqb}
 use Rattle.std.specs.Prelude.{slice_set}
 use Rattle.std.proofs.Math.Path.{fun_ext}
 use Rattle.std.proofs.lemmas.Bool.{cases_eq, both_ways}
@@ -11,6 +11,7 @@ use Rattle.mk_net.specs.declared.words.Pair.{Pair}
 use Rattle.mk_net.specs.Network.{Variable, sizes}
 use Rattle.mk_exact.specs.States.{product_by}
 use Rattle.mk_exact.proofs.Sums.{product_by-append, product_by_push}
+use Rattle.mk_sums.specs.Sums.{over}
 use Rattle.mk_sums.specs.Joint.{Item, variables, where_has}
 use Rattle.mk_sums.specs.Trees.{sum_of, behind}
 use Rattle.mk_sums.proofs.Stale.{change_leaves}
@@ -19,10 +20,10 @@ use Rattle.mk_table.specs.Cells.{values_at}
 use Rattle.mk_table.specs.Tables.{TableOf, HasNumbers, HasRoom}
 use Rattle.mk_tree.specs.Given.{GivenTree, AreLinked, holds, link_of}
 use Rattle.mk_engine.specs.Meaning.{Factor, factor_there, max_factors}
-use Rattle.mk_propagate.specs.Shapes.{ShapeOf, IsShapeFor, IsClique, is_behind, clique_scope, core_scope, separator_scope, separator_between, clique_cells}
+use Rattle.mk_propagate.specs.Shapes.{ShapeOf, IsShapeFor, IsClique, is_behind, clique_scope, core_scope, separator_scope, separator_between, clique_cells, in_core}
 use Rattle.mk_propagate.specs.Placings.{Placing, PlacedFactor, PlacedPair, with_factor_in, with_pair_in, nothing_placed, factor_item, pair_item, placed_there, factors_in, IsPlacedFactor, IsPlacedPair, IsPlacing}
-use Rattle.mk_propagate.specs.Flows.{FlowOf, no_table, table_at, message_at, HasCells, HasPlaced, IsRight, Places, exact_message, exact_message_grade}
-use Rattle.mk_propagate.specs.inner.Kept.{IsKept}
+use Rattle.mk_propagate.specs.Flows.{FlowOf, no_table, table_at, core_at, is_summed, message_at, HasCells, HasSums, HasPlaced, IsRight, Places, core_there, core_steps, private_cells, exact_message, exact_message_grade}
+use Rattle.mk_propagate.specs.inner.Kept.{IsKept, AreOverCores}
 use Rattle.mk_propagate.specs.inner.Ones.{IsOnes, AreOnes}
 
 -- ---- what is placed in each clique
@@ -58,7 +59,7 @@ there_with_pair p clique q k s =
     ∙ ap (λ (n : ℕ). n * g item) (sym (product_by-append g fs ks))
 
 module _ (p : Placing) (clique : ℕ) where
-  factor_here : (f : Factor) (s : ℕ → ℕ) → placed_there p clique s * factor_there p.network f s ≡ placed_there (with_factor_in clique f p) clique s
+  pub factor_here : (f : Factor) (s : ℕ → ℕ) → placed_there p clique s * factor_there p.network f s ≡ placed_there (with_factor_in clique f p) clique s
   factor_here f s = sym (there_with_factor p clique f clique s ∙ ap (λ (b : Bool). placed_there p clique s * cond b (factor_there p.network f s) 1) (eq-eqb clique clique refl))
 
   factor_elsewhere : (f : Factor) (k : ℕ) → k ≢ clique → (s : ℕ → ℕ) → placed_there p k s ≡ placed_there (with_factor_in clique f p) k s
@@ -80,7 +81,7 @@ module _ (p : Placing) (clique : ℕ) where
   count_with : (f : Factor) (k : ℕ) → factors_in (with_factor_in clique f p) k ≡ factors_in p k + cond (clique == k) 1 0
   count_with f k = sum_by_push (λ (x : PlacedFactor). cond (x.clique == k) 1 0) p.factors (record { clique = clique; factor = f })
 
-  counted_here : (f : Factor) → factors_in p clique + 1 ≡ factors_in (with_factor_in clique f p) clique
+  pub counted_here : (f : Factor) → factors_in p clique + 1 ≡ factors_in (with_factor_in clique f p) clique
   counted_here f = sym (count_with f clique ∙ ap (λ (b : Bool). factors_in p clique + cond b 1 0) (eq-eqb clique clique refl))
 
   counted_elsewhere : (f : Factor) (k : ℕ) → k ≢ clique → factors_in p k ≡ factors_in (with_factor_in clique f p) k
@@ -115,10 +116,23 @@ right_kept plus old new p q a b shape message exact grade r = record {
 abbrev pub changed : Placing → List PlacedFactor → List PlacedPair → Placing
 changed p fs ks = record { network = p.network; factors = fs; known = ks }
 
--- a flow with another table for a clique
-abbrev pub with_table : FlowOf → ℕ → TableOf → ℕ → FlowOf
-with_table old clique t factors =
-    record { shape = old.shape; tables = slice_set old.tables (clique - 1) t; upward = old.upward; downward = old.downward; factors = factors; computed = old.computed }
+-- a flow with another table for a clique, and others over the cores
+abbrev pub with_table : FlowOf → ℕ → TableOf → List TableOf → List Bool → ℕ → FlowOf
+with_table old clique t cores summed factors = record {
+  shape = old.shape;
+  tables = slice_set old.tables (clique - 1) t;
+  cores = cores;
+  summed = summed;
+  upward = old.upward;
+  downward = old.downward;
+  factors = factors;
+  computed = old.computed;
+}
+
+-- those over the other cliques' cores are as they were, with their marks
+abbrev pub AreOthersKept : FlowOf → ℕ → List TableOf → List Bool → Type 0
+AreOthersKept old clique cores summed =
+    (k : ℕ) → IsClique old.shape.tree k → k ≢ clique → (slice_index_or cores (k - 1) no_table ≡ core_at old k) × (slice_index_or summed (k - 1) false ≡ is_summed old k)
 
 module _ (tree : GivenTree) (p : Placing) (fs : List PlacedFactor) (ks : List PlacedPair) (clique : ℕ)
     (same : (k : ℕ) → k ≢ clique → (s : ℕ → ℕ) → placed_there p k s ≡ placed_there (changed p fs ks) k s)
@@ -136,22 +150,23 @@ module _ (tree : GivenTree) (p : Placing) (fs : List PlacedFactor) (ks : List Pl
       (λ j. factors_in (changed p fs ks) j + clique_cells p.network tree j + 2)
       (λ j l n e. ap (λ (i : ℕ). i + clique_cells p.network tree j + 2) (counts j (λ f. both_ways (is_behind tree a b j) (ap (is_behind tree a b) f ∙ apart) e))))
 
-module _ (plus : ℕ → ℕ → ℕ) (old : FlowOf) (p : Placing) (fs : List PlacedFactor) (ks : List PlacedPair) (clique : ℕ) (t : TableOf) (count : ℕ)
-    (h : HasPlaced old p) (is : IsClique old.shape.tree clique) (within : clique - 1 < length old.tables)
+module _ (plus : ℕ → ℕ → ℕ) (old : FlowOf) (p : Placing) (fs : List PlacedFactor) (ks : List PlacedPair) (clique : ℕ) (t : TableOf) (cores : List TableOf) (summed : List Bool) (count : ℕ)
+    (h : HasPlaced plus old p) (is : IsClique old.shape.tree clique) (within : clique - 1 < length old.tables)
     (same : (k : ℕ) → k ≢ clique → (s : ℕ → ℕ) → placed_there p k s ≡ placed_there (changed p fs ks) k s)
     (counts : (k : ℕ) → k ≢ clique → factors_in p k ≡ factors_in (changed p fs ks) k)
-    (here : HasCells t (clique_scope old.shape clique) (placed_there (changed p fs ks) clique) (factors_in (changed p fs ks) clique) (factors_in (changed p fs ks) clique)) where
-  other_table : (k : ℕ) → IsClique old.shape.tree k → k ≢ clique → table_at (with_table old clique t count) k ≡ table_at old k
+    (here : HasCells t (clique_scope old.shape clique) (placed_there (changed p fs ks) clique) (factors_in (changed p fs ks) clique) (factors_in (changed p fs ks) clique))
+    (others : AreOthersKept old clique cores summed) (sums_here : slice_index_or summed (clique - 1) false ≡ true → HasSums plus old.shape (changed p fs ks) clique (slice_index_or cores (clique - 1) no_table)) where
+  other_table : (k : ℕ) → IsClique old.shape.tree k → k ≢ clique → table_at (with_table old clique t cores summed count) k ≡ table_at old k
   other_table k at d = get_or-set_other old.tables (clique - 1) (k - 1) t no_table (λ e. d (omega (arith, e, at.first, is.first)))
 
   tables_more : (k : ℕ) → IsClique old.shape.tree k
-      → HasCells (table_at (with_table old clique t count) k) (clique_scope old.shape k) (placed_there (changed p fs ks) k) (factors_in (changed p fs ks) k) (factors_in (changed p fs ks) k)
+      → HasCells (table_at (with_table old clique t cores summed count) k) (clique_scope old.shape k) (placed_there (changed p fs ks) k) (factors_in (changed p fs ks) k) (factors_in (changed p fs ks) k)
   tables_more k at = from (cases_eq k clique)
     where
-      from : ((k ≡ clique) ⊎ (k ≡ clique → ⊥)) → HasCells (table_at (with_table old clique t count) k) (clique_scope old.shape k) (placed_there
+      from : ((k ≡ clique) ⊎ (k ≡ clique → ⊥)) → HasCells (table_at (with_table old clique t cores summed count) k) (clique_scope old.shape k) (placed_there
           (changed p fs ks) k) (factors_in (changed p fs ks) k) (factors_in (changed p fs ks) k)
       from (inl e) =
-          subst (λ (j : ℕ). HasCells (table_at (with_table old clique t count) j) (clique_scope old.shape j) (placed_there (changed p fs ks) j) (factors_in
+          subst (λ (j : ℕ). HasCells (table_at (with_table old clique t cores summed count) j) (clique_scope old.shape j) (placed_there (changed p fs ks) j) (factors_in
           (changed p fs ks) j) (factors_in (changed p fs ks) j)) (sym e)
           (subst (λ (u : TableOf). HasCells u (clique_scope old.shape clique) (placed_there (changed p fs ks) clique) (factors_in (changed p fs ks) clique) (factors_in (changed p fs ks) clique))
           (sym (get_or-set_same old.tables (clique - 1) t no_table within)) here)
@@ -160,11 +175,25 @@ module _ (plus : ℕ → ℕ → ℕ) (old : FlowOf) (p : Placing) (fs : List Pl
           (subst (λ (n : ℕ). HasCells (table_at old k) (clique_scope old.shape k) (placed_there (changed p fs ks) k) n n) (counts k d)
           (subst (λ (f : (ℕ → ℕ) → ℕ). HasCells (table_at old k) (clique_scope old.shape k) f (factors_in p k) (factors_in p k)) (fun_ext (same k d)) (h.tables k at)))
 
-  pub places_more : IsPlacing old.shape.tree (changed p fs ks) → length fs ≡ count → Places plus old (with_table old clique t count) clique p (changed p fs ks)
+  sums_more : (k : ℕ) → IsClique old.shape.tree k → is_summed (with_table old clique t cores summed count) k ≡ true → HasSums plus old.shape (changed p fs ks) k (core_at (with_table old clique t cores summed count) k)
+  sums_more k at marked = from (cases_eq k clique)
+    where
+      from : ((k ≡ clique) ⊎ (k ≡ clique → ⊥)) → HasSums plus old.shape (changed p fs ks) k (slice_index_or cores (k - 1) no_table)
+      from (inl e) =
+          subst (λ (j : ℕ). slice_index_or summed (j - 1) false ≡ true → HasSums plus old.shape (changed p fs ks) j (slice_index_or cores (j - 1) no_table)) (sym e) sums_here marked
+      from (inr d) =
+          let kept = others k at d in
+          subst (λ (u : TableOf). HasSums plus old.shape (changed p fs ks) k u) (sym kept.0)
+          (subst (λ (n : ℕ). HasCells (core_at old k) (core_scope old.shape k) (core_there plus old.shape.tree (changed p fs ks) k) (n + (2 * private_cells p.network old.shape.tree k - 1)) n) (counts k d)
+          (subst (λ (f : (ℕ → ℕ) → ℕ). HasCells (core_at old k) (core_scope old.shape k)
+          (over plus (slice_index (sizes p.network)) (λ x. holds old.shape.tree k x && not (in_core old.shape.tree k x)) (variables (sizes p.network)) f) (core_steps old.shape.tree p k) (factors_in p k)) (fun_ext (same k d))
+          (h.sums k at (sym kept.1 ∙ marked))))
+
+  pub places_more : IsPlacing old.shape.tree (changed p fs ks) → length fs ≡ count → Places plus old (with_table old clique t cores summed count) clique p (changed p fs ks)
   places_more placing counted = record {
-    placed = record { shape_is = h.shape_is; placing = placing; counted = counted; tables = tables_more };
+    placed = record { shape_is = h.shape_is; placing = placing; counted = counted; tables = tables_more; sums = sums_more };
     right = λ a b linked apart r.
-        right_kept plus old (with_table old clique t count) p (changed p fs ks) a b refl refl
+        right_kept plus old (with_table old clique t cores summed count) p (changed p fs ks) a b refl refl
         (exact_kept old.shape.tree p fs ks clique same counts a b apart plus) (grade_kept old.shape.tree p fs ks clique same counts a b apart) r;
   }
 
@@ -187,17 +216,18 @@ has_room t scope p k h few = record {
   small_shift = omega (arith, few_in p k, h.small_shift);
 }
 
-module _ (plus : ℕ → ℕ → ℕ) (old : FlowOf) (p : Placing) (clique : ℕ) (read t : TableOf) (h : HasPlaced old p) (is : IsClique old.shape.tree clique) (within : clique - 1 < length old.tables)
-    (reads : table_at old clique ≡ read) (scope : t.scope ≡ read.scope) where
+module _ (plus : ℕ → ℕ → ℕ) (old : FlowOf) (p : Placing) (clique : ℕ) (read t : TableOf) (cores : List TableOf) (summed : List Bool) (h : HasPlaced plus old p) (is : IsClique old.shape.tree clique) (within : clique - 1 < length old.tables)
+    (reads : table_at old clique ≡ read) (scope : t.scope ≡ read.scope) (others : AreOthersKept old clique cores summed) where
   had : HasCells read (clique_scope old.shape clique) (placed_there p clique) (factors_in p clique) (factors_in p clique)
   had = subst (λ (u : TableOf). HasCells u (clique_scope old.shape clique) (placed_there p clique) (factors_in p clique) (factors_in p clique)) reads (h.tables clique is)
 
   -- a factor more
   pub factor_placed : (f : Factor) → IsPlacedFactor p.network old.shape.tree (record { clique = clique; factor = f }) → old.factors < max_factors → t.shift ≤ read.shift + 40
       → ((g : ℕ → ℕ) (n : ℕ) → HasNumbers read g n → HasNumbers t (λ c. g c * factor_there p.network f (values_at read.scope c)) (n + 1))
-      → Places plus old (with_table old clique t (old.factors + 1)) clique p (with_factor_in clique f p)
-  factor_placed f fits few shift numbers =
-      places_more plus old p (p.factors ++ record { clique = clique; factor = f } ∷ []) p.known clique t (old.factors + 1) h is within (factor_elsewhere p clique f) (counted_elsewhere p clique f)
+      → (slice_index_or summed (clique - 1) false ≡ true → HasSums plus old.shape (with_factor_in clique f p) clique (slice_index_or cores (clique - 1) no_table))
+      → Places plus old (with_table old clique t cores summed (old.factors + 1)) clique p (with_factor_in clique f p)
+  factor_placed f fits few shift numbers sums =
+      places_more plus old p (p.factors ++ record { clique = clique; factor = f } ∷ []) p.known clique t cores summed (old.factors + 1) h is within (factor_elsewhere p clique f) (counted_elsewhere p clique f)
       (record {
         scope_is = scope ∙ had.scope_is;
         numbers =
@@ -207,6 +237,7 @@ module _ (plus : ℕ → ℕ → ℕ) (old : FlowOf) (p : Placing) (clique : ℕ
             (numbers (λ c. placed_there p clique (values_at read.scope c)) (factors_in p clique) had.numbers)));
         small_shift = omega (arith, shift, had.small_shift, counted_here p clique f);
       })
+      others sums
       (record {
         factors_fit = All-push (IsPlacedFactor p.network old.shape.tree) p.factors (record { clique = clique; factor = f }) h.placing.factors_fit fits;
         known_fit = h.placing.known_fit;
@@ -217,9 +248,10 @@ module _ (plus : ℕ → ℕ → ℕ) (old : FlowOf) (p : Placing) (clique : ℕ
   -- a known pair more
   pub pair_placed : (q : Pair) → IsPlacedPair p.network old.shape.tree (record { clique = clique; pair = q }) → t.shift ≡ read.shift
       → ((g : ℕ → ℕ) (n : ℕ) → HasNumbers read g n → HasNumbers t (λ c. if values_at read.scope c q.variable == q.value then g c else 0) n)
-      → Places plus old (with_table old clique t old.factors) clique p (with_pair_in clique q p)
-  pair_placed q fits shift numbers =
-      places_more plus old p p.factors (p.known ++ record { clique = clique; pair = q } ∷ []) clique t old.factors h is within (pair_elsewhere p clique q) (λ k d. refl)
+      → (slice_index_or summed (clique - 1) false ≡ true → ⊥)
+      → Places plus old (with_table old clique t cores summed old.factors) clique p (with_pair_in clique q p)
+  pair_placed q fits shift numbers unmarked =
+      places_more plus old p p.factors (p.known ++ record { clique = clique; pair = q } ∷ []) clique t cores summed old.factors h is within (pair_elsewhere p clique q) (λ k d. refl)
       (record {
         scope_is = scope ∙ had.scope_is;
         numbers =
@@ -228,6 +260,7 @@ module _ (plus : ℕ → ℕ → ℕ) (old : FlowOf) (p : Placing) (clique : ℕ
             (numbers (λ c. placed_there p clique (values_at read.scope c)) (factors_in p clique) had.numbers));
         small_shift = omega (arith, shift, had.small_shift);
       })
+      others (λ marked. absurd (unmarked marked))
       (record {
         factors_fit = h.placing.factors_fit;
         known_fit = All-push (IsPlacedPair p.network old.shape.tree) p.known (record { clique = clique; pair = q }) h.placing.known_fit fits;
@@ -236,28 +269,41 @@ module _ (plus : ℕ → ℕ → ℕ) (old : FlowOf) (p : Placing) (clique : ℕ
       h.counted
 
 -- a flow stays as it is to be kept
-pub kept_with : (old : FlowOf) (cores products : List TableOf) (cells clique count : ℕ) (read t : TableOf) → IsKept old cores products cells → 1 ≤ clique → clique - 1 < length old.tables
-    → table_at old clique ≡ read → t.scope ≡ read.scope → IsKept (with_table old clique t count) cores products cells
-kept_with old cores products cells clique count read t h first within reads scope = record {
+pub kept_with : (old : FlowOf) (products : List TableOf) (cells clique count : ℕ) (read t : TableOf) (cores : List TableOf) (summed : List Bool) → IsKept old products cells → AreOverCores old cores → length summed ≡ length old.summed → AreOthersKept old clique cores summed
+    → (slice_index_or summed (clique - 1) false ≡ true → (slice_index_or cores (clique - 1) no_table).shift ≡ t.shift) → 1 ≤ clique → clique - 1 < length old.tables
+    → table_at old clique ≡ read → t.scope ≡ read.scope → IsKept (with_table old clique t cores summed count) products cells
+kept_with old products cells clique count read t cores summed h over marks others shift_here first within reads scope = record {
   linked = h.linked;
   one_each = length-set old.tables (clique - 1) t ∙ h.one_each;
   one_less_up = h.one_less_up;
   one_less_down = h.one_less_down;
   table_scopes = λ k at. from k at (cases_eq k clique);
-  cores_are = record { one_each = h.cores_are.one_each; scopes = h.cores_are.scopes };
+  cores_are = record { one_each = over.one_each; scopes = over.scopes };
+  one_mark_each = marks ∙ h.one_mark_each;
+  core_shifts = λ k at marked. shifted k at (cases_eq k clique) marked;
   products_are = record { one_each = h.products_are.one_each; scopes = h.products_are.scopes };
   upward_scopes = h.upward_scopes;
   downward_scopes = h.downward_scopes;
   cells_are = h.cells_are;
 }
   where
-    from : (k : ℕ) → IsClique old.shape.tree k → ((k ≡ clique) ⊎ (k ≡ clique → ⊥)) → (table_at (with_table old clique t count) k).scope ≡ clique_scope old.shape k
+    from : (k : ℕ) → IsClique old.shape.tree k → ((k ≡ clique) ⊎ (k ≡ clique → ⊥)) → (table_at (with_table old clique t cores summed count) k).scope ≡ clique_scope old.shape k
     from k at (inl e) =
-        ap (λ (j : ℕ). (table_at (with_table old clique t count) j).scope) e
+        ap (λ (j : ℕ). (table_at (with_table old clique t cores summed count) j).scope) e
         ∙ ap (λ (u : TableOf). u.scope) (get_or-set_same old.tables (clique - 1) t no_table within) ∙ scope ∙ ap (λ (u : TableOf). u.scope) (sym reads)
         ∙ h.table_scopes clique (subst (IsClique old.shape.tree) e at) ∙ ap (clique_scope old.shape) (sym e)
     from k at (inr d) =
         ap (λ (u : TableOf). u.scope) (get_or-set_other old.tables (clique - 1) (k - 1) t no_table (λ e. d (omega (arith, e, at.first, first)))) ∙ h.table_scopes k at
+
+    shifted : (k : ℕ) → IsClique old.shape.tree k → ((k ≡ clique) ⊎ (k ≡ clique → ⊥)) → slice_index_or summed (k - 1) false ≡ true
+        → (slice_index_or cores (k - 1) no_table).shift ≡ (table_at (with_table old clique t cores summed count) k).shift
+    shifted k at (inl e) marked =
+        subst (λ (j : ℕ). slice_index_or summed (j - 1) false ≡ true → (slice_index_or cores (j - 1) no_table).shift ≡ (table_at (with_table old clique t cores summed count) j).shift) (sym e)
+        (λ here. shift_here here ∙ ap (λ (u : TableOf). u.shift) (sym (get_or-set_same old.tables (clique - 1) t no_table within))) marked
+    shifted k at (inr d) marked =
+        let kept = others k at d in
+        ap (λ (u : TableOf). u.shift) kept.0 ∙ h.core_shifts k at (sym kept.1 ∙ marked)
+        ∙ ap (λ (u : TableOf). u.shift) (sym (get_or-set_other old.tables (clique - 1) (k - 1) t no_table (λ e. d (omega (arith, e, at.first, first)))))
 
 -- ---- a start
 
@@ -286,18 +332,20 @@ one_of scope first count ts h k p q =
     subst (λ (n : ℕ). IsOnes (scope n) (slice_index_or ts (k - first) no_table)) e (h.each (k - first) (omega arith))
 
 -- tables of ones over the scopes of a shape are those of a flow that is kept
-pub starts_kept : (flow : FlowOf) (shape : ShapeOf) (cores products : List TableOf) (cells : ℕ) → flow.shape ≡ shape → AreLinked shape.tree
-    → AreOnes (clique_scope shape) 1 (length shape.tree.cliques) flow.tables → AreOnes (core_scope shape) 1 (length shape.tree.cliques) cores → AreOnes (core_scope shape) 1 (length shape.tree.cliques) products
+pub starts_kept : (flow : FlowOf) (shape : ShapeOf) (products : List TableOf) (cells : ℕ) → flow.shape ≡ shape → AreLinked shape.tree → ((k : ℕ) → IsClique shape.tree k → is_summed flow k ≡ false)
+    → AreOnes (clique_scope shape) 1 (length shape.tree.cliques) flow.tables → AreOnes (core_scope shape) 1 (length shape.tree.cliques) flow.cores → length flow.summed ≡ length shape.tree.cliques → AreOnes (core_scope shape) 1 (length shape.tree.cliques) products
     → AreOnes (separator_scope shape) 2 (length shape.tree.cliques - 1) flow.upward → AreOnes (separator_scope shape) 2 (length shape.tree.cliques - 1) flow.downward
-    → cells ≡ sum_of (λ k. true) (length shape.tree.cliques) (λ k. cells_in (clique_scope shape k)) → IsKept flow cores products cells
-starts_kept flow shape cores products cells same linked tables core_tables product_tables upward downward count =
-    subst (λ (s : ShapeOf). IsKept (record { shape = s; tables = flow.tables; upward = flow.upward; downward = flow.downward; factors = flow.factors; computed = flow.computed }) cores products cells) (sym same) (record {
+    → cells ≡ sum_of (λ k. true) (length shape.tree.cliques) (λ k. cells_in (clique_scope shape k)) → IsKept flow products cells
+starts_kept flow shape products cells same linked unmarked tables core_tables marks product_tables upward downward count =
+    subst (λ (s : ShapeOf). IsKept (record { shape = s; tables = flow.tables; cores = flow.cores; summed = flow.summed; upward = flow.upward; downward = flow.downward; factors = flow.factors; computed = flow.computed }) products cells) (sym same) (record {
       linked = linked;
       one_each = tables.long;
       one_less_up = omega (arith, upward.long, linked.some);
       one_less_down = omega (arith, downward.long, linked.some);
       table_scopes = λ k at. (one_of (clique_scope shape) 1 (length shape.tree.cliques) flow.tables tables k at.first (omega (arith, at.last))).scope_is;
-      cores_are = record { one_each = core_tables.long; scopes = λ k at. (one_of (core_scope shape) 1 (length shape.tree.cliques) cores core_tables k at.first (omega (arith, at.last))).scope_is };
+      cores_are = record { one_each = core_tables.long; scopes = λ k at. (one_of (core_scope shape) 1 (length shape.tree.cliques) flow.cores core_tables k at.first (omega (arith, at.last))).scope_is };
+      one_mark_each = marks;
+      core_shifts = λ k at marked. absurd (both_ways (is_summed flow k) (unmarked k at) marked);
       products_are = record { one_each = product_tables.long; scopes = λ k at. (one_of (core_scope shape) 1 (length shape.tree.cliques) products product_tables k at.first (omega (arith, at.last))).scope_is };
       upward_scopes = λ k at more. (one_of (separator_scope shape) 2 (length shape.tree.cliques - 1) flow.upward upward k (omega (arith, more)) (omega (arith, at.last, linked.some))).scope_is;
       downward_scopes = λ k at more. (one_of (separator_scope shape) 2 (length shape.tree.cliques - 1) flow.downward downward k (omega (arith, more)) (omega (arith, at.last, linked.some))).scope_is;
@@ -305,13 +353,14 @@ starts_kept flow shape cores products cells same linked tables core_tables produ
     })
 
 -- a flow of ones has nothing placed
-pub starts : (flow : FlowOf) → AreOnes (clique_scope flow.shape) 1 (length flow.shape.tree.cliques) flow.tables → flow.factors ≡ 0
-    → (network : List Variable) → IsShapeFor flow.shape network → HasPlaced flow (nothing_placed network)
-starts flow ones none network shape = record {
+pub starts : (plus : ℕ → ℕ → ℕ) (flow : FlowOf) → AreOnes (clique_scope flow.shape) 1 (length flow.shape.tree.cliques) flow.tables → ((k : ℕ) → IsClique flow.shape.tree k → is_summed flow k ≡ false) → flow.factors ≡ 0
+    → (network : List Variable) → IsShapeFor flow.shape network → HasPlaced plus flow (nothing_placed network)
+starts plus flow ones unmarked none network shape = record {
   shape_is = shape;
   placing = record { factors_fit = All-nil (IsPlacedFactor network flow.shape.tree); known_fit = All-nil (IsPlacedPair network flow.shape.tree); few = omega arith };
   counted = sym none;
   tables = λ k at.
       let o = one_of (clique_scope flow.shape) 1 (length flow.shape.tree.cliques) flow.tables ones k at.first (omega (arith, at.last)) in
       record { scope_is = o.scope_is; numbers = o.ones; small_shift = omega (arith, o.no_shift) };
+  sums = λ k at marked. absurd (both_ways (is_summed flow k) (unmarked k at) marked);
 }

@@ -6,15 +6,13 @@ use Rattle.std.proofs.lemmas.Bool.{and_from, and_parts}
 use Rattle.mk_exact.specs.Lawful.{Lawful}
 use Rattle.mk_sums.specs.Trees.{linked, linked_to}
 use Rattle.mk_table.specs.Scopes.{ScopeOf, PlacesOf, cells_in}
-use Rattle.mk_table.specs.Cells.{cell_in, cells_beside}
+use Rattle.mk_table.specs.Cells.{cell_in}
 use Rattle.mk_table.specs.Tables.{TableOf, HasNumbers, HasRoom}
-use Rattle.mk_table.specs.Margins.{IsMarginOf}
-use Rattle.mk_table.proofs.Margins.{margin_has}
 use Rattle.mk_tree.specs.Given.{link_of}
-use Rattle.mk_propagate.specs.Shapes.{ShapeOf, IsShapeFor, IsClique, clique_scope, core_scope, separator_scope, separator_between, neighbours}
-use Rattle.mk_propagate.specs.Placings.{Placing, IsPlacing, placed_there, factors_in}
-use Rattle.mk_propagate.specs.Flows.{HasCells}
-use Rattle.mk_propagate.specs.inner.Gathered.{is_taken, message_in, IsRightIn, CanTake, core_there, core_steps, HasCore, HasGathered, HasInto, IsGathering}
+use Rattle.mk_propagate.specs.Shapes.{ShapeOf, IsClique, core_scope, separator_scope, separator_between, neighbours}
+use Rattle.mk_propagate.specs.Placings.{Placing}
+use Rattle.mk_propagate.specs.Flows.{HasSums}
+use Rattle.mk_propagate.specs.inner.Gathered.{is_taken, message_in, IsRightIn, CanTake, HasGathered, HasInto, IsGathering, IsMargin, IsPlacedIn}
 use Rattle.mk_propagate.proofs.Messages.{core_sums, none_gathered, whole_room, put_back, back_room}
 
 -- the shape has its places in what is gathered so far
@@ -25,30 +23,10 @@ places_there plus shape k i p old message scope right places e =
     e ∙ ap (λ (s : ScopeOf). record { whole = s; part = separator_between shape k i }) (sym scope)
     ∙ ap (λ (s : ScopeOf). record { whole = old.scope; part = s }) (ap (separator_scope shape) m ∙ sym right.scope_is)
 
--- the margin of a clique's table onto its core
-pub core_of_margin : (plus : ℕ → ℕ → ℕ) (shape : ShapeOf) (k : ℕ) (table before after : TableOf) → before.scope ≡ core_scope shape k → table.scope ≡ clique_scope shape k → after.scope ≡ before.scope → IsMarginOf plus table after
-    → HasCore plus shape k table after
-core_of_margin plus shape k table before after e w same m = record { over_clique = w; over_core = same ∙ e; margin = m }
-
 module _ (plus : ℕ → ℕ → ℕ) (law : Lawful plus) (shape : ShapeOf) (k : ℕ) (clique : IsClique shape.tree k) where
-  module _ (table core : TableOf) (h : HasCore plus shape k table core) where
-    -- the clique's cells are shared out among the core's
-    pub core_split : cells_in (core_scope shape k) * cells_beside (core_scope shape k) (clique_scope shape k) ≡ cells_in (clique_scope shape k)
-    core_split =
-        subst (λ (s : ScopeOf). cells_in s * cells_beside s (clique_scope shape k) ≡ cells_in (clique_scope shape k)) h.over_core
-        (subst (λ (s : ScopeOf). cells_in core.scope * cells_beside core.scope s ≡ cells_in s) h.over_clique h.margin.beside)
-
-    -- where the clique's table has what is placed there, its core has the sums
-    pub core_summed : (p : Placing) → IsShapeFor shape p.network → IsPlacing shape.tree p → HasCells table (clique_scope shape k) (placed_there p k) (factors_in p k) (factors_in p k)
-        → HasCells core (core_scope shape k) (core_there plus shape.tree p k) (core_steps shape.tree p k) (factors_in p k)
-    core_summed p is placing cells =
-        core_sums shape p is placing plus law k clique table core core cells h.over_core (record {
-          scope = refl;
-          shift = h.margin.same_shift;
-          full = h.margin.full;
-          beside = h.margin.beside;
-          numbers = margin_has plus law table core h.margin;
-        })
+  -- where the clique's table has what is placed there, its margin onto the core has the sums
+  pub sums_of : (table before after : TableOf) → before.scope ≡ core_scope shape k → IsMargin plus table before after → (p : Placing) → IsPlacedIn shape p k table → HasSums plus shape p k after
+  sums_of table before after e m p h = core_sums shape p h.shape_is h.placing plus law k clique table before after h.cells e m
 
   module _ (upward downward : List TableOf) where
     -- after the last neighbour, once a message was taken

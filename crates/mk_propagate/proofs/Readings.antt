@@ -55,7 +55,7 @@ module _ (set : ℕ → Bool) (a b : ℕ → ℕ) (same : (x : ℕ) → set x �
       ap (λ r. slice_index (slice_index_or (variable_at network x).rows r []) (a x)) (row_reads (sizes network) (variable_at network x).parents 0 k)
       ∙ ap (λ v. slice_index (slice_index_or (variable_at network x).rows (row_there (sizes network) (variable_at network x).parents b) []) v) (same x h)
 
-  ratio_reads : (r : TradeRatio) → list_all (λ (p : Pair). set p.variable) (ratio_pairs r) ≡ true → ratio_there r a ≡ ratio_there r b
+  pub ratio_reads : (r : TradeRatio) → list_all (λ (p : Pair). set p.variable) (ratio_pairs r) ≡ true → ratio_there r a ≡ ratio_there r b
   ratio_reads r h =
       let q = and_parts (list_all (λ (p : Pair). set p.variable) r.condition) (set r.variable && true) (sym (list_all-append (λ (p : Pair). set p.variable) r.condition (record { variable = r.variable; value = 0 } ∷ [])) ∙ h) in
       let v = and_parts (set r.variable) true q.1 in

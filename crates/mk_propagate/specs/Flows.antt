@@ -1,23 +1,26 @@
 -- Flows: a table for each clique, and a message each way between linked cliques.
-use Rattle.std.specs.Prelude.{◌≡◌, ◌≢◌, ℕ, ◌+◌, ◌-◌, ◌*◌, ◌<◌, ◌≤◌, List, [], length, true, false, min, None, nat_lt, if◌then◌else◌, slice_index, slice_index_or}
+use Rattle.std.specs.Prelude.{◌≡◌, ◌≢◌, ℕ, ◌+◌, ◌-◌, ◌*◌, ◌<◌, ◌≤◌, ◌&&◌, not, Bool, List, [], length, true, false, min, None, nat_lt, if◌then◌else◌, slice_index, slice_index_or}
 use Rattle.mk_net.specs.declared.words.Pair.{Pair}
 use Rattle.mk_net.specs.Bounds.{number_limit}
-use Rattle.mk_net.specs.Network.{sizes}
+use Rattle.mk_net.specs.Network.{Variable, sizes}
+use Rattle.mk_sums.specs.Sums.{over}
 use Rattle.mk_sums.specs.Joint.{variables}
 use Rattle.mk_sums.specs.Trees.{linked_to, linked_but, right_message, message_grade, sum_of}
 use Rattle.mk_table.specs.Scopes.{ScopeOf}
-use Rattle.mk_table.specs.Cells.{values_at}
+use Rattle.mk_table.specs.Cells.{values_at, cells_beside}
 use Rattle.mk_table.specs.Tables.{TableOf, HasNumbers}
 use Rattle.mk_tree.specs.Given.{GivenTree, clique_at, holds, link_of, holds_event}
 use Rattle.mk_engine.specs.Meaning.{exact_belief, whole_sum, max_factors}
-use Rattle.mk_propagate.specs.Shapes.{ShapeOf, IsShapeFor, IsClique, are_linked, is_behind, next_on_way, clique_scope, separator_between, clique_cells, no_scope}
+use Rattle.mk_propagate.specs.Shapes.{ShapeOf, IsShapeFor, IsClique, are_linked, is_behind, next_on_way, clique_scope, core_scope, separator_between, clique_cells, no_scope, scope_within, in_core}
 use Rattle.mk_propagate.specs.Placings.{Placing, IsPlacing, placed_there, factors_in, meaning_of}
 
--- Upward are the messages of the cliques from 2 on to their links, and downward those of the links to them. `factors` counts the
--- factors that are placed, and `computed` the messages that were made.
+-- Beside the table of each clique lies one over its core, and whether that was summed. Upward are the messages of the cliques from 2 on to
+-- their links, and downward those of the links to them. `factors` counts the factors that are placed, and `computed` the messages that were made.
 pub record FlowOf : Type 0 where
   pub shape : ShapeOf
   pub tables : List TableOf
+  pub cores : List TableOf
+  pub summed : List Bool
   pub upward : List TableOf
   pub downward : List TableOf
   pub factors : ℕ
@@ -28,6 +31,12 @@ no_table = record { scope = no_scope; shift = 0; digits = []; exponents = []; to
 
 abbrev pub table_at : FlowOf → ℕ → TableOf
 table_at flow k = slice_index_or flow.tables (k - 1) no_table
+
+abbrev pub core_at : FlowOf → ℕ → TableOf
+core_at flow k = slice_index_or flow.cores (k - 1) no_table
+
+abbrev pub is_summed : FlowOf → ℕ → Bool
+is_summed flow k = slice_index_or flow.summed (k - 1) false
 
 -- the message from a clique to one that is linked to it
 abbrev pub message_at : FlowOf → ℕ → ℕ → TableOf
@@ -40,13 +49,31 @@ pub record HasCells (t : TableOf) (scope : ScopeOf) (f : (ℕ → ℕ) → ℕ) 
   pub numbers : HasNumbers t (λ c. f (values_at t.scope c)) steps
   pub small_shift : t.shift ≤ 40 * factors
 
--- the flow has this placed: the table of each clique has the product of what is placed there, in a step for each factor
-pub record HasPlaced (flow : FlowOf) (p : Placing) : Type 0 where
+-- what is placed in clique k: the plus over the variables that lie outside its core
+abbrev pub core_there : (ℕ → ℕ → ℕ) → GivenTree → Placing → ℕ → (ℕ → ℕ) → ℕ
+core_there plus tree p k = over plus (slice_index (sizes p.network)) (λ x. holds tree k x && not (in_core tree k x)) (variables (sizes p.network)) (placed_there p k)
+
+-- how many cells of the clique have the values of one cell of its core
+abbrev pub private_cells : List Variable → GivenTree → ℕ → ℕ
+private_cells network tree k = cells_beside (scope_within network (in_core tree k)) (scope_within network (holds tree k))
+
+-- the steps that this costs
+abbrev pub core_steps : GivenTree → Placing → ℕ → ℕ
+core_steps tree p k = factors_in p k + (2 * private_cells p.network tree k - 1)
+
+-- a table over the core of clique k has what is placed in the clique, summed there
+abbrev pub HasSums : (ℕ → ℕ → ℕ) → ShapeOf → Placing → ℕ → TableOf → Type 0
+HasSums plus shape p k t = HasCells t (core_scope shape k) (core_there plus shape.tree p k) (core_steps shape.tree p k) (factors_in p k)
+
+-- The flow has this placed: the table of each clique has the product of what is placed there, in a step for each factor, and so has
+-- each core that was summed.
+pub record HasPlaced (plus : ℕ → ℕ → ℕ) (flow : FlowOf) (p : Placing) : Type 0 where
   pub shape_is : IsShapeFor flow.shape p.network
   pub placing : IsPlacing flow.shape.tree p
   pub counted : length p.factors ≡ flow.factors
   pub tables : (k : ℕ) → IsClique flow.shape.tree k
       → HasCells (table_at flow k) (clique_scope flow.shape k) (placed_there p k) (factors_in p k) (factors_in p k)
+  pub sums : (k : ℕ) → IsClique flow.shape.tree k → is_summed flow k ≡ true → HasSums plus flow.shape p k (core_at flow k)
 
 -- the exact message from a to b
 abbrev pub exact_message : (ℕ → ℕ → ℕ) → GivenTree → Placing → ℕ → ℕ → (ℕ → ℕ) → ℕ
@@ -73,7 +100,7 @@ AreRightInto plus flow p a = (i : ℕ) → linked_to (link_of flow.shape.tree) (
 
 -- one thing more is placed in a clique; each message that leads towards this clique stays right
 pub record Places (plus : ℕ → ℕ → ℕ) (old new : FlowOf) (clique : ℕ) (before after : Placing) : Type 0 where
-  pub placed : HasPlaced new after
+  pub placed : HasPlaced plus new after
   pub right : (a b : ℕ) → are_linked old.shape.tree a b ≡ true → is_behind old.shape.tree a b clique ≡ false
       → IsRight plus old before a b → IsRight plus new after a b
 
@@ -84,11 +111,12 @@ pub record KeepsMessages (old new : FlowOf) : Type 0 where
   pub same_downward : new.downward ≡ old.downward
   pub same_count : new.computed ≡ old.computed
 
--- the shape, the tables and the number of factors are as they were
-pub record KeepsTables (old new : FlowOf) : Type 0 where
+-- the shape, the cliques' tables and the number of factors are as they were, and what was placed still is
+pub record KeepsTables (plus : ℕ → ℕ → ℕ) (old new : FlowOf) : Type 0 where
   pub same_shape : new.shape ≡ old.shape
   pub same_tables : new.tables ≡ old.tables
   pub same_factors : new.factors ≡ old.factors
+  pub placed : (p : Placing) → HasPlaced plus old p → HasPlaced plus new p
 
 -- the cells of all cliques
 abbrev pub all_cells : GivenTree → Placing → ℕ
@@ -108,29 +136,29 @@ pub record IsReading {V : Type 0} (encloses : V → ℕ → Type 0) (has_grade :
 -- ---- what calls ask
 
 -- a factor more may be placed
-pub record CanPlace (flow : FlowOf) (p : Placing) : Type 0 where
-  pub has : HasPlaced flow p
+pub record CanPlace (plus : ℕ → ℕ → ℕ) (flow : FlowOf) (p : Placing) : Type 0 where
+  pub has : HasPlaced plus flow p
   pub room : length p.factors < max_factors
 
 -- a message can be made
 pub record CanSend (plus : ℕ → ℕ → ℕ) (flow : FlowOf) (a b : ℕ) : Type 0 where
   pub placing : Placing
-  pub has : HasPlaced flow placing
+  pub has : HasPlaced plus flow placing
   pub linked_too : are_linked flow.shape.tree a b ≡ true
   pub right : AreRightBut plus flow placing a b
 
 -- a belief can be read in a clique
 pub record CanRead (plus : ℕ → ℕ → ℕ) (flow : FlowOf) (k : ℕ) (event : List Pair) : Type 0 where
   pub placing : Placing
-  pub has : HasPlaced flow placing
+  pub has : HasPlaced plus flow placing
   pub clique_is : IsClique flow.shape.tree k
   pub holds_it : holds_event event (clique_at flow.shape.tree k) ≡ true
   pub right : AreRightInto plus flow placing k
 
 -- a message towards a clique, or away from it, can be made only where something is placed
-pub record CanCollect (flow : FlowOf) (root : ℕ) : Type 0 where
+pub record CanCollect (plus : ℕ → ℕ → ℕ) (flow : FlowOf) (root : ℕ) : Type 0 where
   pub placing : Placing
-  pub has : HasPlaced flow placing
+  pub has : HasPlaced plus flow placing
   pub clique_is : IsClique flow.shape.tree root
 
 -- each message that leads towards a clique is right
@@ -144,7 +172,7 @@ AreAllRight plus flow p = (a b : ℕ) → are_linked flow.shape.tree a b ≡ tru
 
 pub record CanDistribute (plus : ℕ → ℕ → ℕ) (flow : FlowOf) (root : ℕ) : Type 0 where
   pub placing : Placing
-  pub has : HasPlaced flow placing
+  pub has : HasPlaced plus flow placing
   pub clique_is : IsClique flow.shape.tree root
   pub right : AreRightTowards plus flow placing root
 

@@ -1,7 +1,7 @@
 //! The order in which messages are made.
 
-ghost use Rattle.std.specs.Prelude.{◌≡◌, ◌≢◌, ℕ, length, true};
-ghost use Rattle.mk_propagate.specs.Shapes.{IsClique, next_on_way, are_linked};
+ghost use Rattle.std.specs.Prelude.{◌≡◌, ◌≢◌, length, true};
+ghost use Rattle.mk_propagate.specs.Shapes.{IsClique};
 ghost use Rattle.mk_propagate.specs.Placings.{Placing};
 ghost use Rattle.mk_propagate.specs.Flows.{HasPlaced, CanCollect, CanDistribute, AreRightTowards, AreAllRight, KeepsTables, separators_of, counted_on};
 ghost use Rattle.mk_propagate.specs.inner.Passes.{leads_up, leads_down, count_of, AreRightFrom, AreRightTo, CanCollectDown, CanDistributeDown};
@@ -13,9 +13,9 @@ use mk_semiring::Semiring;
 impl<R: Semiring> Flow<R> {
     /// Makes each message that leads towards a clique.
     pub fn collect(&mut self, root: u32)
-        requires { CanCollect self.old root }
-        ensures right { (p : Placing) → HasPlaced self.old p → AreRightTowards R.plus_of self.new p root }
-        ensures kept { KeepsTables self.old self.new }
+        requires { CanCollect R.plus_of self.old root }
+        ensures right { (p : Placing) → HasPlaced R.plus_of self.old p → AreRightTowards R.plus_of self.new p root }
+        ensures kept { KeepsTables R.plus_of self.old self.new }
         ensures counted { self.new.computed ≡ counted_on self.old.computed (separators_of self.old.shape.tree) }
     {
         self.collect_up(root);
@@ -25,8 +25,8 @@ impl<R: Semiring> Flow<R> {
     /// Makes each message that leads away from a clique; those towards it are right.
     pub fn distribute(&mut self, root: u32)
         requires { CanDistribute R.plus_of self.old root }
-        ensures right { (p : Placing) → HasPlaced self.old p → AreRightTowards R.plus_of self.old p root → AreAllRight R.plus_of self.new p }
-        ensures kept { KeepsTables self.old self.new }
+        ensures right { (p : Placing) → HasPlaced R.plus_of self.old p → AreRightTowards R.plus_of self.old p root → AreAllRight R.plus_of self.new p }
+        ensures kept { KeepsTables R.plus_of self.old self.new }
         ensures counted { self.new.computed ≡ counted_on self.old.computed (separators_of self.old.shape.tree) }
     {
         self.distribute_up(root);
@@ -35,9 +35,9 @@ impl<R: Semiring> Flow<R> {
 
     /// Makes the messages from cliques to their links that lead towards a clique, from the last clique to the first.
     fn collect_up(&mut self, root: u32)
-        requires { CanCollect self.old root }
-        ensures right { (p : Placing) → HasPlaced self.old p → AreRightFrom R.plus_of self.new p root (λ k. leads_up self.old.shape.tree root k ≡ true) }
-        ensures kept { KeepsTables self.old self.new }
+        requires { CanCollect R.plus_of self.old root }
+        ensures right { (p : Placing) → HasPlaced R.plus_of self.old p → AreRightFrom R.plus_of self.new p root (λ k. leads_up self.old.shape.tree root k ≡ true) }
+        ensures kept { KeepsTables R.plus_of self.old self.new }
         ensures counted { self.new.computed ≡ counted_on self.old.computed (count_of (leads_up self.old.shape.tree root) (length self.old.shape.tree.cliques)) }
     {
         let _ = self.computed();
@@ -55,9 +55,9 @@ impl<R: Semiring> Flow<R> {
     /// are right.
     fn collect_down(&mut self, root: u32)
         requires { CanCollectDown R.plus_of self.old root }
-        ensures right { (p : Placing) → HasPlaced self.old p → AreRightFrom R.plus_of self.old p root (λ k. leads_up self.old.shape.tree root k ≡ true)
+        ensures right { (p : Placing) → HasPlaced R.plus_of self.old p → AreRightFrom R.plus_of self.old p root (λ k. leads_up self.old.shape.tree root k ≡ true)
             → AreRightTowards R.plus_of self.new p root }
-        ensures kept { KeepsTables self.old self.new }
+        ensures kept { KeepsTables R.plus_of self.old self.new }
         ensures counted { self.new.computed ≡ counted_on self.old.computed (count_of (leads_down self.old.shape.tree root) (length self.old.shape.tree.cliques)) }
     {
         let _ = self.computed();
@@ -74,10 +74,10 @@ impl<R: Semiring> Flow<R> {
     /// Makes the messages from cliques to their links that lead away from a clique, to the last clique first; those towards it are right.
     fn distribute_up(&mut self, root: u32)
         requires { CanDistribute R.plus_of self.old root }
-        ensures right { (p : Placing) → HasPlaced self.old p → AreRightTowards R.plus_of self.old p root
+        ensures right { (p : Placing) → HasPlaced R.plus_of self.old p → AreRightTowards R.plus_of self.old p root
             → AreRightTo R.plus_of self.new p root (λ k. leads_down self.old.shape.tree root k ≡ true) }
-        ensures towards { (p : Placing) → HasPlaced self.old p → AreRightTowards R.plus_of self.old p root → AreRightTowards R.plus_of self.new p root }
-        ensures kept { KeepsTables self.old self.new }
+        ensures towards { (p : Placing) → HasPlaced R.plus_of self.old p → AreRightTowards R.plus_of self.old p root → AreRightTowards R.plus_of self.new p root }
+        ensures kept { KeepsTables R.plus_of self.old self.new }
         ensures counted { self.new.computed ≡ counted_on self.old.computed (count_of (leads_down self.old.shape.tree root) (length self.old.shape.tree.cliques)) }
     {
         let _ = self.computed();
@@ -94,9 +94,9 @@ impl<R: Semiring> Flow<R> {
     /// Makes the messages from links to their cliques that lead away from a clique, to the first clique first; the others are right.
     fn distribute_down(&mut self, root: u32)
         requires { CanDistributeDown R.plus_of self.old root }
-        ensures right { (p : Placing) → HasPlaced self.old p → AreRightTowards R.plus_of self.old p root
+        ensures right { (p : Placing) → HasPlaced R.plus_of self.old p → AreRightTowards R.plus_of self.old p root
             → AreRightTo R.plus_of self.old p root (λ k. leads_down self.old.shape.tree root k ≡ true) → AreAllRight R.plus_of self.new p }
-        ensures kept { KeepsTables self.old self.new }
+        ensures kept { KeepsTables R.plus_of self.old self.new }
         ensures counted { self.new.computed ≡ counted_on self.old.computed (count_of (leads_up self.old.shape.tree root) (length self.old.shape.tree.cliques)) }
     {
         let _ = self.computed();

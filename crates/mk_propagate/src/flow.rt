@@ -1,20 +1,19 @@
 //! What is placed in a flow.
 
-ghost use Rattle.std.specs.Prelude.{◌≡◌, ℕ, ◌+◌, ◌-◌, ◌<◌, ◌≤◌, List, map, length, true, IfOk};
+ghost use Rattle.std.specs.Prelude.{◌≡◌, ◌+◌, ◌-◌, ◌<◌, List, length, true, IfOk};
 ghost use Rattle.mk_net.specs.Trades.{trade_ratio};
 ghost use Rattle.mk_net.specs.Network.{Variable};
 ghost use Rattle.mk_sums.specs.Trees.{sum_of};
 ghost use Rattle.mk_table.specs.Scopes.{cells_in};
-ghost use Rattle.mk_tree.specs.Given.{AreLinked};
 ghost use Rattle.mk_engine.specs.Meaning.{RowsOf, RatioOf};
-ghost use Rattle.mk_propagate.specs.Shapes.{IsShapeFor, IsClique, clique_scope, core_scope, separator_scope};
+ghost use Rattle.mk_propagate.specs.Shapes.{IsShapeFor, clique_scope, core_scope, separator_scope};
 ghost use Rattle.mk_propagate.specs.Placings.{Placing, nothing_placed, with_factor_in, with_pair_in, IsPlacedFactor, IsPlacedPair};
 ghost use Rattle.mk_propagate.specs.Flows.{HasPlaced, CanPlace, Places, KeepsMessages};
 ghost use Rattle.mk_propagate.specs.inner.Ones.{AreOnes};
 
 use crate::gathered::Gathered;
-use crate::message::sum_again;
 use crate::shape::Shape;
+use crate::sums::follow;
 use mk_net::{Network, NoMemory, Pair, Ratio};
 use mk_semiring::Semiring;
 use mk_table::{CellList, Table};
@@ -54,6 +53,8 @@ impl<R: Semiring> Model for Flow<R> {
     ghost view = { λ f. record {
       shape = f.shape.value;
       tables = f.tables.items;
+      cores = f.cores.items;
+      summed = f.summed.items;
       upward = f.upward.items;
       downward = f.downward.items;
       factors = f.factors;
@@ -63,11 +64,13 @@ impl<R: Semiring> Model for Flow<R> {
     ghost invariant = { λ f. IsFlow R.plus_of (record {
       shape = f.shape.value;
       tables = f.tables.items;
+      cores = f.cores.items;
+      summed = f.summed.items;
       upward = f.upward.items;
       downward = f.downward.items;
       factors = f.factors;
       computed = f.computed;
-    }) f.cores.items f.products.items f.summed.items f.gathered.items f.cells };
+    }) f.products.items f.gathered.items f.cells };
 }
 
 impl<R: Semiring> Flow<R> {
@@ -75,7 +78,7 @@ impl<R: Semiring> Flow<R> {
     pub fn start(alloc: Global, shape: &Rc<Shape>) -> Result<Flow<R>, NoMemory>
         ensures shape { IfOk result (λ flow. flow.shape ≡ shape.now.value) }
         ensures computed { IfOk result (λ flow. flow.computed ≡ 0) }
-        ensures placed { IfOk result (λ flow. (network : List Variable) → IsShapeFor shape.now.value network → HasPlaced flow (nothing_placed network)) }
+        ensures placed { IfOk result (λ flow. (network : List Variable) → IsShapeFor shape.now.value network → HasPlaced R.plus_of flow (nothing_placed network)) }
     {
         let of: &Shape = shape;
         let _ = of.cliques();
@@ -116,9 +119,9 @@ impl<R: Semiring> Flow<R> {
 
     /// Places the rows of a variable in a clique that holds it and its parents.
     pub fn times_rows(&mut self, clique: u32, net: &Network, variable: u32)
-        requires { (p : Placing) × CanPlace self.old p × (p.network ≡ net.now)
+        requires { (p : Placing) × CanPlace R.plus_of self.old p × (p.network ≡ net.now)
             × IsPlacedFactor net.now self.old.shape.tree (record { clique = clique; factor = RowsOf variable }) }
-        ensures places { (p : Placing) → HasPlaced self.old p → p.network ≡ net.now
+        ensures places { (p : Placing) → HasPlaced R.plus_of self.old p → p.network ≡ net.now
             → Places R.plus_of self.old self.new clique p (with_factor_in clique (RowsOf variable) p) }
         ensures kept { KeepsMessages self.old self.new }
     {
@@ -130,21 +133,21 @@ impl<R: Semiring> Flow<R> {
 
     /// Places the ratio of a trade in a clique that holds its variables.
     pub fn times_ratio(&mut self, clique: u32, ratio: &Ratio)
-        requires { (p : Placing) × CanPlace self.old p
+        requires { (p : Placing) × CanPlace R.plus_of self.old p
             × IsPlacedFactor p.network self.old.shape.tree (record { clique = clique; factor = RatioOf (trade_ratio ratio.now) }) }
-        ensures places { (p : Placing) → HasPlaced self.old p
+        ensures places { (p : Placing) → HasPlaced R.plus_of self.old p
             → Places R.plus_of self.old self.new clique p (with_factor_in clique (RatioOf (trade_ratio ratio.now)) p) }
         ensures kept { KeepsMessages self.old self.new }
     {
         let place = clique as usize - 1;
         self.tables[place].times_ratio(ratio, &mut self.chosen);
-        sum_again(
+        follow(
             &mut self.cores[place],
             &mut self.summed[place],
             &self.tables[place],
             &self.shape,
             clique,
-            &ratio.condition,
+            ratio,
             &mut self.chosen,
         );
         self.factors += 1;
@@ -152,8 +155,8 @@ impl<R: Semiring> Flow<R> {
 
     /// Places a known pair in a clique that holds its variable.
     pub fn restrict(&mut self, clique: u32, pair: Pair)
-        requires { (p : Placing) × HasPlaced self.old p × IsPlacedPair p.network self.old.shape.tree (record { clique = clique; pair = pair }) }
-        ensures places { (p : Placing) → HasPlaced self.old p → Places R.plus_of self.old self.new clique p (with_pair_in clique pair p) }
+        requires { (p : Placing) × HasPlaced R.plus_of self.old p × IsPlacedPair p.network self.old.shape.tree (record { clique = clique; pair = pair }) }
+        ensures places { (p : Placing) → HasPlaced R.plus_of self.old p → Places R.plus_of self.old self.new clique p (with_pair_in clique pair p) }
         ensures kept { KeepsMessages self.old self.new }
     {
         let place = clique as usize - 1;

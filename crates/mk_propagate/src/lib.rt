@@ -7,6 +7,7 @@ mod gathered;
 mod message;
 mod read;
 mod shape;
+mod sums;
 
 pub use flow::Flow;
 pub use shape::Shape;

@@ -1,21 +1,20 @@
 //! Messages.
 
-ghost use Rattle.std.specs.Prelude.{◌≡◌, ◌≢◌, ℕ, ◌+◌, ◌-◌, ◌*◌, ◌<◌, ◌≤◌, length, true, false, None, Some, if◌then◌else◌};
+ghost use Rattle.std.specs.Prelude.{◌≡◌, ◌≢◌, ℕ, ◌+◌, ◌-◌, ◌*◌, ◌<◌, ◌≤◌, length, true, false, None, Some};
 ghost use Rattle.mk_table.specs.Scopes.{cells_in};
-ghost use Rattle.mk_table.specs.Tables.{TableOf, HasRoom};
-ghost use Rattle.mk_table.specs.Margins.{IsMarginOf, IsSameOutside};
+ghost use Rattle.mk_table.specs.Tables.{HasRoom};
 ghost use Rattle.mk_propagate.specs.declared.gathered.Gathered.TheVariants.{Everything};
-ghost use Rattle.mk_propagate.specs.Shapes.{IsClique, are_linked, clique_scope, core_scope, separator_between, neighbours};
+ghost use Rattle.mk_propagate.specs.Shapes.{IsClique, are_linked, core_scope, separator_between, neighbours};
 ghost use Rattle.mk_propagate.specs.Placings.{Placing};
 ghost use Rattle.mk_propagate.specs.Flows.{HasPlaced, AreRightBut, IsRight, CanSend, KeepsTables, message_at, counted_on};
-ghost use Rattle.mk_propagate.specs.inner.Gathered.{is_taken, message_in, IsRightIn, AreMessages, CanTake, HasCore, HasInto, HasMarked, HasOutgoing, IsMargin, IsMarginOfProduct, IsMessageAlone, IsTimesMessage};
+ghost use Rattle.mk_propagate.specs.inner.Gathered.{is_taken, message_in, IsRightIn, AreMessages, CanTake, HasInto, HasMarked, HasOutgoing, IsMarginOfProduct, IsMessageAlone, IsTimesMessage};
 
 use crate::flow::Flow;
 use crate::gathered::Gathered;
 use crate::shape::Shape;
-use mk_net::Event;
+use crate::sums::{margin, sum_core};
 use mk_semiring::Semiring;
-use mk_table::{CellList, Places, Table};
+use mk_table::{Places, Table};
 
 impl<R: Semiring> Flow<R> {
     /// Makes the message from a clique to one that is linked to it: the plus, over what the separator does not hold, of what is placed
@@ -23,9 +22,9 @@ impl<R: Semiring> Flow<R> {
     /// rest is over the core, which has fewer cells. The product of the other messages is kept too, without what is placed.
     pub fn message(&mut self, from: u32, to: u32)
         requires { CanSend R.plus_of self.old from to }
-        ensures right { (p : Placing) → HasPlaced self.old p → AreRightBut R.plus_of self.old p from to → IsRight R.plus_of self.new p from to }
+        ensures right { (p : Placing) → HasPlaced R.plus_of self.old p → AreRightBut R.plus_of self.old p from to → IsRight R.plus_of self.new p from to }
         ensures others { (a b : ℕ) → are_linked self.old.shape.tree a b ≡ true → ((a ≡ from) × (b ≡ to) → ⊥) → message_at self.new a b ≡ message_at self.old a b }
-        ensures kept { KeepsTables self.old self.new }
+        ensures kept { KeepsTables R.plus_of self.old self.new }
         ensures counted { self.new.computed ≡ counted_on self.old.computed 1 }
     {
         let place = from as usize - 1;
@@ -83,18 +82,6 @@ fn send<R: Semiring>(
     }
 }
 
-/// Puts into a table over some of the variables of a whole the plus, over the others, of the whole's cells.
-fn margin<R: Semiring>(whole: &Table<R>, places: &Places, part: &mut Table<R>)
-    requires places { places.now ≡ record { whole = whole.now.scope; part = part.old.scope } }
-    requires room { HasRoom whole.now (2 * cells_in whole.now.scope) }
-    ensures margin { IsMargin R.plus_of whole.now part.old part.new }
-    ensures cells { IsMarginOf R.plus_of whole.now part.new }
-{
-    whole.margin_into(places, part);
-    // The proof learns here that the table has a place for each cell of its scope, and no more.
-    let _ = part.cells();
-}
-
 /// Puts into a table over some of the variables of two others the plus, over the rest, of the products of their cells.
 fn margin_of_product<R: Semiring>(
     core: &Table<R>,
@@ -112,55 +99,6 @@ fn margin_of_product<R: Semiring>(
     core.margin_times_into(places, own, product, part);
     // As in `margin`.
     let _ = part.cells();
-}
-
-/// Sums a clique's table over its core, unless that is done.
-pub(crate) fn sum_core<R: Semiring>(
-    core: &mut Table<R>,
-    summed: &mut bool,
-    table: &Table<R>,
-    shape: &Shape,
-    clique: u32,
-)
-    requires clique { IsClique shape.now.tree clique }
-    requires core_scope { core.old.scope ≡ core_scope shape.now clique }
-    requires table_scope { table.now.scope ≡ clique_scope shape.now clique }
-    requires room { HasRoom table.now (2 * cells_in table.now.scope) }
-    requires summed { summed.old ≡ true → HasCore R.plus_of shape.now clique table.now core.old }
-    ensures scope { core.new.scope ≡ core.old.scope }
-    ensures core { HasCore R.plus_of shape.now clique table.now core.new }
-{
-    if !*summed {
-        margin(table, shape.core_places(clique), core);
-        *summed = true;
-    }
-}
-
-/// Sums anew the cells of a core that a ratio changed, where the clique's table was summed: those that the ratio's condition allows. A
-/// ratio without one changes them all, and they wait until they are needed.
-pub(crate) fn sum_again<R: Semiring>(
-    core: &mut Table<R>,
-    summed: &mut bool,
-    table: &Table<R>,
-    shape: &Shape,
-    clique: u32,
-    condition: &Event,
-    chosen: &mut CellList,
-)
-    requires clique { IsClique shape.now.tree clique }
-    requires core_scope { core.old.scope ≡ core_scope shape.now clique }
-    requires table_scope { table.now.scope ≡ clique_scope shape.now clique }
-    requires room { HasRoom table.now (2 * cells_in table.now.scope) }
-    requires summed { summed.old ≡ true → (before : TableOf) × HasCore R.plus_of shape.now clique before core.old × IsSameOutside condition.now before table.now }
-    ensures scope { core.new.scope ≡ core.old.scope }
-    ensures summed { summed.new ≡ true → HasCore R.plus_of shape.now clique table.now core.new }
-{
-    if condition.pairs().is_empty() {
-        *summed = false;
-    }
-    if *summed {
-        table.margin_again_into(shape.core_places(clique), condition, chosen, core);
-    }
 }
 
 /// Multiplies 1 by the messages of all neighbours of a clique but a receiver, unless the product has them. Where there are none, it

@@ -5,11 +5,12 @@ ghost use Rattle.mk_net.specs.Bounds.{number_limit};
 ghost use Rattle.mk_table.specs.Scopes.{HasEvent, cells_in};
 ghost use Rattle.mk_table.specs.Tables.{HasNumbers, HasRoom, is_untouched};
 ghost use Rattle.mk_propagate.specs.Placings.{Placing};
-ghost use Rattle.mk_propagate.specs.Flows.{HasPlaced, AreRightInto, CanRead, IsReading};
+ghost use Rattle.mk_propagate.specs.Flows.{HasPlaced, AreRightInto, CanRead, IsReading, KeepsMessages, KeepsTables};
 ghost use Rattle.mk_propagate.specs.inner.Totals.{HaveTotal, IsWithin, total_of};
 
 use crate::flow::Flow;
-use crate::message::{refresh, sum_core};
+use crate::message::refresh;
+use crate::sums::sum_core;
 use mk_net::Event;
 use mk_semiring::Semiring;
 use mk_table::{CellList, Places, Table};
@@ -20,8 +21,9 @@ impl<R: Semiring> Flow<R> {
     /// placed is summed over it first, which the next message needs too.
     pub fn read(&mut self, clique: u32, event: &Event) -> R::Value
         requires { CanRead R.plus_of self.old clique event.now }
-        ensures kept { self.new ≡ self.old }
-        ensures reading { (p : Placing) → HasPlaced self.old p → AreRightInto R.plus_of self.old p clique
+        ensures kept { KeepsMessages self.old self.new }
+        ensures still { KeepsTables R.plus_of self.old self.new }
+        ensures reading { (p : Placing) → HasPlaced R.plus_of self.old p → AreRightInto R.plus_of self.old p clique
             → IsReading R.encloses R.has_grade R.is_exact R.plus_of self.old.shape.tree p clique event.now result }
     {
         let place = clique as usize - 1;

@@ -36,7 +36,7 @@ own_times : (d e u p x y s k v w n : ℕ) → IsTimes d e 0 u p x y → w ≡ u 
 own_times d e u p x y s k v w n t i h = record { own = h.own * u; scaled = scaled_times s k v w h.own u h.scaled i; stands = t.stands 0 h.own n h.stands }
 
 -- a greater shift alone
-own_shifted : (d e s k v n : ℕ) → IsOwnAt s d e v n → IsOwnAt (s + k) d e (v * 2 ^ k) (n + 1)
+pub own_shifted : (d e s k v n : ℕ) → IsOwnAt s d e v n → IsOwnAt (s + k) d e (v * 2 ^ k) (n + 1)
 own_shifted d e s k v n h = record {
   own = h.own;
   scaled = ap (λ y. y * 2 ^ k) h.scaled ∙ mul_assoc h.own (2 ^ s) (2 ^ k) ∙ ap (λ y. h.own * y) (sym (pow-add 2 s k));

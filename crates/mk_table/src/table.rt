@@ -11,7 +11,7 @@ ghost use Rattle.mk_cell.specs.Cell.{Stands, IsOwnOf};
 ghost use Rattle.mk_table.specs.Scopes.{HasEvent, HasOneEach, HasSized, cells_in, has_variable};
 ghost use Rattle.mk_table.specs.Cells.{values_at, cell_in, cells_onto, cells_beside, cells_where};
 ghost use Rattle.mk_table.specs.Tables.{TableOf, HasNumbers, HasRoom, is_untouched};
-ghost use Rattle.mk_table.specs.Margins.{IsMarginOf, IsSameOutside};
+ghost use Rattle.mk_table.specs.Margins.{IsMarginBut};
 ghost use Rattle.mk_table.specs.inner.Parts.{IsFull, StandListed};
 
 use crate::again::plus_at_chosen;
@@ -152,7 +152,6 @@ impl<R: Semiring> Table<R> {
         ensures shift { self.new.shift ≡ self.old.shift + 40 }
         ensures numbers { (f : ℕ → ℕ) (n : ℕ) → HasNumbers self.old f n
             → HasNumbers self.new (λ c. f c * ratio_there (trade_ratio ratio.now) (values_at self.old.scope c)) (n + 1) }
-        ensures others { IsSameOutside ratio.now.condition self.old self.new }
     {
         self.scope.cells_where(&ratio.condition, chosen);
         fill(&mut self.digits, &mut self.exponents, self.scope.cells());
@@ -253,7 +252,6 @@ impl<R: Semiring> Table<R> {
         ensures numbers { (f : ℕ → ℕ) (n : ℕ) → HasNumbers self.now f n
             → HasNumbers out.new (λ d. plus_over R.plus_of 0 f (cells_onto out.old.scope self.now.scope d)) (n + (2 * cells_beside out.old.scope self.now.scope - 1)) }
         ensures beside { cells_in out.old.scope * cells_beside out.old.scope self.now.scope ≡ cells_in self.now.scope }
-        ensures margin { IsMarginOf R.plus_of self.now out.new }
     {
         let (bases, offsets, run) = places.lists();
         plus_of_each::<R>(
@@ -270,8 +268,8 @@ impl<R: Semiring> Table<R> {
         put_within(&self.touched, &out.scope, &mut out.touched);
     }
 
-    /// Makes anew, in a table over some of the variables that is a margin but for cells where an event holds, the cells whose values the
-    /// event allows. The list is where their numbers are written.
+    /// Makes anew, in a table over some of the variables, the cells whose values an event allows: each becomes the plus of the cells
+    /// that have its values. The others are left, and must be right already. The list is where the cells' numbers are written.
     pub fn margin_again_into(
         &self,
         places: &Places,
@@ -281,9 +279,10 @@ impl<R: Semiring> Table<R> {
     )
         requires places { places.now ≡ record { whole = self.now.scope; part = out.old.scope } }
         requires room { HasRoom self.now (2 * cells_in self.now.scope) }
-        requires margin { (before : TableOf) × IsMarginOf R.plus_of before out.old × IsSameOutside event.now before self.now }
         ensures scope { out.new.scope ≡ out.old.scope }
-        ensures margin { IsMarginOf R.plus_of self.now out.new }
+        ensures shift { out.new.shift ≡ self.now.shift }
+        ensures numbers { (f : ℕ → ℕ) (n : ℕ) → HasNumbers self.now f n → IsMarginBut R.plus_of event.now self.now out.old f n
+            → HasNumbers out.new (λ d. plus_over R.plus_of 0 f (cells_onto out.old.scope self.now.scope d)) (n + (2 * cells_beside out.old.scope self.now.scope - 1)) }
     {
         if self.digits.len() < self.scope.cells() {
             self.margin_into(places, out);
@@ -303,9 +302,10 @@ impl<R: Semiring> Table<R> {
             &mut out.digits,
             &mut out.exponents,
         );
-        let touched = &self.touched;
         out.shift = self.shift;
-        put_within(touched, &out.scope, &mut out.touched);
+        let mut touched = None;
+        put_within(&self.touched, &out.scope, &mut touched);
+        take_either(&mut out.touched, &touched);
     }
 
     /// Puts into each cell of a table over some of the variables the plus, over the cells that have its values, of each cell times the cell of

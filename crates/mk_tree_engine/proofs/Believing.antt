@@ -21,7 +21,6 @@ use Rattle.mk_propagate.proofs.Scopes.{clique_counted}
 use Rattle.mk_tree_engine.specs.Engines.{MarkedFlow, HasTree, ClearsTowards, is_stale, leads_towards, placing_of, factor_home, pair_home, stale_number}
 use Rattle.mk_tree_engine.specs.inner.Marks.{AreMarksOf, AreCurrentTowards, IsMarked}
 use Rattle.mk_tree_engine.specs.inner.Passes.{AreCurrent, AreCollected, CanCollect, IsCount}
-use Rattle.mk_tree_engine.proofs.Making.{placed_kept}
 use Rattle.mk_tree_engine.proofs.Sums.{sum_same}
 
 -- ---- grades
@@ -88,7 +87,7 @@ module _ (plus : ℕ → ℕ → ℕ) (old : MarkedFlow) (marks_of : AreMarksOf 
         let t : new.flow.shape.tree ≡ m.tree = ap (λ (s : ShapeOf). s.tree) is.kept.same_shape ∙ h.tree_is in
         record {
           tree_is = t;
-          placed = placed_kept old.flow new.flow (placing_of m) is.kept h.placed;
+          placed = is.kept.placed (placing_of m) h.placed;
           current = λ a b l fresh. is.right (placing_of m) h.placed (current_of m h) a b (subst (λ (t : GivenTree). are_linked t a b ≡ true) (sym t) l) fresh;
         }
 
@@ -120,7 +119,7 @@ module _ (plus : ℕ → ℕ → ℕ) (old : MarkedFlow) (marks_of : AreMarksOf 
     pub counts : IsCount old.flow.computed → new.flow.computed ≡ counted_on old.flow.computed (stale_number old c)
     counts few = is.counted few
 
-    into : (p : Placing) → HasPlaced old.flow p → AreCurrent plus old p → AreRightInto plus new.flow p c
+    into : (p : Placing) → HasPlaced plus old.flow p → AreCurrent plus old p → AreRightInto plus new.flow p c
     into p h current i l =
         let tree = old.flow.shape.tree in
         let linked : are_linked tree i c ≡ true = subst (λ (s : ShapeOf). linked_to (link_of s.tree) (length s.tree.cliques) c i ≡ true) is.kept.same_shape l in
@@ -138,7 +137,7 @@ module _ (plus : ℕ → ℕ → ℕ) (old : MarkedFlow) (marks_of : AreMarksOf 
     pub can_read : (m : Meaning) → HasTree plus old m → (event : List Pair) → holds_event event (clique_at old.flow.shape.tree c) ≡ true → CanRead plus new.flow c event
     can_read m h event holds = record {
       placing = placing_of m;
-      has = placed_kept old.flow new.flow (placing_of m) is.kept h.placed;
+      has = is.kept.placed (placing_of m) h.placed;
       clique_is = subst (λ (s : ShapeOf). IsClique s.tree c) (sym is.kept.same_shape) at_c;
       holds_it = subst (λ (s : ShapeOf). holds_event event (clique_at s.tree c) ≡ true) (sym is.kept.same_shape) holds;
       right = into (placing_of m) h.placed (current_of m h);
@@ -147,12 +146,12 @@ module _ (plus : ℕ → ℕ → ℕ) (old : MarkedFlow) (marks_of : AreMarksOf 
     -- what is read is the belief
     module _ {V : Type 0} (encloses : V → ℕ → Type 0) (has_grade : V → ℕ → Type 0) (is_exact : V → Type 0)
         (grade_more : (x : V) (g h : ℕ) → has_grade x g → g ≤ h → has_grade x h) (event : List Pair) (r : V)
-        (reads : (p : Placing) → HasPlaced new.flow p → AreRightInto plus new.flow p c → IsReading encloses has_grade is_exact plus new.flow.shape.tree p c event r)
+        (reads : (p : Placing) → HasPlaced plus new.flow p → AreRightInto plus new.flow p c → IsReading encloses has_grade is_exact plus new.flow.shape.tree p c event r)
         (m : Meaning) (h : HasTree plus old m) where
       reading : IsReading encloses has_grade is_exact plus m.tree (placing_of m) c event r
       reading =
           subst (λ (t : GivenTree). IsReading encloses has_grade is_exact plus t (placing_of m) c event r) (ap (λ (s : ShapeOf). s.tree) is.kept.same_shape ∙ h.tree_is)
-          (reads (placing_of m) (placed_kept old.flow new.flow (placing_of m) is.kept h.placed) (into (placing_of m) h.placed (current_of m h)))
+          (reads (placing_of m) (is.kept.placed (placing_of m) h.placed) (into (placing_of m) h.placed (current_of m h)))
 
       pub sharp : has_grade r (reading_grade m.tree (placing_of m) c)
       sharp = reading.grade

@@ -14,7 +14,6 @@ use Rattle.mk_tree_engine.specs.Engines.{MarkedFlow, is_stale, leads_towards}
 use Rattle.mk_tree_engine.specs.inner.Marks.{AreMarksOf}
 use Rattle.mk_tree_engine.specs.inner.Passes.{AreCurrent, IsMade, IsCount, AreCollected, stale_of, goes_up, goes_down, passed_up, passed_down}
 use Rattle.mk_tree_engine.proofs.Sums.{sum_agree, sum_zero, sum_more}
-use Rattle.mk_tree_engine.proofs.Making.{placed_kept}
 
 -- marks that are cleared in two steps
 marks_add : (x l d s t : Bool) → (s ≡ true → (d ≡ false) × (l ≡ t)) → ((x && not (l && d)) && not (s && t)) ≡ (x && not (l && (d || s)))
@@ -50,7 +49,7 @@ module _ (plus : ℕ → ℕ → ℕ) (c : ℕ) (old : MarkedFlow) where
   pub collected_already : (done : ℕ → Bool) → AreMarksOf old.flow.shape.tree old.stale_up old.stale_down
       → ((j : ℕ) → 1 ≤ j → j ≤ length old.flow.shape.tree.cliques → done j ≡ true → is_stale old j (next_on_way old.flow.shape.tree j c) ≡ false) → AreCollected plus c done old old
   collected_already done marks_of fresh = record {
-    kept = record { same_shape = refl; same_tables = refl; same_factors = refl };
+    kept = record { same_shape = refl; same_tables = refl; same_factors = refl; placed = λ p h. h };
     marks_of = marks_of;
     marks = λ a b l.
         let n = hops.ends (link_of tree) (length tree.cliques) a b marks_of.linked.earlier (hops.are_linked (link_of tree) (length tree.cliques) a b l) in
@@ -105,7 +104,7 @@ module _ (plus : ℕ → ℕ → ℕ) (c : ℕ) (old : MarkedFlow) where
       -- what a clique's message towards c is made of is right, where it is done
       pub inputs_right : (n : ℕ) → n ≡ next_on_way old.flow.shape.tree k c
           → ((i : ℕ) → linked_but (link_of old.flow.shape.tree) (length old.flow.shape.tree.cliques) k (next_on_way old.flow.shape.tree k c) i ≡ true → done i ≡ true)
-          → (p : Placing) → HasPlaced old.flow p → AreCurrent plus old p → AreRightBut plus mid.flow p k n
+          → (p : Placing) → HasPlaced plus old.flow p → AreCurrent plus old p → AreRightBut plus mid.flow p k n
       inputs_right n e inputs p h current i l =
           let but : linked_but (link_of tree) (length tree.cliques) k (next_on_way tree k c) i ≡ true =
           subst (λ (x : ℕ). linked_but (link_of tree) (length tree.cliques) k x i ≡ true) e
@@ -130,10 +129,11 @@ module _ (plus : ℕ → ℕ → ℕ) (c : ℕ) (old : MarkedFlow) where
           same_shape = made.kept.same_shape ∙ is.kept.same_shape;
           same_tables = made.kept.same_tables ∙ is.kept.same_tables;
           same_factors = made.kept.same_factors ∙ is.kept.same_factors;
+          placed = λ p h. made.kept.placed p (is.kept.placed p h);
         };
         marks_of = made.marks_of;
         marks = left;
-        right = λ p h current. made.right p (placed_kept old.flow mid.flow p is.kept h) (inputs_right n e inputs p h current) (is.right p h current);
+        right = λ p h current. made.right p (is.kept.placed p h) (inputs_right n e inputs p h current) (is.right p h current);
         counted = λ few.
             let a = is.counted few in
             let b = made.counted (within mid.flow.computed (stale_of old c done) a) in

@@ -13,14 +13,6 @@ use Rattle.mk_tree_engine.specs.inner.Passes.{AreCurrent, IsMade, IsCount}
 
 -- ---- flows that differ in messages alone
 
-pub placed_kept : (old new : FlowOf) (p : Placing) → KeepsTables old new → HasPlaced old p → HasPlaced new p
-placed_kept old new p k h =
-    let with : ShapeOf → List TableOf → ℕ → FlowOf = λ s ts n. record { shape = s; tables = ts; upward = new.upward; downward = new.downward; factors = n; computed = new.computed } in
-    let first : HasPlaced (with old.shape old.tables old.factors) p = record { shape_is = h.shape_is; placing = h.placing; counted = h.counted; tables = h.tables } in
-    subst (λ (n : ℕ). HasPlaced (with new.shape new.tables n) p) (sym k.same_factors)
-    (subst (λ (ts : List TableOf). HasPlaced (with new.shape ts old.factors) p) (sym k.same_tables)
-    (subst (λ (s : ShapeOf). HasPlaced (with s old.tables old.factors) p) (sym k.same_shape) first))
-
 pub right_kept : (plus : ℕ → ℕ → ℕ) (old new : FlowOf) (p : Placing) (a b : ℕ) → new.shape ≡ old.shape → message_at new a b ≡ message_at old a b → IsRight plus old p a b → IsRight plus new p a b
 right_kept plus old new p a b e f h = record {
   cells =
@@ -140,7 +132,7 @@ module _ (plus : ℕ → ℕ → ℕ) (old : FlowOf) (up down : List Bool) (a b 
   -- where it was current, nothing is done
   pub made_already : marked_stale up down a b ≡ false → IsMade plus a b (marked old up down) (marked old up down)
   made_already fresh = record {
-    kept = record { same_shape = refl; same_tables = refl; same_factors = refl };
+    kept = record { same_shape = refl; same_tables = refl; same_factors = refl; placed = λ p h. h };
     marks_of = marks_of;
     marks = λ i j l. at i j (cases_Bool (eqb i a && eqb j b));
     right = λ p h r k. k;
@@ -156,8 +148,8 @@ module _ (plus : ℕ → ℕ → ℕ) (old : FlowOf) (up down : List Bool) (a b 
       count : (n : ℕ) → n ≡ 0 → IsCount old.computed → old.computed ≡ counted_on old.computed n
       count n e few = omega arith
 
-  module _ (new : FlowOf) (kept : KeepsTables old new)
-      (right : (p : Placing) → HasPlaced old p → AreRightBut plus old p a b → IsRight plus new p a b)
+  module _ (new : FlowOf) (kept : KeepsTables plus old new)
+      (right : (p : Placing) → HasPlaced plus old p → AreRightBut plus old p a b → IsRight plus new p a b)
       (others : (i j : ℕ) → are_linked old.shape.tree i j ≡ true → ((i ≡ a) × (j ≡ b) → ⊥) → message_at new i j ≡ message_at old i j)
       (counted : new.computed ≡ counted_on old.computed 1) where
     pub made_anew : marked_stale up down a b ≡ true → (ups downs : List Bool) → ups ≡ cleared_up up a b → downs ≡ cleared_down down a b → IsMade plus a b (marked old up down) (marked new ups downs)
@@ -180,7 +172,7 @@ module _ (plus : ℕ → ℕ → ℕ) (old : FlowOf) (up down : List Bool) (a b 
             ap (λ (xs : List Bool). marked_stale xs downs i j) eu ∙ ap (λ (xs : List Bool). marked_stale (cleared_up up a b) xs i j) ed
             ∙ cleared_marks old.shape.tree marks_of.linked up down marks_of.marks a b i j linked_too l
 
-        at : (p : Placing) → HasPlaced old p → AreRightBut plus old p a b → AreCurrent plus (marked old up down) p → (i j : ℕ) → are_linked old.shape.tree i j ≡ true
+        at : (p : Placing) → HasPlaced plus old p → AreRightBut plus old p a b → AreCurrent plus (marked old up down) p → (i j : ℕ) → are_linked old.shape.tree i j ≡ true
             → marked_stale ups downs i j ≡ false → (((eqb i a && eqb j b) ≡ true) ⊎ ((eqb i a && eqb j b) ≡ false)) → IsRight plus new p i j
         at p h but current i j l fresh (inl t) =
             let q = and_parts (eqb i a) (eqb j b) t in

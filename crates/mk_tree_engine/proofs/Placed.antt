@@ -1,16 +1,19 @@
 -- One thing more is placed, and what leads away from it is marked.
-use Rattle.std.proofs.Common.{◌≡◌, ℕ, ◌-◌, ◌<◌, Bool, true, Option, List, [], ◌∷◌, ◌++◌, map, length, sym, ap, subst, ◌∙◌, arith}
+use Rattle.std.proofs.Common.{◌≡◌, ℕ, ◌-◌, ◌<◌, Bool, true, if◌then◌else◌, Option, List, [], ◌∷◌, ◌++◌, map, length, sym, ap, subst, ◌∙◌, arith}
+use Rattle.std.specs.Prelude.{nat_lt, slice_index_or}
 use Rattle.std.specs.Option.{ForSome}
 use Rattle.std.proofs.lemmas.Bool.{or_parts}
 use Rattle.std.proofs.lemmas.List.{map-append, length-map}
 use Rattle.mk_net.specs.declared.words.Pair.{Pair}
+use Rattle.mk_table.specs.Tables.{TableOf}
 use Rattle.mk_tree.specs.Given.{GivenTree}
 use Rattle.mk_engine.specs.Meaning.{Meaning, Factor, with_factor, with_known, max_factors}
 use Rattle.mk_propagate.specs.Shapes.{ShapeOf, are_linked, is_behind}
 use Rattle.mk_propagate.specs.Placings.{Placing, PlacedFactor, PlacedPair, with_factor_in, with_pair_in}
-use Rattle.mk_propagate.specs.Flows.{FlowOf, HasPlaced, IsRight, CanPlace, Places}
+use Rattle.mk_propagate.specs.Flows.{FlowOf, HasPlaced, IsRight, CanPlace, Places, KeepsMessages, KeepsTables, no_table, message_at}
 use Rattle.mk_tree_engine.specs.Engines.{MarkedFlow, HasTree, MarksAway, is_stale, placing_of, factor_home, pair_home}
 use Rattle.mk_tree_engine.specs.inner.Marks.{marked, AreMarksOf, AreMarkedUp, AreMarkedDown, AreCurrentTowards, IsMarked, kept_in}
+use Rattle.mk_tree_engine.proofs.Making.{right_kept}
 use Rattle.mk_tree_engine.proofs.Marking.{marks_away, marks_kept, kept_current}
 
 pub factor_placed : (m : Meaning) (f : Factor) (clique : ℕ) → clique ≡ factor_home m.network m.tree f → with_factor_in clique f (placing_of m) ≡ placing_of (with_factor f m)
@@ -28,7 +31,7 @@ pair_placed m q clique e =
     ap make (ap (λ (k : ℕ). map g m.known ++ at k ∷ []) e ∙ sym (map-append g m.known (q ∷ [])))
 
 module _ (plus : ℕ → ℕ → ℕ) (e : MarkedFlow) (m : Meaning) (h : HasTree plus e m) where
-  pub can_place : length m.factors < max_factors → CanPlace e.flow (placing_of m)
+  pub can_place : length m.factors < max_factors → CanPlace plus e.flow (placing_of m)
   can_place l =
       let n : length (placing_of m).factors ≡ length m.factors = length-map m.factors (λ f. record { clique = factor_home m.network m.tree f; factor = f }) in
       record { has = h.placed; room = omega (arith, n, l) }
@@ -38,7 +41,7 @@ module _ (plus : ℕ → ℕ → ℕ) (e : MarkedFlow) (m : Meaning) (h : HasTre
       → new.flow.shape ≡ e.flow.shape → Places plus e.flow new.flow clique (placing_of m) placed → MarksAway e new clique → HasTree plus new after
   stands_after new after clique placed pe te se places away = record {
     tree_is = ap (λ (s : ShapeOf). s.tree) se ∙ h.tree_is ∙ sym te;
-    placed = subst (HasPlaced new.flow) pe places.placed;
+    placed = subst (HasPlaced plus new.flow) pe places.placed;
     current = λ a b l fresh.
         let linked : are_linked e.flow.shape.tree a b ≡ true = subst (λ (t : GivenTree). are_linked t a b ≡ true) (te ∙ sym h.tree_is) l in
         let parts = or_parts (is_stale e a b) (is_behind e.flow.shape.tree a b clique) (sym (away a b linked) ∙ fresh) in
@@ -73,3 +76,16 @@ away_now old now new clique home view e h =
 
 pub stands_old : (plus : ℕ → ℕ → ℕ) (old now : MarkedFlow) (m : Meaning) → old ≡ now → HasTree plus now m → HasTree plus old m
 stands_old plus old now m view h = subst (λ (e : MarkedFlow). HasTree plus e m) (sym view) h
+
+-- where what was placed still is, and each message is as it was
+pub still_stands : (plus : ℕ → ℕ → ℕ) (old new : FlowOf) (up down : List Bool) (m : Meaning) → KeepsMessages old new → KeepsTables plus old new → HasTree plus (marked old up down) m → HasTree plus (marked new up down) m
+still_stands plus old new up down m kept still h = record {
+  tree_is = ap (λ (s : ShapeOf). s.tree) kept.same_shape ∙ h.tree_is;
+  placed = still.placed (placing_of m) h.placed;
+  current = λ a b l fresh. right_kept plus old new (placing_of m) a b kept.same_shape (same_message a b) (h.current a b l fresh);
+}
+  where
+    same_message : (a b : ℕ) → message_at new a b ≡ message_at old a b
+    same_message a b =
+        ap (λ (ts : List TableOf). if nat_lt b a then slice_index_or ts (a - 2) no_table else slice_index_or new.downward (b - 2) no_table) kept.same_upward
+        ∙ ap (λ (ts : List TableOf). if nat_lt b a then slice_index_or old.upward (a - 2) no_table else slice_index_or ts (b - 2) no_table) kept.same_downward

@@ -9,7 +9,6 @@ use Rattle.mk_propagate.specs.Flows.{CanSend}
 use Rattle.mk_tree_engine.specs.Engines.{MarkedFlow}
 use Rattle.mk_tree_engine.specs.inner.Marks.{AreMarksOf}
 use Rattle.mk_tree_engine.specs.inner.Passes.{IsMade, AreCollected, CanCollect, goes_up, goes_down, passed_up, passed_down}
-use Rattle.mk_tree_engine.proofs.Making.{placed_kept}
 use Rattle.mk_tree_engine.proofs.Collecting.{collected_none, collected_same, collected_more, inputs_right, inputs_up, inputs_down, up_parts, down_parts, up_more, up_same, down_more, down_same, down_begins, not_up, all_passed}
 
 none_of : (b : Bool) → b ≡ false → (t : Bool) → (b && t) ≡ false
@@ -34,7 +33,7 @@ module _ (plus : ℕ → ℕ → ℕ) (c : ℕ) (old : MarkedFlow) (could : CanC
         (stale.leads_towards (link_of tree) (length tree.cliques) could.marks_of.linked.earlier c k could.clique_is.first could.clique_is.last at_k.first at_k.last apart).0 in
         record {
           placing = could.placing;
-          has = placed_kept old.flow mid.flow could.placing is.kept could.has;
+          has = is.kept.placed could.placing could.has;
           linked_too = subst (λ (s : ShapeOf). are_linked s.tree k (next_on_way s.tree k c) ≡ true) (sym is.kept.same_shape) l;
           right = inputs_right plus c old mid done done is could.clique_is k at_k apart (next_on_way mid.flow.shape.tree k c) e inputs could.placing could.has could.current;
         }

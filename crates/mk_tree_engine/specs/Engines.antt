@@ -46,7 +46,7 @@ pub record IsPlanFor (shape : ShapeOf) (network : List Variable) (tree : GivenTr
 -- the engine stands for a meaning: its flow has all of it placed, and each message that is not stale is right
 pub record HasTree (plus : ℕ → ℕ → ℕ) (e : MarkedFlow) (m : Meaning) : Type 0 where
   pub tree_is : e.flow.shape.tree ≡ m.tree
-  pub placed : HasPlaced e.flow (placing_of m)
+  pub placed : HasPlaced plus e.flow (placing_of m)
   pub current : (a b : ℕ) → are_linked m.tree a b ≡ true → is_stale e a b ≡ false → IsRight plus e.flow (placing_of m) a b
 
 -- the message from a to b leads towards a clique

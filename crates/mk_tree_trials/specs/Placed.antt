@@ -5,18 +5,23 @@ use Rattle.mk_propagate.specs.Placings.{Placing}
 use Rattle.mk_propagate.specs.Flows.{FlowOf, HasPlaced, AreRightTowards, AreRightInto}
 
 -- so many factors of a network are placed
-pub record HasSome (flow : FlowOf) (network : List Variable) (count : ℕ) : Type 0 where
+pub record HasSome (plus : ℕ → ℕ → ℕ) (flow : FlowOf) (network : List Variable) (count : ℕ) : Type 0 where
   pub placing : Placing
-  pub has : HasPlaced flow placing
+  pub has : HasPlaced plus flow placing
   pub of_network : placing.network ≡ network
   pub counted : length placing.factors ≡ count
 
 -- so many factors of a network are placed, and each message towards a clique is right
 pub record IsCollected (plus : ℕ → ℕ → ℕ) (flow : FlowOf) (network : List Variable) (count clique : ℕ) : Type 0 where
-  pub some : HasSome flow network count
+  pub some : HasSome plus flow network count
   pub towards : AreRightTowards plus flow some.placing clique
 
 -- so many factors of a network are placed, and each message into a clique is right
 pub record IsReady (plus : ℕ → ℕ → ℕ) (flow : FlowOf) (network : List Variable) (count clique : ℕ) : Type 0 where
-  pub some : HasSome flow network count
+  pub some : HasSome plus flow network count
   pub right : AreRightInto plus flow some.placing clique
+
+-- what was placed still is, and so are the messages that were right
+pub record KeepsReady (plus : ℕ → ℕ → ℕ) (old new : FlowOf) : Type 0 where
+  pub collected : (network : List Variable) (count clique : ℕ) → IsCollected plus old network count clique → IsCollected plus new network count clique
+  pub ready : (network : List Variable) (count clique : ℕ) → IsReady plus old network count clique → IsReady plus new network count clique

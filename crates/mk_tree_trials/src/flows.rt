@@ -8,7 +8,7 @@ ghost use Rattle.mk_net.specs.Trades.{trade_ratio};
 ghost use Rattle.mk_tree.specs.Given.{clique_at, holds_event};
 ghost use Rattle.mk_tree.specs.Tests.{holds_family};
 ghost use Rattle.mk_propagate.specs.Shapes.{IsShapeFor, IsClique};
-ghost use Rattle.mk_tree_trials.specs.Placed.{HasSome, IsCollected, IsReady};
+ghost use Rattle.mk_tree_trials.specs.Placed.{HasSome, IsCollected, IsReady, KeepsReady};
 
 use crate::fixtures::{CHAIN, check, only, read};
 use mk_net::{Event, Network, Pair, Question, Ratio, VarSet};
@@ -73,9 +73,9 @@ fn place<R: Semiring>(
     variable: u32,
     before: u32,
 )
-    requires some { HasSome flow.old net.now before }
+    requires some { HasSome R.plus_of flow.old net.now before }
     requires few { before < 10 }
-    ensures some { HasSome flow.new net.now (before + 1) }
+    ensures some { HasSome R.plus_of flow.new net.now (before + 1) }
     ensures ready { IsReady R.plus_of flow.old net.now before clique → IsReady R.plus_of flow.new net.now (before + 1) clique }
 {
     expect_clique(rt, flow.shape(), clique);
@@ -92,7 +92,7 @@ fn placed<R: Semiring>(
     shape: &Rc<Shape>,
 ) -> Result<Flow<R>, Fail>
     requires { IsShapeFor shape.now.value net.now }
-    ensures { IfOk result (λ flow. HasSome flow net.now 3) }
+    ensures { IfOk result (λ flow. HasSome R.plus_of flow net.now 3) }
 {
     let mut flow = Flow::start(alloc, shape)?;
     place(rt, &mut flow, 1, net, 0, 0);
@@ -104,7 +104,7 @@ fn placed<R: Semiring>(
 /// The belief in an event, read in a clique with the messages into it as they are.
 fn again<R: Semiring>(rt: &impl Abort, flow: &mut Flow<R>, clique: u32, event: &Event) -> R::Value
     requires { (network : List Variable) × (count : ℕ) × IsReady R.plus_of flow.old network count clique }
-    ensures { flow.new ≡ flow.old }
+    ensures { KeepsReady R.plus_of flow.old flow.new }
 {
     expect_clique(rt, flow.shape(), clique);
     assert!(rt; holds_event(flow.shape().tree(), clique, event));
@@ -113,8 +113,8 @@ fn again<R: Semiring>(rt: &impl Abort, flow: &mut Flow<R>, clique: u32, event: &
 
 /// Makes the messages towards a clique.
 fn towards<R: Semiring>(rt: &impl Abort, flow: &mut Flow<R>, clique: u32)
-    requires { (network : List Variable) × (count : ℕ) × HasSome flow.old network count }
-    ensures { (network : List Variable) (count : ℕ) → HasSome flow.old network count → IsCollected R.plus_of flow.new network count clique }
+    requires { (network : List Variable) × (count : ℕ) × HasSome R.plus_of flow.old network count }
+    ensures { (network : List Variable) (count : ℕ) → HasSome R.plus_of flow.old network count → IsCollected R.plus_of flow.new network count clique }
 {
     expect_clique(rt, flow.shape(), clique);
     flow.collect(clique);
@@ -136,8 +136,8 @@ fn around<R: Semiring>(
     clique: u32,
     event: &Event,
 ) -> (R::Value, R::Value)
-    requires { (network : List Variable) × (count : ℕ) × HasSome flow.old network count }
-    ensures { (network : List Variable) (count : ℕ) → HasSome flow.old network count → IsReady R.plus_of flow.new network count clique }
+    requires { (network : List Variable) × (count : ℕ) × HasSome R.plus_of flow.old network count }
+    ensures { (network : List Variable) (count : ℕ) → HasSome R.plus_of flow.old network count → IsReady R.plus_of flow.new network count clique }
 {
     towards(rt, flow, clique);
     let before = again(rt, flow, clique, event);
@@ -155,8 +155,8 @@ fn trade(rt: &impl Abort) -> Ratio
 
 /// Places the trade in the second clique, after three factors.
 fn multiply<R: Semiring>(rt: &impl Abort, flow: &mut Flow<R>, net: &Network)
-    requires { HasSome flow.old net.now 3 }
-    ensures some { HasSome flow.new net.now 4 }
+    requires { HasSome R.plus_of flow.old net.now 3 }
+    ensures some { HasSome R.plus_of flow.new net.now 4 }
     ensures ready { IsReady R.plus_of flow.old net.now 3 2 → IsReady R.plus_of flow.new net.now 4 2 }
 {
     assert!(rt; net.variables() == 3);
@@ -168,8 +168,8 @@ fn multiply<R: Semiring>(rt: &impl Abort, flow: &mut Flow<R>, net: &Network)
 
 /// Places a known pair, after four factors.
 fn know<R: Semiring>(rt: &impl Abort, flow: &mut Flow<R>, clique: u32, net: &Network, pair: Pair)
-    requires { HasSome flow.old net.now 4 }
-    ensures some { HasSome flow.new net.now 4 }
+    requires { HasSome R.plus_of flow.old net.now 4 }
+    ensures some { HasSome R.plus_of flow.new net.now 4 }
     ensures ready { IsReady R.plus_of flow.old net.now 4 clique → IsReady R.plus_of flow.new net.now 4 clique }
 {
     expect_clique(rt, flow.shape(), clique);

@@ -1,22 +1,20 @@
 -- What is kept over the core of a clique: what is placed in the clique, summed there, and the product of the messages of its neighbours, or of all but one;
 -- and what the clique sends, made of both.
-use Rattle.std.specs.Prelude.{◌≡◌, ℕ, ◌+◌, ◌-◌, ◌*◌, ◌<◌, ⊤, Bool, true, false, not, ◌&&◌, ◌==◌, nat_lt, if◌then◌else◌, List, length, take, sum_by, Option, Some, None, slice_index, slice_index_or}
+use Rattle.std.specs.Prelude.{◌≡◌, ℕ, ◌+◌, ◌-◌, ◌*◌, ◌<◌, ⊤, Bool, true, false, not, ◌&&◌, ◌==◌, nat_lt, if◌then◌else◌, List, length, take, sum_by, Option, Some, None, slice_index_or}
 use Rattle.std.specs.List.{list_any}
-use Rattle.mk_net.specs.Network.{Variable, sizes}
+use Rattle.mk_net.specs.Asked.{TradeRatio}
 use Rattle.mk_exact.specs.States.{plus_over, product_by}
-use Rattle.mk_sums.specs.Sums.{over}
-use Rattle.mk_sums.specs.Joint.{variables}
 use Rattle.mk_sums.specs.Trees.{linked_to}
 use Rattle.mk_table.specs.Scopes.{cells_in}
 use Rattle.mk_table.specs.Cells.{cell_in, cells_onto, cells_beside}
 use Rattle.mk_table.specs.Tables.{TableOf, HasNumbers}
-use Rattle.mk_table.specs.Margins.{IsMarginOf}
-use Rattle.mk_tree.specs.Given.{GivenTree, holds, link_of}
+use Rattle.mk_tree.specs.Given.{GivenTree, link_of}
+use Rattle.mk_engine.specs.Meaning.{RatioOf}
 use Rattle.mk_propagate.specs.declared.gathered.Gathered.{Gathered}
 use Rattle.mk_propagate.specs.declared.gathered.Gathered.TheVariants.{Nothing, Everything, AllBut}
-use Rattle.mk_propagate.specs.Shapes.{ShapeOf, IsShapeFor, are_linked, clique_scope, core_scope, separator_between, scope_within, in_core, neighbours}
-use Rattle.mk_propagate.specs.Placings.{Placing, IsPlacing, placed_there, factors_in}
-use Rattle.mk_propagate.specs.Flows.{HasCells, exact_message, exact_message_grade, no_table}
+use Rattle.mk_propagate.specs.Shapes.{ShapeOf, IsShapeFor, are_linked, clique_scope, core_scope, separator_between, neighbours}
+use Rattle.mk_propagate.specs.Placings.{Placing, IsPlacing, IsPlacedFactor, placed_there, factors_in, with_factor_in}
+use Rattle.mk_propagate.specs.Flows.{HasCells, HasSums, exact_message, exact_message_grade, no_table}
 
 -- whose messages are taken: all, or all but the receiver's
 abbrev pub is_taken : Option ℕ → ℕ → Bool
@@ -49,23 +47,17 @@ pub record CanTake (plus : ℕ → ℕ → ℕ) (shape : ShapeOf) (upward downwa
 
 -- ---- the core of a clique
 
--- what is placed in clique k: the plus over the variables that lie outside its core
-abbrev pub core_there : (ℕ → ℕ → ℕ) → GivenTree → Placing → ℕ → (ℕ → ℕ) → ℕ
-core_there plus tree p k = over plus (slice_index (sizes p.network)) (λ x. holds tree k x && not (in_core tree k x)) (variables (sizes p.network)) (placed_there p k)
+-- clique k's table has what is placed there
+pub record IsPlacedIn (shape : ShapeOf) (p : Placing) (k : ℕ) (table : TableOf) : Type 0 where
+  pub shape_is : IsShapeFor shape p.network
+  pub placing : IsPlacing shape.tree p
+  pub cells : HasCells table (clique_scope shape k) (placed_there p k) (factors_in p k) (factors_in p k)
 
--- how many cells of the clique have the values of one cell of its core
-abbrev pub private_cells : List Variable → GivenTree → ℕ → ℕ
-private_cells network tree k = cells_beside (scope_within network (in_core tree k)) (scope_within network (holds tree k))
-
--- the steps that this costs
-abbrev pub core_steps : GivenTree → Placing → ℕ → ℕ
-core_steps tree p k = factors_in p k + (2 * private_cells p.network tree k - 1)
-
--- a table over the core has it: it is the margin of the clique's table
-pub record HasCore (plus : ℕ → ℕ → ℕ) (shape : ShapeOf) (k : ℕ) (table core : TableOf) : Type 0 where
-  pub over_clique : table.scope ≡ clique_scope shape k
-  pub over_core : core.scope ≡ core_scope shape k
-  pub margin : IsMarginOf plus table core
+-- once the clique's table was multiplied by a ratio, another table over its core has the sums with it, where the one before had those without
+abbrev pub IsFollowed : (ℕ → ℕ → ℕ) → ShapeOf → ℕ → TradeRatio → TableOf → TableOf → TableOf → Type 0
+IsFollowed plus shape k ratio table before after =
+    (p : Placing) → IsPlacedFactor p.network shape.tree (record { clique = k; factor = RatioOf ratio }) → IsPlacedIn shape (with_factor_in k (RatioOf ratio) p) k table
+    → HasSums plus shape p k before → HasSums plus shape (with_factor_in k (RatioOf ratio) p) k after
 
 -- ---- a product of messages over a core
 
@@ -133,7 +125,7 @@ pub record HasOutgoing (plus : ℕ → ℕ → ℕ) (shape : ShapeOf) (a b : ℕ
   pub shape_is : IsShapeFor shape p.network
   pub placing : IsPlacing shape.tree p
   pub split : cells_in (core_scope shape a) * cells_beside (core_scope shape a) (clique_scope shape a) ≡ cells_in (clique_scope shape a)
-  pub sums : HasCells core (core_scope shape a) (core_there plus shape.tree p a) (core_steps shape.tree p a) (factors_in p a)
+  pub sums : HasSums plus shape p a core
   pub others : 1 < length (neighbours shape.tree a) → HasGathered plus shape a (Some b) (neighbours shape.tree a) product p
 
 -- a table that was over some of the variables of another has in each cell the plus of the other's cells with its values

@@ -29,14 +29,14 @@ AreRightTo plus flow p root of_these = (k : ℕ) → IsClique flow.shape.tree k 
 -- the messages upward are right, so that those downward can be made
 pub record CanCollectDown (plus : ℕ → ℕ → ℕ) (flow : FlowOf) (root : ℕ) : Type 0 where
   pub placing : Placing
-  pub has : HasPlaced flow placing
+  pub has : HasPlaced plus flow placing
   pub clique_is : IsClique flow.shape.tree root
   pub right : AreRightFrom plus flow placing root (λ k. leads_up flow.shape.tree root k ≡ true)
 
 -- the messages towards the root are right, and those to cliques whose way to the root begins downward
 pub record CanDistributeDown (plus : ℕ → ℕ → ℕ) (flow : FlowOf) (root : ℕ) : Type 0 where
   pub placing : Placing
-  pub has : HasPlaced flow placing
+  pub has : HasPlaced plus flow placing
   pub clique_is : IsClique flow.shape.tree root
   pub towards : AreRightTowards plus flow placing root
   pub right : AreRightTo plus flow placing root (λ k. leads_down flow.shape.tree root k ≡ true)

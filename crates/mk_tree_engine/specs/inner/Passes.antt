@@ -47,17 +47,17 @@ stale_of e c done =
 
 -- the messages of some cliques towards clique c were made where they were stale
 pub record AreCollected (plus : ℕ → ℕ → ℕ) (c : ℕ) (done : ℕ → Bool) (old new : MarkedFlow) : Type 0 where
-  pub kept : KeepsTables old.flow new.flow
+  pub kept : KeepsTables plus old.flow new.flow
   pub marks_of : AreMarksOf new.flow.shape.tree new.stale_up new.stale_down
   pub marks : (a b : ℕ) → are_linked old.flow.shape.tree a b ≡ true
       → is_stale new a b ≡ (is_stale old a b && not (leads_towards old.flow.shape.tree c a b && done a))
-  pub right : (p : Placing) → HasPlaced old.flow p → AreCurrent plus old p → AreCurrent plus new p
+  pub right : (p : Placing) → HasPlaced plus old.flow p → AreCurrent plus old p → AreCurrent plus new p
   pub counted : IsCount old.flow.computed → new.flow.computed ≡ counted_on old.flow.computed (stale_of old c done)
 
 -- something is placed, and each message that is not stale is right
 pub record CanCollect (plus : ℕ → ℕ → ℕ) (e : MarkedFlow) (c : ℕ) : Type 0 where
   pub placing : Placing
-  pub has : HasPlaced e.flow placing
+  pub has : HasPlaced plus e.flow placing
   pub current : AreCurrent plus e placing
   pub clique_is : IsClique e.flow.shape.tree c
   pub marks_of : AreMarksOf e.flow.shape.tree e.stale_up e.stale_down
@@ -70,8 +70,8 @@ pub record CanCollectDown (plus : ℕ → ℕ → ℕ) (e : MarkedFlow) (c : ℕ
 
 -- the message from a to b was made where it was stale, from messages that are right
 pub record IsMade (plus : ℕ → ℕ → ℕ) (a b : ℕ) (old new : MarkedFlow) : Type 0 where
-  pub kept : KeepsTables old.flow new.flow
+  pub kept : KeepsTables plus old.flow new.flow
   pub marks_of : AreMarksOf new.flow.shape.tree new.stale_up new.stale_down
   pub marks : (i j : ℕ) → are_linked old.flow.shape.tree i j ≡ true → is_stale new i j ≡ (is_stale old i j && not ((i == a) && (j == b)))
-  pub right : (p : Placing) → HasPlaced old.flow p → AreRightBut plus old.flow p a b → AreCurrent plus old p → AreCurrent plus new p
+  pub right : (p : Placing) → HasPlaced plus old.flow p → AreRightBut plus old.flow p a b → AreCurrent plus old p → AreCurrent plus new p
   pub counted : IsCount old.flow.computed → new.flow.computed ≡ counted_on old.flow.computed (if is_stale old a b then 1 else 0)

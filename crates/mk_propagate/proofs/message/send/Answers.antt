@@ -22,7 +22,7 @@ pub returns-then-neighbours-lt2-clause-right : goal.returns-then-neighbours-lt2-
 returns-then-neighbours-lt2-clause-right g c = λ p out.
     let e = ap (λ (xs : List ℕ). length xs) c.neighbours.ensures in
     message_alone c.args.shape.now p out.shape_is out.placing g.R.Semiring.plus_of g.met.R.Semiring.lawful c.args.from c.args.to c.requires.linked c.args.core.now c.args.product.now out c.args.message.now c.margin.new.part c.requires.scope
-    (omega (arith, e, c.if-neighbours-lt2.true)) c.margin.ensures.margin
+    (omega (arith, e, c.if-neighbours-lt2.true)) c.margin.ensures
 
 pub returns-else-neighbours-lt2-clause-right : goal.returns-else-neighbours-lt2-clause-right
 returns-else-neighbours-lt2-clause-right g c = λ p out.

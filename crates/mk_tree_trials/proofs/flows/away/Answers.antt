@@ -1,4 +1,3 @@
-use Rattle.mk_propagate.proofs.Passed.{still_placed}
 use Rattle.mk_tree_trials.proofs.flows.away.Goals as goal
 
 pub returns : goal.returns
@@ -7,7 +6,7 @@ returns g c = λ network count collected.
     record {
       some = record {
         placing = some.placing;
-        has = still_placed c.args.flow.now c.distribute.new.self c.distribute.ensures.kept some.placing some.has;
+        has = c.distribute.ensures.kept.placed some.placing some.has;
         of_network = some.of_network;
         counted = some.counted;
       };

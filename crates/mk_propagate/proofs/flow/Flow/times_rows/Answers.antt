@@ -6,39 +6,39 @@ use Rattle.mk_table.specs.Tables.{HasNumbers}
 use Rattle.mk_engine.specs.Meaning.{RowsOf}
 use Rattle.mk_propagate.specs.Placings.{IsPlacedFactor}
 use Rattle.mk_propagate.specs.Flows.{FlowOf}
-use Rattle.mk_propagate.proofs.Calls.{rows_family, rows_parents, room, still_flow, places_factor}
+use Rattle.mk_propagate.proofs.Calls.{rows_family, rows_parents, room, flow_unmarked, places_unmarked}
 use Rattle.mk_propagate.proofs.flow.Flow.times_rows.Goals as goal
 
 pub times_rows-requires-clause-family : goal.times_rows-requires-clause-family
 times_rows-requires-clause-family g c =
     let inside = c.self.inside in
-    let old : FlowOf = record { shape = inside.shape.value; tables = inside.tables.items; upward = inside.upward.items; downward = inside.downward.items; factors = inside.factors; computed = inside.computed } in
-    rows_family old c.args.self.now c.self.view_is inside.cores.items inside.products.items inside.cells c.self.invariant.kept c.requires.0 c.requires.1.has c.args.clique c.requires.3.clique_is c.index_mut.result.now c.index_mut.ensures.value c.args.net.now c.requires.2 c.args.variable c.requires.3
+    let old : FlowOf = record { shape = inside.shape.value; tables = inside.tables.items; cores = inside.cores.items; summed = inside.summed.items; upward = inside.upward.items; downward = inside.downward.items; factors = inside.factors; computed = inside.computed } in
+    rows_family g.R.Semiring.plus_of old c.args.self.now c.self.view_is inside.products.items inside.cells c.self.invariant.kept c.requires.0 c.requires.1.has c.args.clique c.requires.3.clique_is c.index_mut.result.now c.index_mut.ensures.value c.args.net.now c.requires.2 c.args.variable c.requires.3
 
 pub times_rows-requires-clause-parents : goal.times_rows-requires-clause-parents
 times_rows-requires-clause-parents g c =
     let inside = c.self.inside in
-    let old : FlowOf = record { shape = inside.shape.value; tables = inside.tables.items; upward = inside.upward.items; downward = inside.downward.items; factors = inside.factors; computed = inside.computed } in
-    rows_parents old c.args.self.now c.self.view_is inside.cores.items inside.products.items inside.cells c.self.invariant.kept c.requires.0 c.requires.1.has c.args.clique c.requires.3.clique_is c.index_mut.result.now c.index_mut.ensures.value c.args.net.now c.requires.2 c.args.variable c.requires.3
+    let old : FlowOf = record { shape = inside.shape.value; tables = inside.tables.items; cores = inside.cores.items; summed = inside.summed.items; upward = inside.upward.items; downward = inside.downward.items; factors = inside.factors; computed = inside.computed } in
+    rows_parents g.R.Semiring.plus_of old c.args.self.now c.self.view_is inside.products.items inside.cells c.self.invariant.kept c.requires.0 c.requires.1.has c.args.clique c.requires.3.clique_is c.index_mut.result.now c.index_mut.ensures.value c.args.net.now c.requires.2 c.args.variable c.requires.3
 
 pub times_rows-requires-clause-room : goal.times_rows-requires-clause-room
 times_rows-requires-clause-room g c =
     let inside = c.self.inside in
-    let old : FlowOf = record { shape = inside.shape.value; tables = inside.tables.items; upward = inside.upward.items; downward = inside.downward.items; factors = inside.factors; computed = inside.computed } in
-    room old c.args.self.now c.self.view_is inside.cores.items inside.products.items inside.cells c.self.invariant.kept c.requires.0 c.requires.1.has c.args.clique c.requires.3.clique_is c.index_mut.result.now c.index_mut.ensures.value
+    let old : FlowOf = record { shape = inside.shape.value; tables = inside.tables.items; cores = inside.cores.items; summed = inside.summed.items; upward = inside.upward.items; downward = inside.downward.items; factors = inside.factors; computed = inside.computed } in
+    room g.R.Semiring.plus_of old c.args.self.now c.self.view_is inside.products.items inside.cells c.self.invariant.kept c.requires.0 c.requires.1.has c.args.clique c.requires.3.clique_is c.index_mut.result.now c.index_mut.ensures.value
 
 pub invariant_of-self : goal.invariant_of-self
 invariant_of-self g c =
     let inside = c.self.inside in
-    let old : FlowOf = record { shape = inside.shape.value; tables = inside.tables.items; upward = inside.upward.items; downward = inside.downward.items; factors = inside.factors; computed = inside.computed } in
-    still_flow old c.args.self.now c.self.view_is inside.cores.items inside.products.items inside.cells c.self.invariant.kept c.requires.0 c.requires.1.has c.args.clique c.requires.3.clique_is c.index_mut.result.now c.index_mut.ensures.value c.times_rows.new.self c.times_rows.ensures.scope g.R.Semiring.plus_of (inside.factors + 1) inside.summed.items inside.gathered.items c.self.invariant.summed_are c.self.invariant.gathered_are
+    let old : FlowOf = record { shape = inside.shape.value; tables = inside.tables.items; cores = inside.cores.items; summed = inside.summed.items; upward = inside.upward.items; downward = inside.downward.items; factors = inside.factors; computed = inside.computed } in
+    flow_unmarked g.R.Semiring.plus_of old c.args.self.now c.self.view_is inside.products.items inside.cells c.self.invariant.kept c.requires.0 c.requires.1.has c.args.clique c.requires.3.clique_is c.index_mut.result.now c.index_mut.ensures.value c.times_rows.new.self c.times_rows.ensures.scope (inside.factors + 1) inside.gathered.items c.self.invariant.gathered_are
 
 pub returns-clause-places : goal.returns-clause-places
 returns-clause-places g c = λ p h e.
     let inside = c.self.inside in
-    let old : FlowOf = record { shape = inside.shape.value; tables = inside.tables.items; upward = inside.upward.items; downward = inside.downward.items; factors = inside.factors; computed = inside.computed } in
+    let old : FlowOf = record { shape = inside.shape.value; tables = inside.tables.items; cores = inside.cores.items; summed = inside.summed.items; upward = inside.upward.items; downward = inside.downward.items; factors = inside.factors; computed = inside.computed } in
     let fits = subst (λ (n : List Variable). IsPlacedFactor n c.args.self.now.shape.tree (record { clique = c.args.clique; factor = RowsOf c.args.variable })) (sym e) c.requires.3 in
-    places_factor old c.args.self.now c.self.view_is inside.cores.items inside.products.items inside.cells c.self.invariant.kept p h c.args.clique fits.clique_is c.index_mut.result.now c.index_mut.ensures.value c.times_rows.new.self c.times_rows.ensures.scope
-    g.R.Semiring.plus_of (RowsOf c.args.variable) fits (omega (arith, c.requires.1.has.counted, c.requires.1.room)) (omega (arith, c.times_rows.ensures.shift))
+    places_unmarked g.R.Semiring.plus_of old c.args.self.now c.self.view_is inside.products.items inside.cells c.self.invariant.kept p h c.args.clique fits.clique_is c.index_mut.result.now c.index_mut.ensures.value c.times_rows.new.self c.times_rows.ensures.scope
+    (RowsOf c.args.variable) fits (omega (arith, c.requires.1.has.counted, c.requires.1.room)) (omega (arith, c.times_rows.ensures.shift))
     (subst (λ (n : List Variable). (f : ℕ → ℕ) (k : ℕ) → HasNumbers c.index_mut.result.now f k
     → HasNumbers c.times_rows.new.self (λ i. f i * share_there n c.args.variable (values_at c.index_mut.result.now.scope i)) (k + 1)) (sym e) c.times_rows.ensures.numbers)

@@ -6,12 +6,11 @@ use Rattle.mk_table.specs.Scopes.{ScopeOf, PlacesOf, HasEvent, cells_in}
 use Rattle.mk_table.specs.Cells.{cells_where}
 use Rattle.mk_table.specs.Tables.{TableOf}
 use Rattle.mk_table.specs.inner.Parts.{ArePlaces}
-use Rattle.mk_table.specs.inner.Touched.{IsWithin}
+use Rattle.mk_table.specs.inner.Touched.{HasTouched, IsWithin}
 use Rattle.mk_table.specs.inner.Strides.{runs_of}
 use Rattle.mk_table.specs.inner.Blank.{one_digits, one_exponent, filled}
-use Rattle.mk_table.proofs.Whole.{parts_room, parts_full, onto_within, where_within}
-use Rattle.mk_table.proofs.Onto.{all_beside}
-use Rattle.mk_table.proofs.Margins.{full_parts, margin_after}
+use Rattle.mk_table.proofs.Whole.{parts_room, parts_full, table_after, onto_within, where_within}
+use Rattle.mk_table.proofs.Margins.{full_parts, again_after}
 use Rattle.mk_table.proofs.table.Table.margin_again_into.Goals as goal
 
 -- the places, by the scopes of the two tables
@@ -49,18 +48,18 @@ plus_at_chosen-requires-clause-chosen g c =
     subst (λ (ys : List ℕ). All (λ b. b < length bases) ys) (sym chosen)
     (All-weaker (λ b. 0 + b < cells_in part) (λ b. b < length bases) (λ b h. omega (arith, h, are.one_each)) (cells_where part allowed) (where_within part allowed))
 
-pub returns-clause-margin : goal.returns-clause-margin
-returns-clause-margin g c =
+pub returns-clause-numbers : goal.returns-clause-numbers
+returns-clause-numbers g c = λ f n has but.
     let whole = c.args.self.now.scope in let part = c.out.inside.scope.value in let bases = c.lists-run.result.0.now in let offsets = runs_of c.lists-run.result.2 c.lists-run.result.1.now in
     let are = places_of c.args.places.now whole c.args.out.now.scope part bases offsets c.lists-run.result.2 c.requires.places (ap (λ (t : TableOf). t.scope) c.out.view_is) c.lists-run.ensures in
     let long : cells_in c.self.inside.scope.value ≤ length c.self.inside.digits.items =
     let n = c.cells.ensures.cells ∙ ap cells_in c.deref.ensures in let v = ap (λ (ys : List ℕ). length ys) c.deref-4.ensures.value in omega (arith, n, v, c.deref-4.ensures.len, c.len.ensures, c.if-len-cells.false) in
     let parts = full_parts c.args.self.now _ _ _ _ _ _ _ c.self.view_is c.self.invariant long c.deref-4.result.now c.deref-5.result.now c.deref-4.ensures.value c.deref-5.ensures.value in
-    let allowed = c.pairs_within-allowed.result in let after = c.put_within.new.out in
-    let within : IsWithin part c.args.self.now.touched after =
-    subst (λ (o : Option (List Pair)). IsWithin part o after) (ap (λ (t : TableOf). t.touched) c.self.view_is) (subst (λ (s : ScopeOf). IsWithin s c.self.inside.touched after) c.deref-6.ensures c.put_within.ensures) in
-    margin_after g.R.Semiring.plus_of c.args.self.now _ c.args.out.now c.out.view_is c.args.event.now allowed c.requires.margin bases offsets c.as_slice.result.now c.lists-run.result.2 are
-    (all_beside part whole bases offsets c.lists-run.result.2 are) c.pairs_within-allowed.ensures.part (subst (λ (s : ScopeOf). HasEvent s allowed) c.deref-2.ensures c.pairs_within-allowed.ensures.there)
+    let allowed = c.pairs_within-allowed.result in let within = c.put_within.new.out in
+    let is_within : IsWithin part c.args.self.now.touched within =
+    subst (λ (o : Option (List Pair)). IsWithin part o within) (ap (λ (t : TableOf). t.touched) c.self.view_is) (subst (λ (s : ScopeOf). IsWithin s c.self.inside.touched within) c.deref-6.ensures c.put_within.ensures) in
+    again_after g.R.Semiring.plus_of g.met.R.Semiring.lawful c.args.self.now _ c.args.out.now c.out.view_is c.args.event.now allowed bases offsets c.as_slice.result.now c.lists-run.result.2 are
+    c.pairs_within-allowed.ensures.part (subst (λ (s : ScopeOf). HasEvent s allowed) c.deref-2.ensures c.pairs_within-allowed.ensures.there)
     (c.as_slice.ensures ∙ c.cells_where.ensures.cells ∙ ap (λ (s : ScopeOf). cells_where s allowed) c.deref-3.ensures)
     c.deref-4.result.now c.deref-5.result.now c.deref_mut.result.now c.deref_mut-2.result.now parts.digits_are parts.exponents_are parts.full.as_many_digits
     (c.deref_mut.ensures.value ∙ c.fill.ensures.digits ∙ ap (λ k. filled one_digits k c.out.inside.digits.items) are.one_each)
@@ -71,4 +70,18 @@ returns-clause-margin g c =
       exponents = omega (arith, c.plus_at_chosen.auto.out_exponents, c.deref_mut-2.ensures.len);
       all_digits = c.fill.ensures.all_digits ∙ are.one_each;
       all_exponents = c.fill.ensures.all_exponents ∙ are.one_each;
-    }) c.plus_at_chosen.ensures c.self.inside.shift after (ap (λ (t : TableOf). t.shift) c.self.view_is) within
+    }) c.plus_at_chosen.ensures c.self.inside.shift within c.take_either.new.touched (ap (λ (t : TableOf). t.shift) c.self.view_is) is_within c.out.invariant.there c.take_either.ensures f n has but
+
+pub invariant_of-out : goal.invariant_of-out
+invariant_of-out g c =
+    let whole = c.args.self.now.scope in let part = c.out.inside.scope.value in let bases = c.lists-run.result.0.now in let offsets = runs_of c.lists-run.result.2 c.lists-run.result.1.now in
+    let are = places_of c.args.places.now whole c.args.out.now.scope part bases offsets c.lists-run.result.2 c.requires.places (ap (λ (t : TableOf). t.scope) c.out.view_is) c.lists-run.ensures in
+    let there = c.put_within.ensures.there in
+    table_after part c.fill.new.digits c.fill.new.exponents c.plus_at_chosen.new.out_digits c.plus_at_chosen.new.out_exponents _ _ _ _ _ _ c.out.invariant
+    (record {
+      digits = omega (arith, c.plus_at_chosen.auto.out_digits, c.deref_mut.ensures.len);
+      exponents = omega (arith, c.plus_at_chosen.auto.out_exponents, c.deref_mut-2.ensures.len);
+      all_digits = c.fill.ensures.all_digits ∙ are.one_each;
+      all_exponents = c.fill.ensures.all_exponents ∙ are.one_each;
+    }) c.fill.ensures.digits_room c.fill.ensures.exponents_room
+    (c.take_either.ensures.variables part c.out.invariant.there (subst (λ (s : ScopeOf). HasTouched s c.put_within.new.out) c.deref-6.ensures there))

@@ -1,9 +1,8 @@
-use Rattle.std.proofs.Common.{◌≡◌, ◌+◌, ◌-◌, ◌*◌, ◌≤◌, length, slice_index, arith, ap, subst, sym, ◌∙◌}
+use Rattle.std.proofs.Common.{◌≡◌, ℕ, ◌+◌, ◌-◌, ◌*◌, ◌≤◌, length, slice_index, arith, ap, subst, sym, ◌∙◌}
 use Rattle.mk_exact.specs.States.{plus_over}
 use Rattle.mk_table.specs.Scopes.{ScopeOf, PlacesOf, cells_in}
 use Rattle.mk_table.specs.Tables.{TableOf, HasNumbers}
 use Rattle.mk_table.specs.Cells.{cells_onto, cells_beside}
-use Rattle.mk_table.specs.Margins.{IsMarginOf}
 use Rattle.std.specs.Prelude.{List, Option}
 use Rattle.mk_net.specs.declared.words.Pair.{Pair}
 use Rattle.mk_table.specs.inner.Touched.{IsWithin}
@@ -12,7 +11,7 @@ use Rattle.mk_table.specs.inner.Blank.{one_digits, one_exponent, filled}
 use Rattle.mk_table.proofs.Whole.{table_full, parts_of, parts_room, onto_within}
 use Rattle.mk_table.proofs.Filled.{at_most, filled_length}
 use Rattle.mk_table.proofs.Onto.{all_beside}
-use Rattle.mk_table.proofs.Margins.{margin_written, margin_has}
+use Rattle.mk_table.proofs.Margins.{margin_numbers}
 use Rattle.mk_table.proofs.table.Table.margin_into.Goals as goal
 
 pub plus_of_each-requires-clause-within : goal.plus_of_each-requires-clause-within
@@ -33,39 +32,32 @@ plus_of_each-requires-clause-room g c =
     let few : length offsets ≤ cells_in c.args.self.now.scope = let s = ap cells_in whole_is in omega (arith, s, c.lists-run.ensures.few) in
     parts_room _ _ _ _ _ parts (2 * cells_in c.args.self.now.scope) (2 * length offsets) c.requires.room (omega (arith, few))
 
-pub returns-clause-margin : goal.returns-clause-margin
-returns-clause-margin g c =
+pub returns-clause-numbers : goal.returns-clause-numbers
+returns-clause-numbers g c = λ f n h.
+    let now = c.args.self.now in let kept = c.out.inside.scope.value in
     let part = c.args.places.now.part in let whole = c.args.places.now.whole in let bases = c.lists-run.result.0.now in let offsets = runs_of c.lists-run.result.2 c.lists-run.result.1.now in
-    let whole_is : whole ≡ c.args.self.now.scope = ap (λ (s : PlacesOf). s.whole) c.requires.places in
-    let parts = parts_of _ c.args.self.now whole (filled one_digits c.cells.result c.deref.result.now) (filled one_exponent c.cells.result c.deref-2.result.now)
+    let whole_is : whole ≡ now.scope = ap (λ (s : PlacesOf). s.whole) c.requires.places in
+    let parts = parts_of _ now whole (filled one_digits c.cells.result c.deref.result.now) (filled one_exponent c.cells.result c.deref-2.result.now)
     c.self.view_is (table_full _ _ _ _ _ _ c.self.invariant) c.self.invariant.there (whole_is ∙ sym (ap (λ (t : TableOf). t.scope) c.self.view_is))
     (ap (λ k. filled one_digits k c.deref.result.now) (c.cells.ensures.cells ∙ ap cells_in c.deref-3.ensures) ∙ ap (filled one_digits (cells_in c.self.inside.scope.value)) c.deref.ensures.value)
     (ap (λ k. filled one_exponent k c.deref-2.result.now) (c.cells.ensures.cells ∙ ap cells_in c.deref-3.ensures) ∙ ap (filled one_exponent (cells_in c.self.inside.scope.value)) c.deref-2.ensures.value) in
-    let out_is : part ≡ c.out.inside.scope.value = ap (λ (s : PlacesOf). s.part) c.requires.places ∙ sym (ap (λ (t : TableOf). t.scope) c.out.view_is) in
-    let R = g.R.Semiring in let are = c.lists-run.ensures in
+    let part_is : part ≡ c.args.out.now.scope = ap (λ (s : PlacesOf). s.part) c.requires.places in
+    let kept_is : part ≡ kept = part_is ∙ sym (ap (λ (t : TableOf). t.scope) c.out.view_is) in
+    let are = c.lists-run.ensures in
     let nd = c.plus_of_each.new.out_digits.items in let ne = c.plus_of_each.new.out_exponents.items in
     let long : length (filled one_digits (length bases) nd) ≡ cells_in part = filled_length one_digits (length bases) nd ((at_most (length bases) nd ne c.plus_of_each.ensures.held.whole).0) ∙ are.one_each in
     let after = c.put_within.new.out in
-    let within : IsWithin part c.args.self.now.touched after =
+    let within : IsWithin part now.touched after =
     subst (λ (o : Option (List Pair)). IsWithin part o after) (ap (λ (t : TableOf). t.touched) c.self.view_is)
-    (subst (λ (s : ScopeOf). IsWithin s c.self.inside.touched after) (c.deref-4.ensures ∙ sym out_is) c.put_within.ensures) in
-    let made = margin_written R.plus_of c.args.self.now whole part c.self.inside.shift (filled one_digits c.cells.result c.deref.result.now) (filled one_exponent c.cells.result c.deref-2.result.now)
-    (filled one_digits (length bases) nd) (filled one_exponent (length bases) ne) bases offsets c.lists-run.result.2 after parts are (all_beside part whole bases offsets c.lists-run.result.2 are) long within c.plus_of_each.ensures.stand in
-    subst (λ (s : ScopeOf). IsMarginOf R.plus_of c.args.self.now (record { scope = s; shift = c.self.inside.shift; digits = filled one_digits (cells_in s) nd; exponents = filled one_exponent (cells_in s) ne; touched = after })) out_is
-    (subst (λ m. IsMarginOf R.plus_of c.args.self.now (record { scope = part; shift = c.self.inside.shift; digits = filled one_digits m nd; exponents = filled one_exponent m ne; touched = after })) are.one_each made)
-
-pub returns-clause-numbers : goal.returns-clause-numbers
-returns-clause-numbers g c = λ f n h.
-    let now = c.args.self.now in
-    let out : TableOf = record {
-      scope = c.out.inside.scope.value;
-      shift = c.self.inside.shift;
-      digits = filled one_digits (cells_in c.out.inside.scope.value) c.plus_of_each.new.out_digits.items;
-      exponents = filled one_exponent (cells_in c.out.inside.scope.value) c.plus_of_each.new.out_exponents.items;
-      touched = c.put_within.new.out;
-    } in
-    subst (λ (s : ScopeOf). HasNumbers out (λ d. plus_over g.R.Semiring.plus_of 0 f (cells_onto s now.scope d)) (n + (2 * cells_beside s now.scope - 1))) (ap (λ (t : TableOf). t.scope) c.out.view_is)
-    (margin_has g.R.Semiring.plus_of g.met.R.Semiring.lawful now out (returns-clause-margin g c) f n h)
+    (subst (λ (s : ScopeOf). IsWithin s c.self.inside.touched after) (c.deref-4.ensures ∙ sym kept_is) c.put_within.ensures) in
+    let sums : ScopeOf → ℕ → ℕ = λ s d. plus_over g.R.Semiring.plus_of 0 f (cells_onto s now.scope d) in
+    let steps : ScopeOf → ℕ = λ s. n + (2 * cells_beside s now.scope - 1) in
+    let table : ScopeOf → ℕ → TableOf = λ s m. record { scope = s; shift = c.self.inside.shift; digits = filled one_digits m nd; exponents = filled one_exponent m ne; touched = after } in
+    let made = margin_numbers g.R.Semiring.plus_of g.met.R.Semiring.lawful now whole part c.self.inside.shift (filled one_digits c.cells.result c.deref.result.now) (filled one_exponent c.cells.result c.deref-2.result.now)
+    (filled one_digits (length bases) nd) (filled one_exponent (length bases) ne) bases offsets c.lists-run.result.2 after parts are long within c.plus_of_each.ensures.stand f n h in
+    subst (λ (s : ScopeOf). HasNumbers (table kept (cells_in kept)) (sums s) (steps s)) part_is
+    (subst (λ (s : ScopeOf). HasNumbers (table s (cells_in s)) (sums part) (steps part)) kept_is
+    (subst (λ m. HasNumbers (table part m) (sums part) (steps part)) are.one_each made))
 
 pub returns-clause-beside : goal.returns-clause-beside
 returns-clause-beside g c =

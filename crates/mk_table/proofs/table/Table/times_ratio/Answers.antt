@@ -9,7 +9,6 @@ use Rattle.mk_table.specs.Cells.{cells_where}
 use Rattle.mk_table.proofs.Kept.{event_first}
 use Rattle.mk_table.specs.inner.Blank.{one_digits, one_exponent, filled}
 use Rattle.mk_table.proofs.Whole.{table_full, parts_of, ratio_numbers, has_after, table_after}
-use Rattle.mk_table.proofs.Margins.{outside_after}
 use Rattle.mk_table.proofs.table.Table.times_ratio.Goals as goal
 
 pub cells_where-requires : goal.cells_where-requires
@@ -30,19 +29,6 @@ returns-clause-numbers g c = λ f n h.
       all_exponents = c.fill.ensures.all_exponents ∙ c.cells.ensures.cells ∙ ap cells_in c.deref-2.ensures;
     }) _ _ _ _
     (ratio_numbers c.args.self.now _ _ _ _ parts (trade_ratio c.args.ratio.now) c.as_slice.result.now c.times_units.new.digits c.times_units.new.exponents c.take_either.new.touched chosen c.times_units.ensures (subst (λ (o : Option (List Pair)). IsEither o (Some c.args.ratio.now.condition) c.take_either.new.touched) (ap (λ (u : TableOf). u.touched) c.self.view_is) c.take_either.ensures) f n h)
-
-pub returns-clause-others : goal.returns-clause-others
-returns-clause-others g c =
-    outside_after _ c.args.ratio.now.condition _ c.args.self.now c.self.view_is c.fill.new.digits c.fill.new.exponents c.times_units.new.digits c.times_units.new.exponents
-    (record {
-      digits = omega (arith, c.times_units.auto.digits, c.deref_mut.ensures.len);
-      exponents = omega (arith, c.times_units.auto.exponents, c.deref_mut-2.ensures.len);
-      all_digits = c.fill.ensures.all_digits ∙ c.cells.ensures.cells ∙ ap cells_in c.deref-2.ensures;
-      all_exponents = c.fill.ensures.all_exponents ∙ c.cells.ensures.cells ∙ ap cells_in c.deref-2.ensures;
-    }) c.deref_mut.result.now c.deref_mut-2.result.now c.as_slice.result.now
-    (c.deref_mut.ensures.value ∙ c.fill.ensures.digits ∙ ap (λ k. filled one_digits k c.self.inside.digits.items) (c.cells.ensures.cells ∙ ap cells_in c.deref-2.ensures))
-    (c.deref_mut-2.ensures.value ∙ c.fill.ensures.exponents ∙ ap (λ k. filled one_exponent k c.self.inside.exponents.items) (c.cells.ensures.cells ∙ ap cells_in c.deref-2.ensures))
-    (c.as_slice.ensures ∙ c.cells_where.ensures.cells ∙ ap (λ (s : ScopeOf). cells_where s c.args.ratio.now.condition) c.deref.ensures) c.times_units.ensures _ c.take_either.new.touched
 
 pub invariant_of-self : goal.invariant_of-self
 invariant_of-self g c =

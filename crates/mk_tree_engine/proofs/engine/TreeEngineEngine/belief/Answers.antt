@@ -1,11 +1,11 @@
 use Rattle.std.proofs.Common.{◌≡◌, ℕ, true, is_some, sym, ap, subst, ◌∙◌, arith}
 use Rattle.mk_tree.specs.Given.{GivenTree, home, holds_event, clique_at}
 use Rattle.mk_propagate.specs.Shapes.{ShapeOf, IsClique}
-use Rattle.mk_propagate.specs.Flows.{FlowOf, counted_on, reading_grade}
-use Rattle.mk_tree_engine.specs.Engines.{MarkedFlow, HasTree, ClearsTowards, reading_clique, stale_number, placing_of}
+use Rattle.mk_propagate.specs.Flows.{counted_on, reading_grade}
+use Rattle.mk_tree_engine.specs.Engines.{MarkedFlow, ClearsTowards, reading_clique, stale_number, placing_of}
 use Rattle.mk_tree_engine.specs.inner.Marks.{marked, IsMarked}
 use Rattle.mk_tree_engine.specs.inner.Passes.{IsCount}
-use Rattle.mk_tree_engine.proofs.Placed.{stands_old}
+use Rattle.mk_tree_engine.proofs.Placed.{stands_old, still_stands}
 use Rattle.mk_tree_engine.proofs.Believing.{can_collect, is_marked, kept_tree, clears, counts, can_read, sharp, belief_of}
 use Rattle.mk_tree_engine.proofs.engine.TreeEngineEngine.belief.Goals as goal
 
@@ -40,7 +40,7 @@ invariant_of-self g c =
     let last = marked c.collect.new.flow c.collect.new.marks.up.items c.collect.new.marks.down.items in
     let e : c.shape.result.now.tree ≡ inside.flow.shape.tree = ap (λ (s : ShapeOf). s.tree) c.shape.ensures in
     let at_k = subst (λ (t : GivenTree). IsClique t k) e c.event_home-clique.ensures.clique in
-    subst (λ (f : FlowOf). IsMarked f.shape.tree c.collect.new.marks.up.items c.collect.new.marks.down.items c.collect.new.marks.collected) (sym c.read.ensures.kept)
+    subst (λ (s : ShapeOf). IsMarked s.tree c.collect.new.marks.up.items c.collect.new.marks.down.items c.collect.new.marks.collected) (sym c.read.ensures.kept.same_shape)
     (is_marked plus old c.self.invariant.marks_of k at_k last c.collect.ensures.made c.collect.new.marks.collected c.collect.ensures.collected)
 
 pub returns-clause-kept : goal.returns-clause-kept
@@ -51,7 +51,7 @@ returns-clause-kept g c = λ m stands.
     let e : c.shape.result.now.tree ≡ inside.flow.shape.tree = ap (λ (s : ShapeOf). s.tree) c.shape.ensures in
     let at_k = subst (λ (t : GivenTree). IsClique t k) e c.event_home-clique.ensures.clique in
     let h = stands_old plus old c.args.self.now m c.self.view_is stands in
-    subst (λ (f : FlowOf). HasTree plus (marked f c.collect.new.marks.up.items c.collect.new.marks.down.items) m) (sym c.read.ensures.kept)
+    still_stands plus c.collect.new.flow c.read.new.self c.collect.new.marks.up.items c.collect.new.marks.down.items m c.read.ensures.kept c.read.ensures.still
     (kept_tree plus old c.self.invariant.marks_of k at_k last c.collect.ensures.made m h)
 
 pub returns-clause-belief : goal.returns-clause-belief
@@ -66,7 +66,7 @@ returns-clause-belief g c = λ m stands.
     R.encloses R.has_grade R.is_exact law.grade_more c.args.event.now c.read.result c.read.ensures.reading m h
 
 pub returns-clause-shape : goal.returns-clause-shape
-returns-clause-shape g c = ap (λ (f : FlowOf). f.shape) c.read.ensures.kept ∙ c.collect.ensures.made.kept.same_shape ∙ ap (λ (e : MarkedFlow). e.flow.shape) c.self.view_is
+returns-clause-shape g c = c.read.ensures.kept.same_shape ∙ c.collect.ensures.made.kept.same_shape ∙ ap (λ (e : MarkedFlow). e.flow.shape) c.self.view_is
 
 pub returns-clause-counted : goal.returns-clause-counted
 returns-clause-counted g c =
@@ -80,7 +80,7 @@ returns-clause-counted g c =
     let place : k ≡ reading_clique c.args.self.now.flow.shape.tree event =
     c.event_home-clique.ensures.home ∙ ap (λ (t : GivenTree). reading_clique t event) (e ∙ ap (λ (e : MarkedFlow). e.flow.shape.tree) c.self.view_is) in
     subst (λ (n : ℕ). c.read.new.self.computed ≡ counted_on c.args.self.now.flow.computed (stale_number c.args.self.now n)) place
-    (subst (λ (o : MarkedFlow). c.read.new.self.computed ≡ counted_on o.flow.computed (stale_number o k)) c.self.view_is (ap (λ (f : FlowOf). f.computed) c.read.ensures.kept ∙ counted))
+    (subst (λ (o : MarkedFlow). c.read.new.self.computed ≡ counted_on o.flow.computed (stale_number o k)) c.self.view_is (c.read.ensures.kept.same_count ∙ counted))
 
 pub returns-clause-marks : goal.returns-clause-marks
 returns-clause-marks g c =
