@@ -2,17 +2,7 @@
 #![tactic(auto)]
 
 mod program;
-#[cfg(test)]
-mod rows;
 mod sample;
-#[cfg(test)]
-mod sample_rows;
-#[cfg(test)]
-mod sizes;
-#[cfg(test)]
-mod tallies;
-#[cfg(test)]
-mod tests;
 mod words;
 
 use mk_io::{StdInputs, StdSink};
