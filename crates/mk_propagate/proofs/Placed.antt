@@ -1,6 +1,6 @@
 -- One factor or one known pair more in a clique.
 use Rattle.std.proofs.Common.{◌≡◌, ◌≢◌, ℕ, suc, zero, ◌+◌, ◌-◌, ◌*◌, ◌<◌, ◌≤◌, Bool, true, false, cond, not, ◌&&◌, ◌==◌, if◌then◌else◌, ◌⊎◌, inl, inr, List, [], ◌∷◌, ◌++◌, map, length, slice_index, slice_index_or, get_or, refl, sym, ap, subst, ◌∙◌, arith, mul_assoc, mul_comm, mul-one, eq-eqb, ne_eqb}
-use Rattle.std.specs.Prelude.{slice_set}
+use Rattle.std.specs.Prelude.{nat_lt, slice_set}
 use Rattle.std.proofs.Math.Path.{fun_ext}
 use Rattle.std.proofs.lemmas.Bool.{cases_eq, both_ways}
 use Rattle.std.proofs.lemmas.List.{length_push, map-append, length-set, get_or-set_same, get_or-set_other, get_or_default, get_or_push}
@@ -22,7 +22,7 @@ use Rattle.mk_tree.specs.Given.{GivenTree, AreLinked, holds, link_of}
 use Rattle.mk_engine.specs.Meaning.{Factor, factor_there, max_factors}
 use Rattle.mk_propagate.specs.Shapes.{ShapeOf, IsShapeFor, IsClique, is_behind, clique_scope, core_scope, separator_scope, separator_between, clique_cells, in_core}
 use Rattle.mk_propagate.specs.Placings.{Placing, PlacedFactor, PlacedPair, with_factor_in, with_pair_in, nothing_placed, factor_item, pair_item, placed_there, factors_in, IsPlacedFactor, IsPlacedPair, IsPlacing}
-use Rattle.mk_propagate.specs.Flows.{FlowOf, no_table, table_at, core_at, is_summed, message_at, HasCells, HasSums, HasPlaced, IsRight, Places, core_there, core_steps, private_cells, exact_message, exact_message_grade}
+use Rattle.mk_propagate.specs.Flows.{FlowOf, no_table, table_at, core_at, is_summed, message_at, HasCells, HasSums, HasPlaced, IsRight, KeepsMessages, Places, core_there, core_steps, private_cells, exact_message, exact_message_grade}
 use Rattle.mk_propagate.specs.inner.Kept.{IsKept, AreOverCores}
 use Rattle.mk_propagate.specs.inner.Ones.{IsOnes, AreOnes}
 
@@ -111,6 +111,15 @@ right_kept plus old new p q a b shape message exact grade r = record {
       (subst (λ (f : (ℕ → ℕ) → ℕ). HasCells (message_at old a b) (separator_between old.shape a b) f (3 * exact_message_grade old.shape.tree p a b)
       (exact_message_grade old.shape.tree p a b)) exact r.cells)));
 }
+
+-- where each message is as it was, what was right still is
+pub right_still : (plus : ℕ → ℕ → ℕ) (old new : FlowOf) (p : Placing) (a b : ℕ) → KeepsMessages old new → IsRight plus old p a b → IsRight plus new p a b
+right_still plus old new p a b kept r = right_kept plus old new p p a b kept.same_shape same_message refl refl r
+  where
+    same_message : message_at new a b ≡ message_at old a b
+    same_message =
+        ap (λ (ts : List TableOf). if nat_lt b a then slice_index_or ts (a - 2) no_table else slice_index_or new.downward (b - 2) no_table) kept.same_upward
+        ∙ ap (λ (ts : List TableOf). if nat_lt b a then slice_index_or old.upward (a - 2) no_table else slice_index_or ts (b - 2) no_table) kept.same_downward
 
 -- other things are placed in the same network
 abbrev pub changed : Placing → List PlacedFactor → List PlacedPair → Placing

@@ -1,24 +1,15 @@
 -- One message made: which marks are left, and what is right then.
-use Rattle.std.proofs.Common.{◌≡◌, ℕ, ◌+◌, ◌-◌, ◌*◌, ◌<◌, Bool, true, false, cond, not, ◌&&◌, ◌⊎◌, inl, inr, eqb, ltb, List, length, get_or, set, refl, sym, ap, subst, ◌∙◌, arith, eq-eqb, length-set, get_or-set_same, get_or-set_other}
+use Rattle.std.proofs.Common.{◌≡◌, ℕ, ◌+◌, ◌-◌, ◌<◌, Bool, true, false, cond, not, ◌&&◌, ◌⊎◌, inl, inr, eqb, ltb, List, length, get_or, set, refl, sym, ap, subst, ◌∙◌, arith, eq-eqb, length-set, get_or-set_same, get_or-set_other}
 use Rattle.std.proofs.lemmas.Bool.{cases_eq, cases_Bool, cond-true, cond-false, lt-ltb, le-ltb, and_parts, both_ways, eqb-true, and_from}
 use Rattle.mk_sums.proofs.Hops as hops
-use Rattle.mk_table.specs.Tables.{TableOf}
 use Rattle.mk_tree.specs.Given as given
 use Rattle.mk_tree.specs.Given.{GivenTree, link_of}
-use Rattle.mk_propagate.specs.Shapes.{ShapeOf, are_linked, separator_between}
+use Rattle.mk_propagate.specs.Shapes.{ShapeOf, are_linked}
 use Rattle.mk_propagate.specs.Placings.{Placing}
-use Rattle.mk_propagate.specs.Flows.{FlowOf, HasPlaced, HasCells, IsRight, AreRightBut, KeepsTables, counted_on, message_at, exact_message, exact_message_grade}
+use Rattle.mk_propagate.proofs.Placed.{right_kept}
+use Rattle.mk_propagate.specs.Flows.{FlowOf, HasPlaced, IsRight, AreRightBut, KeepsTables, counted_on, message_at}
 use Rattle.mk_tree_engine.specs.inner.Marks.{marked, marked_stale, AreMarks, AreMarksOf, cleared_up, cleared_down}
 use Rattle.mk_tree_engine.specs.inner.Passes.{AreCurrent, IsMade, IsCount}
-
--- ---- flows that differ in messages alone
-
-pub right_kept : (plus : ℕ → ℕ → ℕ) (old new : FlowOf) (p : Placing) (a b : ℕ) → new.shape ≡ old.shape → message_at new a b ≡ message_at old a b → IsRight plus old p a b → IsRight plus new p a b
-right_kept plus old new p a b e f h = record {
-  cells =
-      subst (λ (t : TableOf). HasCells t (separator_between new.shape a b) (exact_message plus new.shape.tree p a b) (3 * exact_message_grade new.shape.tree p a b) (exact_message_grade new.shape.tree p a b)) (sym f)
-      (subst (λ (s : ShapeOf). HasCells (message_at old a b) (separator_between s a b) (exact_message plus s.tree p a b) (3 * exact_message_grade s.tree p a b) (exact_message_grade s.tree p a b)) (sym e) h.cells);
-}
 
 -- ---- marks
 
@@ -179,4 +170,4 @@ module _ (plus : ℕ → ℕ → ℕ) (old : FlowOf) (up down : List Bool) (a b 
             subst (λ (x : ℕ). IsRight plus new p x j) (sym (eqb-true i a q.0)) (subst (λ (x : ℕ). IsRight plus new p a x) (sym (eqb-true j b q.1)) (right p h but))
         at p h but current i j l fresh (inr f) =
             let was : marked_stale up down i j ≡ false = all_of (marked_stale up down i j) (eqb i a && eqb j b) f ∙ sym (left i j l) ∙ fresh in
-            right_kept plus old new p i j kept.same_shape (others i j l (λ r. both_ways (eqb i a && eqb j b) f (both i a j b r.0 r.1))) (current i j l was)
+            right_kept plus old new p p i j kept.same_shape (others i j l (λ r. both_ways (eqb i a && eqb j b) f (both i a j b r.0 r.1))) refl refl (current i j l was)

@@ -1,19 +1,17 @@
 -- One thing more is placed, and what leads away from it is marked.
-use Rattle.std.proofs.Common.{◌≡◌, ℕ, ◌-◌, ◌<◌, Bool, true, if◌then◌else◌, Option, List, [], ◌∷◌, ◌++◌, map, length, sym, ap, subst, ◌∙◌, arith}
-use Rattle.std.specs.Prelude.{nat_lt, slice_index_or}
+use Rattle.std.proofs.Common.{◌≡◌, ℕ, ◌-◌, ◌<◌, Bool, true, Option, List, [], ◌∷◌, ◌++◌, map, length, sym, ap, subst, ◌∙◌, arith}
 use Rattle.std.specs.Option.{ForSome}
 use Rattle.std.proofs.lemmas.Bool.{or_parts}
 use Rattle.std.proofs.lemmas.List.{map-append, length-map}
 use Rattle.mk_net.specs.declared.words.Pair.{Pair}
-use Rattle.mk_table.specs.Tables.{TableOf}
 use Rattle.mk_tree.specs.Given.{GivenTree}
 use Rattle.mk_engine.specs.Meaning.{Meaning, Factor, with_factor, with_known, max_factors}
 use Rattle.mk_propagate.specs.Shapes.{ShapeOf, are_linked, is_behind}
 use Rattle.mk_propagate.specs.Placings.{Placing, PlacedFactor, PlacedPair, with_factor_in, with_pair_in}
-use Rattle.mk_propagate.specs.Flows.{FlowOf, HasPlaced, IsRight, CanPlace, Places, KeepsMessages, KeepsTables, no_table, message_at}
+use Rattle.mk_propagate.proofs.Placed.{right_still}
+use Rattle.mk_propagate.specs.Flows.{FlowOf, HasPlaced, IsRight, CanPlace, Places, KeepsMessages, KeepsTables}
 use Rattle.mk_tree_engine.specs.Engines.{MarkedFlow, HasTree, MarksAway, is_stale, placing_of, factor_home, pair_home}
 use Rattle.mk_tree_engine.specs.inner.Marks.{marked, AreMarksOf, AreMarkedUp, AreMarkedDown, AreCurrentTowards, IsMarked, kept_in}
-use Rattle.mk_tree_engine.proofs.Making.{right_kept}
 use Rattle.mk_tree_engine.proofs.Marking.{marks_away, marks_kept, kept_current}
 
 pub factor_placed : (m : Meaning) (f : Factor) (clique : ℕ) → clique ≡ factor_home m.network m.tree f → with_factor_in clique f (placing_of m) ≡ placing_of (with_factor f m)
@@ -82,10 +80,5 @@ pub still_stands : (plus : ℕ → ℕ → ℕ) (old new : FlowOf) (up down : Li
 still_stands plus old new up down m kept still h = record {
   tree_is = ap (λ (s : ShapeOf). s.tree) kept.same_shape ∙ h.tree_is;
   placed = still.placed (placing_of m) h.placed;
-  current = λ a b l fresh. right_kept plus old new (placing_of m) a b kept.same_shape (same_message a b) (h.current a b l fresh);
+  current = λ a b l fresh. right_still plus old new (placing_of m) a b kept (h.current a b l fresh);
 }
-  where
-    same_message : (a b : ℕ) → message_at new a b ≡ message_at old a b
-    same_message a b =
-        ap (λ (ts : List TableOf). if nat_lt b a then slice_index_or ts (a - 2) no_table else slice_index_or new.downward (b - 2) no_table) kept.same_upward
-        ∙ ap (λ (ts : List TableOf). if nat_lt b a then slice_index_or old.upward (a - 2) no_table else slice_index_or ts (b - 2) no_table) kept.same_downward
