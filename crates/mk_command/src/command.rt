@@ -7,7 +7,7 @@ use arrayvec::ArrayVec;
 use mk_net::{Name, PairText, QuestionText};
 
 /// A line of the command stream.
-#[derive(Clone, Debug, Drop, PartialEq, Eq)]
+#[derive(Debug, Drop, PartialEq, Eq)]
 pub enum Command {
     /// `user U`: U joins.
     User {
@@ -77,7 +77,7 @@ pub struct Words {
 
 /// A command whose question, or condition and shares, are lent: what `Command` is, passed on without a copy of these. `command_of` in the
 /// definitions says which command it is.
-#[derive(Clone, Debug, Drop, PartialEq, Eq)]
+#[derive(Debug, Drop, PartialEq, Eq)]
 pub enum CommandRef<'a> {
     /// `user U`.
     User {

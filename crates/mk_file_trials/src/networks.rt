@@ -1,9 +1,7 @@
 //! Networks of drafts, and the first faults of others.
 
 use crate::drafts::{Given, LAWN, RAIN, REFUSED, SEASON};
-use mk_net::{
-    Draft, Event, Name, NetFault, Network, Pair, PairText, Question, Ratio, VariableDraft,
-};
+use mk_net::{Draft, Name, NetFault, Network, PairText, VariableDraft};
 use std::alloc::Global;
 use std::process::Abort;
 use std::test::Fail;
@@ -106,25 +104,5 @@ fn refuses_others(rt: HostRuntime) -> Result<(), Fail> {
     for (given, fault) in REFUSED {
         assert_eq!(rt; first_fault(rt.alloc(), *given)?, Some(*fault));
     }
-    Ok(())
-}
-
-#[test]
-fn copies_the_ratio_of_a_question(rt: HostRuntime) -> Result<(), Fail> {
-    let wet = Pair {
-        variable: 0,
-        value: 0,
-    };
-    let high = Pair {
-        variable: 4,
-        value: 2,
-    };
-    let condition = Event::empty().with(wet).expect(&rt, "room");
-    let question = Question::make(high, condition).expect(&rt, "a question");
-    let ratio = Ratio::of_question(&question, 3, 7, 5);
-    let copy = ratio.clone()?;
-    assert_eq!(rt; copy.variable, 4);
-    assert_eq!(rt; copy.factors.as_slice(), [5, 5, 7].as_slice());
-    assert_eq!(rt; copy.event().pairs().len(), 2);
     Ok(())
 }

@@ -11,7 +11,6 @@ use crate::question::Question;
 use crate::ratio::Ratio;
 use crate::words::Pair;
 use arrayvec::ArrayVec;
-use std::alloc::AllocError;
 
 impl Ratio {
     /// The ratio of an edit: `hit` units where the question's target holds, and `miss` where its variable has another of
@@ -52,25 +51,6 @@ impl Ratio {
             Some(event) => event,
             None => self.condition,
         }
-    }
-}
-
-/// A copy is the same ratio, and copying asks for no memory.
-impl Clone for Ratio {
-    ghost use Rattle.std.specs.Prelude.{◌≡◌, ⊤};
-    ghost use Rattle.mk_net.specs.Trades.{trade_ratio};
-
-    ghost is_clone = { λ ratio copy. trade_ratio copy ≡ trade_ratio ratio };
-
-    ghost is_infallible = { λ _. ⊤ };
-
-    fn clone(&self) -> Result<Ratio, AllocError> {
-        let factors = self.factors.clone()?;
-        Ok(Ratio {
-            variable: self.variable,
-            condition: self.condition,
-            factors,
-        })
     }
 }
 

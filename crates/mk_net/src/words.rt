@@ -48,7 +48,7 @@ pub struct Pair {
 }
 
 /// A question as it is written: a target, and a condition of at most eight pairs in their order.
-#[derive(Clone, Debug, Default, Drop, PartialEq, Eq)]
+#[derive(Debug, Default, Drop, PartialEq, Eq)]
 pub struct QuestionText {
     pub target: PairText,
     pub condition: ArrayVec<PairText, 8>,

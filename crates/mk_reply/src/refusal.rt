@@ -7,7 +7,7 @@ use mk_net::{Name, PairText};
 pub type Intervals = ArrayVec<(u32, u32), 16>;
 
 /// Why a line is refused.
-#[derive(Clone, Debug, Drop, PartialEq, Eq)]
+#[derive(Debug, Drop, PartialEq, Eq)]
 pub enum Refusal {
     /// The line is the text of no command.
     Syntax,

@@ -1,5 +1,5 @@
 -- The opening of a run, and what its end says of the whole run.
-use Rattle.std.proofs.Common.{◌≡◌, ℕ, ◌<◌, ◌≤◌, List, [], ◌++◌, length, take, Option, Some, Result, Ok, Err, inl, inr, refl, sym, ap, subst, ◌∙◌, arith, codes, decimal, nat_lt, ◌⊎◌}
+use Rattle.std.proofs.Common.{◌≡◌, ℕ, ◌<◌, ◌≤◌, List, [], ◌++◌, length, take, Option, Some, Result, Ok, Err, inl, inr, refl, sym, ap, subst, ◌∙◌, arith, nat_lt, ◌⊎◌}
 use Rattle.std.specs.Prelude.{if◌then◌else◌}
 use Rattle.std.proofs.lemmas.List.{take_all, length-take}
 use Rattle.std.proofs.lemmas.Bool.{cases_lt, lt-ltb}
@@ -11,7 +11,7 @@ use Rattle.mk_exact.specs.Market.{Market}
 use Rattle.mk_file.specs.declared.fault.FileFault.{FileFault}
 use Rattle.mk_file.specs.declared.fault.FileFault.TheVariants.{TooLong}
 use Rattle.mk_file.specs.File.{file_of, of_document, document_of}
-use Rattle.mk_session.specs.Texts.{ready_line, fault_line, as_line}
+use Rattle.mk_session.specs.Texts.{ready_line, fault_line}
 use Rattle.mk_rules.specs.Transcript.{opening}
 use Rattle.mk_session.specs.Outcome.{Adds, Ends, Serves, NotOpened, Opened}
 use Rattle.mk_session.specs.inner.Progress.{IsEnded}
@@ -54,13 +54,6 @@ refused_front given fault all before after e front = record {
   holds = subst (λ (r : Result Market FileFault). Ends WriteFault r all all front.front) (sym e)
       (record { rest = front.rest; parts = front.parts }, refl);
 }
-
--- the ready line of a market
-pub ready_is : (market : Market) (variables points : ℕ) (line shown : List ℕ) → variables ≡ length market.network → points ≡ market.points_per_bit
-    → line ≡ as_line (codes "ready " ++ decimal variables ++ codes " " ++ decimal points) → shown ≡ line → shown ≡ ready_line market
-ready_is market variables points line shown v p e s =
-    s ∙ e ∙ ap (λ (n : ℕ). as_line (codes "ready " ++ decimal n ++ codes " " ++ decimal points)) v
-    ∙ ap (λ (n : ℕ). as_line (codes "ready " ++ decimal (length market.network) ++ codes " " ++ decimal n)) p
 
 -- a run that ended behind its ready line
 pub served_when_ended : (status : Status) (market file : Market) (all line : List ℕ) (source before ready after : Option (List ℕ)) → market ≡ file

@@ -6,7 +6,8 @@ ghost use Rattle.mk_io.specs.Outside.{HasCause, AddsFront};
 ghost use Rattle.mk_io.specs.Stream.{text, long, max_stream_lines};
 ghost use Rattle.mk_io.specs.Cutting.{GoesOn};
 ghost use Rattle.mk_session.specs.Texts.{reply_line};
-ghost use Rattle.mk_rules.specs.Transcript.{opening};
+ghost use Rattle.mk_exact.specs.Market.{Market};
+ghost use Rattle.mk_rules.specs.Transcript.{Standing, opening};
 ghost use Rattle.mk_session.specs.Transcript.{AreReplied};
 ghost use Rattle.mk_session.specs.Outcome.{HasCauses, CountsNone};
 ghost use Rattle.mk_session.specs.inner.Progress.{Gathers, AreGathered, IsReady, IsSoFar, IsEnded};
@@ -83,20 +84,17 @@ fn answer_text<S: Sink>(
     say(&reply, buffer, waiting, out)
 }
 
-/// Answers a line that is too long.
+/// Answers a line that is too long, as any market does.
 fn answer_long<S: Sink>(
-    market: &mut TreeMarket,
     buffer: &mut LineBuffer,
     waiting: &mut LineBuffer,
     out: &mut S,
 ) -> Result<(), SinkFailed>
-    ensures market { market.new.market ≡ market.old.market }
     ensures cause { HasCause (S.faults out.old) (S.faults out.new) result }
-    ensures answered { OnOk result (AreGathered market.old.market market.old.standing (long ∷ []) market.new.standing
+    ensures answered { (market : Market) (now : Standing) → OnOk result (AreGathered market now (long ∷ []) now
         (S.written out.old) (S.written out.new) waiting.old.bytes waiting.new.bytes) }
     ensures front { OnErr result (AddsFront (S.written out.old) (S.written out.new) waiting.old.bytes) }
 {
-    let _ = market.variables();
     say(&Reply::Refused { why: Refusal::Long }, buffer, waiting, out)
 }
 
@@ -138,7 +136,7 @@ fn answer_next<I: Inputs, S: Sink>(
             waiting,
             out,
         )),
-        Next::Long => end_after(answer_long(market, buffer, waiting, out)),
+        Next::Long => end_after(answer_long(buffer, waiting, out)),
         Next::End => Some(Status::Done),
         Next::ReadFault => Some(Status::ReadFault),
         Next::TooMany => Some(Status::TooMany),

@@ -6,7 +6,8 @@ ghost use Rattle.mk_io.specs.Cutting.{GoesOn};
 ghost use Rattle.mk_tree.specs.Checked.{IsTreeOf};
 ghost use Rattle.mk_file.specs.File.{file_of};
 ghost use Rattle.mk_file.specs.MarketOf.{market_of};
-ghost use Rattle.mk_rules.specs.Transcript.{opening};
+ghost use Rattle.mk_exact.specs.Market.{Market};
+ghost use Rattle.mk_rules.specs.Transcript.{Standing, opening};
 ghost use Rattle.mk_session.specs.Tally.{TallyEnds};
 ghost use Rattle.mk_session.specs.inner.Counting.{is_want, IsWithin, HasRoom, CountsLine, IsCountedSoFar, counted_as};
 
@@ -43,13 +44,26 @@ fn tally_file(alloc: Global, file: MarketFile, commands: &[u8]) -> Result<Tally,
     requires tree { IsTreeOf file.net file.tree }
     ensures { TallyEnds result (Ok (market_of file)) commands.now }
 {
-    let Ok(mut market) = open(alloc, file) else {
-        return Err(TallyFault::Memory);
-    };
-    let Ok(commands) = commands.to_vec(alloc) else {
-        return Err(TallyFault::Memory);
-    };
-    count_replies(alloc, &mut market, commands)
+    match open(alloc, file) {
+        Ok(mut market) => {
+            let counted = count_all(alloc, &mut market, commands);
+            // Let go by a call: the end of its scope would let go of each part, and take far longer to prove.
+            drop(market);
+            counted
+        }
+        Err(_) => Err(TallyFault::Memory),
+    }
+}
+
+/// Counts the replies to all commands, of which it takes a copy.
+fn count_all(alloc: Global, market: &mut TreeMarket, commands: &[u8]) -> Result<Tally, TallyFault>
+    requires { market.old.standing ≡ opening }
+    ensures { TallyEnds result (Ok market.old.market) commands.now }
+{
+    match commands.to_vec(alloc) {
+        Ok(commands) => count_replies(alloc, market, commands),
+        Err(_) => Err(TallyFault::Memory),
+    }
 }
 
 /// Counts the replies to all commands.
@@ -106,7 +120,7 @@ fn take_count(
     match lines.next(inputs) {
         Next::Line => end_where_short(count_text(alloc, market, lines.line(), tally)),
         Next::Long => {
-            count_long(market, tally);
+            count_long(tally);
             None
         }
         Next::End => Some(Ok(())),
@@ -150,14 +164,12 @@ fn count_text(
     Ok(())
 }
 
-/// Counts the reply to a line that is too long.
-fn count_long(market: &mut TreeMarket, tally: &mut Tally)
+/// Counts the reply to a line that is too long, which is that of any market.
+fn count_long(tally: &mut Tally)
     requires room { HasRoom max_stream_lines tally.old }
-    ensures market { market.new.market ≡ market.old.market }
     ensures fits { IsWithin (tally.old.replies + 1) tally.new }
-    ensures counted { CountsLine market.old.market market.old.standing long market.new.standing tally.old tally.new }
+    ensures counted { (market : Market) (now : Standing) → CountsLine market now long now tally.old tally.new }
 {
-    let _ = market.variables();
     tally.add(Reply::Refused { why: Refusal::Long });
 }
 

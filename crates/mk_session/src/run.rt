@@ -6,13 +6,15 @@ ghost use Rattle.mk_file.specs.File.{file_of};
 ghost use Rattle.mk_tree.specs.Checked.{IsTreeOf};
 ghost use Rattle.mk_file.specs.MarketOf.{market_of};
 ghost use Rattle.mk_exact.specs.Market.{Market};
+ghost use Rattle.mk_rules.specs.Transcript.{opening};
 ghost use Rattle.mk_file.specs.declared.fault.FileFault.{FileFault};
 ghost use Rattle.mk_session.specs.Outcome.{Adds, Ends, Opened, Outcome, HasCauses};
+ghost use Rattle.mk_session.specs.Texts.{ready_line};
 ghost use Rattle.mk_session.specs.Complete.{AreWithin};
 ghost use Rattle.mk_session.specs.inner.Loading.{opened_part, IsTaken, HasLoadCause};
 
 use crate::answer::answer_lines;
-use crate::market::open;
+use crate::market::{TreeMarket, open};
 use crate::print::{LineBuffer, print_fault_line, print_ready};
 use mk_file::{FileFault, MarketFile, read_market};
 use mk_io::{InputFailed, Inputs, Sink, Status, write_all};
@@ -102,18 +104,36 @@ fn answer_file<I: Inputs, S: Sink>(
     ensures causes { HasCauses result (I.faults inputs.old) (I.faults inputs.new) (S.faults out.old) (S.faults out.new) }
     ensures not_usage { result ≢ Status.Usage }
 {
-    let mut market = match open(alloc, file) {
-        Ok(market) => market,
-        Err(_) => return Status::Memory,
-    };
-    print_ready(market.variables(), market.points_per_bit(), line);
-    match write_all(out, line.as_bytes()) {
-        Ok(()) => {
-            let status = answer_lines(alloc, &mut market, inputs, line, out);
-            // The process ends next, and gives all memory back at once: one by one, the many small tables of a chain take long.
+    print_ready(&file, line);
+    match open(alloc, file) {
+        Ok(mut market) => {
+            let status = answer_opened(alloc, &mut market, inputs, line, out);
+            // The process ends next, and gives all memory back at once, also where the ready line could not be written: one by
+            // one, the many small tables of a chain take long.
             mem::forget(market);
             status
         }
+        Err(_) => Status::Memory,
+    }
+}
+
+/// Writes the ready line of an opened market, which stands in `line`, and answers its commands.
+fn answer_opened<I: Inputs, S: Sink>(
+    alloc: Global,
+    market: &mut TreeMarket,
+    inputs: &mut I,
+    line: &mut LineBuffer,
+    out: &mut S,
+) -> Status
+    requires opening { market.old.standing ≡ opening }
+    requires ready { line.old.bytes ≡ ready_line market.old.market }
+    ensures outcome { (all : List ℕ) → I.commands inputs.old ≡ Some all →
+        Opened result (Ok market.old.market) all (I.commands inputs.new) (S.written out.old) (S.written out.new) }
+    ensures causes { HasCauses result (I.faults inputs.old) (I.faults inputs.new) (S.faults out.old) (S.faults out.new) }
+    ensures not_usage { result ≢ Status.Usage }
+{
+    match write_all(out, line.as_bytes()) {
+        Ok(()) => answer_lines(alloc, market, inputs, line, out),
         Err(_) => Status::WriteFault,
     }
 }

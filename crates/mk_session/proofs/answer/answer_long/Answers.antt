@@ -9,7 +9,6 @@ use Rattle.mk_session.proofs.Gathering.{gathered_when_said}
 use Rattle.mk_session.proofs.answer.answer_long.Goals as goal
 
 pub returns-clause-answered : goal.returns-clause-answered
-returns-clause-answered g c =
-    let m = c.args.market.now in
-    gathered_when_said c.say.result m.market m.standing (long ∷ []) m.standing (reply_line (Refused Long)) _ _ _ _
-    (one_answered m.market m.standing (long ∷ []) m.standing (Refused Long) (one_replied m.market m.standing long LongLine (Refused Long) refl tt refl)) c.say.ensures.gathers
+returns-clause-answered g c = λ market now.
+    gathered_when_said c.say.result market now (long ∷ []) now (reply_line (Refused Long)) _ _ _ _
+    (one_answered market now (long ∷ []) now (Refused Long) (one_replied market now long LongLine (Refused Long) refl tt refl)) c.say.ensures.gathers

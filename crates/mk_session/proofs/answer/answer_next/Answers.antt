@@ -32,8 +32,8 @@ returns-in-Long-clause-so_far g c =
     let none = none_stays Long c.args.lines.now c.next.new.self (g.I.Inputs.commands c.args.inputs.now) (g.I.Inputs.commands c.next.new.inputs) (λ e. (cc)) c.requires.goes_on c.in-Long.ensures.answer in
     let gives = fresh_answer Long c.args.lines.now c.next.new.self (g.I.Inputs.commands c.args.inputs.now) (g.I.Inputs.commands c.next.new.inputs) none c.in-Long.ensures.answer in
     goes_on_after c.answer_long.result c.end_after-in-Long.result c.args.market.now.market long c.args.lines.now c.next.new.self
-    (g.I.Inputs.commands c.args.inputs.now) (g.I.Inputs.commands c.next.new.inputs) c.args.market.now.standing c.answer_long.new.market.standing
-    (g.S.Sink.written c.args.out.now) (g.S.Sink.written c.answer_long.new.out) c.args.waiting.now.bytes c.answer_long.new.waiting.bytes c.end_after-in-Long.ensures none gives.0 c.answer_long.ensures.answered
+    (g.I.Inputs.commands c.args.inputs.now) (g.I.Inputs.commands c.next.new.inputs) c.args.market.now.standing c.args.market.now.standing
+    (g.S.Sink.written c.args.out.now) (g.S.Sink.written c.answer_long.new.out) c.args.waiting.now.bytes c.answer_long.new.waiting.bytes c.end_after-in-Long.ensures none gives.0 (c.answer_long.ensures.answered c.args.market.now.market c.args.market.now.standing)
 
 pub returns-in-Long-clause-ended : goal.returns-in-Long-clause-ended
 returns-in-Long-clause-ended g c =

@@ -8,11 +8,10 @@ use Rattle.mk_session.proofs.Counted.{remembered_one}
 use Rattle.mk_session.proofs.counting.count_long.Goals as goal
 
 pub returns-clause-counted : goal.returns-clause-counted
-returns-clause-counted c =
-    let m = c.args.market.now in
+returns-clause-counted c = λ market now.
     record {
       replies = Refused Long ∷ [];
-      replied = one_replied m.market m.standing long LongLine (Refused Long) refl tt refl;
+      replied = one_replied market now long LongLine (Refused Long) refl tt refl;
       remembered = remembered_one (Refused Long) refl;
       counts = c.add.ensures.counts;
     }

@@ -18,7 +18,7 @@ returns-in-Long-clause-so_far c = λ all far.
     let none = none_stays Long c.args.lines.now c.next.new.self (Some c.args.inputs.now.commands) (Some c.next.new.inputs.commands) (λ e. (cc)) c.requires.goes_on c.in-Long.ensures.answer in
     let gives = fresh_answer Long c.args.lines.now c.next.new.self (Some c.args.inputs.now.commands) (Some c.next.new.inputs.commands) none c.in-Long.ensures.answer in
     counted_so_far_next c.args.market.now.market all long c.args.lines.now c.next.new.self c.args.inputs.now.commands c.next.new.inputs.commands
-    c.args.market.now.standing c.count_long.new.market.standing c.args.tally.now c.count_long.new.tally none gives.0 c.count_long.ensures.counted far
+    c.args.market.now.standing c.args.market.now.standing c.args.tally.now c.count_long.new.tally none gives.0 (c.count_long.ensures.counted c.args.market.now.market c.args.market.now.standing) far
 
 pub returns-in-End-clause-ended : goal.returns-in-End-clause-ended
 returns-in-End-clause-ended c = λ all far.
