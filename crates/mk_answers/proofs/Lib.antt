@@ -6,4 +6,3 @@ pub mod Weights
 pub mod Least
 pub mod Bounding
 pub mod Valued
-pub mod Staged

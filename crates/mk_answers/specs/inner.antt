@@ -1,3 +1,2 @@
--- What only proofs, private contracts and tests cite.
+-- What only proofs and private contracts cite.
 pub mod Found
-pub mod Stages

@@ -14,8 +14,3 @@ pub use laws::{fair_by_bounds, fair_list_by_bounds, right_bounds_by_bounds, righ
 pub use price::price_of;
 pub use spread::spread_bounds_of;
 pub use worst::{least_of, most_bits};
-
-#[cfg(test)]
-mod stage;
-#[cfg(test)]
-mod tests;

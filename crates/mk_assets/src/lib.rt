@@ -4,6 +4,3 @@
 mod assets;
 
 pub use assets::Assets;
-
-#[cfg(test)]
-mod tests;

@@ -1,9 +1,13 @@
 //! Markets from their files: runs of commands with their replies, and what a market keeps of them.
 
-ghost use Rattle.std.specs.Prelude.{◌≡◌};
+ghost use Rattle.std.specs.Prelude.{List};
+ghost use Rattle.mk_net.specs.Network.{Variable};
+ghost use Rattle.mk_tree.specs.Given.{GivenTree};
 
+use crate::coin::COIN;
 use arrayvec::ArrayString;
-use mk_command::{Words, read_command};
+use mk_command::{CommandRef, Words, read_command};
+use mk_engine::Engine;
 use mk_file::read_market;
 use mk_market::Market;
 use mk_reply::{Reply, print_reply};
@@ -13,30 +17,8 @@ use std::alloc::Global;
 use std::process::Abort;
 use std::test::Fail;
 
-type TreeMarket = Market<TreeEngine<SumProd>, TreeEngine<MinProd>>;
-
-/// A market file, and a run on it: each line is a command and its reply.
-#[derive(Clone, Copy)]
-struct Sample {
-    file: &'static str,
-    run: &'static str,
-}
-
-/// One coin.
-fn coin() -> Sample {
-    Sample {
-        file: "points_per_bit = 100
-max_trades = 1000
-cliques = [['coin']]
-links = []
-
-[[variable]]
-name = 'coin'
-values = ['heads', 'tails']
-parents = []
-rows = [[500000, 500000]]
-",
-        run: "user alice -> user alice at 1
+/// Commands to the market of a coin, each with its reply.
+const COIN_RUN: &str = "user alice -> user alice at 1
 worst alice -> worst 0..0
 deposit alice 1 -> deposit alice 1 at 2
 worst alice -> worst 100..100
@@ -45,14 +27,10 @@ worst bob -> refused user bob
 deposit alice 1001 -> refused range 1001
 user bob -> user bob at 3
 price coin=heads -> price 0.5000000000..0.5000000000
-price coin=edge -> refused name coin=edge",
-    }
-}
+price coin=edge -> refused name coin=edge";
 
 /// A coin that takes one trade.
-fn one_trade() -> Sample {
-    Sample {
-        file: "points_per_bit = 100
+const ONE_TRADE: &str = "points_per_bit = 100
 max_trades = 1
 cliques = [['coin']]
 links = []
@@ -62,8 +40,9 @@ name = 'coin'
 values = ['heads', 'tails']
 parents = []
 rows = [[500000, 500000]]
-",
-        run: "user alice -> user alice at 1
+";
+
+const ONE_TRADE_RUN: &str = "user alice -> user alice at 1
 deposit alice 1 -> deposit alice 1 at 2
 edit alice coin=heads to 0 -> refused range 0
 edit alice coin=heads to 1000000 -> refused range 1000000
@@ -80,14 +59,10 @@ price coin=heads -> refused resolved coin
 resolve coin=tails -> refused resolved coin
 settle -> settle at 6, alice 126..126 paid 126, bob 0..0 paid 0
 price coin=heads -> refused settled
-worst bobby -> refused settled",
-    }
-}
+worst bobby -> refused settled";
 
 /// Its second clique holds the first variable alone.
-fn weather() -> Sample {
-    Sample {
-        file: "points_per_bit = 100
+const WEATHER: &str = "points_per_bit = 100
 max_trades = 1000
 cliques = [['season', 'rain'], ['season']]
 links = [1]
@@ -103,8 +78,9 @@ name = 'rain'
 values = ['yes', 'no']
 parents = ['season']
 rows = [[700000, 300000], [100000, 900000]]
-",
-        run: "user ann -> user ann at 1
+";
+
+const WEATHER_RUN: &str = "user ann -> user ann at 1
 deposit ann 1 -> deposit ann 1 at 2
 edit ann rain=yes | season=wet to 800000 -> trade 1256584717458 733007751850 at 3
 price rain=yes | season=dry -> price 0.1000000000..0.1000000000
@@ -112,14 +88,10 @@ resolve season=dry -> resolve season=dry at 4
 price rain=yes | season=wet -> refused impossible season=wet
 price season=wet -> refused resolved season
 resolve rain=snow -> refused name rain=snow
-settle -> refused open rain",
-    }
-}
+settle -> refused open rain";
 
 /// Its cliques are linked in a row.
-fn chain() -> Sample {
-    Sample {
-        file: "points_per_bit = 100
+const CHAIN: &str = "points_per_bit = 100
 max_trades = 1000
 cliques = [['a', 'b'], ['b', 'c'], ['c']]
 links = [1, 2]
@@ -141,17 +113,16 @@ name = 'c'
 values = ['up', 'down']
 parents = ['b']
 rows = [[800000, 200000], [100000, 900000]]
-",
-        run: "price c=up | a=up -> refused wide
+";
+
+const CHAIN_RUN: &str = "price c=up | a=up -> refused wide
 price c=left -> refused name c=left
 price c=up | b=up, c=down -> refused twice c
 edit zed c=up | a=up to 500000 -> refused user zed
 price a=up | a=down, b=left -> refused name b=left
 price a=up | b=up, b=down, a=down -> refused twice b
 price a=up | b=up, a=up, b=up -> refused twice a
-price d=up | a=left -> refused name d=up",
-    }
-}
+price d=up | a=left -> refused name d=up";
 
 /// Stops unless this is what is printed of the reply to a line.
 fn expect_printed(rt: &impl Abort, reply: &Reply, line: &str, expected: &str) {
@@ -161,27 +132,38 @@ fn expect_printed(rt: &impl Abort, reply: &Reply, line: &str, expected: &str) {
 }
 
 /// Applies a command, and stops unless this is its reply.
-fn expect_reply(
+fn expect_answer<P: Engine<SumProd>, A: Engine<MinProd>>(
     rt: &impl Abort,
     alloc: Global,
-    market: &mut TreeMarket,
+    market: &mut Market<P, A>,
+    command: &CommandRef,
+    line: &str,
+    expected: &str,
+) {
+    let reply = market.apply(alloc, command);
+    expect_printed(rt, &reply, line, expected);
+}
+
+/// Reads a command from its line, and stops unless this is its reply.
+fn expect_reply<P: Engine<SumProd>, A: Engine<MinProd>>(
+    rt: &impl Abort,
+    alloc: Global,
+    market: &mut Market<P, A>,
     line: &str,
     expected: &str,
 ) {
     let mut words = Words::default();
-    let Ok(command) = read_command(line.as_bytes(), &mut words) else {
-        assert!(rt; false, "{line} is no command");
-        return;
-    };
-    let reply = market.apply(alloc, &command);
-    expect_printed(rt, &reply, line, expected);
+    match read_command(line.as_bytes(), &mut words) {
+        Ok(command) => expect_answer(rt, alloc, market, &command, line, expected),
+        Err(_) => assert!(rt; false, "{line} is no command"),
+    }
 }
 
 /// Applies each command of a run, and stops unless its reply is the one behind the arrow.
-fn expect_replies(
+fn expect_replies<P: Engine<SumProd>, A: Engine<MinProd>>(
     rt: &impl Abort,
     alloc: Global,
-    market: &mut TreeMarket,
+    market: &mut Market<P, A>,
     run: &str,
 ) -> Result<(), Fail> {
     for line in run.split("\n") {
@@ -191,44 +173,63 @@ fn expect_replies(
     Ok(())
 }
 
-/// Opens a market of a file, and expects each reply of a run.
-fn expect_run(rt: &impl Abort, alloc: Global, file: &str, run: &str) -> Result<TreeMarket, Fail> {
+/// How many variables, points of one bit, and entries of its history a market has.
+fn numbers_of<P: Engine<SumProd>, A: Engine<MinProd>>(market: &Market<P, A>) -> (u32, u32, usize) {
+    (
+        market.variables(),
+        market.points_per_bit(),
+        market.history().len(),
+    )
+}
+
+/// Expects each reply of a run, and these numbers of the market behind it.
+fn expect_market<P: Engine<SumProd>, A: Engine<MinProd>>(
+    rt: &impl Abort,
+    alloc: Global,
+    market: &mut Market<P, A>,
+    run: &str,
+    numbers: (u32, u32, usize),
+) -> Result<(), Fail> {
+    expect_replies(rt, alloc, market, run)?;
+    assert!(rt; numbers_of(market) == numbers);
+    Ok(())
+}
+
+/// Opens a market of a file, expects each reply of a run, and then these numbers of it.
+fn expect_run<P: Engine<SumProd>, A: Engine<MinProd>>(
+    rt: &impl Abort,
+    alloc: Global,
+    file: &str,
+    run: &str,
+    numbers: (u32, u32, usize),
+) -> Result<(), Fail>
+    requires prices { (network : List Variable) (tree : GivenTree) → P.suits network tree }
+    requires assets { (network : List Variable) (tree : GivenTree) → A.suits network tree }
+{
     let file = read_market(alloc, file.as_bytes())?;
-    let mut market = TreeMarket::start(alloc, file)?;
-    expect_replies(rt, alloc, &mut market, run)?;
-    Ok(market)
+    let mut market = Market::<P, A>::start(alloc, file)?;
+    expect_market(rt, alloc, &mut market, run, numbers)
+}
+
+/// Expects a run over tree engines, which suit every network.
+fn expect_tree_run(
+    rt: &impl Abort,
+    alloc: Global,
+    file: &str,
+    run: &str,
+    numbers: (u32, u32, usize),
+) -> Result<(), Fail> {
+    expect_run::<TreeEngine<SumProd>, TreeEngine<MinProd>>(rt, alloc, file, run, numbers)
 }
 
 #[test]
 fn coin_market(rt: HostRuntime) -> Result<(), Fail> {
-    let sample = coin();
-    let market = expect_run(&rt, rt.alloc(), sample.file, sample.run)?;
-    assert_eq!(rt; (market.variables(), market.points_per_bit()), (1, 100));
-    assert_eq!(rt; market.history().len(), 3);
-    Ok(())
+    expect_tree_run(&rt, rt.alloc(), COIN, COIN_RUN, (1, 100, 3))
 }
 
 #[test]
 fn each_refusal_has_its_words(rt: HostRuntime) -> Result<(), Fail> {
-    for sample in [one_trade(), weather(), chain()] {
-        let _ = expect_run(&rt, rt.alloc(), sample.file, sample.run)?;
-    }
-    Ok(())
-}
-
-/// As many users join as may, and then one more.
-fn joinings(alloc: Global) -> Result<String, Fail> {
-    let mut run = String::new(alloc);
-    for number in 1..257u32 {
-        run.push_str(&format!(in alloc; "user u{number} -> user u{number} at {number}\n")?)?;
-    }
-    run.push_str("user u257 -> refused users 256")?;
-    Ok(run)
-}
-
-#[test]
-fn the_257th_user_is_refused(rt: HostRuntime) -> Result<(), Fail> {
-    let run = joinings(rt.alloc())?;
-    let _ = expect_run(&rt, rt.alloc(), coin().file, &run)?;
-    Ok(())
+    expect_tree_run(&rt, rt.alloc(), ONE_TRADE, ONE_TRADE_RUN, (1, 100, 6))?;
+    expect_tree_run(&rt, rt.alloc(), WEATHER, WEATHER_RUN, (2, 100, 4))?;
+    expect_tree_run(&rt, rt.alloc(), CHAIN, CHAIN_RUN, (3, 100, 0))
 }

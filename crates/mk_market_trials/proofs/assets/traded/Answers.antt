@@ -1,7 +1,7 @@
 use Rattle.std.proofs.Common.{sym, arith, lit<, lit≤}
 use Rattle.mk_net.specs.Trades.{trade_ratio}
 use Rattle.mk_assets.specs.Holdings.{opening_holding, with_trade, with_deposit}
-use Rattle.mk_assets.proofs.tests.traded.Goals as goal
+use Rattle.mk_market_trials.proofs.assets.traded.Goals as goal
 
 pub trade-requires-2-clause-range : goal.trade-requires-2-clause-range
 trade-requires-2-clause-range g c =

@@ -1,31 +1,20 @@
 //! A user of a coin's market: gains and net bits by numbers worked out by hand.
 
-ghost use Rattle.std.specs.Prelude.{◌≡◌, ◌≤◌, [], ◌∷◌, length, slice_index, IfOk};
-ghost use Rattle.mk_net.specs.Network.{sizes};
+ghost use Rattle.std.specs.Prelude.{◌≡◌, ◌≤◌, [], ◌∷◌, IfOk};
 ghost use Rattle.mk_net.specs.Trades.{trade_ratio};
 ghost use Rattle.mk_engine.specs.Meaning.{ArePairsOf};
 ghost use Rattle.mk_assets.specs.Holdings.{Owns, opening_holding, with_trade, with_deposit, with_withdrawal};
 
-use crate::Assets;
+use crate::coin::{Coin, HEADS, TAILS, make_coin};
+use mk_assets::Assets;
 use mk_enclose::Factor;
 use mk_engine::Engine;
 use mk_joint::JointEngine;
-use mk_net::{Draft, Event, Network, Pair, Question, Ratio, VarSet, VariableDraft};
+use mk_net::{Event, Pair, Question, Ratio};
 use mk_semiring::MinProd;
-use mk_tree::Tree;
 use std::alloc::Global;
 use std::process::Abort;
 use std::test::Fail;
-
-const HEADS: Pair = Pair {
-    variable: 0,
-    value: 0,
-};
-
-const TAILS: Pair = Pair {
-    variable: 0,
-    value: 1,
-};
 
 /// What a trade of these units gains where the coin shows heads, and where it shows tails.
 const HIT: u64 = 1_319_413_953_331;
@@ -81,40 +70,6 @@ const ROWS: [Row; 6] = [
     },
 ];
 
-/// A network of one variable of two values, and a tree of it.
-#[derive(Drop)]
-struct Coin {
-    net: Network,
-    tree: Tree,
-    ghost one: { length net ≡ 1 },
-    ghost sides: { slice_index (sizes net) 0 ≡ 2 },
-}
-
-fn network(alloc: Global) -> Result<Network, Fail> {
-    let mut values = Vec::new(alloc);
-    values.push(String::from_str(alloc, "heads")?)?;
-    values.push(String::from_str(alloc, "tails")?)?;
-    let coin = VariableDraft {
-        name: String::from_str(alloc, "coin")?,
-        values,
-        parents: Vec::new(alloc),
-        rows: vec![in alloc; vec![in alloc; 500_000, 500_000]?]?,
-    };
-    let draft = Draft {
-        variables: vec![in alloc; coin]?,
-    };
-    Ok(Network::check(alloc, &draft)?)
-}
-
-fn make_coin(rt: &impl Abort, alloc: Global) -> Result<Coin, Fail> {
-    let net = network(alloc)?;
-    assert!(rt; net.variables() == 1);
-    assert!(rt; net.values(0) == 2);
-    let all = VarSet::empty().with(0);
-    let tree = Tree::from_cliques(alloc, &net, &[all], &[])?;
-    Ok(Coin { net, tree })
-}
-
 /// Whether the coin shows heads.
 fn heads(rt: &impl Abort) -> Question
     ensures { result ≡ record { target = HEADS; condition = [] } }
@@ -165,48 +120,60 @@ fn only(rt: &impl Abort, coin: &Coin, pair: Option<Pair>) -> Event
 fn least(rt: &impl Abort, alloc: Global, coin: &Coin, row: Row) -> Result<Option<Factor>, Fail> {
     assert!(rt; row.withdrawn <= 1000);
     let known = only(rt, coin, row.known);
+    let asked = only(rt, coin, row.asked);
     let mut assets = traded(rt, alloc, coin, known.pairs(), row.withdrawn)?;
-    Ok(assets.least(&only(rt, coin, row.asked)))
+    Ok(assets.least(&asked))
 }
 
-/// The least factors where the coin does not show heads: before it is known to show heads, and after.
-fn at_tails(
+/// Stops unless the least factor where the coin does not show heads is this before it is known to show heads, and none after.
+fn check_tails<A: Engine<MinProd>>(
     rt: &impl Abort,
-    alloc: Global,
     coin: &Coin,
-) -> Result<(Option<Factor>, Option<Factor>), Fail> {
-    let mut assets = traded(rt, alloc, coin, &[], 0)?;
+    assets: &mut Assets<A>,
+    least: (u64, i64),
+)
+    requires { Owns A.stands_for assets.old
+        (with_withdrawal 0 (with_deposit 1 (with_trade (record { variable = 0; condition = []; factors = HIT ∷ MISS ∷ [] }) (opening_holding coin.now.net coin.now.tree [])))) }
+{
     let asked = heads(rt);
     assert!(rt; coin.tree.home(&asked.event()).is_some());
     let before = assets.least_of_others(&asked, 2);
     assets.know(HEADS);
     let after = assets.least_of_others(&asked, 2);
-    assert_eq!(rt; assets.trades(), 1);
-    Ok((before, after))
+    assert!(rt; assets.trades() == 1);
+    check(rt, before, Some(least));
+    check(rt, after, None);
+}
+
+/// The least factors where the coin does not show heads.
+fn expect_at_tails(rt: &impl Abort, alloc: Global, coin: &Coin) -> Result<(), Fail> {
+    let mut assets = traded(rt, alloc, coin, &[], 0)?;
+    check_tails(rt, coin, &mut assets, (MISS, 1));
+    Ok(())
 }
 
 /// Stops unless the factor has this gain, exactly, of one trade, and these net bits.
 fn check(rt: &impl Abort, found: Option<Factor>, least: Option<(u64, i64)>) {
     let Some(factor) = found else {
-        assert_eq!(rt; least, None);
+        assert!(rt; least.is_none());
         return;
     };
     let gain = factor.gain;
-    assert_eq!(rt; Some((gain.lo().mantissa(), factor.net)), least);
-    assert_eq!(rt; gain.lo().exponent(), 0);
+    assert!(rt; Some((gain.lo().mantissa(), factor.net)) == least);
+    assert!(rt; gain.lo().exponent() == 0);
     assert!(rt; gain.lo() == gain.hi());
-    assert_eq!(rt; factor.trades, 1);
+    assert!(rt; factor.trades == 1);
+}
+
+fn expect_rows(rt: &impl Abort, alloc: Global, coin: &Coin) -> Result<(), Fail> {
+    for row in ROWS {
+        check(rt, least(rt, alloc, coin, row)?, row.least);
+    }
+    expect_at_tails(rt, alloc, coin)
 }
 
 #[test]
 fn least_factors(rt: HostRuntime) -> Result<(), Fail> {
-    let alloc = rt.alloc();
-    let coin = make_coin(&rt, alloc)?;
-    for row in ROWS {
-        check(&rt, least(&rt, alloc, &coin, row)?, row.least);
-    }
-    let (before, after) = at_tails(&rt, alloc, &coin)?;
-    check(&rt, before, Some((MISS, 1)));
-    check(&rt, after, None);
-    Ok(())
+    let coin = make_coin(&rt, rt.alloc())?;
+    expect_rows(&rt, rt.alloc(), &coin)
 }

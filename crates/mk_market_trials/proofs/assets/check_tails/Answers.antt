@@ -2,8 +2,9 @@ use Rattle.std.proofs.Common.{[], ◌∷◌, sym, subst, arith, lit≤}
 use Rattle.mk_net.specs.Asked.{Asked}
 use Rattle.mk_exact.specs.Proper.{IsQuestionOf}
 use Rattle.mk_assets.specs.Holdings.{opening_holding, with_trade, with_deposit, with_withdrawal, with_known_pair}
-use Rattle.mk_assets.specs.declared.tests.TheConstants.{HEADS, HIT, MISS}
-use Rattle.mk_assets.proofs.tests.at_tails.Goals as goal
+use Rattle.mk_market_trials.specs.declared.coin.TheConstants.{HEADS}
+use Rattle.mk_market_trials.specs.declared.assets.TheConstants.{HIT, MISS}
+use Rattle.mk_market_trials.proofs.assets.check_tails.Goals as goal
 
 pub know-requires : goal.know-requires
 know-requires g c =
@@ -11,7 +12,7 @@ know-requires g c =
     let h = with_withdrawal 0 (with_deposit 1 (with_trade (record { variable = 0; condition = []; factors = HIT ∷ MISS ∷ [] }) (opening_holding coin.net coin.tree []))) in
     record {
       holding = h;
-      owns = c.least_of_others-before.ensures.kept h c.in_ok-assets.ensures;
+      owns = c.least_of_others-before.ensures.kept h c.requires;
       in_range = record { variable = omega (arith, one); value = omega (arith, sides) };
     }
 
@@ -23,7 +24,7 @@ least_of_others-after-requires g c =
     let h = with_withdrawal 0 (with_deposit 1 (with_trade (record { variable = 0; condition = []; factors = HIT ∷ MISS ∷ [] }) (opening_holding coin.net coin.tree []))) in
     record {
       meaning = (with_known_pair HEADS h).meaning;
-      stands = (c.know.ensures h (c.least_of_others-before.ensures.kept h c.in_ok-assets.ensures)).stands;
+      stands = (c.know.ensures h (c.least_of_others-before.ensures.kept h c.requires)).stands;
       question = subst (IsQuestionOf coin.net) (sym c.heads-asked.ensures) own;
       sized = rw c.heads-asked.ensures (sym sides);
       few = lit≤ tt;
