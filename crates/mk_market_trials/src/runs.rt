@@ -29,101 +29,6 @@ user bob -> user bob at 3
 price coin=heads -> price 0.5000000000..0.5000000000
 price coin=edge -> refused name coin=edge";
 
-/// A coin that takes one trade.
-const ONE_TRADE: &str = "points_per_bit = 100
-max_trades = 1
-cliques = [['coin']]
-links = []
-
-[[variable]]
-name = 'coin'
-values = ['heads', 'tails']
-parents = []
-rows = [[500000, 500000]]
-";
-
-const ONE_TRADE_RUN: &str = "user alice -> user alice at 1
-deposit alice 1 -> deposit alice 1 at 2
-edit alice coin=heads to 0 -> refused range 0
-edit alice coin=heads to 1000000 -> refused range 1000000
-deposit alice 1001 -> refused range 1001
-withdraw alice 0 -> refused range 0
-user alice -> refused exists alice
-edit alice coin=heads to 600000 -> trade 1319413953331 879609302220 at 3
-edit alice coin=heads to 500000 -> refused full 1
-user bob -> user bob at 4
-edit bob coin=heads to 600000 at 3 -> refused stale 3 4
-limits bobby coin=heads -> refused user bobby
-resolve coin=heads -> resolve coin=heads at 5
-price coin=heads -> refused resolved coin
-resolve coin=tails -> refused resolved coin
-settle -> settle at 6, alice 126..126 paid 126, bob 0..0 paid 0
-price coin=heads -> refused settled
-worst bobby -> refused settled";
-
-/// Its second clique holds the first variable alone.
-const WEATHER: &str = "points_per_bit = 100
-max_trades = 1000
-cliques = [['season', 'rain'], ['season']]
-links = [1]
-
-[[variable]]
-name = 'season'
-values = ['wet', 'dry']
-parents = []
-rows = [[400000, 600000]]
-
-[[variable]]
-name = 'rain'
-values = ['yes', 'no']
-parents = ['season']
-rows = [[700000, 300000], [100000, 900000]]
-";
-
-const WEATHER_RUN: &str = "user ann -> user ann at 1
-deposit ann 1 -> deposit ann 1 at 2
-edit ann rain=yes | season=wet to 800000 -> trade 1256584717458 733007751850 at 3
-price rain=yes | season=dry -> price 0.1000000000..0.1000000000
-resolve season=dry -> resolve season=dry at 4
-price rain=yes | season=wet -> refused impossible season=wet
-price season=wet -> refused resolved season
-resolve rain=snow -> refused name rain=snow
-settle -> refused open rain";
-
-/// Its cliques are linked in a row.
-const CHAIN: &str = "points_per_bit = 100
-max_trades = 1000
-cliques = [['a', 'b'], ['b', 'c'], ['c']]
-links = [1, 2]
-
-[[variable]]
-name = 'a'
-values = ['up', 'down']
-parents = []
-rows = [[500000, 500000]]
-
-[[variable]]
-name = 'b'
-values = ['up', 'down']
-parents = ['a']
-rows = [[600000, 400000], [300000, 700000]]
-
-[[variable]]
-name = 'c'
-values = ['up', 'down']
-parents = ['b']
-rows = [[800000, 200000], [100000, 900000]]
-";
-
-const CHAIN_RUN: &str = "price c=up | a=up -> refused wide
-price c=left -> refused name c=left
-price c=up | b=up, c=down -> refused twice c
-edit zed c=up | a=up to 500000 -> refused user zed
-price a=up | a=down, b=left -> refused name b=left
-price a=up | b=up, b=down, a=down -> refused twice b
-price a=up | b=up, a=up, b=up -> refused twice a
-price d=up | a=left -> refused name d=up";
-
 /// Stops unless this is what is printed of the reply to a line.
 fn expect_printed(rt: &impl Abort, reply: &Reply, line: &str, expected: &str) {
     let mut text = ArrayString::new();
@@ -225,11 +130,4 @@ fn expect_tree_run(
 #[test]
 fn coin_market(rt: HostRuntime) -> Result<(), Fail> {
     expect_tree_run(&rt, rt.alloc(), COIN, COIN_RUN, (1, 100, 3))
-}
-
-#[test]
-fn each_refusal_has_its_words(rt: HostRuntime) -> Result<(), Fail> {
-    expect_tree_run(&rt, rt.alloc(), ONE_TRADE, ONE_TRADE_RUN, (1, 100, 6))?;
-    expect_tree_run(&rt, rt.alloc(), WEATHER, WEATHER_RUN, (2, 100, 4))?;
-    expect_tree_run(&rt, rt.alloc(), CHAIN, CHAIN_RUN, (3, 100, 0))
 }
