@@ -1,266 +1,84 @@
-//! Drafts of networks, and the first faults of those that are refused.
+//! Drafts of networks as market files, and the first faults of those that are refused.
 
-use mk_net::{Key, NetFault};
+use crate::files::{NUMBERS, expect, replaced};
+use std::alloc::Global;
+use std::process::Abort;
+use std::test::Fail;
 
-/// A variable of a draft.
-#[derive(Clone, Copy)]
-pub(crate) struct Given {
-    pub name: &'static str,
-    pub values: &'static [&'static str],
-    pub parents: &'static [&'static str],
-    pub rows: &'static [&'static [i64]],
-}
-
-pub(crate) const SEASON: Given = Given {
-    name: "season",
-    values: &["wet", "dry"],
-    parents: &[],
-    rows: &[&[400_000, 600_000]],
-};
-
-pub(crate) const RAIN: Given = Given {
-    name: "rain",
-    values: &["yes", "no"],
-    parents: &["season"],
-    rows: &[&[700_000, 300_000], &[100_000, 900_000]],
-};
-
-pub(crate) const LAWN: Given = Given {
-    name: "lawn",
-    values: &["green", "brown", "gone"],
-    parents: &["season", "rain"],
-    rows: &[
-        &[600_000, 300_000, 100_000],
-        &[500_000, 400_000, 100_000],
-        &[400_000, 300_000, 300_000],
-        &[200_000, 300_000, 500_000],
-    ],
-};
-
-const ONE_VALUE: Given = Given {
-    values: &["yes"],
-    ..RAIN
-};
-
-const SEVENTEEN: Given = Given {
-    values: &[
-        "a", "b", "c", "d", "e", "f", "g", "h", "i", "j", "k", "l", "m", "n", "o", "p", "q",
-    ],
-    ..LAWN
-};
-
-const NINE_PARENTS: Given = Given {
-    parents: &["a", "b", "c", "d", "e", "f", "g", "h", "i"],
-    ..LAWN
-};
-
-const NO_NAME: Given = Given {
-    name: "Rain",
-    ..RAIN
-};
-
-const NO_VALUE: Given = Given {
-    values: &["yes", "not so"],
-    ..RAIN
-};
-
-const SAME_VALUES: Given = Given {
-    values: &["green", "gone", "gone"],
-    ..LAWN
-};
-
-const LATER_PARENT: Given = Given {
-    parents: &["rain"],
-    ..SEASON
-};
-
-const SAME_PARENTS: Given = Given {
-    parents: &["rain", "rain"],
-    ..LAWN
-};
-
-const TWO_ROWS: Given = Given {
-    rows: &[&[400_000, 600_000], &[1_000_000]],
-    ..SEASON
-};
-
-const ONE_ENTRY: Given = Given {
-    rows: &[&[1_000_001]],
-    ..SEASON
-};
-
-const NO_ROWS: Given = Given { rows: &[], ..RAIN };
-
-const THREE_ENTRIES: Given = Given {
-    rows: &[&[0, 1_000_000], &[1, 1, 999_998]],
-    ..RAIN
-};
-
-const SHORT_VALUES: Given = Given {
-    values: &["green", "brown"],
-    ..LAWN
-};
-
-const ZERO: Given = Given {
-    rows: &[&[500_000, 499_999], &[1_000_000, 0]],
-    ..RAIN
-};
-
-const TOO_MUCH: Given = Given {
-    rows: &[&[1_000_001, -1]],
-    ..SEASON
-};
-
-const TOO_LITTLE: Given = Given {
-    rows: &[&[700_000, 300_000], &[100_000, 899_999]],
-    ..RAIN
-};
-
-const LAST_ENTRY: Given = Given {
-    rows: &[
-        &[600_000, 300_000, 100_000],
-        &[500_000, 400_000, 100_000],
-        &[400_000, 300_000, 300_000],
-        &[200_000, 300_000, 1_000_001],
-    ],
-    ..LAWN
-};
-
-const LAST_SUM: Given = Given {
-    rows: &[
-        &[600_000, 300_000, 100_000],
-        &[500_000, 400_000, 100_000],
-        &[400_000, 300_000, 300_000],
-        &[1_000_000, 1_000_000, 1_000_000],
-    ],
-    ..LAWN
-};
+/// What stands for the names in drafts, each put in after those above it. No name is a part of another.
+const VARIABLES: &str =
+    "SEASON -> { name = 'season', values = ['wet', 'dry'], parents = [], rows = [[400000, 600000]] }
+RAIN -> { name = 'rain', values = ['yes', 'no'], parents = ['season'], rows = [[700000, 300000], [100000, 900000]] }
+LAWN -> { name = 'lawn', values = ['green', 'brown', 'gone'], parents = ['season', 'rain'], rows = FOUR_ROWS }
+ONE_VALUE -> { name = 'rain', values = ['yes'], parents = ['season'], rows = [[700000, 300000], [100000, 900000]] }
+SEVENTEEN -> { name = 'lawn', values = ['a', 'b', 'c', 'd', 'e', 'f', 'g', 'h', 'i', 'j', 'k', 'l', 'm', 'n', 'o', 'p', 'q'], parents = ['season', 'rain'], rows = FOUR_ROWS }
+NINE_PARENTS -> { name = 'lawn', values = ['green', 'brown', 'gone'], parents = ['a', 'b', 'c', 'd', 'e', 'f', 'g', 'h', 'i'], rows = FOUR_ROWS }
+NO_NAME -> { name = 'Rain', values = ['yes', 'no'], parents = ['season'], rows = [[700000, 300000], [100000, 900000]] }
+NO_VALUE -> { name = 'rain', values = ['yes', 'not so'], parents = ['season'], rows = [[700000, 300000], [100000, 900000]] }
+SAME_VALUES -> { name = 'lawn', values = ['green', 'gone', 'gone'], parents = ['season', 'rain'], rows = FOUR_ROWS }
+LATER_PARENT -> { name = 'season', values = ['wet', 'dry'], parents = ['rain'], rows = [[400000, 600000]] }
+SAME_PARENTS -> { name = 'lawn', values = ['green', 'brown', 'gone'], parents = ['rain', 'rain'], rows = FOUR_ROWS }
+TWO_ROWS -> { name = 'season', values = ['wet', 'dry'], parents = [], rows = [[400000, 600000], [1000000]] }
+ONE_ENTRY -> { name = 'season', values = ['wet', 'dry'], parents = [], rows = [[1000001]] }
+NO_ROWS -> { name = 'rain', values = ['yes', 'no'], parents = ['season'], rows = [] }
+THREE_ENTRIES -> { name = 'rain', values = ['yes', 'no'], parents = ['season'], rows = [[0, 1000000], [1, 1, 999998]] }
+SHORT_VALUES -> { name = 'lawn', values = ['green', 'brown'], parents = ['season', 'rain'], rows = FOUR_ROWS }
+ZERO -> { name = 'rain', values = ['yes', 'no'], parents = ['season'], rows = [[500000, 499999], [1000000, 0]] }
+TOO_MUCH -> { name = 'season', values = ['wet', 'dry'], parents = [], rows = [[1000001, -1]] }
+TOO_LITTLE -> { name = 'rain', values = ['yes', 'no'], parents = ['season'], rows = [[700000, 300000], [100000, 899999]] }
+LAST_ENTRY -> { name = 'lawn', values = ['green', 'brown', 'gone'], parents = ['season', 'rain'], rows = [[600000, 300000, 100000], [500000, 400000, 100000], [400000, 300000, 300000], [200000, 300000, 1000001]] }
+LAST_SUM -> { name = 'lawn', values = ['green', 'brown', 'gone'], parents = ['season', 'rain'], rows = [[600000, 300000, 100000], [500000, 400000, 100000], [400000, 300000, 300000], [1000000, 1000000, 1000000]] }
+FOUR_ROWS -> [[600000, 300000, 100000], [500000, 400000, 100000], [400000, 300000, 300000], [200000, 300000, 500000]]";
 
 /// Drafts with their first faults. Where a draft has faults of two kinds, that of the later kind stands first.
-pub(crate) const REFUSED: &[(&[Given], NetFault)] = &[
-    (
-        &[],
-        NetFault::Count {
-            key: Key::Variable,
-            place: 0,
-            n: 0,
-        },
-    ),
-    (
-        &[ONE_VALUE, SEASON],
-        NetFault::Count {
-            key: Key::Values,
-            place: 1,
-            n: 1,
-        },
-    ),
-    (
-        &[SEASON, RAIN, SEVENTEEN],
-        NetFault::Count {
-            key: Key::Values,
-            place: 3,
-            n: 17,
-        },
-    ),
-    (
-        &[SEASON, NINE_PARENTS, RAIN],
-        NetFault::Count {
-            key: Key::Parents,
-            place: 2,
-            n: 9,
-        },
-    ),
-    (
-        &[NO_NAME, SEASON, ONE_VALUE],
-        NetFault::Count {
-            key: Key::Values,
-            place: 3,
-            n: 1,
-        },
-    ),
-    (&[NO_NAME, RAIN, LAWN], NetFault::BadName { variable: 1 }),
-    (
-        &[SEASON, SEASON, NO_VALUE],
-        NetFault::BadName { variable: 3 },
-    ),
-    (&[SEASON, RAIN, SEASON], NetFault::Repeat { variable: 3 }),
-    (
-        &[LATER_PARENT, RAIN, SAME_VALUES],
-        NetFault::Repeat { variable: 3 },
-    ),
-    (&[RAIN, SEASON], NetFault::Parent { variable: 1 }),
-    (&[TWO_ROWS, LAWN, RAIN], NetFault::Parent { variable: 2 }),
-    (
-        &[SEASON, RAIN, SAME_PARENTS],
-        NetFault::Parent { variable: 3 },
-    ),
-    (
-        &[TWO_ROWS, RAIN, LAWN],
-        NetFault::Rows { variable: 1, n: 2 },
-    ),
-    (&[ONE_ENTRY, NO_ROWS], NetFault::Rows { variable: 2, n: 0 }),
-    (
-        &[ONE_ENTRY, THREE_ENTRIES],
-        NetFault::Width {
-            variable: 1,
-            row: 1,
-            n: 1,
-        },
-    ),
-    (
-        &[TOO_MUCH, THREE_ENTRIES],
-        NetFault::Width {
-            variable: 2,
-            row: 2,
-            n: 3,
-        },
-    ),
-    (
-        &[SEASON, RAIN, SHORT_VALUES],
-        NetFault::Width {
-            variable: 3,
-            row: 1,
-            n: 3,
-        },
-    ),
-    (
-        &[TOO_MUCH, TOO_LITTLE],
-        NetFault::Entry {
-            variable: 1,
-            row: 1,
-            column: 1,
-        },
-    ),
-    (
-        &[SEASON, ZERO],
-        NetFault::Entry {
-            variable: 2,
-            row: 2,
-            column: 2,
-        },
-    ),
-    (
-        &[SEASON, TOO_LITTLE, LAST_ENTRY],
-        NetFault::Entry {
-            variable: 3,
-            row: 4,
-            column: 3,
-        },
-    ),
-    (
-        &[SEASON, TOO_LITTLE, LAST_SUM],
-        NetFault::Sum {
-            variable: 2,
-            row: 2,
-            sum: 999_999,
-        },
-    ),
-    (
-        &[SEASON, RAIN, LAST_SUM],
-        NetFault::Sum {
-            variable: 3,
-            row: 4,
-            sum: 3_000_000,
-        },
-    ),
-];
+const REFUSED: &str = " => refused market count variable 0 0
+ONE_VALUE, SEASON => refused market count values 1 1
+SEASON, RAIN, SEVENTEEN => refused market count values 3 17
+SEASON, NINE_PARENTS, RAIN => refused market count parents 2 9
+NO_NAME, SEASON, ONE_VALUE => refused market count values 3 1
+NO_NAME, RAIN, LAWN => refused market name 1
+SEASON, SEASON, NO_VALUE => refused market name 3
+SEASON, RAIN, SEASON => refused market repeat 3
+LATER_PARENT, RAIN, SAME_VALUES => refused market repeat 3
+RAIN, SEASON => refused market parent 1
+TWO_ROWS, LAWN, RAIN => refused market parent 2
+SEASON, RAIN, SAME_PARENTS => refused market parent 3
+TWO_ROWS, RAIN, LAWN => refused market rows 1 2
+ONE_ENTRY, NO_ROWS => refused market rows 2 0
+ONE_ENTRY, THREE_ENTRIES => refused market width 1 1 1
+TOO_MUCH, THREE_ENTRIES => refused market width 2 2 3
+SEASON, RAIN, SHORT_VALUES => refused market width 3 1 3
+TOO_MUCH, TOO_LITTLE => refused market entry 1 1 1
+SEASON, ZERO => refused market entry 2 2 2
+SEASON, TOO_LITTLE, LAST_ENTRY => refused market entry 3 4 3
+SEASON, TOO_LITTLE, LAST_SUM => refused market sum 2 2 999999
+SEASON, RAIN, LAST_SUM => refused market sum 3 4 3000000";
+
+const CLIQUES: &str = "cliques = [['season', 'rain', 'lawn']]\nlinks = []\n";
+
+/// The market file of a draft of variables that are given by their names here.
+fn drafted(alloc: Global, names: &str) -> Result<String, Fail> {
+    let text = format!(in alloc; "{NUMBERS}{CLIQUES}variable = [{names}]\n")?;
+    replaced(alloc, text.as_str(), VARIABLES, "\n")
+}
+
+/// Stops unless a draft has its answer.
+fn expect_draft(rt: &impl Abort, alloc: Global, case: &str) -> Result<(), Fail> {
+    let (names, printed) = case.split_once(" => ").ok_or("no answer")?;
+    let text = drafted(alloc, names)?;
+    expect(rt, alloc, text.as_bytes(), printed, names);
+    Ok(())
+}
+
+#[test]
+fn takes_three_variables(rt: HostRuntime) -> Result<(), Fail> {
+    expect_draft(&rt, rt.alloc(), "SEASON, RAIN, LAWN => accepted")
+}
+
+#[test]
+fn refuses_others(rt: HostRuntime) -> Result<(), Fail> {
+    for case in REFUSED.split("\n") {
+        expect_draft(&rt, rt.alloc(), case)?;
+    }
+    Ok(())
+}

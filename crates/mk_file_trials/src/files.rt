@@ -1,8 +1,9 @@
 //! Market files with one fault or two, whose answers an independent program computed, and what is printed of them.
 
 use arrayvec::ArrayString;
-use mk_file::{FileFault, print_fault, read_market};
-use mk_net::VarSet;
+use mk_file::{FileFault, MarketFile, print_fault, read_market};
+use mk_net::{Network, VarSet};
+use mk_tree::Tree;
 use std::alloc::Global;
 use std::process::Abort;
 use std::test::Fail;
@@ -70,7 +71,7 @@ rows = [[800000, 200000], [100000, 900000]]
 ";
 
 /// Its second clique holds the first variable alone.
-const WEATHER: &str = "points_per_bit = 100
+pub(crate) const WEATHER: &str = "points_per_bit = 100
 max_trades = 77
 cliques = [['season', 'rain'], ['season']]
 links = [1]
@@ -107,13 +108,11 @@ parents = []
 rows = [[500000, 500000]]
 ";
 
-const NAMES: [&str; 13] = [
-    "a", "b", "c", "d", "e", "f", "g", "h", "i", "j", "k", "l", "m",
-];
+const NAMES: &str = "a b c d e f g h i j k l m";
 
-const NUMBERS: &str = "points_per_bit = 100\nmax_trades = 77\n";
+pub(crate) const NUMBERS: &str = "points_per_bit = 100\nmax_trades = 77\n";
 
-const SIDES: &str = "values = ['up', 'down']\nparents = []\nrows = [[500000, 500000]]\n";
+const SIDES: &str = "'\nvalues = ['up', 'down']\nparents = []\nrows = [[500000, 500000]]\n";
 
 /// Edits of each file, and what is printed of it then.
 const OF_COIN: &str = r#"100 -> 0x64 => accepted
@@ -254,9 +253,19 @@ const OF_THIRTEEN: &str =
 
 /// A file with some parts replaced, as `old -> new; old -> new`. What ends a line is written `\n`.
 fn edited(alloc: Global, base: &str, edits: &str) -> Result<String, Fail> {
-    let mut text = String::from_str(alloc, base)?;
     let edits = edits.replace(alloc, "\\n", "\n")?;
-    for edit in edits.split("; ") {
+    replaced(alloc, base, edits.as_str(), "; ")
+}
+
+/// A text with some parts replaced, one after another, as `old -> new`, by edits between which a text stands.
+pub(crate) fn replaced(
+    alloc: Global,
+    base: &str,
+    edits: &str,
+    between: &str,
+) -> Result<String, Fail> {
+    let mut text = String::from_str(alloc, base)?;
+    for edit in edits.split(between) {
         let (old, new) = edit.split_once(" -> ").ok_or("no arrow")?;
         text = text.replace(alloc, old, new)?;
     }
@@ -265,40 +274,65 @@ fn edited(alloc: Global, base: &str, edits: &str) -> Result<String, Fail> {
 
 /// A file of as many coins and cliques, each clique with all the coins and linked to the first.
 fn coins(alloc: Global, variables: usize, cliques: usize) -> Result<String, Fail> {
-    let mut names = String::new(alloc);
-    let mut tables = String::new(alloc);
-    for name in NAMES.iter().take(variables) {
-        names.push_str(&format!(in alloc; "'{name}', ")?)?;
-        tables.push_str(&format!(in alloc; "[[variable]]\nname = '{name}'\n{SIDES}")?)?;
-    }
-    let mut lists = String::new(alloc);
-    let mut links = String::new(alloc);
-    for number in 0..cliques {
-        lists.push_str(&format!(in alloc; "[{names}], ")?)?;
-        if number > 0 {
-            links.push_str("1, ")?;
-        }
-    }
-    Ok(format!(in alloc; "{NUMBERS}cliques = [{lists}]\nlinks = [{links}]\n{tables}")?)
+    let mut text = String::from_str(alloc, NUMBERS)?;
+    put_coins(&mut text, variables, cliques)?;
+    Ok(text)
 }
 
-/// Stops unless this is printed of a file.
-fn expect(rt: &impl Abort, alloc: Global, bytes: &[u8], printed: &str, edits: &str) {
-    let mut line = ArrayString::new();
+fn put_coins(text: &mut String, variables: usize, cliques: usize) -> Result<(), Fail> {
+    text.push_str("cliques = [")?;
+    for _ in 0..cliques {
+        text.push_str("[")?;
+        put_each(text, "'", variables, "', ")?;
+        text.push_str("], ")?;
+    }
+    text.push_str("]\nlinks = [")?;
+    for _ in 1..cliques {
+        text.push_str("1, ")?;
+    }
+    text.push_str("]\n")?;
+    put_each(text, "[[variable]]\nname = '", variables, SIDES)
+}
+
+/// Writes the name of each coin between two texts.
+fn put_each(text: &mut String, before: &str, variables: usize, after: &str) -> Result<(), Fail> {
+    for name in NAMES.split(" ").take(variables) {
+        text.push_str(before)?;
+        text.push_str(name)?;
+        text.push_str(after)?;
+    }
+    Ok(())
+}
+
+/// Writes what is printed of a file.
+fn print(alloc: Global, bytes: &[u8], line: &mut ArrayString<32768>) {
+    line.clear();
     match read_market(alloc, bytes) {
         Ok(_) => line.push_str("accepted"),
         Err(FileFault::Memory) => line.push_str("no memory"),
-        Err(fault) => print_fault(&fault, &mut line),
+        Err(fault) => print_fault(&fault, line),
     }
+}
+
+/// Stops unless this is printed of a file.
+pub(crate) fn expect(rt: &impl Abort, alloc: Global, bytes: &[u8], printed: &str, edits: &str) {
+    let mut line = ArrayString::new();
+    print(alloc, bytes, &mut line);
     assert_eq!(rt; line.as_str(), printed, "at {edits}");
+}
+
+/// Stops unless a line of edits gives a file its answer.
+fn expect_case(rt: &impl Abort, alloc: Global, base: &str, case: &str) -> Result<(), Fail> {
+    let (edits, printed) = case.split_once(" => ").ok_or("no answer")?;
+    let text = edited(alloc, base, edits)?;
+    expect(rt, alloc, text.as_bytes(), printed, edits);
+    Ok(())
 }
 
 /// Stops unless each line of edits gives a file its answer.
 fn expect_each(rt: &impl Abort, alloc: Global, base: &str, cases: &str) -> Result<(), Fail> {
     for case in cases.split("\n") {
-        let (edits, printed) = case.split_once(" => ").ok_or("no answer")?;
-        let text = edited(alloc, base, edits)?;
-        expect(rt, alloc, text.as_bytes(), printed, edits);
+        expect_case(rt, alloc, base, case)?;
     }
     Ok(())
 }
@@ -352,20 +386,32 @@ fn what_is_no_document(rt: HostRuntime) -> Result<(), Fail> {
     Ok(())
 }
 
+fn expect_chain(rt: &impl Abort, file: &MarketFile) {
+    assert!(rt; (file.points_per_bit, file.max_trades) == (100, 77));
+    expect_names(rt, &file.net);
+    expect_cliques(rt, &file.tree);
+}
+
+fn expect_names(rt: &impl Abort, net: &Network) {
+    assert!(rt; net.variables() == 3);
+    assert!(rt; net.name(0).bytes() == b"a".as_slice());
+    assert!(rt; net.values(0) == 2);
+    assert!(rt; net.value_name(0, 1).bytes() == b"down".as_slice());
+    assert!(rt; net.parents(2) == [1].as_slice());
+}
+
+fn expect_cliques(rt: &impl Abort, tree: &Tree) {
+    assert!(rt; tree.cliques() == 3);
+    assert!(rt; tree.link(1).is_none());
+    assert!(rt; tree.link(3) == Some(2));
+    assert!(rt; tree.clique(1) == VarSet::empty().with(0).with(1));
+    assert!(rt; tree.clique(2) == VarSet::empty().with(1).with(2));
+    assert!(rt; tree.clique(3) == VarSet::empty().with(2));
+}
+
 #[test]
 fn reads_a_chain(rt: HostRuntime) -> Result<(), Fail> {
     let file = read_market(rt.alloc(), CHAIN.as_bytes())?;
-    assert_eq!(rt; (file.points_per_bit, file.max_trades), (100, 77));
-    assert_eq!(rt; file.net.variables(), 3);
-    assert_eq!(rt; file.net.name(0).bytes(), b"a".as_slice());
-    assert_eq!(rt; file.net.values(0), 2);
-    assert_eq!(rt; file.net.value_name(0, 1).bytes(), b"down".as_slice());
-    assert_eq!(rt; file.net.parents(2), [1].as_slice());
-    assert_eq!(rt; file.tree.cliques(), 3);
-    assert_eq!(rt; (file.tree.link(1), file.tree.link(3)), (None, Some(2)));
-    for (clique, first, last) in [(1, 0, 1), (2, 1, 2), (3, 2, 2)] {
-        let set = file.tree.clique(clique);
-        assert_eq!(rt; set, VarSet::empty().with(first).with(last));
-    }
+    expect_chain(&rt, &file);
     Ok(())
 }

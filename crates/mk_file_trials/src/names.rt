@@ -19,14 +19,14 @@ fn reads_names_alone(rt: HostRuntime) {
         (&b"rain\n"[..], false),
         (&b"r\xc3\xa9gn"[..], false),
     ] {
-        assert_eq!(rt; Name::read(bytes).is_some(), is_one, "{bytes:?}");
+        assert!(rt; Name::read(bytes).is_some() == is_one, "{bytes:?}");
     }
 }
 
 #[test]
 fn keeps_its_bytes(rt: HostRuntime) {
     let name = Name::read(b"rain_2").expect(&rt, "a name");
-    assert_eq!(rt; name.bytes(), b"rain_2".as_slice());
-    assert_ne!(rt; name, Name::default());
-    assert_eq!(rt; Name::default().bytes(), b"a".as_slice());
+    assert!(rt; name.bytes() == b"rain_2".as_slice());
+    assert!(rt; name != Name::default());
+    assert!(rt; Name::default().bytes() == b"a".as_slice());
 }

@@ -1,108 +1,65 @@
-//! Networks of drafts, and the first faults of others.
+//! The network of a market file: its names and rows, and what is found in it.
 
-use crate::drafts::{Given, LAWN, RAIN, REFUSED, SEASON};
-use mk_net::{Draft, Name, NetFault, Network, PairText, VariableDraft};
-use std::alloc::Global;
+use crate::files::WEATHER;
+use mk_file::read_market;
+use mk_net::{Name, Network, Pair, PairText};
 use std::process::Abort;
 use std::test::Fail;
-
-fn texts(alloc: Global, given: &[&str]) -> Result<Vec<String>, Fail> {
-    let mut texts = Vec::new(alloc);
-    for text in given {
-        texts.push(String::from_str(alloc, *text)?)?;
-    }
-    Ok(texts)
-}
-
-fn rows(alloc: Global, given: &[&[i64]]) -> Result<Vec<Vec<i64>>, Fail> {
-    let mut rows = Vec::new(alloc);
-    for row in given {
-        rows.push(row.to_vec(alloc)?)?;
-    }
-    Ok(rows)
-}
-
-fn draft(alloc: Global, given: &[Given]) -> Result<Draft, Fail> {
-    let mut variables = Vec::new(alloc);
-    for variable in given {
-        variables.push(VariableDraft {
-            name: String::from_str(alloc, variable.name)?,
-            values: texts(alloc, variable.values)?,
-            parents: texts(alloc, variable.parents)?,
-            rows: rows(alloc, variable.rows)?,
-        })?;
-    }
-    Ok(Draft { variables })
-}
-
-fn first_fault(alloc: Global, given: &[Given]) -> Result<Option<NetFault>, Fail> {
-    match Network::check(alloc, &draft(alloc, given)?) {
-        Ok(_) => Ok(None),
-        Err(fault) => Ok(Some(fault)),
-    }
-}
-
-fn weather(alloc: Global) -> Result<Network, Fail> {
-    Ok(Network::check(alloc, &draft(alloc, &[SEASON, RAIN])?)?)
-}
 
 fn name(rt: &impl Abort, text: &str) -> Name {
     Name::read(text.as_bytes()).expect(rt, "a name")
 }
 
-#[test]
-fn reads_names(rt: HostRuntime) -> Result<(), Fail> {
-    let network = weather(rt.alloc())?;
-    assert_eq!(rt; network.variables(), 2);
-    assert_eq!(rt; network.name(1), name(&rt, "rain"));
-    assert_eq!(rt; network.values(0), 2);
-    assert_eq!(rt; network.value_name(0, 1), name(&rt, "dry"));
-    Ok(())
+fn expect_names(rt: &impl Abort, network: &Network) {
+    assert!(rt; network.variables() == 2);
+    assert!(rt; network.name(1) == name(rt, "rain"));
+    assert!(rt; network.values(0) == 2);
+    assert!(rt; network.value_name(0, 1) == name(rt, "dry"));
+}
+
+fn expect_rows(rt: &impl Abort, network: &Network) {
+    assert!(rt; network.variables() == 2);
+    assert!(rt; network.values(0) == 2);
+    assert!(rt; network.values(1) == 2);
+    assert!(rt; network.parents(1) == [0].as_slice());
+    assert!(rt; network.entry(1, 0, 1) == 300_000);
+    assert!(rt; network.entry(1, 1, 0) == 100_000);
+}
+
+fn expect_variables(rt: &impl Abort, network: &Network) {
+    assert!(rt; network.find_variable(&name(rt, "rain")) == Some(1));
+    assert!(rt; network.find_variable(&name(rt, "yes")).is_none());
+}
+
+/// The numbers of a pair of names.
+fn find(rt: &impl Abort, network: &Network, variable: &str, value: &str) -> Option<Pair> {
+    network.find(&PairText {
+        variable: name(rt, variable),
+        value: name(rt, value),
+    })
+}
+
+fn expect_pairs(rt: &impl Abort, network: &Network) {
+    let (variable, value) = (0, 1);
+    let dry = Pair { variable, value };
+    assert!(rt; find(rt, network, "season", "dry") == Some(dry));
+    let (variable, value) = (1, 0);
+    let rainy = Pair { variable, value };
+    assert!(rt; find(rt, network, "rain", "yes") == Some(rainy));
+    assert!(rt; find(rt, network, "rain", "dry").is_none());
+    assert!(rt; find(rt, network, "lawn", "yes").is_none());
+}
+
+fn expect_weather(rt: &impl Abort, network: &Network) {
+    expect_names(rt, network);
+    expect_rows(rt, network);
+    expect_variables(rt, network);
+    expect_pairs(rt, network);
 }
 
 #[test]
-fn reads_rows(rt: HostRuntime) -> Result<(), Fail> {
-    let network = weather(rt.alloc())?;
-    assert_eq!(rt; network.variables(), 2);
-    assert_eq!(rt; network.values(0), 2);
-    assert_eq!(rt; network.values(1), 2);
-    assert_eq!(rt; network.parents(1), [0].as_slice());
-    assert_eq!(rt; network.entry(1, 0, 1), 300_000);
-    assert_eq!(rt; network.entry(1, 1, 0), 100_000);
-    Ok(())
-}
-
-#[test]
-fn finds_names(rt: HostRuntime) -> Result<(), Fail> {
-    let network = weather(rt.alloc())?;
-    assert_eq!(rt; network.find_variable(&name(&rt, "rain")), Some(1));
-    assert_eq!(rt; network.find_variable(&name(&rt, "yes")), None);
-    for (variable, value, place) in [
-        ("season", "dry", Some((0, 1))),
-        ("rain", "yes", Some((1, 0))),
-        ("rain", "dry", None),
-        ("lawn", "yes", None),
-    ] {
-        let words = PairText {
-            variable: name(&rt, variable),
-            value: name(&rt, value),
-        };
-        let found = network.find(&words).map(|pair| (pair.variable, pair.value));
-        assert_eq!(rt; found, place, "{variable} {value}");
-    }
-    Ok(())
-}
-
-#[test]
-fn takes_three_variables(rt: HostRuntime) -> Result<(), Fail> {
-    assert_eq!(rt; first_fault(rt.alloc(), &[SEASON, RAIN, LAWN])?, None);
-    Ok(())
-}
-
-#[test]
-fn refuses_others(rt: HostRuntime) -> Result<(), Fail> {
-    for (given, fault) in REFUSED {
-        assert_eq!(rt; first_fault(rt.alloc(), *given)?, Some(*fault));
-    }
+fn reads_and_finds(rt: HostRuntime) -> Result<(), Fail> {
+    let file = read_market(rt.alloc(), WEATHER.as_bytes())?;
+    expect_weather(&rt, &file.net);
     Ok(())
 }

@@ -6,8 +6,6 @@ mod commands;
 mod examples;
 mod file;
 mod make;
-#[cfg(test)]
-mod tests;
 mod texts;
 mod words;
 

@@ -5,16 +5,16 @@
 ghost use Rattle.std.specs.Prelude.{◌≡◌, length, slice_index};
 ghost use Rattle.mk_cell.specs.Cell.{AreCells, IsCell};
 
+use crate::enclosures::{self, check_ends};
 use crate::products::unrounded;
 use mk_cell::{Cell, least, least_of_products, sum, sum_of_products, times_each};
 use mk_enclose::Enclosure;
 use std::process::Abort;
 
 /// Digits and an exponent.
-type Parts = (u64, u32);
+pub(crate) type Parts = (u64, u32);
 
 /// Two cells and their product.
-#[derive(Clone, Copy)]
 struct Pair {
     left: Parts,
     right: Parts,
@@ -22,7 +22,6 @@ struct Pair {
 }
 
 /// Cells, with their sum and the least of them.
-#[derive(Clone, Copy)]
 struct Row {
     digits: [u64; 3],
     exponents: [u32; 3],
@@ -31,7 +30,6 @@ struct Row {
 }
 
 /// Pairs of cells, with each product, their sum and the least of them.
-#[derive(Clone, Copy)]
 struct Products {
     left_digits: [u64; 2],
     left_exponents: [u32; 2],
@@ -316,15 +314,16 @@ const PRODUCTS: [Products; 13] = [
     },
 ];
 
-fn parts(cell: Cell) -> Parts {
-    (cell.digits, cell.exponent)
+/// Stops unless a cell has these digits and this exponent.
+pub(crate) fn expect_parts(rt: &impl Abort, cell: Cell, expected: Parts) {
+    assert_eq!(rt; (cell.digits, cell.exponent), expected);
 }
 
 fn check_cell(rt: &impl Abort, digits: u64, exponent: u32)
     ensures { IsCell digits exponent }
 {
     if digits == 0 {
-        assert_eq!(rt; exponent, 0);
+        assert!(rt; exponent == 0);
     } else {
         assert!(rt; digits >= 1 << 63);
         assert!(rt; exponent >= 3 << 26);
@@ -332,10 +331,10 @@ fn check_cell(rt: &impl Abort, digits: u64, exponent: u32)
     assert!(rt; exponent <= 5 << 26);
 }
 
-fn check_cells(rt: &impl Abort, digits: &[u64], exponents: &[u32])
+pub(crate) fn check_cells(rt: &impl Abort, digits: &[u64], exponents: &[u32])
     ensures { AreCells digits.now exponents.now }
 {
-    assert_eq!(rt; exponents.len(), digits.len());
+    assert!(rt; exponents.len() == digits.len());
     for c in 0..digits.len() {
         check_cell(rt, digits[c], exponents[c]);
     }
@@ -349,20 +348,20 @@ fn cell(rt: &impl Abort, parts: Parts) -> Cell
     Cell { digits, exponent }
 }
 
-fn check_pair(rt: &impl Abort, pair: Pair) {
+fn check_pair(rt: &impl Abort, pair: &Pair) {
     let left = cell(rt, pair.left);
     let right = cell(rt, pair.right);
-    assert_eq!(rt; parts(left.times(right)), pair.product);
-    assert_eq!(rt; parts(right.times(left)), pair.product);
+    expect_parts(rt, left.times(right), pair.product);
+    expect_parts(rt, right.times(left), pair.product);
 }
 
-fn check_row(rt: &impl Abort, row: Row) {
+fn check_row(rt: &impl Abort, row: &Row) {
     check_cells(rt, &row.digits, &row.exponents);
-    assert_eq!(rt; parts(sum(&row.digits, &row.exponents)), row.sum);
-    assert_eq!(rt; parts(least(&row.digits, &row.exponents)), row.least);
+    expect_parts(rt, sum(&row.digits, &row.exponents), row.sum);
+    expect_parts(rt, least(&row.digits, &row.exponents), row.least);
 }
 
-fn check_products(rt: &impl Abort, row: Products) {
+fn check_products(rt: &impl Abort, row: &Products) {
     check_cells(rt, &row.left_digits, &row.left_exponents);
     check_cells(rt, &row.right_digits, &row.right_exponents);
     let (places, exponents) = unrounded(
@@ -373,11 +372,11 @@ fn check_products(rt: &impl Abort, row: Products) {
     );
     let sum = sum_of_products(&places, &exponents);
     let least = least_of_products(&places, &exponents);
-    assert_eq!(rt; parts(sum), row.sum);
-    assert_eq!(rt; parts(least), row.least);
+    expect_parts(rt, sum, row.sum);
+    expect_parts(rt, least, row.least);
 }
 
-fn check_each(rt: &impl Abort, row: Products) {
+fn check_each(rt: &impl Abort, row: &Products) {
     check_cells(rt, &row.left_digits, &row.left_exponents);
     check_cells(rt, &row.right_digits, &row.right_exponents);
     let mut digits = row.left_digits;
@@ -388,8 +387,8 @@ fn check_each(rt: &impl Abort, row: Products) {
         &row.right_digits,
         &row.right_exponents,
     );
-    assert_eq!(rt; digits, row.each_digits);
-    assert_eq!(rt; exponents, row.each_exponents);
+    assert!(rt; digits == row.each_digits);
+    assert!(rt; exponents == row.each_exponents);
 }
 
 /// The enclosure of the sum of two numbers.
@@ -413,63 +412,58 @@ fn enclosed_own(n: u64) -> Option<Enclosure> {
     Cell::of_whole(n, 0).own_enclosure(40, 1)
 }
 
-/// Mantissas and exponents of both ends; (0, 0) for none.
-fn ends(enclosure: Option<Enclosure>) -> ((u64, u64), (u64, u64)) {
-    match enclosure {
-        Some(e) => {
-            let lo = e.lo();
-            let hi = e.hi();
-            (
-                (lo.mantissa(), lo.exponent()),
-                (hi.mantissa(), hi.exponent()),
-            )
-        }
-        None => ((0, 0), (0, 0)),
+/// Stops unless a number has an enclosure with these ends, or none where they are 0.
+fn expect_ends(
+    rt: &impl Abort,
+    given: Option<Enclosure>,
+    lower: enclosures::Parts,
+    upper: enclosures::Parts,
+) {
+    match given {
+        Some(enclosure) => check_ends(rt, &enclosure, lower, upper),
+        None => assert!(rt; lower == (0, 0) && upper == (0, 0)),
     }
 }
 
 #[test]
 fn whole_numbers(rt: HostRuntime) {
-    assert_eq!(rt; parts(Cell::of_whole(0, 40)), (0, 0));
-    assert_eq!(rt;
-        parts(Cell::of_whole(1, 0)),
-        (9223372036854775808, 268435393)
+    expect_parts(&rt, Cell::of_whole(0, 40), (0, 0));
+    expect_parts(&rt, Cell::of_whole(1, 0), (9223372036854775808, 268435393));
+    expect_parts(&rt, Cell::of_whole(1, 40), (9223372036854775808, 268435353));
+    expect_parts(
+        &rt,
+        Cell::of_whole(u64::MAX, 40),
+        (18446744073709551615, 268435416),
     );
-    assert_eq!(rt;
-        parts(Cell::of_whole(1, 40)),
-        (9223372036854775808, 268435353)
+    expect_parts(
+        &rt,
+        Cell::of_whole(1 << 63, 0),
+        (9223372036854775808, 268435456),
     );
-    assert_eq!(rt;
-        parts(Cell::of_whole(u64::MAX, 40)),
-        (18446744073709551615, 268435416)
-    );
-    assert_eq!(rt;
-        parts(Cell::of_whole(1 << 63, 0)),
-        (9223372036854775808, 268435456)
-    );
-    assert_eq!(rt;
-        parts(Cell::of_whole(3, 70000)),
-        (13835058055282163712, 268365394)
+    expect_parts(
+        &rt,
+        Cell::of_whole(3, 70000),
+        (13835058055282163712, 268365394),
     );
 }
 
 #[test]
 fn products_of_two(rt: HostRuntime) {
-    for pair in PAIRS {
+    for pair in &PAIRS {
         check_pair(&rt, pair);
     }
 }
 
 #[test]
 fn sums_and_minima(rt: HostRuntime) {
-    for row in ROWS {
+    for row in &ROWS {
         check_row(&rt, row);
     }
 }
 
 #[test]
 fn sums_and_minima_of_products(rt: HostRuntime) {
-    for row in PRODUCTS {
+    for row in &PRODUCTS {
         check_products(&rt, row);
         check_each(&rt, row);
     }
@@ -478,65 +472,84 @@ fn sums_and_minima_of_products(rt: HostRuntime) {
 #[test]
 fn enclosures_of_sums(rt: HostRuntime) {
     let half = 1 << 62;
-    assert_eq!(rt; ends(enclosed_sum(0, 0)), ((0, 0), (0, 0)));
-    assert_eq!(rt; ends(enclosed_sum(0, 5)), ((5, 0), (5, 0)));
-    assert_eq!(rt;
-        ends(enclosed_sum(half, half - 1)),
-        ((9223372036854775807, 0), (9223372036854775807, 0))
+    expect_ends(&rt, enclosed_sum(0, 0), (0, 0), (0, 0));
+    expect_ends(&rt, enclosed_sum(0, 5), (5, 0), (5, 0));
+    expect_ends(
+        &rt,
+        enclosed_sum(half, half - 1),
+        (9223372036854775807, 0),
+        (9223372036854775807, 0),
     );
-    assert_eq!(rt;
-        ends(enclosed_sum(half, half)),
-        ((9223372036854775808, 0), (9223372036854775815, 0))
+    expect_ends(
+        &rt,
+        enclosed_sum(half, half),
+        (9223372036854775808, 0),
+        (9223372036854775815, 0),
     );
-    assert_eq!(rt;
-        ends(enclosed_sum(18446744073709551608, 0)),
-        ((18446744073709551608, 0), (18446744073709551615, 0))
+    expect_ends(
+        &rt,
+        enclosed_sum(18446744073709551608, 0),
+        (18446744073709551608, 0),
+        (18446744073709551615, 0),
     );
-    assert_eq!(rt;
-        ends(enclosed_sum(18446744073709551609, 0)),
-        ((18446744073709551609, 0), (9223372036854775808, 1))
+    expect_ends(
+        &rt,
+        enclosed_sum(18446744073709551609, 0),
+        (18446744073709551609, 0),
+        (9223372036854775808, 1),
     );
-    assert_eq!(rt;
-        ends(enclosed_sum(u64::MAX, u64::MAX)),
-        ((18446744073709551615, 1), (9223372036854775811, 2))
+    expect_ends(
+        &rt,
+        enclosed_sum(u64::MAX, u64::MAX),
+        (18446744073709551615, 1),
+        (9223372036854775811, 2),
     );
 }
 
 #[test]
 fn enclosures_of_own_numbers(rt: HostRuntime) {
-    assert_eq!(rt; ends(enclosed_own(0)), ((0, 0), (0, 0)));
-    assert_eq!(rt;
-        ends(enclosed_own(5)),
-        ((5497558138880, 0), (5497558138880, 0))
-    );
+    expect_ends(&rt, enclosed_own(0), (0, 0), (0, 0));
+    expect_ends(&rt, enclosed_own(5), (5497558138880, 0), (5497558138880, 0));
     // Below 2^63 the number is exact, though 2^40 times it is not below 2^63.
-    assert_eq!(rt;
-        ends(enclosed_own(9223372036854775807)),
-        ((18446744073709551614, 39), (18446744073709551614, 39))
+    expect_ends(
+        &rt,
+        enclosed_own(9223372036854775807),
+        (18446744073709551614, 39),
+        (18446744073709551614, 39),
     );
-    assert_eq!(rt;
-        ends(enclosed_own(9223372036854775808)),
-        ((9223372036854775808, 40), (9223372036854775815, 40))
+    expect_ends(
+        &rt,
+        enclosed_own(9223372036854775808),
+        (9223372036854775808, 40),
+        (9223372036854775815, 40),
     );
 }
 
 #[test]
 fn enclosures_of_products(rt: HostRuntime) {
-    assert_eq!(rt; ends(enclosed_product(0, u64::MAX)), ((0, 0), (0, 0)));
-    assert_eq!(rt;
-        ends(enclosed_product(3037000499, 3037000500)),
-        ((9223372033963249500, 0), (9223372033963249500, 0))
+    expect_ends(&rt, enclosed_product(0, u64::MAX), (0, 0), (0, 0));
+    expect_ends(
+        &rt,
+        enclosed_product(3037000499, 3037000500),
+        (9223372033963249500, 0),
+        (9223372033963249500, 0),
     );
-    assert_eq!(rt;
-        ends(enclosed_product(3037000500, 3037000500)),
-        ((9223372037000250000, 0), (9223372037000250007, 0))
+    expect_ends(
+        &rt,
+        enclosed_product(3037000500, 3037000500),
+        (9223372037000250000, 0),
+        (9223372037000250007, 0),
     );
-    assert_eq!(rt;
-        ends(enclosed_product(1 << 32, 1 << 31)),
-        ((9223372036854775808, 0), (9223372036854775815, 0))
+    expect_ends(
+        &rt,
+        enclosed_product(1 << 32, 1 << 31),
+        (9223372036854775808, 0),
+        (9223372036854775815, 0),
     );
-    assert_eq!(rt;
-        ends(enclosed_product(u64::MAX, u64::MAX)),
-        ((18446744073709551614, 64), (9223372036854775811, 65))
+    expect_ends(
+        &rt,
+        enclosed_product(u64::MAX, u64::MAX),
+        (18446744073709551614, 64),
+        (9223372036854775811, 65),
     );
 }

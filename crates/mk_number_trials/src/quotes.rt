@@ -8,7 +8,6 @@ use mk_scaled::Scaled;
 use std::process::Abort;
 
 /// A side without an error, a share, and what is right for it.
-#[derive(Clone, Copy)]
 struct Edge {
     part: u64,
     whole: u64,
@@ -96,20 +95,20 @@ fn factor(rt: &impl Abort, gain: u64, trades: u32, net: i64) -> Factor {
     }
 }
 
-fn check_edge(rt: &impl Abort, edge: Edge) {
+fn check_edge(rt: &impl Abort, edge: &Edge) {
     let side = SideBounds {
         part: exact(rt, edge.part),
         whole: exact(rt, edge.whole),
         factor: factor(rt, edge.gain, edge.trades, edge.net),
     };
     assert!(rt; edge.share <= 999_999);
-    assert_eq!(rt; side.judge(edge.share), edge.units);
-    assert_eq!(rt; side.interval(), edge.interval);
+    assert!(rt; side.judge(edge.share) == edge.units);
+    assert!(rt; side.interval() == edge.interval);
 }
 
 #[test]
 fn sides_at_edges(rt: HostRuntime) {
-    for edge in EDGES {
+    for edge in &EDGES {
         check_edge(&rt, edge);
     }
 }
@@ -139,13 +138,13 @@ fn traded_coin(rt: &impl Abort) -> Bounds {
 #[test]
 fn coin(rt: HostRuntime) {
     let fair = fair_coin(&rt, 1);
-    assert_eq!(rt; fair.limits(), Some((250000, 750000)));
-    assert_eq!(rt; fair.judge(600000), Some((1319413953331, 879609302220)));
-    assert_eq!(rt; fair_coin(&rt, 0).limits(), Some((500000, 500000)));
+    assert!(rt; fair.limits() == Some((250000, 750000)));
+    assert!(rt; fair.judge(600000) == Some((1319413953331, 879609302220)));
+    assert!(rt; fair_coin(&rt, 0).limits() == Some((500000, 500000)));
     let traded = traded_coin(&rt);
-    assert_eq!(rt; traded.limits(), Some((250001, 749999)));
-    assert_eq!(rt; traded.judge(749999), Some((1374387702200, 687197516139)));
-    assert_eq!(rt; traded.judge(750000), None);
+    assert!(rt; traded.limits() == Some((250001, 749999)));
+    assert!(rt; traded.judge(749999) == Some((1374387702200, 687197516139)));
+    assert!(rt; traded.judge(750000).is_none());
 }
 
 /// The coin after that trade, for a user who has paid in nothing.
@@ -154,8 +153,8 @@ fn nothing_is_allowed(rt: HostRuntime) {
     let mut bounds = traded_coin(&rt);
     bounds.hit_factor = factor(&rt, 1, 0, 0);
     bounds.miss_factor = factor(&rt, 1, 0, 0);
-    assert_eq!(rt; bounds.limits(), None);
-    assert_eq!(rt; bounds.judge(600000), None);
+    assert!(rt; bounds.limits().is_none());
+    assert!(rt; bounds.judge(600000).is_none());
 }
 
 /// Ends that are apart: the ratio takes the lower end of the whole and the upper end of the part.
@@ -166,8 +165,12 @@ fn ends_apart(rt: HostRuntime) {
         whole: Enclosure::between(Scaled::of_whole(8), Scaled::of_whole(16)),
         factor: factor(&rt, 1, 0, 0),
     };
-    assert_eq!(rt; side.ratio(500_000), Some(1 << 40));
-    assert_eq!(rt; side.interval(), Some((500_000, 999_999)));
+    assert!(rt; side.ratio(500_000) == Some(1 << 40));
+    assert!(rt; side.interval() == Some((500_000, 999_999)));
+}
+
+pub(crate) fn pair(variable: u32, value: u32) -> Pair {
+    Pair { variable, value }
 }
 
 fn question(rt: &impl Abort, target: Pair, first: Pair, second: Pair) -> Question {
@@ -178,13 +181,12 @@ fn question(rt: &impl Abort, target: Pair, first: Pair, second: Pair) -> Questio
 
 #[test]
 fn quotes(rt: HostRuntime) {
-    let pair = |variable, value| Pair { variable, value };
     let asked = question(&rt, pair(0, 1), pair(1, 0), pair(2, 3));
     let quote = Quote::make(7, asked, 2, &fair_coin(&rt, 1));
     assert_eq!(rt; quote.user(), 7);
     assert_eq!(rt; quote.limits(), Some((250000, 750000)));
     assert_eq!(rt; quote.judge(750000), Some((1649267441664, 549755813888)));
-    assert_eq!(rt; quote.judge(750001), None);
+    assert!(rt; quote.judge(750001).is_none());
     assert!(rt; quote.is_for(&asked, 2));
     assert!(rt; !quote.is_for(&asked, 3));
     let turned = question(&rt, pair(0, 1), pair(2, 3), pair(1, 0));

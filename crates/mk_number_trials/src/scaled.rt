@@ -9,7 +9,6 @@ use std::process::Abort;
 type Parts = (u64, u64);
 
 /// Two numbers, with their sum and their product rounded down and up.
-#[derive(Clone, Copy)]
 struct Pair {
     left: Parts,
     right: Parts,
@@ -18,7 +17,6 @@ struct Pair {
 }
 
 /// A quotient, with its floor and its ceiling.
-#[derive(Clone, Copy)]
 struct Division {
     number: Parts,
     times: u64,
@@ -304,34 +302,31 @@ fn number(rt: &impl Abort, mantissa: u64, exponent: u64) -> Scaled
     Scaled::of_whole(mantissa).shift(exponent)
 }
 
-fn parts(number: Scaled) -> Parts {
-    (number.mantissa(), number.exponent())
+/// Stops unless a number has this mantissa and this exponent.
+fn expect_parts(rt: &impl Abort, number: Scaled, expected: Parts) {
+    assert_eq!(rt; (number.mantissa(), number.exponent()), expected);
 }
 
-fn check_pair(rt: &impl Abort, pair: Pair) {
+fn check_pair(rt: &impl Abort, pair: &Pair) {
     let left = number(rt, pair.left.0, pair.left.1);
     let right = number(rt, pair.right.0, pair.right.1);
-    assert_eq!(rt; parts(left.add_down(&right)), pair.sum.0);
-    assert_eq!(rt; parts(left.add_up(&right)), pair.sum.1);
-    assert_eq!(rt; parts(right.add_down(&left)), pair.sum.0);
-    assert_eq!(rt; parts(left.mul_down(&right)), pair.product.0);
-    assert_eq!(rt; parts(left.mul_up(&right)), pair.product.1);
+    expect_parts(rt, left.add_down(&right), pair.sum.0);
+    expect_parts(rt, left.add_up(&right), pair.sum.1);
+    expect_parts(rt, right.add_down(&left), pair.sum.0);
+    expect_parts(rt, left.mul_down(&right), pair.product.0);
+    expect_parts(rt, left.mul_up(&right), pair.product.1);
 }
 
-fn check_division(rt: &impl Abort, division: Division) {
+fn check_division(rt: &impl Abort, division: &Division) {
     let number = number(rt, division.number.0, division.number.1);
     let by = self::number(rt, division.by.0, division.by.1);
     assert!(rt; division.times < 1 << 60);
     assert!(rt; division.over >= 1);
     assert!(rt; division.over <= 1 << 20);
-    assert_eq!(rt;
-        number.div_floor(division.times, &by, division.over),
-        division.floor
-    );
-    assert_eq!(rt;
-        number.div_ceil(division.times, &by, division.over),
-        division.ceiling
-    );
+    let floor = number.div_floor(division.times, &by, division.over);
+    assert!(rt; floor == division.floor);
+    let ceiling = number.div_ceil(division.times, &by, division.over);
+    assert!(rt; ceiling == division.ceiling);
 }
 
 fn check_power(rt: &impl Abort, base: u64, n: u32, power: Parts) {
@@ -339,36 +334,34 @@ fn check_power(rt: &impl Abort, base: u64, n: u32, power: Parts) {
     assert!(rt; n >= 1);
     assert!(rt; n <= 1 << 20);
     let base = Scaled::of_whole(base);
-    assert_eq!(rt; parts(base.pow_down(n)), power);
-    assert_eq!(rt; parts(base.pow_up(n)), power);
+    expect_parts(rt, base.pow_down(n), power);
+    expect_parts(rt, base.pow_up(n), power);
 }
 
 #[test]
 fn worked_answers(rt: HostRuntime) {
     let most = Scaled::of_whole(u64::MAX);
     let two = Scaled::of_whole(2);
-    assert_eq!(rt; parts(most.add_down(&two)), (1 << 63, 1));
-    assert_eq!(rt; parts(most.add_up(&two)), ((1 << 63) + 1, 1));
+    expect_parts(&rt, most.add_down(&two), (1 << 63, 1));
+    expect_parts(&rt, most.add_up(&two), ((1 << 63) + 1, 1));
     let three = Scaled::of_whole(3);
     let seven = Scaled::of_whole(7);
     assert_eq!(rt; three.div_floor(10, &seven, 1), Some(4));
-    assert_eq!(rt; three.div_ceil(10, &seven, 1), Some(5));
-    assert_eq!(rt;
-        Scaled::of_whole(1 << 63).div_floor(1, &Scaled::of_whole(1), 1),
-        None
-    );
+    assert!(rt; three.div_ceil(10, &seven, 1) == Some(5));
+    let half = Scaled::of_whole(1 << 63);
+    assert!(rt; half.div_floor(1, &Scaled::of_whole(1), 1).is_none());
 }
 
 #[test]
 fn sums_and_products(rt: HostRuntime) {
-    for pair in PAIRS {
+    for pair in &PAIRS {
         check_pair(&rt, pair);
     }
 }
 
 #[test]
 fn divisions(rt: HostRuntime) {
-    for division in DIVISIONS {
+    for division in &DIVISIONS {
         check_division(&rt, division);
     }
 }
@@ -388,13 +381,13 @@ fn logarithms_and_order(rt: HostRuntime) {
     let most = number(&rt, u64::MAX, 0);
     let half = number(&rt, 1 << 63, 0);
     let far = number(&rt, u64::MAX, 1 << 40);
-    assert_eq!(rt; one.log2_floor(), 0);
-    assert_eq!(rt; half.log2_floor(), 63);
-    assert_eq!(rt; most.log2_floor(), 63);
-    assert_eq!(rt; far.log2_floor(), 1099511627839);
+    assert!(rt; one.log2_floor() == 0);
+    assert!(rt; half.log2_floor() == 63);
+    assert!(rt; most.log2_floor() == 63);
+    assert!(rt; far.log2_floor() == 1099511627839);
     assert!(rt; one < half);
     assert!(rt; half < most);
     assert!(rt; most < far);
     assert!(rt; half != most);
-    assert_eq!(rt; number(&rt, 1, 63), half);
+    assert!(rt; number(&rt, 1, 63) == half);
 }

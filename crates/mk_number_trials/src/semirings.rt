@@ -1,21 +1,18 @@
 //! Each semiring through its trait. What the tables of edges hold was worked out by Python's whole numbers; a
 //! product in a sum or a least is cut to the first 64 of its 128 places before.
-ghost use Rattle.std.specs.Prelude.{◌≡◌, ◌≤◌, length};
-ghost use Rattle.mk_cell.specs.Cell.{AreCells, IsCell};
+ghost use Rattle.std.specs.Prelude.{◌≤◌};
 
+use crate::cells::{Parts, check_cells, expect_parts};
+use crate::enclosures::{self, check_ends};
 use crate::products::unrounded;
 use mk_cell::Cell;
 use mk_semiring::{Held, MinProd, Semiring, SumProd};
 use std::process::Abort;
 
-/// Digits and an exponent.
-type Parts = (u64, u32);
-
 /// The ends of an interval, each a mantissa and an exponent.
-type Ends = ((u64, u64), (u64, u64));
+type Ends = (enclosures::Parts, enclosures::Parts);
 
 /// Cells and other cells, with what the semirings make of the cells and of the products.
-#[derive(Clone, Copy)]
 struct Row {
     digits: [u64; 3],
     exponents: [u32; 3],
@@ -28,7 +25,6 @@ struct Row {
 }
 
 /// Two whole numbers, with the value that each semiring gives their cells.
-#[derive(Clone, Copy)]
 struct Numbers {
     left: u64,
     right: u64,
@@ -223,21 +219,17 @@ fn times_absent<R: Semiring>(a: u64) -> R::Value
     R::times(&R::of_whole(a), &R::absent())
 }
 
-/// 0 stands for Absent.
-fn check(rt: &impl Abort, held: &Held, n: u64) {
+/// Stops unless a value has these ends, which are 0 for Absent.
+fn expect_ends(rt: &impl Abort, held: &Held, ends: Ends) {
     match held {
-        Held::Absent => assert_eq!(rt; n, 0),
-        Held::Present(enclosure) => {
-            assert_eq!(rt;
-                (enclosure.lo().mantissa(), enclosure.lo().exponent()),
-                (n, 0)
-            );
-            assert_eq!(rt;
-                (enclosure.hi().mantissa(), enclosure.hi().exponent()),
-                (n, 0)
-            );
-        }
+        Held::Absent => assert!(rt; ends == ((0, 0), (0, 0))),
+        Held::Present(enclosure) => check_ends(rt, enclosure, ends.0, ends.1),
     }
+}
+
+/// Stops unless a value is this number; 0 stands for Absent.
+fn check(rt: &impl Abort, held: &Held, n: u64) {
+    expect_ends(rt, held, ((n, 0), (n, 0)));
 }
 
 #[test]
@@ -262,42 +254,17 @@ fn minima_and_products(rt: HostRuntime) {
     check(&rt, &MinProd::one(), 1);
 }
 
-fn parts(cell: Cell) -> Parts {
-    (cell.digits, cell.exponent)
-}
-
-fn check_cell(rt: &impl Abort, digits: u64, exponent: u32)
-    ensures { IsCell digits exponent }
-{
-    if digits == 0 {
-        assert_eq!(rt; exponent, 0);
-    } else {
-        assert!(rt; digits >= 1 << 63);
-        assert!(rt; exponent >= 3 << 26);
-    }
-    assert!(rt; exponent <= 5 << 26);
-}
-
-fn check_cells(rt: &impl Abort, digits: &[u64], exponents: &[u32])
-    ensures { AreCells digits.now exponents.now }
-{
-    assert_eq!(rt; exponents.len(), digits.len());
-    for c in 0..digits.len() {
-        check_cell(rt, digits[c], exponents[c]);
-    }
-}
-
-fn check_row<R: Semiring>(rt: &impl Abort, row: Row, plus: Parts, plus_of_products: Parts) {
+fn check_row<R: Semiring>(rt: &impl Abort, row: &Row, plus: Parts, plus_of_products: Parts) {
     check_cells(rt, &row.digits, &row.exponents);
     check_cells(rt, &row.other_digits, &row.other_exponents);
-    assert_eq!(rt; parts(R::over(&row.digits, &row.exponents)), plus);
+    expect_parts(rt, R::over(&row.digits, &row.exponents), plus);
     let (places, sums) = unrounded(
         &row.digits,
         &row.exponents,
         &row.other_digits,
         &row.other_exponents,
     );
-    assert_eq!(rt; parts(R::over_products(&places, &sums)), plus_of_products);
+    expect_parts(rt, R::over_products(&places, &sums), plus_of_products);
 }
 
 /// The value of the plus of two numbers, as cells under a shift.
@@ -314,20 +281,9 @@ fn untouched_value<R: Semiring>(n: u64) -> R::Value {
     R::of_cell(Cell::of_whole(n, 0), 40, true, 1)
 }
 
-/// The ends of a value; (0, 0) for Absent.
-fn ends(held: &Held) -> Ends {
-    match held {
-        Held::Absent => ((0, 0), (0, 0)),
-        Held::Present(enclosure) => (
-            (enclosure.lo().mantissa(), enclosure.lo().exponent()),
-            (enclosure.hi().mantissa(), enclosure.hi().exponent()),
-        ),
-    }
-}
-
 #[test]
 fn cells(rt: HostRuntime) {
-    for row in ROWS {
+    for row in &ROWS {
         check_row::<SumProd>(&rt, row, row.sum, row.sum_of_products);
         check_row::<MinProd>(&rt, row, row.least, row.least_of_products);
     }
@@ -335,11 +291,11 @@ fn cells(rt: HostRuntime) {
 
 #[test]
 fn values_of_cells(rt: HostRuntime) {
-    for numbers in NUMBERS {
+    for numbers in &NUMBERS {
         let sum = value_over::<SumProd>(numbers.left, numbers.right);
-        assert_eq!(rt; ends(&sum), numbers.sum);
+        expect_ends(&rt, &sum, numbers.sum);
         let least = value_over::<MinProd>(numbers.left, numbers.right);
-        assert_eq!(rt; ends(&least), numbers.least);
+        expect_ends(&rt, &least, numbers.least);
     }
 }
 
@@ -347,7 +303,7 @@ fn values_of_cells(rt: HostRuntime) {
 fn values_of_untouched_cells(rt: HostRuntime) {
     let greatest: Ends = ((18446744073709551614, 39), (18446744073709551614, 39));
     let sum = untouched_value::<SumProd>(9223372036854775807);
-    assert_eq!(rt; ends(&sum), greatest);
+    expect_ends(&rt, &sum, greatest);
     let least = untouched_value::<MinProd>(9223372036854775807);
-    assert_eq!(rt; ends(&least), greatest);
+    expect_ends(&rt, &least, greatest);
 }

@@ -1,5 +1,6 @@
 //! Whole distributions: the die of three values, and sixteen values at the edges, by an exact reference over whole numbers.
 
+use crate::quotes::pair;
 use arrayvec::ArrayVec;
 use mk_enclose::{Enclosure, Factor};
 use mk_net::{Event, Pair};
@@ -7,7 +8,6 @@ use mk_quote::{SpreadBounds, SpreadQuestion, SpreadQuote, ValueBounds};
 use std::process::Abort;
 
 /// A value without an error, the shares that it may be given, one of them, and the units for that.
-#[derive(Clone, Copy)]
 struct Value {
     part: u64,
     gain: u64,
@@ -243,11 +243,10 @@ fn without_bits(rt: HostRuntime) {
 
 #[test]
 fn quotes(rt: HostRuntime) {
-    let pair = |variable, value| Pair { variable, value };
     let asked = question(&rt, 0, &[pair(1, 0), pair(2, 3)]);
     let bounds = bounds_of(&rt, &DIE, 1_000_000, 0, 1);
     let quote = SpreadQuote::make(7, asked, 2, &bounds);
-    assert_eq!(rt; quote.user(), 7);
+    assert!(rt; quote.user() == 7);
     assert!(rt; quote.is_for(&asked, 2));
     assert!(rt; !quote.is_for(&asked, 3));
     let turned = question(&rt, 0, &[pair(2, 3), pair(1, 0)]);

@@ -4,10 +4,10 @@ ghost use Rattle.std.specs.Prelude.{◌≡◌, true, All, IfSome};
 ghost use Rattle.mk_text.specs.Numbers.{IsShort};
 ghost use Rattle.mk_command.specs.Commands.{HasShortNumbers};
 
-use crate::names::name;
+use crate::names::{expect_none, expect_text, name};
 use arrayvec::{ArrayString, ArrayVec};
 use mk_command::{Command, CommandRef, Words, print_command, read_command};
-use mk_net::{Name, PairText, QuestionText, Syntax};
+use mk_net::{Name, PairText, QuestionText};
 use std::process::Abort;
 
 const LONGEST_NAME: &[u8] = b"abcdefghijklmnopqrstuvwxyz_01234";
@@ -37,10 +37,14 @@ fn both_ways(rt: &impl Abort, text: &str, command: Command) {
         Ok(command.lend()),
         "{text}"
     );
-    assert!(rt; has_short_numbers(&command), "{text}");
+    prints(rt, text, &command);
+}
+
+fn prints(rt: &impl Abort, text: &str, command: &Command) {
+    assert!(rt; has_short_numbers(command), "{text}");
     let mut printed = ArrayString::new();
-    print_command(&command, &mut printed);
-    assert_eq!(rt; printed.as_str(), text);
+    print_command(command, &mut printed);
+    expect_text(rt, printed.as_str(), text);
 }
 
 /// Whether each number of a command has at most nine digits, and a distribution at least two shares.
@@ -166,51 +170,45 @@ fn numbers(list: &[u32]) -> ArrayVec<u32, 16> {
 }
 
 #[test]
-fn reads_and_prints_whole_distributions(rt: HostRuntime) {
+fn reads_and_prints_bounds(rt: HostRuntime) {
     let user = name(&rt, b"alice");
     let variable = name(&rt, b"die");
+    let command = Command::Bounds {
+        user,
+        variable,
+        condition: condition(&[]),
+    };
+    both_ways(&rt, "bounds alice die", command);
     let pairs = [pair(&rt, b"rain", b"yes"), pair(&rt, b"to", b"at")];
-    for (given, text) in [
-        (condition(&[]), "bounds alice die"),
-        (condition(&pairs), "bounds alice die | rain=yes, to=at"),
-    ] {
-        let command = Command::Bounds {
-            user,
-            variable,
-            condition: given,
-        };
-        both_ways(&rt, text, command);
-    }
-    let sixteen = [1u32; 16];
-    for (given, to, at, text) in [
-        (
-            condition(&[]),
-            numbers(&[200_000, 300_000, 500_000]),
-            None,
-            "spread alice die to 200000 300000 500000",
-        ),
-        (
-            condition(&pairs),
-            numbers(&[0, 999_999_999]),
-            Some(7),
-            "spread alice die | rain=yes, to=at to 0 999999999 at 7",
-        ),
-        (
-            condition(&[]),
-            numbers(&sixteen),
-            Some(0),
-            "spread alice die to 1 1 1 1 1 1 1 1 1 1 1 1 1 1 1 1 at 0",
-        ),
-    ] {
-        let command = Command::Spread {
-            user,
-            variable,
-            condition: given,
-            to,
-            at,
-        };
-        both_ways(&rt, text, command);
-    }
+    let command = Command::Bounds {
+        user,
+        variable,
+        condition: condition(&pairs),
+    };
+    both_ways(&rt, "bounds alice die | rain=yes, to=at", command);
+}
+
+/// Stops unless a spread of alice over the values of a die is printed as this text, and read from it.
+fn spread(rt: &impl Abort, text: &str, pairs: &[PairText], to: &[u32], at: Option<u32>) {
+    let command = Command::Spread {
+        user: name(rt, b"alice"),
+        variable: name(rt, b"die"),
+        condition: condition(pairs),
+        to: numbers(to),
+        at,
+    };
+    both_ways(rt, text, command);
+}
+
+#[test]
+fn reads_and_prints_spreads(rt: HostRuntime) {
+    let text = "spread alice die to 200000 300000 500000";
+    spread(&rt, text, &[], &[200_000, 300_000, 500_000], None);
+    let pairs = [pair(&rt, b"rain", b"yes"), pair(&rt, b"to", b"at")];
+    let text = "spread alice die | rain=yes, to=at to 0 999999999 at 7";
+    spread(&rt, text, &pairs, &[0, 999_999_999], Some(7));
+    let text = "spread alice die to 1 1 1 1 1 1 1 1 1 1 1 1 1 1 1 1 at 0";
+    spread(&rt, text, &[], &[1u32; 16], Some(0));
 }
 
 #[test]
@@ -234,77 +232,81 @@ fn reads_and_prints_the_longest(rt: HostRuntime) {
     both_ways(&rt, text.as_str(), command);
 }
 
+/// Texts that are no commands, each a line: the first is empty, and some end in a space.
+const NO_COMMANDS: &str = "
+ 
+settle 
+ settle
+settled
+Settle
+user
+user 
+user  alice
+user Alice
+user 1a
+user alice\r
+user alice bob
+user abcdefghijklmnopqrstuvwxyz_012345
+deposit alice
+deposit alice 01
+deposit alice 1000000000
+deposit alice 18446744073709551617
+deposit alice -1
+deposit alice +1
+deposit alice  1
+deposit alice 1 
+price coin
+price coin=
+price =heads
+price coin=a=b
+price coin=up|rain=yes
+price coin=up |rain=yes
+price coin=up | 
+price coin=up | rain
+price coin=up | rain=yes,sun=no
+price coin=up | rain=yes, 
+price a=b | c=d, c=d, c=d, c=d, c=d, c=d, c=d, c=d, c=d
+limits coin=heads
+limits alice
+edit alice coin=heads
+edit alice coin=heads to
+edit alice coin=heads to 1a
+edit alice coin=heads at 1 to 2
+edit alice coin=heads to 1 at
+edit alice coin=heads to 1 at 01
+edit alice coin=heads to 1 at 2 at 3
+bounds alice
+bounds alice die=one
+bounds alice die at 1
+spread alice die
+spread alice die to
+spread alice die to 1
+spread alice die to 1 at 2
+spread alice die to 1  2
+spread alice die to 1 02
+spread alice die to 1 2 
+spread alice die to 1 2 at
+spread alice die to 1 2 at 3 4
+spread alice die to 1 1000000000
+spread alice die to 1 1 1 1 1 1 1 1 1 1 1 1 1 1 1 1 1
+spread alice die=one to 1 2
+worst
+resolve coin
+resolve coin=heads | rain=yes";
+
 #[test]
 fn reads_nothing_else(rt: HostRuntime) {
-    for text in [
-        "",
-        " ",
-        "settle ",
-        " settle",
-        "settled",
-        "Settle",
-        "user",
-        "user ",
-        "user  alice",
-        "user Alice",
-        "user 1a",
-        "user alice\r",
-        "user alice bob",
-        "user abcdefghijklmnopqrstuvwxyz_012345",
-        "deposit alice",
-        "deposit alice 01",
-        "deposit alice 1000000000",
-        "deposit alice 18446744073709551617",
-        "deposit alice -1",
-        "deposit alice +1",
-        "deposit alice  1",
-        "deposit alice 1 ",
-        "price coin",
-        "price coin=",
-        "price =heads",
-        "price coin=a=b",
-        "price coin=up|rain=yes",
-        "price coin=up |rain=yes",
-        "price coin=up | ",
-        "price coin=up | rain",
-        "price coin=up | rain=yes,sun=no",
-        "price coin=up | rain=yes, ",
-        "price a=b | c=d, c=d, c=d, c=d, c=d, c=d, c=d, c=d, c=d",
-        "limits coin=heads",
-        "limits alice",
-        "edit alice coin=heads",
-        "edit alice coin=heads to",
-        "edit alice coin=heads to 1a",
-        "edit alice coin=heads at 1 to 2",
-        "edit alice coin=heads to 1 at",
-        "edit alice coin=heads to 1 at 01",
-        "edit alice coin=heads to 1 at 2 at 3",
-        "bounds alice",
-        "bounds alice die=one",
-        "bounds alice die at 1",
-        "spread alice die",
-        "spread alice die to",
-        "spread alice die to 1",
-        "spread alice die to 1 at 2",
-        "spread alice die to 1  2",
-        "spread alice die to 1 02",
-        "spread alice die to 1 2 ",
-        "spread alice die to 1 2 at",
-        "spread alice die to 1 2 at 3 4",
-        "spread alice die to 1 1000000000",
-        "spread alice die to 1 1 1 1 1 1 1 1 1 1 1 1 1 1 1 1 1",
-        "spread alice die=one to 1 2",
-        "worst",
-        "resolve coin",
-        "resolve coin=heads | rain=yes",
-    ] {
+    for text in NO_COMMANDS.split("\n") {
         let mut words = Words::default();
-        assert_eq!(rt;
-            read_command(text.as_bytes(), &mut words),
-            Err(Syntax),
-            "{text}"
-        );
+        let read = read_command(text.as_bytes(), &mut words);
+        expect_none(&rt, read.is_err(), text);
     }
+}
+
+/// Stops unless a text is read as a question for its price, into words that hold another.
+fn reads_over(rt: &impl Abort, words: &mut Words, text: &str, asked: &QuestionText) {
+    let price = CommandRef::Price { question: asked };
+    assert!(rt; read_command(text.as_bytes(), words) == Ok(price), "{text}");
 }
 
 #[test]
@@ -314,16 +316,7 @@ fn a_line_is_written_over_the_words_of_another(rt: HostRuntime) {
     let under_rain = question(&coin, &[rain]);
     let alone = question(&coin, &[]);
     let mut words = Words::default();
-    for (text, asked) in [
-        ("price coin=heads | rain=yes", &under_rain),
-        ("price coin=heads", &alone),
-        ("price coin=heads | rain=yes", &under_rain),
-    ] {
-        let price = CommandRef::Price { question: asked };
-        assert_eq!(rt;
-            read_command(text.as_bytes(), &mut words),
-            Ok(price),
-            "{text}"
-        );
-    }
+    reads_over(&rt, &mut words, "price coin=heads | rain=yes", &under_rain);
+    reads_over(&rt, &mut words, "price coin=heads", &alone);
+    reads_over(&rt, &mut words, "price coin=heads | rain=yes", &under_rain);
 }

@@ -1,5 +1,5 @@
-//! Trials of the texts of commands and replies, over the public calls of `mk_text`, `mk_command` and `mk_reply`: a crate of its own,
-//! since a crate with tests is proved twice.
+//! Trials of the texts of commands and replies and of the sample market, over the public calls of `mk_text`, `mk_command`, `mk_reply`
+//! and `mk_make`: a crate of its own, since a crate with tests is proved twice.
 #![tactic(auto)]
 
 #[cfg(test)]
@@ -8,5 +8,7 @@ mod commands;
 mod names;
 #[cfg(test)]
 mod replies;
+#[cfg(test)]
+mod samples;
 #[cfg(test)]
 mod texts;

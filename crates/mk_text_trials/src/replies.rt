@@ -1,4 +1,4 @@
-use crate::names::name;
+use crate::names::{expect_none, expect_text, name};
 use arrayvec::{ArrayString, ArrayVec};
 use mk_net::{Name, PairText};
 use mk_reply::{Intervals, Payment, Payments, Refusal, Reply, Unread, print_reply, read_reply};
@@ -8,12 +8,21 @@ use std::test::Fail;
 
 const MOST: u64 = 9_223_372_036_854_775_807;
 
+/// Stops unless a reply is printed as this text, and read from it.
 fn both_ways(rt: &impl Abort, alloc: Global, text: &str, reply: Reply) -> Result<(), Fail> {
+    prints(rt, text, &reply);
+    reads(rt, alloc, text, reply)
+}
+
+fn prints(rt: &impl Abort, text: &str, reply: &Reply) {
+    let mut printed = ArrayString::new();
+    print_reply(reply, &mut printed);
+    expect_text(rt, printed.as_str(), text);
+}
+
+fn reads(rt: &impl Abort, alloc: Global, text: &str, reply: Reply) -> Result<(), Fail> {
     let read = read_reply(alloc, text.as_bytes())?;
     assert_eq!(rt; read, reply, "{text}");
-    let mut printed = ArrayString::new();
-    print_reply(&read, &mut printed);
-    assert_eq!(rt; printed.as_str(), text);
     Ok(())
 }
 
@@ -70,33 +79,40 @@ fn reads_and_prints_changes(rt: HostRuntime) -> Result<(), Fail> {
     Ok(())
 }
 
+fn price(rt: &impl Abort, alloc: Global, text: &str, low: u64, high: u64) -> Result<(), Fail> {
+    both_ways(rt, alloc, text, Reply::Price { low, high })
+}
+
+fn limits(
+    rt: &impl Abort,
+    alloc: Global,
+    text: &str,
+    limits: Option<(u32, u32)>,
+    at: u64,
+) -> Result<(), Fail> {
+    both_ways(rt, alloc, text, Reply::Limits { limits, at })
+}
+
+fn worst(rt: &impl Abort, alloc: Global, text: &str, low: u64, high: u64) -> Result<(), Fail> {
+    both_ways(rt, alloc, text, Reply::Worst { low, high })
+}
+
 #[test]
 fn reads_and_prints_answers(rt: HostRuntime) -> Result<(), Fail> {
-    for (low, high, text) in [
-        (0, 10_000_000_000, "price 0.0000000000..1.0000000000"),
-        (
-            6_000_000_000,
-            6_000_000_001,
-            "price 0.6000000000..0.6000000001",
-        ),
-        (1, 3_333_333_334, "price 0.0000000001..0.3333333334"),
-    ] {
-        both_ways(&rt, rt.alloc(), text, Reply::Price { low, high })?;
-    }
-    for (limits, at, text) in [
-        (None, 4, "limits none at 4"),
-        (Some((1, 999_999)), 2, "limits 1..999999 at 2"),
-        (Some((500_000, 500_000)), 1, "limits 500000..500000 at 1"),
-    ] {
-        both_ways(&rt, rt.alloc(), text, Reply::Limits { limits, at })?;
-    }
-    for (low, high, text) in [
-        (67, 67, "worst 67..67"),
-        (0, MOST, "worst 0..9223372036854775807"),
-    ] {
-        both_ways(&rt, rt.alloc(), text, Reply::Worst { low, high })?;
-    }
-    Ok(())
+    let alloc = rt.alloc();
+    let text = "price 0.0000000000..1.0000000000";
+    price(&rt, alloc, text, 0, 10_000_000_000)?;
+    let text = "price 0.6000000000..0.6000000001";
+    price(&rt, alloc, text, 6_000_000_000, 6_000_000_001)?;
+    let text = "price 0.0000000001..0.3333333334";
+    price(&rt, alloc, text, 1, 3_333_333_334)?;
+    limits(&rt, alloc, "limits none at 4", None, 4)?;
+    let text = "limits 1..999999 at 2";
+    limits(&rt, alloc, text, Some((1, 999_999)), 2)?;
+    let text = "limits 500000..500000 at 1";
+    limits(&rt, alloc, text, Some((500_000, 500_000)), 1)?;
+    worst(&rt, alloc, "worst 67..67", 67, 67)?;
+    worst(&rt, alloc, "worst 0..9223372036854775807", 0, MOST)
 }
 
 fn intervals(list: &[(u32, u32)]) -> Option<Intervals> {
@@ -115,48 +131,61 @@ fn factors(list: &[u64]) -> ArrayVec<u64, 16> {
     factors
 }
 
+fn bounded(
+    rt: &impl Abort,
+    alloc: Global,
+    text: &str,
+    intervals: Option<Intervals>,
+    at: u64,
+) -> Result<(), Fail> {
+    both_ways(rt, alloc, text, Reply::Bounded { intervals, at })
+}
+
+fn spreaded(rt: &impl Abort, alloc: Global, text: &str, list: &[u64], at: u64) -> Result<(), Fail> {
+    let factors = factors(list);
+    both_ways(rt, alloc, text, Reply::Spreaded { factors, at })
+}
+
+fn refused(rt: &impl Abort, alloc: Global, text: &str, why: Refusal) -> Result<(), Fail> {
+    both_ways(rt, alloc, text, Reply::Refused { why })
+}
+
+const DIE: [(u32, u32); 3] = [(166_667, 999_999), (1, 1), (2, 3)];
+
+const SIXTEEN: &str =
+    "bounds 1..999999 1..999999 1..999999 1..999999 1..999999 1..999999 1..999999 1..999999 1..999999 1..999999 1..999999 1..999999 1..999999 1..999999 1..999999 1..999999 at 9223372036854775807";
+
 #[test]
 fn reads_and_prints_whole_distributions(rt: HostRuntime) -> Result<(), Fail> {
-    let die = [(166_667, 999_999), (1, 1), (2, 3)];
+    let alloc = rt.alloc();
+    bounded(&rt, alloc, "bounds none at 0", None, 0)?;
+    let text = "bounds 166667..999999 1..1 2..3 at 2";
+    bounded(&rt, alloc, text, intervals(&DIE), 2)?;
     let sixteen = [(1u32, 999_999u32); 16];
-    for (intervals, at, text) in [
-        (None, 0, "bounds none at 0"),
-        (intervals(&die), 2, "bounds 166667..999999 1..1 2..3 at 2"),
-        (
-            intervals(&sixteen),
-            MOST,
-            "bounds 1..999999 1..999999 1..999999 1..999999 1..999999 1..999999 1..999999 1..999999 1..999999 1..999999 1..999999 1..999999 1..999999 1..999999 1..999999 1..999999 at 9223372036854775807",
-        ),
-    ] {
-        both_ways(&rt, rt.alloc(), text, Reply::Bounded { intervals, at })?;
-    }
+    bounded(&rt, alloc, SIXTEEN, intervals(&sixteen), MOST)?;
+    let text = "spread 659707636373 989561454559 1649264143135 at 3";
     let row = [659_707_636_373, 989_561_454_559, 1_649_264_143_135];
-    for (factors, at, text) in [
-        (
-            factors(&row),
-            3,
-            "spread 659707636373 989561454559 1649264143135 at 3",
-        ),
-        (factors(&[1, MOST]), 0, "spread 1 9223372036854775807 at 0"),
-    ] {
-        both_ways(&rt, rt.alloc(), text, Reply::Spreaded { factors, at })?;
-    }
+    spreaded(&rt, alloc, text, &row, 3)?;
+    let text = "spread 1 9223372036854775807 at 0";
+    spreaded(&rt, alloc, text, &[1, MOST], 0)
+}
+
+#[test]
+fn reads_and_prints_refusals_of_whole_distributions(rt: HostRuntime) -> Result<(), Fail> {
+    let alloc = rt.alloc();
     let variable = name(&rt, b"dice");
-    for (why, text) in [
-        (Refusal::NoVariable { variable }, "refused variable dice"),
-        (Refusal::Numbers { given: 2 }, "refused numbers 2"),
-        (Refusal::Sum { sum: 900_000 }, "refused sum 900000"),
-        (
-            Refusal::Outside {
-                intervals: intervals(&die),
-            },
-            "refused outside 166667..999999 1..1 2..3",
-        ),
-        (Refusal::Outside { intervals: None }, "refused outside none"),
-    ] {
-        both_ways(&rt, rt.alloc(), text, Reply::Refused { why })?;
-    }
-    Ok(())
+    let why = Refusal::NoVariable { variable };
+    refused(&rt, alloc, "refused variable dice", why)?;
+    let why = Refusal::Numbers { given: 2 };
+    refused(&rt, alloc, "refused numbers 2", why)?;
+    let why = Refusal::Sum { sum: 900_000 };
+    refused(&rt, alloc, "refused sum 900000", why)?;
+    let why = Refusal::Outside {
+        intervals: intervals(&DIE),
+    };
+    refused(&rt, alloc, "refused outside 166667..999999 1..1 2..3", why)?;
+    let why = Refusal::Outside { intervals: None };
+    refused(&rt, alloc, "refused outside none", why)
 }
 
 #[test]
@@ -248,84 +277,90 @@ fn reads_and_prints_refusals(rt: HostRuntime) -> Result<(), Fail> {
     Ok(())
 }
 
+/// Texts that are no replies, each a line: the first is empty, and some end in a space.
+const NO_REPLIES: &str = "
+user alice
+user alice at 01
+user alice at 9223372036854775808
+user alice at 18446744073709551617
+user alice  at 1
+user alice at 1 
+deposit alice 4294967296 at 1
+deposit alice 01 at 1
+withdraw alice 1
+price 0.5..0.5
+price 0.50000000000..0.5000000000
+price 0.5000000000
+price 00.5000000000..0.5000000000
+price 1.0000000001..1.0000000001
+price 2.0000000000..2.0000000000
+price .5000000000..0.5000000000
+price 0.500000000a..0.5000000000
+price 0.+500000000..0.5000000000
+limits 0..1 at 1
+limits 2..1 at 1
+limits 1..1000000 at 1
+limits none
+limits nonetheless at 1
+trade 0 1 at 1
+trade 1 0 at 1
+trade 1 9223372036854775808 at 1
+bounds 1..2 at 1
+bounds 0..1 1..2 at 1
+bounds 2..1 1..2 at 1
+bounds 1..2 1..1000000 at 1
+bounds 1..2 1..2
+bounds none
+spread 1 at 1
+spread 0 1 at 1
+spread 1 9223372036854775808 at 1
+spread 1 2
+spread 1 1 1 1 1 1 1 1 1 1 1 1 1 1 1 1 1 at 1
+refused numbers 1000000000
+refused sum 1000000000
+refused sum 01
+refused outside 1..2
+refused outside 1..2 1..2 at 1
+refused variable
+worst 1
+worst 1...2
+worst 1..2 at 1
+resolve coin at 1
+settle
+settle at
+settle at 1,alice 1..1 paid 1
+settle at 1, alice 1..2 paid 2
+settle at 1, alice 1..2 paid 01
+settle at 1, alice 1..2
+settle at 1, 
+refused
+refused 
+refused Syntax
+refused syntax error
+refused users 255
+refused users 0256
+refused stale 4294967296 1
+refused stale 1
+refused range 4294967296
+refused full -1
+refused beyond 5..4
+refused open
+refused unresolved coin
+refused name coin";
+
+/// Whether a text is that of no reply.
+fn is_none(alloc: Global, text: &str) -> Result<bool, Fail> {
+    match read_reply(alloc, text.as_bytes()) {
+        Err(Unread::Syntax) => Ok(true),
+        Err(Unread::Memory) => Err(Unread::Memory)?,
+        Ok(_) => Ok(false),
+    }
+}
+
 #[test]
 fn reads_nothing_else(rt: HostRuntime) -> Result<(), Fail> {
-    for text in [
-        "",
-        "user alice",
-        "user alice at 01",
-        "user alice at 9223372036854775808",
-        "user alice at 18446744073709551617",
-        "user alice  at 1",
-        "user alice at 1 ",
-        "deposit alice 4294967296 at 1",
-        "deposit alice 01 at 1",
-        "withdraw alice 1",
-        "price 0.5..0.5",
-        "price 0.50000000000..0.5000000000",
-        "price 0.5000000000",
-        "price 00.5000000000..0.5000000000",
-        "price 1.0000000001..1.0000000001",
-        "price 2.0000000000..2.0000000000",
-        "price .5000000000..0.5000000000",
-        "price 0.500000000a..0.5000000000",
-        "price 0.+500000000..0.5000000000",
-        "limits 0..1 at 1",
-        "limits 2..1 at 1",
-        "limits 1..1000000 at 1",
-        "limits none",
-        "limits nonetheless at 1",
-        "trade 0 1 at 1",
-        "trade 1 0 at 1",
-        "trade 1 9223372036854775808 at 1",
-        "bounds 1..2 at 1",
-        "bounds 0..1 1..2 at 1",
-        "bounds 2..1 1..2 at 1",
-        "bounds 1..2 1..1000000 at 1",
-        "bounds 1..2 1..2",
-        "bounds none",
-        "spread 1 at 1",
-        "spread 0 1 at 1",
-        "spread 1 9223372036854775808 at 1",
-        "spread 1 2",
-        "spread 1 1 1 1 1 1 1 1 1 1 1 1 1 1 1 1 1 at 1",
-        "refused numbers 1000000000",
-        "refused sum 1000000000",
-        "refused sum 01",
-        "refused outside 1..2",
-        "refused outside 1..2 1..2 at 1",
-        "refused variable",
-        "worst 1",
-        "worst 1...2",
-        "worst 1..2 at 1",
-        "resolve coin at 1",
-        "settle",
-        "settle at",
-        "settle at 1,alice 1..1 paid 1",
-        "settle at 1, alice 1..2 paid 2",
-        "settle at 1, alice 1..2 paid 01",
-        "settle at 1, alice 1..2",
-        "settle at 1, ",
-        "refused",
-        "refused ",
-        "refused Syntax",
-        "refused syntax error",
-        "refused users 255",
-        "refused users 0256",
-        "refused stale 4294967296 1",
-        "refused stale 1",
-        "refused range 4294967296",
-        "refused full -1",
-        "refused beyond 5..4",
-        "refused open",
-        "refused unresolved coin",
-        "refused name coin",
-    ] {
-        match read_reply(rt.alloc(), text.as_bytes()) {
-            Err(Unread::Syntax) => {}
-            Err(Unread::Memory) => return Err(Unread::Memory)?,
-            Ok(_) => assert!(rt; false, "{text} is a reply"),
-        }
+    for text in NO_REPLIES.split("\n") {
+        expect_none(&rt, is_none(rt.alloc(), text)?, text);
     }
     Ok(())
 }

@@ -1,54 +1,80 @@
+use crate::names::{expect_none, expect_text};
 use arrayvec::ArrayString;
 use mk_net::QuestionText;
 use mk_text::{Reader, put_condition, put_limits, put_pair, put_price};
+use std::process::Abort;
+
+fn price_both_ways(rt: &impl Abort, price: u64, text: &str) {
+    let read = Reader::new(text.as_bytes()).price();
+    assert!(rt; read == Some(price), "{text}");
+    let mut printed = ArrayString::<31>::new();
+    put_price(&mut printed, price);
+    expect_text(rt, printed.as_str(), text);
+}
 
 #[test]
 fn reads_and_prints_prices(rt: HostRuntime) {
-    for (price, text) in [
-        (0, "0.0000000000"),
-        (1, "0.0000000001"),
-        (3_333_333_334, "0.3333333334"),
-        (9_999_999_999, "0.9999999999"),
-        (10_000_000_000, "1.0000000000"),
-    ] {
-        assert_eq!(rt; Reader::new(text.as_bytes()).price(), Some(price), "{text}");
-        let mut printed = ArrayString::<31>::new();
-        put_price(&mut printed, price);
-        assert_eq!(rt; printed.as_str(), text);
+    price_both_ways(&rt, 0, "0.0000000000");
+    price_both_ways(&rt, 1, "0.0000000001");
+    price_both_ways(&rt, 3_333_333_334, "0.3333333334");
+    price_both_ways(&rt, 9_999_999_999, "0.9999999999");
+    price_both_ways(&rt, 10_000_000_000, "1.0000000000");
+}
+
+/// Texts that are no prices.
+const NO_PRICES: &str = "1.0000000001
+2.0000000000
+0.5
+0,5000000000
+00.5000000000
+0.50000000000
+0.+500000000
+.5000000000";
+
+#[test]
+fn reads_no_other_prices(rt: HostRuntime) {
+    for text in NO_PRICES.split("\n") {
+        let price = Reader::new(text.as_bytes()).price();
+        expect_none(&rt, price.is_none(), text);
     }
-    for text in [
-        "1.0000000001",
-        "2.0000000000",
-        "0.5",
-        "0,5000000000",
-        "00.5000000000",
-        "0.50000000000",
-        "0.+500000000",
-        ".5000000000",
-    ] {
-        assert_eq!(rt; Reader::new(text.as_bytes()).price(), None, "{text}");
-    }
+}
+
+fn limits_both_ways(rt: &impl Abort, limits: Option<(u32, u32)>, text: &str) {
+    let read = Reader::new(text.as_bytes()).limits();
+    assert!(rt; read == Some(limits), "{text}");
+    let mut printed = ArrayString::<42>::new();
+    put_limits(&mut printed, limits);
+    expect_text(rt, printed.as_str(), text);
 }
 
 #[test]
 fn reads_and_prints_limits(rt: HostRuntime) {
-    for (limits, text) in [
-        (None, "none"),
-        (Some((1, 999_999)), "1..999999"),
-        (Some((500_000, 500_000)), "500000..500000"),
-    ] {
-        assert_eq!(rt;
-            Reader::new(text.as_bytes()).limits(),
-            Some(limits),
-            "{text}"
-        );
-        let mut printed = ArrayString::<42>::new();
-        put_limits(&mut printed, limits);
-        assert_eq!(rt; printed.as_str(), text);
+    limits_both_ways(&rt, None, "none");
+    limits_both_ways(&rt, Some((1, 999_999)), "1..999999");
+    limits_both_ways(&rt, Some((500_000, 500_000)), "500000..500000");
+}
+
+/// Texts that are no limits.
+const NO_LIMITS: &str = "0..1
+2..1
+1..1000000
+01..2
+1.2
+no";
+
+#[test]
+fn reads_no_other_limits(rt: HostRuntime) {
+    for text in NO_LIMITS.split("\n") {
+        let limits = Reader::new(text.as_bytes()).limits();
+        expect_none(&rt, limits.is_none(), text);
     }
-    for text in ["0..1", "2..1", "1..1000000", "01..2", "1.2", "no"] {
-        assert_eq!(rt; Reader::new(text.as_bytes()).limits(), None, "{text}");
-    }
+}
+
+fn prints(rt: &impl Abort, question: &QuestionText, text: &str) {
+    let mut printed = ArrayString::<604>::new();
+    put_pair(&mut printed, &question.target);
+    put_condition(&mut printed, question.condition.as_slice());
+    expect_text(rt, printed.as_str(), text);
 }
 
 #[test]
@@ -58,12 +84,9 @@ fn reads_what_follows(rt: HostRuntime) {
     let mut question = QuestionText::default();
     assert_eq!(rt; reader.question(&mut question), Some(()));
     assert_eq!(rt; question.condition.len(), 2);
-    let mut printed = ArrayString::<604>::new();
-    put_pair(&mut printed, &question.target);
-    put_condition(&mut printed, question.condition.as_slice());
-    assert_eq!(rt; printed.as_bytes(), &text[..26]);
+    prints(&rt, &question, "rain=yes | sun=no, wind=up");
     assert!(rt; !reader.skip(b" at "));
-    assert_eq!(rt; reader.expect(b" to "), Some(()));
-    assert_eq!(rt; reader.number(8), Some(7));
+    assert!(rt; reader.expect(b" to ").is_some());
+    assert!(rt; reader.number(8) == Some(7));
     assert!(rt; reader.is_at_end());
 }
