@@ -14,6 +14,8 @@ use Rattle.mk_net.specs.Sets.{set_of}
 use Rattle.mk_net.specs.Firsts.{fault_if, or_else, first_in}
 use Rattle.mk_net.specs.Checked.{is_within, number_of, has_double, checked_variable, checked_network, count_at, count_fault, later_fault as draft_later, first_fault, name_at}
 use Rattle.mk_net.specs.declared.key.Key.{Key}
+use Rattle.mk_net.specs.declared.fault.NetFault.{NetFault}
+use Rattle.mk_net.specs.declared.fault.NetFault.TheVariants.{Count as NetCount}
 use Rattle.mk_net.specs.declared.key.Key.TheVariants.{PointsPerBit, MaxTrades, Variable as VariableKey, Cliques, Links}
 use Rattle.mk_net.proofs.Checked.{checked_is_network}
 use Rattle.mk_tree.specs.Given.{GivenTree, AreLinked}
@@ -172,3 +174,32 @@ tree_refused draft fault counted checked bad =
     let fine : variables_fault draft ≡ None = ap (λ o. option_map of_net o) (none_of (count_fault draft.variables) (draft_later draft.variables) checked).1 in
     let rest = or_else (first_in (clique_at draft) 1 draft.cliques) (or_else (first_in link_at 2 draft.links) (tree_part draft)) in
     ap (λ o. unless o (market_in draft)) (ap (λ o. or_else o (or_else (variables_fault draft) rest)) counted ∙ ap (λ o. or_else o rest) fine ∙ bad)
+
+-- and its network's first fault where its numbers have none
+unmapped : (fault : Option NetFault) → option_map of_net fault ≡ None → fault ≡ None
+unmapped None h = refl
+unmapped (Some e) h = cc
+
+sixth : {F : Type 0} (a b c d e f g : Option F) → or_else a (or_else b (or_else c (or_else d (or_else e (or_else f g))))) ≡ None → (c ≡ None) × (f ≡ None)
+sixth None None None None None f g h = (refl, (none_of f g h).0)
+sixth (Some x) b c d e f g h = cc
+sixth None (Some x) c d e f g h = cc
+sixth None None (Some x) d e f g h = cc
+sixth None None None (Some x) e f g h = cc
+sixth None None None None (Some x) f g h = cc
+
+variables_counted : (draft : DraftOfMarket) → counts_fault draft ≡ None → count_fault draft.variables ≡ None
+variables_counted draft counted =
+    let parts = sixth
+    (whole_fault PointsPerBit 1 1000000 draft.points_per_bit) (whole_fault MaxTrades 1 65536 draft.max_trades) (items_fault VariableKey 1 256 0 (length draft.variables))
+    (items_fault Cliques 1 256 0 (length draft.cliques)) (links_fault draft.cliques draft.links)
+    (option_map of_net (first_in count_at 1 draft.variables)) (or_else (first_in names_at 1 draft.cliques) None) counted in
+    let few = passed (not (is_within 1 256 (length draft.variables))) (Count VariableKey 0 (pos (length draft.variables))) parts.0 in
+    ap (λ test. or_else (fault_if test (NetCount VariableKey 0 (pos (length draft.variables)))) (first_in count_at 1 draft.variables)) few
+    ∙ unmapped (first_in count_at 1 draft.variables) parts.1
+
+pub network_refused : (draft : DraftOfMarket) (fault : NetFault) → counts_fault draft ≡ None → first_fault draft.variables ≡ Some fault → of_draft (Ok draft) ≡ Err (of_net fault)
+network_refused draft fault counted bad =
+    let later : draft_later draft.variables ≡ Some fault = ap (λ o. or_else o (draft_later draft.variables)) (sym (variables_counted draft counted)) ∙ bad in
+    let rest = or_else (first_in (clique_at draft) 1 draft.cliques) (or_else (first_in link_at 2 draft.links) (tree_part draft)) in
+    ap (λ o. unless o (market_in draft)) (ap (λ o. or_else o (or_else (variables_fault draft) rest)) counted ∙ ap (λ o. or_else (option_map of_net o) rest) later)

@@ -24,6 +24,14 @@ pub record Elsewhere (old_market new_market : Option (List ℕ)) (old_file new_f
   pub rest : LeavesRest old_market new_market old_file new_file
   pub kept : after ≡ before
 
+-- and after a read too
+pub rest_since : {old mid new : Option (List ℕ)} {f g h : List ℕ → Option (List ℕ)} {before after : ℕ} → Elsewhere old mid f g before after → LeavesRest mid new g h → LeavesRest old new f h
+rest_since elsewhere rest =
+    record {
+      stream = rest.stream ∙ elsewhere.rest.stream;
+      files = λ name. rest.files name ∙ elsewhere.rest.files name;
+    }
+
 -- a line was read whole before its cutting began: nothing more is read for it
 pub record Held {I : Type 0} (initial left : List ℕ) (inputs_then inputs : I) (size : ℕ) : Type 0 where
   pub unread : inputs ≡ inputs_then

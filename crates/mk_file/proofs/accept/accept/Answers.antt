@@ -1,6 +1,8 @@
+use Rattle.std.proofs.Common.{ap}
 use Rattle.std.proofs.lemmas.Result.{err_from_is_err_and}
+use Rattle.mk_file.specs.Counts.{of_net}
 use Rattle.mk_file.specs.inner.Views.{draft_of}
-use Rattle.mk_file.proofs.Grown.{tree_refused}
+use Rattle.mk_file.proofs.Grown.{tree_refused, network_refused}
 use Rattle.mk_file.proofs.accept.accept.Goals as goal
 
 pub returns-in_err-tree-clause-market : goal.returns-in_err-tree-clause-market
@@ -11,3 +13,9 @@ returns-in_err-tree-clause-market c =
 
 pub invariant_of-result-clause-tree_of_net : goal.invariant_of-result-clause-tree_of_net
 invariant_of-result-clause-tree_of_net c = ∣ c.in_ok-tree.ensures.tree ∣₁
+
+pub returns-in_err-net-clause-market : goal.returns-in_err-net-clause-market
+returns-in_err-net-clause-market c =
+    let returned = err_from_is_err_and c.from_residual-in_err-net.result c.from_residual-in_err-net.ensures.1 in
+    rw (returned.1, returned.2) (λ known.
+    network_refused (draft_of c.args.draft.now) _ c.in_ok-check_counts.ensures.passes (c.in_err-net.ensures.fault (λ memory. known (ap of_net memory))))
