@@ -1,31 +1,15 @@
--- The rows of the first variables as factors, and a clique of all variables.
-use Rattle.std.proofs.Common.{◌≡◌, ℕ, suc, zero, ◌+◌, ◌*◌, ◌<◌, Bool, true, List, [], ◌∷◌, map, length, filter, slice_index, refl, sym, ap, ◌∙◌, arith}
+-- A clique of all variables.
+use Rattle.std.proofs.Common.{◌≡◌, ℕ, suc, zero, ◌+◌, ◌*◌, ◌<◌, Bool, true, List, [], ◌∷◌, length, filter, slice_index, refl, sym, ap, ◌∙◌, arith}
 use Rattle.std.specs.List.{range_with_len}
 use Rattle.std.proofs.lemmas.Bool.{cond-true}
 use Rattle.std.proofs.lemmas.List.{length-map}
-use Rattle.std.proofs.lemmas.List.FromFn.{map-range_with_len_more, length-map-range_with_len}
 use Rattle.mk_net.specs.declared.sets.VarSet.{VarSet}
 use Rattle.mk_net.specs.Sets.{is_member}
 use Rattle.mk_net.specs.Network.{Variable, sizes, choices}
 use Rattle.mk_exact.specs.States.{numbers_below}
 use Rattle.mk_sums.specs.Cells.{cells}
-use Rattle.mk_tree.specs.Given.{GivenTree}
 use Rattle.mk_tree.specs.Tests.{cells_of}
-use Rattle.mk_engine.specs.Meaning.{Meaning, Factor, RowsOf, with_factor}
 use Rattle.mk_joint.specs.inner.Joints.{joint_states}
-
--- the rows of the first variables, in order, and nothing known
-abbrev pub first_rows : List Variable → GivenTree → ℕ → Meaning
-first_rows network tree count = record { network = network; tree = tree; factors = map RowsOf (numbers_below count); known = [] }
-
--- the rows of one variable more
-pub one_more : (network : List Variable) (tree : GivenTree) (k : ℕ) → with_factor (RowsOf k) (first_rows network tree k) ≡ first_rows network tree (k + 1)
-one_more network tree k =
-    let meaning : List Factor → Meaning = λ fs. record { network = network; tree = tree; factors = fs; known = [] } in
-    ap meaning (sym (map-range_with_len_more RowsOf 0 k k (omega arith)))
-
-pub count_of_rows : (network : List Variable) (tree : GivenTree) (k : ℕ) → length (first_rows network tree k).factors ≡ k
-count_of_rows network tree k = length-map-range_with_len RowsOf 0 k
 
 choices_are_cells : (ns xs : List ℕ) → choices ns xs ≡ cells (slice_index ns) xs
 choices_are_cells ns [] = refl

@@ -101,7 +101,7 @@ impl<R: Semiring> Engine<R> for JointEngine<R> {
 }
 
 /// The set of all variables of a network.
-pub(crate) fn all_variables(net: &Network) -> VarSet
+fn all_variables(net: &Network) -> VarSet
     ensures all { (x : ℕ) → x < length net.now → is_member result x ≡ true }
     ensures no_other { (x : ℕ) → is_member result x ≡ true → x < length net.now }
     ensures network { IsNetwork net.now }

@@ -4,8 +4,3 @@
 mod joint;
 
 pub use joint::JointEngine;
-
-#[cfg(test)]
-mod tests;
-#[cfg(test)]
-mod walk_tests;

@@ -1,11 +1,9 @@
 -- What the tests' networks and tables have.
-use Rattle.std.proofs.Common.{◌≡◌, ℕ, ◌+◌, ◌^◌, ◌<◌, true, false, eqb, ◌⊎◌, inl, inr, List, [], ◌∷◌, length, All, arith, refl, sym, subst}
-use Rattle.std.proofs.lemmas.Bool.{both_ways, or_cases, eqb-true}
+use Rattle.std.proofs.Common.{◌≡◌, ℕ, ◌+◌, ◌^◌, ◌<◌, List, length, All, arith, subst}
 use Rattle.std.proofs.lemmas.List.Elements.{All-weaker}
 use Rattle.mk_net.specs.Network.{Variable, IsNetwork}
 use Rattle.mk_net.specs.Named.{variable_at, nobody}
-use Rattle.mk_sums.specs.Sums.{listed}
-use Rattle.mk_table.specs.Scopes.{ScopeOf, HasSized, LiesIn, has_variable, size_in}
+use Rattle.mk_table.specs.Scopes.{ScopeOf, HasSized}
 use Rattle.mk_table.specs.Tables.{TableOf, HasNumbers, HasRoom}
 
 -- the parents of the second variable of a network
@@ -15,12 +13,3 @@ one_parent network net h scope s =
 
 pub room_of : (t : TableOf) (f : ℕ → ℕ) (n more : ℕ) → HasNumbers t f n → n + more < 2 ^ 19 → t.shift < 2 ^ 24 → HasRoom t more
 room_of t f n more h l m = record { numbers = f; steps = n; has = h; few_steps = l; small_shift = m }
-
--- a scope of one variable lies in another that has it
-pub one_lies : (y : ℕ) (part whole : ScopeOf) → part.variables ≡ y ∷ [] → has_variable whole y ≡ true → size_in part y ≡ size_in whole y → LiesIn part whole
-one_lies y part whole e there same x h =
-    subst (λ z. (has_variable whole z ≡ true) × (size_in part z ≡ size_in whole z)) (sym (from (or_cases (eqb x y) false (subst (λ (ys : List ℕ). listed ys x ≡ true) e h)))) (there, same)
-  where
-    from : ((eqb x y ≡ true) ⊎ (false ≡ true)) → x ≡ y
-    from (inl p) = eqb-true x y p
-    from (inr p) = absurd (both_ways false refl p)

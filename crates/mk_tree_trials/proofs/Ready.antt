@@ -1,17 +1,15 @@
 -- Which messages into a clique are right, for readings in turn.
-use Rattle.std.specs.Prelude.{nat_lt, slice_index_or}
-use Rattle.std.proofs.Common.{◌≡◌, ℕ, ◌-◌, Bool, true, not, ◌&&◌, ◌==◌, if◌then◌else◌, List, length, refl, sym, ap, subst, ◌∙◌}
+use Rattle.std.proofs.Common.{◌≡◌, ℕ, ◌-◌, Bool, true, not, ◌&&◌, ◌==◌, length, refl, sym, ap, subst}
 use Rattle.std.proofs.lemmas.Bool.{eq-eqb}
 use Rattle.mk_sums.specs.Trees.{linked_to, hop}
 use Rattle.mk_sums.proofs.Hops.{are_linked, linked_back, hop_near}
-use Rattle.mk_table.specs.Tables.{TableOf}
 use Rattle.mk_tree.specs.Given.{link_of}
 use Rattle.mk_propagate.specs.Shapes.{ShapeOf, IsClique, next_on_way}
 use Rattle.mk_propagate.specs.Placings.{Placing}
-use Rattle.mk_propagate.specs.Flows.{FlowOf, HasPlaced, IsRight, AreRightInto, AreRightTowards, KeepsMessages, KeepsTables, Places, no_table, message_at}
+use Rattle.mk_propagate.specs.Flows.{FlowOf, HasPlaced, IsRight, AreRightInto, AreRightTowards, KeepsMessages, KeepsTables, Places}
 use Rattle.mk_propagate.proofs.Messages.{are_ends}
-use Rattle.mk_propagate.proofs.Placed.{right_kept}
-use Rattle.mk_tree_trials.specs.Placed.{IsCollected, IsReady, KeepsReady}
+use Rattle.mk_propagate.proofs.Placed.{right_still}
+use Rattle.mk_tree_trials.specs.Placed.{KeepsReady}
 
 -- those towards the clique that come from its neighbours
 pub into : (plus : ℕ → ℕ → ℕ) (flow : FlowOf) (p : Placing) (k : ℕ) → HasPlaced plus flow p → AreRightTowards plus flow p k → AreRightInto plus flow p k
@@ -36,18 +34,10 @@ reading_keeps plus old new kept still = record {
     towards = λ k at apart.
         let was = subst (λ (s : ShapeOf). IsClique s.tree k) kept.same_shape at in
         let next = ap (λ (s : ShapeOf). next_on_way s.tree k clique) kept.same_shape in
-        subst (λ n. IsRight plus new h.some.placing k n) (sym next) (right_still h.some.placing k (next_on_way old.shape.tree k clique) (h.towards k was apart));
+        subst (λ n. IsRight plus new h.some.placing k n) (sym next) (right_still plus old new h.some.placing k (next_on_way old.shape.tree k clique) kept (h.towards k was apart));
   };
   ready = λ network count clique h. record {
     some = record { placing = h.some.placing; has = still.placed h.some.placing h.some.has; of_network = h.some.of_network; counted = h.some.counted };
-    right = λ i l. right_still h.some.placing i clique (h.right i (subst (λ (s : ShapeOf). linked_to (link_of s.tree) (length s.tree.cliques) clique i ≡ true) kept.same_shape l));
+    right = λ i l. right_still plus old new h.some.placing i clique kept (h.right i (subst (λ (s : ShapeOf). linked_to (link_of s.tree) (length s.tree.cliques) clique i ≡ true) kept.same_shape l));
   };
 }
-  where
-    same_message : (a b : ℕ) → message_at new a b ≡ message_at old a b
-    same_message a b =
-        ap (λ (ts : List TableOf). if nat_lt b a then slice_index_or ts (a - 2) no_table else slice_index_or new.downward (b - 2) no_table) kept.same_upward
-        ∙ ap (λ (ts : List TableOf). if nat_lt b a then slice_index_or old.upward (a - 2) no_table else slice_index_or ts (b - 2) no_table) kept.same_downward
-
-    right_still : (p : Placing) (a b : ℕ) → IsRight plus old p a b → IsRight plus new p a b
-    right_still p a b r = right_kept plus old new p p a b kept.same_shape (same_message a b) refl refl r

@@ -7,7 +7,7 @@ ghost use Rattle.mk_tree.specs.Checked.{IsTreeOf};
 ghost use Rattle.mk_joint.specs.inner.Joints.{joint_states};
 ghost use Rattle.mk_tree_trials.specs.Used.{IsInUse};
 
-use crate::engines::{A, About, B, C, Change, ask, event, ratio, tell};
+use crate::engines::{A, About, B, C, Change, ask, event, ratio, start, tell};
 use crate::fixtures::{CHAIN, all_variables, read};
 use mk_engine::Engine;
 use mk_file::MarketFile;
@@ -127,13 +127,40 @@ fn check_all<R: Semiring<Value = Held> + Walked, E: Engine<R>>(
     ensures { IsInUse E.stands_for engine.new net.now before }
 {
     for about in asked {
-        let walked = R::walked(alloc, net, past, event(rt, net, about).pairs())?;
-        check(rt, &ask::<R, E>(rt, engine, net, about, before), walked);
+        let event = event(rt, net, about);
+        let walked = R::walked(alloc, net, past, event.pairs())?;
+        check(rt, &ask::<R, E>(rt, engine, net, &event, before), walked);
     }
     Ok(())
 }
 
 /// Tells an engine each change, and compares its beliefs after each from one on.
+fn tell_all<R: Semiring<Value = Held> + Walked, E: Engine<R>>(
+    rt: &impl Abort,
+    alloc: Global,
+    engine: &mut E,
+    net: &Network,
+    past: &mut Past,
+    changes: &[Change],
+    from: usize,
+    asked: &[About],
+) -> Result<(), Fail>
+    requires { IsInUse E.stands_for engine.old net.now 0 }
+{
+    let mut before = 0;
+    for change in changes {
+        assert!(rt; before < 100);
+        tell::<R, E>(rt, engine, net, change, before);
+        before += 1;
+        past.add(rt, net, change)?;
+        if before as usize >= from {
+            check_all::<R, E>(rt, alloc, engine, net, past, asked, before)?;
+        }
+    }
+    Ok(())
+}
+
+/// The same with an engine that was told nothing.
 fn follow<R: Semiring<Value = Held> + Walked, E: Engine<R>>(
     rt: &impl Abort,
     alloc: Global,
@@ -145,25 +172,22 @@ fn follow<R: Semiring<Value = Held> + Walked, E: Engine<R>>(
     requires tree { IsTreeOf file.now.net file.now.tree }
     requires suits { E.suits file.now.net file.now.tree }
 {
-    let net = &file.net;
-    let plan = E::plan(alloc, net, &file.tree)?;
-    let mut engine = E::start(alloc, &plan)?;
+    let mut engine = start::<R, E>(alloc, file)?;
     let mut past = Past::new(alloc);
-    let mut before = 0;
-    for change in changes {
-        assert!(rt; before < 100);
-        tell::<R, E>(rt, &mut engine, net, change, before);
-        before += 1;
-        past.add(rt, net, change)?;
-        if before as usize >= from {
-            check_all::<R, E>(rt, alloc, &mut engine, net, &past, asked, before)?;
-        }
-    }
-    Ok(())
+    tell_all::<R, E>(
+        rt,
+        alloc,
+        &mut engine,
+        &file.net,
+        &mut past,
+        changes,
+        from,
+        asked,
+    )
 }
 
 /// Stops unless a clique of all variables is legal.
-fn expect_few_states(alloc: Global, net: &Network) -> Result<(), Fail>
+pub(crate) fn expect_few_states(alloc: Global, net: &Network) -> Result<(), Fail>
     ensures { IfOk result (λ done. joint_states net.now ≤ max_clique_cells) }
 {
     let all = all_variables(net);
@@ -199,10 +223,21 @@ fn follow_both(
     follow::<MinProd, TreeEngine<MinProd>>(rt, alloc, file, traded, 0, asked)
 }
 
+fn follow_file(
+    rt: &impl Abort,
+    alloc: Global,
+    file: &MarketFile,
+    sample: &Sample,
+) -> Result<(), Fail>
+    requires { IsTreeOf file.now.net file.now.tree }
+{
+    expect_few_states(alloc, &file.net)?;
+    follow_both(rt, alloc, file, sample.changes, sample.rows, sample.asked)
+}
+
 fn follow_sample(rt: &impl Abort, alloc: Global, sample: &Sample) -> Result<(), Fail> {
     let file = read(alloc, sample.file)?;
-    expect_few_states(alloc, &file.net)?;
-    follow_both(rt, alloc, &file, sample.changes, sample.rows, sample.asked)
+    follow_file(rt, alloc, &file, sample)
 }
 
 const D: Pair = Pair {
@@ -210,7 +245,7 @@ const D: Pair = Pair {
     value: 0,
 };
 
-const NOT_A: Pair = Pair {
+pub(crate) const NOT_A: Pair = Pair {
     variable: 0,
     value: 1,
 };
@@ -221,7 +256,7 @@ const NOT_B: Pair = Pair {
 };
 
 /// A season and its rain, in the cliques {season, rain} and {season}.
-const WEATHER: &str = "points_per_bit = 1
+pub(crate) const WEATHER: &str = "points_per_bit = 1
 max_trades = 1
 cliques = [['season', 'rain'], ['season']]
 links = [1]
@@ -339,26 +374,41 @@ const IN_STAR: Sample = Sample {
 
 #[test]
 fn engines_are_as_walked(rt: HostRuntime) -> Result<(), Fail> {
-    for sample in [&IN_WEATHER, &ALONG_CHAIN, &IN_STAR] {
-        follow_sample(&rt, rt.alloc(), sample)?;
-    }
-    Ok(())
+    follow_sample(&rt, rt.alloc(), &IN_WEATHER)?;
+    follow_sample(&rt, rt.alloc(), &ALONG_CHAIN)?;
+    follow_sample(&rt, rt.alloc(), &IN_STAR)
 }
 
-/// Stops unless the walk finds each of these numbers.
+/// Stops unless the walk finds each of these numbers, after so many changes.
 fn expect_numbers<R: Walked>(
     rt: &impl Abort,
     alloc: Global,
     net: &Network,
-    past: &Past,
+    past: &mut Past,
+    changes: &[Change],
     expected: &[(About, u128)],
 ) -> Result<(), Fail> {
+    for change in changes {
+        past.add(rt, net, change)?;
+    }
     for (about, number) in expected {
         let event = event(rt, net, about);
         let walked = R::walked(alloc, net, past, event.pairs())?;
-        assert_eq!(rt; walked, Some(*number));
+        assert!(rt; walked == Some(*number));
     }
     Ok(())
+}
+
+/// The same from no changes on.
+fn expect_on<R: Walked>(
+    rt: &impl Abort,
+    alloc: Global,
+    net: &Network,
+    changes: &[Change],
+    expected: &[(About, u128)],
+) -> Result<(), Fail> {
+    let mut past = Past::new(alloc);
+    expect_numbers::<R>(rt, alloc, net, &mut past, changes, expected)
 }
 
 /// The same on a sample's network, once so many of its changes were made.
@@ -369,12 +419,9 @@ fn expect_walked<R: Walked>(
     made: usize,
     expected: &[(About, u128)],
 ) -> Result<(), Fail> {
-    let net = read(alloc, sample.file)?.net;
-    let mut past = Past::new(alloc);
-    for change in sample.changes.iter().take(made) {
-        past.add(rt, &net, change)?;
-    }
-    expect_numbers::<R>(rt, alloc, &net, &past, expected)
+    assert!(rt; made <= sample.changes.len());
+    let file = read(alloc, sample.file)?;
+    expect_on::<R>(rt, alloc, &file.net, &sample.changes[..made], expected)
 }
 
 // Of rain and a wet season 400,000 times 700,000 times 1,256,584,717,458; and of rain and a dry one 600,000 times 100,000 times 2^40.
@@ -382,68 +429,44 @@ const WET_RAIN: u128 = 351_843_720_888_240_000_000_000;
 
 const DRY_RAIN: u128 = 65_970_697_666_560_000_000_000;
 
+const IN_WET: &[(About, u128)] = &[
+    (About(B, Some(A)), WET_RAIN),
+    (About(B, Some(NOT_A)), DRY_RAIN),
+    (About(B, None), WET_RAIN + DRY_RAIN),
+];
+
+// Of 10^18: b is up in 0.5 * 0.6 + 0.5 * 0.3, c in 0.45 * 0.8 + 0.55 * 0.1, and a and b in 0.5 * 0.6.
+const OF_CHAIN: &[(About, u128)] = &[
+    (About(B, None), 450_000_000_000_000_000),
+    (About(C, None), 415_000_000_000_000_000),
+    (About(A, Some(B)), 300_000_000_000_000_000),
+];
+
 #[test]
 fn sums_of_the_walk(rt: HostRuntime) -> Result<(), Fail> {
-    for (sample, made, expected) in [
-        (
-            &IN_WEATHER,
-            3,
-            [
-                (About(B, Some(A)), WET_RAIN),
-                (About(B, Some(NOT_A)), DRY_RAIN),
-                (About(B, None), WET_RAIN + DRY_RAIN),
-            ]
-            .as_slice(),
-        ),
-        (&IN_WEATHER, 4, [(About(B, None), DRY_RAIN)].as_slice()),
-        // Of 10^18: b is up in 0.5 * 0.6 + 0.5 * 0.3, c in 0.45 * 0.8 + 0.55 * 0.1, and a and b in 0.5 * 0.6.
-        (
-            &ALONG_CHAIN,
-            3,
-            [
-                (About(B, None), 450_000_000_000_000_000),
-                (About(C, None), 415_000_000_000_000_000),
-                (About(A, Some(B)), 300_000_000_000_000_000),
-            ]
-            .as_slice(),
-        ),
-    ] {
-        expect_walked::<SumProd>(&rt, rt.alloc(), sample, made, expected)?;
-    }
-    Ok(())
+    let known = &[(About(B, None), DRY_RAIN)];
+    expect_walked::<SumProd>(&rt, rt.alloc(), &IN_WEATHER, 3, IN_WET)?;
+    expect_walked::<SumProd>(&rt, rt.alloc(), &IN_WEATHER, 4, known)?;
+    expect_walked::<SumProd>(&rt, rt.alloc(), &ALONG_CHAIN, 3, OF_CHAIN)
 }
+
+// The units of the trade where the season is wet, and 2^40 elsewhere.
+const LEAST_IN_WET: &[(About, u128)] = &[
+    (About(B, Some(A)), 1_256_584_717_458),
+    (About(B, None), 1_099_511_627_776),
+    (About(NOT_B, None), 733_007_751_850),
+];
+
+// Where c is up and b is down, the first trade's 2^40 is left, with 3 and 7 of the others; where both are up, its 733,007,751,850.
+const LEAST_OF_CHAIN: &[(About, u128)] = &[
+    (About(NOT_B, None), 23_089_744_183_296),
+    (About(B, None), 15_393_162_788_850),
+];
 
 #[test]
 fn minima_of_the_walk(rt: HostRuntime) -> Result<(), Fail> {
-    for (sample, made, expected) in [
-        // The units of the trade where the season is wet, and 2^40 elsewhere.
-        (
-            &IN_WEATHER,
-            3,
-            [
-                (About(B, Some(A)), 1_256_584_717_458),
-                (About(B, None), 1_099_511_627_776),
-                (About(NOT_B, None), 733_007_751_850),
-            ]
-            .as_slice(),
-        ),
-        (
-            &IN_WEATHER,
-            4,
-            [(About(NOT_B, None), 1_099_511_627_776)].as_slice(),
-        ),
-        // Where c is up and b is down, the first trade's 2^40 is left, with 3 and 7 of the others; where both are up, its 733,007,751,850.
-        (
-            &ALONG_CHAIN,
-            8,
-            [
-                (About(NOT_B, None), 23_089_744_183_296),
-                (About(B, None), 15_393_162_788_850),
-            ]
-            .as_slice(),
-        ),
-    ] {
-        expect_walked::<MinProd>(&rt, rt.alloc(), sample, made, expected)?;
-    }
-    Ok(())
+    let known = &[(About(NOT_B, None), 1_099_511_627_776)];
+    expect_walked::<MinProd>(&rt, rt.alloc(), &IN_WEATHER, 3, LEAST_IN_WET)?;
+    expect_walked::<MinProd>(&rt, rt.alloc(), &IN_WEATHER, 4, known)?;
+    expect_walked::<MinProd>(&rt, rt.alloc(), &ALONG_CHAIN, 8, LEAST_OF_CHAIN)
 }

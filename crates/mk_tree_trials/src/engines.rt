@@ -1,16 +1,19 @@
 //! What engines are told and asked, each after so many changes, and how many messages that makes.
 
-ghost use Rattle.std.specs.Prelude.{◌+◌, ◌<◌};
+ghost use Rattle.std.specs.Prelude.{◌+◌, ◌<◌, IfOk};
 ghost use Rattle.std.specs.List.{AllByRecursion};
 ghost use Rattle.mk_net.specs.Trades.{trade_ratio};
 ghost use Rattle.mk_exact.specs.Proper.{IsPairOf, IsQuestionOf, IsRatioOf};
+ghost use Rattle.mk_tree.specs.Checked.{IsTreeOf};
 ghost use Rattle.mk_tree_trials.specs.Used.{IsInUse};
 
-use crate::fixtures::{CHAIN, check, read};
+use crate::fixtures::check_exact;
 use mk_engine::Engine;
-use mk_net::{Event, Network, Pair, Question, Ratio};
-use mk_semiring::{Semiring, SumProd};
+use mk_file::MarketFile;
+use mk_net::{Event, Network, NoMemory, Pair, Question, Ratio};
+use mk_semiring::{Held, Semiring, SumProd};
 use mk_tree_engine::TreeEngine;
+use std::alloc::Global;
 use std::process::Abort;
 use std::test::Fail;
 
@@ -127,15 +130,50 @@ pub(crate) fn ask<R: Semiring, E: Engine<R>>(
     rt: &impl Abort,
     engine: &mut E,
     net: &Network,
-    about: &About,
+    event: &Event,
     before: u32,
 ) -> R::Value
-    requires { IsInUse E.stands_for engine.old net.now before }
+    requires used { IsInUse E.stands_for engine.old net.now before }
+    requires own { AllByRecursion (IsPairOf net.now) event.now }
     ensures { IsInUse E.stands_for engine.new net.now before }
 {
-    let event = event(rt, net, about);
-    assert!(rt; engine.fits(&event));
-    engine.belief(&event)
+    assert!(rt; engine.fits(event));
+    engine.belief(event)
+}
+
+/// An engine that was told nothing.
+pub(crate) fn start<R: Semiring, E: Engine<R>>(
+    alloc: Global,
+    file: &MarketFile,
+) -> Result<E, NoMemory>
+    requires tree { IsTreeOf file.now.net file.now.tree }
+    requires suits { E.suits file.now.net file.now.tree }
+    ensures { IfOk result (λ engine. IsInUse E.stands_for engine file.now.net 0) }
+{
+    let plan = E::plan(alloc, &file.net, &file.tree)?;
+    let engine = E::start(alloc, &plan)?;
+    Ok(engine)
+}
+
+/// A mantissa times a power of two.
+#[derive(Clone, Copy)]
+pub(crate) struct Exact(pub(crate) u64, pub(crate) u64);
+
+/// Stops unless this is exactly the belief in an event, after so many changes.
+pub(crate) fn expect<R: Semiring<Value = Held>, E: Engine<R>>(
+    rt: &impl Abort,
+    engine: &mut E,
+    net: &Network,
+    event: &Event,
+    before: u32,
+    number: Exact,
+)
+    requires used { IsInUse E.stands_for engine.old net.now before }
+    requires own { AllByRecursion (IsPairOf net.now) event.now }
+    ensures { IsInUse E.stands_for engine.new net.now before }
+{
+    let believed = ask::<R, E>(rt, engine, net, event, before);
+    check_exact(rt, &believed, number.0, number.1);
 }
 
 /// Stops unless this is the belief in a pair, after so many changes, and so many messages were made until then.
@@ -151,9 +189,9 @@ fn expect_made(
     requires { IsInUse ⟦<TreeEngine<SumProd> as Engine<SumProd>>⟧.stands_for engine.old net.now before }
     ensures { IsInUse ⟦<TreeEngine<SumProd> as Engine<SumProd>>⟧.stands_for engine.new net.now before }
 {
-    let believed = ask(rt, engine, net, &About(pair, None), before);
-    check(rt, &believed, belief);
-    assert_eq!(rt; engine.computed(), computed);
+    let event = event(rt, net, &About(pair, None));
+    expect(rt, engine, net, &event, before, Exact(belief, 0));
+    assert!(rt; engine.computed() == computed);
 }
 
 /// Over the chain: an engine that was told nothing, and how many messages it makes.
@@ -170,11 +208,11 @@ fn check_messages(rt: &impl Abort, engine: &mut TreeEngine<SumProd>, net: &Netwo
     expect_made(rt, engine, net, B, 4, 1_050_000_000_000_000_000, 4);
 }
 
-#[test]
-fn only_stale_messages_are_made(rt: HostRuntime) -> Result<(), Fail> {
-    let file = read(rt.alloc(), CHAIN)?;
-    let plan = TreeEngine::<SumProd>::plan(rt.alloc(), &file.net, &file.tree)?;
-    let mut engine = TreeEngine::<SumProd>::start(rt.alloc(), &plan)?;
-    check_messages(&rt, &mut engine, &file.net);
+/// Over the chain, only stale messages are made.
+pub(crate) fn check_stale(rt: &impl Abort, alloc: Global, file: &MarketFile) -> Result<(), Fail>
+    requires { IsTreeOf file.now.net file.now.tree }
+{
+    let mut engine = start::<SumProd, TreeEngine<SumProd>>(alloc, file)?;
+    check_messages(rt, &mut engine, &file.net);
     Ok(())
 }

@@ -78,14 +78,19 @@ pub(crate) fn only(rt: &impl Abort, pair: Pair) -> Event
     Event::empty().with(pair).expect(rt, "a pair")
 }
 
-/// Stops unless the value is this number, exactly.
-pub(crate) fn check(rt: &impl Abort, held: &Held, n: u64) {
+/// Stops unless the value is a mantissa times a power of two, exactly.
+pub(crate) fn check_exact(rt: &impl Abort, held: &Held, mantissa: u64, exponent: u64) {
     match held {
-        Held::Absent => assert_eq!(rt; n, 0),
+        Held::Absent => assert!(rt; mantissa == 0),
         Held::Present(enclosure) => {
             let (low, high) = (enclosure.lo(), enclosure.hi());
-            assert_eq!(rt; (low.mantissa(), low.exponent()), (n, 0));
-            assert_eq!(rt; (high.mantissa(), high.exponent()), (n, 0));
+            assert!(rt; low.mantissa() == mantissa && low.exponent() == exponent);
+            assert!(rt; high.mantissa() == mantissa && high.exponent() == exponent);
         }
     }
+}
+
+/// Stops unless the value is this number, exactly.
+pub(crate) fn check(rt: &impl Abort, held: &Held, n: u64) {
+    check_exact(rt, held, n, 0)
 }

@@ -6,12 +6,14 @@ ghost use Rattle.mk_net.specs.Network.{Variable};
 ghost use Rattle.mk_net.specs.Sets.{is_member};
 ghost use Rattle.mk_net.specs.Trades.{trade_ratio};
 ghost use Rattle.mk_tree.specs.Given.{clique_at, holds_event};
+ghost use Rattle.mk_tree.specs.Checked.{IsTreeOf};
 ghost use Rattle.mk_tree.specs.Tests.{holds_family};
 ghost use Rattle.mk_propagate.specs.Shapes.{IsShapeFor, IsClique};
 ghost use Rattle.mk_tree_trials.specs.Placed.{HasSome, IsCollected, IsReady, KeepsReady};
 
-use crate::fixtures::{CHAIN, check, only, read};
-use mk_net::{Event, Network, Pair, Question, Ratio, VarSet};
+use crate::fixtures::{check, only};
+use mk_file::MarketFile;
+use mk_net::{Event, Network, NoMemory, Pair, Question, Ratio, VarSet};
 use mk_propagate::{Flow, Shape};
 use mk_semiring::{Held, MinProd, Semiring, SumProd};
 use mk_tree::Tree;
@@ -84,31 +86,20 @@ fn place<R: Semiring>(
     flow.times_rows(clique, net, variable);
 }
 
-/// A flow in which the rows of all variables are placed.
-fn placed<R: Semiring>(
+/// Stops unless this is the belief in an event, read in a clique with the messages into it as they are.
+fn again<R: Semiring<Value = Held>>(
     rt: &impl Abort,
-    alloc: Global,
-    net: &Network,
-    shape: &Rc<Shape>,
-) -> Result<Flow<R>, Fail>
-    requires { IsShapeFor shape.now.value net.now }
-    ensures { IfOk result (λ flow. HasSome R.plus_of flow net.now 3) }
-{
-    let mut flow = Flow::start(alloc, shape)?;
-    place(rt, &mut flow, 1, net, 0, 0);
-    place(rt, &mut flow, 1, net, 1, 1);
-    place(rt, &mut flow, 2, net, 2, 2);
-    Ok(flow)
-}
-
-/// The belief in an event, read in a clique with the messages into it as they are.
-fn again<R: Semiring>(rt: &impl Abort, flow: &mut Flow<R>, clique: u32, event: &Event) -> R::Value
+    flow: &mut Flow<R>,
+    clique: u32,
+    event: &Event,
+    number: u64,
+)
     requires { (network : List Variable) × (count : ℕ) × IsReady R.plus_of flow.old network count clique }
     ensures { KeepsReady R.plus_of flow.old flow.new }
 {
     expect_clique(rt, flow.shape(), clique);
     assert!(rt; holds_event(flow.shape().tree(), clique, event));
-    flow.read(clique, event)
+    check(rt, &flow.read(clique, event), number);
 }
 
 /// Makes the messages towards a clique.
@@ -129,20 +120,22 @@ fn away<R: Semiring>(rt: &impl Abort, flow: &mut Flow<R>, clique: u32)
     flow.distribute(clique);
 }
 
-/// The beliefs in an event, read in a clique once the messages towards it are made, and once those away from it are.
-fn around<R: Semiring>(
+/// Stops unless these are the beliefs in an event, read in a clique once the messages towards it are made, and once those away
+/// from it are.
+fn around<R: Semiring<Value = Held>>(
     rt: &impl Abort,
     flow: &mut Flow<R>,
     clique: u32,
     event: &Event,
-) -> (R::Value, R::Value)
+    numbers: (u64, u64),
+)
     requires { (network : List Variable) × (count : ℕ) × HasSome R.plus_of flow.old network count }
     ensures { (network : List Variable) (count : ℕ) → HasSome R.plus_of flow.old network count → IsReady R.plus_of flow.new network count clique }
 {
     towards(rt, flow, clique);
-    let before = again(rt, flow, clique, event);
+    again(rt, flow, clique, event, numbers.0);
     away(rt, flow, clique);
-    (before, again(rt, flow, clique, event))
+    again(rt, flow, clique, event, numbers.1);
 }
 
 /// A trade on b.
@@ -184,77 +177,98 @@ fn know<R: Semiring>(rt: &impl Abort, flow: &mut Flow<R>, clique: u32, net: &Net
 /// the message from it, and after the messages away.
 fn in_first<R: Semiring<Value = Held>>(
     rt: &impl Abort,
-    alloc: Global,
+    flow: &mut Flow<R>,
     net: &Network,
-    shape: &Rc<Shape>,
     numbers: &[u64; 6],
-) -> Result<(), Fail>
-    requires { IsShapeFor shape.now.value net.now }
+)
+    requires { HasSome R.plus_of flow.old net.now 0 }
 {
     let up = only(rt, B_UP);
-    let mut flow = Flow::<R>::start(alloc, shape)?;
-    place(rt, &mut flow, 1, net, 0, 0);
-    let (first, away) = around(rt, &mut flow, 1, &up);
-    check(rt, &first, numbers[0]);
-    check(rt, &away, numbers[1]);
-    let same = again(rt, &mut flow, 1, &up);
-    check(rt, &same, numbers[2]);
-    place(rt, &mut flow, 1, net, 1, 1);
-    let rows = again(rt, &mut flow, 1, &up);
-    check(rt, &rows, numbers[3]);
-    place(rt, &mut flow, 2, net, 2, 2);
-    let (message, last) = around(rt, &mut flow, 1, &up);
-    check(rt, &message, numbers[4]);
-    check(rt, &last, numbers[5]);
-    assert_eq!(rt; flow.computed(), 8);
-    Ok(())
+    place(rt, flow, 1, net, 0, 0);
+    around(rt, flow, 1, &up, (numbers[0], numbers[1]));
+    again(rt, flow, 1, &up, numbers[2]);
+    place(rt, flow, 1, net, 1, 1);
+    again(rt, flow, 1, &up, numbers[3]);
+    place(rt, flow, 2, net, 2, 2);
+    around(rt, flow, 1, &up, (numbers[4], numbers[5]));
+    assert!(rt; flow.computed() == 8);
 }
 
 /// The beliefs in all states, read in the second clique, are these numbers: at first, after the messages away, with the trade placed
 /// there, with c known in the third clique and the message from it, after the messages away, and with b known in the second.
 fn in_second<R: Semiring<Value = Held>>(
     rt: &impl Abort,
-    alloc: Global,
+    flow: &mut Flow<R>,
     net: &Network,
-    shape: &Rc<Shape>,
     numbers: &[u64; 6],
-) -> Result<(), Fail>
-    requires { IsShapeFor shape.now.value net.now }
+)
+    requires { HasSome R.plus_of flow.old net.now 0 }
 {
     let all = Event::empty();
-    let mut flow = placed::<R>(rt, alloc, net, shape)?;
-    let (first, away) = around(rt, &mut flow, 2, &all);
-    check(rt, &first, numbers[0]);
-    check(rt, &away, numbers[1]);
-    multiply(rt, &mut flow, net);
-    let ratio = again(rt, &mut flow, 2, &all);
-    check(rt, &ratio, numbers[2]);
-    know(rt, &mut flow, 3, net, C_UP);
-    let (message, sent) = around(rt, &mut flow, 2, &all);
-    check(rt, &message, numbers[3]);
-    check(rt, &sent, numbers[4]);
-    know(rt, &mut flow, 2, net, B_UP);
-    let pair = again(rt, &mut flow, 2, &all);
-    check(rt, &pair, numbers[5]);
-    assert_eq!(rt; flow.computed(), 8);
-    Ok(())
+    place(rt, flow, 1, net, 0, 0);
+    place(rt, flow, 1, net, 1, 1);
+    place(rt, flow, 2, net, 2, 2);
+    around(rt, flow, 2, &all, (numbers[0], numbers[1]));
+    multiply(rt, flow, net);
+    again(rt, flow, 2, &all, numbers[2]);
+    know(rt, flow, 3, net, C_UP);
+    around(rt, flow, 2, &all, (numbers[3], numbers[4]));
+    know(rt, flow, 2, net, B_UP);
+    again(rt, flow, 2, &all, numbers[5]);
+    assert!(rt; flow.computed() == 8);
+}
+
+/// A flow in which nothing is placed.
+fn start<R: Semiring>(alloc: Global, net: &Network, shape: &Rc<Shape>) -> Result<Flow<R>, NoMemory>
+    requires { IsShapeFor shape.now.value net.now }
+    ensures { IfOk result (λ flow. HasSome R.plus_of flow net.now 0) }
+{
+    let _ = net.variables();
+    Flow::start(alloc, shape)
 }
 
 /// Both, on the shape of the chain's tree.
-fn check_both<R: Semiring<Value = Held>>(
+fn on_shape<R: Semiring<Value = Held>>(
     rt: &impl Abort,
     alloc: Global,
+    net: &Network,
+    shape: &Rc<Shape>,
     first: &[u64; 6],
     second: &[u64; 6],
-) -> Result<(), Fail> {
-    let file = read(alloc, CHAIN)?;
-    let shape = Rc::new(alloc, Shape::of(alloc, &file.net, &file.tree)?)?;
-    in_first::<R>(rt, alloc, &file.net, &shape, first)?;
-    in_second::<R>(rt, alloc, &file.net, &shape, second)
+) -> Result<(), Fail>
+    requires { IsShapeFor shape.now.value net.now }
+{
+    in_first::<R>(rt, &mut start(alloc, net, shape)?, net, first);
+    in_second::<R>(rt, &mut start(alloc, net, shape)?, net, second);
+    Ok(())
 }
 
-#[test]
-fn sums(rt: HostRuntime) -> Result<(), Fail> {
+/// The shape of a file's tree.
+fn shape(alloc: Global, file: &MarketFile) -> Result<Rc<Shape>, NoMemory>
+    requires { IsTreeOf file.now.net file.now.tree }
+    ensures { IfOk result (λ shape. IsShapeFor shape.value file.now.net) }
+{
+    let shape = Shape::of(alloc, &file.net, &file.tree)?;
+    Ok(Rc::new(alloc, shape)?)
+}
+
+fn on_file<R: Semiring<Value = Held>>(
+    rt: &impl Abort,
+    alloc: Global,
+    file: &MarketFile,
+    first: &[u64; 6],
+    second: &[u64; 6],
+) -> Result<(), Fail>
+    requires { IsTreeOf file.now.net file.now.tree }
+{
+    let shape = shape(alloc, file)?;
+    on_shape::<R>(rt, alloc, &file.net, &shape, first, second)
+}
+
+/// Sums on the chain.
+pub(crate) fn check_sums(rt: &impl Abort, alloc: Global, file: &MarketFile) -> Result<(), Fail>
+    requires { IsTreeOf file.now.net file.now.tree }
+{
     // Over the values of a, in parts per million, and of c: 2 * 500,000 * 2. With b's rows 500,000 * (600,000 + 300,000) * 2, and
     // with c's, which have 1,000,000 in place of the last 2.
     let first = [
@@ -274,11 +288,13 @@ fn sums(rt: HostRuntime) -> Result<(), Fail> {
         885_000_000_000_000_000,
         720_000_000_000_000_000,
     ];
-    check_both::<SumProd>(&rt, rt.alloc(), &first, &second)
+    on_file::<SumProd>(rt, alloc, file, &first, &second)
 }
 
-#[test]
-fn minima(rt: HostRuntime) -> Result<(), Fail> {
+/// Minima on the chain.
+pub(crate) fn check_minima(rt: &impl Abort, alloc: Global, file: &MarketFile) -> Result<(), Fail>
+    requires { IsTreeOf file.now.net file.now.tree }
+{
     // The least over a and c: 500,000 * 1. With b's rows 500,000 * 300,000, and with c's that times 200,000.
     let first = [
         500_000,
@@ -298,5 +314,5 @@ fn minima(rt: HostRuntime) -> Result<(), Fail> {
         60_000_000_000_000_000,
         240_000_000_000_000_000,
     ];
-    check_both::<MinProd>(&rt, rt.alloc(), &first, &second)
+    on_file::<MinProd>(rt, alloc, file, &first, &second)
 }

@@ -5,6 +5,8 @@
 #[cfg(test)]
 mod both;
 #[cfg(test)]
+mod chain;
+#[cfg(test)]
 mod engines;
 #[cfg(test)]
 mod fixtures;
@@ -16,3 +18,5 @@ mod tables;
 mod trees;
 #[cfg(test)]
 mod walks;
+#[cfg(test)]
+mod weather;

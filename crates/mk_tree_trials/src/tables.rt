@@ -113,6 +113,22 @@ fn make_part(alloc: Global, whole: &Rc<Scope>, scope: Scope) -> Result<Part, NoM
     Ok(Part { scope, places })
 }
 
+fn scope_of_rain(alloc: Global, net: &Network) -> Result<Scope, NoMemory>
+    requires three { length net.now ≡ 3 }
+    requires rains { slice_index (sizes net.now) 0 ≡ 2 }
+    ensures { IfOk result (λ scope. scope ≡ of_rain) }
+{
+    Scope::of(alloc, net, &VarSet::empty().with(0))
+}
+
+fn scope_of_wind(alloc: Global, net: &Network) -> Result<Scope, NoMemory>
+    requires three { length net.now ≡ 3 }
+    requires winds { slice_index (sizes net.now) 1 ≡ 3 }
+    ensures { IfOk result (λ scope. scope ≡ of_wind) }
+{
+    Scope::of(alloc, net, &VarSet::empty().with(1))
+}
+
 fn rain(alloc: Global, net: &Network, all: &Rc<Scope>) -> Result<Part, NoMemory>
     requires three { length net.now ≡ 3 }
     requires rains { slice_index (sizes net.now) 0 ≡ 2 }
@@ -120,7 +136,7 @@ fn rain(alloc: Global, net: &Network, all: &Rc<Scope>) -> Result<Part, NoMemory>
     ensures scope { IfOk result (λ part. part.scope.value ≡ of_rain) }
     ensures places { IfOk result (λ part. part.places ≡ record { whole = of_all; part = of_rain }) }
 {
-    let scope = Scope::of(alloc, net, &VarSet::empty().with(0))?;
+    let scope = scope_of_rain(alloc, net)?;
     make_part(alloc, all, scope)
 }
 
@@ -131,17 +147,29 @@ fn wind(alloc: Global, net: &Network, all: &Rc<Scope>) -> Result<Part, NoMemory>
     ensures scope { IfOk result (λ part. part.scope.value ≡ of_wind) }
     ensures places { IfOk result (λ part. part.places ≡ record { whole = of_all; part = of_wind }) }
 {
-    let scope = Scope::of(alloc, net, &VarSet::empty().with(1))?;
+    let scope = scope_of_wind(alloc, net)?;
     make_part(alloc, all, scope)
 }
 
-fn make_weather(rt: &impl Abort, alloc: Global) -> Result<Weather, Fail> {
-    let net = read(alloc, WEATHER)?.net;
+/// Stops unless the network has three variables of two, three and two values.
+fn expect_sizes(rt: &impl Abort, net: &Network)
+    ensures three { length net.now ≡ 3 }
+    ensures rains { slice_index (sizes net.now) 0 ≡ 2 }
+    ensures winds { slice_index (sizes net.now) 1 ≡ 3 }
+    ensures heats { slice_index (sizes net.now) 2 ≡ 2 }
+{
     assert!(rt; net.variables() == 3);
     assert!(rt; net.values(0) == 2);
     assert!(rt; net.values(1) == 3);
     assert!(rt; net.values(2) == 2);
-    let all = all(alloc, &net)?;
+}
+
+fn with_parts(alloc: Global, net: Network, all: Rc<Scope>) -> Result<Weather, NoMemory>
+    requires three { length net ≡ 3 }
+    requires rains { slice_index (sizes net) 0 ≡ 2 }
+    requires winds { slice_index (sizes net) 1 ≡ 3 }
+    requires all { all.value ≡ of_all }
+{
     let rain = rain(alloc, &net, &all)?;
     let wind = wind(alloc, &net, &all)?;
     Ok(Weather {
@@ -150,6 +178,13 @@ fn make_weather(rt: &impl Abort, alloc: Global) -> Result<Weather, Fail> {
         rain,
         wind,
     })
+}
+
+fn make_weather(rt: &impl Abort, alloc: Global) -> Result<Weather, Fail> {
+    let net = read(alloc, WEATHER)?.net;
+    expect_sizes(rt, &net);
+    let all = all(alloc, &net)?;
+    Ok(with_parts(alloc, net, all)?)
 }
 
 /// The rows of the wind times a message with the rows of the rain, copied over ones.
@@ -180,97 +215,55 @@ fn ones_times_ones<R: Semiring>(alloc: Global, weather: &Weather) -> Result<Tabl
     Ok(table)
 }
 
-/// The margin of the wind.
-fn margin<R: Semiring>(
-    alloc: Global,
-    weather: &Weather,
-    table: &Table<R>,
-) -> Result<Table<R>, NoMemory>
-    requires scope { table.now.scope ≡ of_all }
-    requires room { HasRoom table.now 24 }
-    ensures { IfOk result (λ t. t.scope ≡ of_wind) }
-{
-    let mut margin = Table::<R>::ones(alloc, &weather.wind.scope)?;
-    table.margin_into(&weather.wind.places, &mut margin);
-    Ok(margin)
-}
-
-/// The total of the middle wind, before and after all other winds are made absent.
-fn totals<R: Semiring>(rt: &impl Abort, table: &mut Table<R>) -> (Cell, Cell)
-    requires scope { table.old.scope ≡ of_all }
-    requires room { HasRoom table.old 24 }
-    ensures { table.new.scope ≡ table.old.scope }
-{
-    let mut chosen = CellList::new();
-    let before = table.total(&only(rt, MIDDLE), &mut chosen);
-    table.restrict(MIDDLE);
-    (before, table.total(&Event::empty(), &mut chosen))
-}
-
 /// The cell of a number under a shift; what is exact has one form.
 fn check(rt: &impl Abort, cell: Cell, n: u64, shift: u32) {
     assert!(rt; shift <= 80);
     let whole = Cell::of_whole(n, shift);
-    assert_eq!(rt;
-        (cell.digits, cell.exponent),
-        (whole.digits, whole.exponent)
-    );
+    assert!(rt; cell.digits == whole.digits);
+    assert!(rt; cell.exponent == whole.exponent);
 }
 
-/// The total of the middle wind of a table times a message, by a margin whose product is never made.
-fn joined_total<R: Semiring>(
+/// Stops unless this is the total of the middle wind of a table times a message, also by a margin whose product is never made.
+fn check_joined<R: Semiring>(
+    rt: &impl Abort,
     alloc: Global,
     weather: &Weather,
     table: &Table<R>,
     message: &Table<R>,
-) -> Result<Cell, NoMemory>
+    number: u64,
+) -> Result<(), Fail>
     requires scope { table.now.scope ≡ of_all }
     requires room { HasRoom table.now 24 }
     requires message_scope { message.now.scope ≡ of_rain }
     requires message_room { HasRoom message.now 1 }
 {
+    let (rain, middle) = (&weather.rain.places, only(rt, MIDDLE));
+    let total = table.total_times(rain, message, &middle, &mut CellList::new());
+    check(rt, total, number, 0);
     let mut winds = Table::<R>::ones(alloc, &weather.wind.scope)?;
-    table.margin_times_into(
-        &weather.wind.places,
-        &weather.rain.places,
-        message,
-        &mut winds,
-    );
-    Ok(winds.get(1))
+    table.margin_times_into(&weather.wind.places, rain, message, &mut winds);
+    check(rt, winds.get(1), number, 0);
+    Ok(())
 }
 
-/// Both are one cell.
-fn check_same(rt: &impl Abort, cell: Cell, other: Cell) {
-    assert_eq!(rt;
-        (cell.digits, cell.exponent),
-        (other.digits, other.exponent)
-    );
-}
-
-/// The total of the middle wind of a table times a message with the rows of the rain, and times one that was cleared.
-fn times_totals<R: Semiring>(
+/// The same for a message with the rows of the rain, and for one that was cleared.
+fn check_times<R: Semiring>(
     rt: &impl Abort,
     alloc: Global,
     weather: &Weather,
     table: &Table<R>,
-) -> Result<(Cell, Cell), Fail>
+    times: (u64, u64),
+) -> Result<(), Fail>
     requires scope { table.now.scope ≡ of_all }
     requires room { HasRoom table.now 24 }
 {
     let _ = weather.net.variables();
     let mut message = Table::<R>::ones(alloc, &weather.rain.scope)?;
     message.times_rows(&weather.net, 0);
-    let mut chosen = CellList::new();
-    let middle = only(rt, MIDDLE);
-    let before = table.total_times(&weather.rain.places, &message, &middle, &mut chosen);
-    let joined = joined_total::<R>(alloc, weather, table, &message)?;
-    check_same(rt, joined, before);
+    check_joined::<R>(rt, alloc, weather, table, &message, times.0)?;
     message.clear();
     check(rt, message.get(1), 1, 0);
-    let after = table.total_times(&weather.rain.places, &message, &middle, &mut chosen);
-    let joined = joined_total::<R>(alloc, weather, table, &message)?;
-    check_same(rt, joined, after);
-    Ok((before, after))
+    check_joined::<R>(rt, alloc, weather, table, &message, times.1)
 }
 
 /// What is known of a table: the margin of each wind, the total of the middle one times a message with the rows of the rain and times
@@ -279,6 +272,46 @@ struct Known {
     winds: [u64; 3],
     times: (u64, u64),
     cells: [u64; 3],
+}
+
+fn check_margin<R: Semiring>(
+    rt: &impl Abort,
+    alloc: Global,
+    weather: &Weather,
+    table: &Table<R>,
+    winds: &[u64; 3],
+) -> Result<(), Fail>
+    requires scope { table.now.scope ≡ of_all }
+    requires room { HasRoom table.now 24 }
+{
+    let mut margin = Table::<R>::ones(alloc, &weather.wind.scope)?;
+    table.margin_into(&weather.wind.places, &mut margin);
+    check(rt, margin.get(0), winds[0], 0);
+    check(rt, margin.get(1), winds[1], 0);
+    check(rt, margin.get(2), winds[2], 0);
+    Ok(())
+}
+
+/// The total of the middle wind, before and after all other winds are made absent.
+fn check_totals<R: Semiring>(rt: &impl Abort, table: &mut Table<R>, number: u64)
+    requires scope { table.old.scope ≡ of_all }
+    requires room { HasRoom table.old 24 }
+    ensures { table.new.scope ≡ table.old.scope }
+{
+    let mut chosen = CellList::new();
+    let before = table.total(&only(rt, MIDDLE), &mut chosen);
+    table.restrict(MIDDLE);
+    let after = table.total(&Event::empty(), &mut chosen);
+    check(rt, before, number, 0);
+    check(rt, after, number, 0);
+}
+
+fn check_cells<R: Semiring>(rt: &impl Abort, table: &Table<R>, cells: &[u64; 3])
+    requires { table.now.scope ≡ of_all }
+{
+    check(rt, table.get(0), cells[0], 0);
+    check(rt, table.get(2), cells[1], 0);
+    check(rt, table.get(9), cells[2], 0);
 }
 
 fn check_table<R: Semiring>(
@@ -291,19 +324,10 @@ fn check_table<R: Semiring>(
     requires scope { table.old.scope ≡ of_all }
     requires room { HasRoom table.old 24 }
 {
-    let margin = margin::<R>(alloc, weather, table)?;
-    for value in 0..3 {
-        check(rt, margin.get(value), known.winds[value], 0);
-    }
-    let (before, after) = times_totals::<R>(rt, alloc, weather, table)?;
-    check(rt, before, known.times.0, 0);
-    check(rt, after, known.times.1, 0);
-    let (before, after) = totals::<R>(rt, table);
-    check(rt, before, known.winds[1], 0);
-    check(rt, after, known.winds[1], 0);
-    check(rt, table.get(0), known.cells[0], 0);
-    check(rt, table.get(2), known.cells[1], 0);
-    check(rt, table.get(9), known.cells[2], 0);
+    check_margin::<R>(rt, alloc, weather, table, &known.winds)?;
+    check_times::<R>(rt, alloc, weather, table, known.times)?;
+    check_totals::<R>(rt, table, known.winds[1]);
+    check_cells::<R>(rt, table, &known.cells);
     Ok(())
 }
 

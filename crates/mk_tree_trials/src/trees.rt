@@ -1,6 +1,6 @@
 //! A tree of a small network, and trees at the limits of cliques.
 
-use crate::fixtures::{CHAIN, expect_links, expect_of_network, read};
+use crate::fixtures::{expect_links, expect_of_network, read};
 use mk_net::{Event, Network, Pair, VarSet};
 use mk_tree::{Tree, TreeFault};
 use std::alloc::Global;
@@ -70,53 +70,69 @@ fn event(rt: &impl Abort, variables: &[u32]) -> Event {
     event
 }
 
-fn check_chain(rt: &impl Abort, tree: &Tree) {
-    assert_eq!(rt; tree.cliques(), 3);
-    assert_eq!(rt; tree.clique(2), set(rt, &[1, 2]));
-    for (clique, link) in [(1, None), (2, Some(1)), (3, Some(2))] {
-        assert_eq!(rt; tree.link(clique), link);
-    }
-    for (variables, home) in [
-        ([].as_slice(), Some(1)),
-        ([1].as_slice(), Some(1)),
-        ([2].as_slice(), Some(2)),
-        ([2, 1].as_slice(), Some(2)),
-        ([0, 2].as_slice(), None),
-        ([1, 0].as_slice(), Some(1)),
-    ] {
-        assert_eq!(rt; tree.home(&event(rt, variables)), home, "at {variables:?}");
-    }
+/// Stops unless this clique is the home of a pair of each variable.
+fn expect_home(rt: &impl Abort, tree: &Tree, variables: &[u32], home: Option<u32>) {
+    assert!(rt;
+        tree.home(&event(rt, variables)) == home,
+        "at {variables:?}"
+    );
 }
 
-#[test]
-fn takes_a_chain(rt: HostRuntime) -> Result<(), Fail> {
-    let file = read(rt.alloc(), CHAIN)?;
-    let tree = file.tree.copy(rt.alloc())?;
-    check_chain(&rt, &tree);
+fn expect_link(rt: &impl Abort, tree: &Tree, clique: u32, link: Option<u32>) {
+    assert!(rt; clique >= 1 && clique <= tree.cliques());
+    assert!(rt; tree.link(clique) == link);
+}
+
+fn check_chain(rt: &impl Abort, tree: &Tree) {
+    assert!(rt; tree.cliques() == 3);
+    assert!(rt; tree.clique(2) == set(rt, &[1, 2]));
+    expect_link(rt, tree, 1, None);
+    expect_link(rt, tree, 2, Some(1));
+    expect_link(rt, tree, 3, Some(2));
+    expect_home(rt, tree, &[], Some(1));
+    expect_home(rt, tree, &[1], Some(1));
+    expect_home(rt, tree, &[2], Some(2));
+    expect_home(rt, tree, &[2, 1], Some(2));
+    expect_home(rt, tree, &[0, 2], None);
+    expect_home(rt, tree, &[1, 0], Some(1));
+}
+
+/// Of the chain's tree.
+pub(crate) fn check_copy(rt: &impl Abort, alloc: Global, tree: &Tree) -> Result<(), Fail> {
+    let copy = tree.copy(alloc)?;
+    check_chain(rt, &copy);
     Ok(())
 }
 
 fn check_cells(rt: &impl Abort, alloc: Global, net: &Network) {
     let cliques = [set(rt, &[3]), set(rt, &[0, 1, 2, 3])];
     let fault = tree(rt, alloc, net, &cliques, &[1]).err();
-    assert_eq!(rt; fault, Some(TreeFault::Cells { clique: 2 }));
+    assert!(rt; fault == Some(TreeFault::Cells { clique: 2 }));
+}
+
+fn check_last(rt: &impl Abort, tree: &Tree) {
+    assert!(rt; tree.cliques() == 256);
+    expect_home(rt, tree, &[3], Some(256));
 }
 
 fn check_256_cliques(rt: &impl Abort, alloc: Global, net: &Network) -> Result<(), Fail> {
     let mut cliques = [set(rt, &[0]); 256];
-    for (place, variable) in [(253, 1), (254, 2), (255, 3)] {
-        cliques[place] = set(rt, &[variable]);
-    }
+    cliques[253] = set(rt, &[1]);
+    cliques[254] = set(rt, &[2]);
+    cliques[255] = set(rt, &[3]);
     let tree = tree(rt, alloc, net, &cliques, &[1; 255])?;
-    assert_eq!(rt; tree.cliques(), 256);
-    assert_eq!(rt; tree.home(&event(rt, &[3])), Some(256));
+    check_last(rt, &tree);
     Ok(())
+}
+
+fn check_limits(rt: &impl Abort, alloc: Global, net: &Network) -> Result<(), Fail> {
+    check_cells(rt, alloc, net);
+    check_256_cliques(rt, alloc, net)
 }
 
 #[test]
 fn cliques_at_their_limits(rt: HostRuntime) -> Result<(), Fail> {
     // A clique of 4,096 cells is taken where the file is read.
     let file = read(rt.alloc(), WIDE)?;
-    check_cells(&rt, rt.alloc(), &file.net);
-    check_256_cliques(&rt, rt.alloc(), &file.net)
+    check_limits(&rt, rt.alloc(), &file.net)
 }

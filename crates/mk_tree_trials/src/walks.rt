@@ -28,30 +28,74 @@ parents = []
 rows = [[500000, 500000]]
 ";
 
-/// Each call, with these trades.
+fn expect_total(
+    rt: &impl Abort,
+    alloc: Global,
+    network: &Network,
+    trades: &[WalkTrade],
+    event: &[Pair],
+    number: u128,
+) -> Result<(), Fail> {
+    let found = total(alloc, network, trades, &[], event)?;
+    assert!(rt; found == number);
+    Ok(())
+}
+
+fn expect_least(
+    rt: &impl Abort,
+    alloc: Global,
+    network: &Network,
+    trades: &[WalkTrade],
+    known: &[Pair],
+    event: &[Pair],
+    number: Option<u128>,
+) -> Result<(), Fail> {
+    let found = least_gain(alloc, network, trades, 0, known, event)?;
+    assert!(rt; found == number);
+    Ok(())
+}
+
+/// Each call that adds up or compares, with these trades.
 fn check_calls(
     rt: &impl Abort,
     alloc: Global,
     network: &Network,
     trades: &[WalkTrade],
 ) -> Result<(), Fail> {
-    assert!(rt; all_states(alloc, network)?.len() == 2);
     assert!(rt; state_gain(trades, 0, &[1]) == 879_609_302_220);
     assert!(rt; state_gain(trades, 1, &[1]) == 1);
-    assert!(rt; total(alloc, network, trades, &[], &[])? == 1_099_511_627_775_500_000);
-    assert!(rt; total(alloc, network, trades, &[], &[HEADS])? == 659_706_976_665_500_000);
-    assert!(rt; least_gain(alloc, network, trades, 0, &[], &[])? == Some(879_609_302_220));
-    assert!(rt; least_gain(alloc, network, trades, 0, &[HEADS], &[TAILS])? == None);
+    let least = Some(879_609_302_220);
+    expect_total(rt, alloc, network, trades, &[], 1_099_511_627_775_500_000)?;
+    expect_total(
+        rt,
+        alloc,
+        network,
+        trades,
+        &[HEADS],
+        659_706_976_665_500_000,
+    )?;
+    expect_least(rt, alloc, network, trades, &[], &[], least)?;
+    expect_least(rt, alloc, network, trades, &[HEADS], &[TAILS], None)
+}
+
+fn check_states(rt: &impl Abort, alloc: Global, network: &Network) -> Result<(), Fail> {
+    let states = all_states(alloc, network)?;
+    assert!(rt; states.len() == 2);
     Ok(())
+}
+
+fn check_network(rt: &impl Abort, alloc: Global, network: &Network) -> Result<(), Fail> {
+    check_states(rt, alloc, network)?;
+    let heads = Question::make(HEADS, Event::empty()).expect(rt, "a question");
+    let trade = WalkTrade {
+        user: 0,
+        ratio: Ratio::of_question(&heads, 2, 1_319_413_953_331, 879_609_302_220),
+    };
+    check_calls(rt, alloc, network, &[trade])
 }
 
 #[test]
 fn one_trade(rt: HostRuntime) -> Result<(), Fail> {
     let file = read(rt.alloc(), COIN)?;
-    let heads = Question::make(HEADS, Event::empty()).expect(&rt, "a question");
-    let trade = WalkTrade {
-        user: 0,
-        ratio: Ratio::of_question(&heads, 2, 1_319_413_953_331, 879_609_302_220),
-    };
-    check_calls(&rt, rt.alloc(), &file.net, &[trade])
+    check_network(&rt, rt.alloc(), &file.net)
 }
