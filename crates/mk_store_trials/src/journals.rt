@@ -1,6 +1,6 @@
 //! Crashes after each call of the disk, twice.
 
-ghost use Rattle.std.specs.Prelude.{◌≡◌};
+ghost use Rattle.std.specs.Prelude.{ℕ, ◌≡◌, List};
 
 use mk_disk::{Choice, Disk, MemoryDisk};
 use mk_io::MemorySink;
@@ -48,7 +48,9 @@ impl Steps for Log {
 }
 
 // Opens the store and serves two changes, until a call of the disk fails; gives how many were acknowledged.
-fn run(rt: &impl Abort, alloc: Global, disk: &mut MemoryDisk) -> Result<u64, AllocError> {
+fn run<D: Disk>(rt: &impl Abort, alloc: Global, disk: &mut D) -> Result<u64, AllocError>
+    requires { (n : List ℕ) → D.admits n }
+{
     if disk.open(NAME).is_err() {
         return Ok(0);
     }
@@ -64,7 +66,9 @@ fn run(rt: &impl Abort, alloc: Global, disk: &mut MemoryDisk) -> Result<u64, All
 }
 
 // Opens the store; none where a call of the disk fails.
-fn reopened(alloc: Global, disk: &mut MemoryDisk) -> Option<Found> {
+fn reopened<D: Disk>(alloc: Global, disk: &mut D) -> Option<Found>
+    requires { (n : List ℕ) → D.admits n }
+{
     if disk.open(NAME).is_err() {
         return None;
     }
@@ -72,7 +76,9 @@ fn reopened(alloc: Global, disk: &mut MemoryDisk) -> Option<Found> {
 }
 
 // Why the store is not that of a market.
-fn refusal(alloc: Global, disk: &mut MemoryDisk, market: &[u8]) -> Option<OpenFault> {
+fn refusal<D: Disk>(alloc: Global, disk: &mut D, market: &[u8]) -> Option<OpenFault>
+    requires { (n : List ℕ) → D.admits n }
+{
     if disk.open(NAME).is_err() {
         return None;
     }
@@ -80,7 +86,9 @@ fn refusal(alloc: Global, disk: &mut MemoryDisk, market: &[u8]) -> Option<OpenFa
 }
 
 // Opens the store, again where a call failed.
-fn opened_at_last(alloc: Global, disk: &mut MemoryDisk) -> Option<Found> {
+fn opened_at_last<D: Disk>(alloc: Global, disk: &mut D) -> Option<Found>
+    requires { (n : List ℕ) → D.admits n }
+{
     match reopened(alloc, disk) {
         Some(found) => Some(found),
         None => reopened(alloc, disk),
@@ -88,16 +96,52 @@ fn opened_at_last(alloc: Global, disk: &mut MemoryDisk) -> Option<Found> {
 }
 
 // The store holds the first of the two changes, at least so many.
-fn expect_front(rt: &impl Abort, found: Option<Found>, least: u64) {
-    assert!(rt; found.is_some());
-    if let Some(found) = found {
-        let expected: [[u8; 3]; 2] = [[1, 10, 1], [2, 10, 2]];
-        assert!(rt; found.records.len() <= 2);
-        assert!(rt; found.records.len() as u64 >= least);
-        for (record, bytes) in found.records.iter().zip(expected.iter()) {
-            assert!(rt; record.as_slice() == bytes.as_slice());
-        }
+fn expect_front(rt: &impl Abort, found: &Found, least: u64) {
+    let expected: [[u8; 3]; 2] = [[1, 10, 1], [2, 10, 2]];
+    assert!(rt; found.records.len() <= 2);
+    assert!(rt; found.records.len() as u64 >= least);
+    for (record, bytes) in found.records.iter().zip(expected.iter()) {
+        assert!(rt; record.as_slice() == bytes.as_slice());
     }
+}
+
+// The store is opened at last, and holds what was acknowledged.
+fn expect_opened(
+    rt: &impl Abort,
+    alloc: Global,
+    disk: &mut MemoryDisk,
+    acknowledged: Result<u64, AllocError>,
+) -> Result<(), AllocError> {
+    let acknowledged = acknowledged?;
+    let found = opened_at_last(alloc, disk);
+    assert!(rt; found.is_some());
+    if let Some(found) = &found {
+        expect_front(rt, found, acknowledged);
+    }
+    drop(found);
+    Ok(())
+}
+
+// A run stops at the first of the failing calls and crashes; the next opening stops at the second and crashes again; then
+// the store is opened. Says whether the opening before ended.
+fn crash_pair(
+    rt: &impl Abort,
+    alloc: Global,
+    failing: [u64; 2],
+    calls: u64,
+    left: Choice,
+    again: Choice,
+) -> Result<bool, AllocError> {
+    let mut disk = MemoryDisk::new(alloc, failing.to_vec(alloc)?);
+    let acknowledged = run(rt, alloc, &mut disk);
+    assert!(rt; disk.calls() == calls);
+    let mut disk = disk.crash(left)?;
+    let ended = reopened(alloc, &mut disk).is_some();
+    let mut disk = disk.crash(again)?;
+    let opened = expect_opened(rt, alloc, &mut disk, acknowledged);
+    drop(disk);
+    opened?;
+    Ok(ended)
 }
 
 // A run stops at call `first` and crashes; the next opening stops at each of its calls in turn and crashes again; then
@@ -118,14 +162,7 @@ fn crash_twice(
     for second in 1..=11 {
         let mut ended = false;
         for again in CHOICES {
-            let failing = [stop, calls + second].to_vec(alloc)?;
-            let mut disk = MemoryDisk::new(alloc, failing);
-            let acknowledged = run(rt, alloc, &mut disk)?;
-            assert_eq!(rt; disk.calls(), calls);
-            let mut disk = disk.crash(left)?;
-            ended = reopened(alloc, &mut disk).is_some();
-            let mut disk = disk.crash(again)?;
-            expect_front(rt, opened_at_last(alloc, &mut disk), acknowledged);
+            ended = crash_pair(rt, alloc, [stop, calls + second], calls, left, again)?;
             images = images.saturating_add(1);
         }
         if ended {
@@ -151,14 +188,26 @@ fn each_crash_leaves_every_acknowledged_change(rt: HostRuntime) -> Result<(), Fa
     Ok(())
 }
 
+// The store of a run is refused to other markets.
+fn expect_refusals(
+    rt: &impl Abort,
+    alloc: Global,
+    disk: &mut MemoryDisk,
+) -> Result<(), AllocError> {
+    let acknowledged = run(rt, alloc, disk)?;
+    assert!(rt; acknowledged == 2);
+    let longer = refusal(alloc, disk, b"coins");
+    assert!(rt; longer == Some(OpenFault::Foreign { at: 16 }));
+    let other = refusal(alloc, disk, b"corn");
+    assert!(rt; other == Some(OpenFault::Foreign { at: 19 }));
+    Ok(())
+}
+
 #[test]
 fn a_store_of_another_market_is_refused(rt: HostRuntime) -> Result<(), Fail> {
     let alloc = rt.alloc();
     let mut disk = MemoryDisk::new(alloc, Vec::new(alloc));
-    assert_eq!(rt; run(&rt, alloc, &mut disk)?, 2);
-    let longer = refusal(alloc, &mut disk, b"coins");
-    assert_eq!(rt; longer, Some(OpenFault::Foreign { at: 16 }));
-    let other = refusal(alloc, &mut disk, b"corn");
-    assert_eq!(rt; other, Some(OpenFault::Foreign { at: 19 }));
-    Ok(())
+    let refused = expect_refusals(&rt, alloc, &mut disk);
+    drop(disk);
+    Ok(refused?)
 }

@@ -1,6 +1,6 @@
 //! Lines in pieces of every size, failing calls, and the standard adapters.
 
-ghost use Rattle.std.specs.Prelude.{◌≤◌};
+ghost use Rattle.std.specs.Prelude.{ℕ, ◌≤◌, List, length};
 
 use mk_io::{
     Inputs, Lines, MemoryInputs, MemorySink, NamedFile, Next, Sink, StdInputs, StdSink, write_all,
@@ -18,18 +18,35 @@ fn inputs_of(
 ) -> Result<MemoryInputs, AllocError>
     requires { 1 ≤ piece }
 {
+    let failing = failing.to_vec(alloc)?;
     let commands = commands.to_vec(alloc)?;
-    Ok(MemoryInputs::new(Vec::new(alloc), commands, piece, failing.to_vec(alloc)?))
+    Ok(MemoryInputs::new(Vec::new(alloc), commands, piece, failing))
 }
 
 // Asks for as many answers as are expected, each with its text.
-fn expect_lines(rt: &impl Abort, inputs: &mut MemoryInputs, expected: &[(Next, &[u8])]) {
+fn expect_lines<I: Inputs>(rt: &impl Abort, inputs: &mut I, expected: &[(Next, &[u8])]) {
     let mut lines = Lines::new();
     for (answer, text) in expected {
         let got = lines.next(inputs);
         assert_eq!(rt; got, *answer);
         assert!(rt; lines.line() == *text);
     }
+}
+
+// In pieces of one size.
+fn expect_pieces(
+    rt: &impl Abort,
+    alloc: Global,
+    stream: &[u8],
+    piece: usize,
+    expected: &[(Next, &[u8])],
+) -> Result<(), AllocError>
+    requires { 1 ≤ piece }
+{
+    let mut inputs = inputs_of(alloc, stream, piece, &[])?;
+    expect_lines(rt, &mut inputs, expected);
+    drop(inputs);
+    Ok(())
 }
 
 // In pieces of each size.
@@ -41,8 +58,7 @@ fn expect_in_pieces(
 ) -> Result<(), AllocError> {
     for piece in [1, 2, 3, 4096] {
         assert!(rt; piece >= 1);
-        let mut inputs = inputs_of(alloc, stream, piece, &[])?;
-        expect_lines(rt, &mut inputs, expected);
+        expect_pieces(rt, alloc, stream, piece, expected)?;
     }
     Ok(())
 }
@@ -71,26 +87,45 @@ fn short_lines(rt: HostRuntime) -> Result<(), Fail> {
     Ok(())
 }
 
+// The line is the first bytes of the stream, so many, or it is too long.
+fn expect_line(
+    rt: &impl Abort,
+    alloc: Global,
+    stream: &[u8],
+    size: usize,
+    is_short: bool,
+) -> Result<(), AllocError>
+    requires { size ≤ length stream.now }
+{
+    let line: (Next, &[u8]) = if is_short {
+        (Next::Line, &stream[..size])
+    } else {
+        (Next::Long, b"")
+    };
+    expect_in_pieces(rt, alloc, stream, &[line, (Next::End, b"")])
+}
+
+// A line of so many bytes before its end.
+fn expect_limit(
+    rt: &impl Abort,
+    alloc: Global,
+    size: usize,
+    end: &str,
+    is_short: bool,
+) -> Result<(), AllocError> {
+    let mut stream = vec![in alloc; b'x'; size]?;
+    stream.extend_from_slice(end.as_bytes())?;
+    expect_line(rt, alloc, &stream, size, is_short)
+}
+
 #[test]
 fn lines_at_the_limit(rt: HostRuntime) -> Result<(), Fail> {
     let alloc = rt.alloc();
-    for (size, end, is_short) in [
-        (1024, "\n", true),
-        (1025, "\n", false),
-        (1023, "\r\n", true),
-        (1024, "\r\n", false),
-        (3000, "", false),
-    ] {
-        let text = vec![in alloc; b'x'; size]?;
-        let mut stream = text.clone()?;
-        stream.extend_from_slice(end.as_bytes())?;
-        let line: (Next, &[u8]) = if is_short {
-            (Next::Line, text.as_slice())
-        } else {
-            (Next::Long, b"")
-        };
-        expect_in_pieces(&rt, alloc, stream.as_slice(), &[line, (Next::End, b"")])?;
-    }
+    expect_limit(&rt, alloc, 1024, "\n", true)?;
+    expect_limit(&rt, alloc, 1025, "\n", false)?;
+    expect_limit(&rt, alloc, 1023, "\r\n", true)?;
+    expect_limit(&rt, alloc, 1024, "\r\n", false)?;
+    expect_limit(&rt, alloc, 3000, "", false)?;
     Ok(())
 }
 
@@ -105,8 +140,9 @@ fn a_read_fails_within_a_line(rt: HostRuntime) -> Result<(), Fail> {
     expect_lines(&rt, &mut inputs, &expected);
     // the read that failed took no byte, and the stopped lines read nothing
     let mut left = [0; 8];
-    assert_eq!(rt; inputs.read_commands(&mut left), Ok(3));
+    assert!(rt; inputs.read_commands(&mut left) == Ok(3));
     assert!(rt; left[..3] == b"ef\n"[..]);
+    drop(inputs);
     Ok(())
 }
 
@@ -117,38 +153,73 @@ fn nothing_is_read_behind_a_last_line(rt: HostRuntime) -> Result<(), Fail> {
     let expected: [(Next, &[u8]); 3] = [(Next::Line, b"ab"), (Next::End, b""), (Next::End, b"")];
     expect_lines(&rt, &mut inputs, &expected);
     assert_eq!(rt; inputs.calls(), 2);
+    drop(inputs);
     Ok(())
+}
+
+// Whether a line is held before each of the next answers, which then reads nothing.
+fn expect_held(rt: &impl Abort, inputs: &mut MemoryInputs, expected: &[bool]) {
+    let mut lines = Lines::new();
+    for held in expected {
+        assert!(rt; lines.holds_line() == *held);
+        let calls = inputs.calls();
+        let _ = lines.next(inputs);
+        assert!(rt; (inputs.calls() == calls) == *held);
+    }
 }
 
 #[test]
 fn holds_the_lines_that_were_read_whole(rt: HostRuntime) -> Result<(), Fail> {
     let mut inputs = inputs_of(rt.alloc(), b"a\nb\nc\nd", 5, &[])?;
-    let mut lines = Lines::new();
     // The first read ends behind the first byte of the third line, and the second one with the stream.
-    for held in [false, true, false, false] {
-        assert_eq!(rt; lines.holds_line(), held);
-        let calls = inputs.calls();
-        let _ = lines.next(&mut inputs);
-        assert_eq!(rt; inputs.calls() == calls, held);
-    }
+    expect_held(&rt, &mut inputs, &[false, true, false, false]);
+    drop(inputs);
+    Ok(())
+}
+
+// Writes three bytes, of which these are kept.
+fn expect_kept(rt: &impl Abort, out: &mut MemorySink, is_whole: bool, kept: &[u8]) {
+    assert!(rt; write_all(out, b"abc").is_ok() == is_whole);
+    assert!(rt; out.written() == kept);
+}
+
+#[test]
+fn writes_go_on(rt: HostRuntime) -> Result<(), Fail> {
+    let alloc = rt.alloc();
+    let mut whole = MemorySink::new(vec![in alloc; 0; 8]?, 1, Vec::new(alloc));
+    expect_kept(&rt, &mut whole, true, b"abc");
+    drop(whole);
     Ok(())
 }
 
 #[test]
 fn writes_go_on_and_fail(rt: HostRuntime) -> Result<(), Fail> {
     let alloc = rt.alloc();
-    let mut whole = MemorySink::new(vec![in alloc; 0; 8]?, 1, Vec::new(alloc));
-    assert!(rt; write_all(&mut whole, b"abc").is_ok());
-    assert!(rt; whole.written() == b"abc".as_slice());
-
     let mut failing = MemorySink::new(vec![in alloc; 0; 8]?, 1, vec![in alloc; 3]?);
     assert!(rt; write_all(&mut failing, b"abc").is_err());
     assert!(rt; failing.written() == b"ab".as_slice());
-
-    let mut full = MemorySink::new(vec![in alloc; 0; 2]?, 4, Vec::new(alloc));
-    assert!(rt; write_all(&mut full, b"abc").is_err());
-    assert!(rt; full.written() == b"ab".as_slice());
+    drop(failing);
     Ok(())
+}
+
+#[test]
+fn writes_fill_a_sink(rt: HostRuntime) -> Result<(), Fail> {
+    let alloc = rt.alloc();
+    let mut full = MemorySink::new(vec![in alloc; 0; 2]?, 4, Vec::new(alloc));
+    expect_kept(&rt, &mut full, false, b"ab");
+    drop(full);
+    Ok(())
+}
+
+// The three bytes of the one file.
+fn expect_file<I: Inputs>(rt: &impl Abort, inputs: &mut I)
+    requires { (name : List ℕ) → I.admits name }
+{
+    let mut buf = [0; 4];
+    assert!(rt; inputs.open_market("other.toml").is_err());
+    assert!(rt; inputs.open_market("coin.toml").is_ok());
+    assert!(rt; inputs.read_market(&mut buf) == Ok(3));
+    assert!(rt; buf == [7, 7, 7, 0]);
 }
 
 #[test]
@@ -159,27 +230,33 @@ fn a_file_in_memory(rt: HostRuntime) -> Result<(), Fail> {
         bytes: vec![in alloc; 7; 3]?,
     };
     let mut inputs = MemoryInputs::new(vec![in alloc; file]?, Vec::new(alloc), 4, Vec::new(alloc));
-    let mut buf = [0; 4];
-    assert!(rt; inputs.open_market("other.toml").is_err());
-    assert!(rt; inputs.open_market("coin.toml").is_ok());
-    assert_eq!(rt; inputs.read_market(&mut buf), Ok(3));
-    assert_eq!(rt; buf, [7, 7, 7, 0]);
+    expect_file(&rt, &mut inputs);
+    drop(inputs);
     Ok(())
+}
+
+// Reads of a file of zeros, behind those where no file is open.
+fn expect_zeros<I: Inputs>(rt: &impl Abort, inputs: &mut I)
+    requires { (name : List ℕ) → I.admits name }
+{
+    let mut buf = [1; 4];
+    assert!(rt; inputs.read_market(&mut buf) == Ok(0));
+    assert!(rt; inputs.open_market("no such file").is_err());
+    assert!(rt; inputs.read_market(&mut buf) == Ok(0));
+    assert!(rt; inputs.open_market("/dev/zero").is_ok());
+    assert!(rt; inputs.read_market(&mut buf) == Ok(4));
+    assert!(rt; buf == [0; 4]);
+}
+
+// Writes of nothing and of a line.
+fn expect_writes<S: Sink>(rt: &impl Abort, out: &mut S) {
+    assert!(rt; out.write(b"") == Ok(0));
+    assert!(rt; write_all(out, b"written through\n").is_ok());
 }
 
 #[test]
 fn files_and_the_standard_output(rt: HostRuntime) -> Result<(), Fail> {
-    let mut inputs = StdInputs::new(&rt);
-    let mut buf = [1; 4];
-    assert_eq!(rt; inputs.read_market(&mut buf), Ok(0));
-    assert!(rt; inputs.open_market("no such file").is_err());
-    assert_eq!(rt; inputs.read_market(&mut buf), Ok(0));
-    assert!(rt; inputs.open_market("/dev/zero").is_ok());
-    assert_eq!(rt; inputs.read_market(&mut buf), Ok(4));
-    assert_eq!(rt; buf, [0; 4]);
-
-    let mut out = StdSink::new(&rt);
-    assert_eq!(rt; out.write(b""), Ok(0));
-    assert!(rt; write_all(&mut out, b"written through\n").is_ok());
+    expect_zeros(&rt, &mut StdInputs::new(&rt));
+    expect_writes(&rt, &mut StdSink::new(&rt));
     Ok(())
 }
