@@ -1,5 +1,6 @@
 -- The tree of a draft, over the network that was checked.
-use Rattle.std.proofs.Common.{◌≡◌, ℕ, suc, ◌+◌, ◌-◌, ◌<◌, ◌≤◌, ℤ, pos, negsuc, List, [], ◌∷◌, map, length, get_or, Bool, true, false, not, ◌&&◌, ◌||◌, ◌==◌, nat_le, zero, Option, Some, None, option_map, Ok, Err, All, refl, sym, ap, subst, ◌∙◌, arith}
+use Rattle.std.proofs.Common.{◌≡◌, ℕ, suc, ◌+◌, ◌-◌, ◌<◌, ◌≤◌, ℤ, pos, negsuc, List, [], ◌∷◌, map, length, get_or, Bool, true, false, not, ◌&&◌, ◌||◌, ◌==◌, nat_le, zero, Option, Some, None, option_map, Ok, Err, All, refl, sym, ap, subst, ◌∙◌, arith, T, SFits, Fits, w32, w64, to_z, of_z, to_z-of_z}
+use lib.Signed.{non_neg}
 use Rattle.std.specs.Prelude.{nat_abs}
 use Rattle.std.specs.List.{list_all, position_or_len}
 use Rattle.std.proofs.lemmas.Bool.{eqb-true, leb-true, not-false, and_parts}
@@ -203,3 +204,28 @@ network_refused draft fault counted bad =
     let later : draft_later draft.variables ≡ Some fault = ap (λ o. or_else o (draft_later draft.variables)) (sym (variables_counted draft counted)) ∙ bad in
     let rest = or_else (first_in (clique_at draft) 1 draft.cliques) (or_else (first_in link_at 2 draft.links) (tree_part draft)) in
     ap (λ o. unless o (market_in draft)) (ap (λ o. or_else o (or_else (variables_fault draft) rest)) counted ∙ ap (λ o. or_else (option_map of_net o) rest) later)
+
+-- a number of the top, as the program casts it
+pub record IsCast (high : ℕ) (z : ℤ) : Type 0 where
+  pub fits : T (non_neg z) × Fits w32 (nat_abs z)
+  pub low : 1 ≤ nat_abs z
+  pub top : nat_abs z ≤ high
+
+cast_within : (key : Key) (high : ℕ) (z : ℤ) → high ≤ 1000000 → whole_fault key 1 high z ≡ None → IsCast high (to_z w64 (of_z w64 z))
+cast_within key high (pos n) small h =
+    let parts = and_parts (nat_le 1 n) (nat_le n high) (not-false (is_whole_within 1 high (pos n)) (passed (not (is_whole_within 1 high (pos n))) (Count key 0 (pos n)) h)) in
+    let low : 1 ≤ n = leb-true 1 n parts.0 in
+    let top : n ≤ high = leb-true n high parts.1 in
+    let fits : SFits w64 (pos n) = record { sfits = omega (arith, small, top) } in
+    subst (λ z. IsCast high z) (sym (to_z-of_z fits)) (record { fits = (_, omega (arith, small, top)); low = low; top = top })
+cast_within key high (negsuc n) small h = cc
+
+first_two : {F : Type 0} (a b c : Option F) → or_else a (or_else b c) ≡ None → (a ≡ None) × (b ≡ None)
+first_two None None c h = (refl, refl)
+first_two (Some x) b c h = cc
+first_two None (Some x) c h = cc
+
+pub top_cast : (draft : DraftOfMarket) → counts_fault draft ≡ None → IsCast 1000000 (to_z w64 (of_z w64 draft.points_per_bit)) × IsCast 65536 (to_z w64 (of_z w64 draft.max_trades))
+top_cast draft counted =
+    let two = first_two (whole_fault PointsPerBit 1 1000000 draft.points_per_bit) (whole_fault MaxTrades 1 65536 draft.max_trades) _ counted in
+    (cast_within PointsPerBit 1000000 draft.points_per_bit (omega arith) two.0, cast_within MaxTrades 65536 draft.max_trades (omega arith) two.1)

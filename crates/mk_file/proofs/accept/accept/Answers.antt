@@ -2,7 +2,7 @@ use Rattle.std.proofs.Common.{ap}
 use Rattle.std.proofs.lemmas.Result.{err_from_is_err_and}
 use Rattle.mk_file.specs.Counts.{of_net}
 use Rattle.mk_file.specs.inner.Views.{draft_of}
-use Rattle.mk_file.proofs.Grown.{tree_refused, network_refused}
+use Rattle.mk_file.proofs.Grown.{tree_refused, network_refused, top_cast}
 use Rattle.mk_file.proofs.accept.accept.Goals as goal
 
 pub returns-in_err-tree-clause-market : goal.returns-in_err-tree-clause-market
@@ -19,3 +19,21 @@ returns-in_err-net-clause-market c =
     let returned = err_from_is_err_and c.from_residual-in_err-net.result c.from_residual-in_err-net.ensures.1 in
     rw (returned.1, returned.2) (λ known.
     network_refused (draft_of c.args.draft.now) _ c.in_ok-check_counts.ensures.passes (c.in_err-net.ensures.fault (λ memory. known (ap of_net memory))))
+
+pub overflow_cast-result : goal.overflow_cast-result
+overflow_cast-result c = (top_cast (draft_of c.args.draft.now) c.in_ok-check_counts.ensures.passes).0.fits
+
+pub overflow_cast-result-2 : goal.overflow_cast-result-2
+overflow_cast-result-2 c = (top_cast (draft_of c.args.draft.now) c.in_ok-check_counts.ensures.passes).1.fits
+
+pub invariant_of-result-clause-points_positive : goal.invariant_of-result-clause-points_positive
+invariant_of-result-clause-points_positive c = (top_cast (draft_of c.args.draft.now) c.in_ok-check_counts.ensures.passes).0.low
+
+pub invariant_of-result-clause-points_most : goal.invariant_of-result-clause-points_most
+invariant_of-result-clause-points_most c = (top_cast (draft_of c.args.draft.now) c.in_ok-check_counts.ensures.passes).0.top
+
+pub invariant_of-result-clause-trades_positive : goal.invariant_of-result-clause-trades_positive
+invariant_of-result-clause-trades_positive c = (top_cast (draft_of c.args.draft.now) c.in_ok-check_counts.ensures.passes).1.low
+
+pub invariant_of-result-clause-trades_most : goal.invariant_of-result-clause-trades_most
+invariant_of-result-clause-trades_most c = (top_cast (draft_of c.args.draft.now) c.in_ok-check_counts.ensures.passes).1.top

@@ -1,0 +1,13 @@
+use Rattle.std.proofs.Common.{rules}
+use Rattle.mk_file.proofs.Reading.{reads_more, reads_no_more, reads_all}
+use Rattle.mk_file.proofs.kinds.read_wholes.Goals as goal
+
+pub items-preserved : goal.items-preserved
+items-preserved c =
+    reads_more _ _ c.items.read.items c.push.new.self.items c.deref-item-items.result.now c.items.item-index c.item-item.result c.in-Some-as_integer.whole c.items.invariant c.items-test.true c.item-item.is c.in-Some-as_integer.ensures (search (rules, c.well_formed))
+
+pub returns : goal.returns
+returns c = reads_all _ _ _ _ c.items.item-index c.items.invariant c.items-test.false
+
+pub returns-in-None : goal.returns-in-None
+returns-in-None c = reads_no_more _ _ _ _ c.items.item-index c.item-item.result c.items.invariant c.items-test.true c.item-item.is c.in-None.ensures
