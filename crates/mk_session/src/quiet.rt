@@ -1,9 +1,10 @@
 //! A run over inputs that never fail.
 
-ghost use Rattle.std.specs.Prelude.{◌≡◌, ◌≤◌, ◌⊎◌, map, IsOk};
+ghost use Rattle.std.specs.Prelude.{◌≡◌, ◌≤◌, ◌⊎◌, map, Err, IsOk};
 ghost use Rattle.mk_io.specs.Memory.{named};
 ghost use Rattle.mk_io.specs.Quiet.{file_or_empty};
 ghost use Rattle.mk_file.specs.File.{file_of};
+ghost use Rattle.mk_file.specs.declared.fault.FileFault.{FileFault};
 ghost use Rattle.mk_session.specs.Complete.{AreWithin};
 
 use crate::run::serve;
@@ -11,7 +12,8 @@ use mk_io::{NamedFile, QuietInputs, QuietSink, Status};
 use std::alloc::Global;
 
 /// Runs the market of the file `name` over all commands, with both in memory, and keeps nothing of the output. The run is
-/// `Done` where the file is accepted and the commands are within the limits, unless memory is wanting.
+/// `Done` where the file is accepted and the commands are within the limits, and `MarketRefused` where the file is refused, unless
+/// memory is wanting.
 pub fn serve_quiet(
     alloc: Global,
     name: &str,
@@ -20,8 +22,10 @@ pub fn serve_quiet(
     piece: usize,
 ) -> Status
     requires { 1 ≤ piece }
-    ensures { IsOk (file_of (file_or_empty (map named files.items) name.now)) → AreWithin commands.items →
+    ensures complete { IsOk (file_of (file_or_empty (map named files.items) name.now)) → AreWithin commands.items →
         (result ≡ Status.Done) ⊎ (result ≡ Status.Memory) }
+    ensures refused { (fault : FileFault) → file_of (file_or_empty (map named files.items) name.now) ≡ Err fault →
+        (result ≡ Status.MarketRefused) ⊎ (result ≡ Status.Memory) }
 {
     let mut inputs = QuietInputs::new(files, commands, piece);
     let mut out = QuietSink::new();
