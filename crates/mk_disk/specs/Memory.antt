@@ -1,5 +1,5 @@
 -- A disk in memory: what happened to it, and what its files are by that.
-use Rattle.std.specs.Prelude.{◌≡◌, ℕ, ◌+◌, ◌-◌, ◌^◌, ◌≤◌, min, List, [], ◌∷◌, ◌++◌, length, take, replicate, Option, unwrap_or, if◌then◌else◌, bytes_eq, string_bytes, Contains}
+use Rattle.std.specs.Prelude.{◌≡◌, ◌⊎◌, ℕ, ◌+◌, ◌-◌, ◌^◌, ◌≤◌, min, List, [], ◌∷◌, ◌++◌, length, take, replicate, Option, unwrap_or, if◌then◌else◌, bytes_eq, string_bytes, Contains, Result, OnOk, OnErr}
 use Rattle.mk_disk.specs.declared.event.Event.{Event}
 use Rattle.mk_disk.specs.declared.event.Event.TheVariants.{Write, Fault, Sync, Crash}
 use Rattle.mk_disk.specs.declared.event.Choice.{Choice}
@@ -69,28 +69,41 @@ pub record WasImage (events : List Event) (name : List ℕ) (t : ℕ) (c : List 
   pub within : count ≤ length events
   pub image : IsImage (take count events) name c
 
--- the calls so far: the numbers of those that fail, how many calls there were, and how many of them failed
+-- the calls so far: the numbers of those that are to fail, how many calls there were, how many of them failed, and how
+-- many of these for want of memory
 pub record Called : Type 0 where
   pub failing : List ℕ
   pub count : ℕ
   pub faults : ℕ
+  pub wanting : ℕ
 
 -- one more, up to the last value of a u64
 abbrev pub one_more : ℕ → ℕ
 one_more n = min (n + 1) (2 ^ 64 - 1)
 
 abbrev pub uncalled : List ℕ → Called
-uncalled failing = record { failing = failing; count = 0; faults = 0 }
+uncalled failing = record { failing = failing; count = 0; faults = 0; wanting = 0 }
 
+-- a call was made; it failed as it was to; it failed for want of memory
 abbrev pub counted : Called → Called
 counted calls = record calls { count = one_more calls.count }
 
 abbrev pub failed : Called → Called
 failed calls = record calls { faults = one_more calls.faults }
 
+abbrev pub starved : Called → Called
+starved calls = record calls { faults = one_more calls.faults; wanting = one_more calls.wanting }
+
 -- the next call is one that is to fail
 abbrev pub IsFailing : Called → Type 0
 IsFailing calls = Contains calls.failing (one_more calls.count)
+
+-- a call is counted; it fails where it is to, and else only for want of memory, and both are counted
+pub record IsCalled {T E : Type 0} (old new : Called) (result : Result T E) : Type 0 where
+  pub later : old.faults ≤ new.faults
+  pub ok : OnOk result (new ≡ counted old)
+  pub failing : IsFailing old → OnOk result ⊥
+  pub failed : OnErr result ((IsFailing old × (new ≡ failed (counted old))) ⊎ (new ≡ starved (counted old)))
 
 -- the disk: what happened, the open file's name, and its calls
 pub record MemoryState : Type 0 where

@@ -2,7 +2,7 @@
 
 ghost use Rattle.std.specs.Prelude.{◌≡◌, ◌≤◌, ◌↔◌, IsTrue};
 ghost use Rattle.mk_disk.specs.Disk.{Rose};
-ghost use Rattle.mk_disk.specs.Memory.{counted, failed, uncalled, IsFailing};
+ghost use Rattle.mk_disk.specs.Memory.{counted, failed, starved, uncalled, IsFailing};
 
 use std::marker::Model;
 
@@ -12,6 +12,7 @@ pub struct Calls {
     failing: Vec<u64>,
     count: u64,
     faults: u64,
+    wanting: u64,
 }
 
 impl Model for Calls {
@@ -19,7 +20,7 @@ impl Model for Calls {
 
     ghost Value = { Called };
 
-    ghost view = { λ c. record { failing = c.failing.items; count = c.count; faults = c.faults } };
+    ghost view = { λ c. record { failing = c.failing.items; count = c.count; faults = c.faults; wanting = c.wanting } };
 }
 
 impl Calls {
@@ -31,6 +32,7 @@ impl Calls {
             failing,
             count: 0,
             faults: 0,
+            wanting: 0,
         }
     }
 
@@ -50,12 +52,22 @@ impl Calls {
         self.failing.contains(&self.count)
     }
 
-    /// Counts a fault.
+    /// Counts the failure of a call that was to fail.
     pub fn fail(&mut self)
         ensures counts { self.new ≡ failed self.old }
         ensures later { self.old.faults ≤ self.new.faults }
         ensures rose { Rose self.old.faults self.new.faults }
     {
         self.faults = self.faults.saturating_add(1);
+    }
+
+    /// Counts the failure of a call for want of memory.
+    pub fn starve(&mut self)
+        ensures counts { self.new ≡ starved self.old }
+        ensures later { self.old.faults ≤ self.new.faults }
+        ensures rose { Rose self.old.faults self.new.faults }
+    {
+        self.fail();
+        self.wanting = self.wanting.saturating_add(1);
     }
 }

@@ -1,8 +1,8 @@
 //! A disk in memory, whose calls can be made to fail and which can crash.
 
-ghost use Rattle.std.specs.Prelude.{◌≡◌, ◌≢◌, ℕ, ◌<◌, ◌≤◌, List, [], ◌∷◌, ◌++◌, length, string_bytes, Option, Some, None, Bool, is_some, unwrap_or, option_map, IsTrue, IfOk, OnOk, OnErr, IfSome};
-ghost use Rattle.mk_disk.specs.Disk.{HasCause, overwritten, Torn, Only, Follows, NoMore, Elapses, Fills};
-ghost use Rattle.mk_disk.specs.Memory.{rested, chosen, wrote, faulted_in, synced, file_after, IsImage, WasImage, counted, failed, uncalled, IsFailing, Happened, opened_name, seen_of};
+ghost use Rattle.std.specs.Prelude.{◌≡◌, ◌⊎◌, ℕ, ◌≤◌, List, [], ◌∷◌, ◌++◌, length, string_bytes, Some, None, is_some, IfOk, OnOk, OnErr};
+ghost use Rattle.mk_disk.specs.Disk.{Fills};
+ghost use Rattle.mk_disk.specs.Memory.{rested, chosen, wrote, faulted_in, synced, file_after, IsImage, WasImage, counted, failed, starved, uncalled, IsFailing, IsCalled, Happened, opened_name, seen_of};
 ghost use Rattle.mk_disk.specs.inner.MemoryLaws.{seen_image, now_counts, now_only};
 
 use crate::calls::Calls;
@@ -15,7 +15,8 @@ use std::marker::Model;
 /// A disk in memory, at first without files.
 ///
 /// It keeps all that happened to its files, and each content follows from that. Its calls are numbered from 1, through
-/// crashes too, and those with the given numbers fail. A growth that is refused is a fault too.
+/// crashes too. Those with the given numbers fail, and else a call fails for want of memory alone, which is counted. A
+/// write that fails as it was to is among the events: a crash then leaves any bytes in its range.
 #[derive(Drop)]
 pub struct MemoryDisk {
     alloc: Global,
@@ -119,17 +120,18 @@ impl MemoryDisk {
         self.note(Event::Fault(name, at, len))
     }
 
-    // A write of so many bytes fails, and may leave any bytes in its range.
+    // A write of so many bytes fails as it was to, and may leave any bytes in its range. Without memory for the note
+    // nothing reached the file.
     fn fail_write(&mut self, at: u64, len: usize)
-        requires { at ≤ length (seen_of self.old (opened_name self.old)) }
-        ensures same { self.new ≡ record self.old { events = self.new.events } }
-        ensures torn { Follows (Torn at len) (IsImage self.old.events (opened_name self.old)) (IsImage self.new.events (opened_name self.old)) }
-        ensures others { (n : List ℕ) → n ≢ opened_name self.old → file_after n self.new.events ≡ file_after n self.old.events }
-        ensures time { (n : List ℕ) → Elapses (length self.old.events) (length self.new.events)
-            (WasImage self.old.events n) (WasImage self.new.events n) (IsImage self.new.events n) }
+        ensures opened { self.new.opened ≡ self.old.opened }
+        ensures later { self.old.calls.faults ≤ self.new.calls.faults }
+        ensures failed { (Happened self.old.events self.new.events (faulted_in (opened_name self.old) at len) × (self.new.calls ≡ failed self.old.calls))
+            ⊎ ((self.new.events ≡ self.old.events) × (self.new.calls ≡ starved self.old.calls)) }
     {
-        // without memory for the note nothing reached the file
-        let _ = self.note_fault(at, len);
+        match self.note_fault(at, len) {
+            Ok(()) => self.calls.fail(),
+            Err(_) => self.calls.starve(),
+        }
     }
 
     fn note_sync(&mut self) -> Result<(), AllocError>
@@ -165,7 +167,12 @@ impl Disk for MemoryDisk {
 
     ghost only_now = { λ d n c was. now_only d.events n c was };
 
-    fn open(&mut self, name: &str) -> Result<(), DiskFailed> {
+    fn open(&mut self, name: &str) -> Result<(), DiskFailed>
+        ensures called { IsCalled self.old.calls self.new.calls result }
+        ensures opened { OnOk result (self.new.opened ≡ Some name.now) }
+        ensures not_opened { OnErr result (self.new.opened ≡ self.old.opened) }
+        ensures events { self.new.events ≡ self.old.events }
+    {
         if self.calls.begin() {
             self.calls.fail();
             return Err(DiskFailed);
@@ -176,13 +183,17 @@ impl Disk for MemoryDisk {
                 Ok(())
             }
             Err(_) => {
-                self.calls.fail();
+                self.calls.starve();
                 Err(DiskFailed)
             }
         }
     }
 
-    fn length(&mut self) -> Result<u64, DiskFailed> {
+    fn length(&mut self) -> Result<u64, DiskFailed>
+        ensures called { IsCalled self.old.calls self.new.calls result }
+        ensures amount { IfOk result (λ len. len ≡ length (seen_of self.old (opened_name self.old))) }
+        ensures same { self.new ≡ record self.old { calls = self.new.calls } }
+    {
         if self.calls.begin() {
             self.calls.fail();
             return Err(DiskFailed);
@@ -190,13 +201,18 @@ impl Disk for MemoryDisk {
         match self.seen() {
             Ok(seen) => Ok(seen.len() as u64),
             Err(_) => {
-                self.calls.fail();
+                self.calls.starve();
                 Err(DiskFailed)
             }
         }
     }
 
-    fn read_at(&mut self, at: u64, buf: &mut [u8]) -> Result<usize, DiskFailed> {
+    fn read_at(&mut self, at: u64, buf: &mut [u8]) -> Result<usize, DiskFailed>
+        ensures called { IsCalled self.old.calls self.new.calls result }
+        ensures bound { IfOk result (λ count. count ≤ length buf.new) }
+        ensures reads { IfOk result (λ count. Fills (seen_of self.old (opened_name self.old)) at count buf.new) }
+        ensures same { self.new ≡ record self.old { calls = self.new.calls } }
+    {
         if self.calls.begin() {
             self.calls.fail();
             return Err(DiskFailed);
@@ -204,28 +220,38 @@ impl Disk for MemoryDisk {
         match self.seen() {
             Ok(seen) => Ok(copy_from(&seen, at as usize, buf)),
             Err(_) => {
-                self.calls.fail();
+                self.calls.starve();
                 Err(DiskFailed)
             }
         }
     }
 
-    fn write_at(&mut self, at: u64, bytes: &[u8]) -> Result<(), DiskFailed> {
+    fn write_at(&mut self, at: u64, bytes: &[u8]) -> Result<(), DiskFailed>
+        ensures called { IsCalled self.old.calls self.new.calls result }
+        ensures written { OnOk result (Happened self.old.events self.new.events (wrote (opened_name self.old) at bytes.now)) }
+        ensures failed { OnErr result (Happened self.old.events self.new.events (faulted_in (opened_name self.old) at (length bytes.now))
+            ⊎ ((self.new.events ≡ self.old.events) × (self.new.calls ≡ starved (counted self.old.calls)))) }
+        ensures opened { self.new.opened ≡ self.old.opened }
+    {
         if self.calls.begin() {
             self.fail_write(at, bytes.len());
-            self.calls.fail();
             return Err(DiskFailed);
         }
         match self.note_write(at, bytes) {
             Ok(()) => Ok(()),
             Err(_) => {
-                self.calls.fail();
+                self.calls.starve();
                 Err(DiskFailed)
             }
         }
     }
 
-    fn sync(&mut self) -> Result<(), DiskFailed> {
+    fn sync(&mut self) -> Result<(), DiskFailed>
+        ensures called { IsCalled self.old.calls self.new.calls result }
+        ensures synced { OnOk result (Happened self.old.events self.new.events (synced (opened_name self.old))) }
+        ensures unchanged { OnErr result (self.new.events ≡ self.old.events) }
+        ensures opened { self.new.opened ≡ self.old.opened }
+    {
         if self.calls.begin() {
             self.calls.fail();
             return Err(DiskFailed);
@@ -233,7 +259,7 @@ impl Disk for MemoryDisk {
         match self.note_sync() {
             Ok(()) => Ok(()),
             Err(_) => {
-                self.calls.fail();
+                self.calls.starve();
                 Err(DiskFailed)
             }
         }

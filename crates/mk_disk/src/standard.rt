@@ -6,7 +6,7 @@ ghost use Rattle.mk_disk.specs.Disk.{Rose};
 use crate::disk::{Disk, DiskFailed};
 use std::alloc::Global;
 use std::fs;
-use std::fs::{OpenFile, OpenOptions};
+use std::fs::{File, OpenFile, OpenOptions};
 use std::io::{self, Read, Seek, SeekFrom, Write};
 use std::marker::Model;
 use std::path::Path;
@@ -14,9 +14,10 @@ use std::rt::Files;
 
 /// The files of the operating system, of which one is open. Nothing is told of their bytes.
 ///
-/// `sync` asks the system to sync the open file, and `open` to sync its folder, so that a new file's name is kept.
+/// `open` locks the file, and fails where another opening holds it; the lock ends with this opening. `open` asks the
+/// system to sync the file's folder too, so that a new file's name is kept, and `sync` to sync its bytes and length.
 #[derive(Drop)]
-pub struct StdDisk<'a, R: Files + AllocGlobal> {
+pub struct StdDisk<'a, R: Files<File = File> + AllocGlobal> {
     rt: &'a R,
     opened: Option<Opened<R::File>>,
     faults: u64,
@@ -30,7 +31,7 @@ struct Opened<F> {
 }
 
 // seen as the name of the open file and the number of faults
-impl<'a, R: Files + AllocGlobal> Model for StdDisk<'a, R> {
+impl<'a, R: Files<File = File> + AllocGlobal> Model for StdDisk<'a, R> {
     ghost use Rattle.std.specs.Prelude.{option_map, string_bytes};
     ghost use Rattle.mk_disk.specs.Standard.{StandardState};
 
@@ -39,7 +40,7 @@ impl<'a, R: Files + AllocGlobal> Model for StdDisk<'a, R> {
     ghost view = { λ d. record { opened = option_map (λ o. string_bytes o.name) d.opened; faults = d.faults } };
 }
 
-impl<'a, R: Files + AllocGlobal> StdDisk<'a, R> {
+impl<'a, R: Files<File = File> + AllocGlobal> StdDisk<'a, R> {
     /// No file is open.
     pub fn new(rt: &'a R) -> StdDisk<'a, R>
         ensures { result ≡ record { opened = None; faults = 0 } }
@@ -62,7 +63,7 @@ impl<'a, R: Files + AllocGlobal> StdDisk<'a, R> {
     }
 }
 
-impl<'a, R: Files + AllocGlobal> Disk for StdDisk<'a, R> {
+impl<'a, R: Files<File = File> + AllocGlobal> Disk for StdDisk<'a, R> {
     ghost admits = { λ _. Unit {0} };
 
     ghost is_open = { λ d. is_some d.opened };
@@ -124,7 +125,7 @@ impl<'a, R: Files + AllocGlobal> Disk for StdDisk<'a, R> {
 
     fn sync(&mut self) -> Result<(), DiskFailed> {
         if let Some(opened) = &self.opened {
-            if opened.file.sync_all().is_ok() {
+            if opened.file.sync_data().is_ok() {
                 return Ok(());
             }
         }
@@ -132,8 +133,8 @@ impl<'a, R: Files + AllocGlobal> Disk for StdDisk<'a, R> {
     }
 }
 
-// Opens a file, an empty one where there is none, and syncs its folder.
-fn open_file<R: Files + AllocGlobal>(rt: &R, name: &str) -> io::Result<Opened<R::File>>
+// Opens and locks a file, an empty one where there is none, and syncs its folder.
+fn open_file<R: Files<File = File> + AllocGlobal>(rt: &R, name: &str) -> io::Result<Opened<R::File>>
     ensures { IfOk result (λ opened. string_bytes opened.name ≡ name.now) }
 {
     let mut how = OpenOptions::new();
@@ -141,6 +142,9 @@ fn open_file<R: Files + AllocGlobal>(rt: &R, name: &str) -> io::Result<Opened<R:
     how.write(true);
     how.create(true);
     let file = how.open(rt, name)?;
+    if file.try_lock().is_err() {
+        return Err(io::ErrorKind::WouldBlock.into());
+    }
     let folder = match Path::new(name).parent() {
         Some(folder) if folder.as_str() != "" => folder.as_str(),
         _ => ".",

@@ -4,7 +4,9 @@ pub mod Spelling
 pub mod Stages
 pub mod Heads
 pub mod Parsing
+pub mod Fronts
 pub mod Reopening
-pub mod Sealing
 pub mod Meanings
-mod Replying
+pub mod Grouping
+pub mod Held
+pub mod Replies

@@ -1,14 +1,10 @@
 -- What the bytes of a store mean, in one way.
-use Rattle.std.proofs.Common.{◌≡◌, ◌≢◌, inl, inr, ℕ, ◌+◌, List, [], ◌∷◌, ◌++◌, length, take, drop, eqb, ltb, None, refl, sym, ◌∙◌, ap, arith, length-append, append_assoc}
+use Rattle.std.proofs.Common.{◌≡◌, ◌≢◌, inl, inr, ⊎_elim, ℕ, ◌+◌, ◌<◌, List, [], ◌∷◌, ◌++◌, length, take, drop, eqb, Some, None, refl, sym, ◌∙◌, ap, arith, length-append, append_assoc}
 use Rattle.std.specs.Int.{w32, to_be_bytes}
-use Rattle.std.proofs.lemmas.Bool.{ne_eqb, eq-eqb, le-ltb, cond-true, cond-false}
+use Rattle.std.proofs.lemmas.Bool.{eq-eqb, cond-true}
 use Rattle.std.proofs.lemmas.List.{take_at, drop_at, append_cancel_left}
 use Rattle.std.proofs.lemmas.List.Elements.{All-head, All-tail}
-use Rattle.mk_journal.specs.declared.open.OpenFault.{OpenFault}
-use Rattle.mk_journal.specs.declared.open.OpenFault.TheVariants.{Disk, Foreign, Unfit, Memory}
-use Rattle.mk_journal.specs.Store.{IsLength, AreRecords, NoRecord, framed, opened, header, foreign_from, foreign, IsUnstarted, IsStarted, StandsFor, IsHonest}
-use Rattle.mk_journal.specs.Opening.{IsRefused}
-use Rattle.mk_journal.specs.Laws.{IsPlain}
+use Rattle.mk_journal.specs.Store.{IsLength, AreRecords, NoRecord, framed, opened, header, foreign_from, IsUnstarted, IsStarted, StandsFor, IsForeign, IsBroken, IsHonest}
 use Rattle.mk_journal.proofs.Spelling.{length-header}
 use Rattle.mk_journal.proofs.Parsing.{length_at}
 
@@ -49,46 +45,54 @@ holds_or_breaks (r ∷ records) (t ∷ others) g rest behind closed are there no
     let both = same_record r t _ _ (All-head is_length r records are) (All-head is_length t others there) inner in
     holds_or_breaks records others g rest behind closed (All-tail is_length r records are) (All-tail is_length t others there) none both.1
 
-own_header : (at : ℕ) (head : List ℕ) (b : ℕ) (bytes : List ℕ) → foreign_from at head (head ++ b ∷ bytes) ≡ None
-own_header at [] b bytes = refl
-own_header at (h ∷ head) b bytes = cond-true (eqb h h) _ _ (eq-eqb h h refl) ∙ own_header (at + 1) head b bytes
+own_header : (at : ℕ) (head : List ℕ) (bytes : List ℕ) → 0 < length bytes → foreign_from at head (head ++ bytes) ≡ None
+own_header at [] [] some = absurd (omega arith)
+own_header at [] (b ∷ bytes) some = refl
+own_header at (h ∷ head) bytes some = cond-true (eqb h h) _ _ (eq-eqb h h refl) ∙ own_header (at + 1) head bytes some
 
-own_records : (market : List ℕ) (records : List (List ℕ)) (g : ℕ) (rest : List ℕ) → foreign_from 1 (header market) (header market ++ (opened records ++ g ∷ rest)) ≡ None
-own_records market [] g rest = own_header 1 (header market) g rest
-own_records market (r ∷ records) g rest = own_header 1 (header market) 1 ((framed r ++ opened records) ++ g ∷ rest)
-
-started_own : (market bytes : List ℕ) → foreign_from 1 (header market) (header market ++ bytes) ≡ None → foreign market (1 ∷ (header market ++ bytes)) ≡ None
-unfolding header
-started_own market bytes none = none
+-- a file with this market's header and something behind it is not foreign
+own_file : (market file bytes : List ℕ) (at : ℕ) → file ≡ 1 ∷ (header market ++ bytes) → 0 < length bytes → IsForeign market file at → ⊥
+own_file market file bytes at is some (inl other) = other.0.closed (tails _ _ _ _ (sym other.0.file_is ∙ is)).0
+own_file market file bytes at is some (inr another) =
+    let rest : another.rest ≡ header market ++ bytes = (tails _ _ _ _ (sym another.file_is ∙ is)).1 in
+    let none : foreign_from 1 (header market) another.rest ≡ None = ap (foreign_from 1 (header market)) rest ∙ own_header 1 (header market) bytes some in
+    let both = sym another.differs ∙ none in
+    cc
 
 started_honest : (market : List ℕ) (records : List (List ℕ)) (file : List ℕ) → IsStarted market records file → IsHonest market file
 started_honest market records file s = record {
-  own = ap (foreign market) s.file_is ∙ started_own market s.rest (ap (λ (l : List ℕ). foreign_from 1 (header market) (header market ++ l)) s.holds.bytes_are ∙ own_records market records s.holds.gate s.holds.rest);
-  fit = λ number u.
-      let rests : s.rest ≡ u.rest = append_cancel_left (header market) s.rest u.rest (tails _ _ _ _ (sym s.file_is ∙ u.file_is)).1 in
-      holds_or_breaks records u.records s.holds.gate s.holds.rest u.breaks.rest s.holds.closed s.holds.are u.breaks.are u.breaks.none (sym s.holds.bytes_are ∙ rests ∙ u.breaks.bytes_are);
+  own = λ at. own_file market file s.rest at s.file_is (omega (arith, ap length s.holds.bytes_are, length-append (opened records) (s.holds.gate ∷ s.holds.rest)));
+  whole = λ others broken.
+      let rests : s.rest ≡ broken.rest = append_cancel_left (header market) s.rest broken.rest (tails _ _ _ _ (sym s.file_is ∙ broken.file_is)).1 in
+      holds_or_breaks records others s.holds.gate s.holds.rest broken.breaks.rest s.holds.closed s.holds.are broken.breaks.are broken.breaks.none (sym s.holds.bytes_are ∙ rests ∙ broken.breaks.bytes_are);
 }
 
+-- a file that begins with an open gate has its header
+open_unstarted : (market file rest : List ℕ) → IsUnstarted market file → 0 < length rest → file ≡ 1 ∷ rest → ⊥
+open_unstarted market file rest (inl short) some is = omega (arith, ap length is)
+open_unstarted market file rest (inr (inl cleared)) some is = let both = sym cleared.file_is ∙ is in cc
+open_unstarted market file rest (inr (inr written)) some is = written.closed (tails _ _ _ _ (sym written.file_is ∙ is)).0
+
 unstarted_honest : (market file : List ℕ) → IsUnstarted market file → IsHonest market file
-unstarted_honest market [] unstarted = record {
-  own = refl;
-  fit = λ number u. let none = ap length u.file_is in omega (arith, none);
-}
-unstarted_honest market (gate ∷ []) unstarted = record {
-  own = refl;
-  fit = λ number u. let size = ap length u.file_is in omega (arith, size, length-append (header market) u.rest, length-header market);
-}
-unstarted_honest market (gate ∷ second ∷ rest) unstarted = record {
-  own = cond-false (eqb gate 1) _ _ (ne_eqb gate 1 unstarted.0) ∙ cond-false (ltb (length market + 18) (length (gate ∷ second ∷ rest))) _ _ (le-ltb _ _ unstarted.1);
-  fit = λ number u. unstarted.0 (tails _ _ _ _ u.file_is).0;
+unstarted_honest market file unstarted = record {
+  own = λ at foreign. ⊎_elim (λ other. other.0.not_new unstarted) (λ another. open_unstarted market file another.rest unstarted another.some another.file_is) foreign;
+  whole = λ records broken. open_unstarted market file (header market ++ broken.rest) unstarted (omega (arith, length-append (header market) broken.rest, length-header market)) broken.file_is;
 }
 
 pub stands_honest : (market : List ℕ) (records : List (List ℕ)) (file : List ℕ) → StandsFor market records file → IsHonest market file
 stands_honest market records file (inl unstarted) = unstarted_honest market file unstarted.0
 stands_honest market records file (inr s) = started_honest market records file s
 
-pub plain : (market f : List ℕ) (fault : OpenFault) → IsHonest market f → IsRefused market f fault → IsPlain fault
-plain market f Disk honest refused = tt
-plain market f (Foreign at) honest refused = absurd (let both = sym honest.own ∙ refused in cc)
-plain market f (Unfit number) honest refused = honest.fit number refused
-plain market f Memory honest refused = tt
+-- a file is refused at one place
+pub one_place : (market f : List ℕ) (at other : ℕ) → IsForeign market f at → IsForeign market f other → at ≡ other
+one_place market f at other (inl here) (inl there) = here.1 ∙ sym there.1
+one_place market f at other (inl here) (inr there) = absurd (here.0.closed (tails _ _ _ _ (sym here.0.file_is ∙ there.file_is)).0)
+one_place market f at other (inr here) (inl there) = absurd (there.0.closed (tails _ _ _ _ (sym there.0.file_is ∙ here.file_is)).0)
+one_place market f at other (inr here) (inr there) =
+    let rests : here.rest ≡ there.rest = (tails _ _ _ _ (sym here.file_is ∙ there.file_is)).1 in
+    let both : Some at ≡ Some other = sym here.differs ∙ ap (foreign_from 1 (header market)) rests ∙ there.differs in
+    cc
+
+pub broken_own : (market f : List ℕ) (records : List (List ℕ)) (at : ℕ) → IsBroken market records f → IsForeign market f at → ⊥
+broken_own market f records at broken =
+    own_file market f broken.rest at broken.file_is (omega (arith, ap length broken.breaks.bytes_are, length-append (opened records) (1 ∷ broken.breaks.rest)))

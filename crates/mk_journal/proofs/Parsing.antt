@@ -1,13 +1,12 @@
 -- How records and headers are read.
-use Rattle.std.proofs.Common.{◌≡◌, ◌≢◌, inl, inr, ℕ, ◌+◌, ◌-◌, ◌<◌, ◌≤◌, ◌^◌, List, [], ◌∷◌, ◌++◌, length, get_or, take, drop, suc, eqb, ltb, Some, None, refl, sym, ◌∙◌, ap, subst, arith, length-append, length-drop, length-take, take-append-drop, append_assoc}
+use Rattle.std.proofs.Common.{◌≡◌, ◌≢◌, inl, inr, ℕ, ◌+◌, ◌*◌, ◌<◌, ◌≤◌, ◌^◌, List, [], ◌∷◌, ◌++◌, length, get_or, take, drop, eqb, Some, None, refl, sym, ◌∙◌, ap, subst, arith, length-append, length-drop, length-take, take-append-drop, append_assoc}
 use Rattle.std.specs.Int.{w32, to_be_bytes, from_be_bytes}
-use Rattle.std.proofs.lemmas.Bool.{cases_lt, cases_Bool, eqb-true, eq-eqb, lt-ltb, ne_eqb, cond-false, cond-true}
+use Rattle.std.proofs.lemmas.Bool.{cases_lt, cases_Bool, eqb-true, ne_eqb, cond-false, cond-true}
 use Rattle.std.proofs.lemmas.Nat.{be_bytes_4, from_be_bytes-to_be_bytes_4}
 use Rattle.std.proofs.lemmas.List.{take_at, drop_more, drop_all, length-take-le, get_or-take, get_or_past}
 use Rattle.std.proofs.lemmas.List.Elements.{All-push}
-use Rattle.mk_journal.specs.Store.{IsLength, AreRecords, NoRecord, framed, opened, header, begun, foreign_from, foreign, Holds, Breaks, IsUnstarted, IsStarted, IsUnfit}
-use Rattle.mk_journal.proofs.Spelling.{opened-push, length-header}
-use Rattle.mk_journal.proofs.Heads.{length-begun}
+use Rattle.mk_journal.specs.Store.{IsLength, AreRecords, NoRecord, framed, opened, foreign_from}
+use Rattle.mk_journal.proofs.Spelling.{opened-push}
 
 -- the bytes before a place are those of the header, and the next is missing
 pub missing : (at i : ℕ) (head bytes : List ℕ) → i < length head → length bytes ≤ i → foreign_from at (drop i head) (drop i bytes) ≡ Some at
@@ -109,48 +108,6 @@ pub are_more : (records records' : List (List ℕ)) (r : List ℕ) → AreRecord
 are_more records records' r are is_length more =
     subst AreRecords (sym more) (All-push (λ (x : List ℕ). IsLength (length x)) records r are is_length)
 
-pub unstarted_long : (market file body : List ℕ) → body ≡ begun market → 1 < length file → get_or file 0 0 ≢ 1 → length file - 1 ≤ length body → IsUnstarted market file
-unstarted_long market [] body is long closed short = absurd (omega arith)
-unstarted_long market (g ∷ []) body is long closed short = absurd (omega arith)
-unstarted_long market (g ∷ s ∷ rest) body is long closed short = (closed, omega (arith, ap length is, length-begun market))
-
-pub alien_start : (market file body : List ℕ) → body ≡ begun market → 1 < length file → get_or file 0 0 ≢ 1 → length body < length file - 1 → foreign market file ≡ Some 0
-alien_start market [] body is long closed short = absurd (omega arith)
-alien_start market (g ∷ []) body is long closed short = absurd (omega arith)
-alien_start market (g ∷ s ∷ rest) body is long closed short =
-    cond-false (eqb g 1) _ _ (ne_eqb g 1 closed) ∙ cond-true (ltb (length market + 18) (length (g ∷ s ∷ rest))) _ _ (lt-ltb _ _ (omega (arith, ap length is, length-begun market)))
-
-head_of : (market body head : List ℕ) → body ≡ begun market → head ≡ take (length body - 1) body → head ≡ header market
-head_of market body head is head_is =
-    head_is ∙ ap (λ (l : List ℕ). take (length l - 1) l) is ∙ take_at (header market) (0 ∷ []) (length (begun market) - 1) (omega (arith, length-begun market, length-header market))
-
-pub alien_at : (market file body head rest : List ℕ) (at : ℕ) → body ≡ begun market → head ≡ take (length body - 1) body → 1 < length file → get_or file 0 0 ≡ 1 → rest ≡ drop 1 file → foreign_from 1 head rest ≡ Some at → foreign market file ≡ Some at
-alien_at market [] body head rest at is head_is long gate rest_is differs = absurd (omega arith)
-alien_at market (g ∷ []) body head rest at is head_is long gate rest_is differs = absurd (omega arith)
-alien_at market (g ∷ s ∷ more) body head rest at is head_is long gate rest_is differs =
-    cond-true (eqb g 1) _ _ (eq-eqb g 1 gate) ∙ ap (λ (l : List ℕ). foreign_from 1 l (s ∷ more)) (sym (head_of market body head is head_is)) ∙ ap (foreign_from 1 head) (sym rest_is) ∙ differs
-
--- a file with this market's header
-pub headed : (market file body head rest : List ℕ) → body ≡ begun market → head ≡ take (length body - 1) body → 1 < length file → get_or file 0 0 ≡ 1 → rest ≡ drop 1 file → take (length head) rest ≡ head → file ≡ 1 ∷ (header market ++ drop (length body) file)
-headed market [] body head rest is head_is long gate rest_is same = absurd (omega arith)
-headed market (g ∷ more) body head rest is head_is long gate rest_is same =
-    let head_are = head_of market body head is head_is in
-    let place : length body ≡ suc (length head) = omega (arith, ap length is, ap length head_are, length-begun market, length-header market) in
-    (λ i. gate i ∷ sym (take-append-drop (length head) more) i)
-    ∙ ap (λ (l : List ℕ). 1 ∷ (l ++ drop (length head) more)) (ap (take (length head)) (sym rest_is) ∙ same ∙ head_are)
-    ∙ ap (λ (k : ℕ). 1 ∷ (header market ++ drop k (g ∷ more))) (sym place)
-
-pub started_with : (market file body rest : List ℕ) (records : List (List ℕ)) (at : ℕ) → body ≡ begun market → file ≡ 1 ∷ (header market ++ drop (length body) file) → rest ≡ drop (length body) file → Holds records rest × (at ≡ length (opened records)) → IsStarted market records file × (length body + at ≡ length market + 17 + length (opened records))
-started_with market file body rest records at is file_is rest_is holds = (
-  record { rest = rest; file_is = file_is ∙ ap (λ (l : List ℕ). 1 ∷ (header market ++ l)) (sym rest_is); holds = holds.0 },
-  omega (arith, holds.1, ap length is, length-begun market),
-)
-
-pub unfit_with : (market file body rest : List ℕ) (number : ℕ) → file ≡ 1 ∷ (header market ++ drop (length body) file) → rest ≡ drop (length body) file → ((records : List (List ℕ)) × Breaks records rest × (number ≡ length records + 1)) → IsUnfit market file number
-unfit_with market file body rest number file_is rest_is broken = record {
-  records = broken.0;
-  rest = rest;
-  file_is = file_is ∙ ap (λ (l : List ℕ). 1 ∷ (header market ++ l)) (sym rest_is);
-  breaks = broken.1;
-  counted = broken.2;
-}
+-- how far the records so far reach
+pub farther : (all : ℕ) (rest after r next : List ℕ) (count : ℕ) {count' : ℕ} → all ≤ length rest + 34005 * count → rest ≡ 1 ∷ after → after ≡ framed r ++ next → IsLength (length r) → count' ≡ count + 1 → all ≤ length next + 34005 * count'
+farther all rest after r next count far gate record_is is_length more = omega (arith, far, ap length gate, length_there after r next record_is, is_length.most, more)

@@ -1,7 +1,7 @@
 -- The two steps of an append, on the file's bytes.
 use Rattle.std.proofs.Common.{◌≡◌, ℕ, ◌+◌, List, [], ◌∷◌, ◌++◌, length, get_or, drop, Option, Result, Ok, Err, OnOk, sym, ◌∙◌, subst}
 use Rattle.mk_disk.specs.Disk.{Torn, overwritten}
-use Rattle.mk_journal.specs.Store.{IsLength, opened, IsStarted, staged, before_gate, IsWithOrWithout}
+use Rattle.mk_journal.specs.Store.{AreRecords, opened, IsStarted, chained, before_gate, IsWithOrWithout}
 use Rattle.mk_journal.specs.Kept.{IsKept, IsSettled, IsStaged}
 use Rattle.mk_journal.proofs.Writes.{torn_behind, torn_at, written_behind, written_at}
 use Rattle.mk_journal.proofs.Spelling.{length-before_gate, next_place, started_split, is_started, one_more, with_or_without}
@@ -36,21 +36,21 @@ module _ {file : Option (List ℕ)} {may_leave : List ℕ → Type 0} {market : 
     place = s.place;
   }
 
-  -- the file with a record behind its closed gate
-  abbrev pub behind : (r : List ℕ) → IsStaged file may_leave market records gate (staged r) → List ℕ
-  behind r s = before_gate market records ++ s.gate_byte ∷ (staged r ++ s.rest)
+  -- the file with a group behind its closed gate
+  abbrev pub behind : (r : List ℕ) (group : List (List ℕ)) → IsStaged file may_leave market records gate (chained r group) → List ℕ
+  behind r group s = before_gate market records ++ s.gate_byte ∷ (chained r group ++ s.rest)
 
-  pub torn_gate : (r : List ℕ) (s : IsStaged file may_leave market records gate (staged r)) → IsLength (length r) → (c : List ℕ) → Torn gate 1 (behind r s) c → IsWithOrWithout market records r c
-  torn_gate r s is_length c torn =
-      with_or_without market records r s.rest c (get_or c gate 0) s.are is_length
-      (torn_at (before_gate market records) s.gate_byte (staged r ++ s.rest) gate (at_gate market records gate s.place) c torn)
+  pub torn_gate : (r : List ℕ) (group : List (List ℕ)) (s : IsStaged file may_leave market records gate (chained r group)) → AreRecords (r ∷ group) → (c : List ℕ) → Torn gate 1 (behind r group s) c → IsWithOrWithout market records (r ∷ group) c
+  torn_gate r group s are c torn =
+      with_or_without market records r group s.rest c (get_or c gate 0) s.are are
+      (torn_at (before_gate market records) s.gate_byte (chained r group ++ s.rest) gate (at_gate market records gate s.place) c torn)
 
-  pub settled_then : (r : List ℕ) (s : IsStaged file may_leave market records gate (staged r)) → IsLength (length r) → {file' : Option (List ℕ)} {may_leave' : List ℕ → Type 0} → IsKept file' may_leave' (overwritten gate (1 ∷ []) (behind r s)) → IsSettled file' may_leave' market (records ++ r ∷ []) (gate + length (staged r))
-  settled_then r s is_length {file'} {may_leave'} kept =
-      let is = written_at (before_gate market records) s.gate_byte (staged r ++ s.rest) gate (at_gate market records gate s.place) 1 in
+  pub settled_then : (r : List ℕ) (group : List (List ℕ)) (s : IsStaged file may_leave market records gate (chained r group)) → AreRecords (r ∷ group) → {file' : Option (List ℕ)} {may_leave' : List ℕ → Type 0} → IsKept file' may_leave' (overwritten gate (1 ∷ []) (behind r group s)) → IsSettled file' may_leave' market (records ++ r ∷ group) (gate + length (chained r group))
+  settled_then r group s are {file'} {may_leave'} kept =
+      let is = written_at (before_gate market records) s.gate_byte (chained r group ++ s.rest) gate (at_gate market records gate s.place) 1 in
       record {
-        bytes = overwritten gate (1 ∷ []) (behind r s);
+        bytes = overwritten gate (1 ∷ []) (behind r group s);
         kept = kept;
-        started = one_more market records r s.rest (overwritten gate (1 ∷ []) (behind r s)) s.are is_length is;
-        place = next_place market records r gate s.place;
+        started = one_more market records r group s.rest (overwritten gate (1 ∷ []) (behind r group s)) s.are are is;
+        place = next_place market records r group gate s.place;
       }

@@ -1,5 +1,5 @@
 -- What is told of a file, and what of it is durable.
-use Rattle.std.specs.Prelude.{◌≡◌, ◌≢◌, ◌≤◌, ℕ, ◌+◌, List, ◌∷◌, ◌++◌, length, Option, Some}
+use Rattle.std.specs.Prelude.{◌≡◌, ◌≢◌, ℕ, ◌+◌, List, ◌∷◌, ◌++◌, length, Option, Some}
 use Rattle.mk_disk.specs.Disk.{Only}
 use Rattle.mk_journal.specs.Store.{AreRecords, opened, before_gate, begun, IsStarted}
 
@@ -24,16 +24,14 @@ pub record IsStaged (file : Option (List ℕ)) (may_leave : List ℕ → Type 0)
   pub kept : IsKept file may_leave (before_gate market records ++ gate_byte ∷ (body ++ rest))
   pub place : gate ≡ length market + 17 + length (opened records)
 
--- the file durably has a closed gate and room for no more than a header
-pub record IsClosed (file : Option (List ℕ)) (may_leave : List ℕ → Type 0) (market : List ℕ) : Type 0 where
-  pub gate : ℕ
-  pub rest : List ℕ
-  pub closed : gate ≢ 1
-  pub short : length rest ≤ length market + 17
-  pub kept : IsKept file may_leave (gate ∷ rest)
+-- the file durably is one with P
+pub record IsDurably (file : Option (List ℕ)) (may_leave : List ℕ → Type 0) (P : List ℕ → Type 0) : Type 0 where
+  pub bytes : List ℕ
+  pub kept : IsKept file may_leave bytes
+  pub is : P bytes
 
--- the file durably is a closed gate, this market's header and a closed first gate
-pub record IsHeaded (file : Option (List ℕ)) (may_leave : List ℕ → Type 0) (market : List ℕ) : Type 0 where
+-- a closed gate, this market's header and a closed first gate
+pub record IsHeaded (market file : List ℕ) : Type 0 where
   pub gate : ℕ
   pub closed : gate ≢ 1
-  pub kept : IsKept file may_leave (gate ∷ begun market)
+  pub file_is : file ≡ gate ∷ begun market

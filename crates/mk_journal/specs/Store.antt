@@ -1,5 +1,5 @@
 -- The store file: a header for one market file, and records, each behind a gate.
-use Rattle.std.specs.Prelude.{◌≡◌, ◌≢◌, ◌⊎◌, ℕ, ◌+◌, ◌<◌, ◌≤◌, List, [], ◌∷◌, ◌++◌, length, Option, Some, None, if◌then◌else◌, ◌==◌, nat_lt, All}
+use Rattle.std.specs.Prelude.{◌≡◌, ◌≢◌, ◌⊎◌, ℕ, ◌+◌, ◌<◌, ◌≤◌, List, [], ◌∷◌, ◌++◌, length, Option, Some, None, if◌then◌else◌, ◌==◌, All}
 use Rattle.std.specs.Int.{w32, w64, to_be_bytes}
 
 -- the number of bytes that a record may have
@@ -46,11 +46,22 @@ pub record Breaks (records : List (List ℕ)) (bytes : List ℕ) : Type 0 where
   pub bytes_are : bytes ≡ opened records ++ 1 ∷ rest
   pub none : NoRecord rest
 
--- a file that has no header yet
+-- the header's gate is the byte 0, and no more than a header and one byte stand behind it
+pub record IsCleared (market file : List ℕ) : Type 0 where
+  pub rest : List ℕ
+  pub file_is : file ≡ 0 ∷ rest
+  pub short : length rest ≤ length market + 17
+
+-- this market's header stands behind a closed gate, and one byte behind it
+pub record IsWritten (market file : List ℕ) : Type 0 where
+  pub gate : ℕ
+  pub last : ℕ
+  pub closed : gate ≢ 1
+  pub file_is : file ≡ gate ∷ (header market ++ last ∷ [])
+
+-- a file that has no header yet: what a crash of an opening can leave before the header's gate is open
 abbrev pub IsUnstarted : List ℕ → List ℕ → Type 0
-IsUnstarted market [] = Unit {0}
-IsUnstarted market (gate ∷ []) = Unit {0}
-IsUnstarted market (gate ∷ second ∷ rest) = (gate ≢ 1) × (length (gate ∷ second ∷ rest) ≤ length market + 18)
+IsUnstarted market file = (length file ≤ 1) ⊎ (IsCleared market file ⊎ IsWritten market file)
 
 -- a file with this market's header, which holds these records
 pub record IsStarted (market : List ℕ) (records : List (List ℕ)) (file : List ℕ) : Type 0 where
@@ -69,35 +80,44 @@ foreign_from at [] (b ∷ bytes) = None
 foreign_from at (h ∷ head) [] = Some at
 foreign_from at (h ∷ head) (b ∷ bytes) = if h == b then foreign_from (at + 1) head bytes else Some at
 
--- where a file belongs to another market, or to none
-abbrev pub foreign : List ℕ → List ℕ → Option ℕ
-foreign market [] = None
-foreign market (gate ∷ []) = None
-foreign market (gate ∷ second ∷ rest) =
-    if gate == 1
-    then foreign_from 1 (header market) (second ∷ rest)
-    else (if nat_lt (length market + 18) (length (gate ∷ second ∷ rest)) then Some 0 else None)
+-- a closed gate begins a file that is none of those without a header
+pub record IsNoStore (market file : List ℕ) : Type 0 where
+  pub gate : ℕ
+  pub rest : List ℕ
+  pub closed : gate ≢ 1
+  pub file_is : file ≡ gate ∷ rest
+  pub not_new : IsUnstarted market file → ⊥
 
--- the record of this number is the first that is bad, counting from one
-pub record IsUnfit (market file : List ℕ) (number : ℕ) : Type 0 where
-  pub records : List (List ℕ)
+-- an open gate begins a file of more bytes, and at this place this market's header ends or differs
+pub record IsOfAnother (market file : List ℕ) (at : ℕ) : Type 0 where
+  pub rest : List ℕ
+  pub some : 0 < length rest
+  pub file_is : file ≡ 1 ∷ rest
+  pub differs : foreign_from 1 (header market) rest ≡ Some at
+
+-- the file belongs to another market, or is no store, from this place on
+abbrev pub IsForeign : List ℕ → List ℕ → ℕ → Type 0
+IsForeign market file at = (IsNoStore market file × (at ≡ 0)) ⊎ IsOfAnother market file at
+
+-- a file with this market's header, which holds these records, and behind the next open gate no record
+pub record IsBroken (market : List ℕ) (records : List (List ℕ)) (file : List ℕ) : Type 0 where
   pub rest : List ℕ
   pub file_is : file ≡ 1 ∷ (header market ++ rest)
   pub breaks : Breaks records rest
-  pub counted : number ≡ length records + 1
 
--- the file is this market's, and no record in it is bad
+-- the file is this market's, and no record in it is malformed
 pub record IsHonest (market file : List ℕ) : Type 0 where
-  pub own : foreign market file ≡ None
-  pub fit : (number : ℕ) → IsUnfit market file number → ⊥
+  pub own : (at : ℕ) → IsForeign market file at → ⊥
+  pub whole : (records : List (List ℕ)) → IsBroken market records file → ⊥
 
--- the bytes of an append behind the closed gate: a record, and the next gate closed
-abbrev pub staged : List ℕ → List ℕ
-staged r = framed r ++ 0 ∷ []
+-- what an append writes behind the closed gate: the first record of a group, the others each behind an open gate, and
+-- the next gate closed
+abbrev pub chained : List ℕ → List (List ℕ) → List ℕ
+chained r group = framed r ++ (opened group ++ 0 ∷ [])
 
--- the file stands for these records, with one more or without it
-abbrev pub IsWithOrWithout : List ℕ → List (List ℕ) → List ℕ → List ℕ → Type 0
-IsWithOrWithout market records r file = IsStarted market records file ⊎ IsStarted market (records ++ r ∷ []) file
+-- the file stands for these records, with a group more or without it
+abbrev pub IsWithOrWithout : List ℕ → List (List ℕ) → List (List ℕ) → List ℕ → Type 0
+IsWithOrWithout market records group file = IsStarted market records file ⊎ IsStarted market (records ++ group) file
 
 -- the bytes before the gate that follows these records
 abbrev pub before_gate : List ℕ → List (List ℕ) → List ℕ

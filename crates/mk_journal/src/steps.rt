@@ -2,7 +2,7 @@
 
 ghost use Rattle.std.specs.Prelude.{◌≡◌, ℕ, ◌+◌, ◌-◌, ◌^◌, ◌<◌, ◌≤◌, List, [], ◌∷◌, ◌++◌, length, option_map, IsTrue, IfSome, OnOk};
 ghost use Rattle.mk_disk.specs.Disk.{HasCause, Torn, overwritten};
-ghost use Rattle.mk_journal.specs.Store.{IsLength, staged, IsStarted, IsWithOrWithout};
+ghost use Rattle.mk_journal.specs.Store.{AreRecords, chained, IsStarted, IsWithOrWithout};
 ghost use Rattle.mk_journal.specs.Kept.{IsKept, IsSettled, IsStaged};
 ghost use Rattle.mk_journal.specs.Moments.{LeavesOnly};
 
@@ -26,7 +26,7 @@ pub(crate) fn write_synced<K: Disk>(disk: &mut K, at: u64, bytes: &[u8]) -> Resu
     disk.sync()
 }
 
-/// The first step of an append: a record and the next gate, closed, behind its closed gate.
+/// The first step of an append: its bytes are written behind the closed gate, and end with the next closed one.
 pub(crate) fn write_record<K: Disk>(disk: &mut K, gate: u64, body: &[u8]) -> Result<(), DiskFailed>
     requires is_open { IsTrue (K.is_open disk.old) }
     requires place { IfSome (K.file disk.old (K.open_name disk.old)) (λ f. gate < length f) }
@@ -46,7 +46,7 @@ pub(crate) fn write_record<K: Disk>(disk: &mut K, gate: u64, body: &[u8]) -> Res
     write_synced(disk, gate + 1, body)
 }
 
-/// The second step of an append: the gate before the record is opened.
+/// The second step of an append: the gate before the group is opened, in a write of its own.
 pub(crate) fn open_gate<K: Disk>(disk: &mut K, gate: u64) -> Result<(), DiskFailed>
     requires is_open { IsTrue (K.is_open disk.old) }
     requires place { IfSome (K.file disk.old (K.open_name disk.old)) (λ f. gate < length f) }
@@ -55,19 +55,19 @@ pub(crate) fn open_gate<K: Disk>(disk: &mut K, gate: u64) -> Result<(), DiskFail
     ensures stays_name { K.open_name disk.new ≡ K.open_name disk.old }
     ensures reached { (end : ℕ) → IfSome (K.file disk.old (K.open_name disk.old)) (λ f. end < length f)
         → OnOk result (IfSome (K.file disk.new (K.open_name disk.old)) (λ f. end < length f)) }
-    ensures settled { (n market r : List ℕ) (records : List (List ℕ)) → n ≡ K.open_name disk.old → IsLength (length r)
-        → IsStaged (K.file disk.old n) (K.may_leave disk.old n) market records gate (staged r)
-        → OnOk result (IsSettled (K.file disk.new n) (K.may_leave disk.new n) market (records ++ r ∷ []) (gate + length (staged r))) }
-    ensures any_moment { (n market r : List ℕ) (records : List (List ℕ)) → n ≡ K.open_name disk.old → IsLength (length r)
-        → IsStaged (K.file disk.old n) (K.may_leave disk.old n) market records gate (staged r)
-        → LeavesOnly (K.moment disk.old) (K.moment disk.new) (K.left_since disk.old n) (K.left_since disk.new n) (IsWithOrWithout market records r) }
+    ensures settled { (n market r : List ℕ) (records group : List (List ℕ)) → n ≡ K.open_name disk.old → AreRecords (r ∷ group)
+        → IsStaged (K.file disk.old n) (K.may_leave disk.old n) market records gate (chained r group)
+        → OnOk result (IsSettled (K.file disk.new n) (K.may_leave disk.new n) market (records ++ r ∷ group) (gate + length (chained r group))) }
+    ensures any_moment { (n market r : List ℕ) (records group : List (List ℕ)) → n ≡ K.open_name disk.old → AreRecords (r ∷ group)
+        → IsStaged (K.file disk.old n) (K.may_leave disk.old n) market records gate (chained r group)
+        → LeavesOnly (K.moment disk.old) (K.moment disk.new) (K.left_since disk.old n) (K.left_since disk.new n) (IsWithOrWithout market records (r ∷ group)) }
 {
     write_synced(disk, gate, &[1])
 }
 
-/// Appends a record behind the closed gate at `gate`. At `Ok` each crash from then on leaves it; at any moment of the
-/// call a crash leaves the records from before it, with this one or without. `body` is the record's length, the record
-/// and a closed gate.
+/// Appends a group of records behind the closed gate at `gate`. At `Ok` each crash from then on leaves all of them; at any
+/// moment of the call a crash leaves the records from before it, with the whole group or without. `body` is the first
+/// record behind its length, the others each behind an open gate, and a closed gate.
 pub fn append<K: Disk>(disk: &mut K, gate: u64, body: &[u8]) -> Result<(), DiskFailed>
     requires is_open { IsTrue (K.is_open disk.old) }
     requires place { IfSome (K.file disk.old (K.open_name disk.old)) (λ f. gate < length f) }
@@ -77,12 +77,12 @@ pub fn append<K: Disk>(disk: &mut K, gate: u64, body: &[u8]) -> Result<(), DiskF
     ensures stays { K.is_open disk.new ≡ K.is_open disk.old }
     ensures stays_name { K.open_name disk.new ≡ K.open_name disk.old }
     ensures place { OnOk result (IfSome (K.file disk.new (K.open_name disk.old)) (λ f. gate + length body.now < length f)) }
-    ensures settled { (n market r : List ℕ) (records : List (List ℕ)) → n ≡ K.open_name disk.old → body.now ≡ staged r → IsLength (length r)
+    ensures settled { (n market r : List ℕ) (records group : List (List ℕ)) → n ≡ K.open_name disk.old → body.now ≡ chained r group → AreRecords (r ∷ group)
         → IsSettled (K.file disk.old n) (K.may_leave disk.old n) market records gate
-        → OnOk result (IsSettled (K.file disk.new n) (K.may_leave disk.new n) market (records ++ r ∷ []) (gate + length body.now)) }
-    ensures any_moment { (n market r : List ℕ) (records : List (List ℕ)) → n ≡ K.open_name disk.old → body.now ≡ staged r → IsLength (length r)
+        → OnOk result (IsSettled (K.file disk.new n) (K.may_leave disk.new n) market (records ++ r ∷ group) (gate + length body.now)) }
+    ensures any_moment { (n market r : List ℕ) (records group : List (List ℕ)) → n ≡ K.open_name disk.old → body.now ≡ chained r group → AreRecords (r ∷ group)
         → IsSettled (K.file disk.old n) (K.may_leave disk.old n) market records gate
-        → LeavesOnly (K.moment disk.old) (K.moment disk.new) (K.left_since disk.old n) (K.left_since disk.new n) (IsWithOrWithout market records r) }
+        → LeavesOnly (K.moment disk.old) (K.moment disk.new) (K.left_since disk.old n) (K.left_since disk.new n) (IsWithOrWithout market records (r ∷ group)) }
 {
     write_record(disk, gate, body)?;
     open_gate(disk, gate)

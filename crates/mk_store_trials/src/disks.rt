@@ -12,6 +12,8 @@ const NAME: &str = "store";
 
 const REAL_NAME: &str = "a_real_file.store";
 
+const NEXT_NAME: &str = "the_next_file.store";
+
 // Two durable bytes and a write of three from the second on, up to the call that fails.
 fn write_twice(rt: &impl Abort, disk: &mut MemoryDisk, failing: u64) {
     assert!(rt; disk.open(NAME).is_ok());
@@ -87,7 +89,8 @@ fn files_have_names(rt: HostRuntime) -> Result<(), Fail> {
     Ok(())
 }
 
-// Writes to a new file of a disk that tells nothing of its bytes, and reads by another opening.
+// Writes to a new file of a disk that tells nothing of its bytes, and reads by another opening, which is refused until
+// the first has opened the next file.
 fn expect_file<D: Disk>(rt: &impl Abort, disk: &mut D, again: &mut D)
     requires names { (n : List ℕ) → D.admits n }
     requires place { (d : D) (n : List ℕ) (at : ℕ) → IfSome (D.file d n) (λ f. at ≤ length f) }
@@ -101,6 +104,8 @@ fn expect_file<D: Disk>(rt: &impl Abort, disk: &mut D, again: &mut D)
     assert!(rt; disk.write_at(1, &[10]).is_ok());
     assert!(rt; disk.sync().is_ok());
 
+    assert!(rt; again.open(REAL_NAME).is_err());
+    assert!(rt; disk.open(NEXT_NAME).is_ok());
     assert!(rt; again.open(REAL_NAME).is_ok());
     assert!(rt; again.length() == Ok(3));
     assert!(rt; again.read_at(1, &mut buf) == Ok(2));
@@ -112,5 +117,6 @@ fn expect_file<D: Disk>(rt: &impl Abort, disk: &mut D, again: &mut D)
 fn a_real_file(rt: HostRuntime) -> Result<(), Fail> {
     expect_file(&rt, &mut StdDisk::new(&rt), &mut StdDisk::new(&rt));
     fs::remove_file(&rt, REAL_NAME)?;
+    fs::remove_file(&rt, NEXT_NAME)?;
     Ok(())
 }

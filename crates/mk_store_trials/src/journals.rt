@@ -1,10 +1,10 @@
-//! Crashes after each call of the disk, twice.
+//! Crashes after each call of the disk, twice, and files that are no store.
 
-ghost use Rattle.std.specs.Prelude.{ℕ, ◌≡◌, List};
+ghost use Rattle.std.specs.Prelude.{ℕ, ◌≡◌, ◌<◌, List, length, IsTrue, IfSome};
 
 use mk_disk::{Choice, Disk, MemoryDisk};
 use mk_io::MemorySink;
-use mk_journal::{Found, Kept, OpenFault, Steps, open_store, serve};
+use mk_journal::{End, Found, Group, Line, OpenFault, Steps, Store, header_of, open_store, tell};
 use std::alloc::{AllocError, Global};
 use std::process::Abort;
 use std::test::Fail;
@@ -15,14 +15,12 @@ const NAME: &str = "store";
 
 const CHOICES: [Choice; 3] = [Choice::Old, Choice::New, Choice::Noise];
 
-// One to open the file, three to load it, six for a header, four for each of two changes.
-const FIRST_CALLS: u64 = 18;
-
 // A market that accepts each command but 0, as a record of three bytes.
 #[derive(Drop)]
 struct Log {
     alloc: Global,
     records: Vec<Vec<u8>>,
+    took: u64,
 }
 
 impl Steps for Log {
@@ -32,7 +30,10 @@ impl Steps for Log {
 
     ghost accepted = { λ log. contents log.records.items };
 
+    ghost took = { λ log. log.took };
+
     fn step(&mut self, command: &u8, room: &mut [u8]) -> Option<usize> {
+        self.took += 1;
         if *command == 0 {
             return None;
         }
@@ -47,42 +48,81 @@ impl Steps for Log {
     }
 }
 
-// Opens the store and serves two changes, until a call of the disk fails; gives how many were acknowledged.
-fn run<D: Disk>(rt: &impl Abort, alloc: Global, disk: &mut D) -> Result<u64, AllocError>
-    requires { (n : List ℕ) → D.admits n }
-{
-    if disk.open(NAME).is_err() {
-        return Ok(0);
-    }
-    let Ok(found) = open_store(alloc, disk, MARKET) else {
-        return Ok(0);
-    };
-    let Found { records, gate } = found;
-    assert!(rt; gate < 1000);
-    let mut kept = Kept::new(alloc, Log { alloc, records }, gate)?;
-    let mut out = MemorySink::new(vec![in alloc; 0; 8]?, 4, Vec::new(alloc));
-    let commands = [1, 0, 2];
-    Ok(serve(&mut kept, disk, &mut out, &commands, b"ok"))
+// A run of two changes: whether the second command is there already, and how many calls of the disk the run makes.
+#[derive(Clone, Copy)]
+struct Plan {
+    together: bool,
+    calls: u64,
 }
 
 // Opens the store; none where a call of the disk fails.
 fn reopened<D: Disk>(alloc: Global, disk: &mut D) -> Option<Found>
     requires { (n : List ℕ) → D.admits n }
 {
+    let header = header_of(alloc, MARKET).ok()?;
     if disk.open(NAME).is_err() {
         return None;
     }
-    open_store(alloc, disk, MARKET).ok()
+    open_store(alloc, disk, &header).ok()
 }
 
-// Why the store is not that of a market.
-fn refusal<D: Disk>(alloc: Global, disk: &mut D, market: &[u8]) -> Option<OpenFault>
+// Tells changes over a store that has its closed gate at `gate`, until a call of the disk fails.
+fn tell_lines<D: Disk>(
+    alloc: Global,
+    disk: &mut D,
+    records: Vec<Vec<u8>>,
+    gate: u64,
+    lines: &[Line<u8>],
+) -> Result<u64, AllocError>
+    requires few { length lines.now < 1000 }
+    requires is_open { IsTrue (D.is_open disk.old) }
+    requires place { IfSome (D.file disk.old (D.open_name disk.old)) (λ f. gate < length f) }
+    requires near { gate < 1000 }
+{
+    let mut store = Store::new(gate, Group::start(alloc)?);
+    let mut log = Log {
+        alloc,
+        records,
+        took: 0,
+    };
+    let mut room = vec![in alloc; 0; 34000]?;
+    let mut out = MemorySink::new(vec![in alloc; 0; 8]?, 4, Vec::new(alloc));
+    let told = tell(
+        &mut log, &mut store, disk, &mut out, lines, &mut room, b"ok",
+    );
+    Ok(told)
+}
+
+// A change, a command that is not accepted, and a change; each, or the last alone, has none behind it yet.
+fn lines_of(together: bool) -> [Line<u8>; 3] {
+    [1, 0, 2].map(|command| Line {
+        command,
+        more: together && command != 2,
+    })
+}
+
+// Opens the store and tells two changes, until a call of the disk fails; gives how many were told.
+fn run<D: Disk>(
+    rt: &impl Abort,
+    alloc: Global,
+    disk: &mut D,
+    together: bool,
+) -> Result<u64, AllocError>
     requires { (n : List ℕ) → D.admits n }
 {
+    let header = header_of(alloc, MARKET)?;
     if disk.open(NAME).is_err() {
-        return None;
+        return Ok(0);
     }
-    open_store(alloc, disk, market).err()
+    let Ok(found) = open_store(alloc, disk, &header) else {
+        return Ok(0);
+    };
+    let Found { records, end } = found;
+    let End::Gate(gate) = end else {
+        return Ok(0);
+    };
+    assert!(rt; gate < 1000);
+    tell_lines(alloc, disk, records, gate, &lines_of(together))
 }
 
 // Opens the store, again where a call failed.
@@ -95,50 +135,53 @@ fn opened_at_last<D: Disk>(alloc: Global, disk: &mut D) -> Option<Found>
     }
 }
 
-// The store holds the first of the two changes, at least so many.
-fn expect_front(rt: &impl Abort, found: &Found, least: u64) {
+// The store holds the first of the two changes, at least so many, and both or none where they were kept together.
+fn expect_front(rt: &impl Abort, found: &Found, least: u64, together: bool) {
     let expected: [[u8; 3]; 2] = [[1, 10, 1], [2, 10, 2]];
+    assert!(rt; matches!(found.end, End::Gate(_)));
     assert!(rt; found.records.len() <= 2);
     assert!(rt; found.records.len() as u64 >= least);
+    assert!(rt; !together || found.records.len() != 1);
     for (record, bytes) in found.records.iter().zip(expected.iter()) {
         assert!(rt; record.as_slice() == bytes.as_slice());
     }
 }
 
-// The store is opened at last, and holds what was acknowledged.
+// The store is opened at last, and holds what was told.
 fn expect_opened(
     rt: &impl Abort,
     alloc: Global,
     disk: &mut MemoryDisk,
-    acknowledged: Result<u64, AllocError>,
+    told: Result<u64, AllocError>,
+    together: bool,
 ) -> Result<(), AllocError> {
-    let acknowledged = acknowledged?;
+    let told = told?;
     let found = opened_at_last(alloc, disk);
     assert!(rt; found.is_some());
     if let Some(found) = &found {
-        expect_front(rt, found, acknowledged);
+        expect_front(rt, found, told, together);
     }
     drop(found);
     Ok(())
 }
 
-// A run stops at the first of the failing calls and crashes; the next opening stops at the second and crashes again; then
-// the store is opened. Says whether the opening before ended.
+// A run stops at the first of the failing calls, after so many, and crashes; the next opening stops at the second and
+// crashes again; then the store is opened. Says whether the opening before ended.
 fn crash_pair(
     rt: &impl Abort,
     alloc: Global,
     failing: [u64; 2],
-    calls: u64,
+    plan: Plan,
     left: Choice,
     again: Choice,
 ) -> Result<bool, AllocError> {
     let mut disk = MemoryDisk::new(alloc, failing.to_vec(alloc)?);
-    let acknowledged = run(rt, alloc, &mut disk);
-    assert!(rt; disk.calls() == calls);
+    let told = run(rt, alloc, &mut disk, plan.together);
+    assert!(rt; disk.calls() == plan.calls);
     let mut disk = disk.crash(left)?;
     let ended = reopened(alloc, &mut disk).is_some();
     let mut disk = disk.crash(again)?;
-    let opened = expect_opened(rt, alloc, &mut disk, acknowledged);
+    let opened = expect_opened(rt, alloc, &mut disk, told, plan.together);
     drop(disk);
     opened?;
     Ok(ended)
@@ -150,19 +193,25 @@ fn crash_twice(
     rt: &impl Abort,
     alloc: Global,
     first: u64,
+    plan: Plan,
     left: Choice,
 ) -> Result<u64, AllocError> {
     let mut images = 0u64;
     // a call of number 0 is never made
-    let (stop, calls) = if first > FIRST_CALLS {
-        (0, FIRST_CALLS)
+    let (stop, calls) = if first > plan.calls {
+        (0, plan.calls)
     } else {
         (first, first)
     };
     for second in 1..=11 {
         let mut ended = false;
         for again in CHOICES {
-            ended = crash_pair(rt, alloc, [stop, calls + second], calls, left, again)?;
+            let stopped = Plan {
+                together: plan.together,
+                calls,
+            };
+            let failing = [stop, calls.saturating_add(second)];
+            ended = crash_pair(rt, alloc, failing, stopped, left, again)?;
             images = images.saturating_add(1);
         }
         if ended {
@@ -172,42 +221,158 @@ fn crash_twice(
     Ok(images)
 }
 
-// The first run is stopped at each of its 18 calls, and at none, and crashes by 3 choices: 57 images. Of these 21 have
-// at most one byte (all of calls 1 to 6, two of call 7 and one of call 8), and an opening then makes 10 calls; 6 have a
-// closed gate and more (one of call 7, two each of 8 and 9, one of 10), 8 calls; 30 have a header, 4 calls. Each opening
-// is stopped at each of its calls, and at none, and crashes by 3 choices: 3 * (21 * 11 + 6 * 9 + 30 * 5).
-#[test]
-fn each_crash_leaves_every_acknowledged_change(rt: HostRuntime) -> Result<(), Fail> {
+// Stops a run at each of its calls, and at none, and crashes by each choice. Gives how many images were opened.
+fn crash_everywhere(rt: &impl Abort, alloc: Global, plan: Plan) -> Result<u64, AllocError> {
     let mut images = 0u64;
-    for first in 1..=FIRST_CALLS + 1 {
+    for first in 1..=plan.calls.saturating_add(1) {
         for left in CHOICES {
-            images = images.saturating_add(crash_twice(&rt, rt.alloc(), first, left)?);
+            images = images.saturating_add(crash_twice(rt, alloc, first, plan, left)?);
         }
     }
-    assert_eq!(rt; images, 1305);
+    Ok(images)
+}
+
+// One call opens the file, three load its front, six write a header, and four each of two changes: 18. The first run is
+// stopped at each of them, and at none, and crashes by 3 choices: 57 images. Of these 21 have at most one byte (all of
+// calls 1 to 6, two of call 7 and one of call 8), and an opening then makes 10 calls; 6 have a closed gate and more (one
+// of call 7, two each of 8 and 9, one of 10), 8 calls; 30 have a header, 5 calls. Each opening is stopped at each of its
+// calls, and at none, and crashes by 3 choices: 3 * (21 * 11 + 6 * 9 + 30 * 6).
+#[test]
+fn each_crash_leaves_every_told_change(rt: HostRuntime) -> Result<(), Fail> {
+    let plan = Plan {
+        together: false,
+        calls: 18,
+    };
+    let images = crash_everywhere(&rt, rt.alloc(), plan)?;
+    assert_eq!(rt; images, 1395);
     Ok(())
 }
 
-// The store of a run is refused to other markets.
-fn expect_refusals(
+// Both changes are kept by four calls: 14 calls and 45 images, of which 18 have a header.
+#[test]
+fn each_crash_leaves_a_group_or_none_of_it(rt: HostRuntime) -> Result<(), Fail> {
+    let plan = Plan {
+        together: true,
+        calls: 14,
+    };
+    let images = crash_everywhere(&rt, rt.alloc(), plan)?;
+    assert_eq!(rt; images, 1179);
+    Ok(())
+}
+
+// A file of a gate, so many bytes of the market's header, and a tail.
+fn file_of(alloc: Global, gate: u8, header: usize, tail: &[u8]) -> Result<Vec<u8>, AllocError> {
+    let start = header_of(alloc, MARKET)?;
+    let mut file = vec![in alloc; gate]?;
+    file.extend_from_slice(&start[..header.min(start.len())])?;
+    file.extend_from_slice(tail)?;
+    Ok(file)
+}
+
+// What an opening makes of a durable file, and what the file is then.
+fn opening_of(
     rt: &impl Abort,
     alloc: Global,
-    disk: &mut MemoryDisk,
-) -> Result<(), AllocError> {
-    let acknowledged = run(rt, alloc, disk)?;
-    assert!(rt; acknowledged == 2);
-    let longer = refusal(alloc, disk, b"coins");
-    assert!(rt; longer == Some(OpenFault::Foreign { at: 16 }));
-    let other = refusal(alloc, disk, b"corn");
-    assert!(rt; other == Some(OpenFault::Foreign { at: 19 }));
+    file: &[u8],
+    header: &[u8],
+) -> Result<(Result<Found, OpenFault>, Vec<u8>), AllocError>
+    requires some { 0 < length file.now }
+    requires header { 0 < length header.now }
+{
+    let mut disk = MemoryDisk::new(alloc, Vec::new(alloc));
+    assert!(rt; disk.open(NAME).is_ok());
+    assert!(rt; disk.write_at(0, file).is_ok());
+    let found = open_store(alloc, &mut disk, header);
+    let left = disk.bytes(NAME);
+    drop(disk);
+    Ok((found, left?))
+}
+
+// A file is foreign from a place on, and left as it is, or else holds no record.
+fn expect_kind(
+    rt: &impl Abort,
+    alloc: Global,
+    file: &[u8],
+    foreign: Option<u64>,
+) -> Result<(), AllocError>
+    requires { 0 < length file.now }
+{
+    let header = header_of(alloc, MARKET)?;
+    let (found, left) = opening_of(rt, alloc, file, &header)?;
+    match (&found, foreign) {
+        (Ok(found), None) => {
+            assert!(rt; found.records.is_empty() && found.end == End::Gate(21));
+        }
+        (Err(fault), Some(at)) => {
+            assert!(rt; *fault == OpenFault::Foreign { at });
+            assert!(rt; left.as_slice() == file);
+        }
+        _ => panic!(rt; "another answer"),
+    }
+    drop(found);
+    drop(left);
     Ok(())
 }
 
 #[test]
-fn a_store_of_another_market_is_refused(rt: HostRuntime) -> Result<(), Fail> {
-    let alloc = rt.alloc();
-    let mut disk = MemoryDisk::new(alloc, Vec::new(alloc));
-    let refused = expect_refusals(&rt, alloc, &mut disk);
-    drop(disk);
-    Ok(refused?)
+fn a_file_of_somebody_else_is_left_as_it_is(rt: HostRuntime) -> Result<(), Fail> {
+    // the header has 20 bytes
+    let cases: [(u8, usize, &[u8], Option<u64>); 17] = [
+        (b'h', 0, b"i", Some(0)),
+        (b'c', 0, b"oin", Some(0)),
+        (7, 0, b"", None),
+        (7, 20, &[0], None),
+        (7, 20, &[9], None),
+        (7, 19, b"x\0", Some(0)),
+        (7, 20, b"", Some(0)),
+        (7, 20, &[0, 0], Some(0)),
+        (0, 0, b"hello", None),
+        (0, 20, b"", None),
+        (0, 19, b"x\0", None),
+        (0, 20, &[0, 0], Some(0)),
+        (1, 0, b"", None),
+        (1, 0, b"hi", Some(1)),
+        (1, 19, b"x\0", Some(20)),
+        (1, 20, b"", Some(21)),
+        (1, 20, &[9, 1, 1], None),
+    ];
+    for (gate, header, tail, foreign) in cases {
+        let file = file_of(rt.alloc(), gate, header, tail)?;
+        assert!(rt; !file.is_empty());
+        expect_kind(&rt, rt.alloc(), &file, foreign)?;
+    }
+    Ok(())
+}
+
+// A good record stands before a malformed one, and is found.
+fn expect_malformed(rt: &impl Abort, alloc: Global, tail: &[u8]) -> Result<(), AllocError> {
+    let mut file = file_of(alloc, 1, 20, &[1, 0, 0, 0, 1, 5])?;
+    file.extend_from_slice(tail)?;
+    assert!(rt; !file.is_empty());
+    let header = header_of(alloc, MARKET)?;
+    let (found, left) = opening_of(rt, alloc, &file, &header)?;
+    assert!(rt; left.as_slice() == file.as_slice());
+    let Ok(found) = &found else {
+        panic!(rt; "refused");
+    };
+    assert!(rt; found.end == End::Malformed && found.records.len() == 1);
+    for record in &found.records {
+        assert!(rt; record.as_slice() == [5].as_slice());
+    }
+    Ok(())
+}
+
+#[test]
+fn the_records_before_a_malformed_one_are_found(rt: HostRuntime) -> Result<(), Fail> {
+    // no length; no bytes, too many of them, and a record without the next gate
+    let tails: [&[u8]; 4] = [
+        &[1],
+        &[1, 0, 0, 0, 0, 0],
+        &[1, 0, 0, 0x84, 0xD1, 0],
+        &[1, 0, 0, 0, 1, 5],
+    ];
+    for tail in tails {
+        expect_malformed(&rt, rt.alloc(), tail)?;
+    }
+    Ok(())
 }

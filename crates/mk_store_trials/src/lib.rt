@@ -5,6 +5,8 @@
 #[cfg(test)]
 mod disks;
 #[cfg(test)]
+mod headers;
+#[cfg(test)]
 mod journals;
 #[cfg(test)]
 mod lines;

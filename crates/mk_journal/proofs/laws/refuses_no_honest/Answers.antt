@@ -1,5 +1,4 @@
-use Rattle.mk_journal.proofs.Meanings.{plain}
 use Rattle.mk_journal.proofs.laws.refuses_no_honest.Goals as goal
 
 pub returns : goal.returns
-returns c = plain
+returns c = record { refusal = λ market f at honest. honest.own at; malformed = λ market f records honest. honest.whole records }

@@ -1,7 +1,7 @@
-use Rattle.std.proofs.Common.{◌≡◌, [], ◌∷◌, ◌++◌, ◌∙◌, ap, rules}
+use Rattle.std.proofs.Common.{◌≡◌, [], ◌∷◌, ◌++◌, ◌∙◌, ap, length, length-append, rules}
 use Rattle.std.proofs.lemmas.List.{map_push}
 use Rattle.mk_journal.specs.Opening.{contents}
-use Rattle.mk_journal.proofs.Parsing.{pushed, are_more}
+use Rattle.mk_journal.proofs.Parsing.{pushed, are_more, farther}
 use Rattle.mk_journal.proofs.read.read_records.Goals as goal
 
 pub loop-after-preserved : goal.loop-after-preserved
@@ -14,5 +14,6 @@ loop-after-preserved c =
     record {
       bytes_are = pushed _ _ _ _ _ _ _ c.loop-after.invariant.bytes_are c.in-Some.ensures found.2 more;
       are = are_more _ _ _ c.loop-after.invariant.are found.0 more;
-      some = found.1;
+      far = farther _ _ _ _ _ _ c.loop-after.invariant.far c.in-Some.ensures found.2 found.0 (ap length c.in_ok-push.ensures.items ∙ length-append c.loop-after.records.items (v ∷ []));
+      some = λ _. found.1;
     }

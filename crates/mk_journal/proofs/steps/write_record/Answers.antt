@@ -1,5 +1,5 @@
 use Rattle.std.proofs.Common.{length}
-use Rattle.mk_journal.proofs.Lasting.{weaken}
+use Rattle.mk_journal.specs.inner.MomentLaws.{weaken}
 use Rattle.mk_journal.proofs.Stages.{ok_map, split, settled_kept, torn_started, staged_then}
 use Rattle.mk_journal.proofs.steps.write_record.Goals as goal
 

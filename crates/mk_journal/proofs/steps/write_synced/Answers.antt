@@ -1,7 +1,8 @@
 use Rattle.std.proofs.Common.{length, sym, subst}
 use Rattle.mk_disk.specs.Disk.{Torn}
 use Rattle.mk_disk.specs.inner.MemoryLaws.{torn_same}
-use Rattle.mk_journal.proofs.Lasting.{started, goes_on, torn_from}
+use Rattle.mk_journal.specs.inner.MomentLaws.{started}
+use Rattle.mk_journal.proofs.Lasting.{goes_on, torn_from}
 use Rattle.mk_journal.proofs.steps.write_synced.Goals as goal
 
 pub returns-in_err-write_at-clause-any_moment : goal.returns-in_err-write_at-clause-any_moment

@@ -1,0 +1,4 @@
+-- What only proofs and private contracts cite.
+pub mod MomentLaws
+pub mod HeldLaws
+pub mod Reading
