@@ -1,5 +1,5 @@
 -- The bounds of a question in a market in use.
-use Rattle.std.proofs.Common.{◌≡◌, ℕ, ◌+◌, ◌^◌, ◌<◌, ◌≤◌, max, Bool, List, length, slice_index, Option, Some, None, IsSome, IsSomeAnd, not, refl, sym, ap, subst, ◌∙◌, arith}
+use Rattle.std.proofs.Common.{◌≡◌, ℕ, ◌+◌, ◌^◌, ◌<◌, ◌≤◌, max, Bool, false, List, length, slice_index, Option, Some, None, IsSome, IsSomeAnd, not, refl, sym, ap, subst, ◌∙◌, arith}
 use Rattle.std.specs.Prelude.{◌&&◌}
 use Rattle.std.proofs.lemmas.List.Filters.{sum_by-filter_both}
 use Rattle.mk_net.specs.declared.words.Pair.{Pair}
@@ -14,9 +14,7 @@ use Rattle.mk_exact.specs.InitialWeight.{all_states}
 use Rattle.mk_exact.specs.Limits.{Side}
 use Rattle.mk_exact.specs.Prices.{price_where}
 use Rattle.mk_exact.specs.Sides.{IsSide, AreSides}
-use Rattle.mk_exact.specs.Weight.{weight, total, is_possible, IsSmall}
-use Rattle.mk_exact.specs.Existing.{HasSides}
-use Rattle.mk_exact.proofs.ExistMarkets.{sides_exist}
+use Rattle.mk_exact.specs.Weight.{weight, total, is_possible, cannot_come, IsSmall}
 use Rattle.mk_exact.proofs.Positive.{few_values_at}
 use Rattle.mk_cell.specs.Least.{least}
 use Rattle.mk_tree.specs.Given.{GivenTree}
@@ -38,6 +36,7 @@ use Rattle.mk_assets.specs.Holdings.{IsLeastFactor}
 use Rattle.mk_answers.specs.Open.{IsOpen, CanBeAnswered, AreBoundsFor, IsFactorFor, holding_of}
 use Rattle.mk_answers.specs.inner.Found.{IsBeliefIn, IsFoundOf, IsPartFor, IsWholeFor, max_side_grade}
 use Rattle.mk_answers.proofs.Least.{present_is, some_least, factor_for}
+use Rattle.mk_answers.proofs.Presence.{least_where}
 
 -- ---- the whole of two sides
 
@@ -119,12 +118,12 @@ module _ (network : List Variable) (H : List Entry) (u : ℕ) (asked : Asked) (t
 -- ---- a user's least factors on both sides
 
 module _ (network : List Variable) (tree : GivenTree) (H : List Entry) (u : ℕ) (is_open : IsOpen network tree H) (asked : Asked) where
-  hit_gain : (event : List Pair) → event ≡ pairs_asked asked → (g : ℕ) → least_gain network H u (with_target asked) ≡ Some g
+  pub hit_gain : (event : List Pair) → event ≡ pairs_asked asked → (g : ℕ) → least_gain network H u (with_target asked) ≡ Some g
       → (exact_belief least (gains_of network tree H u) event ≡ g) × (1 ≤ exact_belief least (gains_of network tree H u) event)
   hit_gain event e g is =
       present_is (exact_belief least (gains_of network tree H u) event) g
       (ap (λ (ps : List Pair). if_present (exact_belief least (gains_of network tree H u) ps)) e
-      ∙ sym (belief_is_least network tree H u is_open.proper (pairs_asked asked)) ∙ target_is_least network H u asked ∙ is)
+      ∙ sym (belief_is_least network tree H u is_open.legal is_open.proper (pairs_asked asked)) ∙ target_is_least network H u asked ∙ is)
 
   module _ (answered : CanBeAnswered network tree H asked) where
     miss_gain : (values : ℕ) → values ≡ slice_index (sizes network) asked.target.variable → (g : ℕ) → least_gain network H u (without_target asked) ≡ Some g
@@ -132,23 +131,14 @@ module _ (network : List Variable) (tree : GivenTree) (H : List Entry) (u : ℕ)
     miss_gain values sized g is =
         present_is (exact_others least (gains_of network tree H u) asked values) g
         (ap (λ n. if_present (exact_others least (gains_of network tree H u) asked n)) sized
-        ∙ sym (others_are_least network tree H u is_open.proper asked answered.can_ask.in_range) ∙ is)
-
-    has_sides : HasSides network H u asked
-    has_sides = sides_exist network H u asked is_open.legal is_open.proper is_open.sound answered.can_ask
-
-    -- both sides weigh something
-    pub miss_some : 1 ≤ total network H (without_target asked)
-    miss_some =
-        let has = has_sides in let parts = side_parts network H u asked (without_target asked) has.miss has.sides.miss_side in
-        subst (λ (s : Side). 1 ≤ s.price.num) (parts.2) has.miss_open.price.positive
+        ∙ sym (others_are_least network tree H u is_open.legal is_open.proper asked answered.in_order.in_range) ∙ is)
 
     module _ (event : List Pair) (its_pairs : event ≡ pairs_asked asked) (most : ℕ) (result : Option Factor)
         (least_is : IsLeastFactor (holding_of network tree H u) (exact_belief least (gains_of network tree H u) event) most result) where
-      pub some_hit : IsSome result
-      some_hit =
-          let has = has_sides in let parts = side_parts network H u asked (with_target asked) has.hit has.sides.hit_side in
-          some_least (holding_of network tree H u) (exact_belief least (gains_of network tree H u) event) most result least_is (hit_gain event its_pairs (parts.0) (parts.1)).1
+      pub some_hit : cannot_come network H (with_target asked) ≡ false → IsSome result
+      some_hit comes =
+          let found = least_where network H (with_target asked) u comes in
+          some_least (holding_of network tree H u) (exact_belief least (gains_of network tree H u) event) most result least_is (hit_gain event its_pairs (found.0) (found.1)).1
 
       pub hit_for : (f : Factor) → result ≡ Some f → most ≤ length (gains_of network tree H u).factors + max_grade + max_values
           → (g : ℕ) → least_gain network H u (with_target asked) ≡ Some g → IsFactorFor f (IsSmall network H) (factor_with H u g)
@@ -156,10 +146,10 @@ module _ (network : List Variable) (tree : GivenTree) (H : List Entry) (u : ℕ)
 
     module _ (values : ℕ) (sized : values ≡ slice_index (sizes network) asked.target.variable) (most : ℕ) (result : Option Factor)
         (least_is : IsLeastFactor (holding_of network tree H u) (exact_others least (gains_of network tree H u) asked values) most result) where
-      pub some_miss : IsSome result
-      some_miss =
-          let has = has_sides in let parts = side_parts network H u asked (without_target asked) has.miss has.sides.miss_side in
-          some_least (holding_of network tree H u) (exact_others least (gains_of network tree H u) asked values) most result least_is (miss_gain values sized (parts.0) (parts.1)).1
+      pub some_miss : cannot_come network H (without_target asked) ≡ false → IsSome result
+      some_miss comes =
+          let found = least_where network H (without_target asked) u comes in
+          some_least (holding_of network tree H u) (exact_others least (gains_of network tree H u) asked values) most result least_is (miss_gain values sized (found.0) (found.1)).1
 
       pub miss_for : (f : Factor) → result ≡ Some f → most ≤ length (gains_of network tree H u).factors + max_grade + max_values
           → (g : ℕ) → least_gain network H u (without_target asked) ≡ Some g → IsFactorFor f (IsSmall network H) (factor_with H u g)
@@ -171,9 +161,9 @@ module _ (network : List Variable) (tree : GivenTree) (H : List Entry) (u : ℕ)
     can_ask stands_for engine m values stands of_network of_tree room sized = record {
       meaning = m;
       stands = stands;
-      question = rw of_network answered.can_ask.in_range;
+      question = rw of_network answered.in_order.in_range;
       sized = rw of_network sized;
-      few = omega (arith, sized, few_values_at network is_open.legal asked.target.variable answered.can_ask.in_range.target.variable);
+      few = omega (arith, sized, few_values_at network is_open.legal asked.target.variable answered.in_order.in_range.target.variable);
       home = rw of_tree answered.home;
       room = room;
     }

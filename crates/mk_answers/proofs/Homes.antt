@@ -1,5 +1,6 @@
 -- An event has a home where a longer one has.
-use Rattle.std.proofs.Common.{◌≡◌, ℕ, ◌+◌, ◌≤◌, Bool, true, false, cond, not, ◌&&◌, ltb, List, [], ◌∷◌, length, Some, None, refl, sym, ap, ◌∙◌, arith}
+use Rattle.std.proofs.Common.{◌≡◌, ℕ, ◌+◌, ◌≤◌, Bool, true, false, cond, not, ◌&&◌, ltb, List, [], ◌∷◌, length, take, drop, Some, None, refl, sym, ap, ◌∙◌, arith}
+use Rattle.std.proofs.lemmas.List.{take-append-drop}
 use Rattle.std.specs.Prelude.{option_map, position, is_some}
 use Rattle.std.specs.List.{position_or_len}
 use Rattle.std.proofs.lemmas.Bool.{ltb-true, lt-ltb}
@@ -54,3 +55,13 @@ home_of_nothing t event e some = ap (λ (ps : List Pair). is_some (home t ps)) e
     at : (cliques : List VarSet) → 1 ≤ length cliques → is_some (option_map (λ (n : ℕ). n + 1) (position (holds_event []) cliques)) ≡ true
     at [] l = absurd (omega arith)
     at (c ∷ cs) l = found_there (ltb 0 (length (c ∷ cs))) 0 ∙ lt-ltb 0 (length (c ∷ cs)) l
+
+-- so does its front
+pub home_of_front : (t : GivenTree) (n : ℕ) (ps event : List Pair) → event ≡ take n ps → is_some (home t ps) ≡ true → is_some (home t event) ≡ true
+home_of_front t n ps event e h =
+    ap (λ (qs : List Pair). is_some (home t qs)) e ∙ found_weaker (holds_event ps) (holds_event (take n ps)) weaker t.cliques h
+  where
+    weaker : (set : VarSet) → holds_event ps set ≡ true → holds_event (take n ps) set ≡ true
+    weaker set k =
+        first_of_two (holds_event (take n ps) set) _ (sym (list_all-append (λ (p : Pair). is_member set p.variable) (take n ps) (drop n ps))
+        ∙ ap (λ (qs : List Pair). holds_event qs set) (take-append-drop n ps) ∙ k)

@@ -1,11 +1,15 @@
 -- The least factors of a user's assets in a market in use.
-use Rattle.std.proofs.Common.{◌≡◌, ℕ, zero, suc, ℤ, pos, negsuc, ◌+◌, ◌*◌, ◌^◌, ◌<◌, ◌≤◌, ◌↔◌, true, false, List, [], length, Option, Some, None, IsSome, refl, sym, subst, ◌∙◌, arith}
+use Rattle.std.proofs.Common.{◌≡◌, ℕ, zero, suc, ℤ, pos, negsuc, ◌+◌, ◌*◌, ◌^◌, ◌<◌, ◌≤◌, ◌↔◌, true, false, cond, List, [], ◌∷◌, ◌++◌, map, length, Option, Some, None, IsSome, refl, sym, ap, subst, ◌∙◌, arith}
 use Rattle.std.specs.Prelude.{is_some}
+use Rattle.std.specs.List.{count_by}
 use Rattle.std.proofs.lemmas.List.{length-map}
+use Rattle.std.proofs.lemmas.List.Sums.{sum_by-cons}
+use Rattle.std.proofs.Common.{length-append}
 use Rattle.std.proofs.Math.Nat.{mul-le-mul}
 use Rattle.mk_net.specs.declared.words.Pair.{Pair}
 use Rattle.mk_net.specs.Bounds.{max_points_per_bit, max_values}
 use Rattle.mk_net.specs.Network.{Variable}
+use Rattle.mk_net.specs.Zeros.{with_zeros}
 use Rattle.mk_exact.specs.Events.{always}
 use Rattle.mk_exact.specs.Factors.{factor_with, least_gain, trade_count}
 use Rattle.mk_exact.specs.History.{Entry, UserTrade, deposited, withdrawn, trades_of}
@@ -16,7 +20,7 @@ use Rattle.mk_tree.specs.Given.{GivenTree}
 use Rattle.mk_enclose.specs.declared.factor.Factor.{Factor}
 use Rattle.mk_enclose.specs.Factor.{paid_in, taken_out, StandsFor}
 use Rattle.mk_enclose.specs.inner.Standing.{stands_for}
-use Rattle.mk_engine.specs.Meaning.{RatioOf, exact_belief, max_factors, max_grade}
+use Rattle.mk_engine.specs.Meaning.{Factor as Multiplied, SupportOf, RatioOf, is_ratio, exact_belief, max_factors, max_grade}
 use Rattle.mk_beliefs.specs.Meanings.{gains_of, if_present}
 use Rattle.mk_beliefs.proofs.Gained.{all_is_least, gains_are_small}
 use Rattle.mk_beliefs.proofs.Grown.{factors_are_few}
@@ -50,6 +54,19 @@ taken_few (negsuc n) deposits withdrawals h = omega (arith, h.same)
 product_small : (b x : ℕ) → b ≤ 1000000 → x ≤ 2 ^ 27 → b * x < 2 ^ 50
 product_small b x h l = let m : b * x ≤ 1000000 * 2 ^ 27 = mul-le-mul h l in omega arith
 
+-- each ratio of a list of trades counts
+ratios_are : (ts : List UserTrade) → count_by is_ratio (map (λ (t : UserTrade). RatioOf t.ratio) ts) ≡ length ts
+ratios_are [] = refl
+ratios_are (t ∷ ts) = counted_more (map (λ (t : UserTrade). RatioOf t.ratio) ts) ∙ ap suc (ratios_are ts)
+  where
+    counted_more : (fs : List Multiplied) → count_by is_ratio (RatioOf t.ratio ∷ fs) ≡ suc (count_by is_ratio fs)
+    counted_more fs = let more = sum_by-cons (λ (f : Multiplied). cond (is_ratio f) 1 0) (RatioOf t.ratio) fs in omega (arith, more)
+
+-- supports and trades as factors hold as many trades
+trades_are : (ks : List ℕ) (ts : List UserTrade) → count_by is_ratio (map SupportOf ks ++ map (λ (t : UserTrade). RatioOf t.ratio) ts) ≡ length ts
+trades_are [] ts = ratios_are ts
+trades_are (k ∷ ks) ts = trades_are ks ts
+
 module _ (network : List Variable) (tree : GivenTree) (H : List Entry) (u : ℕ) (is_open : IsOpen network tree H) where
   few : length (gains_of network tree H u).factors ≤ max_factors
   few = (factors_are_few network tree H u is_open.legal is_open.within.few_trades).1
@@ -60,7 +77,7 @@ module _ (network : List Variable) (tree : GivenTree) (H : List Entry) (u : ℕ)
     its = subst (λ (o : Option Factor). IsLeastFactor (holding_of network tree H u) n most o) is least_is
 
     counted : f.trades ≡ trade_count H u
-    counted = its.trades ∙ length-map (trades_of H u) (λ (t : UserTrade). RatioOf t.ratio)
+    counted = its.trades ∙ trades_are (with_zeros network) (trades_of H u)
 
     stands : (g : ℕ) → n ≡ g → StandsFor f (2 ^ deposited H u * g) (2 ^ withdrawn H u * (2 ^ 40) ^ trade_count H u)
     stands g e =
@@ -73,8 +90,14 @@ module _ (network : List Variable) (tree : GivenTree) (H : List Entry) (u : ℕ)
     factor_for g e = record {
       stands = stands g e;
       graded = record { grade = most; small = omega (arith, close, few); has = its.grade.0 };
-      exact = λ s. its.exact (gains_are_small network tree H u is_open.proper is_open.legal s);
+      exact = λ s. its.exact (gains_are_small network tree H u is_open.legal is_open.proper s);
     }
+
+    own_few : trade_count H u ≤ max_factors
+    own_few =
+        let all = length-append (map SupportOf (with_zeros network)) (map (λ (t : UserTrade). RatioOf t.ratio) (trades_of H u)) in
+        let own = length-map (trades_of H u) (λ (t : UserTrade). RatioOf t.ratio) in
+        omega (arith, all, own, few)
 
     -- and its powers are in range
     pub factor_in_range : deposited H u ≤ max_bits → withdrawn H u ≤ max_bits → (b : ℕ) → b ≤ max_points_per_bit → HasPowersInRange f b
@@ -82,19 +105,20 @@ module _ (network : List Variable) (tree : GivenTree) (H : List Entry) (u : ℕ)
         let paid = paid_few f.net (deposited H u) (withdrawn H u) its.net in
         let taken = taken_few f.net (deposited H u) (withdrawn H u) its.net in
         let top = its.grade.1 in
-        let trades = its.trades in
+        let trades = counted in
+        let own = own_few in
         powers_in_range f b (192 * (most + 1)) top
         (product_small b (paid_in f.net + 192 * (most + 1)) h (omega (arith, paid, few_in, close, few)))
-        (product_small b (40 * f.trades + taken_out f.net) h (omega (arith, taken, few_out, trades, few)))
+        (product_small b (40 * f.trades + taken_out f.net) h (omega (arith, taken, few_out, trades, own)))
 
   -- the least gain over all possible states
   pub always_some : 1 ≤ exact_belief least (gains_of network tree H u) []
   always_some =
       let has = least_gain_exists network H u is_open.legal is_open.proper is_open.sound in
-      (present_is (exact_belief least (gains_of network tree H u) []) has.least (sym (all_is_least network tree H u is_open.proper) ∙ has.is_least)).1
+      (present_is (exact_belief least (gains_of network tree H u) []) has.least (sym (all_is_least network tree H u is_open.legal is_open.proper) ∙ has.is_least)).1
 
   pub always_is : (g : ℕ) → least_gain network H u always ≡ Some g → exact_belief least (gains_of network tree H u) [] ≡ g
-  always_is g e = (present_is (exact_belief least (gains_of network tree H u) []) g (sym (all_is_least network tree H u is_open.proper) ∙ e)).0
+  always_is g e = (present_is (exact_belief least (gains_of network tree H u) []) g (sym (all_is_least network tree H u is_open.legal is_open.proper) ∙ e)).0
 
   module _ (event : List Pair) (nothing : event ≡ []) (most : ℕ) (result : Option Factor)
       (least_is : IsLeastFactor (holding_of network tree H u) (exact_belief least (gains_of network tree H u) event) most result) where

@@ -2,7 +2,14 @@ pub mod Homes
 pub mod Weaker
 pub mod MostBits
 pub mod Parts
+pub mod Presence
 pub mod Weights
 pub mod Least
+pub mod Coming
+pub mod Sided
 pub mod Bounding
+pub mod Alone
 pub mod Valued
+pub mod NoZeros
+pub mod Searching
+pub mod Losing

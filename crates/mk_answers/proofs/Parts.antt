@@ -36,15 +36,17 @@ ceiling_near v w high p e =
     let scaled : high * w ≤ div_ceil (v * 10 ^ 10) w * w = mul-le-mul_right w most in
     omega (arith, near.1, scaled)
 
--- where the share is at most one, and of something
+-- where the share is of something, and less than one
 pub parts_cover : (num den : Enclosure) (v w g low high : ℕ) → Encloses num v → Encloses den w → 1 ≤ w → v ≤ w
-    → g ≤ 2 ^ 17 → HasGrade num g → HasGrade den g → ArePartsOf num den low high
+    → v < w → g ≤ 2 ^ 17 → HasGrade num g → HasGrade den g → ArePartsOf num den low high
     → CoversPrice (IsExact num × IsExact den) (record { num = v; den = w }) low high
-parts_cover num den v w g low high num_is den_is some share close num_grade den_grade parts = record {
+parts_cover num den v w g low high num_is den_is some share less close num_grade den_grade parts = record {
   below = omega (arith, parts.below v w num_is den_is);
   above = omega (arith, parts.above v w num_is den_is share);
   at_most_one = omega (arith, parts.high_is);
   narrow = parts.narrow g close num_grade den_grade;
+  never = λ nothing. absurd (omega (arith, num.positive, num_is.lower));
+  sure = λ all. absurd (omega arith);
   floor = λ x. floor_near v w low some (parts.low_is ∙ ap₂ (λ n d. n * 10 ^ 10 / d) (exact_low num v num_is x.0) (exact_high den w den_is x.1));
   ceiling = λ x. ceiling_near v w high some (parts.high_is ∙ ap₂ (λ n d. min (10 ^ 10) (div_ceil (n * 10 ^ 10) d)) (exact_high num v num_is x.0) (exact_low den w den_is x.1));
 }

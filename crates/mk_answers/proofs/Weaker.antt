@@ -20,6 +20,8 @@ module _ (small exact : Type 0) (then : small → exact) where
     above = covers.above;
     at_most_one = covers.at_most_one;
     narrow = covers.narrow;
+    never = covers.never;
+    sure = covers.sure;
     floor = λ s. covers.floor (then s);
     ceiling = λ s. covers.ceiling (then s);
   }

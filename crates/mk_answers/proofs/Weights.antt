@@ -10,9 +10,7 @@ use Rattle.mk_exact.specs.History.{Entry}
 use Rattle.mk_exact.specs.Weight.{total, IsSmall}
 use Rattle.mk_exact.specs.Proper.{IsPairOf, IsQuestionOf}
 use Rattle.mk_exact.specs.Prices.{exact_price, CoversPrice}
-use Rattle.mk_exact.specs.Existing.{IsPositivePrice}
 use Rattle.mk_exact.proofs.Sums.{each-append}
-use Rattle.mk_exact.proofs.ExistMarkets.{price_exists}
 use Rattle.mk_tree.specs.Given.{GivenTree}
 use Rattle.mk_scaled.specs.Near.{near_more}
 use Rattle.mk_enclose.specs.declared.enclosure.Enclosure.{Enclosure}
@@ -24,12 +22,13 @@ use Rattle.mk_engine.specs.Meaning.{max_factors, max_grade, ArePairsOf}
 use Rattle.mk_engine.specs.Beliefs.{IsBelief}
 use Rattle.mk_engine.specs.Cases.{exact_others, IsOthersBelief}
 use Rattle.mk_beliefs.specs.Meanings.{weights_of}
-use Rattle.mk_beliefs.proofs.Weighed.{belief_is_total, others_are_total, target_is_total, weights_are_small}
+use Rattle.mk_beliefs.proofs.Weighed.{belief_is_total, others_are_total, target_is_total, cases_are_all, weights_are_small}
 use Rattle.mk_beliefs.proofs.Grown.{factors_are_few}
-use Rattle.mk_answers.specs.Open.{IsOpen, CanBeAnswered}
+use Rattle.mk_answers.specs.Open.{IsOpen}
 use Rattle.mk_answers.specs.inner.Found.{IsThere, IsBeliefIn, IsPartFor, IsWholeFor, max_side_grade}
 use Rattle.mk_answers.proofs.Weaker.{covers_when}
 use Rattle.mk_answers.proofs.Parts.{ArePartsOf, parts_cover}
+use Rattle.mk_answers.proofs.Presence.{some_weight}
 
 grade_more : (e : Enclosure) (g h : ℕ) → g ≤ h → HasGrade e g → HasGrade e h
 grade_more e g h l has = record { near = near_more (lower_of e) (upper_of e) g h l has.near }
@@ -78,29 +77,21 @@ module _ (network : List Variable) (tree : GivenTree) (H : List Entry) (is_open 
       exact = λ s. b.exact (weights_are_small network tree H s);
     }
 
-  module _ (asked : Asked) (answered : CanBeAnswered network tree H asked) where
-    price_is : IsPositivePrice (exact_price network H asked)
-    price_is = (price_exists network H asked is_open.legal is_open.proper answered.can_ask).exact
+module _ (network : List Variable) (H : List Entry) (asked : Asked) where
+  pub hit_share : total network H (with_target asked) ≤ total network H (holds asked.condition)
+  hit_share = omega (arith, cases_are_all network H asked)
 
-    pub hit_some : 1 ≤ total network H (with_target asked)
-    hit_some = price_is.positive
+  -- the interval of the two enclosures covers the price, where both sides weigh something
+  module _ (num den : Enclosure) (num_in : IsPartFor network H asked num) (den_in : IsWholeFor network H asked den) where
+    pub ends_in_order : lower_of num ≤ upper_of den
+    ends_in_order = omega (arith, num_in.encloses.lower, den_in.encloses.upper, hit_share)
 
-    pub condition_some : 1 ≤ total network H (holds asked.condition)
-    condition_some = omega (arith, price_is.positive, price_is.at_most_one)
-
-    pub hit_share : total network H (with_target asked) ≤ total network H (holds asked.condition)
-    hit_share = price_is.at_most_one
-
-    -- the interval of the two enclosures covers the price
-    module _ (num den : Enclosure) (num_in : IsPartFor network H asked num) (den_in : IsWholeFor network H asked den) where
-      pub ends_in_order : lower_of num ≤ upper_of den
-      ends_in_order = omega (arith, num_in.encloses.lower, den_in.encloses.upper, hit_share)
-
-      pub interval_covers : (low high : ℕ) → ArePartsOf num den low high → CoversPrice (IsSmall network H) (exact_price network H asked) low high
-      interval_covers low high parts =
-          covers_when (IsSmall network H) (IsExact num × IsExact den) (λ s. (num_in.exact s, den_in.exact s)) (exact_price network H asked) low high
-          (parts_cover num den _ _ (2 ^ 17) low high num_in.encloses den_in.encloses condition_some hit_share (omega arith)
-          (grade_more num max_side_grade (2 ^ 17) (omega arith) num_in.grade.0) (grade_more den den_in.graded.grade (2 ^ 17) den_in.graded.small den_in.graded.has) parts)
+    pub interval_covers : 1 ≤ total network H (without_target asked) → (low high : ℕ) → ArePartsOf num den low high → CoversPrice (IsSmall network H) (exact_price network H asked) low high
+    interval_covers rest low high parts =
+        let all = cases_are_all network H asked in
+        covers_when (IsSmall network H) (IsExact num × IsExact den) (λ s. (num_in.exact s, den_in.exact s)) (exact_price network H asked) low high
+        (parts_cover num den _ _ (2 ^ 17) low high num_in.encloses den_in.encloses (some_weight den _ den_in.encloses) hit_share (omega (arith, all)) (omega arith)
+        (grade_more num max_side_grade (2 ^ 17) (omega arith) num_in.grade.0) (grade_more den den_in.graded.grade (2 ^ 17) den_in.graded.small den_in.graded.has) parts)
 
 -- the network's own pairs, in a condition
 pub condition_fits : (network : List Variable) (asked : Asked) (event : List Pair) → event ≡ asked.condition → IsQuestionOf network asked → ArePairsOf network event

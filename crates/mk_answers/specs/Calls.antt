@@ -1,25 +1,36 @@
 -- What each call asks: some market in use, for which the engines stand.
-use Rattle.std.specs.Prelude.{◌≡◌, ℕ, List, slice_index}
-use Rattle.mk_net.specs.Network.{Variable, sizes}
+use Rattle.std.specs.Prelude.{◌≡◌, ℕ, List, true, is_some}
+use Rattle.std.specs.List.{AllByRecursion}
+use Rattle.mk_net.specs.declared.words.Pair.{Pair}
+use Rattle.mk_net.specs.Network.{Variable}
 use Rattle.mk_net.specs.Asked.{Asked}
 use Rattle.mk_exact.specs.History.{Entry}
-use Rattle.mk_tree.specs.Given.{GivenTree}
+use Rattle.mk_exact.specs.Proper.{IsPairOf}
+use Rattle.mk_tree.specs.Given.{GivenTree, home}
 use Rattle.mk_engine.specs.Meaning.{Meaning}
-use Rattle.mk_beliefs.specs.Meanings.{weights_of}
+use Rattle.mk_beliefs.specs.Meanings.{weights_of, rows_of}
 use Rattle.mk_assets.specs.declared.assets.Assets.{Assets}
 use Rattle.mk_assets.specs.Holdings.{Owns}
 use Rattle.mk_spread.specs.Spreads.{SpreadAsked}
 use Rattle.mk_answers.specs.Open.{IsOpen, CanBeAnswered, CanBeSpreadHere, holding_of}
 
--- the engine has the weights of a market in use, where the question can be answered, and its variable has so many values
-pub record CanPrice {E : Type 0} (stands_for : E → Meaning → Type 0) (prices : E) (asked : Asked) (values : ℕ) : Type 0 where
-  pub network : List Variable
+-- the engine has the weights of a market in use of this network, where the question can be answered
+pub record CanPrice {E : Type 0} (stands_for : E → Meaning → Type 0) (prices : E) (network : List Variable) (asked : Asked) : Type 0 where
   pub tree : GivenTree
   pub history : List Entry
   pub stands : stands_for prices (weights_of network tree history)
   pub is_open : IsOpen network tree history
   pub answered : CanBeAnswered network tree history asked
-  pub sized : values ≡ slice_index (sizes network) asked.target.variable
+
+-- the engine has the weights of a market in use, whose network has these pairs, and in whose tree they have a home together
+pub record CanSearch {E : Type 0} (stands_for : E → Meaning → Type 0) (prices : E) (event : List Pair) : Type 0 where
+  pub network : List Variable
+  pub tree : GivenTree
+  pub history : List Entry
+  pub stands : stands_for prices (weights_of network tree history)
+  pub is_open : IsOpen network tree history
+  pub in_range : AllByRecursion (IsPairOf network) event
+  pub home : is_some (home tree event) ≡ true
 
 -- the assets are those of a user of a market in use
 pub record CanFindWorst {E P : Type 0} (stands_for : E → Meaning → Type 0) (assets : Assets E P) : Type 0 where
@@ -30,11 +41,16 @@ pub record CanFindWorst {E P : Type 0} (stands_for : E → Meaning → Type 0) (
   pub owns : Owns stands_for assets (holding_of network tree history user)
   pub is_open : IsOpen network tree history
 
--- the engine has the weights and the assets are a user's of one market in use, where the question can be answered, and its
--- variable has so many values
+-- the engine has the initial weights of a market in use of this network
+pub record CanFindBound {E : Type 0} (stands_for : E → Meaning → Type 0) (rows : E) (network : List Variable) : Type 0 where
+  pub tree : GivenTree
+  pub history : List Entry
+  pub stands : stands_for rows (rows_of network tree history)
+  pub is_open : IsOpen network tree history
+
+-- the engine has the weights and the assets are a user's of one market in use of this network, where the question can be answered
 pub record CanBound {E A P : Type 0} (stands_for : E → Meaning → Type 0) (owned_for : A → Meaning → Type 0) (prices : E) (assets : Assets A P)
-    (asked : Asked) (values : ℕ) : Type 0 where
-  pub network : List Variable
+    (network : List Variable) (asked : Asked) : Type 0 where
   pub tree : GivenTree
   pub history : List Entry
   pub user : ℕ
@@ -42,12 +58,10 @@ pub record CanBound {E A P : Type 0} (stands_for : E → Meaning → Type 0) (ow
   pub owns : Owns owned_for assets (holding_of network tree history user)
   pub is_open : IsOpen network tree history
   pub answered : CanBeAnswered network tree history asked
-  pub sized : values ≡ slice_index (sizes network) asked.target.variable
 
 -- so it is where the question is about every value of a variable
 pub record CanBoundSpread {E A P : Type 0} (stands_for : E → Meaning → Type 0) (owned_for : A → Meaning → Type 0) (prices : E) (assets : Assets A P)
-    (spread : SpreadAsked) (values : ℕ) : Type 0 where
-  pub network : List Variable
+    (network : List Variable) (spread : SpreadAsked) : Type 0 where
   pub tree : GivenTree
   pub history : List Entry
   pub user : ℕ
@@ -55,4 +69,3 @@ pub record CanBoundSpread {E A P : Type 0} (stands_for : E → Meaning → Type 
   pub owns : Owns owned_for assets (holding_of network tree history user)
   pub is_open : IsOpen network tree history
   pub answered : CanBeSpreadHere network tree history spread
-  pub sized : values ≡ slice_index (sizes network) spread.variable

@@ -29,12 +29,12 @@ RightByBounds = (network : List Variable) (H : List Entry) (u : ℕ) (asked : As
 
 -- units that are fair and solvent by bounds for the sides of all values are a fair list
 abbrev pub FairListByBounds : Type 0
-FairListByBounds = (network : List Variable) (H : List Entry) (u : ℕ) (spread : SpreadAsked) (values : List SideBounds) (sides : List Side) (Xs Fs : List ℕ)
+FairListByBounds = (network : List Variable) (H : List Entry) (u : ℕ) (spread : SpreadAsked) (values : List (Option SideBounds)) (sides : List (Option Side)) (Xs Fs : List ℕ)
     → AreValueSides network H u spread sides → AreSideBoundsFor values (IsSmall network H) sides
     → AreFairForEach values Xs Fs → IsFairList network H u spread Xs Fs
 
 -- intervals that are right by them are right for the distribution
 abbrev pub RightBoundsByBounds : Type 0
-RightBoundsByBounds = (network : List Variable) (H : List Entry) (u : ℕ) (spread : SpreadAsked) (values : List SideBounds) (sides : List Side) (intervals : Intervals)
+RightBoundsByBounds = (network : List Variable) (H : List Entry) (u : ℕ) (spread : SpreadAsked) (values : List (Option SideBounds)) (sides : List (Option Side)) (intervals : Intervals)
     → AreValueSides network H u spread sides → AreSideBoundsFor values (IsSmall network H) sides
     → AreRightForEach values intervals → AreRightBoundsOf network H u spread intervals

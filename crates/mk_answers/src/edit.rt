@@ -2,51 +2,90 @@
 ghost use Rattle.std.specs.Prelude.{◌≡◌, ℕ, List, slice_index};
 ghost use Rattle.mk_net.specs.Network.{Variable, sizes};
 ghost use Rattle.mk_exact.specs.History.{Entry};
-ghost use Rattle.mk_exact.specs.Weight.{IsSmall};
 ghost use Rattle.mk_exact.specs.Limits.{Side};
 ghost use Rattle.mk_exact.specs.Sides.{AreSides};
+ghost use Rattle.mk_exact.specs.Weight.{IsSmall};
 ghost use Rattle.mk_tree.specs.Given.{GivenTree};
 ghost use Rattle.mk_engine.specs.Meaning.{Meaning};
 ghost use Rattle.mk_beliefs.specs.Meanings.{weights_of};
 ghost use Rattle.mk_assets.specs.Holdings.{Holding, Owns};
 ghost use Rattle.mk_answers.specs.Open.{IsOpen, CanBeAnswered, AreBoundsFor, holding_of};
 ghost use Rattle.mk_answers.specs.Calls.{CanBound};
+ghost use Rattle.mk_answers.specs.Results.{AreBothLeft, AreSidesFor};
+ghost use Rattle.mk_answers.specs.inner.Found.{CanOpen, IsPartFor, IsRestFor};
 
-use crate::found::{enclosure_of, factor_of};
+use crate::found::factor_of;
 use mk_assets::Assets;
+use mk_enclose::Enclosure;
 use mk_engine::{Engine, belief_of_others};
-use mk_net::Question;
+use mk_net::{Network, Question};
 use mk_quote::Bounds;
-use mk_semiring::{MinProd, SumProd};
+use mk_semiring::{Held, MinProd, SumProd};
 
-/// The bounds of a question for a user, where its variable has so many values: they enclose its two sides, and are exact
-/// in the small case. It leaves what the engine and the assets stand for as it was.
+/// Both sides of a question in a market in use.
+#[derive(Debug)]
+pub enum Sides {
+    /// The target can come where the condition holds, and so can something else: the bounds of both.
+    Open(Bounds),
+    /// The condition cannot come.
+    Impossible,
+    /// The target cannot come where the condition holds.
+    Never,
+    /// Nothing but the target can come where the condition holds.
+    Sure,
+}
+
+/// The sides of a question for a user: their bounds enclose them, and are exact in the small case. It leaves what the engine
+/// and the assets stand for as it was.
 pub fn bounds_of<P: Engine<SumProd>, A: Engine<MinProd>>(
     prices: &mut P,
     assets: &mut Assets<A>,
+    net: &Network,
     asked: &Question,
-    values: u32,
-) -> Bounds
-    requires { CanBound P.stands_for A.stands_for prices.old assets.old asked.now values }
+) -> Sides
+    requires { CanBound P.stands_for A.stands_for prices.old assets.old net.now asked.now }
     ensures kept { (m : Meaning) → P.stands_for prices.old m → P.stands_for prices.new m }
     ensures kept_assets { (h : Holding) → Owns A.stands_for assets.old h → Owns A.stands_for assets.new h }
-    ensures bounds { (network : List Variable) (tree : GivenTree) (H : List Entry) (u : ℕ) (hit miss : Side)
-        → P.stands_for prices.old (weights_of network tree H) → Owns A.stands_for assets.old (holding_of network tree H u)
-        → IsOpen network tree H → CanBeAnswered network tree H asked.now
-        → values ≡ slice_index (sizes network) asked.now.target.variable
-        → AreSides network H u asked.now hit miss → AreBoundsFor result (IsSmall network H) hit miss }
+    ensures sides { (tree : GivenTree) (H : List Entry) (u : ℕ)
+        → P.stands_for prices.old (weights_of net.now tree H) → Owns A.stands_for assets.old (holding_of net.now tree H u)
+        → IsOpen net.now tree H → CanBeAnswered net.now tree H asked.now → AreSidesFor net.now H u asked.now result }
 {
-    let event = asked.event();
-    let hit = prices.belief(&event);
+    let values = net.values(asked.target().variable);
+    let hit = prices.belief(&asked.event());
     let miss = belief_of_others::<SumProd, P>(prices, asked, values);
-    let hit_factor = assets.least(&event);
+    match (hit, miss) {
+        (Held::Present(hit), Held::Present(miss)) => {
+            Sides::Open(open_bounds(assets, asked, values, &hit, &miss))
+        }
+        (Held::Absent, Held::Absent) => Sides::Impossible,
+        (Held::Absent, Held::Present(_)) => Sides::Never,
+        (Held::Present(_), Held::Absent) => Sides::Sure,
+    }
+}
+
+/// The bounds of a question both of whose sides can come, from those on their weights, where its variable has so many values. It
+/// leaves what the assets stand for as it was.
+fn open_bounds<A: Engine<MinProd>>(
+    assets: &mut Assets<A>,
+    asked: &Question,
+    values: u32,
+    hit: &Enclosure,
+    miss: &Enclosure,
+) -> Bounds
+    requires { CanOpen A.stands_for assets.old asked.now values hit.now miss.now }
+    ensures kept_assets { (h : Holding) → Owns A.stands_for assets.old h → Owns A.stands_for assets.new h }
+    ensures bounds { (network : List Variable) (tree : GivenTree) (H : List Entry) (u : ℕ) (on_hit on_miss : Side)
+        → Owns A.stands_for assets.old (holding_of network tree H u) → IsOpen network tree H → CanBeAnswered network tree H asked.now
+        → values ≡ slice_index (sizes network) asked.now.target.variable
+        → IsPartFor network H asked.now hit.now → IsRestFor network H asked.now miss.now
+        → AreSides network H u asked.now on_hit on_miss → AreBoundsFor result (IsSmall network H) on_hit on_miss }
+{
+    let hit_factor = assets.least(&asked.event());
     let miss_factor = assets.least_of_others(asked, values);
-    let hit = enclosure_of(&hit);
-    let miss = enclosure_of(&miss);
     Bounds {
-        hit,
-        miss,
-        whole: hit.add(&miss),
+        hit: *hit,
+        miss: *miss,
+        whole: hit.add(miss),
         hit_factor: factor_of(hit_factor),
         miss_factor: factor_of(miss_factor),
     }

@@ -1,16 +1,20 @@
 //! The numbers of a market's answers, from the beliefs of its engines: prices, the bounds of an edit of a question or of a
-//! whole distribution, and the least that a user owns.
+//! whole distribution, what can come, the least that a user owns, and the most that the operator can lose.
 #![tactic(auto)]
 
 mod edit;
 mod found;
 mod laws;
+mod possible;
 mod price;
+mod risk;
 mod spread;
 mod worst;
 
-pub use edit::bounds_of;
+pub use edit::{Sides, bounds_of};
 pub use laws::{fair_by_bounds, fair_list_by_bounds, right_bounds_by_bounds, right_by_bounds};
+pub use possible::first_impossible;
 pub use price::price_of;
-pub use spread::spread_bounds_of;
+pub use risk::bound_of;
+pub use spread::{SpreadSides, spread_bounds_of};
 pub use worst::{least_of, most_bits};

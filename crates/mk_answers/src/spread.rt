@@ -1,54 +1,82 @@
 //! The bounds by which an edit of a whole distribution is judged.
-ghost use Rattle.std.specs.Prelude.{◌≡◌, ℕ, List, slice_index};
-ghost use Rattle.mk_net.specs.Network.{Variable, sizes};
+ghost use Rattle.std.specs.Prelude.{◌≡◌, ◌≤◌, ℕ, List, length};
+ghost use Rattle.mk_net.specs.Bounds.{max_values};
 ghost use Rattle.mk_exact.specs.History.{Entry};
-ghost use Rattle.mk_exact.specs.Weight.{IsSmall};
-ghost use Rattle.mk_exact.specs.Limits.{Side};
 ghost use Rattle.mk_spread.specs.Spreads.{asked_of};
-ghost use Rattle.mk_spread.specs.Markets.{AreValueSides};
 ghost use Rattle.mk_tree.specs.Given.{GivenTree};
 ghost use Rattle.mk_engine.specs.Meaning.{Meaning};
 ghost use Rattle.mk_beliefs.specs.Meanings.{weights_of};
 ghost use Rattle.mk_assets.specs.Holdings.{Holding, Owns};
 ghost use Rattle.mk_quote.specs.Questions.{spread_in};
-ghost use Rattle.mk_quote.specs.Values.{sides_in};
-ghost use Rattle.mk_answers.specs.Open.{IsOpen, CanBeAnswered, CanBeSpreadHere, AreSideBoundsFor, holding_of};
-ghost use Rattle.mk_answers.specs.Calls.{CanBound, CanBoundSpread};
-ghost use Rattle.mk_answers.specs.inner.Found.{AreValueBoundsOf};
+ghost use Rattle.mk_answers.specs.Open.{IsOpen, CanBeSpreadHere, holding_of};
+ghost use Rattle.mk_answers.specs.Calls.{CanBoundSpread};
+ghost use Rattle.mk_answers.specs.Results.{AreSpreadSidesFor};
+ghost use Rattle.mk_answers.specs.inner.Found.{IsValueFound, CanFindValue};
+ghost use Rattle.mk_answers.specs.inner.Alone.{alone_in};
 
-use crate::found::{enclosure_of, factor_of};
+use crate::found::factor_of;
 use arrayvec::ArrayVec;
 use mk_assets::Assets;
 use mk_engine::Engine;
-use mk_net::{Pair, Question};
+use mk_net::{Network, Pair, Question};
 use mk_quote::{SpreadBounds, SpreadQuestion, ValueBounds};
-use mk_semiring::{MinProd, SumProd};
+use mk_semiring::{Held, MinProd, SumProd};
 
-/// The bounds of a question about every value of a variable for a user, where the variable has so many values: they
-/// enclose the side of each value, and are exact in the small case. It leaves what the engine and the assets stand for as
-/// it was.
+/// The sides of all values of a variable in a market in use.
+#[derive(Debug, Drop)]
+pub enum SpreadSides {
+    /// Two values can come where the condition holds: the bounds of each that can.
+    Open(SpreadBounds),
+    /// The condition cannot come.
+    Impossible,
+    /// This value alone can come where the condition holds.
+    Sure(u32),
+}
+
+/// The sides of a question about every value of a variable, for a user: their bounds enclose them, and are exact in the small
+/// case. It leaves what the engine and the assets stand for as it was.
 pub fn spread_bounds_of<P: Engine<SumProd>, A: Engine<MinProd>>(
     prices: &mut P,
     assets: &mut Assets<A>,
+    net: &Network,
     asked: &SpreadQuestion,
-    values: u32,
-) -> SpreadBounds
-    requires { CanBoundSpread P.stands_for A.stands_for prices.old assets.old (spread_in asked.now) values }
+) -> SpreadSides
+    requires { CanBoundSpread P.stands_for A.stands_for prices.old assets.old net.now (spread_in asked.now) }
     ensures kept { (m : Meaning) → P.stands_for prices.old m → P.stands_for prices.new m }
     ensures kept_assets { (h : Holding) → Owns A.stands_for assets.old h → Owns A.stands_for assets.new h }
-    ensures bounds { (network : List Variable) (tree : GivenTree) (H : List Entry) (u : ℕ) (sides : List Side)
-        → P.stands_for prices.old (weights_of network tree H) → Owns A.stands_for assets.old (holding_of network tree H u)
-        → IsOpen network tree H → CanBeSpreadHere network tree H (spread_in asked.now)
-        → values ≡ slice_index (sizes network) asked.now.variable
-        → AreValueSides network H u (spread_in asked.now) sides → AreSideBoundsFor (sides_in result) (IsSmall network H) sides }
+    ensures sides { (tree : GivenTree) (H : List Entry) (u : ℕ)
+        → P.stands_for prices.old (weights_of net.now tree H) → Owns A.stands_for assets.old (holding_of net.now tree H u)
+        → IsOpen net.now tree H → CanBeSpreadHere net.now tree H (spread_in asked.now) → AreSpreadSidesFor net.now H u (spread_in asked.now) result }
 {
-    let whole = enclosure_of(&prices.belief(&asked.condition));
+    let Held::Present(whole) = prices.belief(&asked.condition) else {
+        return SpreadSides::Impossible;
+    };
     let mut parts = ArrayVec::new();
-    for value in 0..values {
+    for value in 0..net.values(asked.variable) {
         let question = question_at(asked, value);
-        parts.push(value_bounds_of(prices, assets, &question));
+        parts.push(value_bounds_of(prices, assets, net, &question));
     }
-    SpreadBounds { whole, parts }
+    match alone(parts.as_slice()) {
+        Some(value) => SpreadSides::Sure(value),
+        None => SpreadSides::Open(SpreadBounds { whole, parts }),
+    }
+}
+
+/// The one place that has bounds, where no other has.
+fn alone(parts: &[Option<ValueBounds>]) -> Option<u32>
+    requires { length parts.now ≤ max_values }
+    ensures { result ≡ alone_in parts.now }
+{
+    let mut found = None;
+    for (place, part) in parts.iter().enumerate() {
+        if part.is_some() {
+            if found.is_some() {
+                return None;
+            }
+            found = Some(place as u32);
+        }
+    }
+    found
 }
 
 /// The question about one value, which counts from 0.
@@ -66,24 +94,27 @@ fn question_at(asked: &SpreadQuestion, value: u32) -> Question
 }
 
 /// The bounds of the value that a question asks about: on the weight of the states where its target and its condition
-/// hold, and on the user's least factor over them. It leaves what the engine and the assets stand for as it was.
+/// hold, and on the user's least factor over them. None where it cannot come. It leaves what the engine and the assets stand for
+/// as it was.
 fn value_bounds_of<P: Engine<SumProd>, A: Engine<MinProd>>(
     prices: &mut P,
     assets: &mut Assets<A>,
+    net: &Network,
     asked: &Question,
-) -> ValueBounds
-    requires { (values : ℕ) × CanBound P.stands_for A.stands_for prices.old assets.old asked.now values }
+) -> Option<ValueBounds>
+    requires { CanFindValue P.stands_for A.stands_for prices.old assets.old net.now asked.now }
     ensures kept { (m : Meaning) → P.stands_for prices.old m → P.stands_for prices.new m }
     ensures kept_assets { (h : Holding) → Owns A.stands_for assets.old h → Owns A.stands_for assets.new h }
-    ensures bounds { (network : List Variable) (tree : GivenTree) (H : List Entry) (u : ℕ)
-        → P.stands_for prices.old (weights_of network tree H) → Owns A.stands_for assets.old (holding_of network tree H u)
-        → IsOpen network tree H → CanBeAnswered network tree H asked.now → AreValueBoundsOf network H u asked.now result }
+    ensures found { (tree : GivenTree) (H : List Entry) (u : ℕ)
+        → P.stands_for prices.old (weights_of net.now tree H) → Owns A.stands_for assets.old (holding_of net.now tree H u)
+        → IsOpen net.now tree H → IsValueFound net.now H u asked.now result }
 {
     let event = asked.event();
-    let part = prices.belief(&event);
-    let least = assets.least(&event);
-    ValueBounds {
-        part: enclosure_of(&part),
-        factor: factor_of(least),
+    match prices.belief(&event) {
+        Held::Absent => None,
+        Held::Present(part) => Some(ValueBounds {
+            part,
+            factor: factor_of(assets.least(&event)),
+        }),
     }
 }

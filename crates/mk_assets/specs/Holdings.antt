@@ -1,9 +1,11 @@
 -- What one user's assets stand for, and what is asked of them.
-use Rattle.std.specs.Prelude.{◌≡◌, ℕ, ◌+◌, ◌*◌, ◌<◌, ◌≤◌, ℤ, List, [], Bool, true, length, Option, IsNone, IfSome, ◌↔◌}
+use Rattle.std.specs.Prelude.{◌≡◌, ℕ, ◌+◌, ◌*◌, ◌<◌, ◌≤◌, ℤ, List, map, Bool, true, length, Option, IsNone, IfSome, ◌↔◌}
+use Rattle.std.specs.List.{count_by}
 use Rattle.mk_net.specs.declared.words.Pair.{Pair}
 use Rattle.mk_net.specs.Asked.{Asked, TradeRatio}
-use Rattle.mk_net.specs.Bounds.{max_transfers, max_transfer_bits, max_market_trades, number_limit}
-use Rattle.mk_net.specs.Network.{Variable}
+use Rattle.mk_net.specs.Bounds.{max_transfers, max_transfer_bits, number_limit}
+use Rattle.mk_net.specs.Network.{Variable, IsNetwork}
+use Rattle.mk_net.specs.Zeros.{with_zeros}
 use Rattle.mk_exact.specs.Proper.{IsPairOf, IsRatioOf}
 use Rattle.mk_enclose.specs.declared.factor.Factor.{Factor}
 use Rattle.mk_enclose.specs.Enclosure.{Encloses, IsExact}
@@ -11,7 +13,7 @@ use Rattle.mk_enclose.specs.Factor.{paid_in, taken_out}
 use Rattle.mk_tree.specs.Given.{GivenTree}
 use Rattle.mk_semiring.specs.declared.held.Held.TheVariants.{Present}
 use Rattle.mk_semiring.specs.Held.{HasHeldGrade}
-use Rattle.mk_engine.specs.Meaning.{Meaning, RatioOf, with_factor, with_known, whole_sum, ArePairsOf}
+use Rattle.mk_engine.specs.Meaning.{Meaning, SupportOf, RatioOf, is_ratio, with_factor, with_known, whole_sum, max_factors, ArePairsOf}
 use Rattle.mk_engine.specs.Cases.{CanAskOthers}
 use Rattle.mk_assets.specs.declared.assets.Assets.{Assets}
 
@@ -22,10 +24,14 @@ pub record Holding : Type 0 where
   pub deposited : ℕ
   pub withdrawn : ℕ
 
--- nothing is traded, and nothing transferred
+-- nothing is traded, and nothing transferred: it holds the support of each variable that has a share of nothing
 abbrev pub opening_holding : List Variable → GivenTree → List Pair → Holding
 opening_holding network tree known =
-    record { meaning = record { network = network; tree = tree; factors = []; known = known }; deposited = 0; withdrawn = 0 }
+    record { meaning = record { network = network; tree = tree; factors = map SupportOf (with_zeros network); known = known }; deposited = 0; withdrawn = 0 }
+
+-- how many trades are held
+abbrev pub trades_in : Holding → ℕ
+trades_in h = count_by is_ratio h.meaning.factors
 
 -- with one trade more
 abbrev pub with_trade : TradeRatio → Holding → Holding
@@ -51,9 +57,9 @@ max_bits = max_transfers * max_transfer_bits
 pub record IsNet (net : ℤ) (deposited withdrawn : ℕ) : Type 0 where
   pub same : paid_in net + withdrawn ≡ deposited + taken_out net
 
--- the pairs are of a network that the plan stands for
-pub record CanStart {P : Type 0} (plan_for : P → List Variable → GivenTree → Type 0) (plan : P) (known : List Pair) : Type 0 where
-  pub network : List Variable
+-- the plan stands for the network, whose pairs these are
+pub record CanStart {P : Type 0} (plan_for : P → List Variable → GivenTree → Type 0) (plan : P) (network : List Variable) (known : List Pair) : Type 0 where
+  pub legal : IsNetwork network
   pub tree : GivenTree
   pub planned : plan_for plan network tree
   pub in_range : ArePairsOf network known
@@ -62,17 +68,17 @@ module _ {E P : Type 0} (stands_for : E → Meaning → Type 0) where
   -- the assets stand for a holding
   pub record Owns (assets : Assets E P) (h : Holding) : Type 0 where
     pub stands : stands_for assets.engine h.meaning
-    pub counted : assets.trades ≡ length h.meaning.factors
+    pub counted : assets.trades ≡ trades_in h
     pub net : IsNet assets.net h.deposited h.withdrawn
     pub few_in : h.deposited ≤ max_bits
     pub few_out : h.withdrawn ≤ max_bits
 
-  -- they stand for a holding of whose network this is a ratio, with fewer trades than a market takes
+  -- they stand for a holding of whose network this is a ratio, with fewer factors than an engine may hold
   pub record CanTrade (assets : Assets E P) (ratio : TradeRatio) : Type 0 where
     pub holding : Holding
     pub owns : Owns assets holding
     pub in_range : IsRatioOf holding.meaning.network ratio
-    pub room : length holding.meaning.factors < max_market_trades
+    pub room : length holding.meaning.factors < max_factors
 
   -- for one that so many bits may be deposited to
   pub record CanDeposit (assets : Assets E P) (bits : ℕ) : Type 0 where
@@ -112,5 +118,5 @@ pub record IsLeastFactor (h : Holding) (least_gain most : ℕ) (result : Option 
   pub gain : IfSome result (λ (f : Factor). Encloses f.gain least_gain)
   pub grade : IfSome result (λ (f : Factor). HasHeldGrade (Present f.gain) most)
   pub exact : whole_sum h.meaning < number_limit → IfSome result (λ (f : Factor). IsExact f.gain)
-  pub trades : IfSome result (λ (f : Factor). f.trades ≡ length h.meaning.factors)
+  pub trades : IfSome result (λ (f : Factor). f.trades ≡ trades_in h)
   pub net : IfSome result (λ (f : Factor). IsNet f.net h.deposited h.withdrawn)

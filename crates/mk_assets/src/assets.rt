@@ -1,19 +1,19 @@
 //! One user's assets.
 
-ghost use Rattle.std.specs.Prelude.{◌≡◌, ℕ, ◌+◌, ◌≤◌, List, length, slice_index, IfOk};
-ghost use Rattle.mk_net.specs.Network.{Variable, sizes};
+ghost use Rattle.std.specs.Prelude.{◌≡◌, ℕ, ◌+◌, ◌≤◌, List, [], length, slice_index, IfOk};
+ghost use Rattle.mk_net.specs.Network.{sizes};
 ghost use Rattle.mk_net.specs.Asked.{ratio_pairs};
 ghost use Rattle.mk_net.specs.Bounds.{max_values};
 ghost use Rattle.mk_net.specs.Trades.{trade_ratio};
 ghost use Rattle.mk_tree.specs.Given.{GivenTree};
 ghost use Rattle.mk_engine.specs.Meaning.{exact_belief, max_grade};
 ghost use Rattle.mk_engine.specs.Cases.{exact_others};
-ghost use Rattle.mk_assets.specs.Holdings.{Holding, Owns, CanStart, CanTrade, CanDeposit, CanWithdraw, CanLearn, CanFindLeast, CanFindLeastOfOthers, FitsEvent, IsLeastFactor, max_bits, opening_holding, with_trade, with_deposit, with_withdrawal, with_known_pair};
+ghost use Rattle.mk_assets.specs.Holdings.{Holding, Owns, CanStart, CanTrade, CanDeposit, CanWithdraw, CanLearn, CanFindLeast, CanFindLeastOfOthers, FitsEvent, IsLeastFactor, max_bits, trades_in, opening_holding, with_trade, with_deposit, with_withdrawal, with_known_pair};
 ghost use Rattle.mk_assets.specs.inner.Found.{IsFound};
 
 use mk_enclose::Factor;
 use mk_engine::{Engine, belief_of_others};
-use mk_net::{Event, NoMemory, Pair, Question, Ratio};
+use mk_net::{Event, Network, NoMemory, Pair, Question, Ratio};
 use mk_semiring::{Held, MinProd, Semiring};
 use std::alloc::Global;
 
@@ -28,12 +28,18 @@ pub struct Assets<E: Engine<MinProd>> {
 }
 
 impl<E: Engine<MinProd>> Assets<E> {
-    /// The assets of a user who has not traded, with what is known already.
-    pub fn start(alloc: Global, plan: &E::Plan, known: &[Pair]) -> Result<Assets<E>, NoMemory>
-        requires { CanStart E.plan_for plan.now known.now }
-        ensures { IfOk result (λ assets. (network : List Variable) (tree : GivenTree) → E.plan_for plan.now network tree → Owns E.stands_for assets (opening_holding network tree known.now)) }
+    /// The assets of a user who has not traded, with what is known already. They are told in which states each variable of the
+    /// network that has a share of nothing cannot come.
+    pub fn start(
+        alloc: Global,
+        plan: &E::Plan,
+        net: &Network,
+        known: &[Pair],
+    ) -> Result<Assets<E>, NoMemory>
+        requires { CanStart E.plan_for plan.now net.now known.now }
+        ensures { IfOk result (λ assets. (tree : GivenTree) → E.plan_for plan.now net.now tree → Owns E.stands_for assets (opening_holding net.now tree known.now)) }
     {
-        let mut engine = E::start(alloc, plan)?;
+        let mut engine = Self::supported(alloc, plan, net)?;
         for pair in known {
             engine.know(*pair);
         }
@@ -42,6 +48,18 @@ impl<E: Engine<MinProd>> Assets<E> {
             trades: 0,
             net: 0,
         })
+    }
+
+    /// An engine with the support of each variable of a network that has a share of nothing.
+    fn supported(alloc: Global, plan: &E::Plan, net: &Network) -> Result<E, NoMemory>
+        requires { CanStart E.plan_for plan.now net.now [] }
+        ensures { IfOk result (λ engine. (tree : GivenTree) → E.plan_for plan.now net.now tree → E.stands_for engine (opening_holding net.now tree []).meaning) }
+    {
+        let mut engine = E::start(alloc, plan)?;
+        for variable in net.with_zeros() {
+            engine.support(net, *variable);
+        }
+        Ok(engine)
     }
 
     /// Adds a trade.
@@ -56,7 +74,7 @@ impl<E: Engine<MinProd>> Assets<E> {
 
     /// How many trades there were.
     pub fn trades(&self) -> u32
-        ensures { (h : Holding) → Owns E.stands_for self.now h → result ≡ length h.meaning.factors }
+        ensures { (h : Holding) → Owns E.stands_for self.now h → result ≡ trades_in h }
     {
         self.trades
     }

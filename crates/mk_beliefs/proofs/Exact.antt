@@ -1,15 +1,14 @@
 -- The beliefs in the other values of a question's variable, over the states of its other side; the least is a lawful plus.
 use Rattle.std.proofs.Common.{◌≡◌, ℕ, ◌<◌, Bool, true, false, cond, not, ◌&&◌, eqb, List, [], ◌∷◌, length, filter, slice_index, refl, sym, ap, ◌∙◌, arith}
 use Rattle.std.proofs.Math.Path.{fun_ext}
-use Rattle.std.specs.List.{AllByRecursion}
 use Rattle.mk_net.specs.Asked.{Asked}
 use Rattle.mk_net.specs.Events.{pairs_asked}
 use Rattle.mk_net.specs.Network.{sizes}
 use Rattle.mk_exact.specs.Lawful.{Lawful}
-use Rattle.mk_exact.specs.States.{numbers_below, plus_over, IsState}
-use Rattle.mk_exact.specs.InitialWeight.{all_states, value_at}
+use Rattle.mk_exact.specs.States.{states, numbers_below, plus_over, IsState}
+use Rattle.mk_exact.specs.InitialWeight.{value_at}
 use Rattle.mk_exact.specs.Events.{holds, has, with_target, without_target}
-use Rattle.mk_exact.proofs.Sums.{plus_over-filter, plus_over_at, each_weaker}
+use Rattle.mk_exact.proofs.Sums.{plus_over-filter, plus_over_at, plus_over_each, each_weaker}
 use Rattle.mk_exact.proofs.Listed.{states_are, value_below}
 use Rattle.mk_sums.proofs.States.{is_plus}
 use Rattle.mk_engine.specs.Meaning.{Meaning}
@@ -19,9 +18,18 @@ use Rattle.mk_engine.proofs.Cases.{product_at, added, holds_more, others_by_stat
 pub holds_asked : (asked : Asked) → holds (pairs_asked asked) ≡ with_target asked
 holds_asked asked = fun_ext (holds_more asked.condition asked.target)
 
-plus_over_each : {X V : Type 0} (plus : V → V → V) (none : V) (f g : X → V) (xs : List X) → AllByRecursion (λ x. f x ≡ g x) xs → plus_over plus none f xs ≡ plus_over plus none g xs
-plus_over_each plus none f g [] h = refl
-plus_over_each plus none f g (x ∷ xs) h = ap (λ v. plus v (plus_over plus none f xs)) h.0 ∙ ap (plus (g x)) (plus_over_each plus none f g xs h.1)
+-- what adds nothing may be left out
+pub without_nothing : {X : Type 0} (plus : ℕ → ℕ → ℕ) → Lawful plus → (f : X → ℕ) (p c : X → Bool) (xs : List X) → ((x : X) → c x ≡ false → f x ≡ 0)
+    → plus_over plus 0 f (filter p xs) ≡ plus_over plus 0 f (filter p (filter c xs))
+without_nothing plus law f p c [] h = refl
+without_nothing {X} plus law f p c (x ∷ xs) h = at (p x) (c x) refl refl (without_nothing plus law f p c xs h)
+  where
+    at : (b d : Bool) → p x ≡ b → c x ≡ d → plus_over plus 0 f (filter p xs) ≡ plus_over plus 0 f (filter p (filter c xs))
+        → plus_over plus 0 f (cond b (x ∷ filter p xs) (filter p xs)) ≡ plus_over plus 0 f (filter p (cond d (x ∷ filter c xs) (filter c xs)))
+    at true true e g rest = rw e (ap (plus (f x)) rest)
+    at true false e g rest = rw (h x g) (law.neutral (plus_over plus 0 f (filter p xs)) ∙ rest)
+    at false true e g rest = rw e rest
+    at false false e g rest = rest
 
 by_side : (k h t : Bool) (w : ℕ) → cond (not t) (cond (k && h) w 0) 0 ≡ cond (k && (h && not t)) w 0
 by_side false h false w = refl
@@ -52,9 +60,9 @@ module _ (plus : ℕ → ℕ → ℕ) (law : Lawful plus) (m : Meaning) (asked :
 
   -- each state on the other side adds once, for its own value of the variable
   pub others_where : exact_others plus m asked (slice_index (sizes m.network) asked.target.variable)
-      ≡ plus_over plus 0 (product_at m) (filter (λ s. holds m.known s && without_target asked s) (all_states m.network))
+      ≡ plus_over plus 0 (product_at m) (filter (λ s. holds m.known s && without_target asked s) (states (sizes m.network)))
   unfolding size each there
   others_where =
       others_by_states plus law m asked (slice_index (sizes m.network) asked.target.variable)
-      ∙ plus_over_each plus 0 each there (all_states m.network) (each_weaker (IsState (sizes m.network)) (λ s. each s ≡ there s) once (all_states m.network) (states_are (sizes m.network)))
-      ∙ sym (plus_over-filter plus 0 (is_plus plus law) (product_at m) (λ s. holds m.known s && without_target asked s) (all_states m.network))
+      ∙ plus_over_each plus 0 each there (states (sizes m.network)) (each_weaker (IsState (sizes m.network)) (λ s. each s ≡ there s) once (states (sizes m.network)) (states_are (sizes m.network)))
+      ∙ sym (plus_over-filter plus 0 (is_plus plus law) (product_at m) (λ s. holds m.known s && without_target asked s) (states (sizes m.network)))

@@ -3,16 +3,17 @@ use Rattle.std.proofs.Common.{◌≡◌, ℕ, ◌≤◌, Bool, true, false, cond
 use Rattle.std.specs.List.{AllByRecursion}
 use Rattle.std.proofs.lemmas.Bool.{cases_eq}
 use Rattle.std.proofs.lemmas.List.{map-append, length-map}
-use Rattle.std.proofs.lemmas.List.FromFn.{length-map-range_with_len}
+use Rattle.std.proofs.lemmas.List.FromFn.{length-map-range_with_len, length-range_with_len}
 use Rattle.mk_net.specs.declared.words.Pair.{Pair}
 use Rattle.mk_net.specs.Bounds.{max_market_trades}
 use Rattle.mk_net.specs.Network.{Variable, IsNetwork}
+use Rattle.mk_net.specs.Zeros.{has_zero, with_zeros}
 use Rattle.mk_exact.specs.States.{numbers_below}
 use Rattle.mk_exact.specs.History.{Entry, Join, Deposit, Withdraw, Trade, Resolve, Settle, UserTrade, trade_in, resolution_in, users, trades, trades_of, resolutions}
 use Rattle.mk_exact.specs.Proper.{IsProper, IsTradeOf}
 use Rattle.mk_exact.proofs.After.{trades_kept, trades_more, resolutions_kept, resolutions_more, trades_of_kept, trades_of_more, trades_of_other}
 use Rattle.mk_tree.specs.Given.{GivenTree}
-use Rattle.mk_engine.specs.Meaning.{Meaning, Factor, RowsOf, RatioOf, max_factors}
+use Rattle.mk_engine.specs.Meaning.{Meaning, Factor, RowsOf, SupportOf, RatioOf, max_factors}
 use Rattle.mk_beliefs.specs.Meanings.{weights_of, gains_of, grown, grown_for}
 
 factors_of : List UserTrade → List Factor
@@ -30,7 +31,7 @@ module _ (network : List Variable) (tree : GivenTree) where
 
   gains_with : List UserTrade → List Pair → Meaning
   unfolding factors_of
-  gains_with ts known = record { network = network; tree = tree; factors = factors_of ts; known = known }
+  gains_with ts known = record { network = network; tree = tree; factors = map SupportOf (with_zeros network) ++ factors_of ts; known = known }
 
   module _ (H : List Entry) where
     weights_kept : (e : Entry) → trade_in e ≡ None → resolution_in e ≡ None → weights_of network tree (H ++ e ∷ []) ≡ weights_of network tree H
@@ -64,7 +65,9 @@ module _ (network : List Variable) (tree : GivenTree) where
         at : ((user ≡ u) ⊎ (user ≡ u → ⊥)) → gains_of network tree (H ++ Trade user ratio ∷ []) u ≡ grown_for u (Trade user ratio) (gains_of network tree H u)
         at (inl e) =
             ap₂ gains_with (trades_of_more H user ratio u e) (resolutions_kept H (Trade user ratio) refl)
-            ∙ ap (λ (fs : List Factor). record { network = network; tree = tree; factors = fs; known = resolutions H }) (factors_more (trades_of H u) (record { user = user; ratio = ratio }))
+            ∙ ap (λ (fs : List Factor). record { network = network; tree = tree; factors = fs; known = resolutions H })
+            (ap (λ (fs : List Factor). map SupportOf (with_zeros network) ++ fs) (factors_more (trades_of H u) (record { user = user; ratio = ratio }))
+            ∙ sym (append_assoc (map SupportOf (with_zeros network)) (factors_of (trades_of H u)) (RatioOf ratio ∷ [])))
             ∙ (rw (eq-eqb user u e) refl)
         at (inr d) =
             ap₂ gains_with (trades_of_other H user ratio u d) (resolutions_kept H (Trade user ratio) refl)
@@ -76,9 +79,10 @@ module _ (network : List Variable) (tree : GivenTree) where
     none_of n [] h = refl
     none_of n (t ∷ ts) h = rw (ne_eqb t.user n (λ e. let below = h.0.user in omega arith)) (none_of n ts h.1)
 
-    pub newcomer_has_none : IsProper network H → gains_of network tree H (length (users H)) ≡ record { network = network; tree = tree; factors = []; known = resolutions H }
+    pub newcomer_has_none : IsProper network H → gains_of network tree H (length (users H)) ≡ record { network = network; tree = tree; factors = map SupportOf (with_zeros network); known = resolutions H }
     unfolding factors_of gains_with
     newcomer_has_none proper = ap (λ (ts : List UserTrade). gains_with ts (resolutions H)) (none_of (length (users H)) (trades H) proper.trades_fit)
+        ∙ ap (λ (fs : List Factor). record { network = network; tree = tree; factors = fs; known = resolutions H }) (append-nil (map SupportOf (with_zeros network)))
 
     some_of : {X : Type 0} (p : X → Bool) (xs : List X) → length (filter p xs) ≤ length xs
     some_of p [] = omega arith
@@ -96,10 +100,16 @@ module _ (network : List Variable) (tree : GivenTree) where
         let rows = length-map-range_with_len RowsOf 0 (length network) in
         let all = length-map (trades H) ratio in
         let own = length-map (trades_of H u) ratio in
+        let zeros = length-append (map SupportOf (with_zeros network)) (map ratio (trades_of H u)) in
+        let supports = length-map (with_zeros network) SupportOf in
+        let few_supports = some_of (has_zero network) (numbers_below (length network)) in
+        let numbers = length-range_with_len 0 (length network) in
         let part = some_of (λ (t : UserTrade). eqb t.user u) (trades H) in
-        (omega (arith, both, rows, all, net.few, few), omega (arith, own, part, few))
+        (omega (arith, both, rows, all, net.few, few), omega (arith, own, part, few, zeros, supports, few_supports, numbers, net.few))
 
   pub opening_is_rows : (u : ℕ) → (weights_of network tree [] ≡ record { network = network; tree = tree; factors = map RowsOf (numbers_below (length network)); known = [] })
-      × (gains_of network tree [] u ≡ record { network = network; tree = tree; factors = []; known = [] })
-  opening_is_rows u =
-      (ap (λ (fs : List Factor). record { network = network; tree = tree; factors = fs; known = [] }) (append-nil (map RowsOf (numbers_below (length network)))), refl)
+      × (gains_of network tree [] u ≡ record { network = network; tree = tree; factors = map SupportOf (with_zeros network); known = [] })
+  opening_is_rows u = (
+    ap (λ (fs : List Factor). record { network = network; tree = tree; factors = fs; known = [] }) (append-nil (map RowsOf (numbers_below (length network)))),
+    ap (λ (fs : List Factor). record { network = network; tree = tree; factors = fs; known = [] }) (append-nil (map SupportOf (with_zeros network))),
+  )

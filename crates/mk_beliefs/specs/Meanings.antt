@@ -1,10 +1,11 @@
--- The two meanings of a history that engines stand for: the weights of all states, and one user's gains in them.
+-- The meanings of a history that engines stand for: the weights of all states, one user's gains in them, and the initial weights.
 use Rattle.std.specs.Prelude.{ℕ, zero, suc, List, ◌++◌, map, length, if◌then◌else◌, ◌==◌, Option, Some, None}
 use Rattle.mk_net.specs.Network.{Variable}
+use Rattle.mk_net.specs.Zeros.{with_zeros}
 use Rattle.mk_exact.specs.States.{numbers_below}
 use Rattle.mk_exact.specs.History.{Entry, Trade, Resolve, UserTrade, trades, trades_of, resolutions}
 use Rattle.mk_tree.specs.Given.{GivenTree}
-use Rattle.mk_engine.specs.Meaning.{Meaning, RowsOf, RatioOf, with_factor, with_known}
+use Rattle.mk_engine.specs.Meaning.{Meaning, RowsOf, SupportOf, RatioOf, with_factor, with_known}
 
 -- the price engine after a history: the rows of each variable, and the ratio of every trade; what was resolved is known
 abbrev pub weights_of : List Variable → GivenTree → List Entry → Meaning
@@ -15,12 +16,22 @@ weights_of network tree H = record {
   known = resolutions H;
 }
 
--- a user's engine: the ratios of the user's trades alone
+-- a user's engine: where none of the shares is nothing, and the ratios of the user's trades alone
 abbrev pub gains_of : List Variable → GivenTree → List Entry → ℕ → Meaning
 gains_of network tree H u = record {
   network = network;
   tree = tree;
-  factors = map (λ (t : UserTrade). RatioOf t.ratio) (trades_of H u);
+  factors = map SupportOf (with_zeros network) ++ map (λ (t : UserTrade). RatioOf t.ratio) (trades_of H u);
+  known = resolutions H;
+}
+
+-- the engine of initial weights: the rows of each variable alone, whatever was traded; what was resolved is known. With the least for
+-- plus its belief in nothing is the least initial weight that is left
+abbrev pub rows_of : List Variable → GivenTree → List Entry → Meaning
+rows_of network tree H = record {
+  network = network;
+  tree = tree;
+  factors = map RowsOf (numbers_below (length network));
   known = resolutions H;
 }
 
@@ -40,3 +51,8 @@ abbrev pub grown_for : ℕ → Entry → Meaning → Meaning
 grown_for u (Trade user ratio) m = if user == u then with_factor (RatioOf ratio) m else m
 grown_for u (Resolve pair) m = with_known pair m
 grown_for u _ m = m
+
+-- the initial weights after one more entry, which only a resolution makes fewer
+abbrev pub grown_rows : Entry → Meaning → Meaning
+grown_rows (Resolve pair) m = with_known pair m
+grown_rows _ m = m

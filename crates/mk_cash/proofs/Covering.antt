@@ -10,7 +10,7 @@ use Rattle.mk_exact.specs.Cash.{CoversCash}
 
 -- ---- the powers of both sides
 
-power_of_power : (m n : ℕ) → (2 ^ m) ^ n ≡ 2 ^ (n * m)
+pub power_of_power : (m n : ℕ) → (2 ^ m) ^ n ≡ 2 ^ (n * m)
 power_of_power m zero = let e : 0 ≡ zero * m = omega arith in pow-zero (2 ^ m) ∙ sym (pow-zero 2) ∙ ap (λ k. 2 ^ k) e
 power_of_power m (suc n) =
     let e : n * m + m ≡ suc n * m = omega arith in
@@ -127,7 +127,7 @@ covers_cash q b g p s l h low high e d o a c n i j = by_bits (bits_between (g ^ 
 
 -- ---- how far the bits of both ends are apart
 
-near_power : (low high grade n : ℕ) → IsNear low high grade → IsNear (low ^ n) (high ^ n) (n * grade)
+pub near_power : (low high grade n : ℕ) → IsNear low high grade → IsNear (low ^ n) (high ^ n) (n * grade)
 near_power low high grade zero h = let e : zero * grade ≡ 0 = omega arith in rw (pow-zero low, pow-zero high, e) (near_same 1)
 near_power low high grade (suc n) h =
     let e : suc n * grade ≡ n * grade + grade = omega arith in
@@ -136,7 +136,7 @@ near_power low high grade (suc n) h =
 double_of : (low high c : ℕ) → 2 ^ 59 ≤ c → high * c ≤ low * 2 ^ 60 → high ≤ 2 * low
 double_of low high c h l = let m : high * 2 ^ 59 ≤ high * c = mul-le-mul_left high h in omega arith
 
-at_most_double : (low high steps : ℕ) → steps ≤ 2 ^ 59 → IsNear low high steps → high ≤ 2 * low
+pub at_most_double : (low high steps : ℕ) → steps ≤ 2 ^ 59 → IsNear low high steps → high ≤ 2 * low
 at_most_double low high steps h l = double_of low high (2 ^ 60 - steps) (omega arith) (near_width low high steps l)
 
 few_steps : (n grade : ℕ) → n ≤ 1000000 → grade ≤ 2 ^ 17 → 2 * n + n * grade + 2 * n ≤ 2 ^ 59

@@ -1,2 +1,4 @@
 pub mod Covering
 pub mod Ranges
+pub mod Quotients
+pub mod Losses

@@ -16,7 +16,7 @@ use Rattle.mk_command.specs.Commands.{command_of, command_text, IsCommand, at_te
 use Rattle.mk_command.specs.inner.Reading.{read_user, read_deposit, read_withdraw, read_price, read_limits, read_at, read_edit, held, read_bounds, read_spread, read_worst, read_resolve, forms, read_form}
 use Rattle.mk_command.specs.declared.command.Command.{Command}
 use Rattle.mk_command.specs.declared.command.CommandRef.{CommandRef}
-use Rattle.mk_command.specs.declared.command.Command.TheVariants.{User, Deposit, Withdraw, Price, Limits, Edit, Bounds, Spread, Worst, Resolve, Settle}
+use Rattle.mk_command.specs.declared.command.Command.TheVariants.{User, Deposit, Withdraw, Price, Limits, Edit, Bounds, Spread, Worst, Resolve, Settle, Bound}
 
 abbrev OfCommand : List ℕ × Read Command → Type 0
 OfCommand = Spelled command_text IsCommand
@@ -161,6 +161,9 @@ resolve_form = spelled_by (codes "resolve ") (λ pair. Resolve pair) pair_reads 
 settle_form : OfCommand (codes "settle", given Settle)
 settle_form = spelled_alone command_text IsCommand (codes "settle") Settle refl tt
 
+bound_form : OfCommand (codes "bound", given Bound)
+bound_form = spelled_alone command_text IsCommand (codes "bound") Bound refl tt
+
 form_takes : (bytes : List ℕ) (c : Command) (rest : List ℕ) → read_form bytes ≡ Some (c, rest) → Took command_text IsCommand bytes c rest
 unfolding read_form
 form_takes = choose_takes command_text IsCommand forms nothing (
@@ -173,7 +176,7 @@ form_takes = choose_takes command_text IsCommand forms nothing (
         price_form,
         (
           limits_form,
-          (edit_form, (bounds_form, (spread_form, (worst_form, (resolve_form, (settle_form, tt)))))),
+          (edit_form, (bounds_form, (spread_form, (worst_form, (resolve_form, (settle_form, (bound_form, tt))))))),
         ),
       ),
     ),
@@ -209,6 +212,7 @@ form_last (Spread user variable condition to at) fits =
 form_last (Worst user) fits = made_last (λ user. Worst user) name_reads user fits refl
 form_last (Resolve pair) fits = made_last (λ pair. Resolve pair) pair_reads pair fits refl
 form_last Settle fits = refl
+form_last Bound fits = refl
 
 pub form_tells : Tells read_form command_text IsCommand
 form_tells = record { takes = form_takes; last = form_last }

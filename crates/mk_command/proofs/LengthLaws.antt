@@ -7,7 +7,7 @@ use Rattle.mk_text.specs.Texts.{condition_text, question_text}
 use Rattle.mk_text.proofs.LengthLaws.{short_length, shorts_length, pair_length, condition_length, question_length}
 use Rattle.mk_command.specs.Commands.{command_text, IsCommand, at_text}
 use Rattle.mk_command.specs.declared.command.Command.{Command}
-use Rattle.mk_command.specs.declared.command.Command.TheVariants.{User, Deposit, Withdraw, Price, Limits, Edit, Bounds, Spread, Worst, Resolve, Settle}
+use Rattle.mk_command.specs.declared.command.Command.TheVariants.{User, Deposit, Withdraw, Price, Limits, Edit, Bounds, Spread, Worst, Resolve, Settle, Bound}
 
 at_length : (at : Option ℕ) → IfSome at IsShort → length (at_text at) ≤ 13
 at_length None fits = omega arith
@@ -45,3 +45,4 @@ command_length (Spread user variable condition to at) fits =
 command_length (Worst user) fits = simp length-append (omega (arith, fits.short))
 command_length (Resolve pair) fits = simp length-append (omega (arith, pair_length pair fits))
 command_length Settle fits = omega arith
+command_length Bound fits = omega arith

@@ -7,7 +7,7 @@ use Rattle.mk_text.specs.Texts.{IsPairText, pair_text, IsCondition, condition_te
 use Rattle.mk_command.specs.declared.command.Command.{Command}
 use Rattle.mk_command.specs.declared.command.CommandRef.{CommandRef}
 use Rattle.mk_command.specs.declared.command.CommandRef.TheVariants as lent
-use Rattle.mk_command.specs.declared.command.Command.TheVariants.{User, Deposit, Withdraw, Price, Limits, Edit, Bounds, Spread, Worst, Resolve, Settle}
+use Rattle.mk_command.specs.declared.command.Command.TheVariants.{User, Deposit, Withdraw, Price, Limits, Edit, Bounds, Spread, Worst, Resolve, Settle, Bound}
 
 -- the command whose words are lent
 unfoldable pub command_of : CommandRef → Command
@@ -22,6 +22,7 @@ command_of (lent.Spread user variable condition to at) = Spread user variable co
 command_of (lent.Worst user) = Worst user
 command_of (lent.Resolve pair) = Resolve pair
 command_of lent.Settle = Settle
+command_of lent.Bound = Bound
 
 -- the revision that an edit names
 abbrev pub at_text : Option ℕ → List ℕ
@@ -40,6 +41,7 @@ command_text (Spread user variable condition to at) =
 command_text (Worst user) = codes "worst " & user
 command_text (Resolve pair) = codes "resolve " & pair_text pair
 command_text Settle = codes "settle"
+command_text Bound = codes "bound"
 
 -- the commands that have a text: their words are names, and their numbers have at most nine digits
 abbrev pub IsCommand : Command → Type 0
@@ -55,6 +57,7 @@ IsCommand (Spread user variable condition to at) =
 IsCommand (Worst user) = IsName user
 IsCommand (Resolve pair) = IsPairText pair
 IsCommand Settle = ⊤
+IsCommand Bound = ⊤
 
 -- its numbers have at most nine digits, and a distribution is 2 to 16 of them
 abbrev pub HasShortNumbers : Command → Type 0
@@ -69,3 +72,4 @@ HasShortNumbers (Spread user variable condition to at) = AreSeveral IsShort to.i
 HasShortNumbers (Worst user) = ⊤
 HasShortNumbers (Resolve pair) = ⊤
 HasShortNumbers Settle = ⊤
+HasShortNumbers Bound = ⊤

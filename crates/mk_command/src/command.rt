@@ -64,6 +64,8 @@ pub enum Command {
     },
     /// `settle`: each user is paid.
     Settle,
+    /// `bound`: what can the operator lose at most?
+    Bound,
 }
 
 const _: () = prove!(size_of::<Command>() <= 700);
@@ -133,6 +135,8 @@ pub enum CommandRef<'a> {
     },
     /// `settle`.
     Settle,
+    /// `bound`.
+    Bound,
 }
 
 const _: () = prove!(size_of::<CommandRef>() <= 112);
@@ -194,6 +198,7 @@ impl Command {
             Command::Worst { user } => CommandRef::Worst { user: *user },
             Command::Resolve { pair } => CommandRef::Resolve { pair: *pair },
             Command::Settle => CommandRef::Settle,
+            Command::Bound => CommandRef::Bound,
         }
     }
 }

@@ -71,6 +71,7 @@ pub fn print_command(command: &Command, out: &mut ArrayString<1024>)
             put_pair(out, pair);
         }
         Command::Settle => out.push_str("settle"),
+        Command::Bound => out.push_str("bound"),
     }
 }
 

@@ -66,6 +66,9 @@ fn command<'a>(reader: &mut Reader, words: &'a mut Words) -> Option<CommandRef<'
     if reader.skip(b"settle") {
         return Some(CommandRef::Settle);
     }
+    if reader.skip(b"bound") {
+        return Some(CommandRef::Bound);
+    }
     None
 }
 

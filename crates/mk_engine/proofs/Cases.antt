@@ -5,8 +5,9 @@ use Rattle.std.specs.List.{range_with_len}
 use Rattle.std.proofs.lemmas.Bool.{cases_lt}
 use Rattle.mk_net.specs.declared.words.Pair.{Pair}
 use Rattle.mk_net.specs.Asked.{Asked}
-use Rattle.mk_exact.specs.States.{numbers_below, plus_over, product_by}
-use Rattle.mk_exact.specs.InitialWeight.{all_states, value_at}
+use Rattle.mk_net.specs.Network.{sizes}
+use Rattle.mk_exact.specs.States.{states, numbers_below, plus_over, product_by}
+use Rattle.mk_exact.specs.InitialWeight.{value_at}
 use Rattle.mk_exact.specs.Events.{holds, has}
 use Rattle.mk_exact.specs.Lawful.{Lawful}
 use Rattle.mk_exact.proofs.Sums.{IsPlus, plus_over-map, plus_over-filter, plus_over-plus, plus_over_none, plus_over_at, list_all-append, sum_by_is}
@@ -20,9 +21,9 @@ product_at m s = product_by (λ (f : Factor). factor_there m.network f (value_at
 
 -- a belief is the plus of these, over the states where the known pairs and the event hold
 pub belief_where : (plus : ℕ → ℕ → ℕ) (m : Meaning) (event : List Pair)
-    → exact_belief plus m event ≡ plus_over plus 0 (product_at m) (filter (λ s. holds m.known s && holds event s) (all_states m.network))
+    → exact_belief plus m event ≡ plus_over plus 0 (product_at m) (filter (λ s. holds m.known s && holds event s) (states (sizes m.network)))
 belief_where plus m event =
-    ap (λ (w : List ℕ → ℕ). plus_over plus 0 w (filter (λ s. holds m.known s && holds event s) (all_states m.network)))
+    ap (λ (w : List ℕ → ℕ). plus_over plus 0 w (filter (λ s. holds m.known s && holds event s) (states (sizes m.network))))
     (fun_ext (λ s. plus_over-map ◌*◌ 1 (λ (f : (ℕ → ℕ) → ℕ). f (value_at s)) (factor_there m.network) m.factors))
 
 -- what a state adds for a value, if it has this value
@@ -70,10 +71,10 @@ module _ (plus : ℕ → ℕ → ℕ) (law : Lawful plus) where
           le_trans (law.bounded (f x) (plus_over plus 0 f xs)) (omega (arith, later, here))
 
   pub belief_by_states : (m : Meaning) (event : List Pair)
-      → exact_belief plus m event ≡ plus_over plus 0 (λ s. cond (holds m.known s && holds event s) (product_at m s) 0) (all_states m.network)
+      → exact_belief plus m event ≡ plus_over plus 0 (λ s. cond (holds m.known s && holds event s) (product_at m s) 0) (states (sizes m.network))
   belief_by_states m event =
       belief_where plus m event
-      ∙ plus_over-filter plus 0 (is_plus plus law) (product_at m) (λ s. holds m.known s && holds event s) (all_states m.network)
+      ∙ plus_over-filter plus 0 (is_plus plus law) (product_at m) (λ s. holds m.known s && holds event s) (states (sizes m.network))
 
   module _ (m : Meaning) (asked : Asked) where
     by_value : (p k h e : Bool) (w : ℕ) → cond p (cond (k && (h && e)) w 0) 0 ≡ cond e (cond p (cond (k && h) w 0) 0) 0
@@ -87,21 +88,21 @@ module _ (plus : ℕ → ℕ → ℕ) (law : Lawful plus) where
     by_value true true true true w = refl
 
     in_value : (v : ℕ) → cond (not (eqb v asked.target.value)) (exact_belief plus m (pairs_with asked v)) 0
-        ≡ plus_over plus 0 (λ s. cond (eqb (value_at s asked.target.variable) v) (added m asked s v) 0) (all_states m.network)
+        ≡ plus_over plus 0 (λ s. cond (eqb (value_at s asked.target.variable) v) (added m asked s v) 0) (states (sizes m.network))
     in_value v =
         ap (λ n. cond (not (eqb v asked.target.value)) n 0) (belief_by_states m (pairs_with asked v))
-        ∙ plus_over-cond plus 0 (is_plus plus law) (not (eqb v asked.target.value)) (λ s. cond (holds m.known s && holds (pairs_with asked v) s) (product_at m s) 0) (all_states m.network)
-        ∙ ap (λ (f : List ℕ → ℕ). plus_over plus 0 f (all_states m.network)) (fun_ext (λ s.
+        ∙ plus_over-cond plus 0 (is_plus plus law) (not (eqb v asked.target.value)) (λ s. cond (holds m.known s && holds (pairs_with asked v) s) (product_at m s) 0) (states (sizes m.network))
+        ∙ ap (λ (f : List ℕ → ℕ). plus_over plus 0 f (states (sizes m.network))) (fun_ext (λ s.
         ap (λ b. cond (not (eqb v asked.target.value)) (cond (holds m.known s && b) (product_at m s) 0) 0) (holds_more asked.condition (record { variable = asked.target.variable; value = v }) s)
         ∙ by_value (not (eqb v asked.target.value)) (holds m.known s) (holds asked.condition s) (eqb (value_at s asked.target.variable) v) (product_at m s)))
 
     -- each state adds for its own value of the variable, where this is below so many
     pub others_by_states : (k : ℕ) → exact_others plus m asked k
-        ≡ plus_over plus 0 (λ s. plus_over plus 0 (λ v. cond (eqb (value_at s asked.target.variable) v) (added m asked s v) 0) (numbers_below k)) (all_states m.network)
+        ≡ plus_over plus 0 (λ s. plus_over plus 0 (λ v. cond (eqb (value_at s asked.target.variable) v) (added m asked s v) 0) (numbers_below k)) (states (sizes m.network))
     others_by_states k =
         plus_over-filter plus 0 (is_plus plus law) (λ v. exact_belief plus m (pairs_with asked v)) (λ v. not (eqb v asked.target.value)) (numbers_below k)
         ∙ ap (λ (f : ℕ → ℕ). plus_over plus 0 f (numbers_below k)) (fun_ext in_value)
-        ∙ plus_over-swap plus 0 (is_plus plus law) (λ v s. cond (eqb (value_at s asked.target.variable) v) (added m asked s v) 0) (numbers_below k) (all_states m.network)
+        ∙ plus_over-swap plus 0 (is_plus plus law) (λ v s. cond (eqb (value_at s asked.target.variable) v) (added m asked s v) 0) (numbers_below k) (states (sizes m.network))
 
     added_at_most : (s : List ℕ) (v : ℕ) → added m asked s v ≤ product_at m s
     added_at_most s v = at (not (eqb v asked.target.value)) (holds m.known s && holds asked.condition s) (product_at m s)
@@ -123,4 +124,4 @@ module _ (plus : ℕ → ℕ → ℕ) (law : Lawful plus) where
     -- so together they are at most the sum of all states
     pub others_at_most : (k : ℕ) → exact_others plus m asked k ≤ whole_sum m
     others_at_most k = subst (λ n. n ≤ whole_sum m) (sym (others_by_states k))
-        (plus_over_at_most (λ s. plus_over plus 0 (λ v. cond (eqb (value_at s asked.target.variable) v) (added m asked s v) 0) (numbers_below k)) (product_at m) (once k) (all_states m.network))
+        (plus_over_at_most (λ s. plus_over plus 0 (λ v. cond (eqb (value_at s asked.target.variable) v) (added m asked s v) 0) (numbers_below k)) (product_at m) (once k) (states (sizes m.network)))

@@ -1,20 +1,27 @@
 -- What an engine stands for: a network, a tree, the factors that were multiplied together, and the pairs that are known.
-use Rattle.std.specs.Prelude.{ℕ, ◌+◌, ◌-◌, ◌*◌, List, [], ◌∷◌, ◌++◌, map, sum_by, All}
+use Rattle.std.specs.Prelude.{ℕ, ◌+◌, ◌-◌, ◌*◌, Bool, true, false, List, [], ◌∷◌, ◌++◌, map, sum_by, All}
 use Rattle.mk_net.specs.declared.words.Pair.{Pair}
 use Rattle.mk_net.specs.Asked.{TradeRatio}
 use Rattle.mk_net.specs.Bounds.{max_variables, max_cliques, max_clique_cells, max_cells, max_market_trades}
 use Rattle.mk_net.specs.Network.{Variable, sizes}
-use Rattle.mk_exact.specs.States.{product_by}
-use Rattle.mk_exact.specs.InitialWeight.{all_states, value_at}
+use Rattle.mk_exact.specs.States.{states, product_by}
+use Rattle.mk_exact.specs.InitialWeight.{value_at}
 use Rattle.mk_exact.specs.Proper.{IsPairOf}
-use Rattle.mk_sums.specs.There.{share_there, ratio_there}
+use Rattle.mk_sums.specs.There.{share_there, support_there, ratio_there}
 use Rattle.mk_sums.specs.Joint.{joint}
 use Rattle.mk_tree.specs.Given.{GivenTree}
 
--- the rows of a variable, or the ratio of a trade
+-- the rows of a variable; its support, which is one where its share is not nothing; or the ratio of a trade
 pub data Factor : Type 0 where
   RowsOf : (variable : ℕ) → Factor
+  SupportOf : (variable : ℕ) → Factor
   RatioOf : (ratio : TradeRatio) → Factor
+
+-- a factor is the ratio of a trade
+abbrev pub is_ratio : Factor → Bool
+is_ratio (RowsOf variable) = false
+is_ratio (SupportOf variable) = false
+is_ratio (RatioOf ratio) = true
 
 pub record Meaning : Type 0 where
   pub network : List Variable
@@ -35,6 +42,7 @@ with_known pair m = record { network = m.network; tree = m.tree; factors = m.fac
 -- the number that a factor gives an assignment
 abbrev pub factor_there : List Variable → Factor → (ℕ → ℕ) → ℕ
 factor_there network (RowsOf k) = share_there network k
+factor_there network (SupportOf k) = support_there network k
 factor_there network (RatioOf ratio) = ratio_there ratio
 
 -- the exact plus, over all states where the known pairs and the event hold, of the product of all factors
@@ -43,9 +51,9 @@ exact_belief plus m event = joint plus (sizes m.network) (map (factor_there m.ne
 
 -- the sum, over all states, known or not, of the product of all factors
 abbrev pub whole_sum : Meaning → ℕ
-whole_sum m = sum_by (λ s. product_by (λ (f : Factor). factor_there m.network f (value_at s)) m.factors) (all_states m.network)
+whole_sum m = sum_by (λ s. product_by (λ (f : Factor). factor_there m.network f (value_at s)) m.factors) (states (sizes m.network))
 
--- how many factors an engine may hold: the rows of each variable, and each trade
+-- how many factors an engine may hold: the rows or the support of each variable, and each trade
 abbrev pub max_factors : ℕ
 max_factors = max_variables + max_market_trades
 

@@ -7,7 +7,7 @@ ghost use Rattle.mk_net.specs.Asked.{ratio_pairs};
 ghost use Rattle.mk_net.specs.Trades.{trade_ratio};
 ghost use Rattle.mk_tree.specs.Given.{GivenTree, home};
 ghost use Rattle.mk_tree.specs.Checked.{IsTreeOf};
-ghost use Rattle.mk_engine.specs.Meaning.{Meaning, RowsOf, RatioOf, opening, with_factor, with_known};
+ghost use Rattle.mk_engine.specs.Meaning.{Meaning, RowsOf, SupportOf, RatioOf, opening, with_factor, with_known};
 ghost use Rattle.mk_engine.specs.Beliefs.{CanWeigh, CanMultiply, CanKnow, CanBelieve, IsBelief};
 
 use mk_net::{Event, Network, NoMemory, Pair, Ratio};
@@ -49,6 +49,11 @@ pub trait Engine<R: Semiring>: Sized + Drop {
     fn weigh(&mut self, net: &Network, variable: u32)
         requires { CanWeigh stands_for self.old net.now variable }
         ensures { (m : Meaning) → stands_for self.old m → m.network ≡ net.now → stands_for self.new (with_factor (RowsOf variable) m) };
+
+    /// Adds the support of a variable as a factor: it is one where the variable's share is not nothing, and absent elsewhere.
+    fn support(&mut self, net: &Network, variable: u32)
+        requires { CanWeigh stands_for self.old net.now variable }
+        ensures { (m : Meaning) → stands_for self.old m → m.network ≡ net.now → stands_for self.new (with_factor (SupportOf variable) m) };
 
     /// Adds the ratio of a trade as a factor.
     fn multiply(&mut self, ratio: &Ratio)

@@ -1,34 +1,28 @@
 -- In a sound market each question that can be asked has a price, two sides and right limits, and each user a least gain.
-use Rattle.std.proofs.Common.{◌≡◌, ℕ, zero, suc, ◌<◌, ◌≤◌, min, Bool, true, false, cond, not, ◌&&◌, eqb, List, [], ◌∷◌, ◌++◌, length, filter, slice_index, sum_by, All, Option, Some, None, IfSome, refl, sym, ◌∙◌, subst, inl, inr, arith, le_refl, eq-eqb}
+use Rattle.std.proofs.Common.{◌≡◌, ℕ, ◌<◌, ◌≤◌, min, Bool, true, false, cond, ◌&&◌, List, [], ◌∷◌, length, filter, sum_by, All, Option, Some, None, IfSome, refl, subst, inl, inr, arith, le_refl}
 use Rattle.std.specs.Bool.{⊤}
 use Rattle.std.specs.List.{AllByRecursion}
 use Rattle.std.proofs.Math.Nat.{one-le-mul, one-le-pow}
-use Rattle.std.proofs.lemmas.Bool.{cases_lt, and_from, and_parts, eqb-true}
+use Rattle.std.proofs.lemmas.Bool.{cases_lt, and_from, and_parts}
 use Rattle.std.proofs.lemmas.List.Sums.{sum_by-cons}
 use Rattle.std.proofs.lemmas.List.Elements.{All-filter, recursion_from_All}
-use Rattle.mk_net.specs.declared.words.Pair.{Pair}
-use Rattle.mk_net.specs.Network.{Variable, sizes, IsNetwork}
-use Rattle.mk_net.specs.Named.{nobody}
+use Rattle.mk_net.specs.Network.{Variable, IsNetwork}
 use Rattle.mk_net.specs.Asked.{Asked}
-use Rattle.mk_net.specs.Events.{speaks_of}
-use Rattle.mk_net.proofs.Events.{apart_longer, neither}
-use Rattle.mk_exact.specs.InitialWeight.{all_states, value_at}
-use Rattle.mk_exact.specs.Events.{holds, has, with_target, without_target, always}
+use Rattle.mk_exact.specs.InitialWeight.{all_states}
+use Rattle.mk_exact.specs.Events.{holds, with_target, without_target, always}
 use Rattle.mk_exact.specs.Ratios.{unit}
-use Rattle.mk_exact.specs.History.{Entry, resolutions, withdrawn}
+use Rattle.mk_exact.specs.History.{Entry, withdrawn}
 use Rattle.mk_exact.specs.Weight.{weight, total, is_possible, possible_states, IsSmall}
 use Rattle.mk_exact.specs.Factors.{gain, trade_count, factor, factor_with, least_by, lesser, least_gain, IsAtLeastOne}
 use Rattle.mk_exact.specs.Prices.{price_where, exact_price, CoversPrice}
 use Rattle.mk_exact.specs.Limits.{Side, AreRight}
 use Rattle.mk_exact.specs.Sound.{IsSound}
-use Rattle.mk_exact.specs.Proper.{IsPairOf, IsProper}
+use Rattle.mk_exact.specs.Proper.{IsProper}
 use Rattle.mk_exact.specs.Sides.{IsSide, AreRightLimits}
-use Rattle.mk_exact.specs.Laws.{AgreesWith}
-use Rattle.mk_exact.specs.Existing.{IsPositivePrice, IsSafeFactor, CanBeAsked, HasPrice, HasLeast, IsOpenSide, HasSides}
-use Rattle.mk_exact.proofs.Sums.{each_kept, kept_each, each_weaker, each-append, list_all-append}
-use Rattle.mk_exact.proofs.Positive.{size_at, weights_positive}
+use Rattle.mk_exact.specs.Existing.{IsPositivePrice, IsPortion, IsSafeFactor, CanBeAsked, CanMove, HasPrice, HasLeast, IsOpenSide, HasSides}
+use Rattle.mk_exact.proofs.Sums.{each_kept, kept_each, each_weaker}
+use Rattle.mk_exact.proofs.Positive.{weights_positive}
 use Rattle.mk_exact.proofs.Totals.{total_condition}
-use Rattle.mk_exact.proofs.Remains.{state_remains}
 use Rattle.mk_exact.proofs.ExistNumbers.{covers_in, price_is_covered}
 use Rattle.mk_exact.proofs.ExistLimits.{right_in, limits_exist}
 
@@ -68,7 +62,7 @@ of_least {X} f P (x ∷ xs) h = at (least_by f xs) (of_least f P xs h.1)
     at (Some m) k = of_lesser P (f x) m h.0 k
 
 -- a list with an element has a least value, and what holds of each value holds of it
-least_exists : {X : Type 0} (f : X → ℕ) (P : ℕ → Type 0) (xs : List X) → 1 ≤ length xs → AllByRecursion (λ x. P (f x)) xs → (m : ℕ) × (least_by f xs ≡ Some m) × P m
+pub least_exists : {X : Type 0} (f : X → ℕ) (P : ℕ → Type 0) (xs : List X) → 1 ≤ length xs → AllByRecursion (λ x. P (f x)) xs → (m : ℕ) × (least_by f xs ≡ Some m) × P m
 least_exists f P [] some h = absurd (omega arith)
 least_exists {X} f P (x ∷ xs) some h = at (least_by f xs) (of_least f P xs h.1)
   where
@@ -89,7 +83,7 @@ module _ (network : List Variable) (H : List Entry) where
       (λ s k e. k (and_from (is_possible H s) true (and_parts (is_possible H s) (test s) e).0 refl)) (all_states network)
       (each_kept (λ s. is_possible H s && true) P (all_states network) h))
 
-  passing_stay : (p q : List ℕ → Bool) → ((s : List ℕ) → p s ≡ true → q s ≡ true) → 1 ≤ length (possible_states network H p) → 1 ≤ length (possible_states network H q)
+  pub passing_stay : (p q : List ℕ → Bool) → ((s : List ℕ) → p s ≡ true → q s ≡ true) → 1 ≤ length (possible_states network H p) → 1 ≤ length (possible_states network H q)
   passing_stay p q weaker h =
       let more = more_kept (λ s. is_possible H s && p s) (λ s. is_possible H s && q s) both (all_states network) in
       omega arith
@@ -97,7 +91,7 @@ module _ (network : List Variable) (H : List Entry) where
       both : (s : List ℕ) → (is_possible H s && p s) ≡ true → (is_possible H s && q s) ≡ true
       both s e = and_from (is_possible H s) (q s) (and_parts (is_possible H s) (p s) e).0 (weaker s (and_parts (is_possible H s) (p s) e).1)
 
-  total_positive : IsNetwork network → IsProper network H → (test : List ℕ → Bool) → 1 ≤ length (possible_states network H test) → 1 ≤ total network H test
+  pub total_positive : IsNetwork network → IsProper network H → (test : List ℕ → Bool) → 1 ≤ length (possible_states network H test) → 1 ≤ total network H test
   total_positive net proper test h =
       let sum = at_least_length (weight network H) (possible_states network H test)
       (recursion_from_All (λ s. 1 ≤ weight network H s) (possible_states network H test)
@@ -123,7 +117,7 @@ module _ (network : List Variable) (H : List Entry) where
 
 module _ (network : List Variable) (H : List Entry) (net : IsNetwork network) (proper : IsProper network H) where
   pub some_possible : 1 ≤ length (possible_states network H always)
-  some_possible = passing_stay network H (holds []) always (λ s e. refl) (state_remains network H [] net proper tt tt tt)
+  some_possible = proper.some_left
 
   pub least_exists_for : (u : ℕ) → IsSound network H → HasLeast network H u
   least_exists_for u sound = at (least_where network H u always sound some_possible)
@@ -132,80 +126,26 @@ module _ (network : List Variable) (H : List Entry) (net : IsNetwork network) (p
       at l = record { least = l.0; is_least = l.1; safe = l.2 }
 
   module _ (asked : Asked) (open_for : CanBeAsked network H asked) where
-    -- a pair of the target's variable
-    target_is : ℕ → Pair
-    target_is value = record { variable = asked.target.variable; value = value }
-
-    silent : (rs : List Pair) (value : ℕ) → speaks_of rs asked.target.variable ≡ false → AllByRecursion (AgreesWith (target_is value)) rs
-    unfolding target_is
-    silent [] value h = tt
-    silent (r ∷ rs) value h =
-        let parts = neither (eqb asked.target.variable r.variable) (speaks_of rs asked.target.variable) h in
-        (λ e. absurd (let t = eq-eqb asked.target.variable r.variable (sym e) in let f = parts.0 in cc), silent rs value (parts.1))
-
-    -- the condition and any value of the target's variable hold in some possible state
-    with_value : (value : ℕ) → IsPairOf network (target_is value) → 1 ≤ length (possible_states network H (holds (asked.condition ++ target_is value ∷ [])))
-    unfolding target_is
-    with_value value fits = state_remains network H (asked.condition ++ target_is value ∷ []) net proper
-        (each-append (IsPairOf network) asked.condition (target_is value ∷ []) open_for.in_range.condition (fits, tt))
-        (apart_longer asked.condition (target_is value) open_for.apart open_for.target_apart)
-        (each-append (λ p. AllByRecursion (AgreesWith p) (resolutions H)) asked.condition (target_is value ∷ []) open_for.agrees (silent (resolutions H) value open_for.unresolved, tt))
-
-    parts_hold : (value : ℕ) (s : List ℕ) → holds (asked.condition ++ target_is value ∷ []) s ≡ true → (holds asked.condition s ≡ true) × (value_at s asked.target.variable ≡ value)
-    unfolding target_is
-    parts_hold value s h =
-        let parts = and_parts (holds asked.condition s) (has (target_is value) s && true) (sym (list_all-append (λ p. has p s) asked.condition (target_is value ∷ [])) ∙ h) in
-        (parts.0, eqb-true (value_at s asked.target.variable) value (and_parts (has (target_is value) s) true (parts.1)).0)
-
-    pub some_hit : 1 ≤ length (possible_states network H (with_target asked))
-    unfolding target_is
-    some_hit = passing_stay network H (holds (asked.condition ++ target_is asked.target.value ∷ [])) (with_target asked) hits (with_value asked.target.value open_for.in_range.target)
-      where
-        hits : (s : List ℕ) → holds (asked.condition ++ target_is asked.target.value ∷ []) s ≡ true → with_target asked s ≡ true
-        hits s h =
-            let parts = parts_hold asked.target.value s h in
-            and_from (holds asked.condition s) (has asked.target s) (parts.0) (eq-eqb (value_at s asked.target.variable) asked.target.value (parts.1))
-
-    -- another value of the target's variable
-    another : (value : ℕ) × (value ≡ asked.target.value → ⊥) × IsPairOf network (target_is value)
-    unfolding target_is
-    another = choose asked.target.value refl
-      where
-        two : 2 ≤ slice_index (sizes network) asked.target.variable
-        two = omega (arith, size_at network net asked.target.variable open_for.in_range.target.variable, (net.each asked.target.variable nobody open_for.in_range.target.variable).two_values)
-
-        choose : (v : ℕ) → asked.target.value ≡ v → (value : ℕ) × (value ≡ asked.target.value → ⊥) × IsPairOf network (target_is value)
-        choose zero e = (1, λ same. absurd (omega arith), record { variable = open_for.in_range.target.variable; value = omega (arith, two) })
-        choose (suc v) e = (0, λ same. absurd (omega arith), record { variable = open_for.in_range.target.variable; value = omega (arith, two) })
-
-    pub some_miss : 1 ≤ length (possible_states network H (without_target asked))
-    some_miss = passing_stay network H (holds (asked.condition ++ target_is (another.0) ∷ [])) (without_target asked) misses (with_value (another.0) (another.2))
-      where
-        other : (s : List ℕ) → value_at s asked.target.variable ≡ another.0 → (b : Bool) → has asked.target s ≡ b → not b ≡ true
-        other s e true t = absurd (another.1 (sym e ∙ eqb-true (value_at s asked.target.variable) asked.target.value t))
-        other s e false t = refl
-
-        misses : (s : List ℕ) → holds (asked.condition ++ target_is (another.0) ∷ []) s ≡ true → without_target asked s ≡ true
-        misses s h =
-            let parts = parts_hold (another.0) s h in
-            and_from (holds asked.condition s) (not (has asked.target s)) (parts.0) (other s (parts.1) (has asked.target s) refl)
-
-    hit_price : IsPositivePrice (price_where network H asked.condition (with_target asked))
-    hit_price = record { positive = total_positive network H net proper (with_target asked) some_hit; at_most_one = omega (arith, total_condition network H asked) }
-
-    miss_price : IsPositivePrice (price_where network H asked.condition (without_target asked))
-    miss_price = record { positive = total_positive network H net proper (without_target asked) some_miss; at_most_one = omega (arith, total_condition network H asked) }
+    price_is : IsPortion (exact_price network H asked)
+    price_is = record { divides = total_positive network H net proper (holds asked.condition) open_for.some_state; at_most_one = omega (arith, total_condition network H asked) }
 
     pub price_exists_for : HasPrice network H asked
-    price_exists_for = at (price_is_covered (exact_price network H asked) (omega (arith, hit_price.positive, hit_price.at_most_one)) hit_price.at_most_one)
+    price_exists_for = at (price_is_covered (exact_price network H asked) price_is.divides price_is.at_most_one)
       where
         at : (low : ℕ) × (high : ℕ) × CoversPrice ⊤ (exact_price network H asked) low high → HasPrice network H asked
-        at c = record { exact = hit_price; low = c.0; high = c.1; covers = covers_in (IsSmall network H) (exact_price network H asked) (c.0) (c.1) (c.2) }
+        at c = record { exact = price_is; low = c.0; high = c.1; covers = covers_in (IsSmall network H) (exact_price network H asked) (c.0) (c.1) (c.2) }
+
+  module _ (asked : Asked) (moves : CanMove network H asked) where
+    hit_price : IsPositivePrice (price_where network H asked.condition (with_target asked))
+    hit_price = record { positive = total_positive network H net proper (with_target asked) moves.some_hit; at_most_one = omega (arith, total_condition network H asked) }
+
+    miss_price : IsPositivePrice (price_where network H asked.condition (without_target asked))
+    miss_price = record { positive = total_positive network H net proper (without_target asked) moves.some_miss; at_most_one = omega (arith, total_condition network H asked) }
 
     pub sides_exist_for : (u : ℕ) → IsSound network H → HasSides network H u asked
     sides_exist_for u sound = at
-        (side_where network H u asked (with_target asked) hit_price (least_where network H u (with_target asked) sound some_hit))
-        (side_where network H u asked (without_target asked) miss_price (least_where network H u (without_target asked) sound some_miss))
+        (side_where network H u asked (with_target asked) hit_price (least_where network H u (with_target asked) sound moves.some_hit))
+        (side_where network H u asked (without_target asked) miss_price (least_where network H u (without_target asked) sound moves.some_miss))
       where
         at : (side : Side) × IsSide network H u asked (with_target asked) side × IsOpenSide side → (side : Side) × IsSide network H u asked (without_target asked) side × IsOpenSide side
             → HasSides network H u asked
@@ -227,9 +167,9 @@ pub least_gain_exists : (network : List Variable) (H : List Entry) (u : ℕ) →
 least_gain_exists network H u net proper sound = least_exists_for network H net proper u sound
 
 pub sides_exist : (network : List Variable) (H : List Entry) (u : ℕ) (asked : Asked) → IsNetwork network → IsProper network H → IsSound network H
-    → CanBeAsked network H asked → HasSides network H u asked
+    → CanMove network H asked → HasSides network H u asked
 sides_exist network H u asked net proper sound open_for = sides_exist_for network H net proper asked open_for u sound
 
 pub right_limits_exist : (network : List Variable) (H : List Entry) (u : ℕ) (asked : Asked) → IsNetwork network → IsProper network H → IsSound network H
-    → CanBeAsked network H asked → (limits : Option (ℕ × ℕ)) × AreRightLimits network H u asked limits
+    → CanMove network H asked → (limits : Option (ℕ × ℕ)) × AreRightLimits network H u asked limits
 right_limits_exist network H u asked net proper sound open_for = right_limits_exist_for network H net proper asked open_for u sound

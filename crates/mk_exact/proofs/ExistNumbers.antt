@@ -41,12 +41,30 @@ rounded n d k p q = by_parts (n / d) ((n + d - 1) / d) (div-mul-le_self n d) (lt
 pub price_is_covered : (price : Fraction) → 1 ≤ price.den → price.num ≤ price.den → (low : ℕ) × (high : ℕ) × CoversPrice ⊤ price low high
 price_is_covered price p q = (10 ^ 10 * price.num / price.den, (10 ^ 10 * price.num + price.den - 1) / price.den, covers (rounded (10 ^ 10 * price.num) price.den (10 ^ 10) p (mul-le-mul_left (10 ^ 10) q)))
   where
+    none_of : (high : ℕ) → price.num ≡ 0 → high * price.den < 10 ^ 10 * price.num + price.den → high ≡ 0
+    none_of high e less = let l : high < 1 = fewer high 1 price.den (omega arith) in omega arith
+
+    all_of : (low : ℕ) → price.num ≡ price.den → 10 ^ 10 * price.num < (low + 1) * price.den → low * price.den ≤ 10 ^ 10 * price.num → low ≡ 10 ^ 10
+    all_of low e less more =
+        let l : 10 ^ 10 < low + 1 = fewer (10 ^ 10) (low + 1) price.den (omega arith) in
+        let m : low < 10 ^ 10 + 1 = fewer low (10 ^ 10 + 1) price.den (omega arith) in
+        omega arith
+
     covers : {low high : ℕ} → AreRounded (10 ^ 10 * price.num) price.den (10 ^ 10) low high → CoversPrice ⊤ price low high
-    covers h = record { below = h.below; above = h.above; at_most_one = h.at_most; narrow = h.narrow; floor = λ _. h.floor; ceiling = λ _. h.ceiling }
+    covers {low} {high} h = record {
+      below = h.below;
+      above = h.above;
+      at_most_one = h.at_most;
+      narrow = h.narrow;
+      never = λ e. none_of high e h.ceiling;
+      sure = λ e. all_of low e h.floor h.below;
+      floor = λ _. h.floor;
+      ceiling = λ _. h.ceiling;
+    }
 
 -- what serves the small case serves any
 pub covers_in : (small : Type 0) (price : Fraction) (low high : ℕ) → CoversPrice ⊤ price low high → CoversPrice small price low high
-covers_in small price low high h = record { below = h.below; above = h.above; at_most_one = h.at_most_one; narrow = h.narrow; floor = λ _. h.floor tt; ceiling = λ _. h.ceiling tt }
+covers_in small price low high h = record { below = h.below; above = h.above; at_most_one = h.at_most_one; narrow = h.narrow; never = h.never; sure = h.sure; floor = λ _. h.floor tt; ceiling = λ _. h.ceiling tt }
 
 -- ---- cash and whole bits
 
@@ -64,7 +82,7 @@ greatest_power : (n d : ℕ) → 1 ≤ d → d ≤ n → (k : ℕ) × (2 ^ k * d
 greatest_power n d p q = last_within (λ k. 2 ^ k * d) n n (omega arith) (lt_of_lt_of_le (below_power n) (le-mul_of_pos_right (2 ^ n) p))
 
 -- a power that stays within n is less than one that does not
-power_less : (k m d n : ℕ) → 2 ^ k * d ≤ n → n < 2 ^ m * d → k < m
+pub power_less : (k m d n : ℕ) → 2 ^ k * d ≤ n → n < 2 ^ m * d → k < m
 power_less k m d n p q = elim (cases_lt k m) [ inl h ↦ h | inr h ↦ absurd (within h) ]
   where
     within : m ≤ k → ⊥
@@ -84,13 +102,13 @@ cash_is_covered q b safe = covers (cash_exists q b safe)
     covers : (cash : ℕ) × IsCash q b cash → (low : ℕ) × (high : ℕ) × CoversCash q b low high
     covers c = (c.0, c.0, record { cash = c.0; is_cash = c.1; above = le_refl (c.0); below = le_refl (c.0); narrow = omega arith })
 
-power_of_power : (m b : ℕ) → (2 ^ m) ^ b ≡ 2 ^ (m * b)
+pub power_of_power : (m b : ℕ) → (2 ^ m) ^ b ≡ 2 ^ (m * b)
 power_of_power m zero = let e : 0 ≡ m * 0 = omega arith in pow-zero (2 ^ m) ∙ sym (pow-zero 2) ∙ ap (λ k. 2 ^ k) e
 power_of_power m (suc b) =
     let e : m * b + m ≡ m * suc b = omega arith in
     pow-suc (2 ^ m) b ∙ ap (λ k. k * 2 ^ m) (power_of_power m b) ∙ sym (pow-add 2 (m * b) m) ∙ ap (λ k. 2 ^ k) e
 
-exponent_at_most : (k m : ℕ) → 2 ^ k ≤ 2 ^ m → k ≤ m
+pub exponent_at_most : (k m : ℕ) → 2 ^ k ≤ 2 ^ m → k ≤ m
 exponent_at_most k m h = elim (cases_lt m k) [ inl more ↦ absurd (exceeds (pow-lt more)) | inr less ↦ less ]
   where
     exceeds : 2 ^ m < 2 ^ k → ⊥

@@ -2,7 +2,7 @@
 use Rattle.std.proofs.Common.{◌≡◌, ℕ, suc, ◌+◌, ◌<◌, ◌≤◌, Bool, true, false, cond, ◌&&◌, ◌||◌, eqb, List, [], ◌∷◌, length, sum_by, refl, sym, ap, ◌∙◌, arith}
 use Rattle.std.specs.List.{AllByRecursion}
 use Rattle.std.proofs.Math.Path.{fun_ext}
-use Rattle.std.proofs.lemmas.Bool.{and_parts, eqb-true}
+use Rattle.std.proofs.lemmas.Bool.{and_parts, eqb-true, le-leb}
 use Rattle.std.proofs.lemmas.List.{ext_get_or}
 use Rattle.std.proofs.lemmas.List.Sums.{sum_by-cons}
 use Rattle.std.proofs.lemmas.List.Elements.{recursion_from_All}
@@ -12,7 +12,7 @@ use Rattle.mk_net.specs.Events.{speaks_of}
 use Rattle.mk_net.specs.Texts.{same_text}
 use Rattle.mk_net.specs.inner.TextLaws.{equal_of_same_text, same_text_of_equal}
 use Rattle.mk_exact.specs.States.{states, numbers_below, plus_over, IsState}
-use Rattle.mk_exact.specs.InitialWeight.{all_states, value_at}
+use Rattle.mk_exact.specs.InitialWeight.{all_states, can_come, initial_weight, value_at}
 use Rattle.mk_exact.specs.Events.{has, holds, always}
 use Rattle.mk_exact.specs.History.{Entry, resolutions}
 use Rattle.mk_exact.specs.Weight.{is_possible, possible_states}
@@ -21,8 +21,8 @@ use Rattle.mk_exact.specs.Sound.{IsSound}
 use Rattle.mk_exact.specs.Proper.{IsProper}
 use Rattle.mk_exact.specs.Existing.{HasOutcome}
 use Rattle.mk_exact.proofs.Sums.{sums_are_plus, plus_over-states, plus_over_none, plus_over_at, sum_by_is, sum_by_each, sum_by-filter, kept_each, each_weaker}
-use Rattle.mk_exact.proofs.Listed.{states_are, as_many}
-use Rattle.mk_exact.proofs.ExistMarkets.{some_possible, safe_factor}
+use Rattle.mk_exact.proofs.Listed.{states_are, all_can, as_many}
+use Rattle.mk_exact.proofs.ExistMarkets.{safe_factor}
 
 -- ---- one of the listed states is a given state
 
@@ -80,35 +80,51 @@ module _ (network : List Variable) (H : List Entry) (net : IsNetwork network) (p
   same_state s t s_is t_is h k = ext_get_or 0 s t (s_is.one_each ∙ sym t_is.one_each) (λ v p. same_value (resolutions H) s t v h k (resolved v (omega (arith, s_is.one_each, as_many network))))
 
   -- the states that are possible are those that are one such state
-  passes_as : (t : List ℕ) → IsState (sizes network) t → is_possible H t ≡ true → (s : List ℕ) → IsState (sizes network) s → (is_possible H s && true) ≡ same_text t s
-  passes_as t t_is k s s_is = at (is_possible H s) refl (same_text t s) refl
+  passes_as : (t : List ℕ) → IsState (sizes network) t → can_come network t ≡ true → is_possible H t ≡ true → (s : List ℕ) → IsState (sizes network) s → (can_come network s && is_possible H s) ≡ same_text t s
+  passes_as t t_is can k s s_is = at (can_come network s) refl (is_possible H s) refl (same_text t s) refl
     where
-      at : (b : Bool) → is_possible H s ≡ b → (c : Bool) → same_text t s ≡ c → (b && true) ≡ c
-      at true h true e = refl
-      at true h false e = let same = same_text_of_equal t s (sym (same_state s t s_is t_is h k)) in cc
-      at false h true e = let same = ap (is_possible H) (equal_of_same_text t s e) in cc
-      at false h false e = refl
+      at : (a : Bool) → can_come network s ≡ a → (b : Bool) → is_possible H s ≡ b → (c : Bool) → same_text t s ≡ c → (a && b) ≡ c
+      at true a true h true e = refl
+      at true a true h false e = let same = same_text_of_equal t s (sym (same_state s t s_is t_is h k)) in cc
+      at true a false h true e = let same = ap (is_possible H) (equal_of_same_text t s e) in cc
+      at true a false h false e = refl
+      at false a b h true e = let same = ap (can_come network) (equal_of_same_text t s e) in cc
+      at false a b h false e = refl
 
-  one_possible : (t : List ℕ) → IsState (sizes network) t → is_possible H t ≡ true → length (possible_states network H always) ≡ 1
-  one_possible t t_is k =
+  one_possible : (t : List ℕ) → IsState (sizes network) t → can_come network t ≡ true → is_possible H t ≡ true → length (possible_states network H always) ≡ 1
+  one_possible t t_is can k =
       sym (length_is (possible_states network H always))
       ∙ sum_by-filter (λ s. 1) (λ s. is_possible H s && true) (all_states network)
-      ∙ sum_by_each (λ s. cond (is_possible H s && true) 1 0) (λ s. cond (same_text t s) 1 0) (all_states network)
-      (each_weaker (IsState (sizes network)) (λ s. cond (is_possible H s && true) 1 0 ≡ cond (same_text t s) 1 0) (λ s s_is. ap (λ (b : Bool). cond b 1 0) (passes_as t t_is k s s_is)) (all_states network) (states_are (sizes network)))
-      ∙ sum_by_is (λ s. cond (same_text t s) 1 0) (all_states network)
+      ∙ sum_by-filter (λ s. cond (is_possible H s && true) 1 0) (can_come network) (states (sizes network))
+      ∙ sum_by_each (λ s. cond (can_come network s) (cond (is_possible H s && true) 1 0) 0) (λ s. cond (same_text t s) 1 0) (states (sizes network))
+      (each_weaker (IsState (sizes network)) (λ s. cond (can_come network s) (cond (is_possible H s && true) 1 0) 0 ≡ cond (same_text t s) 1 0)
+      (λ s s_is. nested (can_come network s) (is_possible H s) 1 0 ∙ ap (λ (b : Bool). cond b 1 0) (passes_as t t_is can k s s_is)) (states (sizes network)) (states_are (sizes network)))
+      ∙ sum_by_is (λ s. cond (same_text t s) 1 0) (states (sizes network))
       ∙ count_same (sizes network) t t_is
+    where
+      nested : (a b : Bool) (x y : ℕ) → cond a (cond (b && true) x y) y ≡ cond (a && b) x y
+      nested true true x y = refl
+      nested true false x y = refl
+      nested false b x y = refl
 
-  possible_are : AllByRecursion (λ s. IsState (sizes network) s × (is_possible H s ≡ true)) (possible_states network H always)
-  possible_are = recursion_from_All (λ s. IsState (sizes network) s × (is_possible H s ≡ true)) (possible_states network H always)
-      (kept_each (λ s. is_possible H s && true) (λ s. IsState (sizes network) s × (is_possible H s ≡ true)) (all_states network)
-      (each_weaker (IsState (sizes network)) (λ s. (is_possible H s && true) ≡ true → IsState (sizes network) s × (is_possible H s ≡ true)) (λ s s_is e. (s_is, (and_parts (is_possible H s) true e).0)) (all_states network) (states_are (sizes network))))
+  abbrev Here : List ℕ → Type 0
+  Here s = (IsState (sizes network) s × (can_come network s ≡ true)) × (is_possible H s ≡ true)
+
+  can_each : AllByRecursion (λ s. IsState (sizes network) s × (can_come network s ≡ true)) (all_states network)
+  can_each = each_weaker (λ s. IsState (sizes network) s × (1 ≤ initial_weight network s)) (λ s. IsState (sizes network) s × (can_come network s ≡ true))
+      (λ s h. (h.0, le-leb 1 (initial_weight network s) h.1)) (all_states network) (all_can network)
+
+  possible_are : AllByRecursion Here (possible_states network H always)
+  possible_are = recursion_from_All Here (possible_states network H always)
+      (kept_each (λ s. is_possible H s && true) Here (all_states network)
+      (each_weaker (λ s. IsState (sizes network) s × (can_come network s ≡ true)) (λ s. (is_possible H s && true) ≡ true → Here s) (λ s s_is e. (s_is, (and_parts (is_possible H s) true e).0)) (all_states network) can_each))
 
   one_state : (s : List ℕ) × (possible_states network H always ≡ s ∷ []) × IsState (sizes network) s
-  one_state = at (first_of_list (λ s. IsState (sizes network) s × (is_possible H s ≡ true)) (possible_states network H always) (some_possible network H net proper) possible_are)
+  one_state = at (first_of_list Here (possible_states network H always) proper.some_left possible_are)
     where
-      at : (t : List ℕ) × (IsState (sizes network) t × (is_possible H t ≡ true)) → (s : List ℕ) × (possible_states network H always ≡ s ∷ []) × IsState (sizes network) s
-      at t = only_one (IsState (sizes network)) (possible_states network H always) (one_possible (t.0) (t.1).0 (t.1).1)
-          (each_weaker (λ s. IsState (sizes network) s × (is_possible H s ≡ true)) (IsState (sizes network)) (λ s h. h.0) (possible_states network H always) possible_are)
+      at : (t : List ℕ) × Here t → (s : List ℕ) × (possible_states network H always ≡ s ∷ []) × IsState (sizes network) s
+      at t = only_one (IsState (sizes network)) (possible_states network H always) (one_possible (t.0) (t.1).0.0 (t.1).0.1 (t.1).1)
+          (each_weaker Here (IsState (sizes network)) (λ s h. h.0.0) (possible_states network H always) possible_are)
 
 pub outcome_exists : (network : List Variable) (H : List Entry) → IsNetwork network → IsProper network H → IsSound network H
     → ((v : ℕ) → v < length network → speaks_of (resolutions H) v ≡ true) → HasOutcome network H

@@ -7,8 +7,9 @@ pub mod Fair
 pub mod Solvent
 pub mod Next
 pub mod Single
-pub mod Range
 pub mod Positive
+pub mod Comes
+pub mod Range
 pub mod ExistNumbers
 pub mod ExistLimits
 pub mod Gains
@@ -16,3 +17,8 @@ pub mod Remains
 pub mod ExistMarkets
 pub mod ExistOutcome
 pub mod ExistBounds
+pub mod Longer
+pub mod Millions
+pub mod Risk
+pub mod Zeros
+pub mod Coming

@@ -1,14 +1,16 @@
 -- Each change in range leads from a proper history to a proper one; and whole histories of accepted changes.
-use Rattle.std.proofs.Common.{◌≡◌, ℕ, ◌+◌, ◌-◌, ◌^◌, ◌≤◌, false, List, [], ◌∷◌, ◌++◌, Option, Some, None, IfSome, IsSomeAnd, Bool, length, refl, sym, ap, ◌∙◌, subst, arith, append_assoc, append-nil, length-append}
+use Rattle.std.proofs.Common.{◌≡◌, ℕ, ◌+◌, ◌-◌, ◌^◌, ◌≤◌, true, false, ◌&&◌, List, [], ◌∷◌, ◌++◌, Option, Some, None, IfSome, IsSomeAnd, Bool, length, filter, refl, sym, ap, ◌∙◌, subst, arith, append_assoc, append-nil, length-append}
+use Rattle.std.proofs.Math.Path.{fun_ext}
 use Rattle.std.specs.List.{AllByRecursion}
 use Rattle.mk_net.specs.declared.words.Pair.{Pair}
-use Rattle.mk_net.specs.Network.{Variable}
+use Rattle.mk_net.specs.Network.{Variable, IsNetwork}
 use Rattle.mk_net.specs.Asked.{Asked, TradeRatio}
 use Rattle.mk_net.specs.Events.{speaks_of, AreApart}
 use Rattle.mk_net.proofs.Events.{apart_longer}
-use Rattle.mk_exact.specs.Events.{with_target, without_target}
+use Rattle.mk_exact.specs.Events.{has, always, with_target, without_target}
+use Rattle.mk_exact.specs.InitialWeight.{all_states}
 use Rattle.mk_exact.specs.History.{Entry, UserTrade, Join, Deposit, Withdraw, Trade, Resolve, Settle, trade_in, resolution_in, join_in, users, trades, resolutions}
-use Rattle.mk_exact.specs.Weight.{IsSmall}
+use Rattle.mk_exact.specs.Weight.{IsSmall, is_possible, possible_states}
 use Rattle.mk_exact.specs.Factors.{factor_with, least_gain}
 use Rattle.mk_exact.specs.Prices.{IsFair, IsSolvent, price_where}
 use Rattle.mk_exact.specs.Limits.{Side, IsFairAndSolvent}
@@ -18,11 +20,12 @@ use Rattle.mk_exact.specs.Sound.{IsSound}
 use Rattle.mk_exact.specs.Proper.{IsPairOf, IsTradeOf, IsProper}
 use Rattle.mk_exact.specs.Accepted.{IsSafeTrade, IsInRange, AreAccepted}
 use Rattle.mk_exact.proofs.Sums.{each_weaker, each-append}
-use Rattle.mk_exact.proofs.After.{trades_kept, trades_more, resolutions_kept, resolutions_more, users_kept, users_more}
+use Rattle.mk_exact.proofs.After.{trades_kept, trades_more, resolutions_kept, resolutions_more, users_kept, users_more, possible_kept, possible_resolved}
 use Rattle.mk_exact.proofs.Fair.{fair_bounded}
 use Rattle.mk_exact.proofs.Solvent.{pair_solvent}
 use Rattle.mk_exact.proofs.Next.{sound_next}
-use Rattle.mk_exact.proofs.Single.{empty_sound}
+use Rattle.mk_exact.proofs.Single.{empty_sound, filter_every}
+use Rattle.mk_exact.proofs.Comes.{some_can}
 
 trade_later : (network : List Variable) (m n : ℕ) → m ≤ n → (t : UserTrade) → IsTradeOf network m t → IsTradeOf network n t
 trade_later network m n p t h = record { user = omega (arith, h.user); ratio = h.ratio }
@@ -44,6 +47,18 @@ resolutions_fit_kept network H e q h = subst (AllByRecursion (IsPairOf network))
 resolved_once_kept : (H : List Entry) (e : Entry) → resolution_in e ≡ None → AreApart (resolutions H) → AreApart (resolutions (H ++ e ∷ []))
 resolved_once_kept H e q h = subst AreApart (sym (resolutions_kept H e q)) h
 
+-- the states that are left
+left_kept : (network : List Variable) (H : List Entry) (e : Entry) → resolution_in e ≡ None → 1 ≤ length (possible_states network H always) → 1 ≤ length (possible_states network (H ++ e ∷ []) always)
+left_kept network H e q h = subst (λ (p : List ℕ → Bool). 1 ≤ length (filter p (all_states network))) (fun_ext (λ s. ap (λ (b : Bool). b && true) (sym (possible_kept H e s q)))) h
+
+left_resolved : (network : List Variable) (H : List Entry) (p : Pair) → 1 ≤ length (possible_states network H (has p)) → 1 ≤ length (possible_states network (H ++ Resolve p ∷ []) always)
+left_resolved network H p h = subst (λ (q : List ℕ → Bool). 1 ≤ length (filter q (all_states network))) (fun_ext (λ s. plain (is_possible H s) (has p s) ∙ ap (λ (b : Bool). b && true) (sym (possible_resolved H p s)))) h
+  where
+    plain : (a b : Bool) → (a && b) ≡ ((a && (b && true)) && true)
+    plain true true = refl
+    plain true false = refl
+    plain false b = refl
+
 no_fewer_users : (H : List Entry) (e : Entry) → join_in e ≡ None → length (users H) ≤ length (users (H ++ e ∷ []))
 no_fewer_users H e q = let same : length (users (H ++ e ∷ [])) ≡ length (users H) = ap length (users_kept H e q) in omega arith
 
@@ -53,6 +68,7 @@ module _ (network : List Variable) (H : List Entry) (proper : IsProper network H
     trades_fit = trades_fit_kept network H e q (no_fewer_users H e j) proper.trades_fit;
     resolutions_fit = resolutions_fit_kept network H e r proper.resolutions_fit;
     resolved_once = resolved_once_kept H e r proper.resolved_once;
+    some_left = left_kept network H e r proper.some_left;
   }
 
   join_proper : (name : List ℕ) → IsProper network (H ++ Join name ∷ [])
@@ -60,6 +76,7 @@ module _ (network : List Variable) (H : List Entry) (proper : IsProper network H
     trades_fit = trades_fit_kept network H (Join name) refl (let more : length (users (H ++ Join name ∷ [])) ≡ length (users H) + 1 = ap length (users_more H name) ∙ length-append (users H) (name ∷ []) in omega arith) proper.trades_fit;
     resolutions_fit = resolutions_fit_kept network H (Join name) refl proper.resolutions_fit;
     resolved_once = resolved_once_kept H (Join name) refl proper.resolved_once;
+    some_left = left_kept network H (Join name) refl proper.some_left;
   }
 
   trade_proper : (u : ℕ) (r : TradeRatio) → IsTradeOf network (length (users H)) (record { user = u; ratio = r }) → IsProper network (H ++ Trade u r ∷ [])
@@ -69,13 +86,15 @@ module _ (network : List Variable) (H : List Entry) (proper : IsProper network H
         (subst (Fits network (length (users H))) (sym (trades_more H u r)) (each-append (IsTradeOf network (length (users H))) (trades H) (record { user = u; ratio = r } ∷ []) proper.trades_fit (h, tt)));
     resolutions_fit = resolutions_fit_kept network H (Trade u r) refl proper.resolutions_fit;
     resolved_once = resolved_once_kept H (Trade u r) refl proper.resolved_once;
+    some_left = left_kept network H (Trade u r) refl proper.some_left;
   }
 
-  resolve_proper : (p : Pair) → IsPairOf network p → speaks_of (resolutions H) p.variable ≡ false → IsProper network (H ++ Resolve p ∷ [])
-  resolve_proper p h new = record {
+  resolve_proper : (p : Pair) → IsPairOf network p → speaks_of (resolutions H) p.variable ≡ false → 1 ≤ length (possible_states network H (has p)) → IsProper network (H ++ Resolve p ∷ [])
+  resolve_proper p h new left = record {
     trades_fit = trades_fit_kept network H (Resolve p) refl (no_fewer_users H (Resolve p) refl) proper.trades_fit;
     resolutions_fit = subst (AllByRecursion (IsPairOf network)) (sym (resolutions_more H p)) (each-append (IsPairOf network) (resolutions H) (p ∷ []) proper.resolutions_fit (h, tt));
     resolved_once = subst AreApart (sym (resolutions_more H p)) (apart_longer (resolutions H) p proper.resolved_once new);
+    some_left = left_resolved network H p left;
   }
 
 pub proper_next : (network : List Variable) (H : List Entry) (e : Entry) → IsProper network H → IsInRange network H e → IsProper network (H ++ e ∷ [])
@@ -83,11 +102,11 @@ proper_next network H (Join name) proper h = join_proper network H proper name
 proper_next network H (Deposit u bits) proper h = quiet network H proper (Deposit u bits) refl refl refl
 proper_next network H (Withdraw u bits) proper h = quiet network H proper (Withdraw u bits) refl refl refl
 proper_next network H (Trade u r) proper h = trade_proper network H proper u r h
-proper_next network H (Resolve p) proper h = resolve_proper network H proper p h.0 h.1
+proper_next network H (Resolve p) proper h = resolve_proper network H proper p h.0 h.1 h.2
 proper_next network H Settle proper h = quiet network H proper Settle refl refl refl
 
-pub empty_proper : (network : List Variable) → IsProper network []
-empty_proper network = record { trades_fit = tt; resolutions_fit = tt; resolved_once = tt }
+pub empty_proper : (network : List Variable) → IsNetwork network → IsProper network []
+empty_proper network net = record { trades_fit = tt; resolutions_fit = tt; resolved_once = tt; some_left = rw (filter_every (all_states network)) (some_can network net) }
 
 -- along a list of accepted changes
 pub sound_along : (market : Market) (H rest : List Entry) → IsSound (network_of market H) H → IsProper (network_of market H) H → AreAccepted market H rest
@@ -96,8 +115,8 @@ sound_along market H [] sound proper h = rw (append-nil H) (sound, proper)
 sound_along market H (e ∷ rest) sound proper h = rw (append_assoc H (e ∷ []) rest) at
     (sound_along market (H ++ e ∷ []) rest (sound_next (network_of market H) H e sound h.0) (proper_next (network_of market H) H e proper h.1) h.2)
 
-pub sound_always : (market : Market) (H : List Entry) → AreAccepted market [] H → IsSound (network_of market H) H × IsProper (network_of market H) H
-sound_always market H h = sound_along market [] H (empty_sound (network_of market [])) (empty_proper (network_of market [])) h
+pub sound_always : (market : Market) (H : List Entry) → IsNetwork market.network → AreAccepted market [] H → IsSound (network_of market H) H × IsProper (network_of market H) H
+sound_always market H net h = sound_along market [] H (empty_sound (network_of market [])) (empty_proper (network_of market []) net) h
 
 -- a pair that is fair and solvent on both sides
 side_fair : (network : List Variable) (H : List Entry) (u : ℕ) (asked : Asked) (test : List ℕ → Bool) (side : Side) (X F : ℕ) → IsSide network H u asked test side

@@ -1,17 +1,16 @@
 -- A possible state where some pairs hold: each variable takes its pair's value, else its resolved value, else its first.
-use Rattle.std.proofs.Common.{◌≡◌, ℕ, suc, ◌<◌, ◌≤◌, Bool, true, false, cond, ◌&&◌, ◌||◌, eqb, List, [], ◌∷◌, map, flat_map, filter, length, slice_index, refl, sym, ap, ◌∙◌, subst, arith, eq-eqb}
+use Rattle.std.proofs.Common.{◌≡◌, ℕ, ◌<◌, ◌≤◌, Bool, true, false, cond, ◌&&◌, ◌||◌, eqb, List, [], ◌∷◌, map, filter, length, slice_index, refl, sym, ◌∙◌, subst, arith, eq-eqb}
 use Rattle.std.specs.List.{range_with_len, list_any, AllByRecursion}
-use Rattle.std.proofs.lemmas.Bool.{eqb-true, and_from}
-use Rattle.std.proofs.lemmas.List.Folds.{list_any-append, list_any_at}
-use Rattle.std.proofs.lemmas.List.FromFn.{get_or-range_with_len, length-range_with_len, get_or-map-range_with_len, length-map-range_with_len}
+use Rattle.std.proofs.lemmas.Bool.{eqb-true, and_from, le-leb}
+use Rattle.std.proofs.lemmas.List.FromFn.{get_or-map-range_with_len, length-map-range_with_len}
 use Rattle.mk_net.specs.declared.words.Pair.{Pair}
 use Rattle.mk_net.specs.Network.{Variable, sizes, IsNetwork}
 use Rattle.mk_net.specs.Named.{nobody}
+use Rattle.mk_net.specs.Zeros.{HasNoZeros}
 use Rattle.mk_net.specs.Events.{speaks_of, AreApart}
-use Rattle.mk_net.proofs.Mapped.{any_of_map}
 use Rattle.mk_net.proofs.Events.{same_place, neither}
-use Rattle.mk_exact.specs.States.{states, numbers_below, IsState}
-use Rattle.mk_exact.specs.InitialWeight.{all_states, value_at}
+use Rattle.mk_exact.specs.States.{states, IsState}
+use Rattle.mk_exact.specs.InitialWeight.{can_come, initial_weight, value_at}
 use Rattle.mk_exact.specs.Events.{has, holds}
 use Rattle.mk_exact.specs.History.{Entry, resolutions}
 use Rattle.mk_exact.specs.Weight.{is_possible, possible_states}
@@ -19,7 +18,8 @@ use Rattle.mk_exact.specs.Proper.{IsPairOf, IsProper}
 use Rattle.mk_exact.specs.Laws.{AgreesWith}
 use Rattle.mk_exact.proofs.Sums.{each_both, each_weaker}
 use Rattle.mk_exact.proofs.Listed.{as_many}
-use Rattle.mk_exact.proofs.Positive.{size_at}
+use Rattle.mk_exact.proofs.Comes.{is_listed}
+use Rattle.mk_exact.proofs.Positive.{size_at, weight_without_zeros}
 
 -- the value that the first pair of a variable gives it, or another value where no pair does
 abbrev value_in : List Pair → ℕ → ℕ → ℕ
@@ -74,38 +74,17 @@ all_hold : (ps : List Pair) (s : List ℕ) → AllByRecursion (λ (p : Pair). va
 all_hold [] s h = refl
 all_hold (p ∷ ps) s h = and_from (has p s) (holds ps s) (eq-eqb (value_at s p.variable) p.value h.0) (all_hold ps s h.1)
 
--- a state that passes a test is among those that are listed
-any_of_flat_map : {X Y : Type 0} (test : Y → Bool) (g : X → List Y) (xs : List X) → list_any test (flat_map g xs) ≡ list_any (λ x. list_any test (g x)) xs
-any_of_flat_map test g [] = refl
-any_of_flat_map test g (x ∷ xs) = list_any-append test (g x) (flat_map g xs) ∙ ap (λ b. list_any test (g x) || b) (any_of_flat_map test g xs)
-
-is_listed : (sizes s : List ℕ) (test : List ℕ → Bool) → IsState sizes s → test s ≡ true → list_any test (states sizes) ≡ true
-is_listed [] [] test is_state passes = rw passes refl
-is_listed [] (v ∷ s) test is_state passes = absurd (let e : suc (length s) ≡ 0 = is_state.one_each in omega arith)
-is_listed (size ∷ sizes) [] test is_state passes = absurd (let e : 0 ≡ suc (length sizes) = is_state.one_each in omega arith)
-is_listed (size ∷ sizes) (v ∷ s) test is_state passes =
-    any_of_flat_map test (λ x. map (λ t. x ∷ t) (states sizes)) (numbers_below size)
-    ∙ list_any_at (λ x. list_any test (map (λ t. x ∷ t) (states sizes))) (numbers_below size) v 0 (omega (arith, below, length-range_with_len 0 size))
-    (rw is_v (any_of_map (λ t. v ∷ t) test (states sizes) ∙ is_listed sizes s (λ t. test (v ∷ t)) rest passes))
+kept_twice : {X : Type 0} (p q : X → Bool) (xs : List X) → list_any (λ x. p x && q x) xs ≡ true → 1 ≤ length (filter q (filter p xs))
+kept_twice p q [] h = absurd (cc)
+kept_twice p q (x ∷ xs) h = at (p x) (q x) refl h (kept_twice p q xs)
   where
-    below : v < size
-    below = is_state.in_range 0 (omega arith)
+    at : (b c : Bool) → q x ≡ c → (b && c) || list_any (λ x. p x && q x) xs ≡ true → (list_any (λ x. p x && q x) xs ≡ true → 1 ≤ length (filter q (filter p xs)))
+        → 1 ≤ length (filter q (cond b (x ∷ filter p xs) (filter p xs)))
+    at true true e h rest = rw e (omega arith)
+    at true false e h rest = rw e (rest h)
+    at false c e h rest = rest h
 
-    is_v : slice_index (numbers_below size) v ≡ v
-    is_v = get_or-range_with_len 0 size v 0 below ∙ omega arith
-
-    rest : IsState sizes s
-    rest = record { one_each = let e : suc (length s) ≡ suc (length sizes) = is_state.one_each in omega arith; in_range = λ k p. is_state.in_range (suc k) (omega arith) }
-
-some_kept : {X : Type 0} (test : X → Bool) (xs : List X) → list_any test xs ≡ true → 1 ≤ length (filter test xs)
-some_kept test [] h = absurd (cc)
-some_kept test (x ∷ xs) h = at (test x) h (some_kept test xs)
-  where
-    at : (b : Bool) → b || list_any test xs ≡ true → (list_any test xs ≡ true → 1 ≤ length (filter test xs)) → 1 ≤ length (cond b (x ∷ filter test xs) (filter test xs))
-    at true h rest = omega arith
-    at false h rest = rest h
-
-module _ (network : List Variable) (H : List Entry) (pairs : List Pair) (net : IsNetwork network) (proper : IsProper network H) (fits : AllByRecursion (IsPairOf network) pairs) where
+module _ (network : List Variable) (H : List Entry) (pairs : List Pair) (net : IsNetwork network) (none : HasNoZeros network) (proper : IsProper network H) (fits : AllByRecursion (IsPairOf network) pairs) where
   s : List ℕ
   s = map (chosen pairs (resolutions H)) (range_with_len 0 (length network))
 
@@ -129,11 +108,12 @@ module _ (network : List Variable) (H : List Entry) (pairs : List Pair) (net : I
       (each_both (IsPairOf network) (λ (p : Pair). chosen pairs (resolutions H) p.variable ≡ p.value) ps in_range values))
 
   pub state_remains : AreApart pairs → AllByRecursion (λ p. AllByRecursion (AgreesWith p) (resolutions H)) pairs → 1 ≤ length (possible_states network H (holds pairs))
-  state_remains apart agree = some_kept (λ t. is_possible H t && holds pairs t) (all_states network)
-      (is_listed (sizes network) s (λ t. is_possible H t && holds pairs t) is_state
+  state_remains apart agree = kept_twice (can_come network) (λ t. is_possible H t && holds pairs t) (states (sizes network))
+      (is_listed (sizes network) s (λ t. can_come network t && (is_possible H t && holds pairs t)) is_state
+      (and_from (can_come network s) (is_possible H s && holds pairs s) (le-leb 1 (initial_weight network s) (weight_without_zeros network net s is_state none))
       (and_from (is_possible H s) (holds pairs s)
       (with_values (resolutions H) proper.resolutions_fit resolved)
-      (with_values pairs fits (held pairs (value_in (resolutions H) 0) apart))))
+      (with_values pairs fits (held pairs (value_in (resolutions H) 0) apart)))))
     where
       resolved : AllByRecursion (λ (r : Pair). chosen pairs (resolutions H) r.variable ≡ r.value) (resolutions H)
       resolved = each_weaker (λ (r : Pair). AllByRecursion (λ p. AgreesWith p r) pairs × (value_in (resolutions H) 0 r.variable ≡ r.value)) (λ (r : Pair). chosen pairs (resolutions H) r.variable ≡ r.value)

@@ -7,16 +7,17 @@ use Rattle.std.proofs.lemmas.List.Sums.{sum_by-cons, sum-map}
 use Rattle.std.proofs.lemmas.List.FromFn.{fill_by_all}
 use Rattle.std.proofs.lemmas.List.{get_or_past}
 use Rattle.std.proofs.lemmas.List.Elements.{All-head}
-use Rattle.std.proofs.lemmas.Bool.{cases_lt, cases_eq}
-use Rattle.mk_net.specs.Network.{Variable, IsNetwork, IsRow}
-use Rattle.mk_exact.specs.States.{numbers_below}
-use Rattle.mk_exact.specs.InitialWeight.{all_states, initial_weight, initial_total}
+use Rattle.std.proofs.lemmas.Bool.{cases_lt, cases_eq, le-leb}
+use Rattle.mk_net.specs.Network.{Variable, sizes, IsNetwork, IsRow}
+use Rattle.mk_exact.specs.States.{states, numbers_below}
+use Rattle.mk_exact.specs.InitialWeight.{all_states, can_come, initial_weight, initial_total}
 use Rattle.mk_exact.specs.Events.{holds, with_target, always}
 use Rattle.mk_exact.specs.Weight.{weight, total}
 use Rattle.mk_exact.specs.Sound.{IsSound}
 use Rattle.mk_exact.specs.Laws.{OpensWithRow}
+use Rattle.mk_exact.proofs.Sums.{sum_by-filter}
 
-pub single_states : (v : Variable) → all_states (v ∷ []) ≡ map (λ x. x ∷ []) (numbers_below (length v.values))
+pub single_states : (v : Variable) → states (sizes (v ∷ [])) ≡ map (λ x. x ∷ []) (numbers_below (length v.values))
 single_states v = flat_map_single (λ x. x ∷ []) (numbers_below (length v.values))
 
 pub single_weight : (v : Variable) (row : List ℕ) → v.parents ≡ [] → v.rows ≡ row ∷ [] → (x : ℕ) → initial_weight (v ∷ []) (x ∷ []) ≡ get_or row x 0
@@ -27,15 +28,23 @@ map-map g f [] = refl
 map-map g f (x ∷ xs) = ap (λ ys. g (f x) ∷ ys) (map-map g f xs)
 
 pub single_weights : (v : Variable) (row : List ℕ) → v.parents ≡ [] → v.rows ≡ row ∷ [] → length row ≡ length v.values
-    → map (initial_weight (v ∷ [])) (all_states (v ∷ [])) ≡ row
+    → map (initial_weight (v ∷ [])) (states (sizes (v ∷ []))) ≡ row
 single_weights v row e f l =
     ap (map (initial_weight (v ∷ []))) (single_states v)
     ∙ map-map (initial_weight (v ∷ [])) (λ x. x ∷ []) (numbers_below (length v.values))
     ∙ ap (λ (h : ℕ → ℕ). map h (numbers_below (length v.values))) (fun_ext (single_weight v row e f))
     ∙ sym (fill_by_all (λ x. get_or row x 0) row (length v.values) 0 l (λ k h. refl))
 
+-- what is nothing where the initial weight is sums to the same over the states that can come as over all lists of values
+pub over_all : (network : List Variable) (f : List ℕ → ℕ) → ((s : List ℕ) → initial_weight network s ≡ 0 → f s ≡ 0) → sum_by f (all_states network) ≡ sum_by f (states (sizes network))
+over_all network f nothing = sum_by-filter f (can_come network) (states (sizes network)) ∙ ap (λ (g : List ℕ → ℕ). sum_by g (states (sizes network))) (fun_ext (λ s. at s (initial_weight network s) refl))
+  where
+    at : (s : List ℕ) (n : ℕ) → initial_weight network s ≡ n → cond (can_come network s) (f s) 0 ≡ f s
+    at s zero e = rw e (sym (nothing s e))
+    at s (suc n) e = ap (λ (b : Bool). cond b (f s) 0) (le-leb 1 (initial_weight network s) (omega (arith, e)))
+
 pub single_total : (v : Variable) (row : List ℕ) → v.parents ≡ [] → v.rows ≡ row ∷ [] → length row ≡ length v.values → initial_total (v ∷ []) ≡ sum row
-single_total v row e f l = sym (sum-map (initial_weight (v ∷ [])) (all_states (v ∷ []))) ∙ ap sum (single_weights v row e f l)
+single_total v row e f l = over_all (v ∷ []) (initial_weight (v ∷ [])) (λ s h. h) ∙ sym (sum-map (initial_weight (v ∷ [])) (states (sizes (v ∷ [])))) ∙ ap sum (single_weights v row e f l)
 
 -- the one value of a range that is v, or none
 sum_before : (f : ℕ → ℕ) (a n v : ℕ) → v < a → sum_by f (filter (λ x. eqb x v) (range_with_len a n)) ≡ 0
@@ -59,7 +68,7 @@ sum_after f (suc n) a v h = rw (ne_eqb a v (λ e. omega arith)) (sum_after f n (
 pub empty_weight : (network : List Variable) (s : List ℕ) → weight network [] s ≡ initial_weight network s
 empty_weight network s = mul-one (initial_weight network s)
 
-filter_every : {X : Type 0} (xs : List X) → filter (λ (x : X). true) xs ≡ xs
+pub filter_every : {X : Type 0} (xs : List X) → filter (λ (x : X). true) xs ≡ xs
 filter_every [] = refl
 filter_every (x ∷ xs) = ap (λ ys. x ∷ ys) (filter_every xs)
 
@@ -88,6 +97,9 @@ pub single_target_total : (v : Variable) (row : List ℕ) → v.parents ≡ [] �
     → (value : ℕ) → total (v ∷ []) [] (with_target (record { target = record { variable = 0; value = value }; condition = [] })) ≡ get_or row value 0
 single_target_total v row e f l value =
     empty_total (v ∷ []) test
+    ∙ sum_by-filter (initial_weight (v ∷ [])) test (all_states (v ∷ []))
+    ∙ over_all (v ∷ []) (λ s. cond (test s) (initial_weight (v ∷ []) s) 0) (λ s h. ap (λ (n : ℕ). cond (test s) n 0) h ∙ either (test s) 0)
+    ∙ sym (sum_by-filter (initial_weight (v ∷ [])) test (states (sizes (v ∷ []))))
     ∙ ap (λ ss. sum_by (initial_weight (v ∷ [])) (filter test ss)) (single_states v)
     ∙ ap (sum_by (initial_weight (v ∷ []))) (filter-map test (λ x. x ∷ []) (numbers_below (length v.values)))
     ∙ sum_by-map (initial_weight (v ∷ [])) (λ x. x ∷ []) (filter (λ x. eqb x value) (numbers_below (length v.values)))
@@ -96,6 +108,10 @@ single_target_total v row e f l value =
   where
     test : List ℕ → Bool
     test = with_target (record { target = record { variable = 0; value = value }; condition = [] })
+
+    either : (b : Bool) (n : ℕ) → cond b n n ≡ n
+    either true n = refl
+    either false n = refl
 
     picked : ((value < length v.values) ⊎ (length v.values ≤ value)) → sum_by (λ x. get_or row x 0) (filter (λ x. eqb x value) (numbers_below (length v.values))) ≡ get_or row value 0
     picked (inl h) = sum_at (λ x. get_or row x 0) (length v.values) 0 value (omega arith) (omega arith)

@@ -16,7 +16,7 @@ use Rattle.mk_exact.specs.Prices.{IsSolvent}
 use Rattle.mk_exact.specs.Proper.{IsPairOf}
 use Rattle.mk_exact.specs.Sides.{ratio_in, traded, AreSolvent}
 use Rattle.mk_exact.proofs.Sums.{each_kept, kept_each, each_weaker, each_both}
-use Rattle.mk_exact.proofs.Listed.{states_are}
+use Rattle.mk_exact.proofs.Listed.{all_are}
 use Rattle.mk_exact.proofs.Pairs.{ratio_in_at}
 use Rattle.mk_exact.proofs.After.{possible_kept, gain_traded, trade_count_traded, deposited_kept, withdrawn_kept}
 
@@ -115,7 +115,7 @@ module _ (network : List Variable) (H : List Entry) (u : ℕ) (asked : Asked) (F
       → All (λ s. IsSolvent (ratio_at (ratio_in network asked F_t F_n) s) (factor H u s)) (possible_states network H (holds asked.condition))
   pair_solvent solvent = kept_each (λ s. is_possible H s && holds asked.condition s) (λ s. IsSolvent (ratio_at (ratio_in network asked F_t F_n) s) (factor H u s)) (all_states network)
       (each_weaker (λ s. IsState (sizes network) s × (Hit s × Miss s)) Solvent (λ s h. solvent_state s h.0 h.1.0 h.1.1) (all_states network)
-      (each_both (IsState (sizes network)) (λ s. Hit s × Miss s) (all_states network) (states_are (sizes network))
+      (each_both (IsState (sizes network)) (λ s. Hit s × Miss s) (all_states network) (all_are network)
       (each_both Hit Miss (all_states network) (least_solvent F_t (with_target asked) solvent.hit) (least_solvent F_n (without_target asked) solvent.miss))))
     where
       Hit : List ℕ → Type 0

@@ -55,6 +55,11 @@ pub plus_over-map : {X Y V : Type 0} (plus : V → V → V) (none : V) (f : X �
 plus_over-map plus none f g [] = refl
 plus_over-map plus none f g (y ∷ ys) = ap (plus (f (g y))) (plus_over-map plus none f g ys)
 
+-- two of what is equal at each element
+pub plus_over_each : {X V : Type 0} (plus : V → V → V) (none : V) (f g : X → V) (xs : List X) → AllByRecursion (λ x. f x ≡ g x) xs → plus_over plus none f xs ≡ plus_over plus none g xs
+plus_over_each plus none f g [] h = refl
+plus_over_each plus none f g (x ∷ xs) h = ap (λ v. plus v (plus_over plus none f xs)) h.0 ∙ ap (plus (g x)) (plus_over_each plus none f g xs h.1)
+
 -- over all states, one variable after the other
 pub plus_over-states : {V : Type 0} (plus : V → V → V) (none : V) → IsPlus plus none → (f : List ℕ → V) (size : ℕ) (sizes : List ℕ)
     → plus_over plus none f (states (size ∷ sizes)) ≡ plus_over plus none (λ v. plus_over plus none (λ s. f (v ∷ s)) (states sizes)) (numbers_below size)

@@ -13,7 +13,7 @@ use Rattle.mk_exact.specs.Weight.{weight, total, is_possible, possible_states}
 use Rattle.mk_exact.specs.Proper.{IsPairOf}
 use Rattle.mk_exact.specs.Sides.{ratio_in, traded}
 use Rattle.mk_exact.proofs.Sums.{sum_by-filter, sum_by-plus, sum_by-times, sum_by_each, each_weaker}
-use Rattle.mk_exact.proofs.Listed.{states_are}
+use Rattle.mk_exact.proofs.Listed.{all_are}
 use Rattle.mk_exact.proofs.Pairs.{pair_at, ratio_in_at}
 use Rattle.mk_exact.proofs.After.{weight_traded, possible_kept}
 
@@ -124,7 +124,7 @@ module _ (network : List Variable) (H : List Entry) where
     is_asked test =
         is_traded u (ratio_in network asked F_t F_n) test
         ∙ sum_by_each (part_traded u (ratio_in network asked F_t F_n) test) (part_asked test) (all_states network)
-        (each_weaker (IsState (sizes network)) (λ s. part_traded u (ratio_in network asked F_t F_n) test s ≡ part_asked test s) at (all_states network) (states_are (sizes network)))
+        (each_weaker (IsState (sizes network)) (λ s. part_traded u (ratio_in network asked F_t F_n) test s ≡ part_asked test s) at (all_states network) (all_are network))
       where
         at : (s : List ℕ) → IsState (sizes network) s → part_traded u (ratio_in network asked F_t F_n) test s ≡ part_asked test s
         at s is_state = ap (λ (n : ℕ). cond (is_possible H s && test s) (weight network H s * n) 0) (ratio_in_at network asked F_t F_n fits s is_state)

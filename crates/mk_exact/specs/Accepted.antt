@@ -3,7 +3,7 @@ use Rattle.std.specs.Prelude.{ℕ, ◌+◌, ◌-◌, ◌*◌, ◌^◌, ◌<◌, 
 use Rattle.mk_net.specs.Network.{Variable}
 use Rattle.mk_net.specs.Asked.{TradeRatio}
 use Rattle.mk_net.specs.Events.{speaks_of}
-use Rattle.mk_exact.specs.Events.{holds, always}
+use Rattle.mk_exact.specs.Events.{has, holds, always}
 use Rattle.mk_exact.specs.Ratios.{unit, ratio_at}
 use Rattle.mk_exact.specs.History.{Entry, Join, Deposit, Withdraw, Trade, Resolve, Settle, users, resolutions}
 use Rattle.mk_exact.specs.Weight.{weight, total, possible_states}
@@ -45,7 +45,7 @@ IsInRange network H (Join name) = ⊤
 IsInRange network H (Deposit u bits) = ⊤
 IsInRange network H (Withdraw u bits) = ⊤
 IsInRange network H (Trade u r) = IsTradeOf network (length (users H)) (record { user = u; ratio = r })
-IsInRange network H (Resolve p) = IsPairOf network p × (speaks_of (resolutions H) p.variable ≡ false)
+IsInRange network H (Resolve p) = IsPairOf network p × (speaks_of (resolutions H) p.variable ≡ false) × (1 ≤ length (possible_states network H (has p)))
 IsInRange network H Settle = ⊤
 
 -- each change of a list is acceptable and in range after those before it

@@ -1,15 +1,17 @@
--- Four small networks, the first market's history, and their numbers.
-use Rattle.std.specs.Prelude.{◌≡◌, ℕ, ◌^◌, List, [], ◌∷◌, ◌++◌, map, codes, Some, None, not}
+-- Five small networks, the first market's history, and their numbers.
+use Rattle.std.specs.Prelude.{◌≡◌, ℕ, ◌^◌, false, List, [], ◌∷◌, ◌++◌, true, map, codes, Some, None, not}
 use Rattle.mk_net.specs.declared.words.Pair.{Pair}
 use Rattle.mk_net.specs.Network.{Variable, IsNetwork}
 use Rattle.mk_net.specs.Asked.{Asked}
+use Rattle.mk_net.specs.Zeros.{with_zeros}
 use Rattle.mk_exact.specs.InitialWeight.{all_states, initial_total}
 use Rattle.mk_exact.specs.Events.{has, with_target, always}
 use Rattle.mk_exact.specs.History.{Entry, Join, Deposit, Resolve}
-use Rattle.mk_exact.specs.Weight.{weight, total, possible_states, IsSmall}
+use Rattle.mk_exact.specs.Weight.{weight, total, possible_states, cannot_come, IsSmall}
 use Rattle.mk_exact.specs.Factors.{Fraction, factor, factor_with, least_gain}
 use Rattle.mk_exact.specs.Prices.{exact_price}
 use Rattle.mk_exact.specs.Cash.{IsCash}
+use Rattle.mk_exact.specs.Risk.{least_weight, CoversBound}
 use Rattle.mk_exact.specs.Accepted.{IsMost, AreAccepted}
 use Rattle.mk_exact.specs.Market.{Market}
 use Rattle.mk_exact.specs.Limits.{Side}
@@ -109,7 +111,7 @@ pub record HasTraded : Type 0 where
 
 -- a market of the coin
 abbrev pub coin_alone : Market
-coin_alone = record { network = coin; cliques = (0 ∷ []) ∷ []; points_per_bit = 100; max_trades = 1000 }
+coin_alone = record { network = coin; cliques = (0 ∷ []) ∷ []; points_per_bit = 100; max_trades = 1000; zeros = false }
 
 -- the pair was fair and solvent, and the history is accepted
 pub record WasSafe : Type 0 where
@@ -174,3 +176,28 @@ pub record HasTwoTraders : Type 0 where
   pub after_a_up : exact_price chain (both_traded ++ Resolve (is 0 0) ∷ []) (ask 2 0 [])
       ≡ fraction 350588487688242460664791040000000000000000 604462909807248616655421440000000000000000
   pub alice_after_a_up : least_gain chain (both_traded ++ Resolve (is 0 0) ∷ []) 0 always ≡ Some 1099511627776
+
+-- a cup of four: two even semi-finals, and an even final of those who win them
+abbrev pub even_row : List ℕ
+even_row = 500000 ∷ 500000 ∷ []
+
+abbrev pub cup : List Variable
+cup = variable (codes "s1") (codes "a" ∷ codes "b" ∷ []) [] (even_row ∷ [])
+    ∷ variable (codes "s2") (codes "c" ∷ codes "d" ∷ []) [] (even_row ∷ [])
+    ∷ variable (codes "w") (codes "a" ∷ codes "b" ∷ codes "c" ∷ codes "d" ∷ []) (0 ∷ 1 ∷ [])
+    ((500000 ∷ 0 ∷ 500000 ∷ 0 ∷ []) ∷ (500000 ∷ 0 ∷ 0 ∷ 500000 ∷ []) ∷ (0 ∷ 500000 ∷ 500000 ∷ 0 ∷ []) ∷ (0 ∷ 500000 ∷ 0 ∷ 500000 ∷ []) ∷ []) ∷ []
+
+-- half of the lists of values cannot come: the cup is not won by who lost a semi-final, and who won it surely won a semi-final
+pub record HasZeros : Type 0 where
+  pub cup_is : IsNetwork cup
+  pub winner_has : with_zeros cup ≡ 2 ∷ []
+  pub cup_total : initial_total cup ≡ 10 ^ 18
+  pub states : all_states cup ≡ (0 ∷ 0 ∷ 0 ∷ []) ∷ (0 ∷ 0 ∷ 2 ∷ []) ∷ (0 ∷ 1 ∷ 0 ∷ []) ∷ (0 ∷ 1 ∷ 3 ∷ [])
+      ∷ (1 ∷ 0 ∷ 1 ∷ []) ∷ (1 ∷ 0 ∷ 2 ∷ []) ∷ (1 ∷ 1 ∷ 1 ∷ []) ∷ (1 ∷ 1 ∷ 3 ∷ []) ∷ []
+  pub never : exact_price cup [] (ask 2 0 (is 0 1 ∷ [])) ≡ fraction 0 500000000000000000
+  pub sure : exact_price cup [] (ask 0 0 (is 2 0 ∷ [])) ≡ fraction 250000000000000000 250000000000000000
+  pub lost : cannot_come cup (Resolve (is 0 1) ∷ []) (has (is 2 0)) ≡ true
+  pub open_still : cannot_come cup (Resolve (is 0 1) ∷ []) (has (is 2 2)) ≡ false
+  pub least : least_weight cup [] ≡ Some 125000000000000000
+  pub three_bits : CoversBound (10 ^ 18) 125000000000000000 100 300 300
+  pub not_four : CoversBound (10 ^ 18) 125000000000000000 100 300 400 → ⊥

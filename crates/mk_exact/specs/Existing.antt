@@ -6,18 +6,19 @@ use Rattle.mk_net.specs.Bounds.{max_market_trades, max_transfers, max_transfer_b
 use Rattle.mk_net.specs.Network.{Variable, IsNetwork}
 use Rattle.mk_net.specs.Asked.{Asked}
 use Rattle.mk_net.specs.Events.{speaks_of, AreApart}
-use Rattle.mk_exact.specs.Events.{always}
+use Rattle.mk_exact.specs.InitialWeight.{initial_total}
+use Rattle.mk_exact.specs.Events.{holds, with_target, without_target, always}
 use Rattle.mk_exact.specs.History.{Entry, Deposit, Withdraw, Trade, UserTrade, bits_in, is_transfer, trades, resolutions}
 use Rattle.mk_exact.specs.Weight.{possible_states, IsSmall}
 use Rattle.mk_exact.specs.Factors.{Fraction, factor, factor_with, least_gain, IsAtLeastOne}
 use Rattle.mk_exact.specs.Prices.{CoversPrice, exact_price}
 use Rattle.mk_exact.specs.Cash.{IsCash, CoversCash}
+use Rattle.mk_exact.specs.Risk.{least_weight, CoversBound}
 use Rattle.mk_exact.specs.Accepted.{Covers, IsMost}
 use Rattle.mk_exact.specs.Limits.{Side, Inside, AreRight}
 use Rattle.mk_exact.specs.Sound.{IsSound}
 use Rattle.mk_exact.specs.Proper.{IsQuestionOf, IsProper}
 use Rattle.mk_exact.specs.Sides.{AreSides, AreRightLimits, IsFairPair, ratio_in}
-use Rattle.mk_exact.specs.Laws.{AgreesWith}
 
 -- ---- numbers
 
@@ -78,25 +79,57 @@ abbrev pub LimitsJudge : Type 0
 LimitsJudge = (network : List Variable) (H : List Entry) (u : ℕ) (asked : Asked) (limits : Option (ℕ × ℕ)) (X : ℕ)
     → AreRightLimits network H u asked limits → (Inside limits X × HasFairPair network H u asked X) ⊎ (¬ Inside limits X)
 
--- a question that can be asked: its pairs are the network's, its condition gives no variable two values and its target's none,
--- and no resolution gives the target's variable a value, or a variable of the condition another
-pub record CanBeAsked (network : List Variable) (H : List Entry) (asked : Asked) : Type 0 where
+-- a price of at most one, none or more
+pub record IsPortion (price : Fraction) : Type 0 where
+  pub divides : 1 ≤ price.den
+  pub at_most_one : price.num ≤ price.den
+
+-- a question in order: its pairs are the network's, its condition gives no variable two values and its target's none, and no
+-- resolution gives the target's variable a value
+pub record IsInOrder (network : List Variable) (H : List Entry) (asked : Asked) : Type 0 where
   pub in_range : IsQuestionOf network asked
   pub apart : AreApart asked.condition
   pub target_apart : speaks_of asked.condition asked.target.variable ≡ false
   pub unresolved : speaks_of (resolutions H) asked.target.variable ≡ false
-  pub agrees : AllByRecursion (λ p. AllByRecursion (AgreesWith p) (resolutions H)) asked.condition
+
+-- a question that can be asked: it is in order, and in some possible state its condition holds
+pub record CanBeAsked (network : List Variable) (H : List Entry) (asked : Asked) : Type 0 where
+  pub in_order : IsInOrder network H asked
+  pub some_state : 1 ≤ length (possible_states network H (holds asked.condition))
+
+-- a question whose price can move: its target may come where its condition holds, and may not
+pub record CanMove (network : List Variable) (H : List Entry) (asked : Asked) : Type 0 where
+  pub can_ask : CanBeAsked network H asked
+  pub some_hit : 1 ≤ length (possible_states network H (with_target asked))
+  pub some_miss : 1 ≤ length (possible_states network H (without_target asked))
 
 -- some state stays possible
 abbrev pub StateExists : Type 0
 StateExists = (network : List Variable) (H : List Entry) → IsNetwork network → IsProper network H → 1 ≤ length (possible_states network H always)
 
--- a positive exact price of at most one, and an interval that covers it
+-- an exact price of at most one, and an interval that covers it
 pub record HasPrice (network : List Variable) (H : List Entry) (asked : Asked) : Type 0 where
-  pub exact : IsPositivePrice (exact_price network H asked)
+  pub exact : IsPortion (exact_price network H asked)
   pub low : ℕ
   pub high : ℕ
   pub covers : CoversPrice (IsSmall network H) (exact_price network H asked) low high
+
+-- some interval covers the most that the operator can lose
+pub record HasBound (network : List Variable) (H : List Entry) (b : ℕ) : Type 0 where
+  pub least : ℕ
+  pub is_least : least_weight network H ≡ Some least
+  pub low : ℕ
+  pub high : ℕ
+  pub covers : CoversBound (initial_total network) least b low high
+
+-- in a proper history there is one
+abbrev pub BoundExists : Type 0
+BoundExists = (network : List Variable) (H : List Entry) (b : ℕ) → IsNetwork network → IsProper network H → HasBound network H b
+
+-- at up to a million points per bit it fits 63 bits
+abbrev pub BoundFits : Type 0
+BoundFits = (network : List Variable) (H : List Entry) (b least low high : ℕ) → IsNetwork network → b ≤ million → least_weight network H ≡ Some least
+    → CoversBound (initial_total network) least b low high → high < number_limit
 
 -- each question that can be asked has a price
 abbrev pub PriceExists : Type 0
@@ -130,12 +163,12 @@ pub record HasSides (network : List Variable) (H : List Entry) (u : ℕ) (asked 
 -- in a sound market each question that can be asked has both sides, for each user
 abbrev pub SidesExist : Type 0
 SidesExist = (network : List Variable) (H : List Entry) (u : ℕ) (asked : Asked) → IsNetwork network → IsProper network H → IsSound network H
-    → CanBeAsked network H asked → HasSides network H u asked
+    → CanMove network H asked → HasSides network H u asked
 
 -- and right limits
 abbrev pub RightLimitsExist : Type 0
 RightLimitsExist = (network : List Variable) (H : List Entry) (u : ℕ) (asked : Asked) → IsNetwork network → IsProper network H → IsSound network H
-    → CanBeAsked network H asked → (limits : Option (ℕ × ℕ)) × AreRightLimits network H u asked limits
+    → CanMove network H asked → (limits : Option (ℕ × ℕ)) × AreRightLimits network H u asked limits
 
 -- the one state that is possible; each user's factor in it is at least one
 pub record HasOutcome (network : List Variable) (H : List Entry) : Type 0 where

@@ -1,12 +1,8 @@
 -- The initial weight of a state: the product of the shares that it picks.
-use Rattle.std.specs.Prelude.{ℕ, ◌+◌, ◌*◌, List, [], length, slice_index, slice_index_or, fold, sum_by}
+use Rattle.std.specs.Prelude.{ℕ, ◌+◌, ◌*◌, List, Bool, [], length, slice_index, slice_index_or, fold, sum_by, filter, nat_le}
 use Rattle.mk_net.specs.Network.{Variable, sizes}
 use Rattle.mk_net.specs.Named.{variable_at}
 use Rattle.mk_exact.specs.States.{states, numbers_below, product_by}
-
--- every state of a network
-abbrev pub all_states : List Variable → List (List ℕ)
-all_states network = states (sizes network)
 
 -- the value that a state gives a variable
 abbrev pub value_at : List ℕ → ℕ → ℕ
@@ -25,6 +21,14 @@ entry network k s =
 -- the product of the shares that a state picks
 abbrev pub initial_weight : List Variable → List ℕ → ℕ
 initial_weight network s = product_by (λ k. entry network k s) (numbers_below (length network))
+
+-- a state can come where none of the shares that it picks is nothing
+abbrev pub can_come : List Variable → List ℕ → Bool
+can_come network s = nat_le 1 (initial_weight network s)
+
+-- every state of a network: the lists that give each variable one of its values, and that can come
+abbrev pub all_states : List Variable → List (List ℕ)
+all_states network = filter (can_come network) (states (sizes network))
 
 -- the initial weights of all states together
 abbrev pub initial_total : List Variable → ℕ

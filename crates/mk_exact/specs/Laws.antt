@@ -1,17 +1,19 @@
 -- The laws of the exact market. Each is the contract of a function of this crate, and so proved.
-use Rattle.std.specs.Prelude.{◌≡◌, ℕ, ◌+◌, ◌*◌, ◌^◌, ◌<◌, ◌≤◌, List, [], ◌∷◌, ◌++◌, map, length, slice_index, All, sum, sum_by}
+use Rattle.std.specs.Prelude.{◌≡◌, ℕ, ◌+◌, ◌*◌, ◌^◌, ◌<◌, ◌≤◌, List, [], ◌∷◌, ◌++◌, map, length, slice_index, All, Some, sum, sum_by}
 use Rattle.std.specs.List.{AllByRecursion}
 use Rattle.mk_net.specs.declared.words.Pair.{Pair}
 use Rattle.mk_net.specs.Bounds.{million}
-use Rattle.mk_net.specs.Network.{Variable, IsNetwork}
+use Rattle.mk_net.specs.Network.{Variable, sizes, IsNetwork}
+use Rattle.mk_net.specs.Zeros.{HasNoZeros}
 use Rattle.mk_net.specs.Events.{AreApart}
 use Rattle.mk_net.specs.Asked.{Asked}
 use Rattle.mk_exact.specs.InitialWeight.{all_states, entry, initial_weight, initial_total}
 use Rattle.mk_exact.specs.Events.{holds, with_target, always}
 use Rattle.mk_exact.specs.Ratios.{unit}
 use Rattle.mk_exact.specs.History.{Entry, users, resolutions, deposited, withdrawn}
-use Rattle.mk_exact.specs.States.{numbers_below, product_by}
+use Rattle.mk_exact.specs.States.{states, numbers_below, product_by}
 use Rattle.mk_exact.specs.Cash.{IsCash}
+use Rattle.mk_exact.specs.Risk.{least_weight, CoversBound}
 use Rattle.mk_exact.specs.Proper.{IsPairOf, IsProper}
 use Rattle.mk_exact.specs.Accepted.{IsAcceptable, IsInRange, AreAccepted, IsSafeTrade}
 use Rattle.mk_exact.specs.Weight.{total, weight, possible_states}
@@ -35,7 +37,7 @@ first_is value = record { target = record { variable = 0; value = value }; condi
 
 -- in an unused market of one question, the shares of its row are the weights, and together a million
 pub record OpensWithRow (v : Variable) (row : List ℕ) : Type 0 where
-  pub weights : map (initial_weight (v ∷ [])) (all_states (v ∷ [])) ≡ row
+  pub weights : map (initial_weight (v ∷ [])) (states (sizes (v ∷ []))) ≡ row
   pub initial : initial_total (v ∷ []) ≡ million
   pub each : (value : ℕ) → total (v ∷ []) [] (with_target (first_is value)) ≡ slice_index row value
   pub all : total (v ∷ []) [] (holds []) ≡ million
@@ -80,7 +82,7 @@ ProperNext = (market : Market) (H : List Entry) (e : Entry) → IsProper (networ
 
 -- a market is sound, and its history proper, after any number of accepted changes
 abbrev pub SoundAlways : Type 0
-SoundAlways = (market : Market) (H : List Entry) → AreAccepted market [] H → IsSound (network_of market H) H × IsProper (network_of market H) H
+SoundAlways = (market : Market) (H : List Entry) → IsNetwork market.network → AreAccepted market [] H → IsSound (network_of market H) H × IsProper (network_of market H) H
 
 -- a fair and solvent pair for X, as a quote's limits promise it, makes a safe trade
 abbrev pub FairPairIsSafe : Type 0
@@ -91,9 +93,9 @@ FairPairIsSafe = (network : List Variable) (H : List Entry) (u : ℕ) (asked : A
 abbrev pub AgreesWith : Pair → Pair → Type 0
 AgreesWith p r = r.variable ≡ p.variable → r.value ≡ p.value
 
--- pairs that give no variable two values, and no resolved variable another value than its own, hold in some possible state
+-- without zeros pairs that give no variable two values, and no resolved variable another value than its own, hold in some possible state
 abbrev pub StateRemains : Type 0
-StateRemains = (network : List Variable) (H : List Entry) (pairs : List Pair) → IsNetwork network → IsProper network H
+StateRemains = (network : List Variable) (H : List Entry) (pairs : List Pair) → IsNetwork network → HasNoZeros network → IsProper network H
     → AllByRecursion (IsPairOf network) pairs → AreApart pairs → AllByRecursion (λ p. AllByRecursion (AgreesWith p) (resolutions H)) pairs
     → 1 ≤ length (possible_states network H (holds pairs))
 
@@ -137,3 +139,15 @@ SharesPositive = (network : List Variable) → IsNetwork network → All (HasSha
 -- in a proper history no state's weight falls to nothing
 abbrev pub WeightsPositive : Type 0
 WeightsPositive = (network : List Variable) (H : List Entry) → IsNetwork network → IsProper network H → All (λ s. 1 ≤ weight network H s) (all_states network)
+
+-- the initial weights of all states together are a million for each variable
+abbrev pub InitialTotalIsMillions : Type 0
+InitialTotalIsMillions = (network : List Variable) → IsNetwork network → initial_total network ≡ million ^ length network
+
+-- in each state that is left, what is paid and withdrawn at last exceeds what is deposited by no more than a bound's high end
+abbrev pub BoundHolds : Type 0
+BoundHolds = (network : List Variable) (H later : List Entry) (b least low high : ℕ) (paid : List ℕ) → least_weight network H ≡ Some least
+    → CoversBound (initial_total network) least b low high
+    → All (λ s. LossIsBounded network later b s paid
+    → sum paid + b * sum_by (withdrawn later) (numbers_below (length (users later)))
+    ≤ b * sum_by (deposited later) (numbers_below (length (users later))) + high) (possible_states network H always)

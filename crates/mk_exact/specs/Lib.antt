@@ -8,6 +8,7 @@ pub mod Factors
 pub mod Prices
 pub mod Limits
 pub mod Cash
+pub mod Risk
 pub mod Sound
 pub mod Proper
 pub mod Market

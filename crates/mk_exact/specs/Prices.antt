@@ -1,5 +1,5 @@
 -- The exact price of a question, and what a printed price and a ratio owe it.
-use Rattle.std.specs.Prelude.{ℕ, ◌+◌, ◌-◌, ◌*◌, ◌^◌, ◌<◌, ◌≤◌, List, Bool}
+use Rattle.std.specs.Prelude.{◌≡◌, ℕ, ◌+◌, ◌-◌, ◌*◌, ◌^◌, ◌<◌, ◌≤◌, List, Bool}
 use Rattle.mk_net.specs.declared.words.Pair.{Pair}
 use Rattle.mk_net.specs.Bounds.{number_limit, million}
 use Rattle.mk_net.specs.Network.{Variable}
@@ -18,12 +18,15 @@ price_where network H given test = record { num = total network H test; den = to
 abbrev pub exact_price : List Variable → List Entry → Asked → Fraction
 exact_price network H asked = price_where network H asked.condition (with_target asked)
 
--- low .. high, in units of 10^-10, covers the price; in the small case they are its floor and its ceiling
+-- low .. high, in units of 10^-10, covers the price: what cannot come costs nothing, and what is sure all of one; in the small case
+-- they are its floor and its ceiling
 pub record CoversPrice (small : Type 0) (price : Fraction) (low high : ℕ) : Type 0 where
   pub below : low * price.den ≤ 10 ^ 10 * price.num
   pub above : 10 ^ 10 * price.num ≤ high * price.den
   pub at_most_one : high ≤ 10 ^ 10
   pub narrow : high ≤ low + 2
+  pub never : price.num ≡ 0 → high ≡ 0
+  pub sure : price.num ≡ price.den → low ≡ 10 ^ 10
   pub floor : small → 10 ^ 10 * price.num < (low + 1) * price.den
   pub ceiling : small → high * price.den < 10 ^ 10 * price.num + price.den
 

@@ -5,6 +5,8 @@ use Rattle.mk_net.specs.declared.words.Pair.{Pair}
 use Rattle.mk_net.specs.Network.{Variable, sizes}
 use Rattle.mk_net.specs.Asked.{Asked, TradeRatio}
 use Rattle.mk_net.specs.Events.{AreApart}
+use Rattle.mk_exact.specs.Events.{always}
+use Rattle.mk_exact.specs.Weight.{possible_states}
 use Rattle.mk_exact.specs.History.{Entry, UserTrade, users, trades, resolutions}
 
 pub record IsPairOf (network : List Variable) (p : Pair) : Type 0 where
@@ -26,8 +28,9 @@ pub record IsTradeOf (network : List Variable) (joined : ℕ) (t : UserTrade) : 
   pub user : t.user < joined
   pub ratio : IsRatioOf network t.ratio
 
--- users, pairs and units are in range, and no variable is resolved twice
+-- users, pairs and units are in range, no variable is resolved twice, and some state is left
 pub record IsProper (network : List Variable) (H : List Entry) : Type 0 where
   pub trades_fit : AllByRecursion (IsTradeOf network (length (users H))) (trades H)
   pub resolutions_fit : AllByRecursion (IsPairOf network) (resolutions H)
   pub resolved_once : AreApart (resolutions H)
+  pub some_left : 1 ≤ length (possible_states network H always)

@@ -1,5 +1,5 @@
 -- The exact joint table of a history.
-use Rattle.std.specs.Prelude.{ℕ, ◌*◌, ◌<◌, ◌^◌, List, Bool, ◌&&◌, filter, sum_by}
+use Rattle.std.specs.Prelude.{ℕ, ◌*◌, ◌<◌, ◌^◌, List, Bool, ◌&&◌, ◌==◌, filter, length, sum_by}
 use Rattle.mk_net.specs.Network.{Variable}
 use Rattle.mk_exact.specs.States.{product_by}
 use Rattle.mk_exact.specs.InitialWeight.{all_states, initial_weight}
@@ -18,6 +18,10 @@ is_possible H s = holds (resolutions H) s
 -- the possible states that pass a test
 abbrev pub possible_states : List Variable → List Entry → (List ℕ → Bool) → List (List ℕ)
 possible_states network H test = filter (λ s. is_possible H s && test s) (all_states network)
+
+-- no possible state passes a test
+abbrev pub cannot_come : List Variable → List Entry → (List ℕ → Bool) → Bool
+cannot_come network H test = length (possible_states network H test) == 0
 
 -- their weights together
 abbrev pub total : List Variable → List Entry → (List ℕ → Bool) → ℕ

@@ -21,8 +21,8 @@ pub fn fair_pair_is_safe()
     ensures { FairPairIsSafe }
 {}
 
-/// After a proper history, pairs that give no variable two values, and no resolved one another value than its own, hold in
-/// some possible state. So some state is always possible.
+/// Without zeros, after a proper history, pairs that give no variable two values, and no resolved one another value than its
+/// own, hold in some possible state. So no question is refused for what cannot come.
 pub fn state_remains()
     ensures { StateRemains }
 {}

@@ -1,5 +1,5 @@
-//! The numbers of four small markets.
-ghost use Rattle.mk_exact.specs.Examples.{AreNetworks, HaveWeights, HavePrices, HasTraded, WasSafe, IsWorth, HasLimits, HasConditioned, HasTwoTraders};
+//! The numbers of five small markets.
+ghost use Rattle.mk_exact.specs.Examples.{AreNetworks, HaveWeights, HavePrices, HasTraded, WasSafe, IsWorth, HasLimits, HasConditioned, HasTwoTraders, HasZeros};
 
 /// The four are networks, and the weights of their states together a power of a million.
 pub fn example_networks()
@@ -44,4 +44,9 @@ pub fn example_condition()
 /// The numbers after trades of two users on a chain of three variables.
 pub fn example_traders()
     ensures { HasTwoTraders }
+{}
+
+/// What never and what surely comes in a cup with shares of nothing, and the most that its operator can lose.
+pub fn example_zeros()
+    ensures { HasZeros }
 {}

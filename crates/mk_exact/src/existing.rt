@@ -1,5 +1,5 @@
 //! What exists: an answer to each line that a market can be asked.
-ghost use Rattle.mk_exact.specs.Existing.{PriceIsCovered, CashExists, CashIsCovered, CashIsBounded, MostExists, CoveredIsLess, WithdrawalIsJudged, LimitsExist, InsideIsDecided, LimitsJudge, StateExists, PriceExists, LeastExists, SidesExist, RightLimitsExist, OutcomeExists, BoundsKept, FairPairFits, CashFits, LeastCashFits};
+ghost use Rattle.mk_exact.specs.Existing.{PriceIsCovered, CashExists, CashIsCovered, CashIsBounded, MostExists, CoveredIsLess, WithdrawalIsJudged, LimitsExist, InsideIsDecided, LimitsJudge, StateExists, PriceExists, LeastExists, SidesExist, RightLimitsExist, OutcomeExists, BoundsKept, FairPairFits, CashFits, LeastCashFits, BoundExists, BoundFits};
 
 /// A price of at most one has an interval: its floor and its ceiling.
 pub fn price_is_covered()
@@ -56,7 +56,7 @@ pub fn state_exists()
     ensures { StateExists }
 {}
 
-/// Each question that can be asked has a positive exact price of at most one, and an interval that covers it.
+/// Each question that can be asked has an exact price of at most one, and an interval that covers it.
 pub fn price_exists()
     ensures { PriceExists }
 {}
@@ -99,4 +99,14 @@ pub fn cash_fits()
 /// And so does one that covers the cash of a user's least gain.
 pub fn least_cash_fits()
     ensures { LeastCashFits }
+{}
+
+/// In a proper history some interval covers the most that the operator can lose.
+pub fn bound_exists()
+    ensures { BoundExists }
+{}
+
+/// At up to a million points per bit each such interval ends below `2^63`.
+pub fn bound_fits()
+    ensures { BoundFits }
 {}

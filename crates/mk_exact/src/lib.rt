@@ -12,14 +12,17 @@ mod trading;
 pub use changes::{fair_pair_is_safe, proper_next, sound_always, sound_next, state_remains};
 pub use examples::{
     example_cash, example_condition, example_limits, example_networks, example_prices,
-    example_safety, example_trade, example_traders, example_weights,
+    example_safety, example_trade, example_traders, example_weights, example_zeros,
 };
 pub use existing::{
-    bounds_kept, cash_exists, cash_fits, cash_is_bounded, cash_is_covered, covered_is_less,
-    fair_pair_fits, inside_is_decided, least_cash_fits, least_exists, limits_exist, limits_judge,
-    most_exists, outcome_exists, price_exists, price_is_covered, right_limits_exist, sides_exist,
-    state_exists, withdrawal_is_judged,
+    bound_exists, bound_fits, bounds_kept, cash_exists, cash_fits, cash_is_bounded,
+    cash_is_covered, covered_is_less, fair_pair_fits, inside_is_decided, least_cash_fits,
+    least_exists, limits_exist, limits_judge, most_exists, outcome_exists, price_exists,
+    price_is_covered, right_limits_exist, sides_exist, state_exists, withdrawal_is_judged,
 };
-pub use opening::{begins_sound, shares_positive, single_opens, weights_begin, weights_positive};
-pub use settling::{gains_bounded, settlement_bounded};
+pub use opening::{
+    begins_sound, initial_total_is_millions, shares_positive, single_opens, weights_begin,
+    weights_positive,
+};
+pub use settling::{bound_holds, gains_bounded, settlement_bounded};
 pub use trading::{price_moves, solvent_stays, total_never_rises};

@@ -1,19 +1,18 @@
 -- The tree of a draft, over the network that was checked.
-use Rattle.std.proofs.Common.{◌≡◌, ℕ, suc, ◌+◌, ◌-◌, ◌<◌, ◌≤◌, ℤ, pos, negsuc, List, [], ◌∷◌, map, length, get_or, Bool, true, false, not, ◌&&◌, ◌||◌, ◌==◌, nat_le, zero, Option, Some, None, option_map, Ok, Err, All, refl, sym, ap, subst, ◌∙◌, arith, T, SFits, Fits, w32, w64, to_z, of_z, to_z-of_z}
+use Rattle.std.proofs.Common.{◌≡◌, ℕ, suc, ◌+◌, ◌-◌, ◌<◌, ◌≤◌, ℤ, pos, negsuc, List, [], ◌∷◌, map, length, get_or, Bool, true, false, not, ◌||◌, ◌==◌, nat_le, zero, Option, Some, None, option_map, Ok, Err, All, refl, sym, ap, subst, ◌∙◌, arith, T, SFits, Fits, w32, w64, to_z, of_z, to_z-of_z}
 use lib.Signed.{non_neg}
 use Rattle.std.specs.Prelude.{nat_abs}
 use Rattle.std.specs.List.{list_all, position_or_len}
 use Rattle.std.proofs.lemmas.Bool.{eqb-true, leb-true, not-false, and_parts}
 use Rattle.std.proofs.lemmas.List.{length-map}
-use Rattle.std.proofs.lemmas.List.Elements.{All-nil, All-cons}
 use Rattle.mk_net.specs.declared.sets.VarSet.{VarSet}
-use Rattle.mk_net.specs.Name.{IsName, is_name, max_name_bytes, begins_with_letter, is_name_byte}
+use Rattle.mk_net.specs.Name.{IsName}
 use Rattle.mk_net.specs.Texts.{same_text}
 use Rattle.mk_net.specs.Network.{Variable}
 use Rattle.mk_net.specs.Drafts.{DraftOfVariable}
 use Rattle.mk_net.specs.Sets.{set_of}
 use Rattle.mk_net.specs.Firsts.{fault_if, or_else, first_in}
-use Rattle.mk_net.specs.Checked.{is_within, number_of, has_double, checked_variable, checked_network, count_at, count_fault, later_fault as draft_later, first_fault, name_at}
+use Rattle.mk_net.specs.Checked.{is_within, number_of, has_double, checked_variable, checked_network, count_at, count_fault, later_fault as draft_later, first_fault}
 use Rattle.mk_net.specs.declared.key.Key.{Key}
 use Rattle.mk_net.specs.declared.fault.NetFault.{NetFault}
 use Rattle.mk_net.specs.declared.fault.NetFault.TheVariants.{Count as NetCount}
@@ -39,8 +38,8 @@ passed false fault h = refl
 passed true fault h = cc
 
 -- the names of a checked network are names
-pub names_are : (drafts : List DraftOfVariable) → first_fault drafts ≡ None → All (λ (v : Variable). IsName v.name) (checked_network drafts)
-names_are drafts h = λ k d inside. ((checked_is_network drafts h).each k d inside).name
+pub names_are : (zeros : Bool) (drafts : List DraftOfVariable) → first_fault zeros drafts ≡ None → All (λ (v : Variable). IsName v.name) (checked_network drafts)
+names_are zeros drafts h = λ k d inside. ((checked_is_network zeros drafts h).each k d inside).name
 
 -- the network has the numbers of the draft
 placed : (all vs : List DraftOfVariable) (name : List ℕ)
@@ -169,10 +168,10 @@ trees_are draft network tree fault net fine linked same is =
     cliques_are draft network None net fine ∙ ap (λ o. or_else o (tree_part draft)) linked ∙ ap (λ f. or_else (option_map of_tree f) None) there
 
 -- the fault of a tree is the fault of the draft
-pub tree_refused : (draft : DraftOfMarket) (fault : FileFault) → counts_fault draft ≡ None → first_fault draft.variables ≡ None
+pub tree_refused : (draft : DraftOfMarket) (fault : FileFault) → counts_fault draft ≡ None → first_fault draft.zeros draft.variables ≡ None
     → trees_fault draft ≡ Some fault → of_draft (Ok draft) ≡ Err fault
 tree_refused draft fault counted checked bad =
-    let fine : variables_fault draft ≡ None = ap (λ o. option_map of_net o) (none_of (count_fault draft.variables) (draft_later draft.variables) checked).1 in
+    let fine : variables_fault draft ≡ None = ap (λ o. option_map of_net o) (none_of (count_fault draft.variables) (draft_later draft.zeros draft.variables) checked).1 in
     let rest = or_else (first_in (clique_at draft) 1 draft.cliques) (or_else (first_in link_at 2 draft.links) (tree_part draft)) in
     ap (λ o. unless o (market_in draft)) (ap (λ o. or_else o (or_else (variables_fault draft) rest)) counted ∙ ap (λ o. or_else o rest) fine ∙ bad)
 
@@ -199,9 +198,9 @@ variables_counted draft counted =
     ap (λ test. or_else (fault_if test (NetCount VariableKey 0 (pos (length draft.variables)))) (first_in count_at 1 draft.variables)) few
     ∙ unmapped (first_in count_at 1 draft.variables) parts.1
 
-pub network_refused : (draft : DraftOfMarket) (fault : NetFault) → counts_fault draft ≡ None → first_fault draft.variables ≡ Some fault → of_draft (Ok draft) ≡ Err (of_net fault)
+pub network_refused : (draft : DraftOfMarket) (fault : NetFault) → counts_fault draft ≡ None → first_fault draft.zeros draft.variables ≡ Some fault → of_draft (Ok draft) ≡ Err (of_net fault)
 network_refused draft fault counted bad =
-    let later : draft_later draft.variables ≡ Some fault = ap (λ o. or_else o (draft_later draft.variables)) (sym (variables_counted draft counted)) ∙ bad in
+    let later : draft_later draft.zeros draft.variables ≡ Some fault = ap (λ o. or_else o (draft_later draft.zeros draft.variables)) (sym (variables_counted draft counted)) ∙ bad in
     let rest = or_else (first_in (clique_at draft) 1 draft.cliques) (or_else (first_in link_at 2 draft.links) (tree_part draft)) in
     ap (λ o. unless o (market_in draft)) (ap (λ o. or_else o (or_else (variables_fault draft) rest)) counted ∙ ap (λ o. or_else (option_map of_net o) rest) later)
 

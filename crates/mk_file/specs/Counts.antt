@@ -57,4 +57,4 @@ counts_fault draft = first_of (
 
 -- the first other fault of the variables
 abbrev pub variables_fault : DraftOfMarket → Option FileFault
-variables_fault draft = option_map of_net (later_fault draft.variables)
+variables_fault draft = option_map of_net (later_fault draft.zeros draft.variables)

@@ -1,5 +1,5 @@
 -- The market of a file, or its first fault.
-use Rattle.std.specs.Prelude.{ℕ, List, [], ◌∷◌, length, map, nat_abs, Bool, nat_lt, if◌then◌else◌, Option, Some, None, option_map, Result, Ok, Err}
+use Rattle.std.specs.Prelude.{ℕ, List, [], ◌∷◌, length, map, nat_abs, nat_lt, if◌then◌else◌, Option, Some, None, option_map, Result, Ok, Err}
 use Rattle.std.specs.Str.{is_utf8}
 use Rattle.toml.specs.Data.{Members}
 use Rattle.toml.specs.Parse.{parse_document}
@@ -34,6 +34,7 @@ market_in draft = record {
   cliques = map (members (checked_network draft.variables)) (given_tree draft).cliques;
   points_per_bit = nat_abs draft.points_per_bit;
   max_trades = nat_abs draft.max_trades;
+  zeros = draft.zeros;
 }
 
 abbrev pub unless : Option FileFault → Market → Result Market FileFault

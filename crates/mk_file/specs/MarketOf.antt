@@ -11,4 +11,5 @@ market_of file = record {
   cliques = map (members file.net) file.tree.cliques;
   points_per_bit = file.points_per_bit;
   max_trades = file.max_trades;
+  zeros = file.zeros;
 }

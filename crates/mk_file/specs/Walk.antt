@@ -1,11 +1,11 @@
 -- The walk over a document: each key there and of its kind, or the first that is not; its place is 0 at the top, or a
 -- variable's number from 1.
-use Rattle.std.specs.Prelude.{ℕ, ◌+◌, ℤ, List, [], ◌∷◌, Option, Some, None, option_map, option_and_then, Result, Ok, Err}
-use Rattle.toml.specs.Data.{Data, Items, no_items, item, Members, get_member, as_str, as_integer, as_array, as_table}
+use Rattle.std.specs.Prelude.{ℕ, ◌+◌, ℤ, Bool, false, List, [], ◌∷◌, Option, Some, None, option_map, option_and_then, Result, Ok, Err}
+use Rattle.toml.specs.Data.{Data, Items, no_items, item, Members, get_member, as_str, as_integer, as_bool, as_array, as_table}
 use Rattle.mk_file.specs.declared.fault.FileFault.{FileFault}
 use Rattle.mk_file.specs.declared.fault.FileFault.TheVariants.{Missing, WrongType}
 use Rattle.mk_net.specs.declared.key.Key.{Key}
-use Rattle.mk_net.specs.declared.key.Key.TheVariants.{PointsPerBit, MaxTrades, Variable, Cliques, Links, Name, Values, Parents, Rows}
+use Rattle.mk_net.specs.declared.key.Key.TheVariants.{PointsPerBit, MaxTrades, Variable, Cliques, Links, Zeros, Name, Values, Parents, Rows}
 use Rattle.mk_net.specs.Key.{key_text}
 use Rattle.mk_net.specs.Drafts.{DraftOfVariable}
 
@@ -16,6 +16,7 @@ pub record DraftOfMarket : Type 0 where
   pub variables : List DraftOfVariable
   pub cliques : List (List (List ℕ))
   pub links : List ℤ
+  pub zeros : Bool
 
 -- each item is of a kind
 abbrev pub all_of : {X : Type 0} → (Data → Option X) → Items → Option (List X)
@@ -45,6 +46,14 @@ found key place kind (Some d) = of_kind key place (kind d)
 abbrev pub required : {X : Type 0} → Key → ℕ → (Data → Option X) → Members → Result X FileFault
 required key place kind table = found key place kind (get_member (key_text key) table)
 
+-- the value of a key that may be absent, and stands for another then
+abbrev pub found_or : {X : Type 0} → X → Key → ℕ → (Data → Option X) → Option Data → Result X FileFault
+found_or absent key place kind None = Ok absent
+found_or absent key place kind (Some d) = of_kind key place (kind d)
+
+abbrev pub optional : {X : Type 0} → X → Key → ℕ → (Data → Option X) → Members → Result X FileFault
+optional absent key place kind table = found_or absent key place kind (get_member (key_text key) table)
+
 -- goes on with a value, unless there was a fault
 abbrev pub then_with : {X Y : Type 0} → Result X FileFault → (X → Result Y FileFault) → Result Y FileFault
 then_with (Ok x) go = go x
@@ -66,7 +75,8 @@ variables_in place (table ∷ tables) =
     then_with (variable_in place table) (λ variable.
     then_with (variables_in (place + 1) tables) (λ variables. Ok (variable ∷ variables)))
 
--- what a document says, or the first key that is missing or of another kind: the top keys first, then the variables
+-- what a document says, or the first key that is missing or of another kind: the top keys first, then the variables. Only `zeros` may be
+-- absent, and is false then.
 abbrev pub draft_in : Members → Result DraftOfMarket FileFault
 draft_in document =
     then_with (required PointsPerBit 0 as_integer document) (λ points_per_bit.
@@ -74,5 +84,6 @@ draft_in document =
     then_with (required Variable 0 (list_of as_table) document) (λ tables.
     then_with (required Cliques 0 (list_of texts) document) (λ cliques.
     then_with (required Links 0 wholes document) (λ links.
+    then_with (optional false Zeros 0 as_bool document) (λ zeros.
     then_with (variables_in 1 tables) (λ variables.
-    Ok (record { points_per_bit = points_per_bit; max_trades = max_trades; variables = variables; cliques = cliques; links = links })))))))
+    Ok (record { points_per_bit = points_per_bit; max_trades = max_trades; variables = variables; cliques = cliques; links = links; zeros = zeros }))))))))

@@ -25,7 +25,7 @@ use std::alloc::Global;
 fn read_tree(alloc: Global, net: &Network, draft: &MarketDraft) -> Result<Tree, FileFault>
     requires counted { counts_fault (draft_of draft.now) ≡ None }
     requires checked { net.now ≡ checked_network (drafts_of draft.now.draft) }
-    requires faultless { first_fault (drafts_of draft.now.draft) ≡ None }
+    requires faultless { first_fault draft.now.draft.zeros (drafts_of draft.now.draft) ≡ None }
     ensures given { IfOk result (λ tree. tree ≡ given_tree (draft_of draft.now)) }
     ensures tree { IfOk result (λ tree. IsTreeOf net.now tree) }
     ensures passes { IfOk result (λ tree. tree_fault net.now tree ≡ None) }
@@ -50,5 +50,6 @@ pub fn accept(alloc: Global, draft: &MarketDraft) -> Result<MarketFile, FileFaul
         tree,
         points_per_bit: draft.points_per_bit as u32,
         max_trades: draft.max_trades as u32,
+        zeros: draft.draft.zeros,
     })
 }

@@ -1,11 +1,11 @@
 //! Keys that have to be there, with values of a kind.
 
-ghost use Rattle.std.specs.Prelude.{◌≡◌, Some, None, IfOk, IfErr, OnErr, string_bytes};
-ghost use Rattle.toml.specs.Data.{get_member, as_str, as_integer, as_table};
+ghost use Rattle.std.specs.Prelude.{◌≡◌, Some, None, IfOk, IfErr, OnErr, false, option_map, string_bytes};
+ghost use Rattle.toml.specs.Data.{get_member, as_str, as_integer, as_bool, as_table};
 ghost use Rattle.toml.specs.View.{view, table_view};
 ghost use Rattle.mk_net.specs.Key.{key_text};
 ghost use Rattle.mk_net.specs.Drafts.{texts_of, rows_of};
-ghost use Rattle.mk_file.specs.Walk.{required, list_of, texts, wholes};
+ghost use Rattle.mk_file.specs.Walk.{required, optional, list_of, texts, wholes};
 ghost use Rattle.mk_file.specs.inner.Views.{Gives, lists_of, tables_of};
 
 use crate::fault::FileFault;
@@ -14,13 +14,20 @@ use mk_net::Key;
 use std::alloc::Global;
 use toml::{Table, Value};
 
-/// The value at a key.
+/// The value at a key, if it is there.
+fn member<'a>(table: &'a Table, key: Key) -> Option<&'a Value>
+    ensures { option_map (λ value. view value.now) result ≡ get_member (key_text key) (table_view table.now) }
+{
+    table.get(key.text())
+}
+
+/// The value at a key that has to be there.
 fn value_at<'a>(table: &'a Table, key: Key, place: u32) -> Result<&'a Value, FileFault>
     ensures at_key { IfOk result (λ value. get_member (key_text key) (table_view table.now) ≡ Some (view value.now)) }
     ensures missing { OnErr result (get_member (key_text key) (table_view table.now) ≡ None) }
     ensures fault { IfErr result (λ fault. fault ≡ FileFault.Missing key place) }
 {
-    match table.get(key.text()) {
+    match member(table, key) {
         Some(value) => Ok(value),
         None => Err(FileFault::Missing { key, place }),
     }
@@ -71,6 +78,16 @@ pub fn required_whole(table: &Table, key: Key, place: u32) -> Result<i64, FileFa
 {
     let read = value_at(table, key, place)?.as_integer();
     read.ok_or(FileFault::WrongType { key, place })
+}
+
+/// Whether the truth value at a key is true. It is false where the key is absent.
+pub fn is_set(table: &Table, key: Key, place: u32) -> Result<bool, FileFault>
+    ensures { Gives (λ b. b) result (optional false key place as_bool (table_view table.now)) }
+{
+    match member(table, key) {
+        Some(value) => value.as_bool().ok_or(FileFault::WrongType { key, place }),
+        None => Ok(false),
+    }
 }
 
 /// The list of whole numbers at a key.

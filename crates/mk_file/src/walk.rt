@@ -8,8 +8,8 @@ ghost use Rattle.mk_file.specs.inner.Views.{Gives, draft_of};
 
 use crate::fault::FileFault;
 use crate::required::{
-    required_lists, required_rows, required_tables, required_text, required_texts, required_whole,
-    required_wholes,
+    is_set, required_lists, required_rows, required_tables, required_text, required_texts,
+    required_whole, required_wholes,
 };
 use mk_net::{Draft, Key, VariableDraft};
 use std::alloc::Global;
@@ -74,11 +74,12 @@ pub fn read_draft(alloc: Global, document: &Table) -> Result<MarketDraft, FileFa
     let tables = required_tables(alloc, document, Key::Variable, 0)?;
     let cliques = required_lists(alloc, document, Key::Cliques, 0)?;
     let links = required_wholes(alloc, document, Key::Links, 0)?;
+    let zeros = is_set(document, Key::Zeros, 0)?;
     let variables = read_variables(alloc, &tables)?;
     Ok(MarketDraft {
         points_per_bit,
         max_trades,
-        draft: Draft { variables },
+        draft: Draft { variables, zeros },
         cliques,
         links,
     })

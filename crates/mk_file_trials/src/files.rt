@@ -108,6 +108,46 @@ parents = []
 rows = [[500000, 500000]]
 ";
 
+/// A cup of four: two matches, and the winner, who won one of them.
+pub(crate) const CUP: &str = "points_per_bit = 100
+max_trades = 1000
+cliques = [['s1', 's2', 'w']]
+links = []
+zeros = true
+
+[[variable]]
+name = 's1'
+values = ['a', 'b']
+parents = []
+rows = [[500000, 500000]]
+
+[[variable]]
+name = 's2'
+values = ['c', 'd']
+parents = []
+rows = [[500000, 500000]]
+
+[[variable]]
+name = 'w'
+values = ['a', 'b', 'c', 'd']
+parents = ['s1', 's2']
+rows = [[500000, 0, 500000, 0], [500000, 0, 0, 500000], [0, 500000, 500000, 0], [0, 500000, 0, 500000]]
+";
+
+/// Its last value cannot come.
+const GATE: &str = "points_per_bit = 100
+max_trades = 1000
+cliques = [['gate']]
+links = []
+zeros = true
+
+[[variable]]
+name = 'gate'
+values = ['open', 'shut', 'gone']
+parents = []
+rows = [[250000, 750000, 0]]
+";
+
 const NAMES: &str = "a b c d e f g h i j k l m";
 
 pub(crate) const NUMBERS: &str = "points_per_bit = 100\nmax_trades = 77\n";
@@ -120,6 +160,8 @@ const OF_COIN: &str = r#"100 -> 0x64 => accepted
 points_per_bit -> "points_per_bit" => accepted
 'coin' -> "coin" => accepted
 links = [] -> links = []\nfees = [1, 'two'] => accepted
+links = [] -> links = []\nzeros = false => accepted
+links = [] -> links = []\nzeros = true => accepted
 [[variable]]\nname = 'coin'\nvalues = ['heads', 'tails']\nparents = []\nrows = [[500000, 500000]]\n -> variable = [{ name = 'coin', values = ['a', 'b'], parents = [], rows = [[1, 999999]] }] => accepted
 100 -> 1000000 => accepted
 77 -> 65536 => accepted
@@ -251,6 +293,27 @@ const OF_THIRTEEN: &str =
     r#"], ]\nlinks = [] -> ], ['b'], ['a']]\nlinks = [1, 2] => refused market running 1
 'm', ], ]\nlinks = [] -> ], ['m']]\nlinks = [1] => accepted"#;
 
+const OF_CUP: &str = r#"points_per_bit -> points_per_bit => accepted
+zeros = true -> zeros = false => refused market entry 3 1 2
+zeros = true ->  => refused market entry 3 1 2
+zeros = true -> zeros = 1 => refused market type zeros 0
+zeros = true -> zeros = "true" => refused market type zeros 0
+zeros = true -> zeros = [true] => refused market type zeros 0
+zeros = true -> [zeros] => refused market type zeros 0
+zeros = true -> zeros = 1; links = [] ->  => refused market missing links 0
+zeros = true -> zeros = 1; max_trades = 1000 -> max_trades = 0 => refused market type zeros 0
+zeros = true -> zeros = 1; name = 's1' ->  => refused market type zeros 0
+zeros = true -> zero = true => refused market entry 3 1 2
+zeros = true\n -> ; name = 's1' -> zeros = true\nname = 's1' => refused market entry 3 1 2
+500000, 0, 0, 500000 -> 500000, 0, 0, 500001 => refused market sum 3 2 1000001"#;
+
+const OF_GATE: &str = r#"points_per_bit -> points_per_bit => accepted
+250000, 750000, 0 -> 0, 0, 0 => refused market sum 1 1 0
+250000, 750000, 0 -> 0, 1000000, 0 => accepted
+250000, 750000, 0 -> -1, 1000001, 0 => refused market entry 1 1 1
+250000, 750000, 0 -> 0, 1000001, 0 => refused market entry 1 1 2
+250000, 750000, 0 -> 0, 0, 1000001 => refused market entry 1 1 3"#;
+
 /// A file with some parts replaced, as `old -> new; old -> new`. What ends a line is written `\n`.
 fn edited(alloc: Global, base: &str, edits: &str) -> Result<String, Fail> {
     let edits = edits.replace(alloc, "\\n", "\n")?;
@@ -345,6 +408,8 @@ fn edited_files(rt: HostRuntime) -> Result<(), Fail> {
         (CHAIN, OF_CHAIN),
         (WEATHER, OF_WEATHER),
         (APART, OF_APART),
+        (CUP, OF_CUP),
+        (GATE, OF_GATE),
     ] {
         expect_each(&rt, rt.alloc(), base, cases)?;
     }

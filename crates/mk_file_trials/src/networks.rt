@@ -1,7 +1,7 @@
 //! The network of a market file: its names and rows, and what is found in it.
 
-use crate::files::WEATHER;
-use mk_file::read_market;
+use crate::files::{CUP, WEATHER};
+use mk_file::{MarketFile, read_market};
 use mk_net::{Name, Network, Pair, PairText};
 use std::process::Abort;
 use std::test::Fail;
@@ -55,6 +55,21 @@ fn expect_weather(rt: &impl Abort, network: &Network) {
     expect_rows(rt, network);
     expect_variables(rt, network);
     expect_pairs(rt, network);
+}
+
+/// Stops unless a file says so of shares of nothing, and these are the variables that have one.
+fn expect_zeros(rt: &impl Abort, file: &MarketFile, zeros: bool, variables: &[u32]) {
+    assert!(rt; file.zeros == zeros);
+    assert!(rt; file.net.with_zeros() == variables);
+}
+
+#[test]
+fn knows_where_shares_are_nothing(rt: HostRuntime) -> Result<(), Fail> {
+    let cup = read_market(rt.alloc(), CUP.as_bytes())?;
+    expect_zeros(&rt, &cup, true, &[2]);
+    let weather = read_market(rt.alloc(), WEATHER.as_bytes())?;
+    expect_zeros(&rt, &weather, false, &[]);
+    Ok(())
 }
 
 #[test]

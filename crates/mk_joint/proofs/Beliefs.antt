@@ -3,8 +3,9 @@ use Rattle.std.proofs.Common.{◌≡◌, ℕ, ◌+◌, ◌*◌, ◌<◌, ◌≤�
 use Rattle.std.proofs.Math.Path.{fun_ext}
 use Rattle.mk_net.specs.declared.words.Pair.{Pair}
 use Rattle.mk_net.specs.Bounds.{max_clique_cells, number_limit}
-use Rattle.mk_exact.specs.States.{plus_over, product_by, numbers_below}
-use Rattle.mk_exact.specs.InitialWeight.{all_states, value_at}
+use Rattle.mk_net.specs.Network.{sizes}
+use Rattle.mk_exact.specs.States.{states, plus_over, product_by, numbers_below}
+use Rattle.mk_exact.specs.InitialWeight.{value_at}
 use Rattle.mk_exact.specs.Events.{holds}
 use Rattle.mk_exact.specs.Lawful.{Lawful}
 use Rattle.mk_exact.proofs.Sums.{plus_over-filter, plus_over-map}
@@ -41,11 +42,11 @@ module _ (plus : ℕ → ℕ → ℕ) (law : Lawful plus) (m : Meaning) (event :
       both_tests (holds m.known s) (holds event s) _
       ∙ ap (λ n. cond (holds event s) (cond (holds m.known s) n 0) 0) (plus_over-map ◌*◌ 1 (λ (f : (ℕ → ℕ) → ℕ). f (value_at s)) (factor_there m.network) m.factors)
 
-  in_states : exact_belief plus m event ≡ plus_over plus 0 (λ s. added (value_at s)) (all_states m.network)
+  in_states : exact_belief plus m event ≡ plus_over plus 0 (λ s. added (value_at s)) (states (sizes m.network))
   in_states =
       plus_over-filter plus 0 (is_plus plus law) (λ s. product_by (λ (f : (ℕ → ℕ) → ℕ). f (value_at s)) (map (factor_there m.network) m.factors))
-      (λ s. holds m.known s && holds event s) (all_states m.network)
-      ∙ ap (λ (g : List ℕ → ℕ). plus_over plus 0 g (all_states m.network)) (fun_ext state_adds)
+      (λ s. holds m.known s && holds event s) (states (sizes m.network))
+      ∙ ap (λ (g : List ℕ → ℕ). plus_over plus 0 g (states (sizes m.network))) (fun_ext state_adds)
 
   in_cells : exact_belief plus m event ≡ plus_over plus 0 (λ c. joint_there m (values_at (whole_scope m.network) c)) (cells_where (whole_scope m.network) event)
   in_cells =

@@ -8,8 +8,8 @@ use Rattle.std.proofs.lemmas.List.FromFn.{get_or-map-range_with_len, length-map-
 use Rattle.mk_net.specs.declared.sets.VarSet.{VarSet}
 use Rattle.mk_net.specs.Sets.{is_member}
 use Rattle.mk_net.specs.Network.{Variable, sizes}
-use Rattle.mk_exact.specs.States.{plus_over}
-use Rattle.mk_exact.specs.InitialWeight.{all_states, value_at}
+use Rattle.mk_exact.specs.States.{states, plus_over}
+use Rattle.mk_exact.specs.InitialWeight.{value_at}
 use Rattle.mk_exact.specs.Lawful.{Lawful}
 use Rattle.mk_sums.specs.Sums.{plus_below, listed}
 use Rattle.mk_sums.specs.Cells.{keep, cells, place}
@@ -89,7 +89,7 @@ module _ (network : List Variable) where
   values_are c = fun_ext (λ x. sym (place_same (size_in (whole_scope network)) (slice_index (sizes network)) (variables (sizes network)) size_is c (λ y. 0) x))
 
   pub states_are_cells : (plus : ℕ → ℕ → ℕ) → Lawful plus → (f : (ℕ → ℕ) → ℕ)
-      → plus_over plus 0 (λ s. f (value_at s)) (all_states network) ≡ plus_below plus (cells_in (whole_scope network)) (λ c. f (values_at (whole_scope network) c))
+      → plus_over plus 0 (λ s. f (value_at s)) (states (sizes network)) ≡ plus_below plus (cells_in (whole_scope network)) (λ c. f (values_at (whole_scope network) c))
   states_are_cells plus law f =
       let size : ℕ → ℕ = slice_index (sizes network) in
       states_nest plus law (sizes network) f

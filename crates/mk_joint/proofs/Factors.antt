@@ -2,10 +2,10 @@
 use Rattle.std.proofs.Common.{◌≡◌, ℕ, ◌+◌, ◌*◌, ◌<◌, ◌≤◌, Bool, true, false, cond, ◌&&◌, eqb, List, [], ◌∷◌, ◌++◌, length, All, refl, sym, ap, ◌∙◌, arith, le_refl, zero-mul}
 use Rattle.std.proofs.lemmas.List.Elements.{All-from_recursion, All-weaker}
 use Rattle.mk_net.specs.declared.words.Pair.{Pair}
-use Rattle.mk_net.specs.Network.{Variable, IsNetwork}
+use Rattle.mk_net.specs.Network.{sizes, Variable, IsNetwork}
 use Rattle.mk_net.specs.Named.{variable_at}
-use Rattle.mk_exact.specs.States.{product_by}
-use Rattle.mk_exact.specs.InitialWeight.{all_states, value_at}
+use Rattle.mk_exact.specs.States.{states, product_by}
+use Rattle.mk_exact.specs.InitialWeight.{value_at}
 use Rattle.mk_exact.proofs.Sums.{product_by_push, list_all-append, sum_by_is}
 use Rattle.mk_exact.proofs.Positive.{parents_within}
 use Rattle.mk_sums.specs.Sums.{plus_below}
@@ -54,7 +54,7 @@ joint_known m p a =
 -- sums over cells
 pub whole_is : (m : Meaning) → whole_sum m ≡ plus_below ◌+◌ (cells_in (whole_scope m.network)) (λ c. product_there m (values_at (whole_scope m.network) c))
 whole_is m =
-    sum_by_is (λ s. product_there m (value_at s)) (all_states m.network) ∙ states_are_cells m.network ◌+◌ sums_lawful (product_there m)
+    sum_by_is (λ s. product_there m (value_at s)) (states (sizes m.network)) ∙ states_are_cells m.network ◌+◌ sums_lawful (product_there m)
 
 pub joint_at_most : (m : Meaning) (a : ℕ → ℕ) → joint_there m a ≤ product_there m a
 joint_at_most m a = at (holds_there m.known a)

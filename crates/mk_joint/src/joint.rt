@@ -65,6 +65,11 @@ impl<R: Semiring> Engine<R> for JointEngine<R> {
         self.factors += 1;
     }
 
+    fn support(&mut self, net: &Network, variable: u32) {
+        self.table.times_support(net, variable);
+        self.factors += 1;
+    }
+
     fn multiply(&mut self, ratio: &Ratio) {
         self.table.times_ratio(ratio, &mut self.chosen);
         self.factors += 1;

@@ -1,128 +1,68 @@
 -- Prices, and what users are worth at least.
-use Rattle.std.specs.Prelude.{◌≡◌, ℕ, ◌^◌, List, map, Option, Some, None, option_map, slice_get, slice_index, IsSomeAnd}
-use Rattle.std.proofs.Common.{refl, sym, ap, ◌∙◌, subst}
-use Rattle.mk_net.specs.Network.{Variable, sizes}
+use Rattle.std.specs.Prelude.{◌≡◌, ℕ, List, Bool, true, false, Option, Some, None, IfSome, IsNone, IsSomeAnd, ◌↔◌}
+use Rattle.std.proofs.Common.{refl, sym, ap, subst}
+use Rattle.mk_net.specs.Firsts.{or_else, first_of}
+use Rattle.mk_net.specs.Network.{Variable}
 use Rattle.mk_net.specs.Asked.{Asked}
-use Rattle.mk_net.specs.declared.words.Pair.{Pair}
 use Rattle.mk_net.specs.declared.words.QuestionText.{QuestionText}
-use Rattle.mk_exact.specs.Events.{always}
+use Rattle.mk_exact.specs.Events.{holds}
 use Rattle.mk_exact.specs.History.{Entry}
-use Rattle.mk_exact.specs.Weight.{IsSmall}
-use Rattle.mk_exact.specs.Factors.{Fraction, IsAtLeastOne, factor_with, least_gain}
-use Rattle.mk_exact.specs.Prices.{CoversPrice, exact_price}
-use Rattle.mk_exact.specs.Cash.{CoversCash}
-use Rattle.mk_exact.specs.Existing.{HasLeast}
-use Rattle.mk_exact.proofs.ExistMarkets.{least_gain_exists}
+use Rattle.mk_exact.specs.Weight.{cannot_come}
 use Rattle.mk_tree.specs.Given.{GivenTree}
 use Rattle.mk_file.specs.declared.market_file.MarketFile.{MarketFile}
 use Rattle.mk_file.specs.MarketOf.{market_of}
 use Rattle.mk_engine.specs.Meaning.{Meaning}
-use Rattle.mk_enclose.specs.declared.factor.Factor.{Factor}
-use Rattle.mk_enclose.specs.Enclosure.{IsGradedWithin}
-use Rattle.mk_enclose.specs.Factor.{StandsFor}
 use Rattle.mk_beliefs.specs.Meanings.{weights_of}
-use Rattle.mk_assets.specs.declared.assets.Assets.{Assets}
-use Rattle.mk_assets.specs.Holdings.{Holding, Owns}
 use Rattle.mk_cash.specs.declared.ledger.Account.{Account}
-use Rattle.mk_market.specs.declared.last_quote.LastQuote.{LastQuote}
-use Rattle.mk_command.specs.declared.command.Command.TheVariants.{Price, Worst}
+use Rattle.mk_command.specs.declared.command.Command.TheVariants.{Price}
 use Rattle.mk_reply.specs.declared.payments.Payment.{Payment}
-use Rattle.mk_reply.specs.declared.reply.Reply.TheVariants.{Price as Priced, Worst as Worsted}
-use Rattle.mk_rules.specs.Refusals.{first_refusal}
-use Rattle.mk_rules.specs.Answers.{IsPrice, IsWorst}
+use Rattle.mk_reply.specs.declared.reply.Reply.TheVariants.{Price as Priced}
+use Rattle.mk_rules.specs.Refusals.{refusals_by_record, impossible_together}
+use Rattle.mk_rules.specs.Answers.{IsPrice}
 use Rattle.mk_rules.specs.Transcript.{OfCommand, IsAllowedFor, after}
-use Rattle.mk_answers.specs.Open.{IsOpen, CanBeAnswered, IsFactorFor, holding_of}
-use Rattle.mk_answers.specs.Calls.{CanPrice, CanFindWorst}
+use Rattle.mk_answers.specs.Open.{IsOpen, CanBeAnswered}
+use Rattle.mk_answers.specs.Results.{IsPriceFor}
+use Rattle.mk_rules.proofs.Unrefused.{target_named}
 use Rattle.mk_market.specs.declared.users.Member.{Member}
 use Rattle.mk_market.specs.Journals.{JournalOf}
-use Rattle.mk_market.specs.Members.{assets_of, with_assets}
-use Rattle.mk_market.specs.Refused.{IsUser, IsQuestionFor}
-use Rattle.mk_market.specs.inner.Keeping.{quoted, standing_of, IsKept}
-use Rattle.mk_market.proofs.Growing.{is_open, kept_still}
-use Rattle.mk_market.proofs.Owned.{names_same, quotes_same, all_still}
-use Rattle.mk_market.proofs.Replies.{answer_allowed, none_appended}
+use Rattle.mk_market.specs.Refused.{IsQuestionFor}
+use Rattle.mk_market.specs.inner.Keeping.{standing_of, IsKept}
+use Rattle.mk_market.proofs.Growing.{is_open}
+use Rattle.mk_market.proofs.Replies.{answer_allowed, none_appended, unrefused}
+use Rattle.mk_market.proofs.Together.{none_together}
+
+-- what holds of each pair that is found
+pub on_some : (P : ℕ × ℕ → Type 0) (found : Option (ℕ × ℕ)) → ((low high : ℕ) → found ≡ Some (low, high) → P (low, high)) → IfSome found P
+on_some P None h = tt
+on_some P (Some price) h = h price.0 price.1 refl
 
 module _ {P A Plan : Type 0} (weights_stand : P → Meaning → Type 0) (gains_stand : A → Meaning → Type 0) (plan_for : Plan → List Variable → GivenTree → Type 0)
-    (file : MarketFile) (prices : P) (plan : Plan) (members : List (Member A Plan)) (accounts : List Account) (journal : JournalOf) (payments : Option (List Payment))
-    (kept : IsKept weights_stand gains_stand plan_for file prices plan members accounts journal payments) where
+    (file : MarketFile) (prices : P) (rows : A) (plan : Plan) (members : List (Member A Plan)) (accounts : List Account) (journal : JournalOf) (payments : Option (List Payment))
+    (kept : IsKept weights_stand gains_stand plan_for file prices rows plan members accounts journal payments) where
   opened : IsOpen file.net file.tree journal.history
-  opened = is_open weights_stand gains_stand plan_for file prices plan members accounts journal payments kept
+  opened = is_open weights_stand gains_stand plan_for file prices rows plan members accounts journal payments kept
 
   -- a question that can be answered
-  module _ (question : QuestionText) (asked : Asked) (is_question : IsQuestionFor (market_of file) file.tree journal.history question asked)
-      (target : Pair) (its_target : target ≡ asked.target) (values : ℕ) (counted : values ≡ slice_index (sizes file.net) target.variable) where
-    sized : values ≡ slice_index (sizes file.net) asked.target.variable
-    sized = counted ∙ ap (λ (p : Pair). slice_index (sizes file.net) p.variable) its_target
-
-    pub can_price : CanPrice weights_stand prices asked values
-    can_price = record {
-      network = file.net;
-      tree = file.tree;
-      history = journal.history;
-      stands = kept.prices_stand;
-      is_open = opened;
-      answered = is_question.answered;
-      sized = sized;
-    }
-
-    pub price_allowed : (low high : ℕ) → None ≡ first_refusal (market_of file) journal.history (Price question)
-        → ((network : List Variable) (tree : GivenTree) (H : List Entry) → weights_stand prices (weights_of network tree H) → IsOpen network tree H → CanBeAnswered network tree H asked
-        → values ≡ slice_index (sizes network) asked.target.variable → CoversPrice (IsSmall network H) (exact_price network H asked) low high)
+  module _ (question : QuestionText) (asked : Asked) (is_question : IsQuestionFor (market_of file) file.tree journal.history question asked) where
+    pub price_allowed : (low high : ℕ) → None ≡ first_of (refusals_by_record (market_of file) journal.history (Price question))
+        → ((tree : GivenTree) (H : List Entry) → weights_stand prices (weights_of file.net tree H) → IsOpen file.net tree H → CanBeAnswered file.net tree H asked
+        → IsPriceFor file.net H asked (Some (low, high)))
         → IsAllowedFor (market_of file) (standing_of journal members) (OfCommand (Price question)) (Priced low high)
-    price_allowed low high none covers =
+    price_allowed low high none found =
+        let is = found file.tree journal.history kept.prices_stand opened is_question.answered in
         let price : IsPrice file.net journal.history asked (Priced low high)
-        = record { low = low; high = high; printed = refl; covers = covers file.net file.tree journal.history kept.prices_stand opened is_question.answered sized } in
-        answer_allowed (market_of file) (standing_of journal members) (Price question) (Priced low high) none
+        = record { low = low; high = high; printed = refl; covers = is.covers } in
+        answer_allowed (market_of file) (standing_of journal members) (Price question) (Priced low high)
+        (unrefused (market_of file) journal.history (Price question) none (ap (λ o. or_else o None) (comes is.none)))
         (subst (λ (o : Option Asked). IsSomeAnd o (λ asked. IsPrice file.net journal.history asked (Priced low high))) (sym is_question.named) price)
+      where
+        can : (b : Bool) → ((b ≡ true) → IsNone {T = ℕ × ℕ} (Some (low, high))) → b ≡ false
+        can true h = h refl
+        can false h = refl
+
+        comes : (IsNone {T = ℕ × ℕ} (Some (low, high)) ↔ (cannot_come file.net journal.history (holds asked.condition) ≡ true)) → impossible_together file.net journal.history question.condition.items ≡ None
+        comes none = none_together file.net journal.history question.condition.items asked.condition (target_named file.net question asked is_question.named).1
+            (can (cannot_come file.net journal.history (holds asked.condition)) none.1)
 
   pub price_next : (question : QuestionText) (low high : ℕ) → standing_of journal members ≡ after (market_of file) (standing_of journal members) (OfCommand (Price question)) (Priced low high)
   price_next question low high = none_appended (market_of file) (standing_of journal members) (Price question) (Priced low high) refl refl
-
-  pub price_kept : (new_prices : P) → ((m : Meaning) → weights_stand prices m → weights_stand new_prices m)
-      → IsKept weights_stand gains_stand plan_for file new_prices plan members accounts journal payments
-  price_kept new_prices still = kept_still weights_stand gains_stand plan_for file prices new_prices plan members members accounts journal payments kept
-      (record { prices_still = still; names_still = refl; quotes_still = refl; owned_still = λ u assets at. (assets, at, λ (h : Holding) owns. owns) })
-
-  -- a user
-  module _ (name : List ℕ) (user : ℕ) (is_user : IsUser journal.history name user) (before now : Assets A Plan) (there : slice_get (assets_of members) user ≡ Some before) where
-    pub can_find : CanFindWorst gains_stand before
-    can_find = record {
-      network = file.net;
-      tree = file.tree;
-      history = journal.history;
-      user = user;
-      owns = kept.owns user before there;
-      is_open = opened;
-    }
-
-    has_least : HasLeast file.net journal.history user
-    has_least = least_gain_exists file.net journal.history user kept.legal kept.ready.stands.proper kept.ready.stands.sound
-
-    pub worst_allowed : (factor : Factor) (low high : ℕ) → None ≡ first_refusal (market_of file) journal.history (Worst name)
-        → ((network : List Variable) (tree : GivenTree) (H : List Entry) (u g : ℕ) → Owns gains_stand before (holding_of network tree H u) → IsOpen network tree H
-        → least_gain network H u always ≡ Some g → IsFactorFor factor (IsSmall network H) (factor_with H u g))
-        → ((q : Fraction) → StandsFor factor q.num q.den → IsGradedWithin factor.gain (2 ^ 17) → IsAtLeastOne q → CoversCash q file.points_per_bit low high)
-        → IsAllowedFor (market_of file) (standing_of journal members) (OfCommand (Worst name)) (Worsted low high)
-    worst_allowed factor low high none found covers =
-        let least = has_least in let H = journal.history in
-        let is = found file.net file.tree H user least.least (kept.owns user before there) opened least.is_least in
-        let worst : IsWorst (factor_with H user least.least) file.points_per_bit (Worsted low high)
-        = record { low = low; high = high; printed = refl; covers = covers (factor_with H user least.least) is.stands is.graded least.safe.at_least_one } in
-        answer_allowed (market_of file) (standing_of journal members) (Worst name) (Worsted low high) none
-        (subst (λ (n : ℕ). IsSomeAnd (least_gain file.net H n always) (λ g. IsWorst (factor_with H n g) file.points_per_bit (Worsted low high))) is_user.number
-        (subst (λ (o : Option ℕ). IsSomeAnd o (λ g. IsWorst (factor_with H user g) file.points_per_bit (Worsted low high))) (sym least.is_least) worst))
-
-    pub worst_next : (low high : ℕ) → standing_of journal (with_assets members user now) ≡ after (market_of file) (standing_of journal members) (OfCommand (Worst name)) (Worsted low high)
-    worst_next low high =
-        ap (λ (qs : List (Option LastQuote)). record { history = journal.history; quotes = map (option_map quoted) qs }) (quotes_same members user before now there)
-        ∙ none_appended (market_of file) (standing_of journal members) (Worst name) (Worsted low high) refl refl
-
-    pub worst_kept : ((h : Holding) → Owns gains_stand before h → Owns gains_stand now h)
-        → IsKept weights_stand gains_stand plan_for file prices plan (with_assets members user now) accounts journal payments
-    worst_kept still = kept_still weights_stand gains_stand plan_for file prices prices plan members (with_assets members user now) accounts journal payments kept
-        (record {
-          prices_still = λ m stands. stands;
-          names_still = names_same members user before now there;
-          quotes_still = quotes_same members user before now there;
-          owned_still = all_still members user before now there gains_stand still;
-        })

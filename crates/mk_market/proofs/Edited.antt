@@ -10,6 +10,9 @@ use Rattle.mk_net.specs.Asked.{Asked, IsUnits}
 use Rattle.mk_exact.specs.History.{Entry, Trade, revision}
 use Rattle.mk_exact.specs.Limits.{Inside}
 use Rattle.mk_exact.specs.Sides.{AreRightLimits, IsFairPair, ratio_in}
+use Rattle.mk_exact.specs.Events.{holds, with_target, without_target}
+use Rattle.mk_exact.specs.Existing.{IsInOrder, CanMove}
+use Rattle.mk_exact.proofs.Coming.{state_of}
 use Rattle.mk_exact.proofs.ExistMarkets.{sides_exist}
 use Rattle.mk_tree.specs.Given.{GivenTree}
 use Rattle.mk_file.specs.declared.market_file.MarketFile.{MarketFile}
@@ -32,6 +35,7 @@ use Rattle.mk_rules.specs.Transcript.{OfCommand, IsAllowedFor, after}
 use Rattle.mk_rules.proofs.Ready.{edit_refused}
 use Rattle.mk_rules.proofs.Quoted.{same_question_is}
 use Rattle.mk_answers.specs.Open.{IsOpen}
+use Rattle.mk_answers.specs.Results.{AreBothLeft}
 use Rattle.mk_answers.proofs.Weaker.{right_by_bounds, fair_by_bounds}
 use Rattle.mk_market.specs.declared.last_quote.LastQuote.{LastQuote}
 use Rattle.mk_market.specs.declared.last_quote.LastQuote.TheVariants.{Limits as LastLimits, Bounds as LastBounds}
@@ -45,6 +49,7 @@ use Rattle.mk_market.specs.inner.Quoting.{IsQuoteOf}
 use Rattle.mk_market.proofs.Growing.{is_open}
 use Rattle.mk_market.proofs.Quotes.{trading, AreQuoted, quote_said, standing_quoted}
 use Rattle.mk_market.proofs.Replies.{answer_allowed, refusal_allowed, none_appended}
+use Rattle.mk_market.proofs.Together.{condition_comes}
 
 -- ---- a refusal
 
@@ -68,9 +73,34 @@ edit_refused_answered old known same name q X seen why (Err found) e refusal =
 
 -- ---- a quote
 
+-- a last quote that is found is the one that judges
+pub last_is : {A Plan E : Type 0} (members : List (Member A Plan)) (user : ℕ) (asked : Asked) (now : ℕ) (found : Result Quote E) (quote : Quote) → found ≡ Ok quote
+    → ((held : Quote) → slice_get (quotes_of members) user ≡ Some (Some (LastLimits held)) → IsFor held asked now → found ≡ Ok held)
+    → (held : Quote) → slice_get (quotes_of members) user ≡ Some (Some (LastLimits held)) → IsFor held asked now → quote ≡ held
+last_is {A} {Plan} {E} members user asked now found quote is last held at for = same found is (last held at for)
+  where
+    same : (r : Result Quote E) → r ≡ Ok quote → r ≡ Ok held → quote ≡ held
+    same r e f = cc
+
+-- a question in order that nothing decides can be moved
+can_move : (network : List Variable) (H : List Entry) (asked : Asked) → IsInOrder network H asked → AreBothLeft network H asked → CanMove network H asked
+can_move network H asked in_order left =
+    record {
+      can_ask = record {
+        in_order = in_order;
+        some_state = state_of network H (holds asked.condition) (condition_comes network H asked left.hit);
+      };
+      some_hit = state_of network H (with_target asked) left.hit;
+      some_miss = state_of network H (without_target asked) left.miss;
+    }
+
 module _ (network : List Variable) (tree : GivenTree) (H : List Entry) (u : ℕ) (asked : Asked) (quote : Quote) (is : IsQuoteOf network tree H u asked quote) where
   pub kept_quote : IsKeptQuote network tree H u (LastLimits quote)
   kept_quote = record { same_user = is.same_user; not_later = omega (arith, is.at_present); current = λ same. is.current }
+
+  -- nothing decides its question
+  pub left_by_quote : AreBothLeft network H asked
+  left_by_quote = subst (AreBothLeft network H) is.question is.current.left
 
   -- as the rules see it
   pub quoted_is : quoted (LastLimits quote) ≡ record { says = rules.EditLimits asked (limits_of quote); at = revision H }
@@ -80,14 +110,14 @@ module _ (network : List Variable) (tree : GivenTree) (H : List Entry) (u : ℕ)
     -- its limits are right
     pub right_limits : (limits : Option (ℕ × ℕ)) → AreRightFor (bounds_of quote) limits → AreRightLimits network H u asked limits
     right_limits limits right =
-        let has = sides_exist network H u (question_of quote) open_for.legal open_for.proper open_for.sound is.current.answered.can_ask in
+        let has = sides_exist network H u (question_of quote) open_for.legal open_for.proper open_for.sound (can_move network H (question_of quote) is.current.answered.in_order is.current.left) in
         subst (λ (a : Asked). AreRightLimits network H u a limits) is.question
         (right_by_bounds network H u (question_of quote) (bounds_of quote) has.hit has.miss has.sides (is.current.bounds has.hit has.miss has.sides) limits right)
 
     -- and the units that it gives are a fair pair
     pub fair_pair : (X hit miss : ℕ) → AreFairAndSolvent (bounds_of quote) X hit miss → IsFairPair network H u asked X hit miss
     fair_pair X hit miss fair =
-        let has = sides_exist network H u (question_of quote) open_for.legal open_for.proper open_for.sound is.current.answered.can_ask in
+        let has = sides_exist network H u (question_of quote) open_for.legal open_for.proper open_for.sound (can_move network H (question_of quote) is.current.answered.in_order is.current.left) in
         subst (λ (a : Asked). IsFairPair network H u a X hit miss) is.question
         (fair_by_bounds network H u (question_of quote) (bounds_of quote) has.hit has.miss has.sides (is.current.bounds has.hit has.miss has.sides) X hit miss fair)
 
@@ -165,8 +195,8 @@ module _ {A Plan : Type 0} (file : MarketFile) (journal : JournalOf) (members : 
 -- ---- the market
 
 module _ {P A Plan : Type 0} (weights_stand : P → Meaning → Type 0) (gains_stand : A → Meaning → Type 0) (plan_for : Plan → List Variable → GivenTree → Type 0)
-    (file : MarketFile) (prices : P) (plan : Plan) (members new_members : List (Member A Plan)) (accounts : List Account) (journal : JournalOf)
-    (payments : Option (List Payment)) (kept : IsKept weights_stand gains_stand plan_for file prices plan members accounts journal payments)
+    (file : MarketFile) (prices : P) (rows : A) (plan : Plan) (members new_members : List (Member A Plan)) (accounts : List Account) (journal : JournalOf)
+    (payments : Option (List Payment)) (kept : IsKept weights_stand gains_stand plan_for file prices rows plan members accounts journal payments)
     (name : List ℕ) (user : ℕ) (is_user : IsUser journal.history name user) (q : QuestionText) (asked : Asked)
     (is_question : IsQuestionFor (market_of file) file.tree journal.history q asked)
     (quote : Quote) (is : IsQuoteOf file.net file.tree journal.history user asked quote) (are : AreQuoted gains_stand members new_members user (LastLimits quote)) where
@@ -180,7 +210,7 @@ module _ {P A Plan : Type 0} (weights_stand : P → Meaning → Type 0) (gains_s
       is_question.named))
 
   open_for : IsOpen file.net file.tree journal.history
-  open_for = is_open weights_stand gains_stand plan_for file prices plan members accounts journal payments kept
+  open_for = is_open weights_stand gains_stand plan_for file prices rows plan members accounts journal payments kept
 
   right_for_user : AreRightFor (bounds_of quote) (limits_of quote) → AreRightLimits file.net journal.history (user_number journal.history name) asked (limits_of quote)
   right_for_user right =

@@ -8,8 +8,9 @@ use Rattle.mk_tree.specs.Given.{GivenTree}
 use Rattle.mk_file.specs.declared.market_file.MarketFile.{MarketFile}
 use Rattle.mk_file.specs.MarketOf.{market_of}
 use Rattle.mk_engine.specs.Meaning.{Meaning}
-use Rattle.mk_beliefs.specs.Meanings.{weights_of, grown}
+use Rattle.mk_beliefs.specs.Meanings.{weights_of, rows_of, grown, grown_rows}
 use Rattle.mk_beliefs.proofs.Grown.{weights_grow}
+use Rattle.mk_beliefs.proofs.Initials.{rows_grow}
 use Rattle.mk_assets.specs.declared.assets.Assets.{Assets}
 use Rattle.mk_assets.specs.Holdings.{Holding, Owns}
 use Rattle.mk_cash.specs.declared.ledger.Account.{Account}
@@ -37,6 +38,7 @@ market_is file legal = record {
   few_points = file.points_most;
   some_trades = file.trades_positive;
   few_trades = file.trades_most;
+  shares = file.no_zeros;
 }
 
 -- after an entry a quote is of an earlier revision
@@ -48,9 +50,9 @@ quote_later network tree H e u quote kept =
 
 module _ {P A Plan : Type 0} (weights_stand : P → Meaning → Type 0) (gains_stand : A → Meaning → Type 0) (plan_for : Plan → List Variable → GivenTree → Type 0) where
   -- a market that is kept is open
-  pub is_open : (file : MarketFile) (prices : P) (plan : Plan) (members : List (Member A Plan)) (accounts : List Account) (journal : JournalOf) (payments : Option (List Payment))
-      → IsKept weights_stand gains_stand plan_for file prices plan members accounts journal payments → IsOpen file.net file.tree journal.history
-  is_open file prices plan members accounts journal payments kept = record {
+  pub is_open : (file : MarketFile) (prices : P) (rows : A) (plan : Plan) (members : List (Member A Plan)) (accounts : List Account) (journal : JournalOf) (payments : Option (List Payment))
+      → IsKept weights_stand gains_stand plan_for file prices rows plan members accounts journal payments → IsOpen file.net file.tree journal.history
+  is_open file prices rows plan members accounts journal payments kept = record {
     legal = kept.legal;
     tree_of_it = kept.tree;
     proper = kept.ready.stands.proper;
@@ -59,11 +61,12 @@ module _ {P A Plan : Type 0} (weights_stand : P → Meaning → Type 0) (gains_s
   }
 
   -- what the parts of a market became by an entry
-  pub record AreGrown (file : MarketFile) (journal new_journal : JournalOf) (e : Entry) (prices new_prices : P) (members new_members : List (Member A Plan))
+  pub record AreGrown (file : MarketFile) (journal new_journal : JournalOf) (e : Entry) (prices new_prices : P) (rows new_rows : A) (members new_members : List (Member A Plan))
       (new_accounts : List Account) (new_payments : Option (List Payment)) : Type 0 where
     pub history : new_journal.history ≡ journal.history ++ e ∷ []
     pub limit : new_journal.max_trades ≡ journal.max_trades
     pub prices_grown : (m : Meaning) → weights_stand prices m → weights_stand new_prices (grown e m)
+    pub rows_grown : (m : Meaning) → gains_stand rows m → gains_stand new_rows (grown_rows e m)
     pub names : names_of new_members ≡ users (journal.history ++ e ∷ [])
     pub owned : (u : ℕ) (assets : Assets A Plan) → slice_get (assets_of new_members) u ≡ Some assets
         → Owns gains_stand assets (holding_of file.net file.tree (journal.history ++ e ∷ []) u)
@@ -72,15 +75,15 @@ module _ {P A Plan : Type 0} (weights_stand : P → Meaning → Type 0) (gains_s
     pub room : is_settled (journal.history ++ e ∷ []) ≡ false → new_payments ≡ Some []
 
   -- an allowed reply that appends an entry leads from a market that is kept to one that is
-  pub kept_grown : (file : MarketFile) (prices new_prices : P) (plan : Plan) (members new_members : List (Member A Plan)) (accounts new_accounts : List Account)
+  pub kept_grown : (file : MarketFile) (prices new_prices : P) (rows new_rows : A) (plan : Plan) (members new_members : List (Member A Plan)) (accounts new_accounts : List Account)
       (journal new_journal : JournalOf) (payments new_payments : Option (List Payment)) (e : Entry) (command : Command) (reply : Reply)
       → JoinsByName (OfCommand command)
-      → IsKept weights_stand gains_stand plan_for file prices plan members accounts journal payments
+      → IsKept weights_stand gains_stand plan_for file prices rows plan members accounts journal payments
       → IsAllowedFor (market_of file) (standing_of journal members) (OfCommand command) reply
       → standing_of new_journal new_members ≡ after (market_of file) (standing_of journal members) (OfCommand command) reply
-      → AreGrown file journal new_journal e prices new_prices members new_members new_accounts new_payments
-      → IsKept weights_stand gains_stand plan_for file new_prices plan new_members new_accounts new_journal new_payments
-  kept_grown file prices new_prices plan members new_members accounts new_accounts journal new_journal payments new_payments e command reply joins kept allowed next are =
+      → AreGrown file journal new_journal e prices new_prices rows new_rows members new_members new_accounts new_payments
+      → IsKept weights_stand gains_stand plan_for file new_prices new_rows plan new_members new_accounts new_journal new_payments
+  kept_grown file prices new_prices rows new_rows plan members new_members accounts new_accounts journal new_journal payments new_payments e command reply joins kept allowed next are =
       let market = market_of file in
       let old : Standing = standing_of journal members in
       let back : journal.history ++ e ∷ [] ≡ new_journal.history = sym are.history in
@@ -90,6 +93,8 @@ module _ {P A Plan : Type 0} (weights_stand : P → Meaning → Type 0) (gains_s
         planned = kept.planned;
         prices_stand = subst (λ (H : List Entry). weights_stand new_prices (weights_of file.net file.tree H)) back
             (subst (weights_stand new_prices) (sym (weights_grow file.net file.tree journal.history e)) (are.prices_grown (weights_of file.net file.tree journal.history) kept.prices_stand));
+        rows_stand = subst (λ (H : List Entry). gains_stand new_rows (rows_of file.net file.tree H)) back
+            (subst (gains_stand new_rows) (sym (rows_grow file.net file.tree journal.history e)) (are.rows_grown (rows_of file.net file.tree journal.history) kept.rows_stand));
         named = are.names ∙ ap users back;
         owns = λ u assets at. subst (λ (H : List Entry). Owns gains_stand assets (holding_of file.net file.tree H u)) back (are.owned u assets at);
         quotes_kept = λ u quote at. subst (λ (H : List Entry). IsKeptQuote file.net file.tree H u quote) back
@@ -111,16 +116,17 @@ module _ {P A Plan : Type 0} (weights_stand : P → Meaning → Type 0) (gains_s
         → (before : Assets A Plan) × (slice_get (assets_of members) u ≡ Some before) × ((h : Holding) → Owns gains_stand before h → Owns gains_stand assets h)
 
   -- an answer that appends none
-  pub kept_still : (file : MarketFile) (prices new_prices : P) (plan : Plan) (members new_members : List (Member A Plan)) (accounts : List Account)
+  pub kept_still : (file : MarketFile) (prices new_prices : P) (rows : A) (plan : Plan) (members new_members : List (Member A Plan)) (accounts : List Account)
       (journal : JournalOf) (payments : Option (List Payment))
-      → IsKept weights_stand gains_stand plan_for file prices plan members accounts journal payments
+      → IsKept weights_stand gains_stand plan_for file prices rows plan members accounts journal payments
       → AreStill prices new_prices members new_members
-      → IsKept weights_stand gains_stand plan_for file new_prices plan new_members accounts journal payments
-  kept_still file prices new_prices plan members new_members accounts journal payments kept are = record {
+      → IsKept weights_stand gains_stand plan_for file new_prices rows plan new_members accounts journal payments
+  kept_still file prices new_prices rows plan members new_members accounts journal payments kept are = record {
     legal = kept.legal;
     tree = kept.tree;
     planned = kept.planned;
     prices_stand = are.prices_still (weights_of file.net file.tree journal.history) kept.prices_stand;
+    rows_stand = kept.rows_stand;
     named = are.names_still ∙ kept.named;
     owns = λ u assets at.
         let own = are.owned_still u assets at in
@@ -128,6 +134,27 @@ module _ {P A Plan : Type 0} (weights_stand : P → Meaning → Type 0) (gains_s
     quotes_kept = λ u quote at. kept.quotes_kept u quote (subst (λ (qs : List (Option LastQuote)). slice_get qs u ≡ Some (Some quote)) are.quotes_still at);
     accounts_kept = kept.accounts_kept;
     ready = subst (λ (qs : List (Option LastQuote)). IsReady (market_of file) (record { history = journal.history; quotes = map (option_map quoted) qs })) (sym are.quotes_still) kept.ready;
+    bounded = kept.bounded;
+    max_trades = kept.max_trades;
+    room = kept.room;
+  }
+
+  -- the engine of initial weights may change as long as it stands for all that it stood for
+  pub rows_kept : (file : MarketFile) (prices : P) (rows new_rows : A) (plan : Plan) (members : List (Member A Plan)) (accounts : List Account) (journal : JournalOf)
+      (payments : Option (List Payment)) → IsKept weights_stand gains_stand plan_for file prices rows plan members accounts journal payments
+      → ((m : Meaning) → gains_stand rows m → gains_stand new_rows m)
+      → IsKept weights_stand gains_stand plan_for file prices new_rows plan members accounts journal payments
+  rows_kept file prices rows new_rows plan members accounts journal payments kept still = record {
+    legal = kept.legal;
+    tree = kept.tree;
+    planned = kept.planned;
+    prices_stand = kept.prices_stand;
+    rows_stand = still (rows_of file.net file.tree journal.history) kept.rows_stand;
+    named = kept.named;
+    owns = kept.owns;
+    quotes_kept = kept.quotes_kept;
+    accounts_kept = kept.accounts_kept;
+    ready = kept.ready;
     bounded = kept.bounded;
     max_trades = kept.max_trades;
     room = kept.room;

@@ -42,8 +42,8 @@ memory_answered now name none = record {
 }
 
 module _ {P A Plan : Type 0} (weights_stand : P → Meaning → Type 0) (gains_stand : A → Meaning → Type 0) (plan_for : Plan → List Variable → GivenTree → Type 0)
-    (file : MarketFile) (prices : P) (plan : Plan) (members : List (Member A Plan)) (accounts : List Account) (journal : JournalOf) (payments : Option (List Payment))
-    (kept : IsKept weights_stand gains_stand plan_for file prices plan members accounts journal payments)
+    (file : MarketFile) (prices : P) (rows : A) (plan : Plan) (members : List (Member A Plan)) (accounts : List Account) (journal : JournalOf) (payments : Option (List Payment))
+    (kept : IsKept weights_stand gains_stand plan_for file prices rows plan members accounts journal payments)
     (name : List ℕ) where
   module _ (assets : Assets A Plan) (known : List Pair) (known_is : known ≡ resolutions journal.history)
       (owns : Owns gains_stand assets (opening_holding file.net file.tree known)) (new_members : List (Member A Plan)) (more : new_members ≡ members ++ new_member name assets ∷ [])
@@ -69,15 +69,16 @@ module _ {P A Plan : Type 0} (weights_stand : P → Meaning → Type 0) (gains_s
 
     -- the market is kept
     pub join_kept : IsName name → new_journal.max_trades ≡ journal.max_trades → new_accounts ≡ accounts ++ empty_account ∷ []
-        → IsKept weights_stand gains_stand plan_for file prices plan new_members new_accounts new_journal payments
+        → IsKept weights_stand gains_stand plan_for file prices rows plan new_members new_accounts new_journal payments
     join_kept is_name limit opened =
         let H = journal.history in
-        kept_grown weights_stand gains_stand plan_for file prices prices plan members new_members accounts new_accounts journal new_journal payments payments
+        kept_grown weights_stand gains_stand plan_for file prices prices rows rows plan members new_members accounts new_accounts journal new_journal payments payments
         (Join name) (User name) (Joined name (revision new_journal.history)) is_name kept (join_allowed (revision new_journal.history) refl) (join_next (revision new_journal.history))
         (record {
           history = history;
           limit = limit;
           prices_grown = λ m stands. stands;
+          rows_grown = λ m stands. stands;
           names = names_more;
           owned = rw more (owned_joined file.net file.tree H name gains_stand members assets kept.named kept.ready.stands.proper kept.bounded.transfers_fit kept.owns
               (subst (λ (ps : List Pair). Owns gains_stand assets (opening_holding file.net file.tree ps)) known_is owns));

@@ -1,5 +1,5 @@
 -- The quote that judges a spread: the user's last one, or one made anew.
-use Rattle.std.specs.Prelude.{◌≡◌, ℕ, zero, suc, List, [], ◌∷◌, Option, Some, None, IfNone, Result, Ok, Err, MatchResult, slice_get, slice_set}
+use Rattle.std.specs.Prelude.{◌≡◌, ℕ, zero, suc, true, false, List, [], ◌∷◌, Option, Some, None, IfNone, Result, Ok, Err, MatchResult, slice_get, slice_set}
 use Rattle.std.proofs.Common.{refl, sym, ap, ◌∙◌, subst}
 use Rattle.arrayvec.specs.ArrayVec.{ArrayVec}
 use Rattle.mk_net.specs.Network.{Variable}
@@ -8,11 +8,13 @@ use Rattle.mk_spread.specs.Spreads.{SpreadAsked}
 use Rattle.mk_tree.specs.Given.{GivenTree}
 use Rattle.mk_quote.specs.declared.spread_quote.SpreadQuote.{SpreadQuote}
 use Rattle.mk_quote.specs.Spreads.{IsSpreadFor}
-use Rattle.mk_reply.specs.declared.refusal.Refusal.{Refusal}
 use Rattle.mk_market.specs.declared.last_quote.LastQuote.{LastQuote}
 use Rattle.mk_market.specs.declared.last_quote.LastQuote.TheVariants.{Bounds}
+use Rattle.mk_market.specs.declared.possible.Stopped.{Stopped}
+use Rattle.mk_market.specs.declared.possible.Stopped.TheVariants.{Decided, ImpossibleShare, MissingShare, Outside}
 use Rattle.mk_market.specs.inner.Keeping.{AreKeptQuotes}
-use Rattle.mk_market.specs.inner.Quoting.{IsSpreadQuoteOf, IsJudge, IsInside, IsOutside, IsTaken, IsTurnedDown}
+use Rattle.mk_market.specs.inner.Quoting.{IsSpreadQuoteOf, IsJudge, IsInside, IsStopped, IsTaken, IsTurnedDown, quotes_behind}
+use Rattle.mk_market.specs.inner.Stopped.{is_outside}
 
 -- an item that is there already is set
 set_same : {X : Type 0} (xs : List X) (i : ℕ) (x : X) → slice_get xs i ≡ Some x → slice_set xs i x ≡ xs
@@ -47,16 +49,39 @@ module _ (network : List Variable) (tree : GivenTree) (H : List Entry) (u : ℕ)
   fresh_judges quote its none = record { its = its; last = λ held there for. absurd (none held there for) }
 
   module _ (quote : SpreadQuote) (judge : IsJudge network tree H u spread quotes quote) (Xs : List ℕ) where
+    pub turned_down : (new_quotes : List (Option LastQuote)) (why : Stopped) → new_quotes ≡ quotes_behind quotes u quote why → IsStopped quote Xs why
+        → IsTurnedDown network tree H u spread quotes new_quotes Xs why
+    turned_down new_quotes (Decided why) set h = absurd h
+    turned_down new_quotes (ImpossibleShare value) set h = record { quote = quote; judge = judge; is_stopped = h; quotes_left = set }
+    turned_down new_quotes MissingShare set h = record { quote = quote; judge = judge; is_stopped = h; quotes_left = set }
+    turned_down new_quotes (Outside box) set h = record { quote = quote; judge = judge; is_stopped = h; quotes_left = set }
+
     -- what the last quote says leaves it as it is
-    pub judged_by_last : slice_get quotes u ≡ Some (Some (Bounds quote)) → (r : Result (ArrayVec ℕ) Refusal)
-        → MatchResult r (λ units. IsInside quote Xs units.items) (λ why. IsOutside quote Xs why)
+    left_behind : slice_get quotes u ≡ Some (Some (Bounds quote)) → (why : Stopped) → quotes ≡ quotes_behind quotes u quote why
+    left_behind at (Decided why) = refl
+    left_behind at (ImpossibleShare value) = refl
+    left_behind at MissingShare = refl
+    left_behind at (Outside box) = sym (set_same quotes u (Some (Bounds quote)) at)
+
+    pub judged_by_last : slice_get quotes u ≡ Some (Some (Bounds quote)) → (r : Result (ArrayVec ℕ) Stopped)
+        → MatchResult r (λ units. IsInside quote Xs units.items) (λ why. IsStopped quote Xs why)
         → MatchResult r (λ units. IsTaken network tree H u spread quotes quotes Xs units.items) (λ why. IsTurnedDown network tree H u spread quotes quotes Xs why)
     judged_by_last at (Ok units) h = record { quote = quote; judge = judge; is_inside = h; same_quotes = refl }
-    judged_by_last at (Err why) h = record { quote = quote; judge = judge; is_outside = h; quote_set = sym (set_same quotes u (Some (Bounds quote)) at) }
+    judged_by_last at (Err why) h = turned_down quotes why (left_behind at why) h
+
+    -- a quote made anew is set exactly where the shares are outside of it
+    pub behind_set : (new_quotes : List (Option LastQuote)) (why : Stopped) → is_outside why ≡ true → new_quotes ≡ slice_set quotes u (Some (Bounds quote))
+        → new_quotes ≡ quotes_behind quotes u quote why
+    behind_set new_quotes (Decided why) e set = cc
+    behind_set new_quotes (ImpossibleShare value) e set = cc
+    behind_set new_quotes MissingShare e set = cc
+    behind_set new_quotes (Outside box) e set = set
+
+    pub behind_left : (new_quotes : List (Option LastQuote)) (why : Stopped) → is_outside why ≡ false → new_quotes ≡ quotes → new_quotes ≡ quotes_behind quotes u quote why
+    behind_left new_quotes (Decided why) e same = same
+    behind_left new_quotes (ImpossibleShare value) e same = same
+    behind_left new_quotes MissingShare e same = same
+    behind_left new_quotes (Outside box) e same = cc
 
     pub taken : (new_quotes : List (Option LastQuote)) (Fs : List ℕ) → new_quotes ≡ quotes → IsInside quote Xs Fs → IsTaken network tree H u spread quotes new_quotes Xs Fs
     taken new_quotes Fs same h = record { quote = quote; judge = judge; is_inside = h; same_quotes = same }
-
-    pub turned_down : (new_quotes : List (Option LastQuote)) (why : Refusal) → new_quotes ≡ slice_set quotes u (Some (Bounds quote)) → IsOutside quote Xs why
-        → IsTurnedDown network tree H u spread quotes new_quotes Xs why
-    turned_down new_quotes why set h = record { quote = quote; judge = judge; is_outside = h; quote_set = set }

@@ -1,6 +1,6 @@
 -- The opening of a market.
 use Rattle.std.specs.Prelude.{◌≡◌, ℕ, ◌+◌, List, [], map, length, Some}
-use Rattle.std.proofs.Common.{refl, sym, ap, arith}
+use Rattle.std.proofs.Common.{refl, sym, ap, ◌∙◌, arith}
 use Rattle.std.proofs.lemmas.List.FromFn.{map-range_with_len_more, length-map-range_with_len}
 use Rattle.mk_net.specs.Network.{Variable, IsNetwork}
 use Rattle.mk_exact.specs.States.{numbers_below}
@@ -9,8 +9,9 @@ use Rattle.mk_tree.specs.Checked.{IsTreeOf}
 use Rattle.mk_file.specs.declared.market_file.MarketFile.{MarketFile}
 use Rattle.mk_file.specs.MarketOf.{market_of}
 use Rattle.mk_engine.specs.Meaning.{Meaning, Factor, RowsOf, with_factor}
-use Rattle.mk_beliefs.specs.Meanings.{weights_of}
+use Rattle.mk_beliefs.specs.Meanings.{weights_of, rows_of}
 use Rattle.mk_beliefs.proofs.Grown.{opening_is_rows}
+use Rattle.mk_beliefs.proofs.Initials.{rows_open}
 use Rattle.mk_cash.specs.declared.ledger.Account.{Account}
 use Rattle.mk_reply.specs.declared.payments.Payment.{Payment}
 use Rattle.mk_rules.proofs.Ready.{opening_is_ready}
@@ -18,6 +19,7 @@ use Rattle.mk_rules.proofs.Follows.{opening_is_bounded}
 use Rattle.mk_market.specs.declared.users.Member.{Member}
 use Rattle.mk_market.specs.Journals.{JournalOf}
 use Rattle.mk_market.specs.inner.Keeping.{IsKept}
+use Rattle.mk_market.proofs.Growing.{market_is}
 
 -- the rows of the first variables, in order, and nothing known
 abbrev pub first_rows : List Variable → GivenTree → ℕ → Meaning
@@ -32,26 +34,31 @@ one_more network tree k =
 pub count_of_rows : (network : List Variable) (tree : GivenTree) (k : ℕ) → length (first_rows network tree k).factors ≡ k
 count_of_rows network tree k = length-map-range_with_len RowsOf 0 k
 
--- those of all variables are the weights before any entry
-pub all_rows : (network : List Variable) (tree : GivenTree) → first_rows network tree (length network) ≡ weights_of network tree []
-all_rows network tree = sym ((opening_is_rows network tree 0).0)
+-- those of all variables are the initial weights, and the weights before any entry
+pub all_rows : (network : List Variable) (tree : GivenTree) → first_rows network tree (length network) ≡ rows_of network tree []
+all_rows network tree = sym (rows_open network tree)
+
+pub opening_weights : (network : List Variable) (tree : GivenTree) → rows_of network tree [] ≡ weights_of network tree []
+opening_weights network tree = rows_open network tree ∙ sym ((opening_is_rows network tree 0).0)
 
 pub opening_kept : {P A Plan : Type 0} (weights_stand : P → Meaning → Type 0) (gains_stand : A → Meaning → Type 0) (plan_for : Plan → List Variable → GivenTree → Type 0)
-    (file : MarketFile) (prices : P) (plan : Plan) (members : List (Member A Plan)) (accounts : List Account) (journal : JournalOf) (payments : List Payment)
+    (file : MarketFile) (prices : P) (rows : A) (plan : Plan) (members : List (Member A Plan)) (accounts : List Account) (journal : JournalOf) (payments : List Payment)
     → IsNetwork file.net → IsTreeOf file.net file.tree → plan_for plan file.net file.tree → weights_stand prices (weights_of file.net file.tree [])
+    → gains_stand rows (rows_of file.net file.tree [])
     → members ≡ [] → accounts ≡ [] → journal ≡ record { history = []; max_trades = file.max_trades } → payments ≡ []
-    → IsKept weights_stand gains_stand plan_for file prices plan members accounts journal (Some payments)
-opening_kept weights_stand gains_stand plan_for file prices plan members accounts journal payments legal tree planned prices_stand no_member no_account begun none =
+    → IsKept weights_stand gains_stand plan_for file prices rows plan members accounts journal (Some payments)
+opening_kept weights_stand gains_stand plan_for file prices rows plan members accounts journal payments legal tree planned prices_stand rows_stand no_member no_account begun none =
     rw (no_member, no_account, begun, none) (record {
       legal = legal;
       tree = tree;
       planned = planned;
       prices_stand = prices_stand;
+      rows_stand = rows_stand;
       named = refl;
       owns = λ u assets at. absurd (cc);
       quotes_kept = λ u quote at. absurd (cc);
       accounts_kept = record { one_each = refl; each = λ u h. absurd (omega (arith, h)) };
-      ready = opening_is_ready (market_of file);
+      ready = opening_is_ready (market_of file) (market_is file legal);
       bounded = opening_is_bounded (market_of file);
       max_trades = refl;
       room = λ h. refl;

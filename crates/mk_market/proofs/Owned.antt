@@ -203,7 +203,7 @@ module _ (network : List Variable) (tree : GivenTree) (H : List Entry) (name : L
   newcomer_holding proper fits =
       let n = length (users H) in let moved = none_moved n H fits in
       let holding : Meaning → ℕ → ℕ → Holding = λ m d w. record { meaning = m; deposited = d; withdrawn = w } in
-      let none : Meaning = record { network = network; tree = tree; factors = []; known = resolutions H } in
+      let none : Meaning = (opening_holding network tree (resolutions H)).meaning in
       ap (λ (m : Meaning). holding m (deposited H n) (withdrawn H n)) (newcomer_has_none network tree H proper)
       ∙ ap (λ (d : ℕ). holding none d (withdrawn H n)) (moved.0)
       ∙ ap (holding none 0) (moved.1)

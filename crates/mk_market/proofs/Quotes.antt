@@ -86,8 +86,8 @@ standing_quoted journal new_members quotes said =
     ap₂ (λ (H : List Entry) (qs : Quotes). record { history = H; quotes = qs }) (sym (append-nil journal.history)) said
 
 module _ {P A Plan : Type 0} (weights_stand : P → Meaning → Type 0) (gains_stand : A → Meaning → Type 0) (plan_for : Plan → List Variable → GivenTree → Type 0)
-    (file : MarketFile) (prices new_prices : P) (plan : Plan) (members new_members : List (Member A Plan)) (accounts : List Account) (journal : JournalOf)
-    (payments : Option (List Payment)) (kept : IsKept weights_stand gains_stand plan_for file prices plan members accounts journal payments)
+    (file : MarketFile) (prices new_prices : P) (rows : A) (plan : Plan) (members new_members : List (Member A Plan)) (accounts : List Account) (journal : JournalOf)
+    (payments : Option (List Payment)) (kept : IsKept weights_stand gains_stand plan_for file prices rows plan members accounts journal payments)
     (user : ℕ) (quote : LastQuote) (is : IsKeptQuote file.net file.tree journal.history user quote) (are : AreQuoted gains_stand members new_members user quote) where
   quotes_kept_then : AreKeptQuotes file.net file.tree journal.history (quotes_of new_members)
   quotes_kept_then =
@@ -101,17 +101,41 @@ module _ {P A Plan : Type 0} (weights_stand : P → Meaning → Type 0) (gains_s
   -- a market that was kept is kept beside a new quote, where its answer is allowed
   pub kept_quoted : ((m : Meaning) → weights_stand prices m → weights_stand new_prices m)
       → (command : Command) (reply : Reply) → IsAnswered (trading file journal members) (trading file journal new_members) command reply
-      → IsKept weights_stand gains_stand plan_for file new_prices plan new_members accounts journal payments
+      → IsKept weights_stand gains_stand plan_for file new_prices rows plan new_members accounts journal payments
   kept_quoted still_prices command reply answered = record {
     legal = kept.legal;
     tree = kept.tree;
     planned = kept.planned;
+    rows_stand = kept.rows_stand;
     prices_stand = still_prices (weights_of file.net file.tree journal.history) kept.prices_stand;
     named = are.names ∙ kept.named;
     owns = λ u. are.assets u (holding_of file.net file.tree journal.history u) (kept.owns u);
     quotes_kept = quotes_kept_then;
     accounts_kept = kept.accounts_kept;
     ready = ready_then command reply answered;
+    bounded = kept.bounded;
+    max_trades = kept.max_trades;
+    room = kept.room;
+  }
+
+-- or beside no new quote
+module _ {P A Plan : Type 0} (weights_stand : P → Meaning → Type 0) (gains_stand : A → Meaning → Type 0) (plan_for : Plan → List Variable → GivenTree → Type 0)
+    (file : MarketFile) (prices new_prices : P) (rows : A) (plan : Plan) (members new_members : List (Member A Plan)) (accounts : List Account) (journal : JournalOf)
+    (payments : Option (List Payment)) (kept : IsKept weights_stand gains_stand plan_for file prices rows plan members accounts journal payments) where
+  pub kept_unquoted : ((m : Meaning) → weights_stand prices m → weights_stand new_prices m) → names_of new_members ≡ names_of members → quotes_of new_members ≡ quotes_of members
+      → ((u : ℕ) (h : Holding) → OwnsAt gains_stand members u h → OwnsAt gains_stand new_members u h)
+      → IsKept weights_stand gains_stand plan_for file new_prices rows plan new_members accounts journal payments
+  kept_unquoted still same_names same_quotes assets = record {
+    legal = kept.legal;
+    tree = kept.tree;
+    planned = kept.planned;
+    rows_stand = kept.rows_stand;
+    prices_stand = still (weights_of file.net file.tree journal.history) kept.prices_stand;
+    named = same_names ∙ kept.named;
+    owns = λ u. assets u (holding_of file.net file.tree journal.history u) (kept.owns u);
+    quotes_kept = subst (AreKeptQuotes file.net file.tree journal.history) (sym same_quotes) kept.quotes_kept;
+    accounts_kept = kept.accounts_kept;
+    ready = subst (λ (qs : List (Option LastQuote)). IsReady (market_of file) (record { history = journal.history; quotes = map (option_map quoted) qs })) (sym same_quotes) kept.ready;
     bounded = kept.bounded;
     max_trades = kept.max_trades;
     room = kept.room;

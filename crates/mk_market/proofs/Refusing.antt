@@ -25,7 +25,7 @@ use Rattle.mk_file.specs.MarketOf.{market_of}
 use Rattle.mk_command.specs.declared.command.Command.TheVariants.{Price, Edit}
 use Rattle.mk_reply.specs.declared.refusal.Refusal.{Refusal}
 use Rattle.mk_reply.specs.declared.refusal.Refusal.TheVariants.{Settled, Unknown, Resolved, Wide, Unresolved, Impossible}
-use Rattle.mk_rules.specs.Refusals.{pairs_of, names_in, variables_in, known_pairs, question_named, is_resolved, contradicts, passes, is_wide, unknown, resolved, impossible, wide_question, unresolved, twice, settled, no_user, stale, range, trades_full, first_refusal}
+use Rattle.mk_rules.specs.Refusals.{pairs_of, names_in, variables_in, known_pairs, question_named, is_resolved, contradicts, passes, is_wide, unknown, resolved, impossible, wide_question, unresolved, twice, settled, no_user, stale, range, trades_full, refusals_by_record}
 use Rattle.mk_rules.proofs.Unrefused.{not_mapped, question_known, target_named, variable_known, not_resolved, condition_agrees}
 use Rattle.mk_market.specs.Refused.{refusal_in, IsQuestionFor}
 
@@ -267,13 +267,13 @@ can_answer file H q asked named known question free agreed held =
     record {
       named = named;
       answered = record {
-        can_ask = record {
+        in_order = record {
           in_range = question_known file.net q asked known named;
           apart = question.apart;
           target_apart = question.target_apart;
           unresolved = not_resolved file.net H q.target asked.target parts.0 free;
-          agrees = rw parts.1 (condition_agrees file.net H q.condition.items agreed);
         };
+        agrees = rw parts.1 (condition_agrees file.net H q.condition.items agreed);
         home = has_home (home file.tree (pairs_asked asked)) held;
       };
     }
@@ -302,7 +302,7 @@ module _ (file : MarketFile) (H : List Entry) (q : QuestionText) (asked : Asked)
       not_homeless None h = cc
       not_homeless (Some k) h = refl
 
-  pub plain_unrefused : is_settled H ≡ false → twice (names_in (pairs_of q)) ≡ None → first_refusal (market_of file) H (Price q) ≡ None
+  pub plain_unrefused : is_settled H ≡ false → twice (names_in (pairs_of q)) ≡ None → first_of (refusals_by_record (market_of file) H (Price q)) ≡ None
   plain_unrefused running once =
       none_of_six _ _ _ _ _ _ (ap (λ (b : Bool). fault_if b Settled) running) known once plain_free plain_agreed (wide_is_homeless file H q asked named known ∙ at_home)
     where
@@ -379,7 +379,7 @@ refused_sixth None None None None (Some x) free agreed wide later why e f g h i 
 pub edit_refused : (file : MarketFile) (H : List Entry) (name : List ℕ) (q : QuestionText) (to : ℕ) (at : Option ℕ) (why : Refusal) → None ≡ settled H → None ≡ no_user H name
     → None ≡ or_else (unknown file.net (pairs_of q)) (twice (names_in (pairs_of q))) → None ≡ stale H at
     → Some why ≡ first_of (resolved file.net H q.target.variable ∷ impossible file.net H q.condition.items ∷ wide_question (market_of file) H q ∷ [])
-    → Some why ≡ first_refusal (market_of file) H (Edit name q to at)
+    → Some why ≡ first_of (refusals_by_record (market_of file) H (Edit name q to at))
 edit_refused file H name q to at why e f g h i =
     refused_sixth (settled H) (no_user H name) (unknown file.net (pairs_of q)) (twice (names_in (pairs_of q))) (stale H at) (resolved file.net H q.target.variable)
     (impossible file.net H q.condition.items) (wide_question (market_of file) H q) (or_else (range (million - 1) to) (or_else (trades_full (market_of file) H) None)) why e f g h i

@@ -1,18 +1,46 @@
 -- Replies that a market allows, and those that leave its standing.
 use Rattle.std.specs.Prelude.{◌≡◌, List, [], ◌∷◌, ◌++◌, Bool, true, false, Option, Some, None, MatchOption, Result, Ok, Err, IsErrAnd}
 use Rattle.std.proofs.Common.{refl, sym, ap, ◌∙◌, subst, append-nil}
-use Rattle.mk_net.specs.Firsts.{fault_if, or_else}
+use Rattle.mk_net.specs.Firsts.{fault_if, or_else, first_of}
 use Rattle.mk_exact.specs.History.{Entry, is_settled}
 use Rattle.mk_exact.specs.Market.{Market}
 use Rattle.mk_command.specs.declared.command.Command.{Command}
-use Rattle.mk_command.specs.declared.command.Command.TheVariants.{User, Deposit, Withdraw, Price, Limits, Edit, Bounds, Spread, Worst, Resolve, Settle}
+use Rattle.mk_command.specs.declared.command.Command.TheVariants.{User, Deposit, Withdraw, Price, Limits, Edit, Bounds, Spread, Worst, Resolve, Settle, Bound}
 use Rattle.mk_reply.specs.declared.refusal.Refusal.{Refusal}
 use Rattle.mk_reply.specs.declared.reply.Reply.{Reply}
 use Rattle.mk_reply.specs.declared.reply.Reply.TheVariants.{Refused}
-use Rattle.mk_rules.specs.Refusals.{first_refusal}
+use Rattle.mk_rules.specs.Refusals.{first_refusal, refusals_by_record, refusals_by_states}
 use Rattle.mk_rules.specs.Answers.{IsAnswer, entry_of, next_quotes}
 use Rattle.mk_rules.specs.Transcript.{Standing, OfCommand, IsAllowedFor, after}
 use Rattle.mk_market.specs.Trading.{Trading, IsAnswered, reply_of}
+
+-- the first refusal of two lists is that of the first list where it has one, and else that of the second
+refused_before : (faults later : List (Option Refusal)) (why : Refusal) → Some why ≡ first_of faults → Some why ≡ first_of (faults ++ later)
+refused_before [] later why h = absurd (cc)
+refused_before (None ∷ faults) later why h = refused_before faults later why h
+refused_before (Some fault ∷ faults) later why h = h
+
+refused_behind : (faults later : List (Option Refusal)) → None ≡ first_of faults → first_of later ≡ first_of (faults ++ later)
+refused_behind [] later h = refl
+refused_behind (None ∷ faults) later h = refused_behind faults later h
+refused_behind (Some fault ∷ faults) later h = absurd (cc)
+
+-- a command is refused for the record, or for what can come where nothing in the record refuses it, or for nothing
+pub by_record : (market : Market) (H : List Entry) (command : Command) (why : Refusal) → Some why ≡ first_of (refusals_by_record market H command)
+    → Some why ≡ first_refusal market H command
+by_record market H command why h = refused_before (refusals_by_record market H command) (refusals_by_states market H command) why h
+
+pub by_states : (market : Market) (H : List Entry) (command : Command) → None ≡ first_of (refusals_by_record market H command)
+    → first_of (refusals_by_states market H command) ≡ first_refusal market H command
+by_states market H command none = refused_behind (refusals_by_record market H command) (refusals_by_states market H command) none
+
+pub stopped_by_states : (market : Market) (H : List Entry) (command : Command) (why : Refusal) → None ≡ first_of (refusals_by_record market H command)
+    → first_of (refusals_by_states market H command) ≡ Some why → Some why ≡ first_refusal market H command
+stopped_by_states market H command why none h = sym h ∙ by_states market H command none
+
+pub unrefused : (market : Market) (H : List Entry) (command : Command) → None ≡ first_of (refusals_by_record market H command)
+    → first_of (refusals_by_states market H command) ≡ None → None ≡ first_refusal market H command
+unrefused market H command none h = sym h ∙ by_states market H command none
 
 -- the refusal of the table
 pub refusal_allowed : (market : Market) (now : Standing) (command : Command) (why : Refusal) → Some why ≡ first_refusal market now.history command
@@ -53,6 +81,7 @@ refused_stays market now (Spread user variable condition to at) why h = absurd h
 refused_stays market now (Worst user) why h = none_appended market now (Worst user) (Refused why) refl refl
 refused_stays market now (Resolve pair) why h = none_appended market now (Resolve pair) (Refused why) refl refl
 refused_stays market now Settle why h = none_appended market now Settle (Refused why) refl refl
+refused_stays market now Bound why h = none_appended market now Bound (Refused why) refl refl
 
 refused_answered : (old : Trading) (command : Command) (why : Refusal) → IsNoTrade command → Some why ≡ first_refusal old.market old.standing.history command
     → IsAnswered old old command (Refused why)
@@ -92,3 +121,4 @@ unsettled market H (Spread u v condition to seen) none = unsettled_first (is_set
 unsettled market H (Worst u) none = unsettled_first (is_settled H) _ _ none
 unsettled market H (Resolve p) none = unsettled_first (is_settled H) _ _ none
 unsettled market H Settle none = unsettled_first (is_settled H) _ _ none
+unsettled market H Bound none = unsettled_first (is_settled H) _ _ none

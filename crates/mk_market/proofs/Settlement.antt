@@ -90,8 +90,8 @@ module _ (market : Market) (H : List Entry) (state : List ℕ) (one : possible_s
   }
 
 module _ {P A Plan : Type 0} (weights_stand : P → Meaning → Type 0) (gains_stand : A → Meaning → Type 0) (plan_for : Plan → List Variable → GivenTree → Type 0)
-    (file : MarketFile) (prices : P) (plan : Plan) (members : List (Member A Plan)) (accounts : List Account) (journal : JournalOf) (payments : Option (List Payment))
-    (kept : IsKept weights_stand gains_stand plan_for file prices plan members accounts journal payments)
+    (file : MarketFile) (prices : P) (rows : A) (plan : Plan) (members : List (Member A Plan)) (accounts : List Account) (journal : JournalOf) (payments : Option (List Payment))
+    (kept : IsKept weights_stand gains_stand plan_for file prices rows plan members accounts journal payments)
     (can : CanBeSettled file.net journal.history) (none : None ≡ first_refusal (market_of file) journal.history Settle)
     (new_members : List (Member A Plan)) (new_journal : JournalOf) (history : new_journal.history ≡ journal.history ++ Settles ∷ []) (same_quotes : quotes_of new_members ≡ quotes_of members)
     (pays : List Payment)
@@ -124,15 +124,16 @@ module _ {P A Plan : Type 0} (weights_stand : P → Meaning → Type 0) (gains_s
   -- the market is kept
   pub settlement_kept : (new_accounts : List Account) (left : Option (List Payment)) → new_journal.max_trades ≡ journal.max_trades → names_of new_members ≡ names_of members
       → ((u : ℕ) (h : Holding) → OwnsAt gains_stand members u h → OwnsAt gains_stand new_members u h) → ArePaid accounts new_accounts pays
-      → IsKept weights_stand gains_stand plan_for file prices plan new_members new_accounts new_journal left
+      → IsKept weights_stand gains_stand plan_for file prices rows plan new_members new_accounts new_journal left
   settlement_kept new_accounts left limit names still entered =
       let H = journal.history in
-      kept_grown weights_stand gains_stand plan_for file prices prices plan members new_members accounts new_accounts journal new_journal payments left
+      kept_grown weights_stand gains_stand plan_for file prices prices rows rows plan members new_members accounts new_accounts journal new_journal payments left
       Settles Settle (Settled at pays) tt kept settlement_allowed settlement_next
       (record {
         history = history;
         limit = limit;
         prices_grown = λ m stands. stands;
+        rows_grown = λ m stands. stands;
         names = names ∙ kept.named ∙ sym (not_found H Settles join_in refl);
         owned = λ u assets at. subst (Owns gains_stand assets) (sym (holding_same file.net file.tree H Settles u refl refl refl)) (still u (holding_of file.net file.tree H u) (kept.owns u) assets at);
         none_quoted = λ u quote at. subst (λ (qs : List (Option LastQuote)). slice_get qs u ≡ Some (Some quote)) same_quotes at;

@@ -1,8 +1,8 @@
 -- What a question about a whole distribution and an edit of one are refused for, and what is known where they are not.
-use Rattle.std.proofs.Common.{◌≡◌, ℕ, ◌+◌, ◌*◌, ◌<◌, ◌≤◌, ◌&&◌, ◌||◌, Bool, true, false, cond, not, leb, List, [], ◌∷◌, ◌++◌, length, sum, map, drop, get_or, slice_index, Option, Some, None, IfNone, is_none, refl, sym, ap, ap₂, subst, ◌∙◌, arith}
+use Rattle.std.proofs.Common.{◌≡◌, ℕ, ◌+◌, ◌*◌, ◌<◌, ◌≤◌, ◌&&◌, ◌||◌, Bool, true, false, cond, not, leb, ltb, List, [], ◌∷◌, ◌++◌, length, sum, map, drop, get_or, slice_index, Option, Some, None, IfNone, is_none, refl, sym, ap, ap₂, subst, ◌∙◌, ◌⊎◌, inl, inr, arith, le-leb}
 use Rattle.std.specs.Prelude.{◌==◌, ◌-◌, ◌^◌, find, option_map, option_and_then, is_some, position}
-use Rattle.std.specs.List.{AllByRecursion}
 use Rattle.std.proofs.Math.Path.{fun_ext}
+use Rattle.std.proofs.lemmas.Bool.{cases_lt, lt-ltb, le-ltb, lt-leb}
 use Rattle.std.proofs.lemmas.List.{at_drop_more, at_drop_all}
 use Rattle.std.proofs.lemmas.List.Elements.{All-from_recursion}
 use Rattle.std.proofs.lemmas.List.Sums.{sum_by-le}
@@ -17,8 +17,7 @@ use Rattle.mk_net.specs.Network.{Variable, sizes}
 use Rattle.mk_net.specs.Named.{variable_named}
 use Rattle.mk_net.specs.Sets.{is_member}
 use Rattle.mk_net.proofs.Networks.{size_at}
-use Rattle.mk_exact.specs.History.{Entry, resolutions, trades}
-use Rattle.mk_exact.specs.Laws.{AgreesWith}
+use Rattle.mk_exact.specs.History.{Entry, trades}
 use Rattle.mk_exact.proofs.Sums.{each_weaker}
 use Rattle.mk_spread.specs.Spreads.{SpreadAsked, asked_of}
 use Rattle.mk_tree.specs.Given.{GivenTree, home, holds_event}
@@ -27,8 +26,8 @@ use Rattle.mk_file.specs.MarketOf.{market_of}
 use Rattle.mk_command.specs.declared.command.Command.TheVariants.{Bounds, Spread}
 use Rattle.mk_reply.specs.declared.refusal.Refusal.{Refusal}
 use Rattle.mk_reply.specs.declared.refusal.Refusal.TheVariants.{NoVariable, Twice, Wide, Range, Numbers}
-use Rattle.mk_rules.specs.Refusals.{names_in, known_pairs, spread_named, settled, no_user, no_variable, unknown, twice, stale, resolved, impossible, wide, wide_spread, numbers, range, ranges, sums, full, passes, first_refusal}
-use Rattle.mk_rules.proofs.Unrefused.{not_faulted, condition_agrees}
+use Rattle.mk_rules.specs.Refusals.{names_in, known_pairs, spread_named, settled, no_user, no_variable, unknown, twice, stale, resolved, impossible, wide, wide_spread, numbers, ranges, sums, full, passes, least_share, refusals_by_record}
+use Rattle.mk_rules.proofs.Unrefused.{not_faulted}
 use Rattle.mk_rules.proofs.Spreads.{spread_parts, spread_is, numbers_in_range}
 use Rattle.mk_market.specs.Refused.{IsSpreadQuestionFor}
 use Rattle.mk_market.specs.inner.Gathered.{IsGathered}
@@ -108,19 +107,18 @@ spread_is_homeless file H v ps spread named =
 
 -- a distribution that none of its refusals meets can be answered
 pub can_answer_spread : (file : MarketFile) (H : List Entry) (v : List ℕ) (ps : List PairText) (spread : SpreadAsked) → spread_named file.net v ps ≡ Some spread → AreApart spread.condition
-    → speaks_of spread.condition spread.variable ≡ false → resolved file.net H v ≡ None → impossible file.net H ps ≡ None
+    → speaks_of spread.condition spread.variable ≡ false → resolved file.net H v ≡ None
     → fault_if (is_none (home file.tree (pairs_asked (asked_of spread 0)))) Wide ≡ None → IsSpreadQuestionFor (market_of file) file.tree H v ps spread
-can_answer_spread file H v ps spread named apart variable_apart free agreed held =
+can_answer_spread file H v ps spread named apart variable_apart free held =
     let parts = spread_parts file.net v ps spread named in
     record {
       named = named;
       answered = record {
-        can_spread = record {
+        in_order = record {
           in_range = spread_is file.net v ps spread named;
           apart = apart;
           variable_apart = variable_apart;
           unresolved = rw parts.1 at (not_faulted _ _ free);
-          agrees = subst (AllByRecursion (λ p. AllByRecursion (AgreesWith p) (resolutions H))) (sym parts.2) (condition_agrees file.net H ps agreed);
         };
         home = λ value. ap is_some (each_home file.tree spread.condition _ _ refl) ∙ has_home (home file.tree (pairs_asked (asked_of spread 0))) held;
       };
@@ -135,39 +133,54 @@ numbers_are network name k v to size named inside sized =
     ap (λ (n : ℕ). fault_if (not (length to == n)) (Numbers (length to))) (sized ∙ size_at network k inside ∙ ap (λ (x : Variable). length x.values) (sym (variable_of_number network name k v named)))
     ∙ ap (λ (o : Option (ℕ × Variable)). fault_if (passes (λ (numbered : ℕ × Variable). not (length to == length (numbered.1).values)) o) (Numbers (length to))) (sym named)
 
+-- a share is not from a least to a most
+abbrev pub is_beyond : ℕ → ℕ → ℕ → Bool
+is_beyond least most n = not (leb least n && leb n most)
+
 -- the first share that is not in range
-range_passed : (most n : ℕ) (rest : List ℕ) → None ≡ range most n → ranges most (n ∷ rest) ≡ ranges most rest
-range_passed most n rest h = at (not (leb 1 n && leb n most)) h
+range_passed : (least most n : ℕ) (rest : List ℕ) → None ≡ fault_if (is_beyond least most n) (Range n) → ranges least most (n ∷ rest) ≡ ranges least most rest
+range_passed least most n rest h = at (is_beyond least most n) h
   where
-    at : (b : Bool) → None ≡ fault_if b (Range n) → option_map Range (cond b (Some n) (find (λ m. not (leb 1 m && leb m most)) rest)) ≡ ranges most rest
+    at : (b : Bool) → None ≡ fault_if b (Range n) → option_map Range (cond b (Some n) (find (is_beyond least most) rest)) ≡ ranges least most rest
     at true h = cc
     at false h = refl
 
-range_failed : (most n : ℕ) (rest : List ℕ) (why : Refusal) → Some why ≡ range most n → Some why ≡ ranges most (n ∷ rest)
-range_failed most n rest why h = at (not (leb 1 n && leb n most)) h
+range_failed : (least most n : ℕ) (rest : List ℕ) (why : Refusal) → Some why ≡ fault_if (is_beyond least most n) (Range n) → Some why ≡ ranges least most (n ∷ rest)
+range_failed least most n rest why h = at (is_beyond least most n) h
   where
-    at : (b : Bool) → Some why ≡ fault_if b (Range n) → Some why ≡ option_map Range (cond b (Some n) (find (λ m. not (leb 1 m && leb m most)) rest))
+    at : (b : Bool) → Some why ≡ fault_if b (Range n) → Some why ≡ option_map Range (cond b (Some n) (find (is_beyond least most) rest))
     at true h = h
     at false h = cc
 
-module _ (most : ℕ) (xs : List ℕ) (k : ℕ) (within : k < length xs) (so_far : ranges most (drop k xs) ≡ ranges most xs) where
-  here : ranges most (get_or xs k 0 ∷ drop (k + 1) xs) ≡ ranges most xs
-  here = sym (at_drop_more (ranges most) xs k 0 within) ∙ so_far
+module _ (least most : ℕ) (xs : List ℕ) (k : ℕ) (within : k < length xs) (so_far : ranges least most (drop k xs) ≡ ranges least most xs) where
+  here : ranges least most (get_or xs k 0 ∷ drop (k + 1) xs) ≡ ranges least most xs
+  here = sym (at_drop_more (ranges least most) xs k 0 within) ∙ so_far
 
-  pub ranges_passed : None ≡ range most (get_or xs k 0) → ranges most (drop (k + 1) xs) ≡ ranges most xs
-  ranges_passed h = sym (range_passed most (get_or xs k 0) (drop (k + 1) xs) h) ∙ here
+  pub ranges_passed : None ≡ fault_if (is_beyond least most (get_or xs k 0)) (Range (get_or xs k 0)) → ranges least most (drop (k + 1) xs) ≡ ranges least most xs
+  ranges_passed h = sym (range_passed least most (get_or xs k 0) (drop (k + 1) xs) h) ∙ here
 
-  pub ranges_failed : (why : Refusal) → Some why ≡ range most (get_or xs k 0) → Some why ≡ ranges most xs
-  ranges_failed why h = range_failed most (get_or xs k 0) (drop (k + 1) xs) why h ∙ here
+  pub ranges_failed : (why : Refusal) → Some why ≡ fault_if (is_beyond least most (get_or xs k 0)) (Range (get_or xs k 0)) → Some why ≡ ranges least most xs
+  ranges_failed why h = range_failed least most (get_or xs k 0) (drop (k + 1) xs) why h ∙ here
 
-pub ranges_ended : (most : ℕ) (xs : List ℕ) (k : ℕ) → length xs ≤ k → ranges most (drop k xs) ≡ ranges most xs → None ≡ ranges most xs
-ranges_ended most xs k h so_far = sym (at_drop_all (ranges most) xs k h) ∙ so_far
+pub ranges_ended : (least most : ℕ) (xs : List ℕ) (k : ℕ) → length xs ≤ k → ranges least most (drop k xs) ≡ ranges least most xs → None ≡ ranges least most xs
+ranges_ended least most xs k h so_far = sym (at_drop_all (ranges least most) xs k h) ∙ so_far
+
+-- a number below the least is such a share, and another one is where it is above the most
+pub below_least : (least most n : ℕ) → n < least → ltb n least ≡ is_beyond least most n
+below_least least most n p = lt-ltb n least p ∙ ap (λ (b : Bool). not (b && leb n most)) (sym (lt-leb least n p))
+
+pub from_least : (least most n : ℕ) → least ≤ n → ltb most n ≡ is_beyond least most n
+from_least least most n p = at (cases_lt most n) ∙ ap (λ (b : Bool). not (b && leb n most)) (sym (le-leb least n p))
+  where
+    at : (most < n) ⊎ (n ≤ most) → ltb most n ≡ not (leb n most)
+    at (inl q) = lt-ltb most n q ∙ ap not (sym (lt-leb n most q))
+    at (inr q) = le-ltb most n q ∙ ap not (sym (le-leb n most q))
 
 -- shares that are in range have a sum that fits
-pub sum_fits : (to : List ℕ) → length to ≤ max_values → None ≡ ranges (million - 1) to → sum to < 2 ^ 32
-sum_fits to few h =
+pub sum_fits : (least : ℕ) (to : List ℕ) → length to ≤ max_values → None ≡ ranges least (million - 1) to → sum to < 2 ^ 32
+sum_fits least to few h =
     let below : sum to ≤ length to * 999999 = sum_by-le (λ n. n) 999999 to
-    (All-from_recursion (λ n. n ≤ 999999) to (each_weaker (λ n. (1 ≤ n) × (n ≤ 999999)) (λ n. n ≤ 999999) (λ n e. e.1) to (numbers_in_range 999999 to (sym h)))) in
+    (All-from_recursion (λ n. n ≤ 999999) to (each_weaker (λ n. (least ≤ n) × (n ≤ 999999)) (λ n. n ≤ 999999) (λ n e. e.1) to (numbers_in_range least 999999 to (sym h)))) in
     omega (arith, below, few)
 
 -- ---- the refusals of a question, one step after the other
@@ -192,25 +205,25 @@ module _ (file : MarketFile) (H : List Entry) (v : List ℕ) (ps : List PairText
       (applies (impossible file.net H ps) (wide_spread (market_of file) H v ps ∷ []) why h)
 
   module _ (u : List ℕ) (pairs : ArrayVec PairText) (given : pairs.items ≡ ps) where
-    bounds_are : first_of (settled H ∷ no_user H u ∷ (asking ++ answering)) ≡ first_refusal (market_of file) H (Bounds u v pairs)
+    bounds_are : first_of (settled H ∷ no_user H u ∷ (asking ++ answering)) ≡ first_of (refusals_by_record (market_of file) H (Bounds u v pairs))
     bounds_are =
         ap (λ (qs : List PairText). first_of (settled H ∷ no_user H u ∷ no_variable file.net v ∷ unknown file.net qs ∷ twice (v ∷ names_in qs)
         ∷ resolved file.net H v ∷ impossible file.net H qs ∷ wide_spread (market_of file) H v qs ∷ [])) (sym given)
 
-    pub bounds_settled : (why : Refusal) → Some why ≡ settled H → Some why ≡ first_refusal (market_of file) H (Bounds u v pairs)
+    pub bounds_settled : (why : Refusal) → Some why ≡ settled H → Some why ≡ first_of (refusals_by_record (market_of file) H (Bounds u v pairs))
     bounds_settled why h = applies _ (no_user H u ∷ (asking ++ answering)) why h ∙ bounds_are
 
-    pub bounds_of_nobody : (why : Refusal) → None ≡ settled H → Some why ≡ no_user H u → Some why ≡ first_refusal (market_of file) H (Bounds u v pairs)
+    pub bounds_of_nobody : (why : Refusal) → None ≡ settled H → Some why ≡ no_user H u → Some why ≡ first_of (refusals_by_record (market_of file) H (Bounds u v pairs))
     bounds_of_nobody why e h = passed _ (no_user H u ∷ (asking ++ answering)) _ e (applies _ (asking ++ answering) why h) ∙ bounds_are
 
     pub bounds_unasked : (why : Refusal) → None ≡ settled H → None ≡ no_user H u
-        → Some why ≡ or_else (no_variable file.net v) (or_else (unknown file.net ps) (twice (v ∷ names_in ps))) → Some why ≡ first_refusal (market_of file) H (Bounds u v pairs)
+        → Some why ≡ or_else (no_variable file.net v) (or_else (unknown file.net ps) (twice (v ∷ names_in ps))) → Some why ≡ first_of (refusals_by_record (market_of file) H (Bounds u v pairs))
     bounds_unasked why e f h =
         passed _ (no_user H u ∷ (asking ++ answering)) _ e (passed _ (asking ++ answering) _ f (front_applies asking answering why (h ∙ asking_is))) ∙ bounds_are
 
     pub bounds_answered : (found : Option Refusal) → None ≡ settled H → None ≡ no_user H u
         → None ≡ or_else (no_variable file.net v) (or_else (unknown file.net ps) (twice (v ∷ names_in ps))) → found ≡ first_of answering
-        → found ≡ first_refusal (market_of file) H (Bounds u v pairs)
+        → found ≡ first_of (refusals_by_record (market_of file) H (Bounds u v pairs))
     bounds_answered found e f g h =
         passed _ (no_user H u ∷ (asking ++ answering)) _ e (passed _ (asking ++ answering) _ f (front_passed asking answering _ (g ∙ asking_is) h)) ∙ bounds_are
 
@@ -218,19 +231,19 @@ module _ (file : MarketFile) (H : List Entry) (v : List ℕ) (ps : List PairText
 
     module _ (to : List ℕ) (shares : ArrayVec ℕ) (listed : shares.items ≡ to) (seen : Option ℕ) where
       abbrev sharing : List (Option Refusal)
-      sharing = numbers file.net v to ∷ ranges (million - 1) to ∷ sums to ∷ []
+      sharing = numbers file.net v to ∷ ranges (least_share (market_of file)) (million - 1) to ∷ sums to ∷ []
 
       abbrev filling : List (Option Refusal)
       filling = full file.max_trades (length (trades H)) ∷ []
 
       abbrev TheFirst : Option Refusal → Type 0
-      TheFirst found = found ≡ first_refusal (market_of file) H (Spread u v pairs shares seen)
+      TheFirst found = found ≡ first_of (refusals_by_record (market_of file) H (Spread u v pairs shares seen))
 
-      spread_refusals_are : first_of (settled H ∷ no_user H u ∷ (asking ++ stale H seen ∷ (answering ++ (sharing ++ filling)))) ≡ first_refusal (market_of file) H (Spread u v pairs shares seen)
+      spread_refusals_are : first_of (settled H ∷ no_user H u ∷ (asking ++ stale H seen ∷ (answering ++ (sharing ++ filling)))) ≡ first_of (refusals_by_record (market_of file) H (Spread u v pairs shares seen))
       spread_refusals_are =
           ap₂ (λ (qs : List PairText) (Xs : List ℕ). first_of (settled H ∷ no_user H u ∷ no_variable file.net v ∷ unknown file.net qs ∷ twice (v ∷ names_in qs) ∷ stale H seen
           ∷ resolved file.net H v ∷ impossible file.net H qs ∷ wide_spread (market_of file) H v qs
-          ∷ numbers file.net v Xs ∷ ranges (million - 1) Xs ∷ sums Xs ∷ full file.max_trades (length (trades H)) ∷ [])) (sym given) (sym listed)
+          ∷ numbers file.net v Xs ∷ ranges (least_share (market_of file)) (million - 1) Xs ∷ sums Xs ∷ full file.max_trades (length (trades H)) ∷ [])) (sym given) (sym listed)
 
       pub spread_settled : (why : Refusal) → Some why ≡ settled H → TheFirst (Some why)
       spread_settled why h = applies _ (no_user H u ∷ (asking ++ stale H seen ∷ (answering ++ (sharing ++ filling)))) why h ∙ spread_refusals_are

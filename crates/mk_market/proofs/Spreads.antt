@@ -1,22 +1,25 @@
 -- A user is quoted bounds, or a spread is judged by them.
-use Rattle.std.specs.Prelude.{◌≡◌, ℕ, ◌+◌, ◌==◌, List, [], ◌∷◌, ◌++◌, Bool, true, false, if◌then◌else◌, length, map, All, Option, Some, None, option_map, option_and_then, option_to_list, MatchOption, IsSomeAnd, Result, Ok, Err, IsErrAnd, ⊤, is_some, slice_get, slice_set}
+use Rattle.std.specs.Prelude.{◌≡◌, ℕ, ◌+◌, ◌≤◌, ◌==◌, List, [], ◌∷◌, ◌++◌, Bool, true, false, if◌then◌else◌, length, map, All, Option, Some, None, option_map, option_and_then, option_to_list, MatchOption, IsSomeAnd, Result, Ok, Err, IsErrAnd, ⊤, is_some, slice_get, slice_set, slice_index, suc}
 use Rattle.std.proofs.Common.{refl, sym, ap, ap₂, ◌∙◌, subst, inl, inr, arith}
 use Rattle.std.proofs.lemmas.Bool.{eqb-true}
 use Rattle.std.proofs.lemmas.List.{length_push}
 use Rattle.std.proofs.lemmas.Option.{slice_get-map}
 use Rattle.arrayvec.specs.ArrayVec.{ArrayVec}
 use Rattle.mk_net.specs.declared.words.PairText.{PairText}
-use Rattle.mk_net.specs.Network.{Variable}
+use Rattle.mk_net.specs.Network.{Variable, sizes}
 use Rattle.mk_net.specs.Asked.{IsUnits, ratio_pairs}
 use Rattle.mk_exact.specs.History.{Entry, Trade, revision}
+use Rattle.mk_exact.specs.Limits.{Side}
 use Rattle.mk_exact.specs.Proper.{IsRatioOf}
 use Rattle.mk_exact.specs.Weight.{IsSmall}
 use Rattle.mk_spread.specs.Spreads.{SpreadAsked, spread_ratio}
 use Rattle.mk_spread.specs.Bounds.{Intervals, InsideEach}
 use Rattle.mk_spread.specs.Existing.{HasValueSides}
 use Rattle.mk_spread.specs.Laws.{AreOfValues}
-use Rattle.mk_spread.specs.Markets.{AreRightBoundsOf, IsFairList}
+use Rattle.mk_spread.specs.Markets.{AreRightBoundsOf, IsFairList, IsValueSide, value_cannot_come, values_left}
 use Rattle.mk_spread.proofs.Exist.{value_sides_exist}
+use Rattle.mk_spread.proofs.Listed.{ranged_length}
+use Rattle.mk_spread.proofs.Suits.{no_side_where}
 use Rattle.mk_spread.proofs.Fair.{fair_list_is_ratio, fair_list_fits}
 use Rattle.mk_spread.proofs.When.{units_when, bounds_when}
 use Rattle.mk_tree.specs.Given.{GivenTree, home}
@@ -25,9 +28,11 @@ use Rattle.mk_file.specs.MarketOf.{market_of}
 use Rattle.mk_engine.specs.Meaning.{Meaning}
 use Rattle.mk_cash.specs.declared.ledger.Account.{Account}
 use Rattle.mk_command.specs.declared.command.Command.TheVariants.{Bounds, Spread}
+use Rattle.mk_quote.specs.declared.side.SideBounds.{SideBounds}
 use Rattle.mk_quote.specs.declared.spread_quote.SpreadQuote.{SpreadQuote}
-use Rattle.mk_quote.specs.Values.{AreEachExact, AreRightForEach, AreFairForEach}
+use Rattle.mk_quote.specs.Values.{AreEachExact, AreRightForEach, AreFairForEach, EncloseEach, has_no_side}
 use Rattle.mk_quote.specs.Spreads.{question_of, revision_of, sides_of, intervals_of, IsSpreadFor}
+use Rattle.mk_quote.proofs.Suiting.{no_side_as}
 use Rattle.mk_reply.specs.declared.payments.Payment.{Payment}
 use Rattle.mk_reply.specs.declared.refusal.Refusal.{Refusal}
 use Rattle.mk_reply.specs.declared.refusal.Refusal.TheVariants.{Outside}
@@ -81,6 +86,13 @@ question_for file H v words condition spread same is = subst (λ (pairs : List P
 
 -- ---- a quote
 
+-- bounds enclose as many sides
+enclosed_lengths : (values : List (Option SideBounds)) (sides : List (Option Side)) → EncloseEach values sides → length values ≡ length sides
+enclosed_lengths [] [] h = refl
+enclosed_lengths [] (side ∷ sides) h = absurd h
+enclosed_lengths (value ∷ values) [] h = absurd h
+enclosed_lengths (value ∷ values) (side ∷ sides) h = ap suc (enclosed_lengths values sides h.1)
+
 module _ (network : List Variable) (tree : GivenTree) (H : List Entry) (u : ℕ) (spread : SpreadAsked) (quote : SpreadQuote) (is : IsSpreadQuoteOf network tree H u spread quote) where
   pub kept_quote : IsKeptQuote network tree H u (LastBounds quote)
   kept_quote = record { same_user = is.same_user; not_later = omega (arith, is.at_present); current = λ same. is.current }
@@ -89,12 +101,31 @@ module _ (network : List Variable) (tree : GivenTree) (H : List Entry) (u : ℕ)
   pub quoted_is : quoted (LastBounds quote) ≡ record { says = rules.SpreadBounds spread (intervals_of quote); at = revision H }
   quoted_is = ap₂ (λ (s : SpreadAsked) (n : ℕ). record { says = rules.SpreadBounds s (intervals_of quote); at = n }) is.question is.at_present
 
+  -- two values are left
+  pub two_left : 2 ≤ length (values_left network H spread)
+  two_left = subst (λ (s : SpreadAsked). 2 ≤ length (values_left network H s)) is.question is.current.two_left
+
   module _ (open_for : IsOpen network tree H) where
     has_sides : HasValueSides network H u (question_of quote)
-    has_sides = value_sides_exist network H u (question_of quote) open_for.legal open_for.proper open_for.sound is.current.answered.can_spread
+    has_sides = value_sides_exist network H u (question_of quote) open_for.legal open_for.proper open_for.sound
+        (record { in_order = is.current.answered.in_order; two_left = is.current.two_left })
 
     enclosed : AreSideBoundsFor (sides_of quote) (IsSmall network H) has_sides.sides
     enclosed = is.current.bounds has_sides.sides has_sides.are_sides
+
+    -- there is a place for each value
+    pub as_many_sides : length (sides_of quote) ≡ slice_index (sizes network) spread.variable
+    as_many_sides =
+        enclosed_lengths (sides_of quote) has_sides.sides enclosed.sides
+        ∙ ranged_length (IsValueSide network H u (question_of quote)) (slice_index (sizes network) (question_of quote).variable) 0 has_sides.sides has_sides.are_sides
+        ∙ ap (λ (s : SpreadAsked). slice_index (sizes network) s.variable) is.question
+
+    -- a value without a side is one that cannot come
+    pub no_side_is : (k : ℕ) → has_no_side (sides_of quote) k ≡ value_cannot_come network H spread k
+    no_side_is k =
+        no_side_as (sides_of quote) has_sides.sides enclosed.sides k
+        ∙ sym (no_side_where network H (question_of quote) u has_sides.sides is.current.answered.in_order.in_range.variable has_sides.are_sides k)
+        ∙ ap (λ (s : SpreadAsked). value_cannot_come network H s k) is.question
 
     -- its bounds are right
     pub right_bounds : (intervals : Intervals) → AreRightForEach (sides_of quote) intervals → AreRightBoundsOf network H u spread intervals
@@ -190,8 +221,8 @@ module _ {A Plan : Type 0} (file : MarketFile) (journal : JournalOf) (members : 
 -- ---- the market
 
 module _ {P A Plan : Type 0} (weights_stand : P → Meaning → Type 0) (gains_stand : A → Meaning → Type 0) (plan_for : Plan → List Variable → GivenTree → Type 0)
-    (file : MarketFile) (prices : P) (plan : Plan) (members new_members : List (Member A Plan)) (accounts : List Account) (journal : JournalOf)
-    (payments : Option (List Payment)) (kept : IsKept weights_stand gains_stand plan_for file prices plan members accounts journal payments)
+    (file : MarketFile) (prices : P) (rows : A) (plan : Plan) (members new_members : List (Member A Plan)) (accounts : List Account) (journal : JournalOf)
+    (payments : Option (List Payment)) (kept : IsKept weights_stand gains_stand plan_for file prices rows plan members accounts journal payments)
     (name : List ℕ) (user : ℕ) (is_user : IsUser journal.history name user) (v : List ℕ) (condition : ArrayVec PairText) (spread : SpreadAsked)
     (is_question : IsSpreadQuestionFor (market_of file) file.tree journal.history v condition.items spread) (quote : SpreadQuote)
     (is : IsSpreadQuoteOf file.net file.tree journal.history user spread quote)
@@ -207,7 +238,7 @@ module _ {P A Plan : Type 0} (weights_stand : P → Meaning → Type 0) (gains_s
       is_question.named))
 
   open_for : IsOpen file.net file.tree journal.history
-  open_for = is_open weights_stand gains_stand plan_for file prices plan members accounts journal payments kept
+  open_for = is_open weights_stand gains_stand plan_for file prices rows plan members accounts journal payments kept
 
   right_for : (intervals : Intervals) → AreRightForEach (sides_of quote) intervals → AreRightBoundsOf file.net journal.history user spread intervals
   right_for intervals right = right_bounds file.net file.tree journal.history user spread quote is open_for intervals right
@@ -229,16 +260,14 @@ module _ {P A Plan : Type 0} (weights_stand : P → Meaning → Type 0) (gains_s
   }
 
   -- a spread that is outside of the quote's bounds
-  pub outside_answered : (to : ArrayVec ℕ) (seen : Option ℕ) (why : Refusal) → None ≡ first_refusal (market_of file) journal.history (Spread name v condition to seen)
-      → IsOutside quote to.items why
+  pub outside_answered : (to : ArrayVec ℕ) (seen : Option ℕ) (box : Option (ArrayVec (ℕ × ℕ))) → None ≡ first_refusal (market_of file) journal.history (Spread name v condition to seen)
+      → IsOutside quote to.items box
       → ((held : SpreadQuote) → slice_get (quotes_of members) user ≡ Some (Some (LastBounds held)) → IsSpreadFor held spread (revision journal.history) → quote ≡ held)
-      → IsAnswered (trading file journal members) (trading file journal new_members) (Spread name v condition to seen) (Refused why)
-  outside_answered to seen why none out last =
-      let reply = Refused (Outside out.box) in
-      let printed : Refused why ≡ reply = ap (λ (w : Refusal). Refused w) out.printed in
-      let outside : PrintsOutside (intervals_of quote) to.items reply = record { outside = out.outside; box = out.box; given = out.given; printed = refl } in
-      subst (IsAnswered (trading file journal members) (trading file journal new_members) (Spread name v condition to seen)) (sym printed)
-      (record {
+      → IsAnswered (trading file journal members) (trading file journal new_members) (Spread name v condition to seen) (Refused (Outside box))
+  outside_answered to seen box none out last =
+      let reply = Refused (Outside box) in
+      let outside : PrintsOutside (intervals_of quote) to.items reply = record { outside = out.outside; box = box; given = out.given; printed = refl } in
+      record {
         same_market = refl;
         allowed = spread_allowed file journal members name user is_user v condition spread is_question quote last to seen reply none
             (inr (record {
@@ -247,8 +276,8 @@ module _ {P A Plan : Type 0} (weights_stand : P → Meaning → Type 0) (gains_s
               outside = outside;
             }))
             (inr outside);
-        next = next_quoted (given_in out.box) out.given;
-      })
+        next = next_quoted (given_in box) out.given;
+      }
 
 -- ---- a trade
 
@@ -261,11 +290,11 @@ module _ (file : MarketFile) (journal : JournalOf) (open_for : IsOpen file.net f
 
   -- there are units for each value
   pub of_values : AreOfValues factors.items × All IsUnits factors.items
-  of_values = fair_list_fits file.net journal.history user spread to.items factors.items list open_for.legal is_question.answered.can_spread.in_range.variable
+  of_values = fair_list_fits file.net journal.history user spread to.items factors.items list open_for.legal is_question.answered.in_order.in_range.variable
 
   -- the ratio is the network's, and has a home
   pub ratio_is : IsRatioOf file.net (spread_ratio spread factors.items)
-  ratio_is = fair_list_is_ratio file.net journal.history user spread to.items factors.items list is_question.answered.can_spread.in_range
+  ratio_is = fair_list_is_ratio file.net journal.history user spread to.items factors.items list is_question.answered.in_order.in_range
 
   pub ratio_has_home : is_some (home file.tree (ratio_pairs (spread_ratio spread factors.items))) ≡ true
   ratio_has_home = is_question.answered.home 0

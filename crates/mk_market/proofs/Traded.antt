@@ -1,8 +1,8 @@
 -- A user trades.
-use Rattle.std.specs.Prelude.{◌≡◌, ℕ, ◌+◌, ◌<◌, ◌≤◌, List, [], ◌∷◌, ◌++◌, length, filter, ◌==◌, Bool, true, false, cond, not, ◌&&◌, ltb, Some, None, option_map, position, is_some, slice_index}
+use Rattle.std.specs.Prelude.{◌≡◌, ℕ, ◌+◌, ◌<◌, ◌≤◌, List, [], ◌∷◌, ◌++◌, length, Bool, true, cond, not, ◌&&◌, ltb, Some, None, option_map, position, is_some, slice_index}
 use Rattle.std.specs.List.{position_or_len, list_all}
 use Rattle.std.proofs.Common.{refl, sym, ap, ap₂, add-zero, ◌∙◌, arith, eq-eqb, ne_eqb}
-use Rattle.std.proofs.lemmas.List.{length-map, length_push}
+use Rattle.std.proofs.lemmas.List.{length_push}
 use Rattle.mk_net.specs.declared.words.Pair.{Pair}
 use Rattle.mk_net.specs.declared.sets.VarSet.{VarSet}
 use Rattle.mk_net.specs.Asked.{Asked, TradeRatio, ratio_pairs}
@@ -10,7 +10,7 @@ use Rattle.mk_net.specs.Bounds.{max_values, max_market_trades}
 use Rattle.mk_net.specs.Network.{Variable, IsNetwork, sizes}
 use Rattle.mk_net.specs.Named.{nobody}
 use Rattle.mk_net.specs.Sets.{is_member}
-use Rattle.mk_exact.specs.History.{Entry, UserTrade, Trade, trades, trades_of, deposited, withdrawn}
+use Rattle.mk_exact.specs.History.{Entry, UserTrade, Trade, trades, deposited, withdrawn}
 use Rattle.mk_exact.specs.Proper.{IsQuestionOf, IsRatioOf}
 use Rattle.mk_exact.specs.Sides.{ratio_in}
 use Rattle.mk_exact.proofs.After.{trades_more}
@@ -22,7 +22,7 @@ use Rattle.mk_engine.specs.Beliefs.{CanMultiply}
 use Rattle.mk_beliefs.specs.Meanings.{weights_of, gains_of}
 use Rattle.mk_beliefs.proofs.Grown.{weights_grow, factors_are_few}
 use Rattle.mk_assets.specs.declared.assets.Assets.{Assets}
-use Rattle.mk_assets.specs.Holdings.{Owns, CanTrade, with_trade}
+use Rattle.mk_assets.specs.Holdings.{Holding, Owns, CanTrade, with_trade}
 use Rattle.mk_answers.specs.Open.{CanBeAnswered, holding_of}
 use Rattle.mk_market.proofs.Owned.{holding_grows, holding_same}
 
@@ -61,6 +61,19 @@ pub home_of_ratio : (network : List Variable) (tree : GivenTree) (H : List Entry
 home_of_ratio network tree H asked answered hit miss =
     ap is_some (same_home tree asked.condition (record { variable = asked.target.variable; value = 0 }) asked.target refl) ∙ answered.home
 
+-- what users hold after a trade
+module _ (network : List Variable) (tree : GivenTree) (H : List Entry) (user : ℕ) (ratio : TradeRatio) where
+  pub trader_holding : holding_of network tree (H ++ Trade user ratio ∷ []) user ≡ with_trade ratio (holding_of network tree H user)
+  trader_holding =
+      holding_grows network tree H (Trade user ratio) user
+      ∙ rw (eq-eqb user user refl) (
+      ap₂ (λ (d w : ℕ). record { meaning = with_factor (RatioOf ratio) (gains_of network tree H user); deposited = d; withdrawn = w }) (add-zero (deposited H user)) (add-zero (withdrawn H user))
+      )
+
+  pub others_holding : (u : ℕ) → (u ≡ user → ⊥) → holding_of network tree (H ++ Trade user ratio ∷ []) u ≡ holding_of network tree H u
+  others_holding u other = holding_same network tree H (Trade user ratio) u (rw (ne_eqb user u (λ same. other (sym same))) refl) refl refl
+
+-- a trade may be made
 module _ (network : List Variable) (tree : GivenTree) (H : List Entry) (legal : IsNetwork network) (user : ℕ) (ratio : TradeRatio) (fits : IsRatioOf network ratio)
     (few : length (trades H) < max_market_trades) where
   few_after : length (trades (H ++ Trade user ratio ∷ [])) ≤ max_market_trades
@@ -93,28 +106,9 @@ module _ (network : List Variable) (tree : GivenTree) (H : List Entry) (legal : 
     room = room;
   }
     where
-      part : {X : Type 0} (p : X → Bool) (xs : List X) → length (filter p xs) ≤ length xs
-      part p [] = omega arith
-      part {X} p (x ∷ xs) = at (p x) (part p xs)
-        where
-          at : (b : Bool) → length (filter p xs) ≤ length xs → length (cond b (x ∷ filter p xs) (filter p xs)) ≤ length (x ∷ xs)
-          at true l = omega arith
-          at false l = omega arith
-
-      room : length (holding_of network tree H user).meaning.factors < max_market_trades
+      room : length (holding_of network tree H user).meaning.factors < max_factors
       room =
-          let same = length-map (trades_of H user) (λ (t : UserTrade). RatioOf t.ratio) in
-          let own = part (λ (t : UserTrade). t.user == user) (trades H) in
-          omega (arith, same, own, few)
-
--- what users hold after a trade
-module _ (network : List Variable) (tree : GivenTree) (H : List Entry) (user : ℕ) (ratio : TradeRatio) where
-  pub trader_holding : holding_of network tree (H ++ Trade user ratio ∷ []) user ≡ with_trade ratio (holding_of network tree H user)
-  trader_holding =
-      holding_grows network tree H (Trade user ratio) user
-      ∙ rw (eq-eqb user user refl) (
-      ap₂ (λ (d w : ℕ). record { meaning = with_factor (RatioOf ratio) (gains_of network tree H user); deposited = d; withdrawn = w }) (add-zero (deposited H user)) (add-zero (withdrawn H user))
-      )
-
-  pub others_holding : (u : ℕ) → (u ≡ user → ⊥) → holding_of network tree (H ++ Trade user ratio ∷ []) u ≡ holding_of network tree H u
-  others_holding u other = holding_same network tree H (Trade user ratio) u (rw (ne_eqb user u (λ same. other (sym same))) refl) refl refl
+          let all = (factors_are_few network tree (H ++ Trade user ratio ∷ []) user legal few_after).1 in
+          let same = ap (λ (h : Holding). length h.meaning.factors) (trader_holding network tree H user ratio) in
+          let one = length_push (gains_of network tree H user).factors (RatioOf ratio) in
+          omega (arith, all, same, one)

@@ -31,14 +31,14 @@ use Rattle.mk_market.proofs.Lent.{in_range}
 use Rattle.mk_market.proofs.Replies.{unsettled}
 
 module _ {P A Plan : Type 0} (weights_stand : P → Meaning → Type 0) (gains_stand : A → Meaning → Type 0) (plan_for : Plan → List Variable → GivenTree → Type 0)
-    (file : MarketFile) (prices : P) (plan : Plan) (members : List (Member A Plan)) (accounts : List Account) (journal : JournalOf)
-    (payments : Option (List Payment)) (kept : IsKept weights_stand gains_stand plan_for file prices plan members accounts journal payments) where
+    (file : MarketFile) (prices : P) (rows : A) (plan : Plan) (members : List (Member A Plan)) (accounts : List Account) (journal : JournalOf)
+    (payments : Option (List Payment)) (kept : IsKept weights_stand gains_stand plan_for file prices rows plan members accounts journal payments) where
   -- a market that is kept is in use, and so it is by what stands for all that its parts stood for
   pub in_use : (new_prices : P) (new_members : List (Member A Plan)) → ((m : Meaning) → weights_stand prices m → weights_stand new_prices m)
       → ((u : ℕ) (h : Holding) → OwnsAt gains_stand members u h → OwnsAt gains_stand new_members u h)
       → AreInUse weights_stand gains_stand file.net file.tree journal.history new_prices new_members
   in_use new_prices new_members still_prices still_assets = record {
-    is_open = is_open weights_stand gains_stand plan_for file prices plan members accounts journal payments kept;
+    is_open = is_open weights_stand gains_stand plan_for file prices rows plan members accounts journal payments kept;
     weights = still_prices _ kept.prices_stand;
     owns = λ u. still_assets u _ (kept.owns u);
   }
@@ -69,15 +69,16 @@ module _ {P A Plan : Type 0} (weights_stand : P → Meaning → Type 0) (gains_s
         → ((m : Meaning) → weights_stand prices m → weights_stand new_prices (with_factor (RatioOf ratio) m))
         → names_of new_members ≡ names_of members
         → ((u : ℕ) → OwnsAt gains_stand new_members u (holding_of file.net file.tree (journal.history ++ Trade user ratio ∷ []) u))
-        → IsKept weights_stand gains_stand plan_for file new_prices plan new_members accounts new_journal payments
+        → IsKept weights_stand gains_stand plan_for file new_prices rows plan new_members accounts new_journal payments
     trade_kept command reply joins none new_members new_journal allowed next history same_quotes new_prices limit grown names owned =
         let H = journal.history in
-        kept_grown weights_stand gains_stand plan_for file prices new_prices plan members new_members accounts accounts journal new_journal payments payments
+        kept_grown weights_stand gains_stand plan_for file prices new_prices rows rows plan members new_members accounts accounts journal new_journal payments payments
         (Trade user ratio) command reply joins kept allowed next
         (record {
           history = history;
           limit = limit;
           prices_grown = grown;
+          rows_grown = λ m stands. stands;
           names = names ∙ kept.named ∙ sym (not_found H (Trade user ratio) join_in refl);
           owned = owned;
           none_quoted = λ u quote at. subst (λ (qs : List (Option LastQuote)). slice_get qs u ≡ Some (Some quote)) same_quotes at;

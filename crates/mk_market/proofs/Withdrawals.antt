@@ -44,8 +44,8 @@ use Rattle.mk_market.proofs.Accounted.{accounts_withdrawn}
 use Rattle.mk_market.proofs.Replies.{answer_allowed, none_appended, unsettled}
 
 module _ {P A Plan : Type 0} (weights_stand : P → Meaning → Type 0) (gains_stand : A → Meaning → Type 0) (plan_for : Plan → List Variable → GivenTree → Type 0)
-    (file : MarketFile) (prices : P) (plan : Plan) (members : List (Member A Plan)) (accounts : List Account) (journal : JournalOf) (payments : Option (List Payment))
-    (kept : IsKept weights_stand gains_stand plan_for file prices plan members accounts journal payments)
+    (file : MarketFile) (prices : P) (rows : A) (plan : Plan) (members : List (Member A Plan)) (accounts : List Account) (journal : JournalOf) (payments : Option (List Payment))
+    (kept : IsKept weights_stand gains_stand plan_for file prices rows plan members accounts journal payments)
     (name : List ℕ) (user bits : ℕ) (is_user : IsUser journal.history name user) (room : HasRoomForTransfer journal.history bits) where
   bits_fit : withdrawn journal.history user + bits ≤ max_bits
   bits_fit = let most = few_moved (length (users journal.history)) user journal.history kept.bounded.transfers_fit in omega (arith, most.1, room.most, room.few)
@@ -73,7 +73,7 @@ module _ {P A Plan : Type 0} (weights_stand : P → Meaning → Type 0) (gains_s
       worth_for : IsFactorFor factor (IsSmall file.net journal.history) worth
       unfolding worth
       worth_for = found file.net file.tree journal.history user has_least.least (kept.owns user before there)
-          (is_open weights_stand gains_stand plan_for file prices plan members accounts journal payments kept) has_least.is_least
+          (is_open weights_stand gains_stand plan_for file prices rows plan members accounts journal payments kept) has_least.is_least
 
       answered : (reply : Reply) → IsWithdrawal (IsSmall file.net journal.history) worth name bits (revision journal.history + 1) reply
           → IsAllowedFor (market_of file) (standing_of journal members) (OfCommand (Withdraw name bits)) reply
@@ -116,15 +116,16 @@ module _ {P A Plan : Type 0} (weights_stand : P → Meaning → Type 0) (gains_s
         pub withdrawal_kept : new_journal.max_trades ≡ journal.max_trades
             → ((h : Holding) → Owns gains_stand mid h → h.withdrawn + bits ≤ max_bits → Owns gains_stand now (with_withdrawal bits h))
             → new_accounts ≡ slice_set accounts user (let account = account_of accounts user in record account { withdrawn = account.withdrawn + file.points_per_bit * bits })
-            → IsKept weights_stand gains_stand plan_for file prices plan (with_assets members user now) new_accounts new_journal payments
+            → IsKept weights_stand gains_stand plan_for file prices rows plan (with_assets members user now) new_accounts new_journal payments
         withdrawal_kept limit withdraws paid =
             let H = journal.history in
-            kept_grown weights_stand gains_stand plan_for file prices prices plan members (with_assets members user now) accounts new_accounts journal new_journal payments payments
+            kept_grown weights_stand gains_stand plan_for file prices prices rows rows plan members (with_assets members user now) accounts new_accounts journal new_journal payments payments
             (Withdraws user bits) (Withdraw name bits) reply tt kept allowed next
             (record {
               history = history;
               limit = limit;
               prices_grown = λ m stands. stands;
+              rows_grown = λ m stands. stands;
               names = names_same members user before now there ∙ kept.named ∙ sym (not_found H (Withdraws user bits) Rattle.mk_exact.specs.History.join_in refl);
               owned = owned_one file.net file.tree H gains_stand members user before now (Withdraws user bits) there kept.owns
                   (subst (Owns gains_stand now) (sym (withdrawal_holding file.net file.tree H user bits))

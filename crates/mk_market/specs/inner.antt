@@ -5,3 +5,4 @@ pub mod Keeping
 pub mod Gathered
 pub mod Quoting
 pub mod Paying
+pub mod Stopped

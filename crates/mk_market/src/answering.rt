@@ -68,6 +68,7 @@ impl<P: Engine<SumProd>, A: Engine<MinProd>> Market<P, A> {
             CommandRef::Worst { user } => self.worst(user),
             CommandRef::Resolve { pair } => self.resolve(pair),
             CommandRef::Settle => self.settle(),
+            CommandRef::Bound => self.bound(),
         }
     }
 }

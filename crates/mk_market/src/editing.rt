@@ -2,6 +2,7 @@
 
 use crate::last_quote::LastQuote;
 use crate::market::Market;
+use crate::possible::refuse_decided;
 use crate::quoting::{fresh_quote, present_quote};
 use crate::refusals::{refuse_edit, refuse_limits};
 use crate::trading::{ratio_of_edit, trade};
@@ -19,14 +20,17 @@ impl<P: Engine<SumProd>, A: Engine<MinProd>> Market<P, A> {
         ensures { IsAnswered self.old self.new (Limits name.now question.now) (reply_of result) }
     {
         let (user, asked) = refuse_limits(&self.file, &self.journal, &self.users, name, question)?;
-        let quote = fresh_quote(
+        let quote = match fresh_quote(
             &self.file,
             &mut self.prices,
             &mut self.users,
             &self.journal,
             user,
             &asked,
-        );
+        ) {
+            Ok(quote) => quote,
+            Err(why) => return Err(refuse_decided(&mut self.prices, question, &asked, why)),
+        };
         self.users.set_quote(user, LastQuote::Limits { quote });
         Ok(Reply::Limits {
             limits: quote.limits(),
@@ -55,14 +59,17 @@ impl<P: Engine<SumProd>, A: Engine<MinProd>> Market<P, A> {
             to,
             at,
         )?;
-        let quote = present_quote(
+        let quote = match present_quote(
             &self.file,
             &mut self.prices,
             &mut self.users,
             &self.journal,
             user,
             &asked,
-        );
+        ) {
+            Ok(quote) => quote,
+            Err(why) => return Err(refuse_decided(&mut self.prices, question, &asked, why)),
+        };
         let Some(units) = quote.judge(to) else {
             self.users.set_quote(user, LastQuote::Limits { quote });
             return Err(Refusal::Beyond {

@@ -18,7 +18,8 @@ impl<P: Engine<SumProd>, A: Engine<MinProd>> Market<P, A> {
         ensures { IsAnswered self.old self.new (User name.now) (reply_of result) }
     {
         refuse_user(&self.journal, &self.users, name)?;
-        let Ok(assets) = Assets::start(alloc, &self.plan, self.journal.known()) else {
+        let known = self.journal.known();
+        let Ok(assets) = Assets::start(alloc, &self.plan, &self.file.net, known) else {
             return Err(Refusal::Memory);
         };
         let Ok(()) = self.users.join(*name, assets) else {

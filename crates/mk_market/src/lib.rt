@@ -10,6 +10,7 @@ mod journal;
 mod last_quote;
 mod market;
 mod opening;
+mod possible;
 mod pricing;
 mod quoting;
 mod refusals;

@@ -12,13 +12,14 @@ use mk_semiring::{MinProd, SumProd};
 use std::alloc::Global;
 use std::marker::Model;
 
-/// A market in use: its file, an engine with the weights of all states, the plan from which users' engines start, the
-/// users with their assets and last quotes, the ledger of their points, the journal of accepted changes, and room for
-/// the payments of the settlement.
+/// A market in use: its file, an engine with the weights of all states and one with their initial weights, the plan from which
+/// users' engines start, the users with their assets and last quotes, the ledger of their points, the journal of accepted changes,
+/// and room for the payments of the settlement.
 #[derive(Drop)]
 pub struct Market<P: Engine<SumProd>, A: Engine<MinProd>> {
     pub(crate) file: MarketFile,
     pub(crate) prices: P,
+    pub(crate) rows: A,
     pub(crate) plan: A::Plan,
     pub(crate) users: Users<A>,
     pub(crate) ledger: Ledger,
@@ -35,7 +36,7 @@ impl<P: Engine<SumProd>, A: Engine<MinProd>> Model for Market<P, A> {
 
     ghost view = { λ m. record { market = market_of m.file; standing = standing_of m.journal m.users } };
 
-    ghost invariant = { λ m. IsKept P.stands_for A.stands_for A.plan_for m.file m.prices m.plan m.users m.ledger m.journal m.payments };
+    ghost invariant = { λ m. IsKept P.stands_for A.stands_for A.plan_for m.file m.prices m.rows m.plan m.users m.ledger m.journal m.payments };
 }
 
 impl<P: Engine<SumProd>, A: Engine<MinProd>> Market<P, A> {

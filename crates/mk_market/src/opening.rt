@@ -8,13 +8,14 @@ use mk_engine::Engine;
 use mk_file::MarketFile;
 use mk_net::NoMemory;
 use mk_reply::Payments;
-use mk_semiring::{MinProd, SumProd};
+use mk_semiring::{MinProd, Semiring, SumProd};
 use std::alloc::Global;
 
 impl<P: Engine<SumProd>, A: Engine<MinProd>> Market<P, A> {
     ghost use Rattle.std.specs.Prelude.{◌≡◌, IfOk};
     ghost use Rattle.mk_tree.specs.Checked.{IsTreeOf};
     ghost use Rattle.mk_file.specs.MarketOf.{market_of};
+    ghost use Rattle.mk_rules.specs.Standings.{IsMarket};
     ghost use Rattle.mk_rules.specs.Transcript.{opening};
 
     /// The market of a file, before any command. All memory but a user's is taken here.
@@ -22,7 +23,8 @@ impl<P: Engine<SumProd>, A: Engine<MinProd>> Market<P, A> {
         requires tree { IsTreeOf file.net file.tree }
         requires prices { P.suits file.net file.tree }
         requires assets { A.suits file.net file.tree }
-        ensures { IfOk result (λ market. market ≡ record { market = market_of file; standing = opening }) }
+        ensures opened { IfOk result (λ market. market ≡ record { market = market_of file; standing = opening }) }
+        ensures is_market { IfOk result (λ _. IsMarket (market_of file)) }
     {
         let prices = P::plan(alloc, &file.net, &file.tree)?;
         let assets = A::plan(alloc, &file.net, &file.tree)?;
@@ -40,15 +42,18 @@ impl<P: Engine<SumProd>, A: Engine<MinProd>> Market<P, A> {
         requires tree { IsTreeOf file.net file.tree }
         requires prices { P.plan_for prices.now file.net file.tree }
         requires assets { A.plan_for assets file.net file.tree }
-        ensures { IfOk result (λ market. market ≡ record { market = market_of file; standing = opening }) }
+        ensures opened { IfOk result (λ market. market ≡ record { market = market_of file; standing = opening }) }
+        ensures is_market { IfOk result (λ _. IsMarket (market_of file)) }
     {
-        let prices = weighed::<P>(alloc, &file, prices)?;
+        let prices = weighed::<SumProd, P>(alloc, &file, prices)?;
+        let rows = weighed::<MinProd, A>(alloc, &file, &assets)?;
         let ledger = Ledger::start(alloc)?;
         let journal = Journal::start(alloc, file.max_trades)?;
         let payments = Payments::start(alloc)?;
         Ok(Market {
             file,
             prices,
+            rows,
             plan: assets,
             users: Users::none(alloc),
             ledger,
@@ -61,20 +66,20 @@ impl<P: Engine<SumProd>, A: Engine<MinProd>> Market<P, A> {
 ghost use Rattle.std.specs.Prelude.{◌≡◌, [], IfOk};
 ghost use Rattle.mk_net.specs.Network.{IsNetwork};
 ghost use Rattle.mk_tree.specs.Checked.{IsTreeOf};
-ghost use Rattle.mk_beliefs.specs.Meanings.{weights_of};
+ghost use Rattle.mk_beliefs.specs.Meanings.{rows_of};
 
 /// An engine with the rows of each variable, once.
-fn weighed<P: Engine<SumProd>>(
+fn weighed<R: Semiring, E: Engine<R>>(
     alloc: Global,
     file: &MarketFile,
-    plan: &P::Plan,
-) -> Result<P, NoMemory>
+    plan: &E::Plan,
+) -> Result<E, NoMemory>
     requires tree { IsTreeOf file.now.net file.now.tree }
-    requires plan { P.plan_for plan.now file.now.net file.now.tree }
-    ensures stands { IfOk result (λ engine. P.stands_for engine (weights_of file.now.net file.now.tree [])) }
+    requires plan { E.plan_for plan.now file.now.net file.now.tree }
+    ensures stands { IfOk result (λ engine. E.stands_for engine (rows_of file.now.net file.now.tree [])) }
     ensures network { IfOk result (λ _. IsNetwork file.now.net) }
 {
-    let mut engine = P::start(alloc, plan)?;
+    let mut engine = E::start(alloc, plan)?;
     for variable in 0..file.net.variables() {
         engine.weigh(&file.net, variable);
     }

@@ -1,8 +1,9 @@
-//! What a question is worth, and what a user is worth at least.
+//! What a question is worth, what a user is worth at least, and what the operator can lose at most.
 
 use crate::market::Market;
-use crate::refusals::{plain_price, refuse_price, refuse_worst};
-use mk_answers::{least_of, price_of};
+use crate::possible::refuse_condition;
+use crate::refusals::{not_settled, plain_price, refuse_price, refuse_worst};
+use mk_answers::{bound_of, least_of, price_of};
 use mk_cash::cash;
 use mk_engine::Engine;
 use mk_net::{Name, QuestionText};
@@ -10,7 +11,7 @@ use mk_reply::{Refusal, Reply};
 use mk_semiring::{MinProd, SumProd};
 
 impl<P: Engine<SumProd>, A: Engine<MinProd>> Market<P, A> {
-    ghost use Rattle.mk_command.specs.declared.command.Command.TheVariants.{Price, Worst};
+    ghost use Rattle.mk_command.specs.declared.command.Command.TheVariants.{Price, Worst, Bound};
     ghost use Rattle.mk_market.specs.Trading.{IsAnswered, reply_of};
     ghost use Rattle.std.specs.Prelude.{◌≡◌, IfSome, IfNone};
     ghost use Rattle.mk_reply.specs.declared.reply.Reply.TheVariants as reply;
@@ -23,8 +24,7 @@ impl<P: Engine<SumProd>, A: Engine<MinProd>> Market<P, A> {
         ensures unpriced { IfNone result (self.new ≡ self.old) }
     {
         let asked = plain_price(&self.file, &self.journal, question)?;
-        let values = self.file.net.values(asked.target().variable);
-        Some(price_of(&mut self.prices, &asked, values))
+        price_of(&mut self.prices, &self.file.net, &asked)
     }
 
     /// The price of a question.
@@ -32,9 +32,14 @@ impl<P: Engine<SumProd>, A: Engine<MinProd>> Market<P, A> {
         ensures { IsAnswered self.old self.new (Price question.now) (reply_of result) }
     {
         let asked = refuse_price(&self.file, &self.journal, question)?;
-        let values = self.file.net.values(asked.target().variable);
-        let (low, high) = price_of(&mut self.prices, &asked, values);
-        Ok(Reply::Price { low, high })
+        match price_of(&mut self.prices, &self.file.net, &asked) {
+            Some((low, high)) => Ok(Reply::Price { low, high }),
+            None => Err(refuse_condition(
+                &mut self.prices,
+                &asked.condition(),
+                question.condition.as_slice(),
+            )),
+        }
     }
 
     /// What a user is paid at least, whatever comes.
@@ -45,5 +50,14 @@ impl<P: Engine<SumProd>, A: Engine<MinProd>> Market<P, A> {
         let factor = least_of(self.users.assets(user));
         let (low, high) = cash(&factor, self.file.points_per_bit);
         Ok(Reply::Worst { low, high })
+    }
+
+    /// What the operator can lose at most.
+    pub(crate) fn bound(&mut self) -> Result<Reply, Refusal>
+        ensures { IsAnswered self.old self.new Bound (reply_of result) }
+    {
+        not_settled(&self.journal)?;
+        let (low, high) = bound_of(&mut self.rows, &self.file.net, self.file.points_per_bit);
+        Ok(Reply::Bound { low, high })
     }
 }

@@ -1,6 +1,6 @@
 //! The quotes by which edits are judged.
 
-ghost use Rattle.std.specs.Prelude.{◌≡◌, ◌<◌, ℕ, length, Some, slice_get, IfSome, IfNone};
+ghost use Rattle.std.specs.Prelude.{◌≡◌, ◌<◌, ℕ, length, Some, Ok, slice_get, IfSome, IfNone, MatchResult};
 ghost use Rattle.mk_exact.specs.History.{revision};
 ghost use Rattle.mk_engine.specs.Meaning.{Meaning};
 ghost use Rattle.mk_assets.specs.Holdings.{Holding};
@@ -10,19 +10,21 @@ ghost use Rattle.mk_answers.specs.Open.{CanBeAnswered};
 ghost use Rattle.mk_market.specs.Members.{names_of, quotes_of};
 ghost use Rattle.mk_market.specs.inner.Keeping.{AreKeptQuotes};
 ghost use Rattle.mk_market.specs.inner.Quoting.{OwnsAt, AreInUse, IsQuoteOf};
+ghost use Rattle.mk_market.specs.inner.Stopped.{IsDecidedBy};
 
 use crate::journal::Journal;
 use crate::last_quote::LastQuote;
+use crate::possible::Decided;
 use crate::users::Users;
-use mk_answers::bounds_of;
+use mk_answers::{Sides, bounds_of};
 use mk_engine::Engine;
 use mk_file::MarketFile;
 use mk_net::Question;
 use mk_quote::Quote;
 use mk_semiring::{MinProd, SumProd};
 
-/// A quote of a question for a user at the present revision, made anew. The engine and the assets stand for what they
-/// stood for.
+/// A quote of a question for a user at the present revision, made anew, or what decides the question. The engine and the assets
+/// stand for what they stood for.
 pub(crate) fn fresh_quote<P: Engine<SumProd>, A: Engine<MinProd>>(
     file: &MarketFile,
     prices: &mut P,
@@ -30,7 +32,7 @@ pub(crate) fn fresh_quote<P: Engine<SumProd>, A: Engine<MinProd>>(
     journal: &Journal,
     user: u32,
     asked: &Question,
-) -> Quote
+) -> Result<Quote, Decided>
     requires in_use { AreInUse P.stands_for A.stands_for file.now.net file.now.tree journal.now.history prices.old users.old }
     requires user { user < length users.old }
     requires answered { CanBeAnswered file.now.net file.now.tree journal.now.history asked.now }
@@ -38,11 +40,15 @@ pub(crate) fn fresh_quote<P: Engine<SumProd>, A: Engine<MinProd>>(
     ensures assets { (u : ℕ) (h : Holding) → OwnsAt A.stands_for users.old u h → OwnsAt A.stands_for users.new u h }
     ensures names { names_of users.new ≡ names_of users.old }
     ensures quotes { quotes_of users.new ≡ quotes_of users.old }
-    ensures quote { IsQuoteOf file.now.net file.now.tree journal.now.history user asked.now result }
+    ensures quote { MatchResult result (λ quote. IsQuoteOf file.now.net file.now.tree journal.now.history user asked.now quote)
+        (λ why. IsDecidedBy file.now.net journal.now.history asked.now why) }
 {
-    let values = file.net.values(asked.target().variable);
-    let bounds = bounds_of(prices, users.assets(user), asked, values);
-    Quote::make(user, *asked, journal.revision(), &bounds)
+    match bounds_of(prices, users.assets(user), &file.net, asked) {
+        Sides::Open(bounds) => Ok(Quote::make(user, *asked, journal.revision(), &bounds)),
+        Sides::Impossible => Err(Decided::Impossible),
+        Sides::Never => Err(Decided::Never),
+        Sides::Sure => Err(Decided::Sure),
+    }
 }
 
 /// A user's last quote, where it was made for a question at a revision.
@@ -63,8 +69,8 @@ pub(crate) fn last_quote<A: Engine<MinProd>>(
     }
 }
 
-/// A quote of a question for a user at the present revision: the user's last one where it is, or one made anew. The
-/// engine and the assets stand for what they stood for.
+/// A quote of a question for a user at the present revision: the user's last one where it is, or one made anew, or what decides the
+/// question. The engine and the assets stand for what they stood for.
 pub(crate) fn present_quote<P: Engine<SumProd>, A: Engine<MinProd>>(
     file: &MarketFile,
     prices: &mut P,
@@ -72,7 +78,7 @@ pub(crate) fn present_quote<P: Engine<SumProd>, A: Engine<MinProd>>(
     journal: &Journal,
     user: u32,
     asked: &Question,
-) -> Quote
+) -> Result<Quote, Decided>
     requires in_use { AreInUse P.stands_for A.stands_for file.now.net file.now.tree journal.now.history prices.old users.old }
     requires quotes { AreKeptQuotes file.now.net file.now.tree journal.now.history (quotes_of users.old) }
     requires user { user < length users.old }
@@ -81,11 +87,12 @@ pub(crate) fn present_quote<P: Engine<SumProd>, A: Engine<MinProd>>(
     ensures assets { (u : ℕ) (h : Holding) → OwnsAt A.stands_for users.old u h → OwnsAt A.stands_for users.new u h }
     ensures names { names_of users.new ≡ names_of users.old }
     ensures quotes { quotes_of users.new ≡ quotes_of users.old }
-    ensures quote { IsQuoteOf file.now.net file.now.tree journal.now.history user asked.now result }
-    ensures last { (quote : Held) → slice_get (quotes_of users.old) user ≡ Some (Some (LastQuote.Limits quote)) → IsFor quote asked.now (revision journal.now.history) → result ≡ quote }
+    ensures quote { MatchResult result (λ quote. IsQuoteOf file.now.net file.now.tree journal.now.history user asked.now quote)
+        (λ why. IsDecidedBy file.now.net journal.now.history asked.now why) }
+    ensures last { (quote : Held) → slice_get (quotes_of users.old) user ≡ Some (Some (LastQuote.Limits quote)) → IsFor quote asked.now (revision journal.now.history) → result ≡ Ok quote }
 {
     match last_quote(users, user, asked, journal.revision()) {
-        Some(quote) => quote,
+        Some(quote) => Ok(quote),
         None => fresh_quote(file, prices, users, journal, user, asked),
     }
 }

@@ -72,14 +72,14 @@ pub(crate) fn refuse_transfer<A: Engine<MinProd>>(
     Ok(user)
 }
 
-/// What `price` is refused for: a settlement, a pair that is unknown, a variable that occurs twice, a target that is
+/// What `price` is refused for by the record: a settlement, a pair that is unknown, a variable that occurs twice, a target that is
 /// resolved, a condition that a resolution contradicts, and a question that no clique holds.
 pub(crate) fn refuse_price(
     file: &MarketFile,
     journal: &Journal,
     question: &QuestionText,
 ) -> Result<Question, Refusal>
-    ensures refusal { refusal_in result ≡ rules.first_refusal (market_of file.now) journal.now.history (command.Price question.now) }
+    ensures refusal { refusal_in result ≡ first_of (rules.refusals_by_record (market_of file.now) journal.now.history (command.Price question.now)) }
     ensures question { IfOk result (λ asked. IsQuestionFor (market_of file.now) file.now.tree journal.now.history question.now asked) }
 {
     not_settled(journal)?;
@@ -88,14 +88,14 @@ pub(crate) fn refuse_price(
     Ok(asked)
 }
 
-/// The question of a price without a condition that nothing refuses. None says nothing: no step to it can hold a refusal, which would
+/// The question of a price without a condition that the record does not refuse. None says nothing: no step to it can hold a refusal, which would
 /// cost more than the step.
 pub(crate) fn plain_price(
     file: &MarketFile,
     journal: &Journal,
     question: &QuestionText,
 ) -> Option<Question>
-    ensures refusal { IfSome result (λ asked. rules.first_refusal (market_of file.now) journal.now.history (command.Price question.now) ≡ None) }
+    ensures refusal { IfSome result (λ asked. first_of (rules.refusals_by_record (market_of file.now) journal.now.history (command.Price question.now)) ≡ None) }
     ensures question { IfSome result (λ asked. IsQuestionFor (market_of file.now) file.now.tree journal.now.history question.now asked) }
 {
     if journal.is_settled() || !question.condition.is_empty() {
@@ -108,7 +108,7 @@ pub(crate) fn plain_price(
     Some(asked)
 }
 
-/// What `limits` is refused for: as a price, and behind a settlement for an unknown user.
+/// What `limits` is refused for by the record: as a price, and behind a settlement for an unknown user.
 pub(crate) fn refuse_limits<A: Engine<MinProd>>(
     file: &MarketFile,
     journal: &Journal,
@@ -117,7 +117,7 @@ pub(crate) fn refuse_limits<A: Engine<MinProd>>(
     question: &QuestionText,
 ) -> Result<(u32, Question), Refusal>
     requires named { names_of users.now ≡ history.users journal.now.history }
-    ensures refusal { refusal_in result ≡ rules.first_refusal (market_of file.now) journal.now.history (command.Limits name.now question.now) }
+    ensures refusal { refusal_in result ≡ first_of (rules.refusals_by_record (market_of file.now) journal.now.history (command.Limits name.now question.now)) }
     ensures user { IfOk result (λ found. IsUser journal.now.history name.now found.0) }
     ensures question { IfOk result (λ found. IsQuestionFor (market_of file.now) file.now.tree journal.now.history question.now found.1) }
 {
@@ -128,7 +128,7 @@ pub(crate) fn refuse_limits<A: Engine<MinProd>>(
     Ok((user, asked))
 }
 
-/// What `edit` is refused for before its limits are looked at: as `limits`, behind a variable that occurs twice for a
+/// What `edit` is refused for by the record: as `limits`, behind a variable that occurs twice for a
 /// revision that is not the present one, and at last for a share outside of 1 to 999,999, and for as many trades as the
 /// market takes.
 pub(crate) fn refuse_edit<A: Engine<MinProd>>(
@@ -142,7 +142,7 @@ pub(crate) fn refuse_edit<A: Engine<MinProd>>(
 ) -> Result<(u32, Question), Refusal>
     requires named { names_of users.now ≡ history.users journal.now.history }
     requires max_trades { journal.now.max_trades ≡ file.now.max_trades }
-    ensures refusal { refusal_in result ≡ rules.first_refusal (market_of file.now) journal.now.history (command.Edit name.now question.now to at) }
+    ensures refusal { refusal_in result ≡ first_of (rules.refusals_by_record (market_of file.now) journal.now.history (command.Edit name.now question.now to at)) }
     ensures user { IfOk result (λ found. IsUser journal.now.history name.now found.0) }
     ensures question { IfOk result (λ found. IsQuestionFor (market_of file.now) file.now.tree journal.now.history question.now found.1) }
     ensures room { IfOk result (λ _. CanBeTraded journal.now to) }
@@ -171,13 +171,13 @@ pub(crate) fn refuse_worst<A: Engine<MinProd>>(
     find_user(users, name)
 }
 
-/// What `resolve` is refused for: a settlement, a pair that is unknown, and a variable that is resolved.
+/// What `resolve` is refused for by the record: a settlement, a pair that is unknown, and a variable that is resolved.
 pub(crate) fn refuse_resolve(
     file: &MarketFile,
     journal: &Journal,
     words: &PairText,
 ) -> Result<Pair, Refusal>
-    ensures refusal { refusal_in result ≡ rules.first_refusal (market_of file.now) journal.now.history (command.Resolve words.now) }
+    ensures refusal { refusal_in result ≡ first_of (rules.refusals_by_record (market_of file.now) journal.now.history (command.Resolve words.now)) }
     ensures named { IfOk result (λ pair. pair_named file.now.net words.now ≡ Some pair) }
     ensures pair { IfOk result (λ pair. CanBeResolved file.now.net journal.now.history pair) }
 {

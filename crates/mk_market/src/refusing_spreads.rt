@@ -20,8 +20,8 @@ ghost use Rattle.mk_market.specs.Refused.{refusal_in, IsUser, IsSpreadQuestionFo
 use crate::asking::ask_spread;
 use crate::journal::Journal;
 use crate::refusals::{
-    MAX_SHARE, agrees, find_user, in_range, not_resolved, not_settled, not_stale, not_wide,
-    refuse_if, room_for_trade,
+    MAX_SHARE, agrees, find_user, not_resolved, not_settled, not_stale, not_wide, refuse_if,
+    room_for_trade,
 };
 use crate::users::Users;
 use mk_engine::Engine;
@@ -34,7 +34,7 @@ use mk_semiring::MinProd;
 /// The sum of the shares of a whole distribution.
 const MILLION: u32 = 1_000_000;
 
-/// What `bounds` is refused for: a settlement, an unknown user, a variable that is unknown, a pair of the condition that
+/// What `bounds` is refused for by the record: a settlement, an unknown user, a variable that is unknown, a pair of the condition that
 /// is, a variable that occurs twice, one that is asked about and resolved, a condition that a resolution contradicts, and
 /// a question that no clique holds.
 pub(crate) fn refuse_bounds<A: Engine<MinProd>>(
@@ -48,7 +48,7 @@ pub(crate) fn refuse_bounds<A: Engine<MinProd>>(
     requires few { length condition.now ≤ max_condition }
     requires named { names_of users.now ≡ history.users journal.now.history }
     ensures refusal { (pairs : ArrayVec PairText) → pairs.items ≡ condition.now
-        → refusal_in result ≡ rules.first_refusal (market_of file.now) journal.now.history (command.Bounds name.now variable.now pairs) }
+        → refusal_in result ≡ first_of (rules.refusals_by_record (market_of file.now) journal.now.history (command.Bounds name.now variable.now pairs)) }
     ensures user { IfOk result (λ found. IsUser journal.now.history name.now found.0) }
     ensures question { IfOk result (λ found. IsSpreadQuestionFor (market_of file.now) file.now.tree journal.now.history variable.now condition.now (spread_in found.1)) }
 {
@@ -59,7 +59,7 @@ pub(crate) fn refuse_bounds<A: Engine<MinProd>>(
     Ok((user, asked))
 }
 
-/// What `spread` is refused for before its bounds are looked at: as `bounds`, behind a variable that occurs twice for a
+/// What `spread` is refused for by the record: as `bounds`, behind a variable that occurs twice for a
 /// revision that is not the present one, and at last for shares that are no distribution of the variable, and for as many
 /// trades as the market takes.
 pub(crate) fn refuse_spread<A: Engine<MinProd>>(
@@ -77,7 +77,7 @@ pub(crate) fn refuse_spread<A: Engine<MinProd>>(
     requires named { names_of users.now ≡ history.users journal.now.history }
     requires max_trades { journal.now.max_trades ≡ file.now.max_trades }
     ensures refusal { (pairs : ArrayVec PairText) (shares : ArrayVec ℕ) → pairs.items ≡ condition.now → shares.items ≡ to.now
-        → refusal_in result ≡ rules.first_refusal (market_of file.now) journal.now.history (command.Spread name.now variable.now pairs shares at) }
+        → refusal_in result ≡ first_of (rules.refusals_by_record (market_of file.now) journal.now.history (command.Spread name.now variable.now pairs shares at)) }
     ensures user { IfOk result (λ found. IsUser journal.now.history name.now found.0) }
     ensures question { IfOk result (λ found. IsSpreadQuestionFor (market_of file.now) file.now.tree journal.now.history variable.now condition.now (spread_in found.1)) }
     ensures room { IfOk result (λ _. length (history.trades journal.now.history) < journal.now.max_trades) }
@@ -87,7 +87,7 @@ pub(crate) fn refuse_spread<A: Engine<MinProd>>(
     let asked = ask_spread(&file.net, variable, condition)?;
     not_stale(journal, at)?;
     can_be_spread(file, journal, variable, condition, &asked)?;
-    is_distribution(&file.net, asked.variable, to)?;
+    is_distribution(file, asked.variable, to)?;
     room_for_trade(journal)?;
     Ok((user, asked))
 }
@@ -127,15 +127,18 @@ fn event_of(asked: &SpreadQuestion) -> Event
     }
 }
 
-/// There is to be one share for each value, each of 1 to 999,999, and a million of all.
-fn is_distribution(net: &Network, variable: u32, to: &[u32]) -> Result<(), Refusal>
-    requires variable { variable < length net.now }
+/// There is to be one share for each value, each of 1 to 999,999, or of nothing where the market has shares of nothing, and a
+/// million of all.
+fn is_distribution(file: &MarketFile, variable: u32, to: &[u32]) -> Result<(), Refusal>
+    requires variable { variable < length file.now.net }
     requires few { length to.now ≤ max_values }
-    ensures { (name : List ℕ) (named : Variable) → variable_named net.now name ≡ Some (variable, named)
-        → refusal_in result ≡ first_of (rules.numbers net.now name to.now ∷ rules.ranges (million - 1) to.now ∷ rules.sums to.now ∷ []) }
+    ensures { (name : List ℕ) (named : Variable) → variable_named file.now.net name ≡ Some (variable, named)
+        → refusal_in result ≡ first_of (rules.numbers file.now.net name to.now
+        ∷ rules.ranges (rules.least_share (market_of file.now)) (million - 1) to.now ∷ rules.sums to.now ∷ []) }
 {
-    one_for_each(net, variable, to)?;
-    all_in_range(to, MAX_SHARE)?;
+    one_for_each(&file.net, variable, to)?;
+    let least = if file.zeros { 0 } else { 1 };
+    all_in_range(to, least, MAX_SHARE)?;
     is_million(to)
 }
 
@@ -150,12 +153,15 @@ fn one_for_each(net: &Network, variable: u32, to: &[u32]) -> Result<(), Refusal>
     refuse_if(given != net.values(variable), Refusal::Numbers { given })
 }
 
-/// Each number is to be in range.
-fn all_in_range(numbers: &[u32], most: u32) -> Result<(), Refusal>
-    ensures { refusal_in result ≡ rules.ranges most numbers.now }
+/// Each number is to be from a least to a most.
+fn all_in_range(numbers: &[u32], least: u32, most: u32) -> Result<(), Refusal>
+    ensures { refusal_in result ≡ rules.ranges least most numbers.now }
 {
     for number in numbers {
-        in_range(*number, most)?;
+        refuse_if(
+            *number < least || *number > most,
+            Refusal::Range { number: *number },
+        )?;
     }
     Ok(())
 }

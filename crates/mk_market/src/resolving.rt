@@ -1,6 +1,7 @@
 //! Resolutions.
 
 use crate::market::Market;
+use crate::possible::can_come;
 use crate::refusals::refuse_resolve;
 use crate::users::Users;
 use mk_engine::Engine;
@@ -12,12 +13,16 @@ impl<P: Engine<SumProd>, A: Engine<MinProd>> Market<P, A> {
     ghost use Rattle.mk_command.specs.declared.command.Command.TheVariants.{Resolve};
     ghost use Rattle.mk_market.specs.Trading.{IsAnswered, reply_of};
 
-    /// A variable has a value from now on. The engine of prices and every user's assets learn it.
+    /// A variable has a value from now on. The engines of prices and of initial weights and every user's assets learn it.
     pub(crate) fn resolve(&mut self, words: &PairText) -> Result<Reply, Refusal>
         ensures { IsAnswered self.old self.new (Resolve words.now) (reply_of result) }
     {
         let pair = refuse_resolve(&self.file, &self.journal, words)?;
+        if !can_come(&mut self.prices, &self.file.net, pair) {
+            return Err(Refusal::Impossible { pair: *words });
+        }
         self.prices.know(pair);
+        self.rows.know(pair);
         tell(&mut self.users, pair);
         self.journal.resolve(pair);
         Ok(Reply::Resolved {

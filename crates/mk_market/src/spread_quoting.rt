@@ -1,29 +1,32 @@
 //! The quotes by which spreads are judged.
 
-ghost use Rattle.std.specs.Prelude.{◌≡◌, ◌<◌, ℕ, length, Some, slice_get, IfSome, IfNone, MatchResult};
+ghost use Rattle.std.specs.Prelude.{◌≡◌, ◌<◌, ◌≤◌, ℕ, length, Some, slice_get, slice_index, IfSome, IfNone, MatchResult};
+ghost use Rattle.mk_net.specs.Bounds.{max_values};
+ghost use Rattle.mk_net.specs.Network.{sizes};
 ghost use Rattle.mk_engine.specs.Meaning.{Meaning};
 ghost use Rattle.mk_assets.specs.Holdings.{Holding};
 ghost use Rattle.mk_quote.specs.declared.spread_quote.SpreadQuote.{SpreadQuote as Held};
 ghost use Rattle.mk_quote.specs.Questions.{spread_in};
-ghost use Rattle.mk_quote.specs.Spreads.{IsSpreadFor};
+ghost use Rattle.mk_quote.specs.Spreads.{sides_of, IsSpreadFor};
 ghost use Rattle.mk_answers.specs.Open.{CanBeSpreadHere};
 ghost use Rattle.mk_market.specs.Members.{names_of, quotes_of};
 ghost use Rattle.mk_market.specs.inner.Keeping.{AreKeptQuotes};
-ghost use Rattle.mk_market.specs.inner.Quoting.{OwnsAt, AreInUse, IsSpreadQuoteOf, IsInside, IsOutside, IsTaken, IsTurnedDown};
+ghost use Rattle.mk_market.specs.inner.Quoting.{OwnsAt, AreInUse, IsSpreadQuoteOf, IsInside, IsStopped, IsTaken, IsTurnedDown};
+ghost use Rattle.mk_market.specs.inner.Stopped.{IsSpreadDecidedBy};
 
 use crate::journal::Journal;
 use crate::last_quote::LastQuote;
+use crate::possible::{SpreadDecided, Stopped};
 use crate::users::Users;
 use arrayvec::ArrayVec;
-use mk_answers::spread_bounds_of;
+use mk_answers::{SpreadSides, spread_bounds_of};
 use mk_engine::Engine;
 use mk_file::MarketFile;
 use mk_quote::{SpreadQuestion, SpreadQuote};
-use mk_reply::Refusal;
 use mk_semiring::{MinProd, SumProd};
 
-/// A quote of a spread for a user at the present revision, made anew. The engine and the assets stand for what they
-/// stood for.
+/// A quote of a spread for a user at the present revision, made anew, or what decides the spread. The engine and the assets stand
+/// for what they stood for.
 pub(crate) fn fresh_spread_quote<P: Engine<SumProd>, A: Engine<MinProd>>(
     file: &MarketFile,
     prices: &mut P,
@@ -31,7 +34,7 @@ pub(crate) fn fresh_spread_quote<P: Engine<SumProd>, A: Engine<MinProd>>(
     journal: &Journal,
     user: u32,
     asked: &SpreadQuestion,
-) -> SpreadQuote
+) -> Result<SpreadQuote, SpreadDecided>
     requires in_use { AreInUse P.stands_for A.stands_for file.now.net file.now.tree journal.now.history prices.old users.old }
     requires user { user < length users.old }
     requires answered { CanBeSpreadHere file.now.net file.now.tree journal.now.history (spread_in asked.now) }
@@ -39,11 +42,19 @@ pub(crate) fn fresh_spread_quote<P: Engine<SumProd>, A: Engine<MinProd>>(
     ensures assets { (u : ℕ) (h : Holding) → OwnsAt A.stands_for users.old u h → OwnsAt A.stands_for users.new u h }
     ensures names { names_of users.new ≡ names_of users.old }
     ensures quotes { quotes_of users.new ≡ quotes_of users.old }
-    ensures quote { IsSpreadQuoteOf file.now.net file.now.tree journal.now.history user (spread_in asked.now) result }
+    ensures quote { MatchResult result (λ quote. IsSpreadQuoteOf file.now.net file.now.tree journal.now.history user (spread_in asked.now) quote)
+        (λ why. IsSpreadDecidedBy file.now.net journal.now.history (spread_in asked.now) why) }
 {
-    let values = file.net.values(asked.variable);
-    let bounds = spread_bounds_of(prices, users.assets(user), asked, values);
-    SpreadQuote::make(user, *asked, journal.revision(), &bounds)
+    match spread_bounds_of(prices, users.assets(user), &file.net, asked) {
+        SpreadSides::Open(bounds) => Ok(SpreadQuote::make(
+            user,
+            *asked,
+            journal.revision(),
+            &bounds,
+        )),
+        SpreadSides::Impossible => Err(SpreadDecided::Impossible),
+        SpreadSides::Sure(value) => Err(SpreadDecided::Sure(value)),
+    }
 }
 
 /// A user's last quote, where it was made for a spread at a revision.
@@ -64,20 +75,28 @@ fn last_spread_quote<'a, A: Engine<MinProd>>(
     }
 }
 
-/// The units for some shares where they are inside of a quote, and else a refusal with its intervals.
-fn judged_by(quote: &SpreadQuote, shares: &[u32]) -> Result<ArrayVec<u64, 16>, Refusal>
-    ensures { MatchResult result (λ units. IsInside quote.now shares.now units.items) (λ why. IsOutside quote.now shares.now why) }
+/// The units for some shares where they are inside of a quote, and else what stops them: a share of what cannot come, none of what
+/// can, or the intervals that they are outside of.
+fn judged_by(quote: &SpreadQuote, shares: &[u32]) -> Result<ArrayVec<u64, 16>, Stopped>
+    requires one_each { length shares.now ≡ length (sides_of quote.now) }
+    requires few { length shares.now ≤ max_values }
+    ensures { MatchResult result (λ units. IsInside quote.now shares.now units.items) (λ why. IsStopped quote.now shares.now why) }
 {
-    match quote.judge(shares) {
-        Some(units) => Ok(units),
-        None => Err(Refusal::Outside {
-            intervals: quote.intervals(),
-        }),
+    if let Some(units) = quote.judge(shares) {
+        return Ok(units);
     }
+    if let Some(value) = quote.impossible_share(shares) {
+        return Err(Stopped::ImpossibleShare(value));
+    }
+    if quote.misses_share(shares) {
+        return Err(Stopped::MissingShare);
+    }
+    Err(Stopped::Outside(quote.intervals()))
 }
 
 /// Judges the shares of a spread by the user's last quote, where that is of this spread and of the present revision, and
-/// else by one made anew, which a refusal leaves as the last. The engine and the assets stand for what they stood for.
+/// else by one made anew, which shares outside of its intervals leave as the last. The engine and the assets stand for what they
+/// stood for.
 pub(crate) fn judge_spread<P: Engine<SumProd>, A: Engine<MinProd>>(
     file: &MarketFile,
     prices: &mut P,
@@ -86,11 +105,12 @@ pub(crate) fn judge_spread<P: Engine<SumProd>, A: Engine<MinProd>>(
     user: u32,
     asked: &SpreadQuestion,
     shares: &[u32],
-) -> Result<ArrayVec<u64, 16>, Refusal>
+) -> Result<ArrayVec<u64, 16>, Stopped>
     requires in_use { AreInUse P.stands_for A.stands_for file.now.net file.now.tree journal.now.history prices.old users.old }
     requires quotes { AreKeptQuotes file.now.net file.now.tree journal.now.history (quotes_of users.old) }
     requires user { user < length users.old }
     requires answered { CanBeSpreadHere file.now.net file.now.tree journal.now.history (spread_in asked.now) }
+    requires one_each { length shares.now ≡ slice_index (sizes file.now.net) asked.now.variable }
     ensures prices { (m : Meaning) → P.stands_for prices.old m → P.stands_for prices.new m }
     ensures assets { (u : ℕ) (h : Holding) → OwnsAt A.stands_for users.old u h → OwnsAt A.stands_for users.new u h }
     ensures names { names_of users.new ≡ names_of users.old }
@@ -101,11 +121,16 @@ pub(crate) fn judge_spread<P: Engine<SumProd>, A: Engine<MinProd>>(
     if let Some(quote) = last_spread_quote(users, user, asked, journal.revision()) {
         return judged_by(quote, shares);
     }
-    let quote = fresh_spread_quote(file, prices, users, journal, user, asked);
+    let quote = match fresh_spread_quote(file, prices, users, journal, user, asked) {
+        Ok(quote) => quote,
+        Err(why) => return Err(Stopped::Decided(why)),
+    };
     match judged_by(&quote, shares) {
         Ok(units) => Ok(units),
         Err(why) => {
-            users.set_quote(user, LastQuote::Bounds { quote });
+            if why.is_outside() {
+                users.set_quote(user, LastQuote::Bounds { quote });
+            }
             Err(why)
         }
     }

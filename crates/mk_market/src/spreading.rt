@@ -2,6 +2,7 @@
 
 use crate::last_quote::LastQuote;
 use crate::market::Market;
+use crate::possible::{Stopped, refuse_stopped};
 use crate::refusing_spreads::{refuse_bounds, refuse_spread};
 use crate::spread_quoting::{fresh_spread_quote, judge_spread};
 use crate::trading::{ratio_of_spread, trade};
@@ -32,14 +33,27 @@ impl<P: Engine<SumProd>, A: Engine<MinProd>> Market<P, A> {
             variable,
             condition.as_slice(),
         )?;
-        let quote = fresh_spread_quote(
+        let quote = match fresh_spread_quote(
             &self.file,
             &mut self.prices,
             &mut self.users,
             &self.journal,
             user,
             &asked,
-        );
+        ) {
+            Ok(quote) => quote,
+            Err(why) => {
+                let why = Stopped::Decided(why);
+                return Err(refuse_stopped(
+                    &mut self.prices,
+                    &self.file.net,
+                    variable,
+                    condition.as_slice(),
+                    &asked,
+                    why,
+                ));
+            }
+        };
         let intervals = quote.intervals();
         self.users.set_quote(user, LastQuote::Bounds { quote });
         Ok(Reply::Bounded {
@@ -71,7 +85,7 @@ impl<P: Engine<SumProd>, A: Engine<MinProd>> Market<P, A> {
             to.as_slice(),
             at,
         )?;
-        let factors = judge_spread(
+        let factors = match judge_spread(
             &self.file,
             &mut self.prices,
             &mut self.users,
@@ -79,7 +93,17 @@ impl<P: Engine<SumProd>, A: Engine<MinProd>> Market<P, A> {
             user,
             &asked,
             to.as_slice(),
-        )?;
+        ) {
+            Ok(factors) => factors,
+            Err(why) => return Err(refuse_stopped(
+                &mut self.prices,
+                &self.file.net,
+                variable,
+                condition.as_slice(),
+                &asked,
+                why,
+            )),
+        };
         let ratio = ratio_of_spread(&asked, factors.as_slice());
         trade(
             &mut self.prices,

@@ -96,8 +96,9 @@ fn traded(
     ensures { IfOk result (λ assets. Owns ⟦<JointEngine<MinProd> as Engine<MinProd>>⟧.stands_for assets
         (with_withdrawal withdrawn (with_deposit 1 (with_trade (record { variable = 0; condition = []; factors = HIT ∷ MISS ∷ [] }) (opening_holding coin.now.net coin.now.tree known.now))))) }
 {
+    assert!(rt; coin.net.variables() == 1);
     let plan = JointEngine::<MinProd>::plan(alloc, &coin.net, &coin.tree)?;
-    let mut assets = Assets::<JointEngine<MinProd>>::start(alloc, &plan, known)?;
+    let mut assets = Assets::<JointEngine<MinProd>>::start(alloc, &plan, &coin.net, known)?;
     assets.trade(&trade(rt));
     assets.deposit(1);
     assets.withdraw(withdrawn);

@@ -1,7 +1,8 @@
 //! A coin: its market file, and its network and tree.
 
-ghost use Rattle.std.specs.Prelude.{◌≡◌, length, slice_index};
+ghost use Rattle.std.specs.Prelude.{◌≡◌, [], length, slice_index};
 ghost use Rattle.mk_net.specs.Network.{sizes};
+ghost use Rattle.mk_net.specs.Zeros.{with_zeros};
 
 use mk_file::read_market;
 use mk_net::{Network, Pair};
@@ -32,19 +33,21 @@ pub const TAILS: Pair = Pair {
     value: 1,
 };
 
-/// A network of one variable of two values, and a tree of it.
+/// A network of one variable of two values without a share of nothing, and a tree of it.
 #[derive(Drop)]
 pub struct Coin {
     pub net: Network,
     pub tree: Tree,
     ghost one: { length net ≡ 1 },
     ghost sides: { slice_index (sizes net) 0 ≡ 2 },
+    ghost plain: { with_zeros net ≡ [] },
 }
 
 pub fn make_coin(rt: &impl Abort, alloc: Global) -> Result<Coin, Fail> {
     let file = read_market(alloc, COIN.as_bytes())?;
     assert!(rt; file.net.variables() == 1);
     assert!(rt; file.net.values(0) == 2);
+    assert!(rt; file.net.with_zeros().is_empty());
     Ok(Coin {
         net: file.net,
         tree: file.tree,

@@ -107,7 +107,7 @@ fn journal_is_filled(rt: HostRuntime) -> Result<(), Fail> {
 /// What a user owns who has not traded.
 fn nothing_owned(alloc: Global, coin: &Coin) -> Result<Assets<JointEngine<MinProd>>, Fail> {
     let plan = JointEngine::<MinProd>::plan(alloc, &coin.net, &coin.tree)?;
-    Ok(Assets::<JointEngine<MinProd>>::start(alloc, &plan, &[])?)
+    Ok(Assets::<JointEngine<MinProd>>::start(alloc, &plan, &coin.net, &[])?)
 }
 
 fn join<A: Engine<MinProd>>(

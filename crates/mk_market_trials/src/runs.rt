@@ -29,6 +29,51 @@ user bob -> user bob at 3
 price coin=heads -> price 0.5000000000..0.5000000000
 price coin=edge -> refused name coin=edge";
 
+/// A gate with three values, of which one cannot come.
+const GATE: &str = "points_per_bit = 100
+max_trades = 1000
+zeros = true
+cliques = [['gate']]
+links = []
+
+[[variable]]
+name = 'gate'
+values = ['open', 'shut', 'gone']
+parents = []
+rows = [[250000, 750000, 0]]
+";
+
+/// What cannot come is priced, refused and left out of spreads; the bound is asked before and behind.
+const GATE_RUN: &str = "bound -> bound 200..200
+price gate=gone -> price 0.0000000000..0.0000000000
+user alice -> user alice at 1
+limits alice gate=gone -> refused impossible gate=gone
+edit alice gate=gone to 5 -> refused impossible gate=gone
+edit alice gate=gone to 0 -> refused range 0
+edit alice gate=open to 1000000 -> refused range 1000000
+bounds alice gate -> bounds 250000..999999 750000..999999 0..0 at 1
+deposit alice 1 -> deposit alice 1 at 2
+bounds alice gate -> bounds 125000..999999 375000..999999 0..0 at 2
+limits alice gate=open -> limits 125000..625000 at 2
+spread alice gate to 500000 500000 -> refused numbers 2
+spread alice gate to 0 0 0 -> refused sum 0
+spread alice gate to 500000 400000 100000 -> refused impossible gate=gone
+spread alice gate to 0 400000 600000 -> refused impossible gate=gone
+spread alice gate to 0 1000000 0 -> refused range 1000000
+spread alice gate to 500000 500001 0 -> refused sum 1000001
+spread alice gate to 100000 900000 0 -> refused outside 125000..999999 375000..999999 0..0
+spread alice gate to 500000 500000 0 at 3 -> refused stale 3 2
+spread alice gate to 500000 500000 0 -> spread 2199023255552 733007751850 1099511627776 at 3
+bounds alice gate -> bounds 125001..999999 375001..999999 0..0 at 3
+worst alice -> worst 41..41
+withdraw alice 1 -> refused short 0
+bound -> bound 200..200
+resolve gate=gone -> refused impossible gate=gone
+resolve gate=open -> resolve gate=open at 4
+bound -> bound 200..200
+settle -> settle at 5, alice 200..200 paid 200
+bound -> refused settled";
+
 /// Stops unless this is what is printed of the reply to a line.
 fn expect_printed(rt: &impl Abort, reply: &Reply, line: &str, expected: &str) {
     let mut text = ArrayString::new();
@@ -130,4 +175,9 @@ fn expect_tree_run(
 #[test]
 fn coin_market(rt: HostRuntime) -> Result<(), Fail> {
     expect_tree_run(&rt, rt.alloc(), COIN, COIN_RUN, (1, 100, 3))
+}
+
+#[test]
+fn gate_market(rt: HostRuntime) -> Result<(), Fail> {
+    expect_tree_run(&rt, rt.alloc(), GATE, GATE_RUN, (1, 100, 5))
 }

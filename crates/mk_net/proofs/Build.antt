@@ -11,13 +11,15 @@ use Rattle.mk_net.specs.Texts.{same_text}
 use Rattle.mk_net.specs.Network.{Variable}
 use Rattle.mk_net.specs.Stored.{variable_of, variables_of}
 use Rattle.mk_net.specs.Drafts.{DraftOfVariable, drafts_of, draft_of_variable}
-use Rattle.mk_net.specs.Checked.{has_double, number_of, first_fault, checked_variable}
+use Rattle.mk_net.specs.Checked.{has_double, number_of, first_fault, entry_at, checked_variable}
 use Rattle.mk_net.specs.declared.network.StoredVariable.{StoredVariable}
 use Rattle.mk_net.specs.declared.draft.VariableDraft.{VariableDraft}
 use Rattle.mk_net.specs.declared.draft.Draft.{Draft}
 use Rattle.mk_net.proofs.Mapped.{any_of_map}
+use Rattle.mk_net.specs.inner.Counted.{HasShares}
+use Rattle.mk_net.proofs.Counting.{entries_here}
 use Rattle.mk_net.proofs.Taken.{untaken, none_before, inserted_name, inserted_entry}
-use Rattle.mk_net.proofs.Checked.{IsFaultless, faultless_at, all_at, its_name_fresh}
+use Rattle.mk_net.proofs.Checked.{IsFaultless, faultless_at, entries_at, all_at, its_name_fresh}
 
 -- a list of which one more item was read
 one_more : {X Y : Type 0} (f : X → Y) (xs : List X) (i : ℕ) (x : X) → i < length xs → x ≡ get_or xs i x →
@@ -49,13 +51,19 @@ next_name texts i t names name apart inside is done named =
     ∙ ap (λ (n : List ℕ). map string_bytes (take i texts) ++ n ∷ []) named
     ∙ sym (one_more string_bytes texts i t inside is)
 
-module _ (draft : Draft) (faultless : first_fault (drafts_of draft) ≡ None) (i : ℕ) (v : VariableDraft)
+module _ (draft : Draft) (faultless : first_fault draft.zeros (drafts_of draft) ≡ None) (i : ℕ) (v : VariableDraft)
     (inside : i < length draft.variables.items) (is : v ≡ get_or draft.variables.items i v) where
   -- the variable at a place has no fault
   pub its_faultless : IsFaultless (drafts_of draft) (1 + i) (draft_of_variable v)
   its_faultless =
       rw (is, sym (get_or-map draft_of_variable draft.variables.items i v (draft_of_variable v) inside))
-      (faultless_at (drafts_of draft) faultless i (draft_of_variable v) (omega (arith, inside, length-map draft.variables.items draft_of_variable)))
+      (faultless_at draft.zeros (drafts_of draft) faultless i (draft_of_variable v) (omega (arith, inside, length-map draft.variables.items draft_of_variable)))
+
+  pub its_shares : HasShares v
+  its_shares =
+      entries_here draft.zeros (1 + i) v (ap (λ (u : DraftOfVariable). entry_at draft.zeros (1 + i) u)
+      (ap (λ (u : VariableDraft). draft_of_variable u) is ∙ sym (get_or-map draft_of_variable draft.variables.items i v (draft_of_variable v) inside))
+      ∙ (entries_at draft.zeros (drafts_of draft) faultless i (draft_of_variable v) (omega (arith, inside, length-map draft.variables.items draft_of_variable))))
 
   untaken_name : (es : List (List ℕ × StoredVariable)) →
       variables_of es ≡ map (checked_variable (drafts_of draft)) (map draft_of_variable (take i draft.variables.items)) →

@@ -1,8 +1,8 @@
 -- What a draft without an earlier kind of fault has: enough that the next kinds can be counted.
-use Rattle.std.specs.Prelude.{◌≡◌, ℕ, ◌+◌, ◌≤◌, List, map, length, true, ◌==◌, not, nat_le, nat_lt, pos, None, All, string_bytes, Vec, ℤ}
-use Rattle.std.proofs.Common.{◌∙◌, arith, get_or}
+use Rattle.std.specs.Prelude.{◌≡◌, ℕ, ◌+◌, ◌≤◌, List, map, length, Bool, true, false, ◌==◌, not, nat_le, nat_lt, pos, negsuc, None, All, string_bytes, Vec, ℤ}
+use Rattle.std.proofs.Common.{refl, ◌∙◌, arith, get_or}
 use Rattle.std.proofs.lemmas.List.{length-map}
-use Rattle.std.proofs.lemmas.Bool.{eqb-true, leb-true, ltb-false}
+use Rattle.std.proofs.lemmas.Bool.{eqb-true, leb-true, le-leb, ltb-false}
 use Rattle.std.specs.declared.alloc.Global.{Global}
 use Rattle.mk_net.specs.inner.TextLaws.{both}
 use Rattle.mk_net.specs.Firsts.{fault_if, first_in}
@@ -69,16 +69,20 @@ widths_counted vs few h i d inside j row within_rows =
     )
 
 -- its entries
-entry_here : (k row column : ℕ) (entry : ℤ) → entry_of k row column entry ≡ None → is_share entry ≡ true
-entry_here k row column entry h = passed (is_share entry) (Entry k row column) h
+pub shares_here : (zeros : Bool) (k row : ℕ) (entries : List ℤ) → first_in (entry_of zeros k row) 1 entries ≡ None → All (λ (e : ℤ). is_share zeros e ≡ true) entries
+shares_here zeros k row entries h n d inside =
+    passed (is_share zeros (get_or entries n d)) (Entry k row (1 + n)) (none_at (entry_of zeros k row) 1 entries n d h inside)
 
-pub shares_here : (k row : ℕ) (entries : List ℤ) → first_in (entry_of k row) 1 entries ≡ None → All (λ (e : ℤ). is_share e ≡ true) entries
-shares_here k row entries h n d inside = entry_here k row (1 + n) (get_or entries n d) (none_at (entry_of k row) 1 entries n d h inside)
+-- a share is one where some may be nothing
+share_of : (zeros : Bool) (entry : ℤ) → is_share zeros entry ≡ true → is_share true entry ≡ true
+share_of true entry h = h
+share_of false (pos n) h = rw (le-leb 0 n (omega arith), le-leb n 1000000 (within 1 1000000 n h).1) refl
+share_of false (negsuc n) h = cc
 
-pub entries_here : (k : ℕ) (v : VariableDraft) → entry_at k (draft_of_variable v) ≡ None → HasShares v
-entries_here k v h j d inside =
-    shares_here k (1 + j) (get_or v.rows.items j d).items
-    (none_of_map (λ (row : Vec ℤ Global). row.items) (λ (row : ℕ) (entries : List ℤ). first_in (entry_of k row) 1 entries) 1 v.rows.items j d h inside)
+pub entries_here : (zeros : Bool) (k : ℕ) (v : VariableDraft) → entry_at zeros k (draft_of_variable v) ≡ None → HasShares v
+entries_here zeros k v h j d inside n e within_row =
+    share_of zeros (get_or (get_or v.rows.items j d).items n e) (shares_here zeros k (1 + j) (get_or v.rows.items j d).items
+    (none_of_map (λ (row : Vec ℤ Global). row.items) (λ (row : ℕ) (entries : List ℤ). first_in (entry_of zeros k row) 1 entries) 1 v.rows.items j d h inside) n e within_row)
 
-pub shares_counted : (vs : List VariableDraft) → first_in entry_at 1 (map draft_of_variable vs) ≡ None → All HasShares vs
-shares_counted vs h i d inside = entries_here (1 + i) (get_or vs i d) (none_of_map draft_of_variable entry_at 1 vs i d h inside)
+pub shares_counted : (zeros : Bool) (vs : List VariableDraft) → first_in (entry_at zeros) 1 (map draft_of_variable vs) ≡ None → All HasShares vs
+shares_counted zeros vs h i d inside = entries_here zeros (1 + i) (get_or vs i d) (none_of_map draft_of_variable (entry_at zeros) 1 vs i d h inside)

@@ -15,3 +15,4 @@ pub mod Distinct
 pub mod Checked
 pub mod Build
 pub mod UnitsOf
+pub mod Zeroed

@@ -1,6 +1,6 @@
 -- What a list of drafts of variables is refused for, and the network that it gives. Kinds of faults are tried in their order, and
--- each over all variables before the next; variables, rows and columns are numbered from 1.
-use Rattle.std.specs.Prelude.{ℕ, ◌-◌, ℤ, pos, negsuc, List, [], ◌∷◌, length, map, sum, Bool, false, ◌&&◌, ◌||◌, not, ◌==◌, nat_lt, nat_le, Option}
+-- each over all variables before the next; variables, rows and columns are numbered from 1. `zeros` says whether shares of nothing may occur.
+use Rattle.std.specs.Prelude.{ℕ, ◌-◌, ℤ, pos, negsuc, List, [], ◌∷◌, length, map, sum, Bool, false, ◌&&◌, ◌||◌, not, ◌==◌, nat_lt, nat_le, if◌then◌else◌, Option}
 use Rattle.std.specs.List.{list_all, list_any, position_or_len}
 use Rattle.mk_net.specs.declared.key.Key.TheVariants.{Variable as VariableKey, Values, Parents}
 use Rattle.mk_net.specs.declared.fault.NetFault.{NetFault}
@@ -41,9 +41,13 @@ abbrev pub share : ℤ → ℕ
 share (pos n) = n
 share (negsuc n) = 0
 
-abbrev pub is_share : ℤ → Bool
-is_share (pos n) = is_within 1 million n
-is_share (negsuc n) = false
+-- the least entry: 1, or 0 where shares of nothing may occur
+abbrev pub least_entry : Bool → ℕ
+least_entry zeros = if zeros then 0 else 1
+
+abbrev pub is_share : Bool → ℤ → Bool
+is_share zeros (pos n) = is_within (least_entry zeros) million n
+is_share zeros (negsuc n) = false
 
 -- 2 to 16 values, and at most 8 parents
 abbrev pub count_at : ℕ → DraftOfVariable → Option NetFault
@@ -75,12 +79,12 @@ width_of values k row entries = fault_if (not (length entries == values)) (Width
 abbrev pub width_at : ℕ → DraftOfVariable → Option NetFault
 width_at k v = first_in (width_of (length v.values) k) 1 v.rows
 
--- each entry is 1 to a million
-abbrev pub entry_of : ℕ → ℕ → ℕ → ℤ → Option NetFault
-entry_of k row column entry = fault_if (not (is_share entry)) (Entry k row column)
+-- each entry is from the least to a million
+abbrev pub entry_of : Bool → ℕ → ℕ → ℕ → ℤ → Option NetFault
+entry_of zeros k row column entry = fault_if (not (is_share zeros entry)) (Entry k row column)
 
-abbrev pub entry_at : ℕ → DraftOfVariable → Option NetFault
-entry_at k v = first_in (λ row entries. first_in (entry_of k row) 1 entries) 1 v.rows
+abbrev pub entry_at : Bool → ℕ → DraftOfVariable → Option NetFault
+entry_at zeros k v = first_in (λ row entries. first_in (entry_of zeros k row) 1 entries) 1 v.rows
 
 -- the entries of a row are a million together; each is a share here, since entries are tried before
 abbrev pub sum_of : ℕ → ℕ → List ℤ → Option NetFault
@@ -96,19 +100,19 @@ count_fault draft = or_else
     (first_in count_at 1 draft)
 
 -- the first fault of another kind
-abbrev pub later_fault : List DraftOfVariable → Option NetFault
-later_fault draft = first_of (
+abbrev pub later_fault : Bool → List DraftOfVariable → Option NetFault
+later_fault zeros draft = first_of (
     first_in name_at 1 draft
     ∷ first_in (repeat_at draft) 1 draft
     ∷ first_in (parent_at draft) 1 draft
     ∷ first_in (rows_at draft) 1 draft
     ∷ first_in width_at 1 draft
-    ∷ first_in entry_at 1 draft
+    ∷ first_in (entry_at zeros) 1 draft
     ∷ first_in sum_at 1 draft
     ∷ [])
 
-abbrev pub first_fault : List DraftOfVariable → Option NetFault
-first_fault draft = or_else (count_fault draft) (later_fault draft)
+abbrev pub first_fault : Bool → List DraftOfVariable → Option NetFault
+first_fault zeros draft = or_else (count_fault draft) (later_fault zeros draft)
 
 -- the network of a draft without a fault
 abbrev pub checked_variable : List DraftOfVariable → DraftOfVariable → Variable

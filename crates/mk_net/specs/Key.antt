@@ -1,7 +1,7 @@
 -- How each key of a market file is written.
 use Rattle.std.specs.Prelude.{ℕ, List, codes}
 use Rattle.mk_net.specs.declared.key.Key.{Key}
-use Rattle.mk_net.specs.declared.key.Key.TheVariants.{PointsPerBit, MaxTrades, Variable, Cliques, Links, Name, Values, Parents, Rows}
+use Rattle.mk_net.specs.declared.key.Key.TheVariants.{PointsPerBit, MaxTrades, Variable, Cliques, Links, Zeros, Name, Values, Parents, Rows}
 
 abbrev pub key_text : Key → List ℕ
 key_text PointsPerBit = codes "points_per_bit"
@@ -9,6 +9,7 @@ key_text MaxTrades = codes "max_trades"
 key_text Variable = codes "variable"
 key_text Cliques = codes "cliques"
 key_text Links = codes "links"
+key_text Zeros = codes "zeros"
 key_text Name = codes "name"
 key_text Values = codes "values"
 key_text Parents = codes "parents"

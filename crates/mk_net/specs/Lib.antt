@@ -4,6 +4,7 @@ pub mod Network
 pub mod Asked
 pub mod Texts
 pub mod Named
+pub mod Zeros
 pub mod Stored
 pub mod Key
 pub mod Drafts

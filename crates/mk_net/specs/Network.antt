@@ -20,10 +20,9 @@ abbrev pub choices : List ℕ → List ℕ → ℕ
 choices values [] = 1
 choices values (p ∷ parents) = slice_index values p * choices values parents
 
--- a row gives each value a share of a million, and none nothing
+-- a row gives each value a share of a million
 pub record IsRow (values : ℕ) (row : List ℕ) : Type 0 where
   pub one_each : length row ≡ values
-  pub positive : All (λ n. 1 ≤ n) row
   pub whole : sum row ≡ million
 
 -- no two items of a list are the same

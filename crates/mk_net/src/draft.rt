@@ -20,6 +20,8 @@ pub struct VariableDraft {
 #[derive(Debug, Drop)]
 pub struct Draft {
     pub variables: Vec<VariableDraft>,
+    /// Whether a row may give a value a share of nothing.
+    pub zeros: bool,
 }
 
 impl Draft {

@@ -45,8 +45,8 @@ pub enum NetFault {
         row: u32,
         n: i64,
     },
-    /// An entry is below 1 or above 1,000,000.
-    #[error("entry {column} in row {row} of variable {variable} is not from 1 to 1000000")]
+    /// An entry is above 1,000,000 or below 1, or below 0 where shares of nothing may occur.
+    #[error("entry {column} in row {row} of variable {variable} is no share of a million")]
     Entry {
         variable: u32,
         row: u32,

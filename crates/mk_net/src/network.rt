@@ -23,33 +23,37 @@ pub struct StoredVariable {
 #[derive(Drop)]
 pub struct Network {
     variables: IndexMap<Name, StoredVariable>,
+    /// The variables that have a share of nothing in some row.
+    zeros: Vec<u32>,
 }
 
 impl Model for Network {
     ghost use Rattle.std.specs.Prelude.{List};
-    ghost use Rattle.mk_net.specs.Network.{Variable, IsNetwork};
-    ghost use Rattle.mk_net.specs.Stored.{variables_of};
+    ghost use Rattle.mk_net.specs.Network.{Variable};
+    ghost use Rattle.mk_net.specs.Stored.{variables_of, IsKept};
 
     ghost Value = { List Variable };
 
     ghost view = { λ n. variables_of n.variables.entries };
 
-    ghost invariant = { λ n. IsNetwork (variables_of n.variables.entries) };
+    ghost invariant = { λ n. IsKept (variables_of n.variables.entries) n.zeros.items };
 }
 
 impl Network {
-    ghost use Rattle.std.specs.Prelude.{◌≡◌, ◌≢◌, ◌<◌, [], length, position, None, Some, IfOk, IfErr, IfSome, slice_index, slice_index_or};
+    ghost use Rattle.std.specs.Prelude.{◌≡◌, ◌≢◌, ◌<◌, [], length, position, None, Some, false, IfOk, IfErr, IfSome, slice_index, slice_index_or};
     ghost use Rattle.mk_net.specs.Network.{IsNetwork, sizes};
     ghost use Rattle.mk_net.specs.Named.{variable_at, pair_named};
     ghost use Rattle.mk_net.specs.Texts.{same_text};
     ghost use Rattle.mk_net.specs.Drafts.{drafts_of};
+    ghost use Rattle.mk_net.specs.Zeros.{with_zeros, HasNoZeros};
     ghost use Rattle.mk_net.specs.Checked.{checked_network, first_fault};
 
     /// The network of a draft, or the draft's first fault.
     pub fn check(alloc: Global, draft: &Draft) -> Result<Network, NetFault>
         ensures network { IfOk result (λ network. network ≡ checked_network (drafts_of draft.now)) }
-        ensures faultless { IfOk result (λ network. first_fault (drafts_of draft.now) ≡ None) }
-        ensures fault { IfErr result (λ fault. fault ≢ NetFault.Memory → first_fault (drafts_of draft.now) ≡ Some fault) }
+        ensures faultless { IfOk result (λ network. first_fault draft.now.zeros (drafts_of draft.now) ≡ None) }
+        ensures no_zeros { IfOk result (λ network. draft.now.zeros ≡ false → HasNoZeros network) }
+        ensures fault { IfErr result (λ fault. fault ≢ NetFault.Memory → first_fault draft.now.zeros (drafts_of draft.now) ≡ Some fault) }
     {
         // No `u32` numbers the last of 2^32 rows: so many are more than can be held.
         if !draft.is_numbered() {
@@ -93,6 +97,13 @@ impl Network {
         ensures { result ≡ slice_index (slice_index_or (variable_at self.now variable).rows row []) value }
     {
         self.variables[variable as usize].rows[row as usize][value as usize]
+    }
+
+    /// The variables that have a share of nothing in some row, in their order.
+    pub fn with_zeros(&self) -> &[u32]
+        ensures { result.now ≡ with_zeros self.now }
+    {
+        self.zeros.as_slice()
     }
 
     /// A variable's name.

@@ -12,7 +12,7 @@ impl Draft {
     /// The first fault.
     pub(crate) fn first_fault(&self) -> Option<NetFault>
         requires { All IsNumbered self.now.variables.items }
-        ensures { result ≡ first_fault (drafts_of self.now) }
+        ensures { result ≡ first_fault self.now.zeros (drafts_of self.now) }
     {
         if let Some(fault) = self.count_fault() {
             return Some(fault);
@@ -25,7 +25,7 @@ impl Draft {
         requires few { length self.now.variables.items ≤ 256 }
         requires counted { All IsCounted self.now.variables.items }
         requires numbered { All IsNumbered self.now.variables.items }
-        ensures { result ≡ later_fault (drafts_of self.now) }
+        ensures { result ≡ later_fault self.now.zeros (drafts_of self.now) }
     {
         if let Some(fault) = self.name_fault() {
             return Some(fault);

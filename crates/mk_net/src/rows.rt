@@ -60,12 +60,12 @@ impl Draft {
         requires few { length self.now.variables.items ≤ 256 }
         requires numbered { All IsNumbered self.now.variables.items }
         requires widths { All HasWidths self.now.variables.items }
-        ensures { result ≡ first_in entry_at 1 (drafts_of self.now) }
+        ensures { result ≡ first_in (entry_at self.now.zeros) 1 (drafts_of self.now) }
     {
         let mut place = 0;
         'variables: for variable in &self.variables {
             place += 1;
-            if let Some(fault) = variable.entry_fault(place) {
+            if let Some(fault) = variable.entry_fault(self.zeros, place) {
                 return Some(fault);
             }
         }
@@ -156,15 +156,15 @@ impl VariableDraft {
     }
 
     /// The first entry that is no share, for the variable of this number.
-    fn entry_fault(&self, place: u32) -> Option<NetFault>
+    fn entry_fault(&self, zeros: bool, place: u32) -> Option<NetFault>
         requires numbered { IsNumbered self.now }
         requires widths { HasWidths self.now }
-        ensures { result ≡ entry_at place (draft_of_variable self.now) }
+        ensures { result ≡ entry_at zeros place (draft_of_variable self.now) }
     {
         let mut row = 0;
         'rows: for entries in &self.rows {
             row += 1;
-            if let Some(fault) = entry_fault(entries, place, row) {
+            if let Some(fault) = entry_fault(zeros, entries, place, row) {
                 return Some(fault);
             }
         }
@@ -190,14 +190,14 @@ impl VariableDraft {
 }
 
 /// The first entry that is no share, in this row of the variable of this number.
-fn entry_fault(entries: &[i64], variable: u32, row: u32) -> Option<NetFault>
+fn entry_fault(zeros: bool, entries: &[i64], variable: u32, row: u32) -> Option<NetFault>
     requires { length entries.now ≤ 16 }
-    ensures { result ≡ first_in (entry_of variable row) 1 entries.now }
+    ensures { result ≡ first_in (entry_of zeros variable row) 1 entries.now }
 {
     let mut column = 0;
     'columns: for entry in entries {
         column += 1;
-        if !is_share(*entry) {
+        if !is_share(zeros, *entry) {
             return Some(NetFault::Entry {
                 variable,
                 row,
@@ -211,7 +211,7 @@ fn entry_fault(entries: &[i64], variable: u32, row: u32) -> Option<NetFault>
 /// Whether the entries of this row of the variable of this number are not a million together.
 fn sum_fault(entries: &[i64], variable: u32, row: u32) -> Option<NetFault>
     requires few { length entries.now ≤ 16 }
-    requires shares { All (λ e. is_share e ≡ true) entries.now }
+    requires shares { All (λ e. is_share true e ≡ true) entries.now }
     ensures { result ≡ sum_of variable row entries.now }
 {
     let sum = sum_of(entries);
@@ -229,7 +229,7 @@ fn sum_fault(entries: &[i64], variable: u32, row: u32) -> Option<NetFault>
 /// The sum of the shares of a row.
 fn sum_of(entries: &[i64]) -> u64
     requires few { length entries.now ≤ 16 }
-    requires shares { All (λ e. is_share e ≡ true) entries.now }
+    requires shares { All (λ e. is_share true e ≡ true) entries.now }
     ensures sum { result ≡ sum (map share entries.now) }
     ensures small { result ≤ 16000000 }
 {
@@ -240,16 +240,17 @@ fn sum_of(entries: &[i64]) -> u64
     sum
 }
 
-/// Whether an entry is from 1 to a million.
-fn is_share(entry: i64) -> bool
-    ensures { result ≡ is_share entry }
+/// Whether an entry is from 1, or from 0 where shares of nothing may occur, to a million.
+fn is_share(zeros: bool, entry: i64) -> bool
+    ensures { result ≡ is_share zeros entry }
 {
-    entry >= 1 && entry <= WHOLE
+    let least = if zeros { 0 } else { 1 };
+    entry >= least && entry <= WHOLE
 }
 
 /// An entry as a share.
 pub(crate) fn share(entry: i64) -> u32
-    requires { is_share entry ≡ true }
+    requires { is_share true entry ≡ true }
     ensures share { result ≡ share entry }
     ensures small { result ≤ 1000000 }
 {

@@ -4,7 +4,7 @@ ghost use Rattle.mk_scaled.specs.Range.{two_to};
 ghost use Rattle.mk_enclose.specs.Enclosure.{upper_of};
 ghost use Rattle.mk_enclose.specs.Factor.{paid_in, taken_out};
 
-use mk_cash::{Ledger, cash};
+use mk_cash::{Ledger, bound, cash};
 use mk_enclose::{Enclosure, Factor};
 use mk_scaled::Scaled;
 use std::process::Abort;
@@ -249,6 +249,78 @@ fn check_edge(rt: &impl Abort, edge: &Edge) {
 fn cash_at_edges(rt: HostRuntime) {
     for edge in &EDGES {
         check_edge(&rt, edge);
+    }
+}
+
+/// The bound of a market of so many questions with such a least initial weight, by whole numbers.
+struct Risk {
+    variables: u32,
+    least: u64,
+    points_per_bit: u32,
+    points: u64,
+}
+
+const RISKS: [Risk; 6] = [
+    Risk {
+        variables: 1,
+        least: 500_000,
+        points_per_bit: 100,
+        points: 100,
+    },
+    Risk {
+        variables: 1,
+        least: 333_333,
+        points_per_bit: 100,
+        points: 158,
+    },
+    Risk {
+        variables: 2,
+        least: 60_000_000_000,
+        points_per_bit: 100,
+        points: 405,
+    },
+    Risk {
+        variables: 3,
+        least: 125_000_000_000_000_000,
+        points_per_bit: 100,
+        points: 300,
+    },
+    Risk {
+        variables: 3,
+        least: 1_000_000_000_000_000_000,
+        points_per_bit: 100,
+        points: 0,
+    },
+    Risk {
+        variables: 3,
+        least: 1,
+        points_per_bit: 1_000_000,
+        points: 59_794_705,
+    },
+];
+
+/// A least weight, exactly.
+fn least(rt: &impl Abort, weight: u64) -> Enclosure
+    ensures { upper_of result ≤ two_to 6000 }
+{
+    assert!(rt; weight >= 1);
+    Enclosure::exact(weight)
+}
+
+fn check_risk(rt: &impl Abort, risk: &Risk) {
+    assert!(rt; risk.variables >= 1);
+    assert!(rt; risk.variables <= 256);
+    assert!(rt; risk.points_per_bit >= 1);
+    assert!(rt; risk.points_per_bit <= 1_000_000);
+    let found = bound(&least(rt, risk.least), risk.variables, risk.points_per_bit);
+    assert!(rt; found == (risk.points, risk.points));
+}
+
+/// Exact with up to three questions.
+#[test]
+fn bounds(rt: HostRuntime) {
+    for risk in &RISKS {
+        check_risk(&rt, risk);
     }
 }
 

@@ -7,7 +7,8 @@ use mk_net::{Event, Pair};
 use mk_quote::{SpreadBounds, SpreadQuestion, SpreadQuote, ValueBounds};
 use std::process::Abort;
 
-/// A value without an error, the shares that it may be given, one of them, and the units for that.
+/// A value without an error, or one that cannot come, whose weight is 0; the shares that it may be given, one of them, and the units
+/// for that.
 struct Value {
     part: u64,
     gain: u64,
@@ -37,6 +38,31 @@ const DIE: [Value; 3] = [
         interval: (166667, 999999),
         share: 500000,
         units: 1649264143135,
+    },
+];
+
+/// Two values of one half each, and one between them that cannot come.
+const GATE: [Value; 3] = [
+    Value {
+        part: 500_000,
+        gain: 1,
+        interval: (250_000, 999_999),
+        share: 400_000,
+        units: 879_609_302_220,
+    },
+    Value {
+        part: 0,
+        gain: 1,
+        interval: (0, 0),
+        share: 0,
+        units: 1_099_511_627_776,
+    },
+    Value {
+        part: 500_000,
+        gain: 1,
+        interval: (250_000, 999_999),
+        share: 600_000,
+        units: 1_319_413_953_331,
     },
 ];
 
@@ -163,19 +189,26 @@ fn exact(rt: &impl Abort, number: u64) -> Enclosure {
     Enclosure::exact(number)
 }
 
+/// The bounds of a value, where it can come.
+fn part_of(rt: &impl Abort, value: &Value, trades: u32, net: i64) -> Option<ValueBounds> {
+    if value.part == 0 {
+        return None;
+    }
+    Some(ValueBounds {
+        part: exact(rt, value.part),
+        factor: Factor {
+            gain: exact(rt, value.gain),
+            trades,
+            net,
+        },
+    })
+}
+
 /// The bounds of some values, for a user with so many trades and bits.
 fn bounds_of(rt: &impl Abort, values: &[Value], whole: u64, trades: u32, net: i64) -> SpreadBounds {
     let mut parts = ArrayVec::new();
     for value in values {
-        let part = ValueBounds {
-            part: exact(rt, value.part),
-            factor: Factor {
-                gain: exact(rt, value.gain),
-                trades,
-                net,
-            },
-        };
-        assert!(rt; parts.try_push(part).is_ok());
+        assert!(rt; parts.try_push(part_of(rt, value, trades, net)).is_ok());
     }
     SpreadBounds {
         whole: exact(rt, whole),
@@ -226,6 +259,18 @@ fn die(rt: HostRuntime) {
 fn sixteen_values(rt: HostRuntime) {
     let quote = quote_of(&rt, &bounds_of(&rt, &SIXTEEN, WHOLE, 1, 2));
     check(&rt, &SIXTEEN, &quote);
+}
+
+#[test]
+fn gate(rt: HostRuntime) {
+    let quote = quote_of(&rt, &bounds_of(&rt, &GATE, 1_000_000, 0, 1));
+    check(&rt, &GATE, &quote);
+    assert!(rt; quote.judge(&[249_999, 0, 750_001]).is_none());
+    assert!(rt; quote.judge(&[400_000, 1, 599_999]).is_none());
+    assert!(rt; quote.impossible_share(&[400_000, 1, 599_999]) == Some(1));
+    assert!(rt; quote.impossible_share(&[400_000, 0, 600_000]).is_none());
+    assert!(rt; quote.misses_share(&[0, 0, 1_000_000]));
+    assert!(rt; !quote.misses_share(&[249_999, 0, 750_001]));
 }
 
 /// A user who has paid in nothing cannot lower any price, and one who owes can set none.

@@ -1,5 +1,6 @@
 -- What is read in a clique is the exact belief, which is at most the whole sum.
 use Rattle.std.proofs.Common.{◌≡◌, ℕ, suc, ◌+◌, ◌-◌, ◌*◌, ◌^◌, ◌<◌, ◌≤◌, Bool, true, false, cond, ◌&&◌, ◌⊎◌, inl, inr, eqb, List, [], ◌∷◌, ◌++◌, map, filter, length, fold, slice_index, slice_index_or, All, refl, sym, ap, ◌∙◌, arith}
+use Rattle.std.specs.Prelude.{nat_le}
 use Rattle.std.proofs.Math.Path.{fun_ext}
 use Rattle.std.specs.List.{list_all, list_any}
 use Rattle.std.proofs.lemmas.Bool.{both_ways, and_parts, or_cases}
@@ -12,8 +13,8 @@ use Rattle.mk_net.specs.Sets.{is_member, no_variables}
 use Rattle.mk_net.specs.Asked.{TradeRatio, ratio_pairs}
 use Rattle.mk_net.specs.Network.{Variable, sizes}
 use Rattle.mk_net.specs.Named.{variable_at}
-use Rattle.mk_exact.specs.States.{plus_over, product_by}
-use Rattle.mk_exact.specs.InitialWeight.{all_states, value_at}
+use Rattle.mk_exact.specs.States.{states, plus_over, product_by}
+use Rattle.mk_exact.specs.InitialWeight.{value_at}
 use Rattle.mk_exact.specs.Events.{holds}
 use Rattle.mk_exact.specs.Lawful.{Lawful}
 use Rattle.mk_exact.proofs.Sums.{plus_over-map, sum_by_is}
@@ -26,7 +27,7 @@ use Rattle.mk_sums.proofs.Items.{joint_is_read, known_are_factors, items_fit}
 use Rattle.mk_table.specs.Cells.{values_at, cells_where}
 use Rattle.mk_tree.specs.Given.{holds as clique_holds, GivenTree, clique_at, link_of, holds_event}
 use Rattle.mk_tree.specs.Tests.{holds_family}
-use Rattle.mk_engine.specs.Meaning.{Meaning, Factor, RowsOf, RatioOf, factor_there, exact_belief, whole_sum}
+use Rattle.mk_engine.specs.Meaning.{Meaning, Factor, RowsOf, SupportOf, RatioOf, factor_there, exact_belief, whole_sum}
 use Rattle.mk_propagate.specs.Shapes.{ShapeOf, IsShapeFor, IsClique, scope_within}
 use Rattle.mk_propagate.specs.Placings.{Placing, PlacedFactor, PlacedPair, IsFactorIn, IsPlacedFactor, IsPlacedPair, IsPlacing, factor_item, pair_item, items_of, placed_there, meaning_of}
 use Rattle.mk_propagate.specs.Flows.{exact_message}
@@ -66,6 +67,9 @@ factor_reads : (network : List Variable) (tree : GivenTree) (k : ℕ) (f : Facto
 factor_reads network tree k (RowsOf x) h a b same =
     let q = and_parts (is_member (clique_at tree k) x) (list_all (is_member (clique_at tree k)) (variable_at network x).parents) h.1 in
     share_reads (clique_holds tree k) a b same network x q.0 q.1
+factor_reads network tree k (SupportOf x) h a b same =
+    let q = and_parts (is_member (clique_at tree k) x) (list_all (is_member (clique_at tree k)) (variable_at network x).parents) h.1 in
+    ap (λ (n : ℕ). cond (nat_le 1 n) 1 0) (share_reads (clique_holds tree k) a b same network x q.0 q.1)
 factor_reads network tree k (RatioOf r) h a b same = ratio_reads (clique_holds tree k) a b same r h.1
 
 -- a test that an element passes, at its place
@@ -154,8 +158,8 @@ pub belief_at_most : (plus : ℕ → ℕ → ℕ) → Lawful plus → (m : Meani
 belief_at_most plus law m event =
     let f : List ℕ → ℕ = λ s. product_by (λ (f : (ℕ → ℕ) → ℕ). f (value_at s)) (map (factor_there m.network) m.factors) in
     let g : List ℕ → ℕ = λ s. product_by (λ (f : Factor). factor_there m.network f (value_at s)) m.factors in
-    let l = chosen_at_most plus law f (λ s. holds m.known s && holds event s) (all_states m.network) in
-    let e : plus_over ◌+◌ 0 f (all_states m.network) ≡ plus_over ◌+◌ 0 g (all_states m.network) =
-    ap (λ (h : List ℕ → ℕ). plus_over ◌+◌ 0 h (all_states m.network)) (fun_ext (λ s. plus_over-map ◌*◌ 1 (λ (f : (ℕ → ℕ) → ℕ). f (value_at s)) (factor_there m.network) m.factors)) in
-    let w = sum_by_is g (all_states m.network) in
+    let l = chosen_at_most plus law f (λ s. holds m.known s && holds event s) (states (sizes m.network)) in
+    let e : plus_over ◌+◌ 0 f (states (sizes m.network)) ≡ plus_over ◌+◌ 0 g (states (sizes m.network)) =
+    ap (λ (h : List ℕ → ℕ). plus_over ◌+◌ 0 h (states (sizes m.network))) (fun_ext (λ s. plus_over-map ◌*◌ 1 (λ (f : (ℕ → ℕ) → ℕ). f (value_at s)) (factor_there m.network) m.factors)) in
+    let w = sum_by_is g (states (sizes m.network)) in
     omega (arith, l, e, w)

@@ -7,7 +7,7 @@ use Rattle.mk_exact.specs.Proper.{IsPairOf, IsRatioOf}
 use Rattle.mk_sums.specs.Joint.{Item, placed_in, where_has}
 use Rattle.mk_tree.specs.Given.{GivenTree, clique_at, holds, holds_event}
 use Rattle.mk_tree.specs.Tests.{holds_family}
-use Rattle.mk_engine.specs.Meaning.{Meaning, Factor, RowsOf, RatioOf, factor_there, max_factors}
+use Rattle.mk_engine.specs.Meaning.{Meaning, Factor, RowsOf, SupportOf, RatioOf, factor_there, max_factors}
 use Rattle.mk_propagate.specs.Shapes.{IsClique}
 
 pub record PlacedFactor : Type 0 where
@@ -54,6 +54,7 @@ factors_in p k = count_by (λ (f : PlacedFactor). f.clique == k) p.factors
 -- a factor of the network, all of whose variables a clique holds
 abbrev pub IsFactorIn : List Variable → GivenTree → ℕ → Factor → Type 0
 IsFactorIn network tree k (RowsOf x) = (x < length network) × (holds_family network x (clique_at tree k) ≡ true)
+IsFactorIn network tree k (SupportOf x) = (x < length network) × (holds_family network x (clique_at tree k) ≡ true)
 IsFactorIn network tree k (RatioOf ratio) = IsRatioOf network ratio × (holds_event (ratio_pairs ratio) (clique_at tree k) ≡ true)
 
 pub record IsPlacedFactor (network : List Variable) (tree : GivenTree) (f : PlacedFactor) : Type 0 where

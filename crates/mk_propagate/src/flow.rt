@@ -5,7 +5,7 @@ ghost use Rattle.mk_net.specs.Trades.{trade_ratio};
 ghost use Rattle.mk_net.specs.Network.{Variable};
 ghost use Rattle.mk_sums.specs.Trees.{sum_of};
 ghost use Rattle.mk_table.specs.Scopes.{cells_in};
-ghost use Rattle.mk_engine.specs.Meaning.{RowsOf, RatioOf};
+ghost use Rattle.mk_engine.specs.Meaning.{RowsOf, SupportOf, RatioOf};
 ghost use Rattle.mk_propagate.specs.Shapes.{IsShapeFor, clique_scope, core_scope, separator_scope};
 ghost use Rattle.mk_propagate.specs.Placings.{Placing, nothing_placed, with_factor_in, with_pair_in, IsPlacedFactor, IsPlacedPair};
 ghost use Rattle.mk_propagate.specs.Flows.{HasPlaced, CanPlace, Places, KeepsMessages};
@@ -127,6 +127,20 @@ impl<R: Semiring> Flow<R> {
     {
         let place = clique as usize - 1;
         self.tables[place].times_rows(net, variable);
+        self.summed[place] = false;
+        self.factors += 1;
+    }
+
+    /// Places the support of a variable's rows in a clique that holds it and its parents.
+    pub fn times_support(&mut self, clique: u32, net: &Network, variable: u32)
+        requires { (p : Placing) × CanPlace R.plus_of self.old p × (p.network ≡ net.now)
+            × IsPlacedFactor net.now self.old.shape.tree (record { clique = clique; factor = SupportOf variable }) }
+        ensures places { (p : Placing) → HasPlaced R.plus_of self.old p → p.network ≡ net.now
+            → Places R.plus_of self.old self.new clique p (with_factor_in clique (SupportOf variable) p) }
+        ensures kept { KeepsMessages self.old self.new }
+    {
+        let place = clique as usize - 1;
+        self.tables[place].times_support(net, variable);
         self.summed[place] = false;
         self.factors += 1;
     }

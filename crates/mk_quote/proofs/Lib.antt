@@ -5,3 +5,4 @@ pub mod Reaching
 pub mod Rightness
 pub mod Spreading
 pub mod Judging
+pub mod Suiting

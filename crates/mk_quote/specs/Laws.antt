@@ -1,8 +1,10 @@
 -- What the bounds of a side give for every exact side that they enclose.
-use Rattle.std.specs.Prelude.{ℕ, ◌≤◌, ◌↔◌}
+use Rattle.std.specs.Prelude.{◌≡◌, ℕ, ◌≤◌, ◌↔◌, false, List, length, Option, None}
+use Rattle.std.specs.List.{AllZip}
 use Rattle.mk_exact.specs.Limits.{Side, IsFairAndSolvent, IsWanted, IsFloorSolvent}
 use Rattle.mk_quote.specs.declared.side.SideBounds.{SideBounds}
 use Rattle.mk_quote.specs.Sides.{AreBoundsOf, AreGraded, AreExact, ratio_for, Serves}
+use Rattle.mk_quote.specs.Values.{impossible_share_in, misses_share_in, SuitsSide}
 
 -- what serves is fair and solvent
 abbrev pub ServedIsFair : Type 0
@@ -18,3 +20,8 @@ WantedServes = (bounds : SideBounds) (side : Side) → AreBoundsOf bounds side �
 abbrev pub ExactlyServes : Type 0
 ExactlyServes = (bounds : SideBounds) (side : Side) → AreBoundsOf bounds side → AreExact bounds
     → (X : ℕ) → Serves bounds X ↔ IsFloorSolvent side X
+
+-- shares of which none stands at a value without a side, and none is missing at one with a side, suit the sides
+abbrev pub SharesSuit : Type 0
+SharesSuit = (values : List (Option SideBounds)) (Xs : List ℕ) → length Xs ≡ length values → impossible_share_in values Xs ≡ None
+    → misses_share_in values Xs ≡ false → AllZip SuitsSide values Xs

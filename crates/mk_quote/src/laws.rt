@@ -1,5 +1,5 @@
 //! What the bounds of a side promise of the exact numbers that they enclose.
-ghost use Rattle.mk_quote.specs.Laws.{ExactlyServes, ServedIsFair, WantedServes};
+ghost use Rattle.mk_quote.specs.Laws.{ExactlyServes, ServedIsFair, SharesSuit, WantedServes};
 
 /// Units that serve by the bounds are fair and solvent for the exact numbers.
 pub fn served_is_fair()
@@ -14,4 +14,9 @@ pub fn wanted_serves()
 /// Where nothing was rounded, what serves is exactly what the exact floor of the units allows.
 pub fn exactly_serves()
     ensures { ExactlyServes }
+{}
+
+/// Shares of which none stands at a value that cannot come, and none is missing at one that can, suit the values.
+pub fn shares_suit()
+    ensures { SharesSuit }
 {}

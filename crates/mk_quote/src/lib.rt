@@ -12,7 +12,7 @@ mod spread_quote;
 mod values;
 
 pub use bounds::Bounds;
-pub use laws::{exactly_serves, served_is_fair, wanted_serves};
+pub use laws::{exactly_serves, served_is_fair, shares_suit, wanted_serves};
 pub use quote::Quote;
 pub use side::SideBounds;
 pub use spread::SpreadQuestion;

@@ -3,15 +3,16 @@ use Rattle.std.specs.Prelude.{ℕ, ◌+◌, ◌≤◌, ◌<◌, List, [], ◌∷
 use Rattle.std.proofs.lemmas.List.Elements.{All-head, All-tail}
 use Rattle.std.proofs.Common.{arith, length-append}
 use Rattle.mk_text.specs.Joined.{items_text, spaced, AreSeveral}
-use Rattle.mk_text.specs.Numbers.{IsShort, IsLong, IsNarrow, price_text, limits_text, IsInterval, interval_text, AreIntervals, intervals_text}
+use Rattle.mk_text.specs.Numbers.{IsLong, IsNarrow, price_text, limits_text, IsInterval, interval_text, AreIntervals, intervals_text}
 use Rattle.mk_text.proofs.LengthLaws.{long_length, pair_length, price_length, limits_length, items_length}
+use Rattle.mk_text.proofs.PartLaws.{interval_ends}
 use Rattle.mk_reply.specs.Refusals.{refusal_text, given_in, IsRefusal}
 use Rattle.mk_reply.specs.Replies.{reply_text, at_text, payment_text, IsRatio, IsPayment, IsReply}
 use Rattle.mk_reply.specs.declared.payments.Payment.{Payment}
 use Rattle.mk_reply.specs.declared.reply.Reply.{Reply}
-use Rattle.mk_reply.specs.declared.reply.Reply.TheVariants.{Joined, Deposited, Withdrawn, Price, Limits, Traded, Bounded, Spreaded, Worst, Resolved, Settled, Refused}
+use Rattle.mk_reply.specs.declared.reply.Reply.TheVariants.{Joined, Deposited, Withdrawn, Price, Limits, Traded, Bounded, Spreaded, Worst, Resolved, Settled, Bound, Refused}
 use Rattle.mk_reply.specs.declared.refusal.Refusal.{Refusal}
-use Rattle.mk_reply.specs.declared.refusal.Refusal.TheVariants.{Syntax, Long, Settled as Over, User, Exists, Users, Unknown, Twice, Stale, Resolved as Known, Impossible, Wide, Range, Full, Beyond, Short, Unresolved, NoVariable, Numbers, Sum, Outside, Memory}
+use Rattle.mk_reply.specs.declared.refusal.Refusal.TheVariants.{Syntax, Long, Settled as Over, User, Exists, Users, Unknown, Twice, Stale, Resolved as Known, Impossible, Wide, Range, Full, Beyond, Short, Unresolved, NoVariable, Numbers, Sum, Outside, Sure, Memory}
 
 at_length : (at : ℕ) → IsLong at → length (at_text at) ≤ 23
 at_length at long = simp length-append (omega (arith, long_length at long))
@@ -28,7 +29,9 @@ ratio_length : (n : ℕ) → IsRatio n → length (decimal n) ≤ 19
 ratio_length n fits = long_length n fits.below
 
 interval_length : (interval : ℕ × ℕ) → IsInterval interval → length (interval_text interval) ≤ 40
-interval_length interval fits = limits_length (Some interval) fits
+interval_length interval fits =
+    let ends_below = interval_ends interval fits in
+    simp length-append (omega (arith, long_length (interval.0) (omega (arith, ends_below.0)), long_length (interval.1) (omega (arith, ends_below.1))))
 
 ratios_length : (factors : List ℕ) → AreSeveral IsRatio factors → length (spaced decimal factors) ≤ 319
 ratios_length [] fits = omega arith
@@ -71,6 +74,7 @@ refusal_length (Numbers given) fits = simp length-append (omega (arith, narrow_l
 refusal_length (Sum sum) fits = simp length-append (omega (arith, narrow_length sum (omega (arith, fits))))
 refusal_length (Outside intervals) fits =
     omega (arith, length-append (codes "outside ") (intervals_text (given_in intervals)), intervals_length (given_in intervals) fits)
+refusal_length (Sure pair) fits = simp length-append (omega (arith, pair_length pair fits))
 refusal_length Memory fits = omega arith
 
 two_lengths : (a b : List ℕ) (m n : ℕ) → length a ≤ m → length b ≤ n → length (a ++ b) ≤ m + n
@@ -96,6 +100,7 @@ reply_length (Spreaded factors at) fits =
     let both = two_lengths (spaced decimal factors.items) (at_text at) 319 23 (ratios_length factors.items fits.0) (at_length at fits.1) in
     omega (arith, length-append (codes "spread ") (spaced decimal factors.items ++ at_text at), both)
 reply_length (Worst low high) fits = simp length-append (omega (arith, long_length low fits.0, long_length high fits.1))
+reply_length (Bound low high) fits = simp length-append (omega (arith, long_length low fits.0, long_length high fits.1))
 reply_length (Resolved pair at) fits =
     simp length-append (omega (arith, pair_length pair fits.0, long_length at fits.1))
 reply_length (Settled at payments) fits =

@@ -13,7 +13,7 @@ use Rattle.mk_text.specs.Numbers.{AreIntervals, intervals_text}
 use Rattle.mk_reply.specs.Refusals.{refusal_text, given_in, IsRefusal}
 use Rattle.mk_reply.specs.Reading.{read_long, read_narrow, read_held, read_stale, plain_forms, named_forms, paired_forms, numbered_forms, spread_out_forms, boxed, read_spread_out, read_numbered, read_paired, read_named, read_refusal}
 use Rattle.mk_reply.specs.declared.refusal.Refusal.{Refusal}
-use Rattle.mk_reply.specs.declared.refusal.Refusal.TheVariants.{Syntax, Long, Settled, User, Exists, Users, Unknown, Twice, Stale, Resolved, Impossible, Wide, Range, Full, Beyond, Short, Unresolved, NoVariable, Numbers, Sum, Outside, Memory}
+use Rattle.mk_reply.specs.declared.refusal.Refusal.TheVariants.{Syntax, Long, Settled, User, Exists, Users, Unknown, Twice, Stale, Resolved, Impossible, Wide, Range, Full, Beyond, Short, Unresolved, NoVariable, Numbers, Sum, Outside, Sure, Memory}
 
 pub long_reads : Reads read_long decimal IsLong EndsWord
 unfolding read_long
@@ -100,7 +100,10 @@ paired_takes : Takes read_paired
 unfolding read_paired
 paired_takes = choose_takes refusal_text IsRefusal paired_forms read_numbered (
   spelled_by (codes "name ") (λ pair. Unknown pair) pair_reads (λ pair fits. (refl, fits)),
-  (spelled_by (codes "impossible ") (λ pair. Impossible pair) pair_reads (λ pair fits. (refl, fits)), tt),
+  (
+    spelled_by (codes "impossible ") (λ pair. Impossible pair) pair_reads (λ pair fits. (refl, fits)),
+    (spelled_by (codes "sure ") (λ pair. Sure pair) pair_reads (λ pair fits. (refl, fits)), tt),
+  ),
 ) numbered_takes
 
 named_takes : Takes read_named
@@ -166,6 +169,7 @@ refusal_last (Numbers given) fits = made_last (λ given. Numbers given) short_re
 refusal_last (Sum sum) fits = made_last (λ sum. Sum sum) short_reads sum fits refl
 refusal_last (Outside None) fits = made_last (λ intervals. Outside (boxed intervals)) intervals_reads None fits ends_several
 refusal_last (Outside (Some intervals)) fits = made_last (λ intervals. Outside (boxed intervals)) intervals_reads (Some (intervals.items)) fits ends_several
+refusal_last (Sure pair) fits = made_last (λ pair. Sure pair) pair_reads pair fits refl
 refusal_last Memory fits = refl
 
 -- a refusal is the last thing of a text

@@ -10,14 +10,13 @@ use Rattle.mk_text.specs.Words.{after, EndsWord}
 use Rattle.mk_text.specs.Reading.{Finds, Read, both, behind, made, nothing, read_name, read_price, read_range, read_units, read_several, read_intervals}
 use Rattle.mk_text.proofs.ReadingLaws.{Took, Reads, Tells, Spelled, IsMade, BothFit, both_text, behind_text, both_reads, behind_reads, passed_reads, made_reads, reads_same, AreItems, EndsList, list_reads, spelled_by, choose_takes, nothing_takes, made_last, whole_one, whole_found, whole_nothing, whole_left}
 use Rattle.mk_text.proofs.WordLemmas.{after_begins}
-use Rattle.mk_text.proofs.PartLaws.{EndsSeveral, IsUnit, name_reads, pair_reads, limits_reads, price_reads, range_reads, units_reads, several_reads, number_goes_on, intervals_reads, both_ends, AreBelow}
-use Rattle.mk_reply.specs.Refusals.{given_in}
+use Rattle.mk_text.proofs.PartLaws.{EndsSeveral, name_reads, pair_reads, limits_reads, price_reads, range_reads, units_reads, several_reads, number_goes_on, intervals_reads, both_ends, AreBelow}
 use Rattle.mk_reply.specs.Replies.{reply_text, at_text, payment_text, IsRatio, IsPayment, IsReply, IsUnread}
-use Rattle.mk_reply.specs.Reading.{read_long, dated, boxed, read_joined, read_moved, read_prices, read_limited, read_traded, read_bounded, read_spreaded, read_worst, read_resolved, read_payment, read_payments, read_settled, read_refusal, other_forms, read_other, read_form}
+use Rattle.mk_reply.specs.Reading.{read_long, dated, boxed, read_joined, read_moved, read_prices, read_limited, read_traded, read_bounded, read_spreaded, read_worst, read_bound, read_resolved, read_payment, read_payments, read_settled, read_refusal, other_forms, read_other, read_form}
 use Rattle.mk_reply.proofs.RefusalLaws.{long_reads, narrow_reads, given_same, refusal_reads}
 use Rattle.mk_reply.specs.declared.payments.Payment.{Payment}
 use Rattle.mk_reply.specs.declared.reply.Reply.{Reply}
-use Rattle.mk_reply.specs.declared.reply.Reply.TheVariants.{Joined, Deposited, Withdrawn, Price, Limits, Traded, Bounded, Spreaded, Worst, Resolved, Settled, Refused}
+use Rattle.mk_reply.specs.declared.reply.Reply.TheVariants.{Joined, Deposited, Withdrawn, Price, Limits, Traded, Bounded, Spreaded, Worst, Resolved, Settled, Bound, Refused}
 use Rattle.mk_reply.specs.declared.unread.Unread.{Unread}
 use Rattle.mk_reply.specs.declared.unread.Unread.TheVariants.{Syntax, Memory}
 
@@ -74,8 +73,8 @@ traded_text = both_text decimal (behind_text (codes " ") (dated_text decimal))
 traded_parts : Reads (both read_units (behind (codes " ") (dated read_units))) traded_text (BothFit IsRatio (BothFit IsRatio IsLong)) EndsWord
 traded_parts = both_reads ratio_reads (behind_reads (codes " ") (dated_reads ratio_reads)) (λ parts rest fits ends. refl)
 
-worst_parts : Reads (read_range (2 ^ 63)) both_ends (AreBelow (2 ^ 63)) EndsWord
-worst_parts = range_reads (2 ^ 63) (lit≤ tt)
+ends_parts : Reads (read_range (2 ^ 63)) both_ends (AreBelow (2 ^ 63)) EndsWord
+ends_parts = range_reads (2 ^ 63) (lit≤ tt)
 
 -- payments
 abbrev paid_text : List ℕ × ((ℕ × ℕ) × ℕ) → List ℕ
@@ -83,7 +82,7 @@ paid_text = both_text word_text (behind_text (codes " ") (both_text both_ends (b
 
 paid_parts : Reads (both read_name (behind (codes " ") (both (read_range (2 ^ 63)) (behind (codes " paid ") read_long)))) paid_text
     (BothFit IsName (BothFit (AreBelow (2 ^ 63)) IsLong)) EndsWord
-paid_parts = both_reads name_reads (behind_reads (codes " ") (both_reads worst_parts (behind_reads (codes " paid ") long_reads) (λ paid rest fits ends. refl)))
+paid_parts = both_reads name_reads (behind_reads (codes " ") (both_reads ends_parts (behind_reads (codes " paid ") long_reads) (λ paid rest fits ends. refl)))
     (λ parts rest fits ends. refl)
 
 -- a payment, whatever is paid
@@ -165,7 +164,11 @@ spreaded_form = spelled_by (codes "spread ") (λ parts. Spreaded (record { items
 
 worst_form : OfReply (codes "worst ", read_worst)
 unfolding read_worst
-worst_form = spelled_by (codes "worst ") (λ range. Worst (range.0) (range.1)) worst_parts (λ range fits. (refl, fits))
+worst_form = spelled_by (codes "worst ") (λ range. Worst (range.0) (range.1)) ends_parts (λ range fits. (refl, fits))
+
+bound_form : OfReply (codes "bound ", read_bound)
+unfolding read_bound
+bound_form = spelled_by (codes "bound ") (λ range. Bound (range.0) (range.1)) ends_parts (λ range fits. (refl, fits))
 
 resolved_form : OfReply (codes "resolve ", read_resolved)
 unfolding read_resolved
@@ -187,7 +190,7 @@ other_takes = choose_takes reply_text IsReply other_forms nothing (
     spelled_by (codes "deposit ") (λ parts. Deposited (parts.0) (parts.1.0) (parts.1.1)) moved_reads (λ parts fits. (refl, (fits.0, fits.1.0, fits.1.1))),
     (
       spelled_by (codes "withdraw ") (λ parts. Withdrawn (parts.0) (parts.1.0) (parts.1.1)) moved_reads (λ parts fits. (refl, (fits.0, fits.1.0, fits.1.1))),
-      (prices_form, (limited_form, (traded_form, (bounded_form, (spreaded_form, (worst_form, (resolved_form, (refused_form, tt)))))))),
+      (prices_form, (limited_form, (traded_form, (bounded_form, (spreaded_form, (worst_form, (resolved_form, (bound_form, (refused_form, tt))))))))),
     ),
   ),
 )
@@ -202,7 +205,7 @@ unfolding after
 ends_payments = record { follows = refl; missing = refl }
 
 form_last : (r : Reply) → IsReply r → read_form (reply_text r) ≡ Some (r, [])
-unfolding read_form read_other read_joined read_prices read_limited read_traded read_bounded read_spreaded read_worst read_resolved read_settled after
+unfolding read_form read_other read_joined read_prices read_limited read_traded read_bounded read_spreaded read_worst read_bound read_resolved read_settled after
 form_last (Joined user at) fits = made_last (λ parts. Joined (parts.0) (parts.1)) (dated_reads name_reads) (user, at) fits refl
 form_last (Deposited user bits at) fits =
     made_last (λ parts. Deposited (parts.0) (parts.1.0) (parts.1.1)) moved_reads (user, (bits, at)) (fits.0, (fits.1, fits.2)) refl
@@ -215,10 +218,11 @@ form_last (Traded hit miss at) fits =
 form_last (Bounded None at) fits = made_last (λ parts. Bounded (boxed (parts.0)) (parts.1)) bounded_parts (None, at) fits refl
 form_last (Bounded (Some intervals) at) fits = made_last (λ parts. Bounded (boxed (parts.0)) (parts.1)) bounded_parts (Some (intervals.items), at) fits refl
 form_last (Spreaded factors at) fits = made_last (λ parts. Spreaded (record { items = parts.0 }) (parts.1)) spreaded_parts (factors.items, at) fits refl
-form_last (Worst low high) fits = made_last (λ range. Worst (range.0) (range.1)) worst_parts (low, high) fits refl
+form_last (Worst low high) fits = made_last (λ range. Worst (range.0) (range.1)) ends_parts (low, high) fits refl
 form_last (Resolved pair at) fits = made_last (λ parts. Resolved (parts.0) (parts.1)) (dated_reads pair_reads) (pair, at) fits refl
 form_last (Settled at payments) fits = made_last (λ parts. Settled (parts.0) (parts.1)) settled_parts (at, payments)
     (fits.0, record { few = fits.1.few; each = fits.1.each }) ends_payments
+form_last (Bound low high) fits = made_last (λ range. Bound (range.0) (range.1)) ends_parts (low, high) fits refl
 form_last (Refused why) fits = made_last (λ why. Refused why) refusal_reads why fits refl
 
 pub form_tells : Tells read_form reply_text IsReply

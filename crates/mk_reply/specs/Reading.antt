@@ -4,10 +4,10 @@ use Rattle.arrayvec.specs.ArrayVec.{ArrayVec}
 use Rattle.mk_text.specs.Reading.{Read, both, behind, made, passed, given, never, items, choose, nothing, read_name, read_number, read_short, read_units, read_pair, read_price, read_range, read_limits, read_several, read_intervals}
 use Rattle.mk_net.specs.Bounds.{max_users}
 use Rattle.mk_reply.specs.declared.refusal.Refusal.{Refusal}
-use Rattle.mk_reply.specs.declared.refusal.Refusal.TheVariants.{Syntax, Long, Settled, User, Exists, Users, Unknown, Twice, Stale, Resolved, Impossible, Wide, Range, Full, Beyond, Short, Unresolved, NoVariable, Numbers, Sum, Outside, Memory}
+use Rattle.mk_reply.specs.declared.refusal.Refusal.TheVariants.{Syntax, Long, Settled, User, Exists, Users, Unknown, Twice, Stale, Resolved, Impossible, Wide, Range, Full, Beyond, Short, Unresolved, NoVariable, Numbers, Sum, Outside, Sure, Memory}
 use Rattle.mk_reply.specs.declared.payments.Payment.{Payment}
 use Rattle.mk_reply.specs.declared.reply.Reply.{Reply}
-use Rattle.mk_reply.specs.declared.reply.Reply.TheVariants.{Joined, Deposited, Withdrawn, Price, Limits as Limited, Traded, Bounded, Spreaded, Worst, Resolved as ResolvedPair, Settled as AllSettled, Refused}
+use Rattle.mk_reply.specs.declared.reply.Reply.TheVariants.{Joined, Deposited, Withdrawn, Price, Limits as Limited, Traded, Bounded, Spreaded, Worst, Resolved as ResolvedPair, Settled as AllSettled, Bound, Refused}
 
 unfoldable pub read_long : Read ℕ
 read_long = read_number (2 ^ 63)
@@ -50,6 +50,7 @@ abbrev pub paired_forms : List (List ℕ × Read Refusal)
 paired_forms =
     (codes "name ", made (λ pair. Unknown pair) read_pair)
     ∷ (codes "impossible ", made (λ pair. Impossible pair) read_pair)
+    ∷ (codes "sure ", made (λ pair. Sure pair) read_pair)
     ∷ []
 
 abbrev pub numbered_forms : List (List ℕ × Read Refusal)
@@ -113,6 +114,9 @@ read_spreaded = made (λ parts. Spreaded (record { items = parts.0 }) (parts.1))
 unfoldable pub read_worst : Read Reply
 read_worst = made (λ range. Worst (range.0) (range.1)) (read_range (2 ^ 63))
 
+unfoldable pub read_bound : Read Reply
+read_bound = made (λ range. Bound (range.0) (range.1)) (read_range (2 ^ 63))
+
 unfoldable pub read_resolved : Read Reply
 read_resolved = made (λ parts. ResolvedPair (parts.0) (parts.1)) (dated read_pair)
 
@@ -140,6 +144,7 @@ other_forms =
     ∷ (codes "spread ", read_spreaded)
     ∷ (codes "worst ", read_worst)
     ∷ (codes "resolve ", read_resolved)
+    ∷ (codes "bound ", read_bound)
     ∷ (codes "refused ", made (λ why. Refused why) read_refusal)
     ∷ []
 

@@ -7,7 +7,7 @@ use Rattle.mk_text.specs.Joined.{◌&◌}
 use Rattle.mk_text.specs.Numbers.{IsShort, IsLong, IsNarrow, AreLimits, limits_text, AreIntervals, intervals_text}
 use Rattle.mk_text.specs.Texts.{IsPairText, pair_text}
 use Rattle.mk_reply.specs.declared.refusal.Refusal.{Refusal}
-use Rattle.mk_reply.specs.declared.refusal.Refusal.TheVariants.{Syntax, Long, Settled, User, Exists, Users, Unknown, Twice, Stale, Resolved, Impossible, Wide, Range, Full, Beyond, Short, Unresolved, NoVariable, Numbers, Sum, Outside, Memory}
+use Rattle.mk_reply.specs.declared.refusal.Refusal.TheVariants.{Syntax, Long, Settled, User, Exists, Users, Unknown, Twice, Stale, Resolved, Impossible, Wide, Range, Full, Beyond, Short, Unresolved, NoVariable, Numbers, Sum, Outside, Sure, Memory}
 
 -- the intervals that are given, if there are any
 abbrev pub given_in : Option (ArrayVec (ℕ × ℕ)) → Option (List (ℕ × ℕ))
@@ -35,6 +35,7 @@ refusal_text (NoVariable variable) = codes "variable " & variable
 refusal_text (Numbers given) = codes "numbers " & decimal given
 refusal_text (Sum sum) = codes "sum " & decimal sum
 refusal_text (Outside intervals) = codes "outside " & intervals_text (given_in intervals)
+refusal_text (Sure pair) = codes "sure " & pair_text pair
 refusal_text Memory = codes "memory"
 
 -- the refusals that are read
@@ -60,4 +61,5 @@ IsRefusal (NoVariable variable) = IsName variable
 IsRefusal (Numbers given) = IsShort given
 IsRefusal (Sum sum) = IsShort sum
 IsRefusal (Outside intervals) = AreIntervals (given_in intervals)
+IsRefusal (Sure pair) = IsPairText pair
 IsRefusal Memory = ⊤

@@ -8,7 +8,7 @@ use Rattle.mk_text.specs.Texts.{IsPairText, pair_text}
 use Rattle.mk_reply.specs.Refusals.{refusal_text, given_in, IsRefusal}
 use Rattle.mk_reply.specs.declared.payments.Payment.{Payment}
 use Rattle.mk_reply.specs.declared.reply.Reply.{Reply}
-use Rattle.mk_reply.specs.declared.reply.Reply.TheVariants.{Joined, Deposited, Withdrawn, Price, Limits, Traded, Bounded, Spreaded, Worst, Resolved, Settled, Refused}
+use Rattle.mk_reply.specs.declared.reply.Reply.TheVariants.{Joined, Deposited, Withdrawn, Price, Limits, Traded, Bounded, Spreaded, Worst, Resolved, Settled, Bound, Refused}
 use Rattle.mk_reply.specs.declared.unread.Unread.{Unread}
 use Rattle.mk_reply.specs.declared.unread.Unread.TheVariants.{Syntax, Memory}
 
@@ -31,6 +31,7 @@ reply_text (Spreaded factors at) = codes "spread " & spaced decimal factors.item
 reply_text (Worst low high) = codes "worst " & range_text low high
 reply_text (Resolved pair at) = codes "resolve " & pair_text pair & at_text at
 reply_text (Settled at payments) = codes "settle" & at_text at & items_text (codes ", ") payment_text payments
+reply_text (Bound low high) = codes "bound " & range_text low high
 reply_text (Refused why) = codes "refused " & refusal_text why
 
 -- a ratio of a trade
@@ -66,6 +67,7 @@ IsReply (Spreaded factors at) = AreSeveral IsRatio factors.items × IsLong at
 IsReply (Worst low high) = IsLong low × IsLong high
 IsReply (Resolved pair at) = IsPairText pair × IsLong at
 IsReply (Settled at payments) = IsLong at × ArePayments payments
+IsReply (Bound low high) = IsLong low × IsLong high
 IsReply (Refused why) = IsRefusal why
 
 -- bytes that are not read: the text of no reply, or the front of a settlement, for which memory was wanting

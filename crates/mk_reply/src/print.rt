@@ -3,7 +3,7 @@
 ghost use Rattle.std.specs.Prelude.{◌≡◌, ◌+◌, ◌*◌, ◌<◌, ◌≤◌, ◌++◌, length, codes, decimal};
 ghost use Rattle.arrayvec.specs.ArrayString.{array_string_len};
 ghost use Rattle.mk_text.specs.Joined.{items_text};
-ghost use Rattle.mk_text.specs.Numbers.{price_text, limits_text, intervals_text};
+ghost use Rattle.mk_text.specs.Numbers.{price_text, range_text, limits_text, intervals_text};
 ghost use Rattle.mk_text.specs.Texts.{pair_text};
 ghost use Rattle.mk_reply.specs.Refusals.{refusal_text, given_in};
 ghost use Rattle.mk_reply.specs.Replies.{reply_text, at_text, payment_text};
@@ -56,10 +56,7 @@ pub fn print_reply(reply: &Reply, out: &mut ArrayString<32768>)
             put_units(out, factors.as_slice());
             put_at(out, *at);
         }
-        Reply::Worst { low, high } => {
-            out.push_str("worst ");
-            put_range(out, *low, *high);
-        }
+        Reply::Worst { low, high } => put_ends(out, "worst ", *low, *high),
         Reply::Resolved { pair, at } => {
             put_paired(out, "resolve ", pair);
             put_at(out, *at);
@@ -69,6 +66,7 @@ pub fn print_reply(reply: &Reply, out: &mut ArrayString<32768>)
             put_at(out, *at);
             put_payments(out, payments.rows());
         }
+        Reply::Bound { low, high } => put_ends(out, "bound ", *low, *high),
         Reply::Refused { why } => {
             out.push_str("refused ");
             put_refusal(out, why);
@@ -101,6 +99,15 @@ fn put_counted(out: &mut Text, word: &str, number: u64)
 {
     out.push_str(word);
     put_number(out, number);
+}
+
+fn put_ends(out: &mut Text, word: &str, low: u64, high: u64)
+    requires { array_string_len out.old + length word.now + 42 ≤ 32768 }
+    ensures text { out.new.bytes ≡ out.old.bytes ++ (word.now ++ range_text low high) }
+    ensures growth { array_string_len out.new ≤ array_string_len out.old + length word.now + 42 }
+{
+    out.push_str(word);
+    put_range(out, low, high);
 }
 
 fn put_limited(out: &mut Text, word: &str, limits: Option<(u32, u32)>)
@@ -206,6 +213,7 @@ fn put_refusal(out: &mut Text, why: &Refusal)
         Refusal::Numbers { given } => put_counted(out, "numbers ", *given as u64),
         Refusal::Sum { sum } => put_counted(out, "sum ", *sum as u64),
         Refusal::Outside { intervals } => put_given(out, "outside ", intervals),
+        Refusal::Sure { pair } => put_paired(out, "sure ", pair),
         Refusal::Memory => out.push_str("memory"),
     }
 }

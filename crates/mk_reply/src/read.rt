@@ -3,7 +3,7 @@
 ghost use Rattle.std.specs.Prelude.{◌≡◌, ℕ, List, IfOk, IfErr, option_map, [], ◌++◌, codes};
 ghost use Rattle.mk_text.specs.Reading.{Finds, behind};
 ghost use Rattle.mk_reply.specs.Replies.{IsReply, reply_text, IsUnread};
-ghost use Rattle.mk_reply.specs.Reading.{read_long, read_joined, read_moved, read_prices, read_limited, read_traded, read_bounded, read_spreaded, read_worst, read_resolved, read_payment, read_payments, read_settled, read_other, read_form};
+ghost use Rattle.mk_reply.specs.Reading.{read_long, read_joined, read_moved, read_prices, read_limited, read_traded, read_bounded, read_spreaded, read_worst, read_bound, read_resolved, read_payment, read_payments, read_settled, read_other, read_form};
 
 use crate::payments::{Payment, Payments};
 use crate::read_refusal::{long, narrow, refusal};
@@ -77,6 +77,9 @@ fn other(reader: &mut Reader) -> Option<Reply>
     }
     if reader.skip(b"resolve ") {
         return resolved(reader);
+    }
+    if reader.skip(b"bound ") {
+        return bound(reader);
     }
     if reader.skip(b"refused ") {
         let why = refusal(reader)?;
@@ -167,6 +170,14 @@ fn worst(reader: &mut Reader) -> Option<Reply>
 {
     let (low, high) = reader.range(1 << 63)?;
     Some(Reply::Worst { low, high })
+}
+
+#[tactic(auto, unfolding(crate::specs::Reading::read_bound))]
+fn bound(reader: &mut Reader) -> Option<Reply>
+    ensures { Finds result reader.new (read_bound reader.old) }
+{
+    let (low, high) = reader.range(1 << 63)?;
+    Some(Reply::Bound { low, high })
 }
 
 #[tactic(auto, unfolding(crate::specs::Reading::read_resolved))]

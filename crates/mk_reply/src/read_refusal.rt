@@ -75,6 +75,10 @@ fn paired(reader: &mut Reader) -> Option<Refusal>
         let pair = reader.pair()?;
         return Some(Refusal::Impossible { pair });
     }
+    if reader.skip(b"sure ") {
+        let pair = reader.pair()?;
+        return Some(Refusal::Sure { pair });
+    }
     numbered(reader)
 }
 

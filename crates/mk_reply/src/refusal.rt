@@ -29,7 +29,7 @@ pub enum Refusal {
     Stale { named: u32, now: u64 },
     /// The variable is resolved.
     Resolved { variable: Name },
-    /// The pair contradicts a resolution.
+    /// The pair contradicts a resolution, or cannot come with the pairs before it.
     Impossible { pair: PairText },
     /// No clique holds the question.
     Wide,
@@ -51,6 +51,8 @@ pub enum Refusal {
     Sum { sum: u32 },
     /// The numbers are outside the bounds that judge this spread.
     Outside { intervals: Option<Intervals> },
+    /// No other value of the pair's variable than this one can come.
+    Sure { pair: PairText },
     /// Memory was wanting.
     Memory,
 }

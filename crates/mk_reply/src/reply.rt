@@ -66,6 +66,11 @@ pub enum Reply {
         at: u64,
         payments: Payments,
     },
+    /// An interval that holds the most that the operator can lose, in points.
+    Bound {
+        low: u64,
+        high: u64,
+    },
     /// The line is refused.
     Refused {
         why: Refusal,

@@ -1,5 +1,5 @@
 -- In a ready standing every line has an allowed reply.
-use Rattle.std.proofs.Common.{◌≡◌, ℕ, ◌+◌, ◌<◌, ◌⊎◌, inl, inr, true, false, List, [], ◌∷◌, Option, Some, None, IsSomeAnd, MatchOption, length, refl, sym, subst}
+use Rattle.std.proofs.Common.{◌≡◌, ℕ, ◌+◌, ◌<◌, ◌≤◌, ◌⊎◌, inl, inr, true, false, List, [], ◌∷◌, Option, Some, None, IsSomeAnd, MatchOption, length, refl, sym, subst}
 use Rattle.std.specs.Prelude.{⊤}
 use Rattle.std.specs.List.{AllByRecursion, AllZip, enumerate_from}
 use Rattle.arrayvec.specs.ArrayVec.{ArrayVec}
@@ -7,56 +7,69 @@ use Rattle.mk_net.specs.declared.words.QuestionText.{QuestionText}
 use Rattle.mk_net.specs.Events.{speaks_of, AreApart}
 use Rattle.mk_net.specs.Network.{Variable}
 use Rattle.mk_net.specs.Asked.{Asked}
-use Rattle.mk_exact.specs.Events.{always}
+use Rattle.mk_exact.specs.InitialWeight.{initial_total}
+use Rattle.mk_exact.specs.Risk.{CoversBound}
+use Rattle.mk_exact.specs.Events.{holds, always, with_target, without_target}
 use Rattle.mk_exact.specs.History.{Entry, users, resolutions, revision}
-use Rattle.mk_exact.specs.Weight.{IsSmall}
+use Rattle.mk_exact.specs.Weight.{IsSmall, possible_states}
 use Rattle.mk_exact.specs.Factors.{Fraction, factor, factor_with, least_gain}
 use Rattle.mk_exact.specs.Limits.{Inside}
 use Rattle.mk_exact.specs.Sides.{AreRightLimits}
 use Rattle.mk_exact.specs.Accepted.{Covers, IsMost}
 use Rattle.mk_exact.specs.Market.{Market, network_of}
-use Rattle.mk_exact.specs.Laws.{AgreesWith}
-use Rattle.mk_exact.specs.Existing.{IsSafeFactor, CanBeAsked, HasFairPair}
+use Rattle.mk_exact.specs.Proper.{IsProper}
+use Rattle.mk_exact.proofs.Coming.{state_of}
+use Rattle.mk_exact.specs.Existing.{IsSafeFactor, CanBeAsked, CanMove, HasFairPair}
 use Rattle.mk_exact.proofs.ExistNumbers.{cash_is_covered, withdrawal_is_judged, most_in}
 use Rattle.mk_exact.proofs.ExistLimits.{limits_judge}
 use Rattle.mk_exact.proofs.ExistMarkets.{price_exists, least_gain_exists, right_limits_exist}
 use Rattle.mk_exact.proofs.ExistOutcome.{outcome_exists}
+use Rattle.mk_exact.proofs.Risk.{bound_exists}
 use Rattle.mk_spread.specs.Spreads.{SpreadAsked}
 use Rattle.mk_spread.specs.Bounds.{Intervals, InsideEach}
 use Rattle.mk_spread.specs.Markets.{AreRightBoundsOf, HasFairList, CanBeSpread}
 use Rattle.mk_spread.proofs.Exist.{right_bounds_exist, bounds_judge}
 use Rattle.mk_command.specs.declared.command.Command.{Command}
-use Rattle.mk_command.specs.declared.command.Command.TheVariants.{User, Deposit, Withdraw, Price, Limits, Edit, Bounds, Spread, Worst, Resolve, Settle}
+use Rattle.mk_command.specs.declared.command.Command.TheVariants.{User, Deposit, Withdraw, Price, Limits, Edit, Bounds, Spread, Worst, Resolve, Settle, Bound}
 use Rattle.mk_reply.specs.declared.refusal.Refusal.{Refusal}
 use Rattle.mk_reply.specs.declared.refusal.Refusal.TheVariants.{Syntax, Long, Beyond, Outside, Short}
 use Rattle.mk_reply.specs.declared.payments.Payment.{Payment}
 use Rattle.mk_reply.specs.declared.reply.Reply.{Reply}
-use Rattle.mk_reply.specs.declared.reply.Reply.TheVariants.{Joined, Deposited, Withdrawn, Price as Priced, Limits as Limited, Traded, Bounded, Spreaded, Worst as Worsted, Resolved, Settled, Refused}
+use Rattle.mk_reply.specs.declared.reply.Reply.TheVariants.{Joined, Deposited, Withdrawn, Price as Priced, Limits as Limited, Traded, Bounded, Spreaded, Worst as Worsted, Resolved, Settled, Bound as Risked, Refused}
 use Rattle.mk_reply.specs.Refusals.{given_in}
-use Rattle.mk_rules.specs.Refusals.{pairs_of, names_in, question_named, spread_named, user_number, unknown, twice, resolved, impossible, refusals, first_refusal}
+use Rattle.mk_rules.specs.Refusals.{pairs_of, names_in, question_named, spread_named, user_number, unknown, twice, resolved, impossible_together, decided, refusals, first_refusal}
 use Rattle.mk_rules.specs.Quotes.{Interval, last_quote, current_limits, current_bounds}
 use Rattle.mk_rules.specs.Answers.{IsTrade, IsJudged, IsJudgedAfresh, IsSpreadTrade, IsSpreadJudged, IsSpreadJudgedAfresh, IsOutside, IsWithdrawal, IsPrice, IsLimits, IsBounds, IsWorst, IsPayment, IsSettlement, IsAnswer}
 use Rattle.mk_rules.specs.Transcript.{Standing, Line, OfCommand, NoCommand, LongLine, after}
 use Rattle.mk_rules.specs.Standings.{IsMarket, IsReady}
 use Rattle.mk_rules.specs.Laws.{HasReply, HasRun}
-use Rattle.mk_rules.proofs.Unrefused.{none_applies, question_exists, question_known, target_named, not_resolved, condition_agrees, all_resolved}
+use Rattle.mk_rules.proofs.Unrefused.{none_applies, question_exists, question_known, target_named, not_resolved, not_faulted, all_resolved}
+use Rattle.mk_rules.proofs.Coming.{some_where, both_sides, two_values}
 use Rattle.mk_rules.proofs.Apart.{condition_apart, target_apart}
 use Rattle.mk_rules.proofs.Spreadable.{spread_exists, can_be_spread}
 use Rattle.mk_rules.proofs.Quoted.{current_right, current_bounds_right}
 use Rattle.mk_rules.proofs.Ready.{ready_keeps}
 
 -- a question that meets no refusal can be asked
-pub can_be_asked : (network : List Variable) (H : List Entry) (q : QuestionText) (asked : Asked) → question_named network q ≡ Some asked → unknown network (pairs_of q) ≡ None
-    → twice (names_in (pairs_of q)) ≡ None → resolved network H q.target.variable ≡ None → impossible network H q.condition.items ≡ None → CanBeAsked network H asked
-can_be_asked network H q asked named known once unsettled possible =
+pub can_be_asked : (network : List Variable) (H : List Entry) (q : QuestionText) (asked : Asked) → IsProper network H → question_named network q ≡ Some asked → unknown network (pairs_of q) ≡ None
+    → twice (names_in (pairs_of q)) ≡ None → resolved network H q.target.variable ≡ None → impossible_together network H q.condition.items ≡ None → CanBeAsked network H asked
+can_be_asked network H q asked proper named known once unsettled alive =
     let parts = target_named network q asked named in
     record {
-      in_range = question_known network q asked known named;
-      apart = subst AreApart (sym parts.1) (condition_apart network q once);
-      target_apart = subst (λ (ps : List _). speaks_of ps asked.target.variable ≡ false) (sym parts.1) (target_apart network q asked.target parts.0 once);
-      unresolved = not_resolved network H q.target asked.target parts.0 unsettled;
-      agrees = subst (AllByRecursion (λ p. AllByRecursion (AgreesWith p) (resolutions H))) (sym parts.1) (condition_agrees network H q.condition.items possible);
+      in_order = record {
+        in_range = question_known network q asked known named;
+        apart = subst AreApart (sym parts.1) (condition_apart network q once);
+        target_apart = subst (λ (ps : List _). speaks_of ps asked.target.variable ≡ false) (sym parts.1) (target_apart network q asked.target parts.0 once);
+        unresolved = not_resolved network H q.target asked.target parts.0 unsettled;
+      };
+      some_state = subst (λ (ps : List _). 1 ≤ length (possible_states network H (holds ps))) (sym parts.1) (some_where network H proper q.condition.items alive);
     }
+
+-- and moved, where neither side is without a state
+pub can_move : (network : List Variable) (H : List Entry) (q : QuestionText) (asked : Asked) → CanBeAsked network H asked → question_named network q ≡ Some asked → decided network H q ≡ None → CanMove network H asked
+can_move network H q asked can named free =
+    let sides = both_sides network H q asked named free in
+    record { can_ask = can; some_hit = state_of network H (with_target asked) (sides.0); some_miss = state_of network H (without_target asked) (sides.1) }
 
 module _ (market : Market) (now : Standing) (is_market : IsMarket market) (ready : IsReady market now) where
   abbrev network : List Variable
@@ -97,7 +110,7 @@ module _ (market : Market) (now : Standing) (is_market : IsMarket market) (ready
       at (inr outside) = (Refused (Beyond limits), inr (record { outside = outside; printed = refl }))
 
   -- by limits made for this reply
-  judged_afresh : (u : ℕ) (asked : Asked) (X : ℕ) → CanBeAsked network H asked → (reply : Reply) × IsJudgedAfresh network H u asked X reply
+  judged_afresh : (u : ℕ) (asked : Asked) (X : ℕ) → CanMove network H asked → (reply : Reply) × IsJudgedAfresh network H u asked X reply
   judged_afresh u asked X can = at limits.0 limits.1 (limits_judge network H u asked limits.0 X limits.1)
     where
       limits : (limits : Interval) × AreRightLimits network H u asked limits
@@ -108,7 +121,7 @@ module _ (market : Market) (now : Standing) (is_market : IsMarket market) (ready
       at limits right (inl (inside, pair)) = let trade = trade_at u asked X pair in (trade.0, inl trade.1)
       at limits right (inr outside) = (Refused (Beyond limits), inr (record { limits = limits; right = right; beyond = record { outside = outside; printed = refl } }))
 
-  edit_answer : (u : ℕ) (asked : Asked) (X : ℕ) → CanBeAsked network H asked → (o : Option Interval) → current_limits (last_quote now.quotes u) asked (revision H) ≡ o
+  edit_answer : (u : ℕ) (asked : Asked) (X : ℕ) → CanMove network H asked → (o : Option Interval) → current_limits (last_quote now.quotes u) asked (revision H) ≡ o
       → (reply : Reply) × MatchOption o (IsJudgedAfresh network H u asked X reply) (λ limits. IsJudged network H u asked X limits reply)
   edit_answer u asked X can None e = judged_afresh u asked X can
   edit_answer u asked X can (Some limits) e = judged u asked X limits (current_right market H u asked limits (last_quote now.quotes u) (ready.quotes_right u) e)
@@ -184,13 +197,13 @@ module _ (market : Market) (now : Standing) (is_market : IsMarket market) (ready
   answered (Price q) none =
       let refused = none_applies (refusals market H (Price q)) none in
       let asked = question_exists network q refused.1.0 in
-      let price = price_exists network H asked.0 is_market.network ready.stands.proper (can_be_asked network H q asked.0 asked.1 refused.1.0 refused.1.1.0 refused.1.1.1.0 refused.1.1.1.1.0) in
+      let price = price_exists network H asked.0 is_market.network ready.stands.proper (can_be_asked network H q asked.0 ready.stands.proper asked.1 refused.1.0 refused.1.1.0 refused.1.1.1.0 refused.1.1.1.1.1.1.0) in
       of_named (question_named network q) (IsPrice network H) asked.0 asked.1 (Priced price.low price.high, record { low = price.low; high = price.high; printed = refl; covers = price.covers })
   answered (Limits u q) none =
       let refused = none_applies (refusals market H (Limits u q)) none in
       let asked = question_exists network q refused.1.1.0 in
       let limits = right_limits_exist network H (user_number H u) asked.0 is_market.network ready.stands.proper ready.stands.sound
-      (can_be_asked network H q asked.0 asked.1 refused.1.1.0 refused.1.1.1.0 refused.1.1.1.1.0 refused.1.1.1.1.1.0) in
+      (can_move network H q asked.0 (can_be_asked network H q asked.0 ready.stands.proper asked.1 refused.1.1.0 refused.1.1.1.0 refused.1.1.1.1.0 refused.1.1.1.1.1.1.1.0) asked.1 refused.1.1.1.1.1.1.1.1.0) in
       of_named (question_named network q) (IsLimits network H (user_number H u)) asked.0 asked.1 (Limited limits.0 (revision H), record { limits = limits.0; printed = refl; right = limits.1 })
   answered (Edit u q X seen) none =
       let refused = none_applies (refusals market H (Edit u q X seen)) none in
@@ -198,27 +211,37 @@ module _ (market : Market) (now : Standing) (is_market : IsMarket market) (ready
       of_named (question_named network q) (λ asked reply. MatchOption (current_limits (last_quote now.quotes (user_number H u)) asked (revision H))
       (IsJudgedAfresh network H (user_number H u) asked X reply) (λ limits. IsJudged network H (user_number H u) asked X limits reply)) asked.0 asked.1
       (edit_answer (user_number H u) asked.0 X
-      (can_be_asked network H q asked.0 asked.1 refused.1.1.0 refused.1.1.1.0 refused.1.1.1.1.1.0 refused.1.1.1.1.1.1.0)
+      (can_move network H q asked.0 (can_be_asked network H q asked.0 ready.stands.proper asked.1 refused.1.1.0 refused.1.1.1.0 refused.1.1.1.1.1.0 refused.1.1.1.1.1.1.1.1.1.1.0) asked.1 refused.1.1.1.1.1.1.1.1.1.1.1.0)
       (current_limits (last_quote now.quotes (user_number H u)) asked.0 (revision H)) refl)
   answered (Bounds u v condition) none =
       let refused = none_applies (refusals market H (Bounds u v condition)) none in
       let spread = spread_exists network v condition.items refused.1.1.0 in
       of_named (spread_named network v condition.items) (IsBounds network H (user_number H u)) spread.0 spread.1
       (bounds_at (user_number H u) spread.0
-      (can_be_spread network H v condition.items spread.0 spread.1 refused.1.1.1.1.0 refused.1.1.1.1.1.0 refused.1.1.1.1.1.1.0))
+      (can_be_spread network H v condition.items spread.0 ready.stands.proper spread.1 refused.1.1.1.1.0 refused.1.1.1.1.1.0 refused.1.1.1.1.1.1.1.1.0 refused.1.1.1.1.1.1.1.1.1.0))
   answered (Spread u v condition to seen) none =
       let refused = none_applies (refusals market H (Spread u v condition to seen)) none in
       let spread = spread_exists network v condition.items refused.1.1.0 in
       of_named (spread_named network v condition.items) (λ spread reply. MatchOption (current_bounds (last_quote now.quotes (user_number H u)) spread (revision H))
       (IsSpreadJudgedAfresh network H (user_number H u) spread to.items reply) (λ intervals. IsSpreadJudged network H (user_number H u) spread to.items intervals reply)) spread.0 spread.1
       (spread_answer (user_number H u) spread.0 to.items
-      (can_be_spread network H v condition.items spread.0 spread.1 refused.1.1.1.1.0 refused.1.1.1.1.1.1.0 refused.1.1.1.1.1.1.1.0)
+      (can_be_spread network H v condition.items spread.0 ready.stands.proper spread.1 refused.1.1.1.1.0 refused.1.1.1.1.1.1.0 refused.1.1.1.1.1.1.1.1.1.1.1.1.1.0 refused.1.1.1.1.1.1.1.1.1.1.1.1.1.1.0)
       (current_bounds (last_quote now.quotes (user_number H u)) spread.0 (revision H)) refl)
   answered (Worst u) none = of_least (user_number H u) (λ q reply. IsWorst q market.points_per_bit reply) (λ q safe.
       let cash = cash_is_covered q market.points_per_bit safe in
       (Worsted cash.0 cash.1, record { low = cash.0; high = cash.1; printed = refl; covers = cash.2 }))
   answered (Resolve p) none = (Resolved p (revision H + 1), refl)
   answered Settle none = settlement (all_resolved network H (none_applies (refusals market H Settle) none).1.0)
+  answered Bound none =
+      let bound = bound_exists network H market.points_per_bit is_market.network ready.stands.proper in (
+        Risked bound.low bound.high,
+        record {
+          low = bound.low;
+          high = bound.high;
+          printed = refl;
+          covers = subst (λ (o : Option ℕ). IsSomeAnd o (λ least. CoversBound (initial_total network) least market.points_per_bit bound.low bound.high)) (sym bound.is_least) bound.covers;
+        },
+      )
 
   of_command : (command : Command) → HasReply market now (OfCommand command)
   of_command command = at (first_refusal market H command) refl

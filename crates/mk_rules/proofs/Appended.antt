@@ -9,7 +9,7 @@ use Rattle.mk_exact.specs.Market.{Market, network_of}
 use Rattle.mk_spread.specs.Spreads.{SpreadAsked}
 use Rattle.mk_spread.specs.Bounds.{Intervals}
 use Rattle.mk_command.specs.declared.command.Command.{Command}
-use Rattle.mk_command.specs.declared.command.Command.TheVariants.{User, Deposit, Withdraw, Price, Limits, Edit, Bounds, Spread, Worst, Resolve, Settle}
+use Rattle.mk_command.specs.declared.command.Command.TheVariants.{User, Deposit, Withdraw, Price, Limits, Edit, Bounds, Spread, Worst, Resolve, Settle, Bound}
 use Rattle.mk_reply.specs.declared.refusal.Refusal.{Refusal}
 use Rattle.mk_reply.specs.declared.reply.Reply.{Reply}
 use Rattle.mk_reply.specs.declared.reply.Reply.TheVariants.{Refused}
@@ -34,6 +34,7 @@ refused_appends P market H (Spread u v condition to seen) why = tt
 refused_appends P market H (Worst u) why = tt
 refused_appends P market H (Resolve p) why = tt
 refused_appends P market H Settle why = tt
+refused_appends P market H Bound why = tt
 
 -- a reply that is known
 pub reply_appends : (P : Entry → Type 0) (market : Market) (H : List Entry) (command : Command) (reply known : Reply) → reply ≡ known → Appends P market H command known

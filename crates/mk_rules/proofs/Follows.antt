@@ -14,12 +14,14 @@ use Rattle.mk_exact.specs.Events.{always}
 use Rattle.mk_exact.specs.History.{Entry, Resolve as Resolves, users, trades, is_transfer, revision}
 use Rattle.mk_exact.specs.Weight.{IsSmall}
 use Rattle.mk_exact.specs.Factors.{factor_with, least_gain}
+use Rattle.mk_exact.specs.Limits.{Side}
+use Rattle.mk_spread.specs.Bounds.{IsFairFor}
 use Rattle.mk_exact.specs.Market.{Market, network_of}
 use Rattle.mk_exact.proofs.ExistBounds.{fair_pair_fits}
 use Rattle.mk_spread.specs.Spreads.{SpreadAsked}
 use Rattle.mk_spread.proofs.Listed.{each_units}
 use Rattle.mk_command.specs.declared.command.Command.{Command}
-use Rattle.mk_command.specs.declared.command.Command.TheVariants.{User, Deposit, Withdraw, Price, Limits, Edit, Bounds, Spread, Worst, Resolve, Settle}
+use Rattle.mk_command.specs.declared.command.Command.TheVariants.{User, Deposit, Withdraw, Price, Limits, Edit, Bounds, Spread, Worst, Resolve, Settle, Bound}
 use Rattle.mk_reply.specs.declared.refusal.Refusal.{Refusal}
 use Rattle.mk_reply.specs.declared.refusal.Refusal.TheVariants.{Memory}
 use Rattle.mk_reply.specs.declared.reply.Reply.{Reply}
@@ -66,12 +68,17 @@ module _ (market : Market) (H : List Entry) where
   trade_follows u q X seen asked reply named few trade = reply_appends (MayFollow market H) market H (Edit u q X seen) reply _ trade.printed
       (rw named (fair_pair_fits (network_of market H) H (user_number H u) asked X trade.hit trade.miss trade.fair, few))
 
+  -- units that are fair for a value fit, and so does one whole unit
+  fits_for : (small : Type 0) (side : Option Side) (X F : ℕ) → IsFairFor small side X F → F < number_limit
+  fits_for small None X F h = omega (arith, h.1)
+  fits_for small (Some side) X F h = h.fair.fits
+
   -- a spread is one trade more
   spread_follows : (u v : List ℕ) (condition : ArrayVec PairText) (to : ArrayVec ℕ) (seen : Option ℕ) (spread : SpreadAsked) (reply : Reply)
       → spread_named (network_of market H) v condition.items ≡ Some spread → length (trades H) < market.max_trades
       → IsSpreadTrade (network_of market H) H (user_number H u) spread to.items reply → Follows (Spread u v condition to seen) reply
   spread_follows u v condition to seen spread reply named few trade = reply_appends (MayFollow market H) market H (Spread u v condition to seen) reply _ trade.printed
-      (rw named (each_units (λ units. units < number_limit) (IsSmall (network_of market H) H) (λ side X F h. h.fair.fits) trade.fair.sides to.items trade.factors.items trade.fair.units, few))
+      (rw named (each_units (λ units. units < number_limit) (IsSmall (network_of market H) H) (fits_for (IsSmall (network_of market H) H)) trade.fair.sides to.items trade.factors.items trade.fair.units, few))
 
   answer_follows : (quotes : Quotes) (command : Command) (reply : Reply) → JoinsByName (OfCommand command) → first_refusal market H command ≡ None → IsAnswer market H quotes command reply → Follows command reply
   answer_follows quotes (User u) reply text none h = user_follows u reply text none h
@@ -97,6 +104,7 @@ module _ (market : Market) (H : List Entry) where
       (spread_follows u v condition to seen judged.0 reply judged.1 (has_room market.max_trades (length (trades H)) refused.1.1.1.1.1.1.1.1.1.1.1.1.0)) judged.2
   answer_follows quotes (Worst u) reply text none h =
       reply_appends (MayFollow market H) market H (Worst u) reply _ (value_of _ (least_gain (network_of market H) H (user_number H u) always) h).2.printed tt
+  answer_follows quotes Bound reply text none h = reply_appends (MayFollow market H) market H Bound reply _ h.printed tt
   answer_follows quotes (Resolve p) reply text none h = reply_appends (MayFollow market H) market H (Resolve p) reply _ h (resolves (pair_named (network_of market H) p))
     where
       resolves : (o : Option _) → IfSome (option_map Resolves o) (MayFollow market H)
@@ -137,6 +145,7 @@ joins_by_name (OfCommand (Spread u v condition to seen)) text = tt
 joins_by_name (OfCommand (Worst u)) text = tt
 joins_by_name (OfCommand (Resolve p)) text = tt
 joins_by_name (OfCommand Settle) text = tt
+joins_by_name (OfCommand Bound) text = tt
 joins_by_name NoCommand text = tt
 joins_by_name LongLine text = tt
 

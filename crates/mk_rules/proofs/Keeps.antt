@@ -11,7 +11,7 @@ use Rattle.mk_exact.specs.Events.{always}
 use Rattle.mk_exact.specs.History.{Entry, UserTrade, Join, Deposit as Deposits, Withdraw as Withdraws, Trade, Resolve as Resolves, Settle as Settles, trade_in, users, trades, revision}
 use Rattle.mk_exact.specs.Weight.{IsSmall}
 use Rattle.mk_exact.specs.Factors.{factor_with, least_gain}
-use Rattle.mk_exact.specs.Proper.{IsQuestionOf}
+use Rattle.mk_exact.specs.Proper.{IsQuestionOf, IsProper}
 use Rattle.mk_exact.specs.Accepted.{Covers, IsAcceptable, IsInRange}
 use Rattle.mk_exact.specs.Market.{Market, network_of, cliques_of}
 use Rattle.mk_exact.proofs.After.{trades_kept, trades_more}
@@ -23,7 +23,7 @@ use Rattle.mk_spread.specs.Spreads.{SpreadAsked, IsSpreadOf}
 use Rattle.mk_spread.proofs.Fair.{fair_list_is_ratio}
 use Rattle.mk_spread.proofs.Safe.{fair_list_is_safe}
 use Rattle.mk_command.specs.declared.command.Command.{Command}
-use Rattle.mk_command.specs.declared.command.Command.TheVariants.{User, Deposit, Withdraw, Price, Limits, Edit, Bounds, Spread, Worst, Resolve, Settle}
+use Rattle.mk_command.specs.declared.command.Command.TheVariants.{User, Deposit, Withdraw, Price, Limits, Edit, Bounds, Spread, Worst, Resolve, Settle, Bound}
 use Rattle.mk_reply.specs.declared.refusal.Refusal.{Refusal}
 use Rattle.mk_reply.specs.declared.refusal.Refusal.TheVariants.{Memory}
 use Rattle.mk_reply.specs.declared.reply.Reply.{Reply}
@@ -32,12 +32,13 @@ use Rattle.mk_rules.specs.Refusals.{question_named, spread_named, variables_in, 
 use Rattle.mk_rules.specs.Quotes.{Quotes, last_quote, current_limits, current_bounds}
 use Rattle.mk_rules.specs.Answers.{IsTrade, IsSpreadTrade, IsWithdrawal, IsAnswer, IsAllowed, entry_of}
 use Rattle.mk_rules.specs.Transcript.{Standing, Line, OfCommand, NoCommand, LongLine, IsAllowedFor, after, Run}
-use Rattle.mk_rules.specs.Standings.{IsInClique, Stands}
+use Rattle.mk_rules.specs.Standings.{IsMarket, IsInClique, Stands}
 use Rattle.mk_rules.proofs.Options.{value_of}
 use Rattle.mk_rules.proofs.Appended.{Appends, refused_appends, reply_appends, judged_appends, spread_appends}
 use Rattle.mk_rules.proofs.Unrefused.{none_applies, user_in_range, number_in_range, pair_known, question_known, not_resolved, not_wide}
 use Rattle.mk_rules.proofs.Spreads.{spread_is, spread_not_wide, sum_is_million}
 use Rattle.mk_rules.proofs.Traded.{ratio_fits}
+use Rattle.mk_rules.proofs.Coming.{some_with_pair}
 
 -- an entry that may be appended
 record Fits (market : Market) (H : List Entry) (e : Entry) : Type 0 where
@@ -124,49 +125,50 @@ spread_fits market H quotes u v condition to seen reply none h =
     (spread_trade_fits market H u v condition to seen judged.0 reply judged.1 (user_in_range H u refused.1.0) (spread_is network v condition.items judged.0 judged.1)
     (spread_not_wide market H v condition.items judged.0 judged.1 refused.1.1.1.1.1.1.1.1.0) (omega (arith, million_in_all))) judged.2
 
-resolve_fits : (market : Market) (H : List Entry) (p : PairText) (reply : Reply)
+resolve_fits : (market : Market) (H : List Entry) (p : PairText) (reply : Reply) → IsProper (network_of market H) H
     → IsUnrefused market H (Resolve p) → reply ≡ Resolved p (revision H + 1) → AppendsFit market H (Resolve p) reply
 unfolding IsUnrefused
-resolve_fits market H p reply none e =
+resolve_fits market H p reply proper none e =
     let refused = none_applies (refusals market H (Resolve p)) none in
     let named = pair_known (network_of market H) p refused.1.0 in
     reply_appends (Fits market H) market H (Resolve p) reply _ e (rw (named.1) (record {
       acceptable = tt;
-      in_range = (named.2, not_resolved (network_of market H) H p named.0 named.1 refused.1.1.0);
+      in_range = (named.2, not_resolved (network_of market H) H p named.0 named.1 refused.1.1.0, some_with_pair (network_of market H) H proper p named.0 named.1 refused.1.1.1.0);
       narrow = tt;
     }))
 
-answer_fits : (market : Market) (H : List Entry) (quotes : Quotes) (command : Command) (reply : Reply)
+answer_fits : (market : Market) (H : List Entry) (quotes : Quotes) (command : Command) (reply : Reply) → IsProper (network_of market H) H
     → IsUnrefused market H command → IsAnswer market H quotes command reply → AppendsFit market H command reply
-answer_fits market H quotes (User u) reply none h = user_fits market H u reply h
-answer_fits market H quotes (Deposit u bits) reply none h = reply_appends (Fits market H) market H (Deposit u bits) reply _ h (record { acceptable = tt; in_range = tt; narrow = tt })
-answer_fits market H quotes (Withdraw u bits) reply none h = let least = value_of _ (least_gain (network_of market H) H (user_number H u) always) h in
+answer_fits market H quotes (User u) reply proper none h = user_fits market H u reply h
+answer_fits market H quotes (Deposit u bits) reply proper none h = reply_appends (Fits market H) market H (Deposit u bits) reply _ h (record { acceptable = tt; in_range = tt; narrow = tt })
+answer_fits market H quotes (Withdraw u bits) reply proper none h = let least = value_of _ (least_gain (network_of market H) H (user_number H u) always) h in
     withdrawal_fits market H u bits least.0 reply least.1 least.2
-answer_fits market H quotes (Price q) reply none h = let price = value_of _ (question_named (network_of market H) q) h in
+answer_fits market H quotes (Price q) reply proper none h = let price = value_of _ (question_named (network_of market H) q) h in
     reply_appends (Fits market H) market H (Price q) reply _ price.2.printed tt
-answer_fits market H quotes (Limits u q) reply none h = let limits = value_of _ (question_named (network_of market H) q) h in
+answer_fits market H quotes (Limits u q) reply proper none h = let limits = value_of _ (question_named (network_of market H) q) h in
     reply_appends (Fits market H) market H (Limits u q) reply _ limits.2.printed tt
-answer_fits market H quotes (Edit u q X seen) reply none h = edit_fits market H quotes u q X seen reply none h
-answer_fits market H quotes (Bounds u v condition) reply none h = let bounds = value_of _ (spread_named (network_of market H) v condition.items) h in
+answer_fits market H quotes (Edit u q X seen) reply proper none h = edit_fits market H quotes u q X seen reply none h
+answer_fits market H quotes (Bounds u v condition) reply proper none h = let bounds = value_of _ (spread_named (network_of market H) v condition.items) h in
     reply_appends (Fits market H) market H (Bounds u v condition) reply _ bounds.2.printed tt
-answer_fits market H quotes (Spread u v condition to seen) reply none h = spread_fits market H quotes u v condition to seen reply none h
-answer_fits market H quotes (Worst u) reply none h = let worst = value_of _ (least_gain (network_of market H) H (user_number H u) always) h in
+answer_fits market H quotes (Spread u v condition to seen) reply proper none h = spread_fits market H quotes u v condition to seen reply none h
+answer_fits market H quotes (Worst u) reply proper none h = let worst = value_of _ (least_gain (network_of market H) H (user_number H u) always) h in
     reply_appends (Fits market H) market H (Worst u) reply _ worst.2.printed tt
-answer_fits market H quotes (Resolve p) reply none h = resolve_fits market H p reply none h
-answer_fits market H quotes Settle reply none h = reply_appends (Fits market H) market H Settle reply _ h.printed (record { acceptable = tt; in_range = tt; narrow = tt })
+answer_fits market H quotes (Resolve p) reply proper none h = resolve_fits market H p reply proper none h
+answer_fits market H quotes Settle reply proper none h = reply_appends (Fits market H) market H Settle reply _ h.printed (record { acceptable = tt; in_range = tt; narrow = tt })
+answer_fits market H quotes Bound reply proper none h = reply_appends (Fits market H) market H Bound reply _ h.printed tt
 
 -- an allowed reply appends what may be appended
-allowed_fits : (market : Market) (H : List Entry) (quotes : Quotes) (command : Command) (reply : Reply) → IsAllowed market H quotes command reply → AppendsFit market H command reply
+allowed_fits : (market : Market) (H : List Entry) (quotes : Quotes) (command : Command) (reply : Reply) → IsProper (network_of market H) H → IsAllowed market H quotes command reply → AppendsFit market H command reply
 unfolding IsUnrefused
-allowed_fits market H quotes command reply h = at (first_refusal market H command) refl h
+allowed_fits market H quotes command reply proper h = at (first_refusal market H command) refl h
   where
     at : (o : Option Refusal) → first_refusal market H command ≡ o → MatchOption o (IsAnswer market H quotes command reply) (λ why. reply ≡ Refused why) → AppendsFit market H command reply
-    at None none h = answer_fits market H quotes command reply none h
+    at None none h = answer_fits market H quotes command reply proper none h
     at (Some why) _ e = reply_appends (Fits market H) market H command reply _ e (refused_appends (Fits market H) market H command why)
 
 pub allowed_keeps : (market : Market) (now : Standing) (line : Line) (reply : Reply) → Stands market now.history → IsAllowedFor market now line reply → Stands market (after market now line reply).history
 allowed_keeps market now (OfCommand command) reply stands h =
-    entry_keeps market now.history (entry_of market now.history command reply) stands (allowed_fits market now.history now.quotes command reply h)
+    entry_keeps market now.history (entry_of market now.history command reply) stands (allowed_fits market now.history now.quotes command reply stands.proper h)
 allowed_keeps market now NoCommand reply stands h = stands
 allowed_keeps market now LongLine reply stands h = stands
 
@@ -185,5 +187,5 @@ runs_join market old middle new (line ∷ first) second [] more h k = absurd h
 runs_join market old middle new (line ∷ first) second (reply ∷ replies) more h k =
     (h.0, runs_join market (after market old line reply) middle new first second replies more h.1 k)
 
-pub opening_stands : (market : Market) → Stands market []
-opening_stands market = record { sound = empty_sound (network_of market []); proper = empty_proper (network_of market []); none_wide = tt }
+pub opening_stands : (market : Market) → IsMarket market → Stands market []
+opening_stands market is_market = record { sound = empty_sound (network_of market []); proper = empty_proper (network_of market []) is_market.network; none_wide = tt }

@@ -1,5 +1,6 @@
 pub mod Options
 pub mod Unrefused
+pub mod Coming
 pub mod Spreads
 pub mod Apart
 pub mod Spreadable
@@ -9,6 +10,7 @@ pub mod Keeps
 pub mod Cashed
 pub mod Paid
 pub mod Settling
+pub mod Risked
 pub mod Judged
 pub mod Quoted
 pub mod Ready

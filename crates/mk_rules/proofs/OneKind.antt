@@ -21,20 +21,21 @@ use Rattle.mk_exact.specs.Limits.{Side, IsFairAndSolvent, IsFloorSolvent}
 use Rattle.mk_exact.specs.Sides.{IsSide}
 use Rattle.mk_spread.specs.Spreads.{SpreadAsked}
 use Rattle.mk_spread.specs.Bounds.{Intervals}
+use Rattle.mk_spread.specs.Markets.{SuitValues}
 use Rattle.mk_spread.proofs.Agree.{fair_list_is_inside}
 use Rattle.mk_command.specs.declared.command.Command.{Command}
 use Rattle.mk_command.specs.declared.command.Command.TheVariants.{Edit, Spread}
 use Rattle.mk_reply.specs.declared.refusal.Refusal.{Refusal}
 use Rattle.mk_reply.specs.declared.reply.Reply.{Reply}
 use Rattle.mk_reply.specs.declared.reply.Reply.TheVariants.{Refused}
-use Rattle.mk_rules.specs.Refusals.{question_named, spread_named, user_number, refusals, first_refusal}
+use Rattle.mk_rules.specs.Refusals.{question_named, spread_named, user_number, least_share, refusals, first_refusal}
 use Rattle.mk_rules.specs.Quotes.{Interval, last_quote, current_limits, current_bounds}
 use Rattle.mk_rules.specs.Answers.{IsTrade, IsBeyond, IsBeyondRight, IsJudged, IsJudgedAfresh, IsSpreadTrade, IsOutside, IsOutsideRight, IsSpreadJudged, IsSpreadJudgedAfresh, IsAnswer}
 use Rattle.mk_rules.specs.Transcript.{Standing, OfCommand, IsAllowedFor}
 use Rattle.mk_rules.specs.Laws.{IsTraded}
 use Rattle.mk_rules.proofs.Options.{value_of, at_none, at_some, at_value}
 use Rattle.mk_rules.proofs.Unrefused.{none_applies, number_in_range}
-use Rattle.mk_rules.proofs.Spreads.{numbers_in_range}
+use Rattle.mk_rules.proofs.Spreadable.{shares_suit}
 use Rattle.mk_rules.proofs.Judged.{traded_inside, spread_traded_inside}
 
 -- a question has one side of each kind
@@ -102,18 +103,18 @@ one_kind market now u q X seen first second small none a b =
 
 -- the shares of a spread that is a trade are inside of all right bounds
 not_outside : (network : List Variable) (H : List Entry) (u : ℕ) (spread : SpreadAsked) (Xs : List ℕ) (first second : Reply)
-    → IsSmall network H → AllByRecursion (λ X. (1 ≤ X) × (X ≤ 999999)) Xs → IsSpreadTrade network H u spread Xs first → IsOutsideRight network H u spread Xs second → ⊥
-not_outside network H u spread Xs first second small in_range trade refused =
-    refused.outside.outside (fair_list_is_inside network H u spread refused.intervals Xs trade.factors.items small in_range refused.right trade.fair)
+    → IsSmall network H → SuitValues network H spread Xs → IsSpreadTrade network H u spread Xs first → IsOutsideRight network H u spread Xs second → ⊥
+not_outside network H u spread Xs first second small suited trade refused =
+    refused.outside.outside (fair_list_is_inside network H u spread refused.intervals Xs trade.factors.items small suited refused.right trade.fair)
 
 not_spread : (intervals : Intervals) (Xs : List ℕ) (reply : Reply) → IsOutside intervals Xs reply → IsTraded reply → ⊥
 not_spread intervals Xs reply outside traded = subst IsTraded outside.printed traded
 
 module _ (network : List Variable) (H : List Entry) (u : ℕ) (spread : SpreadAsked) (Xs : List ℕ) (small : IsSmall network H)
-    (in_range : AllByRecursion (λ X. (1 ≤ X) × (X ≤ 999999)) Xs) where
+    (suited : SuitValues network H spread Xs) where
   spread_afresh : (first second : Reply) → IsSpreadJudgedAfresh network H u spread Xs first → IsSpreadJudgedAfresh network H u spread Xs second → IsTraded first → IsTraded second
   spread_afresh first second a (inl trade) traded = subst IsTraded (sym trade.printed) tt
-  spread_afresh first second (inl trade) (inr refused) traded = absurd (not_outside network H u spread Xs first second small in_range trade refused)
+  spread_afresh first second (inl trade) (inr refused) traded = absurd (not_outside network H u spread Xs first second small suited trade refused)
   spread_afresh first second (inr other) (inr refused) traded = absurd (not_spread other.intervals Xs first other.outside traded)
 
   spread_of_kind : (first second : Reply) (o : Option Intervals)
@@ -131,10 +132,11 @@ pub spread_one_kind : (market : Market) (now : Standing) (u v : List ℕ) (condi
     → IsTraded first ↔ IsTraded second
 spread_one_kind market now u v condition to seen first second small none a b =
     let refused = none_applies (refusals market now.history (Spread u v condition to seen)) none in
-    let shares = numbers_in_range (million - 1) to.items refused.1.1.1.1.1.1.1.1.1.1.0 in
     let judged = value_of _ (spread_named (network_of market now.history) v condition.items)
     (at_none (λ (why : Refusal). first ≡ Refused why) (first_refusal market now.history (Spread u v condition to seen)) none a) in
-    spread_of_kind (network_of market now.history) now.history (user_number now.history u) judged.0 to.items small shares first second
+    let behind = refused.1.1.1.1.1.1.1.1.1 in
+    let suited = shares_suit (network_of market now.history) now.history v condition.items judged.0 (least_share market) to.items judged.1 behind.0 behind.1.0 behind.1.1.1.1.1.1.0 behind.1.1.1.1.1.1.1.0 in
+    spread_of_kind (network_of market now.history) now.history (user_number now.history u) judged.0 to.items small suited first second
     (current_bounds (last_quote now.quotes (user_number now.history u)) judged.0 (revision now.history)) judged.2
     (at_value _ (spread_named (network_of market now.history) v condition.items) judged.0 judged.1
     (at_none (λ (why : Refusal). second ≡ Refused why) (first_refusal market now.history (Spread u v condition to seen)) none b))

@@ -18,7 +18,7 @@ use Rattle.mk_exact.proofs.Gains.{settlement_bounded}
 use Rattle.mk_spread.specs.Spreads.{SpreadAsked}
 use Rattle.mk_spread.specs.Bounds.{Intervals}
 use Rattle.mk_command.specs.declared.command.Command.{Command}
-use Rattle.mk_command.specs.declared.command.Command.TheVariants.{User, Deposit, Withdraw, Price, Limits, Edit, Bounds, Spread, Worst, Resolve, Settle}
+use Rattle.mk_command.specs.declared.command.Command.TheVariants.{User, Deposit, Withdraw, Price, Limits, Edit, Bounds, Spread, Worst, Resolve, Settle, Bound}
 use Rattle.mk_reply.specs.declared.refusal.Refusal.{Refusal}
 use Rattle.mk_reply.specs.declared.payments.Payment.{Payment}
 use Rattle.mk_reply.specs.declared.reply.Reply.{Reply}
@@ -111,6 +111,7 @@ module _ (market : Market) (H : List Entry) (quotes : Quotes) (at : ℕ) (paymen
   settles_alone (Worst u) h = let e = (value_of _ (least_gain (network_of market H) H (user_number H u) always) h).2.printed in absurd (cc)
   settles_alone (Resolve p) h = absurd (cc)
   settles_alone Settle h = refl
+  settles_alone Bound h = let e = h.printed in absurd (cc)
 
   answer_costs : (command : Command) → Stands market H → IsAnswer market H quotes command (settling at payments) → CostsAtMost market H payments
   answer_costs command stands h = settlement_costs market H at payments stands

@@ -1,11 +1,12 @@
 -- An allowed reply leads from a ready standing to a ready one.
 use Rattle.std.proofs.Common.{◌≡◌, ℕ, zero, suc, ◌+◌, inl, inr, Bool, true, false, List, [], ◌∷◌, ◌++◌, map, length, Option, Some, None, IfSome, MatchOption, refl, sym, ap, ◌∙◌, subst, arith, append-nil, length-append}
-use Rattle.std.specs.Prelude.{option_map, option_and_then, option_to_list, slice_set, ⊤}
-use Rattle.std.specs.List.{AllByRecursion}
+use Rattle.std.specs.Prelude.{option_map, option_and_then, option_to_list, slice_set, find, nat_le, ◌&&◌, ⊤}
+use Rattle.std.specs.List.{AllByRecursion, enumerate_from}
 use Rattle.std.proofs.lemmas.List.{length-set, length-map}
 use Rattle.arrayvec.specs.ArrayVec.{ArrayVec}
 use Rattle.mk_net.specs.declared.words.PairText.{PairText}
 use Rattle.mk_net.specs.declared.words.QuestionText.{QuestionText}
+use Rattle.mk_net.specs.Network.{Variable}
 use Rattle.mk_net.specs.Named.{pair_named}
 use Rattle.mk_net.specs.Asked.{Asked}
 use Rattle.mk_net.specs.Firsts.{fault_if, first_of}
@@ -18,21 +19,23 @@ use Rattle.mk_exact.specs.Market.{Market, network_of, cliques_of}
 use Rattle.mk_exact.proofs.After.{users_kept, users_more}
 use Rattle.mk_spread.specs.Spreads.{SpreadAsked}
 use Rattle.mk_spread.specs.Bounds.{Intervals}
-use Rattle.mk_spread.specs.Markets.{AreRightBoundsOf}
+use Rattle.mk_spread.specs.Markets.{AreRightBoundsOf, value_cannot_come}
 use Rattle.mk_command.specs.declared.command.Command.{Command}
-use Rattle.mk_command.specs.declared.command.Command.TheVariants.{User, Deposit, Withdraw, Price, Limits, Edit, Bounds, Spread, Worst, Resolve, Settle}
+use Rattle.mk_command.specs.declared.command.Command.TheVariants.{User, Deposit, Withdraw, Price, Limits, Edit, Bounds, Spread, Worst, Resolve, Settle, Bound}
 use Rattle.mk_reply.specs.declared.refusal.Refusal.{Refusal}
 use Rattle.mk_reply.specs.declared.refusal.Refusal.TheVariants.{Unknown, Twice, Impossible, Range, Beyond, Outside}
 use Rattle.mk_reply.specs.declared.reply.Reply.{Reply}
 use Rattle.mk_reply.specs.declared.reply.Reply.TheVariants.{Refused}
-use Rattle.mk_rules.specs.Refusals.{variables_in, question_named, spread_named, user_number, stale, wide, refusals, first_refusal}
+use Rattle.mk_rules.specs.Refusals.{variables_in, question_named, spread_named, user_number, stale, wide, pair_with, impossible_share, refusals, first_refusal}
 use Rattle.mk_rules.specs.Quotes.{Interval, Quoted, EditLimits, SpreadBounds, Quote, Quotes, no_quotes, last_quote, current_limits, current_bounds}
 use Rattle.mk_rules.specs.Answers.{IsTrade, IsJudged, IsJudgedAfresh, IsBeyond, IsSpreadTrade, IsSpreadJudged, IsSpreadJudgedAfresh, IsOutside, IsWithdrawal, IsAnswer, IsAllowed, next_quotes}
 use Rattle.mk_rules.specs.Transcript.{Standing, opening, Line, OfCommand, NoCommand, LongLine, IsAllowedFor, after, Run}
-use Rattle.mk_rules.specs.Standings.{Stands, IsRight, IsRightQuote, IsReady}
+use Rattle.mk_rules.specs.Standings.{IsMarket, Stands, IsRight, IsRightQuote, IsReady}
 use Rattle.mk_rules.proofs.Options.{value_of}
 use Rattle.mk_rules.proofs.Keeps.{allowed_keeps, opening_stands}
 use Rattle.mk_rules.proofs.Quoted.{Each, each_set, each_pushed, each_weaker, current_right, current_bounds_right}
+use Rattle.mk_exact.proofs.Sums.{each_always}
+use Rattle.mk_rules.proofs.Coming.{together_have, decided_has, sure_has, missing_has}
 
 -- what is known of the quotes beside a history
 record AreKept (market : Market) (H : List Entry) (quotes : Quotes) : Type 0 where
@@ -111,6 +114,17 @@ unfolding CarriesNoQuote
 wide_carries_none cliques None = tt
 wide_carries_none cliques (Some spread) = faulted _ _ tt
 
+-- nor does that of a share that cannot come
+share_carries_none : (network : List Variable) (H : List Entry) (v : List ℕ) (pairs : List PairText) (to : List ℕ) → IfSome (impossible_share network H v pairs to) CarriesNoQuote
+unfolding CarriesNoQuote
+share_carries_none network H v pairs to = at (spread_named network v pairs)
+  where
+    at : (o : Option SpreadAsked) → IfSome (option_and_then (λ (spread : SpreadAsked).
+        option_map (λ (numbered : ℕ × ℕ). Impossible (pair_with network v spread (numbered.0)))
+        (find (λ (numbered : ℕ × ℕ). nat_le 1 (numbered.1) && value_cannot_come network H spread (numbered.0)) (enumerate_from 0 to))) o) CarriesNoQuote
+    at None = tt
+    at (Some spread) = mapped CarriesNoQuote (λ (numbered : ℕ × ℕ). Impossible (pair_with network v spread (numbered.0))) (λ numbered. tt) _
+
 edit_carries_none : (market : Market) (H : List Entry) (u : List ℕ) (q : QuestionText) (X : ℕ) (seen : Option ℕ)
     → AllByRecursion (λ o. IfSome o CarriesNoQuote) (refusals market H (Edit u q X seen))
 unfolding CarriesNoQuote
@@ -124,7 +138,7 @@ edit_carries_none market H u q X seen = (
         name_carries_none Twice (λ name. tt) _,
         (
           stale_carries_none H seen,
-          (faulted _ _ tt, (pair_carries_none Impossible (λ p. tt) _, (faulted _ _ tt, (faulted _ _ tt, (faulted _ _ tt, tt))))),
+          (faulted _ _ tt, (pair_carries_none Impossible (λ p. tt) _, (faulted _ _ tt, (faulted _ _ tt, (faulted _ _ tt, (together_have CarriesNoQuote (network_of market H) H [] q.condition.items (each_always _ (λ p. tt) _), (decided_has CarriesNoQuote (network_of market H) H q tt tt, tt))))))),
         ),
       ),
     ),
@@ -152,7 +166,7 @@ spread_carries_none market H u v condition to seen = (
                 pair_carries_none Impossible (λ p. tt) _,
                 (
                   wide_carries_none (cliques_of market H) _,
-                  (faulted _ _ tt, (number_carries_none Range (λ n. tt) _, (faulted _ _ tt, (faulted _ _ tt, tt)))),
+                  (faulted _ _ tt, (number_carries_none Range (λ n. tt) _, (faulted _ _ tt, (faulted _ _ tt, (together_have CarriesNoQuote (network_of market H) H [] condition.items (each_always _ (λ p. tt) _), (sure_has CarriesNoQuote (network_of market H) H v condition.items (λ n k b. tt), (share_carries_none (network_of market H) H v condition.items to.items, (missing_has CarriesNoQuote (network_of market H) H v condition.items to.items tt, tt)))))))),
                 ),
               ),
             ),
@@ -217,6 +231,7 @@ module _ (market : Market) (now : Standing) (kept : AreKept market now.history n
   refused_kept (Worst u) why h = stays now.quotes kept
   refused_kept (Resolve p) why h = stays now.quotes kept
   refused_kept Settle why h = stays now.quotes kept
+  refused_kept Bound why h = stays now.quotes kept
 
   -- what is right is quoted
   quoted_kept : (n : ℕ) (said : Option Quoted) → IfSome said (IsRight market now.history n)
@@ -317,6 +332,7 @@ module _ (market : Market) (now : Standing) (kept : AreKept market now.history n
   answer_kept (Worst u) reply h = reply_kept market now (Worst u) reply _ (value_of _ (least_gain (network_of market now.history) now.history (user_number now.history u) always) h).2.printed (stays now.quotes kept)
   answer_kept (Resolve p) reply h = reply_kept market now (Resolve p) reply _ h (after_some _ (mapped (λ (e : Entry). join_in e ≡ None) _ (λ pair. refl) (pair_named (network_of market now.history) p)))
   answer_kept Settle reply h = reply_kept market now Settle reply _ h.printed (after_some (Some Settles) refl)
+  answer_kept Bound reply h = reply_kept market now Bound reply _ h.printed (stays now.quotes kept)
 
   allowed_kept : (command : Command) (reply : Reply) → IsAllowed market now.history now.quotes command reply → KeptAfter market now command reply
   allowed_kept command reply h = meet (first_refusal market now.history command) refl h
@@ -363,5 +379,5 @@ unquoted_is_ready market H stands = record {
   quotes_right = λ u. nothing_quoted (users H) u (IsRightQuote market H u);
 }
 
-pub opening_is_ready : (market : Market) → IsReady market opening
-opening_is_ready market = unquoted_is_ready market [] (opening_stands market)
+pub opening_is_ready : (market : Market) → IsMarket market → IsReady market opening
+opening_is_ready market is_market = unquoted_is_ready market [] (opening_stands market is_market)

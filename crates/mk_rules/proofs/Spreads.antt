@@ -2,7 +2,7 @@
 use Rattle.std.proofs.Common.{◌≡◌, ℕ, ◌+◌, ◌<◌, ◌≤◌, Bool, true, false, not, ◌&&◌, leb, cond, List, [], ◌∷◌, length, sum, Option, Some, None, refl, sym, ap, ◌∙◌, subst, arith}
 use Rattle.std.specs.Prelude.{◌==◌, option_map, option_and_then, find}
 use Rattle.std.specs.List.{AllByRecursion, enumerate_from, cons_option}
-use Rattle.std.proofs.lemmas.Bool.{eqb-true}
+use Rattle.std.proofs.lemmas.Bool.{eqb-true, leb-true, and_parts}
 use Rattle.mk_net.specs.declared.words.Pair.{Pair}
 use Rattle.mk_net.specs.declared.words.PairText.{PairText}
 use Rattle.mk_net.specs.Bounds.{million}
@@ -15,7 +15,7 @@ use Rattle.mk_exact.specs.Proper.{IsPairOf}
 use Rattle.mk_exact.proofs.Sums.{each_weaker}
 use Rattle.mk_spread.specs.Spreads.{SpreadAsked, IsSpreadOf}
 use Rattle.mk_rules.specs.Refusals.{spread_named, known_pairs, variables_in, is_wide, wide, wide_spread, ranges, sums}
-use Rattle.mk_rules.proofs.Unrefused.{not_faulted, not_mapped, number_in_range}
+use Rattle.mk_rules.proofs.Unrefused.{not_faulted, not_mapped}
 
 -- what is found among variables that are counted from n on is counted below their end
 found_below : (test : ℕ × Variable → Bool) (n : ℕ) (vs : List Variable) (k : ℕ) (v : Variable) → find test (enumerate_from n vs) ≡ Some (k, v) → k < n + length vs
@@ -72,9 +72,16 @@ none_found test (x ∷ xs) h = at (test x) refl (none_found test xs) h
     at false e later h = (e, later h)
 
 -- numbers that are in range
-pub numbers_in_range : (most : ℕ) (numbers : List ℕ) → ranges most numbers ≡ None → AllByRecursion (λ n. (1 ≤ n) × (n ≤ most)) numbers
-numbers_in_range most numbers h =
-    each_weaker (λ n. not (leb 1 n && leb n most) ≡ false) (λ n. (1 ≤ n) × (n ≤ most)) (λ n e. number_in_range most n (rw e refl)) numbers (none_found _ numbers (not_mapped _ _ h))
+pub numbers_in_range : (least most : ℕ) (numbers : List ℕ) → ranges least most numbers ≡ None → AllByRecursion (λ n. (least ≤ n) × (n ≤ most)) numbers
+numbers_in_range least most numbers h =
+    each_weaker (λ n. not (leb least n && leb n most) ≡ false) (λ n. (least ≤ n) × (n ≤ most)) between numbers (none_found _ numbers (not_mapped _ _ h))
+  where
+    within : (b : Bool) → not b ≡ false → b ≡ true
+    within true h = refl
+    within false h = cc
+
+    between : (n : ℕ) → not (leb least n && leb n most) ≡ false → (least ≤ n) × (n ≤ most)
+    between n e = let parts = and_parts (leb least n) (leb n most) (within (leb least n && leb n most) e) in (leb-true least n parts.0, leb-true n most parts.1)
 
 -- numbers that make a million
 pub sum_is_million : (to : List ℕ) → sums to ≡ None → sum to ≡ million

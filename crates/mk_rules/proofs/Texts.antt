@@ -1,5 +1,5 @@
 -- In a ready standing an allowed reply to a line that is a text has a text.
-use Rattle.std.proofs.Common.{◌≡◌, ℕ, ◌+◌, ◌*◌, ◌^◌, ◌<◌, ◌≤◌, ◌⊎◌, inl, inr, Bool, true, false, cond, List, [], ◌∷◌, ◌++◌, length, sum, Option, Some, None, IfSome, MatchOption, refl, sym, ◌∙◌, subst, arith, mul-le-mul_right}
+use Rattle.std.proofs.Common.{◌≡◌, ℕ, ◌+◌, ◌*◌, ◌^◌, ◌<◌, ◌≤◌, ◌⊎◌, inl, inr, Bool, true, false, cond, List, [], ◌∷◌, ◌++◌, length, sum, Option, Some, None, IfSome, MatchOption, slice_index, slice_index_or, refl, sym, ◌∙◌, subst, arith, mul-le-mul_right}
 use Rattle.std.specs.Prelude.{option_map, option_and_then, find, All}
 use Rattle.std.specs.List.{AllByRecursion, AllZip, enumerate_from, list_any}
 use Rattle.std.proofs.lemmas.Bool.{cases_lt}
@@ -12,7 +12,12 @@ use Rattle.mk_net.specs.declared.words.PairText.{PairText}
 use Rattle.mk_net.specs.declared.words.QuestionText.{QuestionText}
 use Rattle.mk_net.specs.Name.{IsName}
 use Rattle.mk_net.specs.Texts.{same_text}
-use Rattle.mk_net.specs.Network.{Variable, IsNetwork}
+use Rattle.mk_net.specs.Network.{Variable, sizes, IsNetwork}
+use Rattle.mk_net.specs.Named.{variable_at, nobody}
+use Rattle.std.proofs.lemmas.List.{get_or_past}
+use Rattle.mk_exact.proofs.Listed.{as_many}
+use Rattle.mk_exact.proofs.Positive.{size_at}
+use Rattle.mk_rules.proofs.Coming.{together_have, decided_has, sure_has, share_has, missing_has}
 use Rattle.mk_net.specs.Asked.{Asked, IsUnits}
 use Rattle.mk_net.specs.Firsts.{fault_if, first_of}
 use Rattle.mk_exact.specs.Events.{always}
@@ -24,20 +29,23 @@ use Rattle.mk_exact.specs.Prices.{CoversPrice, exact_price}
 use Rattle.mk_exact.specs.Sides.{AreRightLimits}
 use Rattle.mk_exact.specs.Market.{Market, network_of, cliques_of}
 use Rattle.mk_exact.specs.Cash.{CoversCash}
-use Rattle.mk_exact.specs.Existing.{IsPositivePrice}
+use Rattle.mk_exact.specs.Existing.{IsPortion}
 use Rattle.mk_exact.proofs.ExistBounds.{cash_fits, least_cash_fits}
 use Rattle.mk_exact.proofs.Sums.{each_weaker}
 use Rattle.mk_exact.proofs.ExistMarkets.{price_exists}
+use Rattle.mk_exact.specs.Risk.{least_weight}
+use Rattle.mk_exact.proofs.Risk.{bound_fits}
 use Rattle.mk_spread.specs.Spreads.{SpreadAsked}
 use Rattle.mk_spread.specs.Bounds.{Intervals}
 use Rattle.mk_spread.specs.Markets.{AreRightBoundsOf}
+use Rattle.mk_spread.specs.Existing.{IsShareInterval}
 use Rattle.mk_spread.proofs.Exist.{right_bounds_fit}
 use Rattle.mk_spread.proofs.Fair.{fair_list_fits}
 use Rattle.mk_text.specs.Numbers.{IsShort, AreLimits, IsInterval, AreIntervals}
 use Rattle.mk_text.specs.Texts.{IsPairText, IsCondition, IsQuestionText}
 use Rattle.mk_command.specs.Commands.{IsCommand}
 use Rattle.mk_command.specs.declared.command.Command.{Command}
-use Rattle.mk_command.specs.declared.command.Command.TheVariants.{User, Deposit, Withdraw, Price, Limits, Edit, Bounds, Spread, Worst, Resolve, Settle}
+use Rattle.mk_command.specs.declared.command.Command.TheVariants.{User, Deposit, Withdraw, Price, Limits, Edit, Bounds, Spread, Worst, Resolve, Settle, Bound}
 use Rattle.mk_reply.specs.Refusals.{given_in, IsRefusal}
 use Rattle.mk_reply.specs.Replies.{IsReply, IsRatio, IsPayment as HasText}
 use Rattle.mk_reply.specs.declared.refusal.Refusal.{Refusal}
@@ -45,7 +53,7 @@ use Rattle.mk_reply.specs.declared.refusal.Refusal.TheVariants.{Unknown, Twice, 
 use Rattle.mk_reply.specs.declared.payments.Payment.{Payment}
 use Rattle.mk_reply.specs.declared.reply.Reply.{Reply}
 use Rattle.mk_reply.specs.declared.reply.Reply.TheVariants.{Refused}
-use Rattle.mk_rules.specs.Refusals.{pairs_of, names_in, variables_in, question_named, spread_named, user_number, first_repeat, settled, no_user, no_variable, unknown, twice, stale, resolved, impossible, wide, wide_spread, numbers, ranges, sums, trades_full, unresolved, refusals, first_refusal}
+use Rattle.mk_rules.specs.Refusals.{pairs_of, names_in, variables_in, question_named, spread_named, user_number, first_repeat, settled, no_user, no_variable, unknown, twice, stale, resolved, impossible, impossible_together, sure_value, impossible_share, missing_share, least_share, wide, wide_spread, numbers, ranges, sums, trades_full, unresolved, refusals, first_refusal}
 use Rattle.mk_rules.specs.Quotes.{Interval, last_quote, current_limits, current_bounds}
 use Rattle.mk_rules.specs.Answers.{IsTrade, IsJudged, IsJudgedAfresh, IsSpreadTrade, IsOutside, IsSpreadJudged, IsSpreadJudgedAfresh, IsWithdrawal, IsPayment, IsSettlement, IsAnswer, IsAllowed}
 use Rattle.mk_rules.specs.Transcript.{Standing, Line, OfCommand, NoCommand, LongLine, IsAllowedFor}
@@ -54,6 +62,7 @@ use Rattle.mk_rules.specs.Bounded.{IsLine, IsBounded}
 use Rattle.mk_rules.proofs.Options.{value_of}
 use Rattle.mk_rules.proofs.Unrefused.{none_applies}
 use Rattle.mk_rules.proofs.Spreads.{spread_is, numbers_in_range}
+use Rattle.mk_rules.proofs.Spreadable.{as_many_shares}
 use Rattle.mk_rules.proofs.Quoted.{current_right, current_bounds_right}
 use Rattle.mk_rules.proofs.Revisions.{revision_fits}
 use Rattle.mk_rules.proofs.Answered.{can_be_asked}
@@ -136,13 +145,13 @@ number_fault : (o : Option ℕ) → IfSome o IsShort → IfSome (option_map Rang
 number_fault None h = tt
 number_fault (Some n) h = omega (arith, h)
 
-ranges_have : (most : ℕ) (numbers : List ℕ) → AllByRecursion IsShort numbers → IfSome (ranges most numbers) IsRefusal
-ranges_have most numbers h = number_fault _ (found_has IsShort _ numbers h)
+ranges_have : (least most : ℕ) (numbers : List ℕ) → AllByRecursion IsShort numbers → IfSome (ranges least most numbers) IsRefusal
+ranges_have least most numbers h = number_fault _ (found_has IsShort _ numbers h)
 
 -- numbers below a million make no more than a million for each
-few_millions : (numbers : List ℕ) → AllByRecursion (λ n. (1 ≤ n) × (n ≤ 999999)) numbers → sum numbers ≤ length numbers * 999999
-few_millions numbers h = sum_by-le (λ n. n) 999999 numbers
-    (All-from_recursion (λ n. n ≤ 999999) numbers (each_weaker (λ n. (1 ≤ n) × (n ≤ 999999)) (λ n. n ≤ 999999) (λ n inside. inside.1) numbers h))
+few_millions : (least : ℕ) (numbers : List ℕ) → AllByRecursion (λ n. (least ≤ n) × (n ≤ 999999)) numbers → sum numbers ≤ length numbers * 999999
+few_millions least numbers h = sum_by-le (λ n. n) 999999 numbers
+    (All-from_recursion (λ n. n ≤ 999999) numbers (each_weaker (λ n. (least ≤ n) × (n ≤ 999999)) (λ n. n ≤ 999999) (λ n inside. inside.1) numbers h))
 
 wide_spread_has : (market : Market) (H : List Entry) (v : List ℕ) (pairs : List PairText) → IfSome (wide_spread market H v pairs) IsRefusal
 wide_spread_has market H v pairs = at (spread_named (network_of market H) v pairs)
@@ -176,8 +185,9 @@ right_limits_have : (network : List Variable) (H : List Entry) (u : ℕ) (asked 
 right_limits_have network H u asked limits h = limits_have limits h.right.in_range
 
 -- and so have bounds
-interval_has : (interval : ℕ × ℕ) → IsWithinRange (Some interval) → IsInterval interval
-interval_has (low, high) h = record { positive = h.0; ordered = h.1; below = h.2 }
+interval_has : (interval : ℕ × ℕ) → IsShareInterval interval → IsInterval interval
+interval_has interval (inl none) = inl none
+interval_has (low, high) (inr h) = inr (record { positive = h.0; ordered = h.1; below = h.2 })
 
 right_bounds_have : (network : List Variable) (H : List Entry) (u : ℕ) (spread : SpreadAsked) (intervals : Intervals) → IsNetwork network → spread.variable < length network
     → AreRightBoundsOf network H u spread intervals → AreIntervals intervals
@@ -187,14 +197,14 @@ right_bounds_have network H u spread (Some given) net within right =
     record { two = fit.0.two; few = fit.0.few; each = λ k d inside. interval_has _ (fit.1 k d inside) }
 
 -- the low end of a price is no more than one
-low_at_most_one : (small : Type 0) (price : Fraction) (low high : ℕ) → IsPositivePrice price → CoversPrice small price low high → low ≤ 10 ^ 10
+low_at_most_one : (small : Type 0) (price : Fraction) (low high : ℕ) → IsPortion price → CoversPrice small price low high → low ≤ 10 ^ 10
 low_at_most_one small price low high positive covers = at (cases_lt (10 ^ 10) low)
   where
     at : (10 ^ 10 < low) ⊎ (low ≤ 10 ^ 10) → low ≤ 10 ^ 10
     at (inl more) =
         let next : 10 ^ 10 + 1 ≤ low = omega arith in
         let above : (10 ^ 10 + 1) * price.den ≤ low * price.den = mul-le-mul_right price.den next in
-        absurd (omega (arith, covers.below, positive.positive, positive.at_most_one))
+        absurd (omega (arith, covers.below, positive.divides, positive.at_most_one))
     at (inr most) = most
 
 -- payments of a bounded history have texts
@@ -223,6 +233,14 @@ module _ (market : Market) (now : Standing) (is_market : IsMarket market) (ready
   next : revision H + 1 < 2 ^ 63
   next = revision_fits market H is_market ready.stands bounded
 
+  -- each value of a variable is a name
+  value_named : (v : List ℕ) → IsName v → (n k : ℕ) → k < slice_index (sizes network) n → IsPairText (record { variable = v; value = slice_index_or (variable_at network n).values k [] })
+  value_named v named n k below = record { variable = named; value = at (cases_lt n (length network)) }
+    where
+      at : (n < length network) ⊎ (length network ≤ n) → IsName (slice_index_or (variable_at network n).values k [])
+      at (inl within) = (is_market.network.each n nobody within).values_named k [] (omega (arith, below, size_at network is_market.network n within))
+      at (inr past) = absurd (let none : slice_index (sizes network) n ≡ 0 = get_or_past (sizes network) n 0 (omega (arith, as_many network)) in omega (arith, below))
+
   -- where its numbers are in range, their sum is short
   spread_refused : (u v : List ℕ) (condition : ArrayVec PairText) (to : ArrayVec ℕ) (seen : Option ℕ) → IsCommand (Spread u v condition to seen)
       → IfSome (first_refusal market H (Spread u v condition to seen)) IsRefusal
@@ -230,8 +248,9 @@ module _ (market : Market) (now : Standing) (is_market : IsMarket market) (ready
       let pairs = condition_pairs condition.items text.2 in
       first_then
       (settled H ∷ no_user H u ∷ no_variable network v ∷ unknown network condition.items ∷ twice (v ∷ names_in condition.items) ∷ stale H seen
-      ∷ resolved network H v ∷ impossible network H condition.items ∷ wide_spread market H v condition.items ∷ numbers network v to.items ∷ [])
-      (ranges 999999 to.items ∷ sums to.items ∷ trades_full market H ∷ []) (
+      ∷ resolved network H v ∷ impossible network H condition.items ∷ wide_spread market H v condition.items ∷ [])
+      (numbers network v to.items ∷ ranges (least_share market) 999999 to.items ∷ sums to.items ∷ trades_full market H ∷ impossible_together network H condition.items
+      ∷ sure_value network H v condition.items ∷ impossible_share network H v condition.items to.items ∷ missing_share network H v condition.items to.items ∷ []) (
         faulted _ _ tt,
         (
           faulted _ _ text.0,
@@ -241,21 +260,35 @@ module _ (market : Market) (now : Standing) (is_market : IsMarket market) (ready
               unknown_has network condition.items pairs,
               (
                 names_have v condition.items text.1 pairs,
-                (
-                  stale_has H seen next text.4,
-                  (
-                    faulted _ _ text.1,
-                    (impossible_has network H condition.items pairs, (wide_spread_has market H v condition.items, (faulted _ _ (omega (arith, text.3.few)), tt))),
-                  ),
-                ),
+                (stale_has H seen next text.4, (faulted _ _ text.1, (impossible_has network H condition.items pairs, (wide_spread_has market H v condition.items, tt)))),
               ),
             ),
           ),
         ),
       )
-      (then_has (ranges 999999 to.items) (sums to.items ∷ trades_full market H ∷ []) (ranges_have 999999 to.items (recursion_from_All IsShort to.items text.3.each)) (λ within.
-      let most = few_millions to.items (numbers_in_range 999999 to.items within) in
-      first_has (sums to.items ∷ trades_full market H ∷ []) (faulted _ _ (omega (arith, most, text.3.few)), (faulted _ _ (omega (arith, is_market.few_trades)), tt))))
+      (then_has (numbers network v to.items) (ranges (least_share market) 999999 to.items ∷ sums to.items ∷ trades_full market H ∷ impossible_together network H condition.items ∷ sure_value network H v condition.items
+      ∷ impossible_share network H v condition.items to.items ∷ missing_share network H v condition.items to.items ∷ []) (faulted _ _ (omega (arith, text.3.few))) (λ one_each.
+      then_has (ranges (least_share market) 999999 to.items) (sums to.items ∷ trades_full market H ∷ impossible_together network H condition.items ∷ sure_value network H v condition.items
+      ∷ impossible_share network H v condition.items to.items ∷ missing_share network H v condition.items to.items ∷ []) (ranges_have (least_share market) 999999 to.items (recursion_from_All IsShort to.items text.3.each)) (λ within.
+      let most = few_millions (least_share market) to.items (numbers_in_range (least_share market) 999999 to.items within) in
+      first_has (sums to.items ∷ trades_full market H ∷ impossible_together network H condition.items ∷ sure_value network H v condition.items
+      ∷ impossible_share network H v condition.items to.items ∷ missing_share network H v condition.items to.items ∷ []) (
+        faulted _ _ (omega (arith, most, text.3.few)),
+        (
+          faulted _ _ (omega (arith, is_market.few_trades)),
+          (
+            together_have IsRefusal network H [] condition.items pairs,
+            (
+              sure_has IsRefusal network H v condition.items (value_named v text.1),
+              (
+                share_has IsRefusal network H v condition.items to.items (value_named v text.1)
+                    (λ spread named. let same = as_many_shares network v condition.items spread to.items named one_each in omega (arith, same)),
+                (missing_has IsRefusal network H v condition.items to.items (omega arith), tt),
+              ),
+            ),
+          ),
+        ),
+      ))))
 
   refused_has : (command : Command) → IsCommand command → IfSome (first_refusal market H command) IsRefusal
   refused_has (User u) text = first_has (refusals market H (User u)) (faulted _ _ tt, (faulted _ _ text, (faulted _ _ refl, tt)))
@@ -264,11 +297,11 @@ module _ (market : Market) (now : Standing) (is_market : IsMarket market) (ready
   refused_has (Price q) text =
       let pairs = pairs_are q text in
       first_has (refusals market H (Price q))
-      (faulted _ _ tt, (unknown_has network (pairs_of q) pairs, (twice_has (pairs_of q) pairs, (faulted _ _ pairs.0.variable, (impossible_has network H q.condition.items pairs.1, (faulted _ _ tt, tt))))))
+      (faulted _ _ tt, (unknown_has network (pairs_of q) pairs, (twice_has (pairs_of q) pairs, (faulted _ _ pairs.0.variable, (impossible_has network H q.condition.items pairs.1, (faulted _ _ tt, (together_have IsRefusal network H [] q.condition.items pairs.1, tt)))))))
   refused_has (Limits u q) text =
       let pairs = pairs_are q text.1 in
       first_has (refusals market H (Limits u q))
-      (faulted _ _ tt, (faulted _ _ text.0, (unknown_has network (pairs_of q) pairs, (twice_has (pairs_of q) pairs, (faulted _ _ pairs.0.variable, (impossible_has network H q.condition.items pairs.1, (faulted _ _ tt, tt)))))))
+      (faulted _ _ tt, (faulted _ _ text.0, (unknown_has network (pairs_of q) pairs, (twice_has (pairs_of q) pairs, (faulted _ _ pairs.0.variable, (impossible_has network H q.condition.items pairs.1, (faulted _ _ tt, (together_have IsRefusal network H [] q.condition.items pairs.1, (decided_has IsRefusal network H q pairs.0 pairs.0, tt)))))))))
   refused_has (Edit u q X seen) text =
       let pairs = pairs_are q text.1 in
       first_has (refusals market H (Edit u q X seen)) (
@@ -283,7 +316,7 @@ module _ (market : Market) (now : Standing) (is_market : IsMarket market) (ready
                 stale_has H seen next text.3,
                 (
                   faulted _ _ pairs.0.variable,
-                  (impossible_has network H q.condition.items pairs.1, (faulted _ _ tt, (faulted _ _ (omega (arith, text.2)), (faulted _ _ (omega (arith, is_market.few_trades)), tt)))),
+                  (impossible_has network H q.condition.items pairs.1, (faulted _ _ tt, (faulted _ _ (omega (arith, text.2)), (faulted _ _ (omega (arith, is_market.few_trades)), (together_have IsRefusal network H [] q.condition.items pairs.1, (decided_has IsRefusal network H q pairs.0 pairs.0, tt)))))),
                 ),
               ),
             ),
@@ -302,7 +335,7 @@ module _ (market : Market) (now : Standing) (is_market : IsMarket market) (ready
               unknown_has network condition.items pairs,
               (
                 names_have v condition.items text.1 pairs,
-                (faulted _ _ text.1, (impossible_has network H condition.items pairs, (wide_spread_has market H v condition.items, tt))),
+                (faulted _ _ text.1, (impossible_has network H condition.items pairs, (wide_spread_has market H v condition.items, (together_have IsRefusal network H [] condition.items pairs, (sure_has IsRefusal network H v condition.items (value_named v text.1), tt))))),
               ),
             ),
           ),
@@ -310,8 +343,9 @@ module _ (market : Market) (now : Standing) (is_market : IsMarket market) (ready
       )
   refused_has (Spread u v condition to seen) text = spread_refused u v condition to seen text
   refused_has (Worst u) text = first_has (refusals market H (Worst u)) (faulted _ _ tt, (faulted _ _ text, tt))
-  refused_has (Resolve p) text = first_has (refusals market H (Resolve p)) (faulted _ _ tt, (unknown_has network (p ∷ []) (text, tt), (faulted _ _ text.variable, tt)))
+  refused_has (Resolve p) text = first_has (refusals market H (Resolve p)) (faulted _ _ tt, (unknown_has network (p ∷ []) (text, tt), (faulted _ _ text.variable, (together_have IsRefusal network H [] (p ∷ []) (text, tt), tt))))
   refused_has Settle text = first_has (refusals market H Settle) (faulted _ _ tt, (unresolved_has network H is_market.network, tt))
+  refused_has Bound text = first_has (refusals market H Bound) (faulted _ _ tt, tt)
 
   refusal_has : (command : Command) (why : Refusal) → IsCommand command → first_refusal market H command ≡ Some why → IsRefusal why
   refusal_has command why text e = subst (λ (o : Option Refusal). IfSome o IsRefusal) e (refused_has command text)
@@ -373,7 +407,7 @@ module _ (market : Market) (now : Standing) (is_market : IsMarket market) (ready
       let refused = none_applies (refusals market H (Price q)) none in
       let price = value_of _ (question_named network q) h in
       let exact = price_exists network H price.0 is_market.network ready.stands.proper
-      (can_be_asked network H q price.0 price.1 refused.1.0 refused.1.1.0 refused.1.1.1.0 refused.1.1.1.1.0) in
+      (can_be_asked network H q price.0 ready.stands.proper price.1 refused.1.0 refused.1.1.0 refused.1.1.1.0 refused.1.1.1.1.1.1.0) in
       reply_has reply _ price.2.printed (low_at_most_one (IsSmall network H) (exact_price network H price.0) price.2.low price.2.high exact.exact price.2.covers, price.2.covers.at_most_one)
   answer_has (Limits u q) reply text none h =
       let limits = value_of _ (question_named network q) h in
@@ -395,6 +429,10 @@ module _ (market : Market) (now : Standing) (is_market : IsMarket market) (ready
       reply_has reply _ least.2.printed (omega (arith, high, least.2.covers.above, least.2.covers.below), high)
   answer_has (Resolve p) reply text none h = reply_has reply _ h (text, next)
   answer_has Settle reply text none h = settlement_has reply h
+  answer_has Bound reply text none h =
+      let least = value_of _ (least_weight network H) h.covers in
+      let high = bound_fits network H market.points_per_bit least.0 h.low h.high is_market.network is_market.few_points least.1 least.2 in
+      reply_has reply _ h.printed (omega (arith, high, least.2.above, least.2.below), high)
 
   command_has : (command : Command) (reply : Reply) → IsCommand command → IsAllowed market H now.quotes command reply → IsReply reply
   command_has command reply text h = at (first_refusal market H command) refl h

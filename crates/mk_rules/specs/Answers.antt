@@ -6,12 +6,14 @@ use Rattle.mk_net.specs.declared.words.QuestionText.{QuestionText}
 use Rattle.mk_net.specs.Network.{Variable}
 use Rattle.mk_net.specs.Named.{pair_named}
 use Rattle.mk_net.specs.Asked.{Asked}
+use Rattle.mk_exact.specs.InitialWeight.{initial_total}
 use Rattle.mk_exact.specs.Events.{always}
 use Rattle.mk_exact.specs.History.{Entry, Join, Deposit as Deposits, Withdraw as Withdraws, Trade, Resolve as Resolves, Settle as Settles, users, revision}
 use Rattle.mk_exact.specs.Weight.{IsSmall, possible_states}
 use Rattle.mk_exact.specs.Factors.{Fraction, factor, factor_with, least_gain}
 use Rattle.mk_exact.specs.Prices.{CoversPrice, exact_price}
 use Rattle.mk_exact.specs.Cash.{CoversCash}
+use Rattle.mk_exact.specs.Risk.{least_weight, CoversBound}
 use Rattle.mk_exact.specs.Limits.{Inside}
 use Rattle.mk_exact.specs.Sides.{AreRightLimits, IsFairPair, ratio_in}
 use Rattle.mk_exact.specs.Accepted.{Covers, IsMost}
@@ -21,11 +23,11 @@ use Rattle.mk_spread.specs.Bounds.{Intervals, InsideEach}
 use Rattle.mk_spread.specs.Markets.{AreRightBoundsOf, IsFairList}
 use Rattle.arrayvec.specs.ArrayVec.{ArrayVec}
 use Rattle.mk_command.specs.declared.command.Command.{Command}
-use Rattle.mk_command.specs.declared.command.Command.TheVariants.{User, Deposit, Withdraw, Price, Limits, Edit, Bounds, Spread, Worst, Resolve, Settle}
+use Rattle.mk_command.specs.declared.command.Command.TheVariants.{User, Deposit, Withdraw, Price, Limits, Edit, Bounds, Spread, Worst, Resolve, Settle, Bound}
 use Rattle.mk_reply.specs.declared.refusal.Refusal.TheVariants.{Beyond, Outside, Short, Memory}
 use Rattle.mk_reply.specs.declared.payments.Payment.{Payment}
 use Rattle.mk_reply.specs.declared.reply.Reply.{Reply}
-use Rattle.mk_reply.specs.declared.reply.Reply.TheVariants.{Joined, Deposited, Withdrawn, Price as Priced, Limits as Limited, Traded, Bounded, Spreaded, Worst as Worsted, Resolved, Settled, Refused}
+use Rattle.mk_reply.specs.declared.reply.Reply.TheVariants.{Joined, Deposited, Withdrawn, Price as Priced, Limits as Limited, Traded, Bounded, Spreaded, Worst as Worsted, Resolved, Settled, Bound as Risked, Refused}
 use Rattle.mk_reply.specs.Refusals.{given_in}
 use Rattle.mk_rules.specs.Refusals.{question_named, spread_named, user_number, first_refusal}
 use Rattle.mk_rules.specs.Quotes.{Interval, Quoted, EditLimits, SpreadBounds, Quotes, last_quote, current_limits, current_bounds}
@@ -135,6 +137,13 @@ pub record IsSettlement (network : List Variable) (H : List Entry) (points_per_b
   pub printed : reply ≡ Settled (revision H + 1) payments
   pub paid : AllZip (IsPayment H points_per_bit state) (enumerate_from 0 (users H)) payments
 
+-- an interval that covers the most that the operator can lose
+pub record IsBound (network : List Variable) (H : List Entry) (points_per_bit : ℕ) (reply : Reply) : Type 0 where
+  pub low : ℕ
+  pub high : ℕ
+  pub printed : reply ≡ Risked low high
+  pub covers : IsSomeAnd (least_weight network H) (λ least. CoversBound (initial_total network) least points_per_bit low high)
+
 -- the replies to a command that meets no refusal of the table, but perhaps `beyond`, `outside`, `short` or want of memory
 abbrev pub IsAnswer : Market → List Entry → Quotes → Command → Reply → Type 0
 IsAnswer market H quotes (User u) reply = (reply ≡ Joined u (revision H + 1)) ⊎ (reply ≡ Refused Memory)
@@ -167,6 +176,7 @@ IsAnswer market H quotes (Worst u) reply =
     IsSomeAnd (least_gain (network_of market H) H n always) (λ g. IsWorst (factor_with H n g) market.points_per_bit reply)
 IsAnswer market H quotes (Resolve p) reply = reply ≡ Resolved p (revision H + 1)
 IsAnswer market H quotes Settle reply = IsSettlement (network_of market H) H market.points_per_bit reply
+IsAnswer market H quotes Bound reply = IsBound (network_of market H) H market.points_per_bit reply
 
 -- the refusal of the table that comes first is the one reply; else the command's answers
 abbrev pub IsAllowed : Market → List Entry → Quotes → Command → Reply → Type 0

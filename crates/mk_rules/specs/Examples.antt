@@ -1,5 +1,5 @@
 -- Refusals, replies, quotes and a short run in small markets.
-use Rattle.std.specs.Prelude.{◌≡◌, ℕ, List, [], ◌∷◌, ◌++◌, map, replicate, codes, Option, Some, None}
+use Rattle.std.specs.Prelude.{◌≡◌, ℕ, List, [], ◌∷◌, ◌++◌, false, map, replicate, codes, Option, Some, None}
 use Rattle.std.specs.List.{range_with_len}
 use Rattle.mk_net.specs.declared.words.PairText.{PairText}
 use Rattle.mk_net.specs.declared.words.QuestionText.{QuestionText}
@@ -20,16 +20,16 @@ use Rattle.mk_rules.specs.Transcript.{Standing, opening, Line, OfCommand, Run}
 
 -- a coin; a coin whose market takes one trade; a die; the weather; and a chain of three
 abbrev pub coin_market : Market
-coin_market = record { network = coin; cliques = (0 ∷ []) ∷ []; points_per_bit = 100; max_trades = 1000 }
+coin_market = record { network = coin; cliques = (0 ∷ []) ∷ []; points_per_bit = 100; max_trades = 1000; zeros = false }
 
 abbrev pub one_trade : Market
-one_trade = record { network = coin; cliques = (0 ∷ []) ∷ []; points_per_bit = 100; max_trades = 1 }
+one_trade = record { network = coin; cliques = (0 ∷ []) ∷ []; points_per_bit = 100; max_trades = 1; zeros = false }
 
 abbrev pub die_market : Market
-die_market = record { network = die; cliques = (0 ∷ []) ∷ []; points_per_bit = 100; max_trades = 1000 }
+die_market = record { network = die; cliques = (0 ∷ []) ∷ []; points_per_bit = 100; max_trades = 1000; zeros = false }
 
 abbrev pub weather_market : Market
-weather_market = record { network = weather; cliques = (0 ∷ 1 ∷ []) ∷ (0 ∷ []) ∷ []; points_per_bit = 100; max_trades = 1000 }
+weather_market = record { network = weather; cliques = (0 ∷ 1 ∷ []) ∷ (0 ∷ []) ∷ []; points_per_bit = 100; max_trades = 1000; zeros = false }
 
 abbrev pub chain_market : Market
 chain_market = record {
@@ -37,6 +37,7 @@ chain_market = record {
   cliques = (0 ∷ 1 ∷ []) ∷ (1 ∷ 2 ∷ []) ∷ (2 ∷ []) ∷ [];
   points_per_bit = 100;
   max_trades = 1000;
+  zeros = false;
 }
 
 abbrev pub bob : List ℕ

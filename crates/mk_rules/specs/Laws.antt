@@ -1,12 +1,13 @@
 -- The laws of the market's rules. Each is the contract of a function of this crate, and so proved.
-use Rattle.std.specs.Prelude.{◌≡◌, ℕ, ◌≤◌, List, [], ◌∷◌, ◌++◌, length, map, All, Option, Some, None, ⊤, ◌↔◌}
+use Rattle.std.specs.Prelude.{◌≡◌, ℕ, ◌+◌, ◌*◌, ◌≤◌, sum, sum_by, List, [], ◌∷◌, ◌++◌, length, map, All, Option, Some, None, ⊤, ◌↔◌}
 use Rattle.std.specs.List.{AllByRecursion}
 use Rattle.arrayvec.specs.ArrayVec.{ArrayVec}
 use Rattle.mk_net.specs.declared.words.PairText.{PairText}
 use Rattle.mk_net.specs.declared.words.QuestionText.{QuestionText}
 use Rattle.mk_net.specs.Asked.{Asked}
 use Rattle.mk_exact.specs.Events.{always}
-use Rattle.mk_exact.specs.History.{Entry, revision}
+use Rattle.mk_exact.specs.States.{numbers_below}
+use Rattle.mk_exact.specs.History.{Entry, users, revision, deposited, withdrawn}
 use Rattle.mk_exact.specs.Weight.{possible_states, IsSmall}
 use Rattle.mk_exact.specs.Market.{Market, network_of}
 use Rattle.mk_exact.specs.Limits.{Inside}
@@ -14,12 +15,12 @@ use Rattle.mk_spread.specs.Spreads.{SpreadAsked}
 use Rattle.mk_spread.specs.Bounds.{Intervals, InsideEach}
 use Rattle.mk_exact.specs.Laws.{GainsAreBounded, LossIsBounded}
 use Rattle.mk_command.specs.declared.command.Command.{Command}
-use Rattle.mk_command.specs.declared.command.Command.TheVariants.{Edit, Spread}
+use Rattle.mk_command.specs.declared.command.Command.TheVariants.{Edit, Spread, Settle, Bound}
 use Rattle.mk_reply.specs.Replies.{IsReply}
 use Rattle.mk_reply.specs.declared.refusal.Refusal.{Refusal}
 use Rattle.mk_reply.specs.declared.payments.Payment.{Payment}
 use Rattle.mk_reply.specs.declared.reply.Reply.{Reply}
-use Rattle.mk_reply.specs.declared.reply.Reply.TheVariants.{Traded, Spreaded, Settled, Refused}
+use Rattle.mk_reply.specs.declared.reply.Reply.TheVariants.{Traded, Spreaded, Settled, Bound as Risked, Refused}
 use Rattle.mk_rules.specs.Refusals.{question_named, spread_named, user_number, first_refusal}
 use Rattle.mk_rules.specs.Quotes.{Interval, no_quotes, last_quote, current_limits, current_bounds}
 use Rattle.mk_rules.specs.Transcript.{Standing, opening, Line, OfCommand, IsAllowedFor, after, Run}
@@ -39,7 +40,7 @@ RunKeeps = (market : Market) (old new : Standing) (lines : List Line) (replies :
 -- the history after each run from the opening stands
 abbrev pub RunStands : Type 0
 RunStands = (market : Market) (new : Standing) (lines : List Line) (replies : List Reply)
-    → Run market opening lines replies new → Stands market new.history
+    → IsMarket market → Run market opening lines replies new → Stands market new.history
 
 -- a history that stands is ready where its users were quoted nothing, as after a restart and at the opening
 abbrev pub UnquotedIsReady : Type 0
@@ -58,7 +59,7 @@ RunKeepsReady = (market : Market) (old new : Standing) (lines : List Line) (repl
 -- the standing after each run from the opening is ready
 abbrev pub RunIsReady : Type 0
 RunIsReady = (market : Market) (new : Standing) (lines : List Line) (replies : List Reply)
-    → Run market opening lines replies new → IsReady market new
+    → IsMarket market → Run market opening lines replies new → IsReady market new
 
 -- a line has an allowed reply
 abbrev pub HasReply : Market → Standing → Line → Type 0
@@ -110,7 +111,7 @@ RunsJoin = (market : Market) (old middle new : Standing) (first second : List Li
 -- and in each possible state after it, what all users have gained is at most one over its initial probability
 abbrev pub RunIsBounded : Type 0
 RunIsBounded = (market : Market) (new : Standing) (lines : List Line) (replies : List Reply)
-    → Run market opening lines replies new
+    → IsMarket market → Run market opening lines replies new
     → All (GainsAreBounded (network_of market new.history) new.history) (possible_states (network_of market new.history) new.history always)
 
 -- what is paid at a settlement
@@ -136,7 +137,7 @@ PaysWithin market H _ = ⊤
 -- in each run from the opening, so do the payments of each settlement
 abbrev pub RunSettles : Type 0
 RunSettles = (market : Market) (new : Standing) (lines : List Line) (replies : List Reply)
-    → Run market opening lines replies new → All (PaysWithin market new.history) replies
+    → IsMarket market → Run market opening lines replies new → All (PaysWithin market new.history) replies
 
 -- the reply to an edit or a spread is a trade
 abbrev pub IsTraded : Reply → Type 0
@@ -179,3 +180,15 @@ SpreadOneKind = (market : Market) (now : Standing) (u v : List ℕ) (condition :
     → IsSmall (network_of market now.history) now.history → first_refusal market now.history (Spread u v condition to seen) ≡ None
     → IsAllowedFor market now (OfCommand (Spread u v condition to seen)) first → IsAllowedFor market now (OfCommand (Spread u v condition to seen)) second
     → IsTraded first ↔ IsTraded second
+
+-- what the payments of a settlement and all withdrawals cost beyond all deposits, in points, is at most so much
+pub record CostsNoMoreThan (market : Market) (H : List Entry) (payments : List Payment) (most : ℕ) : Type 0 where
+  pub bound : sum (paid_by payments) + market.points_per_bit * sum_by (withdrawn H) (numbers_below (length (users H)))
+      ≤ market.points_per_bit * sum_by (deposited H) (numbers_below (length (users H))) + most
+
+-- whatever comes behind an allowed reply to `bound`, an allowed settlement costs no more than the reply's high end
+abbrev pub BoundIsKept : Type 0
+BoundIsKept = (market : Market) (middle new : Standing) (first second : List Line) (replies more : List Reply) (low high at : ℕ) (payments : List Payment)
+    → IsMarket market → Run market opening first replies middle → IsAllowedFor market middle (OfCommand Bound) (Risked low high)
+    → Run market middle second more new → IsAllowedFor market new (OfCommand Settle) (Settled at payments)
+    → CostsNoMoreThan market new.history payments high

@@ -1,5 +1,5 @@
 -- The refusals that come in every history, and their order. Each answers a refusal or none.
-use Rattle.std.specs.Prelude.{ℕ, ◌-◌, List, [], ◌∷◌, length, map, sum, Bool, false, ◌&&◌, not, ◌==◌, nat_le, if◌then◌else◌, is_none, Option, Some, None, option_map, option_and_then, find}
+use Rattle.std.specs.Prelude.{ℕ, ◌-◌, List, [], ◌∷◌, length, map, sum, Bool, false, ◌&&◌, ◌||◌, not, ◌++◌, slice_index_or, ◌==◌, nat_le, if◌then◌else◌, is_none, Option, Some, None, option_map, option_and_then, find}
 use Rattle.std.specs.List.{list_all, list_any, position_or_len, enumerate_from, filter_map, count_by}
 use Rattle.mk_net.specs.declared.words.Pair.{Pair}
 use Rattle.mk_net.specs.declared.words.PairText.{PairText}
@@ -7,17 +7,20 @@ use Rattle.mk_net.specs.declared.words.QuestionText.{QuestionText}
 use Rattle.mk_net.specs.Bounds.{max_users, max_transfers, max_transfer_bits, million}
 use Rattle.mk_net.specs.Texts.{same_text}
 use Rattle.mk_net.specs.Network.{Variable}
-use Rattle.mk_net.specs.Named.{pair_named, variable_named}
+use Rattle.mk_net.specs.Named.{pair_named, variable_named, variable_at}
 use Rattle.mk_net.specs.Asked.{Asked}
 use Rattle.mk_net.specs.Events.{speaks_of}
-use Rattle.mk_net.specs.Firsts.{fault_if, first_of}
+use Rattle.mk_net.specs.Firsts.{fault_if, or_else, first_of}
 use Rattle.mk_exact.specs.History.{Entry, users, trades, resolutions, is_settled, is_transfer, revision}
+use Rattle.mk_exact.specs.Events.{holds, with_target, without_target}
+use Rattle.mk_exact.specs.Weight.{cannot_come}
 use Rattle.mk_exact.specs.Market.{Market, network_of, cliques_of}
 use Rattle.mk_spread.specs.Spreads.{SpreadAsked}
+use Rattle.mk_spread.specs.Markets.{value_cannot_come, values_left}
 use Rattle.mk_command.specs.declared.command.Command.{Command}
-use Rattle.mk_command.specs.declared.command.Command.TheVariants.{User, Deposit, Withdraw, Price, Limits, Edit, Bounds, Spread, Worst, Resolve, Settle}
+use Rattle.mk_command.specs.declared.command.Command.TheVariants.{User, Deposit, Withdraw, Price, Limits, Edit, Bounds, Spread, Worst, Resolve, Settle, Bound}
 use Rattle.mk_reply.specs.declared.refusal.Refusal.{Refusal}
-use Rattle.mk_reply.specs.declared.refusal.Refusal.TheVariants.{Settled, User as NoUser, Exists, Users, Unknown, Twice, Stale, Resolved, Impossible, Wide, Range, Full, Unresolved, NoVariable, Numbers, Sum}
+use Rattle.mk_reply.specs.declared.refusal.Refusal.TheVariants.{Settled, User as NoUser, Exists, Users, Unknown, Twice, Stale, Resolved, Impossible, Wide, Range, Full, Unresolved, NoVariable, Numbers, Sum, Sure}
 
 -- the pairs of a question as they are written, the target first
 abbrev pub pairs_of : QuestionText → List PairText
@@ -116,13 +119,60 @@ abbrev pub wide_spread : Market → List Entry → List ℕ → List PairText �
 wide_spread market H v pairs = option_and_then (λ (spread : SpreadAsked). wide (cliques_of market H) (spread.variable ∷ variables_in spread.condition))
     (spread_named (network_of market H) v pairs)
 
+-- the first pair of a list with which, beside some pairs and those before it, no possible state is left
+abbrev pub impossible_after : List Variable → List Entry → List Pair → List PairText → Option Refusal
+impossible_after network H before [] = None
+impossible_after network H before (p ∷ ps) =
+    let held = before ++ known_pairs network (p ∷ []) in
+    if cannot_come network H (holds held) then Some (Impossible p) else impossible_after network H held ps
+
+-- the first pair with which, beside those before it, none is left
+abbrev pub impossible_together : List Variable → List Entry → List PairText → Option Refusal
+impossible_together network H pairs = impossible_after network H [] pairs
+
+-- where the condition of a question holds its target cannot come, or nothing else can
+abbrev pub decided : List Variable → List Entry → QuestionText → Option Refusal
+decided network H q = option_and_then (λ (asked : Asked). or_else
+    (fault_if (cannot_come network H (with_target asked)) (Impossible q.target))
+    (fault_if (cannot_come network H (without_target asked)) (Sure q.target))) (question_named network q)
+
+-- a variable in words with one of its values
+abbrev pub pair_with : List Variable → List ℕ → SpreadAsked → ℕ → PairText
+pair_with network v spread value = record { variable = v; value = slice_index_or (variable_at network spread.variable).values value [] }
+
+-- the one number of a list that has no other
+abbrev pub only : List ℕ → Option ℕ
+only [] = None
+only (n ∷ []) = Some n
+only (n ∷ m ∷ ns) = None
+
+-- where the condition holds one value alone can come
+abbrev pub sure_value : List Variable → List Entry → List ℕ → List PairText → Option Refusal
+sure_value network H v pairs = option_and_then (λ (spread : SpreadAsked).
+    option_map (λ value. Sure (pair_with network v spread value)) (only (values_left network H spread))) (spread_named network v pairs)
+
+-- the first value with a share that cannot come where the condition holds
+abbrev pub impossible_share : List Variable → List Entry → List ℕ → List PairText → List ℕ → Option Refusal
+impossible_share network H v pairs to = option_and_then (λ (spread : SpreadAsked).
+    option_map (λ (numbered : ℕ × ℕ). Impossible (pair_with network v spread (numbered.0)))
+    (find (λ (numbered : ℕ × ℕ). nat_le 1 (numbered.1) && value_cannot_come network H spread (numbered.0)) (enumerate_from 0 to))) (spread_named network v pairs)
+
+-- some value without a share can come
+abbrev pub missing_share : List Variable → List Entry → List ℕ → List PairText → List ℕ → Option Refusal
+missing_share network H v pairs to = option_and_then (λ (spread : SpreadAsked).
+    fault_if (list_any (λ (numbered : ℕ × ℕ). (numbered.1 == 0) && not (value_cannot_come network H spread (numbered.0))) (enumerate_from 0 to)) (Range 0)) (spread_named network v pairs)
+
 -- a number is 1 to a most
 abbrev pub range : ℕ → ℕ → Option Refusal
 range most n = fault_if (not (nat_le 1 n && nat_le n most)) (Range n)
 
--- the first number that is not
-abbrev pub ranges : ℕ → List ℕ → Option Refusal
-ranges most numbers = option_map Range (find (λ n. not (nat_le 1 n && nat_le n most)) numbers)
+-- the first number that is not from a least to a most
+abbrev pub ranges : ℕ → ℕ → List ℕ → Option Refusal
+ranges least most numbers = option_map Range (find (λ n. not (nat_le least n && nat_le n most)) numbers)
+
+-- the least share that a value may be given: nothing where the market has shares of nothing
+abbrev pub least_share : Market → ℕ
+least_share market = if market.zeros then 0 else 1
 
 -- a distribution has another number of numbers than its variable has values
 abbrev pub numbers : List Variable → List ℕ → List ℕ → Option Refusal
@@ -148,38 +198,59 @@ unresolved network H =
     option_map (λ (numbered : ℕ × Variable). Unresolved (numbered.1).name)
     (find (λ (numbered : ℕ × Variable). not (is_resolved H (numbered.0))) (enumerate_from 0 network))
 
--- what each command is refused for, in this order
-abbrev pub refusals : Market → List Entry → Command → List (Option Refusal)
-refusals market H (User u) = settled H ∷ exists H u ∷ users_full H ∷ []
-refusals market H (Deposit u bits) = settled H ∷ no_user H u ∷ range max_transfer_bits bits ∷ transfers_full H ∷ []
-refusals market H (Withdraw u bits) = settled H ∷ no_user H u ∷ range max_transfer_bits bits ∷ transfers_full H ∷ []
-refusals market H (Price q) =
+-- what each command is refused for by its words and by what was done, in this order
+abbrev pub refusals_by_record : Market → List Entry → Command → List (Option Refusal)
+refusals_by_record market H (User u) = settled H ∷ exists H u ∷ users_full H ∷ []
+refusals_by_record market H (Deposit u bits) = settled H ∷ no_user H u ∷ range max_transfer_bits bits ∷ transfers_full H ∷ []
+refusals_by_record market H (Withdraw u bits) = settled H ∷ no_user H u ∷ range max_transfer_bits bits ∷ transfers_full H ∷ []
+refusals_by_record market H (Price q) =
     let network = network_of market H in
     settled H ∷ unknown network (pairs_of q) ∷ twice (names_in (pairs_of q)) ∷ resolved network H q.target.variable
     ∷ impossible network H q.condition.items ∷ wide_question market H q ∷ []
-refusals market H (Limits u q) =
+refusals_by_record market H (Limits u q) =
     let network = network_of market H in
     settled H ∷ no_user H u ∷ unknown network (pairs_of q) ∷ twice (names_in (pairs_of q)) ∷ resolved network H q.target.variable
     ∷ impossible network H q.condition.items ∷ wide_question market H q ∷ []
-refusals market H (Edit u q to seen) =
+refusals_by_record market H (Edit u q to seen) =
     let network = network_of market H in
     settled H ∷ no_user H u ∷ unknown network (pairs_of q) ∷ twice (names_in (pairs_of q)) ∷ stale H seen
     ∷ resolved network H q.target.variable ∷ impossible network H q.condition.items ∷ wide_question market H q
     ∷ range (million - 1) to ∷ trades_full market H ∷ []
-refusals market H (Bounds u v condition) =
+refusals_by_record market H (Bounds u v condition) =
     let network = network_of market H in
     settled H ∷ no_user H u ∷ no_variable network v ∷ unknown network condition.items ∷ twice (v ∷ names_in condition.items)
     ∷ resolved network H v ∷ impossible network H condition.items ∷ wide_spread market H v condition.items ∷ []
-refusals market H (Spread u v condition to seen) =
+refusals_by_record market H (Spread u v condition to seen) =
     let network = network_of market H in
     settled H ∷ no_user H u ∷ no_variable network v ∷ unknown network condition.items ∷ twice (v ∷ names_in condition.items)
     ∷ stale H seen ∷ resolved network H v ∷ impossible network H condition.items ∷ wide_spread market H v condition.items
-    ∷ numbers network v to.items ∷ ranges (million - 1) to.items ∷ sums to.items ∷ trades_full market H ∷ []
-refusals market H (Worst u) = settled H ∷ no_user H u ∷ []
-refusals market H (Resolve p) =
+    ∷ numbers network v to.items ∷ ranges (least_share market) (million - 1) to.items ∷ sums to.items ∷ trades_full market H ∷ []
+refusals_by_record market H (Worst u) = settled H ∷ no_user H u ∷ []
+refusals_by_record market H (Resolve p) =
     let network = network_of market H in
     settled H ∷ unknown network (p ∷ []) ∷ resolved network H p.variable ∷ []
-refusals market H Settle = settled H ∷ unresolved (network_of market H) H ∷ []
+refusals_by_record market H Settle = settled H ∷ unresolved (network_of market H) H ∷ []
+refusals_by_record market H Bound = settled H ∷ []
+
+-- what it is refused for by what can come, behind these
+abbrev pub refusals_by_states : Market → List Entry → Command → List (Option Refusal)
+refusals_by_states market H (Price q) = impossible_together (network_of market H) H q.condition.items ∷ []
+refusals_by_states market H (Limits u q) =
+    let network = network_of market H in impossible_together network H q.condition.items ∷ decided network H q ∷ []
+refusals_by_states market H (Edit u q to seen) =
+    let network = network_of market H in impossible_together network H q.condition.items ∷ decided network H q ∷ []
+refusals_by_states market H (Bounds u v condition) =
+    let network = network_of market H in impossible_together network H condition.items ∷ sure_value network H v condition.items ∷ []
+refusals_by_states market H (Spread u v condition to seen) =
+    let network = network_of market H in
+    impossible_together network H condition.items ∷ sure_value network H v condition.items
+    ∷ impossible_share network H v condition.items to.items ∷ missing_share network H v condition.items to.items ∷ []
+refusals_by_states market H (Resolve p) = impossible_together (network_of market H) H (p ∷ []) ∷ []
+refusals_by_states market H _ = []
+
+-- what it is refused for, in this order
+abbrev pub refusals : Market → List Entry → Command → List (Option Refusal)
+refusals market H command = refusals_by_record market H command ++ refusals_by_states market H command
 
 -- the first that applies
 abbrev pub first_refusal : Market → List Entry → Command → Option Refusal

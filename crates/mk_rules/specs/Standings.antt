@@ -3,6 +3,7 @@ use Rattle.std.specs.Prelude.{◌≡◌, ℕ, ◌≤◌, List, ◌∷◌, length
 use Rattle.std.specs.List.{AllByRecursion}
 use Rattle.mk_net.specs.Bounds.{million, max_market_trades}
 use Rattle.mk_net.specs.Network.{IsNetwork}
+use Rattle.mk_net.specs.Zeros.{HasNoZeros}
 use Rattle.mk_net.specs.Asked.{TradeRatio}
 use Rattle.mk_exact.specs.History.{Entry, UserTrade, users, trades, revision}
 use Rattle.mk_exact.specs.Proper.{IsProper}
@@ -14,9 +15,11 @@ use Rattle.mk_spread.specs.Markets.{AreRightBoundsOf}
 use Rattle.mk_rules.specs.Quotes.{Quoted, EditLimits, SpreadBounds, Quote, last_quote}
 use Rattle.mk_rules.specs.Transcript.{Standing}
 
--- what a market file that is accepted gives: a network, and two numbers within their limits
+-- what a market file that is accepted gives: a network, two numbers within their limits, and no share of nothing but where these may
+-- occur
 pub record IsMarket (market : Market) : Type 0 where
   pub network : IsNetwork market.network
+  pub shares : market.zeros ≡ false → HasNoZeros market.network
   pub some_points : 1 ≤ market.points_per_bit
   pub few_points : market.points_per_bit ≤ million
   pub some_trades : 1 ≤ market.max_trades

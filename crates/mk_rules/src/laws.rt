@@ -1,5 +1,5 @@
 //! What allowed replies keep.
-ghost use Rattle.mk_rules.specs.Laws.{AllowedKeeps, RunKeeps, RunStands, UnquotedIsReady, ReadyKeeps, RunKeepsReady, RunIsReady, AlwaysAnswered, RunsExist, StateStaysPossible, BoundedKeeps, NamesKeepBounds, RunStaysBounded, RepliesHaveTexts, RunsJoin, RunIsBounded, SettlementKeeps, RunSettles, JudgedExactly, SpreadJudgedExactly, OneRefusal, OneKind, SpreadOneKind};
+ghost use Rattle.mk_rules.specs.Laws.{AllowedKeeps, RunKeeps, RunStands, UnquotedIsReady, ReadyKeeps, RunKeepsReady, RunIsReady, AlwaysAnswered, RunsExist, StateStaysPossible, BoundedKeeps, NamesKeepBounds, RunStaysBounded, RepliesHaveTexts, RunsJoin, RunIsBounded, SettlementKeeps, RunSettles, BoundIsKept, JudgedExactly, SpreadJudgedExactly, OneRefusal, OneKind, SpreadOneKind};
 
 /// An allowed reply leads from a sound history to a sound one, whatever the line, and users, pairs and units stay in range.
 pub fn allowed_keeps()
@@ -91,6 +91,11 @@ pub fn settlement_keeps()
 /// the run leaves.
 pub fn run_settles()
     ensures { RunSettles }
+{}
+
+/// Whatever comes behind an allowed reply to `bound`, an allowed settlement costs the operator no more than the reply's high end.
+pub fn bound_is_kept()
+    ensures { BoundIsKept }
 {}
 
 /// An edit under limits that were quoted is a trade exactly where its share is inside of them.

@@ -13,9 +13,9 @@ pub use examples::{
     example_worst,
 };
 pub use laws::{
-    allowed_keeps, always_answered, bounded_keeps, judged_exactly, names_keep_bounds, one_kind,
-    one_refusal, ready_keeps, replies_have_texts, run_is_bounded, run_is_ready, run_keeps,
-    run_keeps_ready, run_settles, run_stands, run_stays_bounded, runs_exist, runs_join,
-    settlement_keeps, spread_judged_exactly, spread_one_kind, state_stays_possible,
-    unquoted_is_ready,
+    allowed_keeps, always_answered, bound_is_kept, bounded_keeps, judged_exactly,
+    names_keep_bounds, one_kind, one_refusal, ready_keeps, replies_have_texts, run_is_bounded,
+    run_is_ready, run_keeps, run_keeps_ready, run_settles, run_stands, run_stays_bounded,
+    runs_exist, runs_join, settlement_keeps, spread_judged_exactly, spread_one_kind,
+    state_stays_possible, unquoted_is_ready,
 };

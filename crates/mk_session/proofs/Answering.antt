@@ -9,7 +9,7 @@ use Rattle.mk_exact.specs.Market.{Market, network_of}
 use Rattle.mk_exact.proofs.Gains.{gains_bounded}
 use Rattle.mk_reply.specs.declared.reply.Reply.{Reply}
 use Rattle.mk_rules.specs.Transcript.{Standing, opening, Line, IsAllowedFor, after, Run}
-use Rattle.mk_rules.specs.Standings.{Stands}
+use Rattle.mk_rules.specs.Standings.{IsMarket, Stands}
 use Rattle.mk_rules.proofs.Keeps.{run_keeps, opening_stands}
 use Rattle.mk_rules.proofs.Settling.{run_settles}
 use Rattle.mk_session.specs.Texts.{ready_line, reply_line}
@@ -91,23 +91,23 @@ then_answered market old mid new ls ms a b first second = record {
 }
 
 -- what lines that are answered from the opening on keep
-pub allowed_run_of : (market : Market) (lines : List StreamLine) (end : Standing) (replies : List Reply) → AreReplied market opening lines end replies
+pub allowed_run_of : (market : Market) → IsMarket market → (lines : List StreamLine) (end : Standing) (replies : List Reply) → AreReplied market opening lines end replies
     → IsAllowedRun market lines end replies
-allowed_run_of market lines end replies replied =
-    let stands : Stands market end.history = run_keeps market opening end replied.asked replies (opening_stands market) replied.run in
+allowed_run_of market is_market lines end replies replied =
+    let stands : Stands market end.history = run_keeps market opening end replied.asked replies (opening_stands market is_market) replied.run in
     record {
       replied = replied;
       stands = stands;
       bounded = gains_bounded (network_of market end.history) end.history stands.sound stands.proper;
-      settled = run_settles market opening end replied.asked replies (opening_stands market) replied.run;
+      settled = run_settles market opening end replied.asked replies (opening_stands market is_market) replied.run;
     }
 
 -- behind the ready line they are a transcript
-pub transcript_of : (market : Market) (lines : List StreamLine) (end : Standing) (answers : List ℕ) → AreAnswered market opening lines end answers
+pub transcript_of : (market : Market) → IsMarket market → (lines : List StreamLine) (end : Standing) (answers : List ℕ) → AreAnswered market opening lines end answers
     → Transcript market lines (ready_line market ++ answers)
-transcript_of market lines end answers answered = record {
+transcript_of market is_market lines end answers answered = record {
   after = end;
   replies = answered.replies;
-  run = allowed_run_of market lines end answered.replies answered.replied;
+  run = allowed_run_of market is_market lines end answered.replies answered.replied;
   printed = ap (λ (bytes : List ℕ). ready_line market ++ bytes) answered.printed;
 }

@@ -8,6 +8,7 @@ use Rattle.mk_io.specs.Stream.{StreamLine, stream_lines, max_stream_lines, max_s
 use Rattle.mk_io.specs.Cutting.{Cutting, fresh, stream_left, first_size, GivesLine, Stays, Overruns, IsTooMuch, HasReadCause}
 use Rattle.mk_exact.specs.Market.{Market}
 use Rattle.mk_reply.specs.declared.reply.Reply.{Reply}
+use Rattle.mk_rules.specs.Standings.{IsMarket}
 use Rattle.mk_rules.specs.Transcript.{Standing, opening}
 use Rattle.mk_session.specs.declared.counts.Tally.{Tally}
 use Rattle.mk_session.specs.declared.counts.TallyFault.{TallyFault}
@@ -48,8 +49,9 @@ counts_none earlier tally counts = subst (λ (replies : List Reply). AreCounted 
 pub remembered_one : (reply : Reply) → is_want reply ≡ false → All IsRemembered (reply ∷ [])
 remembered_one reply none = All-cons IsRemembered reply [] (λ e. let want : true ≡ false = sym (ap is_want e) ∙ none in cc) (All-nil IsRemembered)
 
-none_counted : (market : Market) (now : Standing) → now ≡ opening → IsCounted market [] now uncounted
-none_counted market now begins = record {
+none_counted : (market : Market) → IsMarket market → (now : Standing) → now ≡ opening → IsCounted market [] now uncounted
+none_counted market is_market now begins = record {
+  is_market = is_market;
   replies = [];
   replied = none_replied market opening now begins;
   remembered = All-nil IsRemembered;
@@ -59,21 +61,22 @@ none_counted market now begins = record {
 counted_next : (market : Market) (lines : List StreamLine) (line : StreamLine) (now then : Standing) (before after : Tally)
     → CountsLine market now line then before after → IsCounted market lines now before → IsCounted market (lines ++ line ∷ []) then after
 counted_next market lines line now then before after more counted = record {
+  is_market = counted.is_market;
   replies = counted.replies ++ more.replies;
   replied = then_replied market opening now then lines (line ∷ []) counted.replies more.replies counted.replied more.replied;
   remembered = All-append IsRemembered counted.replies more.replies counted.remembered more.remembered;
   counts = more.counts counted.replies counted.counts;
 }
 
-counted_at_start : (market : Market) (all source : List ℕ) (now : Standing) → source ≡ all → now ≡ opening
+counted_at_start : (market : Market) → IsMarket market → (all source : List ℕ) (now : Standing) → source ≡ all → now ≡ opening
     → IsCountedSoFar market all fresh source now uncounted
-counted_at_start market all source now told begins = record {
+counted_at_start market is_market all source now told begins = record {
   done = [];
   left = all;
   bytes = refl;
   known = ap Some told;
   between = inl refl;
-  answers = none_counted market now begins;
+  answers = none_counted market is_market now begins;
   given = refl;
   spent = refl;
 }
@@ -81,15 +84,15 @@ counted_at_start market all source now told begins = record {
 none_within : IsWithin fresh.given uncounted
 none_within = record { replies = omega arith; trades = omega arith; refused = omega arith }
 
-pub counting_at_start : (market : Market) (all : List ℕ) (lines : Cutting) (source : List ℕ) (now : Standing) (tally : Tally) → lines ≡ fresh → tally ≡ uncounted
+pub counting_at_start : (market : Market) → IsMarket market → (all : List ℕ) (lines : Cutting) (source : List ℕ) (now : Standing) (tally : Tally) → lines ≡ fresh → tally ≡ uncounted
     → source ≡ all → now ≡ opening → IsCounting market market all lines source now tally
-counting_at_start market all lines source now tally unread none told begins =
+counting_at_start market is_market all lines source now tally unread none told begins =
     subst (λ (l : Cutting). IsCounting market market all l source now tally) (sym unread)
     (subst (λ (t : Tally). IsCounting market market all fresh source now t) (sym none) (record {
       same = refl;
       goes_on = inl refl;
       fits = none_within;
-      far = counted_at_start market all source now told begins;
+      far = counted_at_start market is_market all source now told begins;
     }))
 
 -- a line was given and counted
@@ -112,7 +115,7 @@ tally_of market all old new source rest now tally far empty stays few_lines few_
     record {
       after = now;
       replies = counted.replies;
-      run = allowed_run_of market (stream_lines all) now counted.replies
+      run = allowed_run_of market counted.is_market (stream_lines all) now counted.replies
           (subst (λ (bytes : List ℕ). AreReplied market opening (stream_lines bytes) now counted.replies) (sym whole) counted.replied);
       remembered = counted.remembered;
       counts = counted.counts;

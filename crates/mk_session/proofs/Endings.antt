@@ -24,7 +24,7 @@ transcript_so_far : (market : Market) (all : List ℕ) (cutting : Cutting) (sour
 transcript_so_far market all cutting source now before written waits empty far =
     let bytes = far.answers.bytes in
     let whole : bytes ++ waits ≡ bytes = ap (λ (rest : List ℕ). bytes ++ rest) empty ∙ no_more bytes in
-    transcript_of market (stream_lines far.done) now bytes
+    transcript_of market far.answers.is_market (stream_lines far.done) now bytes
     (subst (λ (output : List ℕ). AreAnswered market opening (stream_lines far.done) now output) whole far.answers.holds)
 
 pub second_empty : (xs ys : List ℕ) → xs ++ ys ≡ [] → ys ≡ []
@@ -138,7 +138,7 @@ ended_broken market all part cutting source rest now before written after waited
           bytes = far.bytes ∙ ap (λ (left : List ℕ). far.done ++ left) r.parts;
           lines = whole_or_none cutting.last far.done far.left (part ++ r.rest) r.parts far.between;
           text = ready_line market ++ (bytes ++ waited);
-          transcript = transcript_of market (stream_lines far.done) now (bytes ++ waited) far.answers.holds;
+          transcript = transcript_of market far.answers.is_market (stream_lines far.done) now (bytes ++ waited) far.answers.holds;
           front = record { rest = cut.rest; parts = front_parts (ready_line market) bytes waited cut.front cut.rest cut.parts };
         };
       };

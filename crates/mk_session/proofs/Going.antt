@@ -7,6 +7,7 @@ use Rattle.mk_io.specs.declared.status.Status.{Status}
 use Rattle.mk_io.specs.Cutting.{Cutting, fresh, GoesOn}
 use Rattle.mk_io.proofs.Told.{append_known_none, prepend_known_none}
 use Rattle.mk_exact.specs.Market.{Market}
+use Rattle.mk_rules.specs.Standings.{IsMarket}
 use Rattle.mk_rules.specs.Transcript.{Standing, opening}
 use Rattle.mk_session.specs.Transcript.{AreAnswered}
 use Rattle.mk_session.specs.inner.Progress.{IsSoFar}
@@ -22,15 +23,16 @@ pub record IsGoing (start market : Market) (commands : Option (List ℕ)) (lines
   pub counts : CountsNone inputs_before inputs sink_before sink
   pub far : (all : List ℕ) → commands ≡ Some all → IsSoFar start all lines source now before written waits
 
-pub far_at_start : (market : Market) (all : List ℕ) (source : Option (List ℕ)) (now : Standing) (before : Option (List ℕ)) (waits : List ℕ)
+pub far_at_start : (market : Market) → IsMarket market → (all : List ℕ) (source : Option (List ℕ)) (now : Standing) (before : Option (List ℕ)) (waits : List ℕ)
     → source ≡ Some all → now ≡ opening → waits ≡ [] → IsSoFar market all fresh source now before before waits
-far_at_start market all source now before waits told begins empty = record {
+far_at_start market is_market all source now before waits told begins empty = record {
   done = [];
   left = all;
   bytes = refl;
   known = prepend_known_none source ∙ told;
   between = inl refl;
   answers = record {
+    is_market = is_market;
     bytes = [];
     added = append_known_none before;
     holds = subst (λ (output : List ℕ). AreAnswered market opening [] now output) (sym empty) (none_answered market opening now begins);

@@ -12,6 +12,7 @@ use Rattle.mk_file.specs.declared.fault.FileFault.{FileFault}
 use Rattle.mk_file.specs.declared.fault.FileFault.TheVariants.{TooLong}
 use Rattle.mk_file.specs.File.{file_of, of_document, document_of}
 use Rattle.mk_session.specs.Texts.{ready_line, fault_line}
+use Rattle.mk_rules.specs.Standings.{IsMarket}
 use Rattle.mk_rules.specs.Transcript.{opening}
 use Rattle.mk_session.specs.Outcome.{Adds, Ends, Serves, NotOpened, Opened}
 use Rattle.mk_session.specs.inner.Progress.{IsEnded}
@@ -73,9 +74,9 @@ served_when_ended status market file all line source before ready after same is 
     }
 
 -- a run whose ready line was cut off
-pub broken_at_ready : (market file : Market) (all line : List ℕ) (source before after : Option (List ℕ)) → market ≡ file
+pub broken_at_ready : (market file : Market) → IsMarket market → (all line : List ℕ) (source before after : Option (List ℕ)) → market ≡ file
     → line ≡ ready_line market → source ≡ Some all → AddsFront before after line → Opened WriteFault (Ok file) all source before after
-broken_at_ready market file all line source before after same is told front =
+broken_at_ready market file is_market all line source before after same is told front =
     record {
       rest = all;
       told = told;
@@ -88,7 +89,7 @@ broken_at_ready market file all line source before after same is told front =
           bytes = refl;
           lines = inl (inl refl);
           text = ready_line market ++ [];
-          transcript = transcript_of market [] opening [] (none_answered market opening opening refl);
+          transcript = transcript_of market is_market [] opening [] (none_answered market opening opening refl);
           front = record { rest = front.rest; parts = no_more (ready_line market) ∙ sym is ∙ front.parts };
         });
       };

@@ -9,8 +9,7 @@ use Rattle.mk_io.proofs.WholeLines.{whole_lines-append}
 use Rattle.mk_exact.specs.Market.{Market}
 use Rattle.mk_rules.specs.Transcript.{Standing, opening}
 use Rattle.mk_session.specs.Transcript.{AreAnswered}
-use Rattle.mk_session.specs.Outcome.{Adds}
-use Rattle.mk_session.specs.inner.Progress.{Gathers, AreGathered, IsBetween, IsPlaced, IsSoFar}
+use Rattle.mk_session.specs.inner.Progress.{Gathers, AreGathered, IsBetween, IsPlaced, AreSaid, IsSoFar}
 use Rattle.mk_session.proofs.Answering.{no_more, then_answered}
 use Rattle.mk_session.proofs.Gathering.{parts_behind}
 
@@ -99,9 +98,10 @@ pub so_far_next : (market : Market) (all : List ℕ) (line : StreamLine) (old ne
     → IsSoFar market all new rest then before after waits
 so_far_next market all line old new source rest now then before written after waited waits none gives said far =
     let gone = said.gathers.gone in
-    placed_next all line old new source rest (λ lines. Adds before written (λ bytes. AreAnswered market opening lines now (bytes ++ waited)))
-    (λ lines. Adds before after (λ bytes. AreAnswered market opening lines then (bytes ++ waits))) none gives
+    placed_next all line old new source rest (λ lines. AreSaid market lines now before written waited)
+    (λ lines. AreSaid market lines then before after waits) none gives
     (λ lines answers. record {
+      is_market = answers.is_market;
       bytes = answers.bytes ++ gone;
       added = said.gathers.added ∙ ap (λ (w : Option (List ℕ)). append_known w gone) answers.added ∙ append_known_twice before answers.bytes gone;
       holds = subst (λ (output : List ℕ). AreAnswered market opening (lines ++ line ∷ []) then output)
@@ -122,6 +122,7 @@ still_so_far market all cutting source now before written after waited waits gat
       known = far.known;
       between = far.between;
       answers = record {
+        is_market = far.answers.is_market;
         bytes = bytes ++ gathers.gone;
         added = gathers.added ∙ ap (λ (w : Option (List ℕ)). append_known w gathers.gone) far.answers.added
             ∙ append_known_twice before bytes gathers.gone;

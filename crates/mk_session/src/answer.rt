@@ -7,6 +7,7 @@ ghost use Rattle.mk_io.specs.Stream.{text, long, max_stream_lines};
 ghost use Rattle.mk_io.specs.Cutting.{GoesOn};
 ghost use Rattle.mk_session.specs.Texts.{reply_line};
 ghost use Rattle.mk_exact.specs.Market.{Market};
+ghost use Rattle.mk_rules.specs.Standings.{IsMarket};
 ghost use Rattle.mk_rules.specs.Transcript.{Standing, opening};
 ghost use Rattle.mk_session.specs.Transcript.{AreReplied};
 ghost use Rattle.mk_session.specs.Outcome.{HasCauses, CountsNone};
@@ -195,7 +196,8 @@ pub fn answer_lines<I: Inputs, S: Sink>(
     buffer: &mut LineBuffer,
     out: &mut S,
 ) -> Status
-    requires { market.old.standing ≡ opening }
+    requires is_market { IsMarket market.old.market }
+    requires opening { market.old.standing ≡ opening }
     ensures ended { (all : List ℕ) → I.commands inputs.old ≡ Some all →
         IsEnded result market.old.market all (I.commands inputs.new) (S.written out.old) (S.written out.new) }
     ensures causes { HasCauses result (I.faults inputs.old) (I.faults inputs.new) (S.faults out.old) (S.faults out.new) }

@@ -7,6 +7,7 @@ ghost use Rattle.mk_tree.specs.Checked.{IsTreeOf};
 ghost use Rattle.mk_file.specs.File.{file_of};
 ghost use Rattle.mk_file.specs.MarketOf.{market_of};
 ghost use Rattle.mk_exact.specs.Market.{Market};
+ghost use Rattle.mk_rules.specs.Standings.{IsMarket};
 ghost use Rattle.mk_rules.specs.Transcript.{Standing, opening};
 ghost use Rattle.mk_session.specs.Tally.{TallyEnds};
 ghost use Rattle.mk_session.specs.inner.Counting.{is_want, IsWithin, HasRoom, CountsLine, IsCountedSoFar, counted_as};
@@ -57,7 +58,8 @@ fn tally_file(alloc: Global, file: MarketFile, commands: &[u8]) -> Result<Tally,
 
 /// Counts the replies to all commands, of which it takes a copy.
 fn count_all(alloc: Global, market: &mut TreeMarket, commands: &[u8]) -> Result<Tally, TallyFault>
-    requires { market.old.standing ≡ opening }
+    requires is_market { IsMarket market.old.market }
+    requires opening { market.old.standing ≡ opening }
     ensures { TallyEnds result (Ok market.old.market) commands.now }
 {
     match commands.to_vec(alloc) {
@@ -72,7 +74,8 @@ fn count_replies(
     market: &mut TreeMarket,
     commands: Vec<u8>,
 ) -> Result<Tally, TallyFault>
-    requires { market.old.standing ≡ opening }
+    requires is_market { IsMarket market.old.market }
+    requires opening { market.old.standing ≡ opening }
     ensures { TallyEnds result (Ok market.old.market) commands.items }
 {
     let mut inputs = QuietInputs::new(Vec::new(alloc), commands, PIECE);

@@ -3,6 +3,7 @@
 ghost use Rattle.std.specs.Prelude.{◌≡◌, IfOk};
 ghost use Rattle.mk_tree.specs.Checked.{IsTreeOf};
 ghost use Rattle.mk_file.specs.MarketOf.{market_of};
+ghost use Rattle.mk_rules.specs.Standings.{IsMarket};
 ghost use Rattle.mk_rules.specs.Transcript.{opening};
 
 use mk_engine::Engine;
@@ -19,7 +20,8 @@ pub type TreeMarket = Market<TreeEngine<SumProd>, TreeEngine<MinProd>>;
 /// The market of an accepted file, before any command. Its engines share one plan, since that of a long chain takes long to make.
 pub(crate) fn open(alloc: Global, file: MarketFile) -> Result<TreeMarket, NoMemory>
     requires { IsTreeOf file.net file.tree }
-    ensures { IfOk result (λ market. market ≡ record { market = market_of file; standing = opening }) }
+    ensures opened { IfOk result (λ market. market ≡ record { market = market_of file; standing = opening }) }
+    ensures is_market { IfOk result (λ _. IsMarket (market_of file)) }
 {
     let plan = TreeEngine::<SumProd>::plan(alloc, &file.net, &file.tree)?;
     let users = plan.clone()?;

@@ -6,6 +6,7 @@ ghost use Rattle.mk_file.specs.File.{file_of};
 ghost use Rattle.mk_tree.specs.Checked.{IsTreeOf};
 ghost use Rattle.mk_file.specs.MarketOf.{market_of};
 ghost use Rattle.mk_exact.specs.Market.{Market};
+ghost use Rattle.mk_rules.specs.Standings.{IsMarket};
 ghost use Rattle.mk_rules.specs.Transcript.{opening};
 ghost use Rattle.mk_file.specs.declared.fault.FileFault.{FileFault};
 ghost use Rattle.mk_session.specs.Outcome.{Adds, Ends, Opened, Outcome, HasCauses};
@@ -125,6 +126,7 @@ fn answer_opened<I: Inputs, S: Sink>(
     line: &mut LineBuffer,
     out: &mut S,
 ) -> Status
+    requires is_market { IsMarket market.old.market }
     requires opening { market.old.standing ≡ opening }
     requires ready { line.old.bytes ≡ ready_line market.old.market }
     ensures outcome { (all : List ℕ) → I.commands inputs.old ≡ Some all →

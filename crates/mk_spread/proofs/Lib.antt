@@ -1,3 +1,5 @@
+pub mod Left
+pub mod Suits
 pub mod Listed
 pub mod When
 pub mod Fair

@@ -1,8 +1,8 @@
 -- Lists of sides, shares and units, place by place.
-use Rattle.std.proofs.Common.{◌≡◌, ℕ, zero, suc, ◌+◌, ◌<◌, ◌≤◌, List, [], ◌∷◌, length, slice_index, slice_index_or, Any, refl, sym, ap, ◌∙◌, subst, arith}
+use Rattle.std.proofs.Common.{◌≡◌, ℕ, zero, suc, ◌+◌, ◌<◌, ◌≤◌, List, [], ◌∷◌, length, slice_index, slice_index_or, Option, Any, refl, sym, ap, ◌∙◌, subst, arith}
 use Rattle.std.specs.List.{AllZip, AllByRecursion, range_with_len}
-use Rattle.mk_exact.specs.Limits.{Side, IsFairAndSolvent}
-use Rattle.mk_spread.specs.Bounds.{AreFairUnits}
+use Rattle.mk_exact.specs.Limits.{Side}
+use Rattle.mk_spread.specs.Bounds.{IsFairFor, AreFairUnits}
 
 -- a list for each number of a range is as long
 pub ranged_length : {X : Type 0} (P : ℕ → X → Type 0) (n a : ℕ) (xs : List X) → AllZip P (range_with_len a n) xs → length xs ≡ n
@@ -12,7 +12,7 @@ ranged_length P (suc n) a [] h = absurd h
 ranged_length P (suc n) a (x ∷ xs) h = ap suc (ranged_length P n (a + 1) xs h.1)
 
 -- there are as many shares and units as sides
-pub fair_lengths : (small : Type 0) (sides : List Side) (Xs Fs : List ℕ) → AreFairUnits small sides Xs Fs → (length Xs ≡ length sides) × (length Fs ≡ length sides)
+pub fair_lengths : (small : Type 0) (sides : List (Option Side)) (Xs Fs : List ℕ) → AreFairUnits small sides Xs Fs → (length Xs ≡ length sides) × (length Fs ≡ length sides)
 fair_lengths small [] [] [] h = (refl, refl)
 fair_lengths small [] [] (F ∷ Fs) h = absurd h
 fair_lengths small [] (X ∷ Xs) Fs h = absurd h
@@ -23,8 +23,8 @@ fair_lengths small (side ∷ sides) (X ∷ Xs) (F ∷ Fs) h =
     (ap suc rest.0, ap suc rest.1)
 
 -- the side, the share and the units of one value
-pub fair_at : (P : ℕ → Side → Type 0) (small : Type 0) (n a : ℕ) (sides : List Side) (Xs Fs : List ℕ) → AllZip P (range_with_len a n) sides → AreFairUnits small sides Xs Fs
-    → (k : ℕ) → k < n → (side : Side) × P (a + k) side × IsFairAndSolvent small side (slice_index Xs k) (slice_index Fs k)
+pub fair_at : (P : ℕ → Option Side → Type 0) (small : Type 0) (n a : ℕ) (sides : List (Option Side)) (Xs Fs : List ℕ) → AllZip P (range_with_len a n) sides → AreFairUnits small sides Xs Fs
+    → (k : ℕ) → k < n → (side : Option Side) × P (a + k) side × IsFairFor small side (slice_index Xs k) (slice_index Fs k)
 fair_at P small zero a sides Xs Fs h f k p = absurd (omega arith)
 fair_at P small (suc n) a [] Xs Fs h f k p = absurd h
 fair_at P small (suc n) a (side ∷ sides) [] Fs h f k p = absurd f
@@ -38,12 +38,12 @@ fair_at P small (suc n) a (side ∷ sides) (X ∷ Xs) (F ∷ Fs) h f (suc k) p =
     there : a + 1 + k ≡ a + suc k
     there = omega arith
 
-    later : (other : Side) × P (a + 1 + k) other × IsFairAndSolvent small other (slice_index Xs k) (slice_index Fs k)
-        → (other : Side) × P (a + suc k) other × IsFairAndSolvent small other (slice_index Xs k) (slice_index Fs k)
+    later : (other : Option Side) × P (a + 1 + k) other × IsFairFor small other (slice_index Xs k) (slice_index Fs k)
+        → (other : Option Side) × P (a + suc k) other × IsFairFor small other (slice_index Xs k) (slice_index Fs k)
     later r = (r.0, subst (λ i. P i (r.0)) there (r.1), r.2)
 
 -- what holds of the units of each value holds of each number
-pub each_units : (P : ℕ → Type 0) (small : Type 0) → ((side : Side) (X F : ℕ) → IsFairAndSolvent small side X F → P F) → (sides : List Side) (Xs Fs : List ℕ)
+pub each_units : (P : ℕ → Type 0) (small : Type 0) → ((side : Option Side) (X F : ℕ) → IsFairFor small side X F → P F) → (sides : List (Option Side)) (Xs Fs : List ℕ)
     → AreFairUnits small sides Xs Fs → AllByRecursion P Fs
 each_units P small f [] [] [] h = tt
 each_units P small f [] [] (F ∷ Fs) h = absurd h

@@ -1,5 +1,5 @@
 -- A fair list takes the price of each value near its share.
-use Rattle.std.proofs.Common.{◌≡◌, ℕ, zero, suc, ◌+◌, ◌-◌, ◌*◌, ◌^◌, ◌<◌, ◌≤◌, List, [], ◌∷◌, length, slice_index, sum, sym, arith, le_of_lt, mul-le-mul_left, mul-le-mul_right}
+use Rattle.std.proofs.Common.{◌≡◌, ℕ, zero, suc, ◌+◌, ◌-◌, ◌*◌, ◌^◌, ◌<◌, ◌≤◌, List, [], ◌∷◌, length, slice_index, sum, sym, arith, mul-le-mul_left, mul-le-mul_right}
 use Rattle.std.proofs.lemmas.List.Sums.{sum_by-cons}
 use Rattle.mk_net.specs.Bounds.{million}
 use Rattle.mk_net.specs.Network.{Variable, sizes}
@@ -25,10 +25,19 @@ index_within_sum (X ∷ Xs) (suc k) =
     let rest = index_within_sum Xs k in
     rw (sum_by-cons (λ x. x) X Xs) (omega (arith, rest))
 
+-- a list whose sum is not 0 has an element that is not
+some_index : (Xs : List ℕ) → 1 ≤ sum Xs → (k : ℕ) × (k < length Xs) × (1 ≤ slice_index Xs k)
+some_index [] h = absurd (omega arith)
+some_index (zero ∷ Xs) h = later (some_index Xs (omega (arith, h, sum_by-cons (λ x. x) zero Xs)))
+  where
+    later : (k : ℕ) × (k < length Xs) × (1 ≤ slice_index Xs k) → (k : ℕ) × (k < length (zero ∷ Xs)) × (1 ≤ slice_index (zero ∷ Xs) k)
+    later r = (suc (r.0), omega (arith, r.1), r.2)
+some_index (suc X ∷ Xs) h = (0, omega arith, omega arith)
+
 -- A and D are the new weights of a value and of the condition, and Z that of the condition before
-near_value : (X A D part Z : ℕ) → X ≤ 10 ^ 6 → part ≤ Z → A * 10 ^ 6 ≤ X * unit * Z → X * unit * Z * (2 ^ 30 - 1) < (A + part) * 10 ^ 6 * 2 ^ 30
+near_value : (X A D part Z : ℕ) → X ≤ 10 ^ 6 → part ≤ Z → 1 ≤ Z → A * 10 ^ 6 ≤ X * unit * Z → X * unit * Z * (2 ^ 30 - 1) ≤ (A + part) * 10 ^ 6 * 2 ^ 30
     → D ≤ unit * Z → unit * Z * (2 ^ 30 - 1) ≤ (D + Z) * 2 ^ 30 → IsNear (record { num = A; den = D }) X
-near_value X A D part Z share within not_above close at_most nearly =
+near_value X A D part Z share within weighs not_above close at_most nearly =
     let cut : X * Z ≤ 10 ^ 6 * Z = mul-le-mul_right Z share in
     let scaled : X * D ≤ X * (unit * Z) = mul-le-mul_left X at_most in
     let from_below : X * (unit * Z * (2 ^ 30 - 1)) ≤ X * ((D + Z) * 2 ^ 30) = mul-le-mul_left X nearly in
@@ -60,8 +69,17 @@ module _ (network : List Variable) (H : List Entry) (u : ℕ) (spread : SpreadAs
           ≤ (slice_index Fs (0 + k) * part_of network H spread (0 + k) + part_of network H spread (0 + k)) * (million * 2 ^ 30)
       each k p =
           let same : 0 + k ≡ k = omega arith in
-          let fair = le_of_lt (listed_fair network H u spread Xs Fs list k (omega (arith, (listed_lengths network H u spread Xs Fs list).0))).close in
+          let fair = (listed_fair network H u spread Xs Fs list k (omega (arith, (listed_lengths network H u spread Xs Fs list).0))).close in
           rw same (omega (arith, fair))
+
+  -- some value has a share, and so weight
+  weighs : 1 ≤ before
+  weighs = at (some_index Xs (omega (arith, shares)))
+    where
+      at : (k : ℕ) × (k < length Xs) × (1 ≤ slice_index Xs k) → 1 ≤ before
+      at r =
+          let part = (listed_fair network H u spread Xs Fs list (r.0) (omega (arith, r.1, (listed_lengths network H u spread Xs Fs list).0))).weighs (r.2) in
+          omega (arith, part, total_condition network H (asked_of spread (r.0)))
 
   pub spread_moves : (value : ℕ) → value < slice_index (sizes network) spread.variable
       → IsNear (exact_price network (spread_traded H u spread Fs) (asked_of spread value)) (slice_index Xs value)
@@ -69,5 +87,5 @@ module _ (network : List Variable) (H : List Entry) (u : ℕ) (spread : SpreadAs
       let fair = listed_fair network H u spread Xs Fs list value p in
       rw (total_traded network H u (spread_ratio spread Fs) (with_target (asked_of spread value)), traded_value network H spread Fs value, total_traded network H u (spread_ratio spread Fs) (holds spread.condition))
       (near_value (slice_index Xs value) (slice_index Fs value * part_of network H spread value) after (part_of network H spread value) before
-      (omega (arith, index_within_sum Xs value, shares)) (omega (arith, total_condition network H (asked_of spread value)))
+      (omega (arith, index_within_sum Xs value, shares)) (omega (arith, total_condition network H (asked_of spread value))) weighs
       (omega (arith, fair.not_above)) (omega (arith, fair.close)) at_most nearly)

@@ -15,7 +15,7 @@ use Rattle.mk_exact.specs.Factors.{gain, trade_count, factor, factor_with}
 use Rattle.mk_exact.specs.Prices.{IsSolvent}
 use Rattle.mk_exact.specs.Accepted.{IsSafeTrade}
 use Rattle.mk_exact.proofs.Sums.{each_kept, kept_each, each_weaker, each_both}
-use Rattle.mk_exact.proofs.Listed.{states_are, value_below}
+use Rattle.mk_exact.proofs.Listed.{all_are, value_below}
 use Rattle.mk_exact.proofs.Totals.{traded_sum}
 use Rattle.mk_exact.proofs.Solvent.{least_each, solvent_up}
 use Rattle.mk_spread.specs.Spreads.{SpreadAsked, asked_of, spread_ratio}
@@ -76,7 +76,7 @@ module _ (network : List Variable) (H : List Entry) (u : ℕ) (spread : SpreadAs
   solvent : All (λ s. IsSolvent (ratio_at (spread_ratio spread Fs) s) (factor H u s)) (possible_states network H (holds spread.condition))
   solvent = kept_each (λ s. is_possible H s && holds spread.condition s) (λ s. IsSolvent (ratio_at (spread_ratio spread Fs) s) (factor H u s)) (all_states network)
       (each_weaker (λ s. IsState (sizes network) s × Each s) Solvent (λ s h. state_solvent s h.0 h.1) (all_states network)
-      (each_both (IsState (sizes network)) Each (all_states network) (states_are (sizes network))
+      (each_both (IsState (sizes network)) Each (all_states network) (all_are network)
       (at_each Value (slice_index (sizes network) spread.variable) (all_states network) value_solvent)))
     where
       Value : ℕ → List ℕ → Type 0

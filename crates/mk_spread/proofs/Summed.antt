@@ -12,7 +12,7 @@ use Rattle.mk_exact.specs.Ratios.{unit, ratio_at}
 use Rattle.mk_exact.specs.History.{Entry}
 use Rattle.mk_exact.specs.Weight.{weight, total, is_possible, possible_states}
 use Rattle.mk_exact.proofs.Sums.{sums_are_plus, plus_over-filter, plus_over_by_key, sum_by_is, sum_by-times, sum_by-filter, each_weaker}
-use Rattle.mk_exact.proofs.Listed.{states_are, value_below}
+use Rattle.mk_exact.proofs.Listed.{all_are, value_below}
 use Rattle.mk_exact.proofs.Totals.{total_is, traded_sum}
 use Rattle.mk_spread.specs.Spreads.{SpreadAsked, asked_of, spread_ratio}
 
@@ -51,7 +51,7 @@ module _ (network : List Variable) (H : List Entry) (spread : SpreadAsked) where
       (recursion_from_All (λ s. value_at s spread.variable < slice_index (sizes network) spread.variable) condition_states
       (All-filter (λ s. is_possible H s && holds spread.condition s) (λ s. value_at s spread.variable < slice_index (sizes network) spread.variable) (all_states network)
       (All-from_recursion (λ s. value_at s spread.variable < slice_index (sizes network) spread.variable) (all_states network)
-      (each_weaker (IsState (sizes network)) (λ s. value_at s spread.variable < slice_index (sizes network) spread.variable) (λ s is_state. value_below network spread.variable s within is_state) (all_states network) (states_are (sizes network)))))))
+      (each_weaker (IsState (sizes network)) (λ s. value_at s spread.variable < slice_index (sizes network) spread.variable) (λ s is_state. value_below network spread.variable s within is_state) (all_states network) (all_are network))))))
 
   -- those with one value
   of_value : (f : List ℕ → ℕ) (k : ℕ)

@@ -1,12 +1,18 @@
 -- Right bounds of a whole distribution, for the exact numbers of each value.
 use Rattle.std.specs.Prelude.{◌≡◌, ℕ, ◌≤◌, ⊤, List, [], ◌∷◌, Any, Option, Some, None, IfSome, option_map, ◌↔◌}
 use Rattle.std.specs.List.{AllZip}
+use Rattle.mk_exact.specs.Ratios.{unit}
 use Rattle.mk_exact.specs.Limits.{Side, IsFairAndSolvent, IsWanted, IsFloorSolvent, Inside, IsWithinRange}
 
--- one number of units for each share and side, fair and solvent for the share on its side
-abbrev pub AreFairUnits : Type 0 → List Side → List ℕ → List ℕ → Type 0
+-- units for a value's share: fair and solvent on its side; a value that cannot come has no side, no share, and one whole unit
+abbrev pub IsFairFor : Type 0 → Option Side → ℕ → ℕ → Type 0
+IsFairFor small None X F = (X ≡ 0) × (F ≡ unit)
+IsFairFor small (Some side) X F = IsFairAndSolvent small side X F
+
+-- one number of units for each value and its share
+abbrev pub AreFairUnits : Type 0 → List (Option Side) → List ℕ → List ℕ → Type 0
 AreFairUnits small [] [] [] = ⊤
-AreFairUnits small (side ∷ sides) (X ∷ Xs) (F ∷ Fs) = IsFairAndSolvent small side X F × AreFairUnits small sides Xs Fs
+AreFairUnits small (side ∷ sides) (X ∷ Xs) (F ∷ Fs) = IsFairFor small side X F × AreFairUnits small sides Xs Fs
 AreFairUnits small _ _ _ = ⊥
 
 -- none, or the least and the greatest share for each value
@@ -26,6 +32,11 @@ pub record IsRightInterval (small : Type 0) (side : Side) (interval : ℕ × ℕ
   pub near_complete : (X : ℕ) → 1 ≤ X → X ≤ 999999 → IsWanted side X → Inside (Some interval) X
   pub exact : small → (X : ℕ) → 1 ≤ X → X ≤ 999999 → Inside (Some interval) X ↔ IsFloorSolvent side X
 
+-- the interval of a value: right for its side, or nothing alone for a value that cannot come
+abbrev pub IsRightFor : Type 0 → Option Side → ℕ × ℕ → Type 0
+IsRightFor small None interval = interval ≡ (0, 0)
+IsRightFor small (Some side) interval = IsRightInterval small side interval
+
 -- an interval before others, where all are given
 abbrev pub given_with : Option (ℕ × ℕ) → Intervals → Intervals
 given_with None others = None
@@ -36,13 +47,14 @@ abbrev pub all_given : List (Option (ℕ × ℕ)) → Intervals
 all_given [] = Some []
 all_given (o ∷ os) = given_with o (all_given os)
 
--- no share of a side meets a property
-abbrev pub NoShare : (Side → ℕ → Type 0) → Side → Type 0
-NoShare P side = (X : ℕ) → 1 ≤ X → X ≤ 999999 → ¬ P side X
+-- no share of a value that can come meets a property on its side
+abbrev pub NoShare : (Side → ℕ → Type 0) → Option Side → Type 0
+NoShare P None = ⊥
+NoShare P (Some side) = (X : ℕ) → 1 ≤ X → X ≤ 999999 → ¬ P side X
 
--- bounds are right: each interval that is given is, and none are given only where no share of some side can well be traded; in
--- the small case exactly where the exact floor allows none of some side
-pub record AreRightBounds (small : Type 0) (sides : List Side) (intervals : Intervals) : Type 0 where
-  pub given : IfSome intervals (AllZip (IsRightInterval small) sides)
+-- bounds are right: each interval that is given is, and none are given only where no share of some value that can come can well be
+-- traded; in the small case exactly where the exact floor allows none of some such value
+pub record AreRightBounds (small : Type 0) (sides : List (Option Side)) (intervals : Intervals) : Type 0 where
+  pub given : IfSome intervals (AllZip (IsRightFor small) sides)
   pub none : (intervals ≡ None) → Any (NoShare IsWanted) sides
   pub exactly_none : small → (intervals ≡ None) ↔ Any (NoShare IsFloorSolvent) sides

@@ -1,7 +1,7 @@
 //! What exists: bounds, and a judgement of each list of shares.
 ghost use Rattle.mk_spread.specs.Existing.{BoundsExist, InsideEachIsDecided, ValueSidesExist, RightBoundsExist, RightBoundsFit, BoundsJudge, BoundsAgree, FairListIsInside};
 
-/// Sides of positive prices have right bounds.
+/// Sides of positive prices have right bounds, beside values that cannot come.
 pub fn bounds_exist()
     ensures { BoundsExist }
 {}
@@ -11,7 +11,7 @@ pub fn inside_each_is_decided()
     ensures { InsideEachIsDecided }
 {}
 
-/// In a sound market each distribution that can be asked about has a side for each value, for each user.
+/// In a sound market each distribution that can be asked about has a side for each value that can come, for each user.
 pub fn value_sides_exist()
     ensures { ValueSidesExist }
 {}
@@ -21,7 +21,7 @@ pub fn right_bounds_exist()
     ensures { RightBoundsExist }
 {}
 
-/// Bounds that are given are 2 to 16 intervals within 1 to 999,999.
+/// Bounds that are given are 2 to 16 intervals: within 1 to 999,999, or of nothing alone.
 pub fn right_bounds_fit()
     ensures { RightBoundsFit }
 {}

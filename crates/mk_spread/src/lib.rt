@@ -6,7 +6,7 @@ mod examples;
 mod existing;
 mod trading;
 
-pub use examples::example_bounds;
+pub use examples::{example_bounds, example_gate};
 pub use existing::{
     bounds_agree, bounds_exist, bounds_judge, fair_list_is_inside, inside_each_is_decided,
     right_bounds_exist, right_bounds_fit, value_sides_exist,

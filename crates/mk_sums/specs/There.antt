@@ -1,6 +1,6 @@
 -- What an assignment picks: the share of a variable, the units of a trade, and whether an event holds. For the assignment of
 -- a state these are what the exact market says of that state.
-use Rattle.std.specs.Prelude.{ℕ, ◌+◌, ◌*◌, List, [], slice_index, slice_index_or, fold, Bool, ◌==◌, if◌then◌else◌}
+use Rattle.std.specs.Prelude.{ℕ, ◌+◌, ◌*◌, List, [], slice_index, slice_index_or, fold, Bool, ◌==◌, nat_le, if◌then◌else◌}
 use Rattle.std.specs.List.{list_all}
 use Rattle.mk_net.specs.declared.words.Pair.{Pair}
 use Rattle.mk_net.specs.Asked.{TradeRatio}
@@ -17,6 +17,10 @@ abbrev pub share_there : List Variable → ℕ → (ℕ → ℕ) → ℕ
 share_there network k a =
     let v = variable_at network k in
     slice_index (slice_index_or v.rows (row_there (sizes network) v.parents a) []) (a k)
+
+-- one where that share is not nothing
+abbrev pub support_there : List Variable → ℕ → (ℕ → ℕ) → ℕ
+support_there network k a = if nat_le 1 (share_there network k a) then 1 else 0
 
 -- whether each pair of an event holds
 abbrev pub holds_there : List Pair → (ℕ → ℕ) → Bool

@@ -3,7 +3,7 @@
 ghost use Rattle.std.specs.Prelude.{◌≡◌, ◌<◌, ◌≤◌, length, All, slice_index};
 ghost use Rattle.mk_net.specs.Network.{sizes};
 ghost use Rattle.mk_net.specs.Named.{variable_at};
-ghost use Rattle.mk_sums.specs.There.{row_there, share_there};
+ghost use Rattle.mk_sums.specs.There.{row_there, share_there, support_there};
 ghost use Rattle.mk_table.specs.Scopes.{HasSized, cells_in};
 ghost use Rattle.mk_table.specs.Cells.{values_at};
 ghost use Rattle.mk_table.specs.inner.Parts.{AreUnitCells};
@@ -65,4 +65,19 @@ pub(crate) fn share_of(net: &Network, variable: u32, scope: &Scope, cell: usize)
     let _ = net.variables();
     let row = row_of(net, variable, scope, cell);
     net.entry(variable, row, scope.value(cell, variable))
+}
+
+/// One where that share is not nothing.
+pub(crate) fn support_of(net: &Network, variable: u32, scope: &Scope, cell: usize) -> u64
+    requires variable { variable < length net.now }
+    requires family { HasSized net.now scope.now variable }
+    requires parents { All (HasSized net.now scope.now) (variable_at net.now variable).parents }
+    requires cell { cell < cells_in scope.now }
+    ensures { result ≡ support_there net.now variable (values_at scope.now cell) }
+{
+    if share_of(net, variable, scope, cell) >= 1 {
+        1
+    } else {
+        0
+    }
 }

@@ -6,7 +6,7 @@ ghost use Rattle.mk_net.specs.Asked.{ratio_pairs};
 ghost use Rattle.mk_net.specs.Bounds.{max_clique_cells};
 ghost use Rattle.mk_net.specs.Trades.{trade_ratio};
 ghost use Rattle.mk_exact.specs.States.{plus_over};
-ghost use Rattle.mk_sums.specs.There.{share_there, ratio_there};
+ghost use Rattle.mk_sums.specs.There.{share_there, support_there, ratio_there};
 ghost use Rattle.mk_cell.specs.Cell.{Stands, IsOwnOf};
 ghost use Rattle.mk_table.specs.Scopes.{HasEvent, HasOneEach, HasSized, cells_in, has_variable};
 ghost use Rattle.mk_table.specs.Cells.{values_at, cell_in, cells_onto, cells_beside, cells_where};
@@ -22,7 +22,7 @@ use crate::picked::RATIO_SHIFT;
 use crate::products::plus_of_products;
 use crate::scope::Scope;
 use crate::strides::CellList;
-use crate::times::{keep_value, times_shares, times_units};
+use crate::times::{keep_value, times_shares, times_supports, times_units};
 use crate::touched::{
     beside, is_untouched_by, pairs_within, put_either_within, put_within, take_either,
 };
@@ -133,6 +133,27 @@ impl<R: Semiring> Table<R> {
     {
         fill(&mut self.digits, &mut self.exponents, self.scope.cells());
         times_shares(
+            &mut self.digits,
+            &mut self.exponents,
+            &self.scope,
+            net,
+            variable,
+        );
+    }
+
+    /// Makes absent each cell that picks a share of nothing in the rows of a variable.
+    pub fn times_support(&mut self, net: &Network, variable: u32)
+        requires variable { variable < length net.now }
+        requires family { HasSized net.now self.old.scope variable }
+        requires parents { All (HasSized net.now self.old.scope) (variable_at net.now variable).parents }
+        requires room { HasRoom self.old 1 }
+        ensures scope { self.new.scope ≡ self.old.scope }
+        ensures shift { self.new.shift ≡ self.old.shift }
+        ensures numbers { (f : ℕ → ℕ) (n : ℕ) → HasNumbers self.old f n
+            → HasNumbers self.new (λ c. f c * support_there net.now variable (values_at self.old.scope c)) (n + 1) }
+    {
+        fill(&mut self.digits, &mut self.exponents, self.scope.cells());
+        times_supports(
             &mut self.digits,
             &mut self.exponents,
             &self.scope,

@@ -6,7 +6,7 @@ ghost use Rattle.mk_net.specs.Named.{variable_at};
 ghost use Rattle.mk_net.specs.Asked.{ratio_pairs};
 ghost use Rattle.mk_net.specs.Trades.{trade_ratio};
 ghost use Rattle.mk_exact.specs.Ratios.{units_of};
-ghost use Rattle.mk_sums.specs.There.{share_there};
+ghost use Rattle.mk_sums.specs.There.{share_there, support_there};
 ghost use Rattle.mk_cell.specs.Cell.{IsCell, Stands};
 ghost use Rattle.mk_table.specs.Scopes.{LiesIn, HasEvent, HasOneEach, HasSized, Rising, cells_in, has_variable};
 ghost use Rattle.mk_table.specs.Cells.{values_at, cell_in, cells_where};
@@ -14,7 +14,7 @@ ghost use Rattle.mk_table.specs.inner.Parts.{IsFull, HaveRoom, IsTimes, IsTimesC
 ghost use Rattle.mk_table.specs.inner.Strides.{runs_of};
 
 use crate::part::Places;
-use crate::picked::{share_of, unit_cells};
+use crate::picked::{share_of, support_of, unit_cells};
 use crate::scope::Scope;
 use mk_cell::Cell;
 use mk_net::{Network, Pair, Ratio};
@@ -59,6 +59,28 @@ pub(crate) fn times_shares(
     for cell in 0..digits.len() {
         let share = share_of(net, variable, scope, cell);
         times_at(digits, exponents, cell, Cell::of_whole(share as u64, 0));
+    }
+}
+
+/// Makes absent each cell that picks a share of nothing in the rows of a variable.
+pub(crate) fn times_supports(
+    digits: &mut [u64],
+    exponents: &mut [u32],
+    scope: &Scope,
+    net: &Network,
+    variable: u32,
+)
+    requires variable { variable < length net.now }
+    requires family { HasSized net.now scope.now variable }
+    requires parents { All (HasSized net.now scope.now) (variable_at net.now variable).parents }
+    requires full { IsFull scope.now digits.old exponents.old }
+    requires room { (k : ℕ) × HaveRoom k digits.old exponents.old 1 }
+    ensures { IsChanged (λ c d e x y. IsTimes d e 0 (support_there net.now variable (values_at scope.now c)) 0 x y)
+        (λ c. c < cells_in scope.now) digits.old exponents.old digits.new exponents.new }
+{
+    for cell in 0..digits.len() {
+        let support = support_of(net, variable, scope, cell);
+        times_at(digits, exponents, cell, Cell::of_whole(support, 0));
     }
 }
 

@@ -1,9 +1,9 @@
 -- What is read of each part of a text.
-use Rattle.std.specs.Prelude.{◌≡◌, ℕ, ◌+◌, ◌*◌, ◌/◌, ◌%◌, ◌^◌, ◌≤◌, ◌<◌, List, [], ◌∷◌, ◌++◌, length, All, true, false, ◌&&◌, Option, Some, None, option_and_then, codes, decimal, nat_le, ◌==◌}
+use Rattle.std.specs.Prelude.{◌≡◌, ℕ, ◌+◌, ◌*◌, ◌/◌, ◌%◌, ◌^◌, ◌≤◌, ◌<◌, List, [], ◌∷◌, ◌++◌, length, All, Bool, true, false, ◌&&◌, ◌||◌, Option, Some, None, option_and_then, codes, decimal, nat_le, ◌==◌}
 use Rattle.std.specs.List.{list_all}
 use Rattle.std.specs.Str.Parse.{IsNumeral}
 use Rattle.std.proofs.lemmas.Fmt.{decimal_is_IsNumeral}
-use Rattle.std.proofs.Common.{refl, sym, ap, ◌∙◌, arith, append_assoc, lit≤, lit<, inr}
+use Rattle.std.proofs.Common.{refl, sym, ap, ◌∙◌, arith, append_assoc, lit≤, lit<, inl, inr}
 use Rattle.std.proofs.lemmas.Option.{same_Some, option_and_then_some}
 use Rattle.std.proofs.lemmas.List.Elements.{All-nil, All-cons, All-head, All-tail}
 use Rattle.std.proofs.lemmas.Bool.{leb-true, le-leb}
@@ -16,7 +16,7 @@ use Rattle.mk_text.specs.Joined.{items_text, spaced, AreSeveral}
 use Rattle.mk_text.specs.Numbers.{places, price_text, IsPrice, units, limits_text, AreLimits, IsWithinLimits, range_text, IsInterval, interval_text, AreIntervals, intervals_text, IsShort}
 use Rattle.mk_text.specs.Texts.{IsPairText, pair_text, IsCondition, condition_text, IsQuestionText, question_text}
 use Rattle.mk_text.specs.Words.{word, behind_word, EndsWord, after}
-use Rattle.mk_text.specs.Reading.{Read, made, given, never, items, read_name, read_written, read_number, read_pair, more_pairs, read_condition, read_question, read_price, read_range, read_interval, read_limits, read_short, read_units, before_revision, more_spaced, read_several, read_intervals, number_written}
+use Rattle.mk_text.specs.Reading.{Read, made, given, never, items, read_name, read_written, read_number, read_pair, more_pairs, read_condition, read_question, read_price, read_range, read_two_limits, read_interval, read_limits, read_short, read_units, before_revision, more_spaced, read_several, read_intervals, number_written}
 use Rattle.mk_text.proofs.WordLemmas.{word_splits, word_of, behind_word_of, both_true}
 use Rattle.mk_text.proofs.NumberLemmas.{IsWriting, decimal_writing, places_writing, digits_in_word, number_found, number_is}
 use Rattle.mk_text.proofs.ReadingLaws.{Took, took_same, Reads, Added, EndsItems, BothFit, both_text, behind_text, items_takes, items_again, fronted, reads_same, IsMade, both_reads, behind_reads, made_reads, passed_reads, passing, either_cases, either_here, either_else}
@@ -181,9 +181,9 @@ passes_in_order low high within = rw (le-leb 1 low (within.positive), le-leb low
 abbrev SomeLimits : ℕ × ℕ → Type 0
 SomeLimits limits = IsWithinLimits (limits.0) (limits.1)
 
-pub interval_reads : Reads read_interval both_ends SomeLimits EndsWord
-unfolding read_interval
-interval_reads = reads_same (passed_reads (λ limits. nat_le 1 (limits.0) && nat_le (limits.0) (limits.1)) (range_reads 1000000 (lit≤ tt)))
+two_limits_reads : Reads read_two_limits both_ends SomeLimits EndsWord
+unfolding read_two_limits
+two_limits_reads = reads_same (passed_reads (λ limits. nat_le 1 (limits.0) && nat_le (limits.0) (limits.1)) (range_reads 1000000 (lit≤ tt)))
     (λ limits fits. in_order (limits.0) (limits.1) (fits.1) (fits.0.0) (fits.0.1))
     (λ limits fits. ((omega (arith, fits.ordered, fits.below), omega (arith, fits.below)), passes_in_order (limits.0) (limits.1) fits))
 
@@ -202,27 +202,62 @@ number_no_word b text n rest letter fits = digits_first b text (decimal n) rest 
 limits_takes : (bytes : List ℕ) (limits : Option (ℕ × ℕ)) (rest : List ℕ) → read_limits bytes ≡ Some (limits, rest) →
     Took limits_text AreLimits bytes limits rest
 unfolding read_limits
-limits_takes bytes limits rest e = either_cases (codes "none") (given None) (made (λ limits. Some limits) read_interval) bytes (Some (limits, rest)) _ e
+limits_takes bytes limits rest e = either_cases (codes "none") (given None) (made (λ limits. Some limits) read_two_limits) bytes (Some (limits, rest)) _ e
     (λ left begins e1. took_same limits_text AreLimits bytes (None, left) (limits, rest) (same_Some (None, left) (limits, rest) e1)
     (record { begins = begins; fits = tt }))
     (λ e1. option_and_then_some _ _ (limits, rest) e1 (λ x was e2.
-    let took = interval_reads.takes bytes (x.0) (x.1) was in
+    let took = two_limits_reads.takes bytes (x.0) (x.1) was in
     took_same limits_text AreLimits bytes (Some (x.0), x.1) (limits, rest) (same_Some (Some (x.0), x.1) (limits, rest) e2)
     (record { begins = took.begins; fits = took.fits })))
 
 limits_again : (limits : Option (ℕ × ℕ)) (rest : List ℕ) → AreLimits limits → EndsWord rest →
     read_limits (limits_text limits ++ rest) ≡ Some (limits, rest)
 unfolding read_limits
-limits_again None rest fits ends = either_here (codes "none") (given None) (made (λ limits. Some limits) read_interval) rest
+limits_again None rest fits ends = either_here (codes "none") (given None) (made (λ limits. Some limits) read_two_limits) rest
 limits_again (Some limits) rest fits ends =
     let low : limits.0 < 2 ^ 64 = omega (arith, fits.ordered, fits.below) in
     let missing : after (codes "none") (both_ends limits ++ rest) ≡ None =
     rw (append_assoc (decimal (limits.0)) (codes ".." ++ decimal (limits.1)) rest) (number_no_word 110 (codes "one") (limits.0) (codes ".." ++ decimal (limits.1) ++ rest) (lit< tt) low) in
-    either_else (codes "none") (given None) (made (λ limits. Some limits) read_interval) (both_ends limits ++ rest) missing
-    ∙ rw (interval_reads.again limits rest fits ends) refl
+    either_else (codes "none") (given None) (made (λ limits. Some limits) read_two_limits) (both_ends limits ++ rest) missing
+    ∙ rw (two_limits_reads.again limits rest fits ends) refl
 
 pub limits_reads : Reads read_limits limits_text AreLimits EndsWord
 limits_reads = record { takes = limits_takes; again = limits_again }
+
+-- intervals
+abbrev is_interval : ℕ → ℕ → Bool
+is_interval low high = nat_le low high && (nat_le 1 low || nat_le high 0)
+
+interval_by : (low high : ℕ) (some none : Bool) → nat_le 1 low ≡ some → nat_le high 0 ≡ none → some || none ≡ true → low ≤ high → high < 1000000 →
+    IsInterval (low, high)
+interval_by low high true none e f passes ordered below = inr (record { positive = leb-true 1 low e; ordered = ordered; below = omega (arith, below) })
+interval_by low high false true e f passes ordered below =
+    let least : low ≡ 0 = omega (arith, ordered, leb-true high 0 f) in
+    let greatest : high ≡ 0 = omega (arith, leb-true high 0 f) in
+    inl (rw (least, greatest) refl)
+interval_by low high false false e f passes ordered below = cc
+
+interval_from : (low high : ℕ) → is_interval low high ≡ true → high < 1000000 → IsInterval (low, high)
+interval_from low high passes below =
+    let parts = both_true (nat_le low high) (nat_le 1 low || nat_le high 0) passes in
+    interval_by low high (nat_le 1 low) (nat_le high 0) refl refl (parts.1) (leb-true low high (parts.0)) below
+
+passes_interval : (interval : ℕ × ℕ) → IsInterval interval → AreBelow 1000000 interval × (is_interval (interval.0) (interval.1) ≡ true)
+passes_interval interval (inl none) = rw none ((omega arith, omega arith), refl)
+passes_interval interval (inr within) = (
+  (omega (arith, within.ordered, within.below), omega (arith, within.below)),
+  rw (le-leb (interval.0) (interval.1) (within.ordered), le-leb 1 (interval.0) (within.positive)) refl,
+)
+
+pub interval_reads : Reads read_interval both_ends IsInterval EndsWord
+unfolding read_interval
+interval_reads = reads_same (passed_reads (λ interval. nat_le (interval.0) (interval.1) && (nat_le 1 (interval.0) || nat_le (interval.1) 0)) (range_reads 1000000 (lit≤ tt)))
+    (λ interval fits. interval_from (interval.0) (interval.1) (fits.1) (fits.0.1))
+    passes_interval
+
+-- the ends of an interval are below a million
+pub interval_ends : (interval : ℕ × ℕ) → IsInterval interval → AreBelow 1000000 interval
+interval_ends interval fits = (passes_interval interval fits).0
 
 -- ---- several things
 
@@ -304,7 +339,7 @@ all_units_reads = several_reads units_reads (λ n rest fits. number_goes_on n re
 
 interval_goes_on : (interval : ℕ × ℕ) (rest : List ℕ) → IsInterval interval → before_revision (codes " " ++ (interval_text interval ++ rest)) ≡ false
 interval_goes_on interval rest fits =
-    rw (append_assoc (decimal (interval.0)) (codes ".." ++ decimal (interval.1)) rest) (number_goes_on (interval.0) (codes ".." ++ decimal (interval.1) ++ rest) (omega (arith, fits.ordered, fits.below)))
+    rw (append_assoc (decimal (interval.0)) (codes ".." ++ decimal (interval.1)) rest) (number_goes_on (interval.0) (codes ".." ++ decimal (interval.1) ++ rest) (omega (arith, (interval_ends interval fits).0)))
 
 given_reads : Reads (read_several read_interval) (spaced interval_text) (AreSeveral IsInterval) EndsSeveral
 given_reads = several_reads interval_reads interval_goes_on
@@ -326,8 +361,8 @@ unfolding read_intervals
 intervals_again None rest fits ends = either_here (codes "none") (given None) (made (λ intervals. Some intervals) (read_several read_interval)) rest
 intervals_again (Some []) rest fits ends = absurd (omega (arith, fits.two))
 intervals_again (Some (first ∷ others)) rest fits ends =
-    let is = All-head IsInterval first others (fits.each) in
-    let low : first.0 < 2 ^ 64 = omega (arith, is.ordered, is.below) in
+    let ends_below = interval_ends first (All-head IsInterval first others (fits.each)) in
+    let low : first.0 < 2 ^ 64 = omega (arith, ends_below.0) in
     let behind = codes ".." ++ decimal (first.1) in
     let more = items_text (codes " ") interval_text others in
     let missing : after (codes "none") (spaced interval_text (first ∷ others) ++ rest) ≡ None =

@@ -1,5 +1,5 @@
 -- Numbers and prices, and how they are written.
-use Rattle.std.specs.Prelude.{ℕ, zero, suc, ◌+◌, ◌/◌, ◌%◌, ◌^◌, ◌<◌, ◌≤◌, ⊤, List, [], ◌∷◌, ◌++◌, codes, decimal, Option, Some, None}
+use Rattle.std.specs.Prelude.{◌≡◌, ◌⊎◌, ℕ, zero, suc, ◌+◌, ◌/◌, ◌%◌, ◌^◌, ◌<◌, ◌≤◌, ⊤, List, [], ◌∷◌, ◌++◌, codes, decimal, Option, Some, None}
 use Rattle.mk_text.specs.Joined.{◌&◌, spaced, AreSeveral}
 
 -- a number of at most nine digits
@@ -48,9 +48,9 @@ abbrev pub limits_text : Option (ℕ × ℕ) → List ℕ
 limits_text None = codes "none"
 limits_text (Some limits) = range_text limits.0 limits.1
 
--- an interval within a million
+-- an interval within a million, or of nothing alone
 abbrev pub IsInterval : ℕ × ℕ → Type 0
-IsInterval interval = IsWithinLimits interval.0 interval.1
+IsInterval interval = (interval ≡ (0, 0)) ⊎ IsWithinLimits interval.0 interval.1
 
 abbrev pub interval_text : ℕ × ℕ → List ℕ
 interval_text interval = range_text interval.0 interval.1

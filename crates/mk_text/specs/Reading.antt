@@ -1,5 +1,5 @@
 -- Reading from the front of some bytes: what is found there, and the bytes that are left.
-use Rattle.std.specs.Prelude.{◌≡◌, ℕ, zero, suc, ◌+◌, ◌*◌, ◌^◌, List, [], ◌∷◌, ◌++◌, Bool, false, ◌&&◌, Option, Some, None, option_and_then, if◌then◌else◌, nat_lt, nat_le, length, is_some, codes, decimal}
+use Rattle.std.specs.Prelude.{◌≡◌, ℕ, zero, suc, ◌+◌, ◌*◌, ◌^◌, List, [], ◌∷◌, ◌++◌, Bool, false, ◌&&◌, ◌||◌, Option, Some, None, option_and_then, if◌then◌else◌, nat_lt, nat_le, length, is_some, codes, decimal}
 use Rattle.std.specs.Str.{bytes_eq}
 use Rattle.std.specs.Str.Parse.{digits_value}
 use Rattle.mk_net.specs.Name.{is_name}
@@ -103,12 +103,16 @@ unfoldable pub read_range : ℕ → Read (ℕ × ℕ)
 read_range limit = both (read_number limit) (behind (codes "..") (read_number limit))
 
 -- two numbers from 1 to 999,999, in order
-unfoldable pub read_interval : Read (ℕ × ℕ)
-read_interval = passed (λ limits. nat_le 1 (limits.0) && nat_le (limits.0) (limits.1)) (read_range 1000000)
+unfoldable pub read_two_limits : Read (ℕ × ℕ)
+read_two_limits = passed (λ limits. nat_le 1 (limits.0) && nat_le (limits.0) (limits.1)) (read_range 1000000)
 
 unfoldable pub read_limits : Read (Option (ℕ × ℕ))
 read_limits = either (codes "none") (given None)
-    (made (λ limits. Some limits) read_interval)
+    (made (λ limits. Some limits) read_two_limits)
+
+-- two such numbers, or 0 and 0
+unfoldable pub read_interval : Read (ℕ × ℕ)
+read_interval = passed (λ interval. nat_le (interval.0) (interval.1) && (nat_le 1 (interval.0) || nat_le (interval.1) 0)) (read_range 1000000)
 
 -- a number of at most nine digits
 unfoldable pub read_short : Read ℕ

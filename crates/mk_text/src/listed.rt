@@ -46,7 +46,7 @@ impl Item for u64 {
     }
 }
 
-/// An interval within a million.
+/// An interval within a million, or of nothing alone.
 impl Item for (u32, u32) {
     ghost use Rattle.mk_text.specs.Reading.{read_interval};
 

@@ -2,7 +2,7 @@
 
 ghost use Rattle.std.specs.Prelude.{◌≡◌, ◌<◌, ◌≤◌, ◌^◌, true, false, IfSome, Some, None, is_some, option_map, if◌then◌else◌, ◌==◌, length, take, drop};
 ghost use Rattle.mk_text.specs.Words.{word, word_len, behind_word, after, IsRestOf};
-ghost use Rattle.mk_text.specs.Reading.{Finds, read_name, read_number, read_pair, read_condition, more_pairs, read_question, read_price, read_range, read_interval, read_limits};
+ghost use Rattle.mk_text.specs.Reading.{Finds, read_name, read_number, read_pair, read_condition, more_pairs, read_question, read_price, read_range, read_two_limits, read_interval, read_limits};
 ghost use Rattle.arrayvec.specs.ArrayVec.{array_vec_len};
 
 use crate::numbers::{number_of, ten_places_of};
@@ -176,10 +176,24 @@ impl<'a> Reader<'a> {
         Some((low, high))
     }
 
-    /// An interval within a million.
+    /// An interval within a million, or of nothing alone.
     #[tactic(auto, using(crate::proofs::Rests::rest_of_rest), unfolding(crate::specs::Reading::read_interval))]
     pub fn interval(&mut self) -> Option<(u32, u32)>
         ensures found { Finds result self.new (read_interval self.old) }
+        ensures rest { IsRestOf self.new self.old }
+    {
+        let (low, high) = self.range(1_000_000)?;
+        if low <= high && (1 <= low || high == 0) {
+            Some((low as u32, high as u32))
+        } else {
+            None
+        }
+    }
+
+    /// The two ends of limits within a million.
+    #[tactic(auto, using(crate::proofs::Rests::rest_of_rest), unfolding(crate::specs::Reading::read_two_limits))]
+    fn two_limits(&mut self) -> Option<(u32, u32)>
+        ensures found { Finds result self.new (read_two_limits self.old) }
         ensures rest { IsRestOf self.new self.old }
     {
         let (low, high) = self.range(1_000_000)?;
@@ -199,8 +213,8 @@ impl<'a> Reader<'a> {
         if self.skip(b"none") {
             return Some(None);
         }
-        let interval = self.interval()?;
-        Some(Some(interval))
+        let limits = self.two_limits()?;
+        Some(Some(limits))
     }
 
     /// Passes over the next word, which is the longest run of letters, digits and underscores. It may be empty.

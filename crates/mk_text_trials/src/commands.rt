@@ -109,6 +109,11 @@ fn reads_and_prints_each_form(rt: HostRuntime) {
     both_ways(&rt, "worst alice", Command::Worst { user });
     both_ways(&rt, "resolve coin=heads", Command::Resolve { pair: coin });
     both_ways(&rt, "settle", Command::Settle);
+    both_ways(&rt, "bound", Command::Bound);
+    let bound = name(&rt, b"bound");
+    both_ways(&rt, "worst bound", Command::Worst { user: bound });
+    let pair = pair(&rt, b"bound", b"bound");
+    both_ways(&rt, "resolve bound=bound", Command::Resolve { pair });
 }
 
 #[test]
@@ -290,6 +295,12 @@ spread alice die to 1 2 at 3 4
 spread alice die to 1 1000000000
 spread alice die to 1 1 1 1 1 1 1 1 1 1 1 1 1 1 1 1 1
 spread alice die=one to 1 2
+bound alice
+bound 
+Bound
+bound at 0
+bounds
+bound 0..0
 worst
 resolve coin
 resolve coin=heads | rain=yes";

@@ -97,6 +97,10 @@ fn worst(rt: &impl Abort, alloc: Global, text: &str, low: u64, high: u64) -> Res
     both_ways(rt, alloc, text, Reply::Worst { low, high })
 }
 
+fn bound(rt: &impl Abort, alloc: Global, text: &str, low: u64, high: u64) -> Result<(), Fail> {
+    both_ways(rt, alloc, text, Reply::Bound { low, high })
+}
+
 #[test]
 fn reads_and_prints_answers(rt: HostRuntime) -> Result<(), Fail> {
     let alloc = rt.alloc();
@@ -112,7 +116,10 @@ fn reads_and_prints_answers(rt: HostRuntime) -> Result<(), Fail> {
     let text = "limits 500000..500000 at 1";
     limits(&rt, alloc, text, Some((500_000, 500_000)), 1)?;
     worst(&rt, alloc, "worst 67..67", 67, 67)?;
-    worst(&rt, alloc, "worst 0..9223372036854775807", 0, MOST)
+    worst(&rt, alloc, "worst 0..9223372036854775807", 0, MOST)?;
+    bound(&rt, alloc, "bound 0..0", 0, 0)?;
+    bound(&rt, alloc, "bound 300..301", 300, 301)?;
+    bound(&rt, alloc, "bound 0..9223372036854775807", 0, MOST)
 }
 
 fn intervals(list: &[(u32, u32)]) -> Option<Intervals> {
@@ -152,6 +159,9 @@ fn refused(rt: &impl Abort, alloc: Global, text: &str, why: Refusal) -> Result<(
 
 const DIE: [(u32, u32); 3] = [(166_667, 999_999), (1, 1), (2, 3)];
 
+/// The bounds of two values, of which the first cannot come.
+const FIRST_CANNOT: [(u32, u32); 2] = [(0, 0), (1, 5)];
+
 const SIXTEEN: &str =
     "bounds 1..999999 1..999999 1..999999 1..999999 1..999999 1..999999 1..999999 1..999999 1..999999 1..999999 1..999999 1..999999 1..999999 1..999999 1..999999 1..999999 at 9223372036854775807";
 
@@ -161,6 +171,8 @@ fn reads_and_prints_whole_distributions(rt: HostRuntime) -> Result<(), Fail> {
     bounded(&rt, alloc, "bounds none at 0", None, 0)?;
     let text = "bounds 166667..999999 1..1 2..3 at 2";
     bounded(&rt, alloc, text, intervals(&DIE), 2)?;
+    let text = "bounds 0..0 1..5 at 2";
+    bounded(&rt, alloc, text, intervals(&FIRST_CANNOT), 2)?;
     let sixteen = [(1u32, 999_999u32); 16];
     bounded(&rt, alloc, SIXTEEN, intervals(&sixteen), MOST)?;
     let text = "spread 659707636373 989561454559 1649264143135 at 3";
@@ -184,6 +196,10 @@ fn reads_and_prints_refusals_of_whole_distributions(rt: HostRuntime) -> Result<(
         intervals: intervals(&DIE),
     };
     refused(&rt, alloc, "refused outside 166667..999999 1..1 2..3", why)?;
+    let why = Refusal::Outside {
+        intervals: intervals(&FIRST_CANNOT),
+    };
+    refused(&rt, alloc, "refused outside 0..0 1..5", why)?;
     let why = Refusal::Outside { intervals: None };
     refused(&rt, alloc, "refused outside none", why)
 }
@@ -241,6 +257,10 @@ fn reads_and_prints_refusals(rt: HostRuntime) -> Result<(), Fail> {
     let value = name(&rt, b"edge");
     let unknown = PairText { variable, value };
     let impossible = PairText { variable, value };
+    let sure = PairText {
+        variable: name(&rt, b"w"),
+        value: name(&rt, b"a"),
+    };
     let limits = Some((250_001, 749_999));
     for (why, text) in [
         (Refusal::Syntax, "refused syntax"),
@@ -270,6 +290,7 @@ fn reads_and_prints_refusals(rt: HostRuntime) -> Result<(), Fail> {
             "refused short 9223372036854775807",
         ),
         (Refusal::Unresolved { variable }, "refused open coin"),
+        (Refusal::Sure { pair: sure }, "refused sure w=a"),
         (Refusal::Memory, "refused memory"),
     ] {
         both_ways(&rt, rt.alloc(), text, Reply::Refused { why })?;
@@ -311,6 +332,13 @@ bounds 2..1 1..2 at 1
 bounds 1..2 1..1000000 at 1
 bounds 1..2 1..2
 bounds none
+bounds 0..1 1..5 at 2
+bounds 0..0 0..5 at 2
+bound 5
+bound 5..6 at 1
+bound none
+bound 0..9223372036854775808
+bound
 spread 1 at 1
 spread 0 1 at 1
 spread 1 9223372036854775808 at 1
@@ -321,6 +349,9 @@ refused sum 1000000000
 refused sum 01
 refused outside 1..2
 refused outside 1..2 1..2 at 1
+refused outside 0..0 0..5
+refused sure w
+refused sure
 refused variable
 worst 1
 worst 1...2

@@ -7,7 +7,7 @@ use Rattle.mk_net.specs.Network.{Variable}
 use Rattle.mk_sums.specs.Trees.{sum_of}
 use Rattle.mk_tree.specs.Given.{GivenTree, home}
 use Rattle.mk_tree.specs.Tests.{holds_family}
-use Rattle.mk_engine.specs.Meaning.{Meaning, Factor, RowsOf, RatioOf}
+use Rattle.mk_engine.specs.Meaning.{Meaning, Factor, RowsOf, SupportOf, RatioOf}
 use Rattle.mk_propagate.specs.Shapes.{ShapeOf, IsShapeFor, are_linked, next_on_way, is_behind}
 use Rattle.mk_propagate.specs.Placings.{Placing}
 use Rattle.mk_propagate.specs.Flows.{FlowOf, HasPlaced, IsRight}
@@ -25,6 +25,7 @@ is_stale e a b = if nat_lt b a then slice_index_or e.stale_up (a - 2) true else 
 -- the first clique that holds a variable with its parents, or the variables of a ratio
 abbrev pub factor_home : List Variable → GivenTree → Factor → ℕ
 factor_home network tree (RowsOf x) = unwrap_or (option_map (λ (k : ℕ). k + 1) (position (holds_family network x) tree.cliques)) 0
+factor_home network tree (SupportOf x) = unwrap_or (option_map (λ (k : ℕ). k + 1) (position (holds_family network x) tree.cliques)) 0
 factor_home network tree (RatioOf ratio) = unwrap_or (home tree (ratio_pairs ratio)) 0
 
 abbrev pub pair_home : GivenTree → Pair → ℕ

@@ -6,7 +6,7 @@ ghost use Rattle.mk_net.specs.Trades.{trade_ratio};
 ghost use Rattle.std.proofs.Common.{sym, subst};
 ghost use Rattle.mk_tree.specs.Given.{GivenTree, home};
 ghost use Rattle.mk_tree.specs.Checked.{IsTreeOf};
-ghost use Rattle.mk_engine.specs.Meaning.{Meaning, RowsOf, RatioOf, with_factor, with_known};
+ghost use Rattle.mk_engine.specs.Meaning.{Meaning, RowsOf, SupportOf, RatioOf, with_factor, with_known};
 ghost use Rattle.mk_engine.specs.Beliefs.{CanWeigh, CanMultiply, CanKnow, CanBelieve, IsBelief};
 ghost use Rattle.mk_propagate.specs.Shapes.{IsClique};
 ghost use Rattle.mk_propagate.specs.Flows.{counted_on, reading_grade};
@@ -95,6 +95,18 @@ impl<R: Semiring> Engine<R> for TreeEngine<R> {
     {
         let clique = family_home(self.flow.shape().tree(), net, variable);
         self.flow.times_rows(clique, net, variable);
+        self.marks.mark_away(self.flow.shape(), clique);
+    }
+
+    fn support(&mut self, net: &Network, variable: u32)
+        requires { CanWeigh ⟦<TreeEngine<R> as Engine<R>>⟧.stands_for self.old net.now variable }
+        ensures stands { (m : Meaning) → ⟦<TreeEngine<R> as Engine<R>>⟧.stands_for self.old m → m.network ≡ net.now
+            → ⟦<TreeEngine<R> as Engine<R>>⟧.stands_for self.new (with_factor (SupportOf variable) m) }
+        ensures marks { MarksAway self.old self.new (factor_home net.now self.old.flow.shape.tree (SupportOf variable)) }
+        ensures kept { KeepsCount self.old self.new }
+    {
+        let clique = family_home(self.flow.shape().tree(), net, variable);
+        self.flow.times_support(clique, net, variable);
         self.marks.mark_away(self.flow.shape(), clique);
     }
 

@@ -74,7 +74,7 @@ impl Past {
 
     fn add(&mut self, rt: &impl Abort, net: &Network, change: &Change) -> Result<(), Fail> {
         match *change {
-            Change::Rows(_) => {}
+            Change::Rows(_) | Change::Support(_) => {}
             Change::Traded(about, hit, miss) => {
                 let ratio = ratio(rt, net, &about, hit, miss);
                 self.trades.push(WalkTrade { user: 0, ratio })?;
@@ -195,32 +195,34 @@ pub(crate) fn expect_few_states(alloc: Global, net: &Network) -> Result<(), Fail
     Ok(())
 }
 
-/// A network with a tree of it, the rows that an engine over it is told, what it is told then, and what it is asked.
+/// A network with a tree of it, how many rows an engine over it is told, and how many supports, what it is told then, and what it is
+/// asked.
 struct Sample {
     file: &'static str,
     rows: usize,
+    supports: usize,
     changes: &'static [Change],
     asked: &'static [About],
 }
 
-/// Over joint and tree engines, sums with the rows before the changes, and minima of the changes alone.
+/// Over joint and tree engines, sums with the rows before the changes, and minima of the changes alone, once the supports are told.
 fn follow_both(
     rt: &impl Abort,
     alloc: Global,
     file: &MarketFile,
-    changes: &[Change],
-    rows: usize,
-    asked: &[About],
+    sample: &Sample,
 ) -> Result<(), Fail>
     requires tree { IsTreeOf file.now.net file.now.tree }
     requires few { joint_states file.now.net ≤ max_clique_cells }
 {
+    let (changes, asked) = (sample.changes, sample.asked);
+    let (rows, supports) = (sample.rows, sample.supports);
     assert!(rt; rows <= changes.len());
     follow::<SumProd, JointEngine<SumProd>>(rt, alloc, file, changes, rows, asked)?;
     follow::<SumProd, TreeEngine<SumProd>>(rt, alloc, file, changes, rows, asked)?;
     let traded = &changes[rows..];
-    follow::<MinProd, JointEngine<MinProd>>(rt, alloc, file, traded, 0, asked)?;
-    follow::<MinProd, TreeEngine<MinProd>>(rt, alloc, file, traded, 0, asked)
+    follow::<MinProd, JointEngine<MinProd>>(rt, alloc, file, traded, supports, asked)?;
+    follow::<MinProd, TreeEngine<MinProd>>(rt, alloc, file, traded, supports, asked)
 }
 
 fn follow_file(
@@ -232,7 +234,7 @@ fn follow_file(
     requires { IsTreeOf file.now.net file.now.tree }
 {
     expect_few_states(alloc, &file.net)?;
-    follow_both(rt, alloc, file, sample.changes, sample.rows, sample.asked)
+    follow_both(rt, alloc, file, sample)
 }
 
 fn follow_sample(rt: &impl Abort, alloc: Global, sample: &Sample) -> Result<(), Fail> {
@@ -276,6 +278,7 @@ rows = [[700000, 300000], [100000, 900000]]
 const IN_WEATHER: Sample = Sample {
     file: WEATHER,
     rows: 2,
+    supports: 0,
     changes: &[
         Change::Rows(0),
         Change::Rows(1),
@@ -296,6 +299,7 @@ const IN_WEATHER: Sample = Sample {
 const ALONG_CHAIN: Sample = Sample {
     file: CHAIN,
     rows: 3,
+    supports: 0,
     changes: &[
         Change::Rows(0),
         Change::Rows(1),
@@ -348,6 +352,7 @@ rows = [[500000, 500000], [125000, 875000], [800000, 200000]]
 const IN_STAR: Sample = Sample {
     file: STAR,
     rows: 4,
+    supports: 0,
     changes: &[
         Change::Rows(0),
         Change::Rows(1),
@@ -372,11 +377,63 @@ const IN_STAR: Sample = Sample {
     ],
 };
 
+/// A chain in which b is up where a is, and c has three values, of which one cannot come beside each value of b.
+const GATES: &str = "points_per_bit = 1
+max_trades = 1
+zeros = true
+cliques = [['a', 'b'], ['b', 'c'], ['c']]
+links = [1, 2]
+[[variable]]
+name = 'a'
+values = ['up', 'down']
+parents = []
+rows = [[500000, 500000]]
+[[variable]]
+name = 'b'
+values = ['up', 'down']
+parents = ['a']
+rows = [[1000000, 0], [300000, 700000]]
+[[variable]]
+name = 'c'
+values = ['low', 'mid', 'high']
+parents = ['b']
+rows = [[0, 400000, 600000], [500000, 500000, 0]]
+";
+
+/// Trades where some states cannot come, before and after a known pair beside which another cannot.
+const AT_GATES: Sample = Sample {
+    file: GATES,
+    rows: 3,
+    supports: 2,
+    changes: &[
+        Change::Rows(0),
+        Change::Rows(1),
+        Change::Rows(2),
+        Change::Support(1),
+        Change::Support(2),
+        Change::Traded(About(A, Some(B)), 1256584717458, 733007751850),
+        Change::Traded(About(C, None), 3, 2),
+        Change::Known(NOT_B),
+        Change::Traded(About(C, None), 2, 5),
+    ],
+    asked: &[
+        About(A, None),
+        About(B, None),
+        About(C, None),
+        About(NOT_B, None),
+        About(NOT_B, Some(A)),
+        About(C, Some(B)),
+        About(C, Some(NOT_B)),
+        About(B, Some(NOT_A)),
+    ],
+};
+
 #[test]
 fn engines_are_as_walked(rt: HostRuntime) -> Result<(), Fail> {
     follow_sample(&rt, rt.alloc(), &IN_WEATHER)?;
     follow_sample(&rt, rt.alloc(), &ALONG_CHAIN)?;
-    follow_sample(&rt, rt.alloc(), &IN_STAR)
+    follow_sample(&rt, rt.alloc(), &IN_STAR)?;
+    follow_sample(&rt, rt.alloc(), &AT_GATES)
 }
 
 /// Stops unless the walk finds each of these numbers, after so many changes.

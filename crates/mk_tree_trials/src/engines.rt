@@ -21,10 +21,12 @@ use std::test::Fail;
 #[derive(Clone, Copy)]
 pub(crate) struct About(pub(crate) Pair, pub(crate) Option<Pair>);
 
-/// What an engine is told: the rows of a variable, a trade by two numbers of units, or a known pair.
+/// What an engine is told: the rows of a variable, where its values have no share of nothing, a trade by two numbers of units, or a
+/// known pair.
 #[derive(Clone, Copy)]
 pub(crate) enum Change {
     Rows(u32),
+    Support(u32),
     Traded(About, u64, u64),
     Known(Pair),
 }
@@ -112,6 +114,10 @@ pub(crate) fn tell<R: Semiring, E: Engine<R>>(
         Change::Rows(variable) => {
             assert!(rt; variable < net.variables());
             engine.weigh(net, variable);
+        }
+        Change::Support(variable) => {
+            assert!(rt; variable < net.variables());
+            engine.support(net, variable);
         }
         Change::Traded(about, hit, miss) => {
             let ratio = ratio(rt, net, &about, hit, miss);

@@ -1,8 +1,13 @@
 -- The list of all states, variable by variable.
-use Rattle.std.proofs.Common.{◌≡◌, ℕ, ◌+◌, ◌-◌, ◌<◌, ◌≤◌, List, [], ◌∷◌, ◌++◌, map, length, drop, slice_index, flat_map, sym, ap, ◌∙◌, arith, append-nil}
+use Rattle.std.proofs.Common.{◌≡◌, ℕ, ◌+◌, ◌-◌, ◌<◌, ◌≤◌, List, [], ◌∷◌, ◌++◌, map, length, drop, slice_index, flat_map, Vec, sym, ap, subst, ◌∙◌, arith, append-nil}
 use Rattle.std.proofs.lemmas.List.{drop_more, drop_all}
 use Rattle.std.proofs.lemmas.List.Concat.{flat_map-append}
-use Rattle.mk_exact.specs.States.{states, numbers_below}
+use Rattle.std.specs.List.{AllByRecursion}
+use Rattle.std.specs.declared.alloc.Global.{Global}
+use Rattle.mk_net.specs.Network.{Variable, sizes}
+use Rattle.mk_exact.specs.States.{IsState, states, numbers_below}
+use Rattle.mk_exact.proofs.Listed.{states_are}
+use Rattle.mk_walk.specs.Lists.{lists}
 use Rattle.mk_walk.proofs.Weights.{numbers_more}
 
 pub more_values : {X : Type 0} (f : ℕ → List X) (v : ℕ) → flat_map f (numbers_below v) ++ f v ≡ flat_map f (numbers_below (v + 1))
@@ -28,3 +33,11 @@ more_states sizes n done before after e h p q =
 
 pub whole : (sizes : List ℕ) (n done : ℕ) → n ≤ done → states (drop (n - done) sizes) ≡ states sizes
 whole sizes n done h = let none : n - done ≡ 0 = omega arith in ap (λ k. states (drop k sizes)) none
+
+-- the first of some lists, and the others
+pub first_and_others : (sizes : List ℕ) (items others : List (Vec ℕ Global)) (first : Vec ℕ Global) → AllByRecursion (IsState sizes) (lists items)
+    → items ≡ first ∷ others → IsState sizes first.items × AllByRecursion (IsState sizes) (lists others)
+first_and_others sizes items others first all same = subst (λ (vs : List (Vec ℕ Global)). AllByRecursion (IsState sizes) (lists vs)) same all
+
+pub each_is_state : (network : List Variable) (items : List (Vec ℕ Global)) → lists items ≡ states (sizes network) → AllByRecursion (IsState (sizes network)) (lists items)
+each_is_state network items same = subst (λ (ls : List (List ℕ)). AllByRecursion (IsState (sizes network)) ls) (sym same) (states_are (sizes network))

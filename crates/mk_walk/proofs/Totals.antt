@@ -15,7 +15,7 @@ use Rattle.mk_exact.specs.History.{Entry, UserTrade}
 use Rattle.mk_exact.specs.Weight.{weight, total}
 use Rattle.mk_exact.proofs.Sums.{plus_over-map}
 use Rattle.mk_exact.proofs.Totals.{total_is}
-use Rattle.mk_exact.proofs.Listed.{states_are}
+use Rattle.mk_exact.proofs.Listed.{all_are}
 use Rattle.mk_walk.specs.declared.weight.WalkTrade.{WalkTrade}
 use Rattle.mk_walk.specs.Lists.{lists}
 use Rattle.mk_walk.specs.Walked.{user_trade, IsHistoryOf, capped, walked_weight, counted_weight}
@@ -26,7 +26,7 @@ capped_plus a b = omega arith
 -- a listed state gives each variable one of its values
 pub state_at : (network : List Variable) (xs : List (Vec ℕ Global)) → lists xs ≡ all_states network → (i : ℕ) (x : Vec ℕ Global) → i < length xs → x ≡ get_or xs i x → IsState (sizes network) x.items
 state_at network xs e i x h is = subst (IsState (sizes network)) (ap (λ (ls : List (List ℕ)). get_or ls i []) (sym e) ∙ get_or-map (λ (v : Vec ℕ Global). v.items) xs i x [] h ∙ ap (λ (v : Vec ℕ Global). v.items) (sym is))
-    (All-from_recursion (IsState (sizes network)) (all_states network) (states_are (sizes network)) i [] (let as_long : length xs ≡ length (all_states network) = sym (length-map xs (λ (v : Vec ℕ Global). v.items)) ∙ ap (λ (ls : List (List ℕ)). length ls) e in omega arith))
+    (All-from_recursion (IsState (sizes network)) (all_states network) (all_are network) i [] (let as_long : length xs ≡ length (all_states network) = sym (length-map xs (λ (v : Vec ℕ Global). v.items)) ∙ ap (λ (ls : List (List ℕ)). length ls) e in omega arith))
 
 -- one state more
 pub more_total : (f : List ℕ → ℕ) (xs : List (Vec ℕ Global)) (i : ℕ) (x : Vec ℕ Global) (sum w sum' : ℕ) → i < length xs → x ≡ get_or xs i x

@@ -2,16 +2,30 @@
 
 ghost use Rattle.std.specs.Prelude.{◌≡◌, ℕ, List, ◌∷◌, ◌++◌, map, flat_map, IfOk};
 ghost use Rattle.mk_net.specs.Network.{sizes};
-ghost use Rattle.mk_exact.specs.States.{numbers_below};
+ghost use Rattle.mk_exact.specs.States.{states, numbers_below};
 ghost use Rattle.mk_exact.specs.InitialWeight.{all_states};
 ghost use Rattle.mk_walk.specs.Lists.{lists};
 
+use crate::weight::can_come;
 use mk_net::{Network, NoMemory};
 use std::alloc::Global;
 
-/// Every state of a network, the last variable's value changing fastest.
+/// Every state of a network: each list of values that can come, the last variable's value changing fastest.
 pub fn all_states(alloc: Global, network: &Network) -> Result<Vec<Vec<u32>>, NoMemory>
     ensures { IfOk result (λ found. lists found.items ≡ all_states network.now) }
+{
+    let mut states = Vec::new(alloc);
+    for values in all_values(alloc, network)? {
+        if can_come(network, &values) && states.push(values).is_err() {
+            return Err(NoMemory);
+        }
+    }
+    Ok(states)
+}
+
+// Every list that gives each variable one of its values.
+fn all_values(alloc: Global, network: &Network) -> Result<Vec<Vec<u32>>, NoMemory>
+    ensures { IfOk result (λ found. lists found.items ≡ states (sizes network.now)) }
 {
     let mut states = Vec::new(alloc);
     if states.push(Vec::new(alloc)).is_err() {

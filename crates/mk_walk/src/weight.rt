@@ -5,7 +5,7 @@ ghost use Rattle.mk_net.specs.Network.{sizes};
 ghost use Rattle.mk_net.specs.Named.{variable_at};
 ghost use Rattle.mk_net.specs.Trades.{trade_ratio};
 ghost use Rattle.mk_exact.specs.States.{IsState, product_by, numbers_below};
-ghost use Rattle.mk_exact.specs.InitialWeight.{value_at, row_number, entry, initial_weight};
+ghost use Rattle.mk_exact.specs.InitialWeight.{value_at, row_number, entry, initial_weight, can_come};
 ghost use Rattle.mk_exact.specs.Events.{holds};
 ghost use Rattle.mk_exact.specs.Ratios.{units_of, ratio_at};
 ghost use Rattle.mk_exact.specs.History.{Entry};
@@ -89,6 +89,14 @@ fn initial(network: &Network, state: &[u32]) -> u128
         weight = weight.saturating_mul(share(network, variable, state) as u128);
     }
     weight
+}
+
+/// Whether a state can come: it picks no share of nothing.
+pub(crate) fn can_come(network: &Network, state: &[u32]) -> bool
+    requires { IsState (sizes network.now) state.now }
+    ensures { result ≡ can_come network.now state.now }
+{
+    initial(network, state) >= 1
 }
 
 /// The weight of a state after these trades, or the greatest u128 where it is more.

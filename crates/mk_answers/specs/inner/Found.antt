@@ -1,20 +1,26 @@
 -- Beliefs in what is possible.
-use Rattle.std.specs.Prelude.{◌≡◌, ℕ, ◌+◌, ◌^◌, ◌≤◌, List, Some}
+use Rattle.std.specs.Prelude.{◌≡◌, ℕ, ◌+◌, ◌^◌, ◌≤◌, List, slice_index, true, Option, Some, is_some, IsNone, IfSome, ◌↔◌}
 use Rattle.mk_net.specs.Bounds.{max_values}
-use Rattle.mk_net.specs.Network.{Variable}
+use Rattle.mk_net.specs.Network.{Variable, sizes}
 use Rattle.mk_net.specs.Asked.{Asked}
-use Rattle.mk_exact.specs.Events.{holds, with_target}
+use Rattle.mk_net.specs.Events.{pairs_asked}
+use Rattle.mk_exact.specs.Events.{holds, with_target, without_target}
+use Rattle.mk_exact.specs.Existing.{IsInOrder}
 use Rattle.mk_exact.specs.Factors.{factor_with, least_gain}
 use Rattle.mk_exact.specs.History.{Entry}
-use Rattle.mk_exact.specs.Weight.{total, IsSmall}
+use Rattle.mk_exact.specs.Weight.{total, IsSmall, cannot_come}
 use Rattle.mk_enclose.specs.declared.enclosure.Enclosure.{Enclosure}
 use Rattle.mk_enclose.specs.Enclosure.{Encloses, IsExact, IsGradedWithin}
 use Rattle.mk_semiring.specs.declared.held.Held.{Held}
 use Rattle.mk_semiring.specs.declared.held.Held.TheVariants.{Present}
 use Rattle.mk_semiring.specs.Held.{HeldEncloses, HasHeldGrade, IsHeldExact}
-use Rattle.mk_engine.specs.Meaning.{max_factors, max_grade}
+use Rattle.mk_tree.specs.Given.{GivenTree, home}
+use Rattle.mk_engine.specs.Meaning.{Meaning, max_factors, max_grade}
+use Rattle.mk_beliefs.specs.Meanings.{weights_of}
+use Rattle.mk_assets.specs.declared.assets.Assets.{Assets}
+use Rattle.mk_assets.specs.Holdings.{Owns}
 use Rattle.mk_quote.specs.declared.values.ValueBounds.{ValueBounds}
-use Rattle.mk_answers.specs.Open.{IsFactorFor}
+use Rattle.mk_answers.specs.Open.{IsOpen, CanBeAnswered, IsFactorFor, holding_of}
 
 -- the belief encloses a number that is not zero
 pub record IsThere (belief : Held) : Type 0 where
@@ -45,7 +51,59 @@ IsPartFor network H asked part = IsBeliefIn (Present part) (IsSmall network H) (
 abbrev pub IsWholeFor : List Variable → List Entry → Asked → Enclosure → Type 0
 IsWholeFor network H asked whole = IsFoundOf whole (IsSmall network H) (total network H (holds asked.condition))
 
--- the bounds of the value that a question asks about: on the weight of its states, and on the user's least factor over them
+-- and of those where its condition holds and its target does not
+abbrev pub IsRestFor : List Variable → List Entry → Asked → Enclosure → Type 0
+IsRestFor network H asked rest = IsBeliefIn (Present rest) (IsSmall network H) (total network H (without_target asked))
+
+-- the beliefs are in a question's target and in the other values of its variable
+pub record AreSidesIn (network : List Variable) (H : List Entry) (asked : Asked) (part rest : Held) : Type 0 where
+  pub hit : IsBeliefIn part (IsSmall network H) (total network H (with_target asked))
+  pub miss : IsBeliefIn rest (IsSmall network H) (total network H (without_target asked))
+
+-- so they are for some question of some market
+pub record HasSides (part rest : Held) : Type 0 where
+  pub network : List Variable
+  pub history : List Entry
+  pub asked : Asked
+  pub sides : AreSidesIn network history asked part rest
+
+-- the assets are a user's of a market in use, where the question can be answered, its variable has so many values, and both of its
+-- sides have these weights
+pub record CanOpen {E P : Type 0} (stands_for : E → Meaning → Type 0) (assets : Assets E P) (asked : Asked) (values : ℕ) (hit miss : Enclosure) : Type 0 where
+  pub network : List Variable
+  pub tree : GivenTree
+  pub history : List Entry
+  pub user : ℕ
+  pub owns : Owns stands_for assets (holding_of network tree history user)
+  pub is_open : IsOpen network tree history
+  pub answered : CanBeAnswered network tree history asked
+  pub sized : values ≡ slice_index (sizes network) asked.target.variable
+  pub part : IsPartFor network history asked hit
+  pub rest : IsRestFor network history asked miss
+
+-- the bounds of the value that a question asks about, where it can come: on the weight of its states, and on the user's least factor
+-- over them
 pub record AreValueBoundsOf (network : List Variable) (H : List Entry) (u : ℕ) (asked : Asked) (value : ValueBounds) : Type 0 where
   pub part : IsPartFor network H asked value.part
   pub factor : (g : ℕ) → least_gain network H u (with_target asked) ≡ Some g → IsFactorFor value.factor (IsSmall network H) (factor_with H u g)
+
+-- such bounds, or none where it cannot
+pub record IsValueFound (network : List Variable) (H : List Entry) (u : ℕ) (asked : Asked) (found : Option ValueBounds) : Type 0 where
+  pub none : IsNone found ↔ (cannot_come network H (with_target asked) ≡ true)
+  pub bounds : IfSome found (AreValueBoundsOf network H u asked)
+
+-- a question in order that has a home
+pub record CanBeValuedHere (network : List Variable) (tree : GivenTree) (H : List Entry) (asked : Asked) : Type 0 where
+  pub in_order : IsInOrder network H asked
+  pub home : is_some (home tree (pairs_asked asked)) ≡ true
+
+-- the engine has the weights and the assets are a user's of one market in use of this network, where the question is such
+pub record CanFindValue {E A P : Type 0} (stands_for : E → Meaning → Type 0) (owned_for : A → Meaning → Type 0) (prices : E) (assets : Assets A P)
+    (network : List Variable) (asked : Asked) : Type 0 where
+  pub tree : GivenTree
+  pub history : List Entry
+  pub user : ℕ
+  pub stands : stands_for prices (weights_of network tree history)
+  pub owns : Owns owned_for assets (holding_of network tree history user)
+  pub is_open : IsOpen network tree history
+  pub valued : CanBeValuedHere network tree history asked

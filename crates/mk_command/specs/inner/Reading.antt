@@ -3,7 +3,7 @@ use Rattle.std.specs.Prelude.{ℕ, List, [], ◌∷◌, codes, Option}
 use Rattle.arrayvec.specs.ArrayVec.{ArrayVec}
 use Rattle.mk_text.specs.Reading.{Read, both, behind, made, given, nothing, perhaps, choose, read_name, read_short, read_pair, read_condition, read_question, read_several}
 use Rattle.mk_command.specs.declared.command.Command.{Command}
-use Rattle.mk_command.specs.declared.command.Command.TheVariants.{User, Deposit, Withdraw, Price, Limits, Edit, Bounds, Spread, Worst, Resolve, Settle}
+use Rattle.mk_command.specs.declared.command.Command.TheVariants.{User, Deposit, Withdraw, Price, Limits, Edit, Bounds, Spread, Worst, Resolve, Settle, Bound}
 
 unfoldable pub read_user : Read Command
 read_user = made (λ user. User user) read_name
@@ -56,6 +56,7 @@ forms =
     ∷ (codes "worst ", read_worst)
     ∷ (codes "resolve ", read_resolve)
     ∷ (codes "settle", given Settle)
+    ∷ (codes "bound", given Bound)
     ∷ []
 
 unfoldable pub read_form : Read Command

@@ -25,6 +25,7 @@ draft_of d = record {
   variables = drafts_of d.draft;
   cliques = lists_of d.cliques;
   links = d.links.items;
+  zeros = d.draft.zeros;
 }
 
 -- a call gives what a definition gives, or wants memory

@@ -10,7 +10,7 @@ use Rattle.mk_sums.specs.There.{holds_there}
 use Rattle.mk_table.specs.Scopes.{ScopeOf, cells_in}
 use Rattle.mk_table.specs.Cells.{values_at}
 use Rattle.mk_table.specs.Tables.{TableOf, HasNumbers}
-use Rattle.mk_engine.specs.Meaning.{Meaning, Factor, RowsOf, RatioOf, factor_there, max_factors, ArePairsOf}
+use Rattle.mk_engine.specs.Meaning.{Meaning, Factor, RowsOf, SupportOf, RatioOf, factor_there, max_factors, ArePairsOf}
 
 -- the scope of all variables
 abbrev pub whole_scope : List Variable → ScopeOf
@@ -38,6 +38,7 @@ pub record IsInRoom (table : TableOf) (count : ℕ) : Type 0 where
 -- the rows of one of the network's variables, or a ratio of its pairs
 abbrev pub IsFactorOf : List Variable → Factor → Type 0
 IsFactorOf network (RowsOf k) = k < length network
+IsFactorOf network (SupportOf k) = k < length network
 IsFactorOf network (RatioOf ratio) = IsRatioOf network ratio
 
 -- The table has the joint of a meaning, cell by cell, in a step for each factor. A table has the joint of many meanings,

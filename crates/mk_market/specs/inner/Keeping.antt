@@ -1,9 +1,9 @@
 -- How a market is kept.
-use Rattle.std.specs.Prelude.{◌≡◌, ℕ, ◌≤◌, List, [], map, false, Option, Some, option_map, slice_get}
+use Rattle.std.specs.Prelude.{◌≡◌, ℕ, ◌≤◌, List, [], map, length, false, Option, Some, option_map, slice_get}
 use Rattle.mk_net.specs.Network.{Variable, IsNetwork}
 use Rattle.mk_exact.specs.Limits.{Side}
 use Rattle.mk_exact.specs.Sides.{AreSides}
-use Rattle.mk_spread.specs.Markets.{AreValueSides}
+use Rattle.mk_spread.specs.Markets.{AreValueSides, values_left}
 use Rattle.mk_exact.specs.Weight.{IsSmall}
 use Rattle.mk_exact.specs.History.{Entry, users, revision, is_settled}
 use Rattle.mk_tree.specs.Given.{GivenTree}
@@ -11,7 +11,7 @@ use Rattle.mk_tree.specs.Checked.{IsTreeOf}
 use Rattle.mk_file.specs.declared.market_file.MarketFile.{MarketFile}
 use Rattle.mk_file.specs.MarketOf.{market_of}
 use Rattle.mk_engine.specs.Meaning.{Meaning}
-use Rattle.mk_beliefs.specs.Meanings.{weights_of}
+use Rattle.mk_beliefs.specs.Meanings.{weights_of, rows_of}
 use Rattle.mk_assets.specs.declared.assets.Assets.{Assets}
 use Rattle.mk_assets.specs.Holdings.{Owns}
 use Rattle.mk_cash.specs.declared.ledger.Account.{Account}
@@ -24,6 +24,7 @@ use Rattle.mk_rules.specs.Quotes as rules
 use Rattle.mk_rules.specs.Transcript.{Standing}
 use Rattle.mk_rules.specs.Standings.{IsReady}
 use Rattle.mk_rules.specs.Bounded.{IsBounded}
+use Rattle.mk_answers.specs.Results.{AreBothLeft}
 use Rattle.mk_answers.specs.Open.{CanBeAnswered, CanBeSpreadHere, AreBoundsFor, AreSideBoundsFor, holding_of}
 use Rattle.mk_market.specs.declared.last_quote.LastQuote.{LastQuote}
 use Rattle.mk_market.specs.declared.last_quote.LastQuote.TheVariants.{Limits, Bounds}
@@ -50,15 +51,17 @@ quoted (Bounds quote) = record { says = rules.SpreadBounds (spreads.question_of 
 abbrev pub standing_of : {E P : Type 0} → JournalOf → List (Member E P) → Standing
 standing_of journal members = record { history = journal.history; quotes = map (option_map quoted) (quotes_of members) }
 
--- the bounds of a quote enclose both sides of its question, which can be answered
+-- the bounds of a quote enclose both sides of its question, which can be answered and is not decided
 pub record IsCurrent (network : List Variable) (tree : GivenTree) (H : List Entry) (u : ℕ) (quote : Quote) : Type 0 where
   pub answered : CanBeAnswered network tree H (question_of quote)
+  pub left : AreBothLeft network H (question_of quote)
   pub bounds : (hit miss : Side) → AreSides network H u (question_of quote) hit miss → AreBoundsFor (bounds_of quote) (IsSmall network H) hit miss
 
--- the bounds of a quote enclose the side of each value of its variable, and its question can be answered
+-- the bounds of a quote enclose the side of each value that can come, of which there are two, and its question can be answered
 pub record IsSpreadCurrent (network : List Variable) (tree : GivenTree) (H : List Entry) (u : ℕ) (quote : SpreadQuote) : Type 0 where
   pub answered : CanBeSpreadHere network tree H (spreads.question_of quote)
-  pub bounds : (sides : List Side) → AreValueSides network H u (spreads.question_of quote) sides
+  pub two_left : 2 ≤ length (values_left network H (spreads.question_of quote))
+  pub bounds : (sides : List (Option Side)) → AreValueSides network H u (spreads.question_of quote) sides
       → AreSideBoundsFor (spreads.sides_of quote) (IsSmall network H) sides
 
 -- the bounds of a quote enclose what they are bounds of
@@ -78,12 +81,13 @@ AreKeptQuotes network tree H quotes = (u : ℕ) (quote : LastQuote) → slice_ge
 
 -- the engines, the users and the ledger are as the history leaves them, and the history stands
 module _ {P A Plan : Type 0} (weights_stand : P → Meaning → Type 0) (gains_stand : A → Meaning → Type 0) (plan_for : Plan → List Variable → GivenTree → Type 0) where
-  pub record IsKept (file : MarketFile) (prices : P) (plan : Plan) (members : List (Member A Plan)) (accounts : List Account) (journal : JournalOf)
+  pub record IsKept (file : MarketFile) (prices : P) (rows : A) (plan : Plan) (members : List (Member A Plan)) (accounts : List Account) (journal : JournalOf)
       (payments : Option (List Payment)) : Type 0 where
     pub legal : IsNetwork file.net
     pub tree : IsTreeOf file.net file.tree
     pub planned : plan_for plan file.net file.tree
     pub prices_stand : weights_stand prices (weights_of file.net file.tree journal.history)
+    pub rows_stand : gains_stand rows (rows_of file.net file.tree journal.history)
     pub named : names_of members ≡ users journal.history
     pub owns : (u : ℕ) (assets : Assets A Plan) → slice_get (assets_of members) u ≡ Some assets
         → Owns gains_stand assets (holding_of file.net file.tree journal.history u)

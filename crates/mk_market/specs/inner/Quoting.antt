@@ -1,5 +1,5 @@
 -- What a quote, and a trade by it, leave of the parts of a market.
-use Rattle.std.specs.Prelude.{◌≡◌, ℕ, ◌<◌, ◌≤◌, List, length, true, Option, Some, is_some, slice_get, slice_set}
+use Rattle.std.specs.Prelude.{◌≡◌, ℕ, ◌<◌, ◌≤◌, List, length, true, false, Option, Some, None, is_some, slice_get, slice_set}
 use Rattle.arrayvec.specs.ArrayVec.{ArrayVec}
 use Rattle.mk_net.specs.Network.{Variable}
 use Rattle.mk_net.specs.Asked.{Asked, TradeRatio, ratio_pairs}
@@ -18,9 +18,7 @@ use Rattle.mk_quote.specs.declared.quote.Quote.{Quote}
 use Rattle.mk_quote.specs.declared.spread_quote.SpreadQuote.{SpreadQuote}
 use Rattle.mk_quote.specs.Quotes.{user_of, question_of, revision_of}
 use Rattle.mk_quote.specs.Spreads as spreads
-use Rattle.mk_quote.specs.Values.{AreFairForEach, AreRightForEach}
-use Rattle.mk_reply.specs.declared.refusal.Refusal.{Refusal}
-use Rattle.mk_reply.specs.declared.refusal.Refusal.TheVariants.{Outside}
+use Rattle.mk_quote.specs.Values.{AreFairForEach, AreRightForEach, impossible_share_in, misses_share_in}
 use Rattle.mk_reply.specs.Refusals.{given_in}
 use Rattle.mk_answers.specs.Open.{IsOpen, holding_of}
 use Rattle.mk_market.specs.declared.last_quote.LastQuote.{LastQuote}
@@ -28,7 +26,11 @@ use Rattle.mk_market.specs.declared.last_quote.LastQuote.TheVariants.{Bounds}
 use Rattle.mk_market.specs.declared.users.Member.{Member}
 use Rattle.mk_market.specs.Journals.{JournalOf}
 use Rattle.mk_market.specs.Members.{assets_of}
+use Rattle.mk_market.specs.declared.possible.SpreadDecided.{SpreadDecided}
+use Rattle.mk_market.specs.declared.possible.Stopped.{Stopped}
+use Rattle.mk_market.specs.declared.possible.Stopped.TheVariants.{Decided, ImpossibleShare, MissingShare, Outside}
 use Rattle.mk_market.specs.inner.Keeping.{IsCurrent, IsSpreadCurrent}
+use Rattle.mk_market.specs.inner.Stopped.{IsSpreadDecidedBy}
 
 -- the assets of one user stand for a holding
 abbrev pub OwnsAt : {A Plan : Type 0} → (A → Meaning → Type 0) → List (Member A Plan) → ℕ → Holding → Type 0
@@ -66,13 +68,25 @@ pub record IsInside (quote : SpreadQuote) (Xs Fs : List ℕ) : Type 0 where
   pub inside : InsideEach (spreads.intervals_of quote) Xs
   pub fair : AreFairForEach (spreads.sides_of quote) Xs Fs
 
--- shares outside of it, with the refusal that prints its intervals
-pub record IsOutside (quote : SpreadQuote) (Xs : List ℕ) (why : Refusal) : Type 0 where
+-- shares at the right places that are outside of it, with its intervals
+pub record IsOutside (quote : SpreadQuote) (Xs : List ℕ) (box : Option (ArrayVec (ℕ × ℕ))) : Type 0 where
+  pub no_impossible : impossible_share_in (spreads.sides_of quote) Xs ≡ None
+  pub no_missing : misses_share_in (spreads.sides_of quote) Xs ≡ false
   pub outside : ¬ InsideEach (spreads.intervals_of quote) Xs
-  pub box : Option (ArrayVec (ℕ × ℕ))
-  pub printed : why ≡ Outside box
   pub given : given_in box ≡ spreads.intervals_of quote
   pub right : AreRightForEach (spreads.sides_of quote) (given_in box)
+
+-- what stops shares by a quote, which is there because nothing decides its question
+abbrev pub IsStopped : SpreadQuote → List ℕ → Stopped → Type 0
+IsStopped quote Xs (Decided why) = ⊥
+IsStopped quote Xs (ImpossibleShare value) = impossible_share_in (spreads.sides_of quote) Xs ≡ Some value
+IsStopped quote Xs MissingShare = (impossible_share_in (spreads.sides_of quote) Xs ≡ None) × (misses_share_in (spreads.sides_of quote) Xs ≡ true)
+IsStopped quote Xs (Outside box) = IsOutside quote Xs box
+
+-- the last quotes behind shares that are stopped: the user's is the judge where they are outside of it
+abbrev pub quotes_behind : List (Option LastQuote) → ℕ → SpreadQuote → Stopped → List (Option LastQuote)
+quotes_behind quotes u quote (Outside box) = slice_set quotes u (Some (Bounds quote))
+quotes_behind quotes u quote why = quotes
 
 -- a spread that its judge takes leaves the last quotes
 pub record IsTaken (network : List Variable) (tree : GivenTree) (H : List Entry) (u : ℕ) (spread : SpreadAsked) (quotes new_quotes : List (Option LastQuote))
@@ -82,13 +96,23 @@ pub record IsTaken (network : List Variable) (tree : GivenTree) (H : List Entry)
   pub is_inside : IsInside quote Xs Fs
   pub same_quotes : new_quotes ≡ quotes
 
--- one that its judge turns down has the judge as the user's last quote
-pub record IsTurnedDown (network : List Variable) (tree : GivenTree) (H : List Entry) (u : ℕ) (spread : SpreadAsked) (quotes new_quotes : List (Option LastQuote))
-    (Xs : List ℕ) (why : Refusal) : Type 0 where
+-- so does one that its judge stops
+pub record IsStoppedByJudge (network : List Variable) (tree : GivenTree) (H : List Entry) (u : ℕ) (spread : SpreadAsked)
+    (quotes new_quotes : List (Option LastQuote)) (Xs : List ℕ) (why : Stopped) : Type 0 where
   pub quote : SpreadQuote
   pub judge : IsJudge network tree H u spread quotes quote
-  pub is_outside : IsOutside quote Xs why
-  pub quote_set : new_quotes ≡ slice_set quotes u (Some (Bounds quote))
+  pub is_stopped : IsStopped quote Xs why
+  pub quotes_left : new_quotes ≡ quotes_behind quotes u quote why
+
+-- one that is decided leaves them as they were, and has no judge
+pub record IsDecidedSpread (network : List Variable) (H : List Entry) (spread : SpreadAsked) (quotes new_quotes : List (Option LastQuote)) (why : SpreadDecided) : Type 0 where
+  pub decided : IsSpreadDecidedBy network H spread why
+  pub same_quotes : new_quotes ≡ quotes
+
+-- a spread that is turned down
+abbrev pub IsTurnedDown : List Variable → GivenTree → List Entry → ℕ → SpreadAsked → List (Option LastQuote) → List (Option LastQuote) → List ℕ → Stopped → Type 0
+IsTurnedDown network tree H u spread quotes new_quotes Xs (Decided why) = IsDecidedSpread network H spread quotes new_quotes why
+IsTurnedDown network tree H u spread quotes new_quotes Xs why = IsStoppedByJudge network tree H u spread quotes new_quotes Xs why
 
 -- a trade that can be made: some market is in use, its user has assets there, its ratio is of the network and has a home, and there
 -- is room for one more

@@ -17,6 +17,6 @@ IsNumbered v = length v.rows.items < 2 ^ 32
 abbrev pub HasWidths : VariableDraft → Type 0
 HasWidths v = All (λ row. length row.items ≤ max_values) v.rows.items
 
--- its entries are shares
+-- its entries are shares, of which some may be nothing
 abbrev pub HasShares : VariableDraft → Type 0
-HasShares v = All (λ row. All (λ e. is_share e ≡ true) row.items) v.rows.items
+HasShares v = All (λ row. All (λ e. is_share true e ≡ true) row.items) v.rows.items

@@ -1,11 +1,12 @@
 //! The network of a draft without a fault.
 
-ghost use Rattle.std.specs.Prelude.{◌≡◌, ◌≤◌, true, false, None, length, map, string_bytes, All, IfOk, IfErr};
-ghost use Rattle.std.specs.List.{list_all};
+ghost use Rattle.std.specs.Prelude.{◌≡◌, ◌==◌, ◌≤◌, true, false, None, length, map, string_bytes, All, IfOk, IfErr};
+ghost use Rattle.std.specs.List.{list_all, list_any};
 ghost use Rattle.mk_net.specs.Name.{is_name};
-ghost use Rattle.mk_net.specs.Stored.{variable_of};
+ghost use Rattle.mk_net.specs.Stored.{variable_of, variables_of};
 ghost use Rattle.mk_net.specs.Drafts.{drafts_of, draft_of_variable};
 ghost use Rattle.mk_net.specs.Checked.{first_fault, checked_variable, checked_network, number_of, has_double, share, is_share};
+ghost use Rattle.mk_net.specs.Zeros.{with_zeros, HasNoZeros};
 ghost use Rattle.mk_net.specs.inner.Counted.{HasShares};
 
 use super::{Network, StoredVariable};
@@ -18,8 +19,9 @@ use std::alloc::Global;
 
 /// The network of a draft.
 pub(super) fn network(alloc: Global, draft: &Draft) -> Result<Network, NetFault>
-    requires { first_fault (drafts_of draft.now) ≡ None }
+    requires { first_fault draft.now.zeros (drafts_of draft.now) ≡ None }
     ensures network { IfOk result (λ network. network ≡ checked_network (drafts_of draft.now)) }
+    ensures no_zeros { IfOk result (λ network. draft.now.zeros ≡ false → HasNoZeros network) }
     ensures memory { IfErr result (λ fault. fault ≡ NetFault.Memory) }
 {
     let mut variables = IndexMap::new(alloc);
@@ -27,7 +29,40 @@ pub(super) fn network(alloc: Global, draft: &Draft) -> Result<Network, NetFault>
         let stored = stored(alloc, draft, variable)?;
         variables.insert(name(&variable.name), stored)?;
     }
-    Ok(Network { variables })
+    let zeros = with_zeros(alloc, &variables)?;
+    Ok(Network { variables, zeros })
+}
+
+/// The variables that have a share of nothing, in their order.
+fn with_zeros(
+    alloc: Global,
+    variables: &IndexMap<Name, StoredVariable>,
+) -> Result<Vec<u32>, NetFault>
+    requires { length variables.now.entries ≤ 256 }
+    ensures zeros { IfOk result (λ v. v.items ≡ with_zeros (variables_of variables.now.entries)) }
+    ensures memory { IfErr result (λ fault. fault ≡ NetFault.Memory) }
+{
+    let mut zeros = Vec::new(alloc);
+    for number in 0..variables.len() {
+        if has_zero(&variables[number].rows) {
+            zeros.push(number as u32)?;
+        }
+    }
+    Ok(zeros)
+}
+
+/// Whether some row has a share of nothing.
+fn has_zero(rows: &[Vec<u32>]) -> bool
+    ensures { result ≡ list_any (λ row. list_any (λ share. share == 0) row) (map (λ row. row.items) rows.now) }
+{
+    rows.iter().any(|row| has_nothing(row))
+}
+
+/// Whether some share of a row is nothing.
+fn has_nothing(row: &[u32]) -> bool
+    ensures { result ≡ list_any (λ share. share == 0) row.now }
+{
+    row.iter().any(|share| *share == 0)
 }
 
 /// A variable of the draft, as it is kept.
@@ -83,7 +118,7 @@ fn numbers(alloc: Global, draft: &Draft, names: &[String]) -> Result<Vec<u32>, N
 
 /// Rows of shares.
 fn rows(alloc: Global, rows: &[Vec<i64>]) -> Result<Vec<Vec<u32>>, NetFault>
-    requires { All (λ row. All (λ e. is_share e ≡ true) row.items) rows.now }
+    requires { All (λ row. All (λ e. is_share true e ≡ true) row.items) rows.now }
     ensures rows { IfOk result (λ v. map (λ row. row.items) v.items ≡ map (map share) (map (λ row. row.items) rows.now)) }
     ensures memory { IfErr result (λ fault. fault ≡ NetFault.Memory) }
 {
@@ -96,7 +131,7 @@ fn rows(alloc: Global, rows: &[Vec<i64>]) -> Result<Vec<Vec<u32>>, NetFault>
 
 /// A row of shares.
 fn shares(alloc: Global, row: &[i64]) -> Result<Vec<u32>, NetFault>
-    requires { All (λ e. is_share e ≡ true) row.now }
+    requires { All (λ e. is_share true e ≡ true) row.now }
     ensures shares { IfOk result (λ v. v.items ≡ map share row.now) }
     ensures memory { IfErr result (λ fault. fault ≡ NetFault.Memory) }
 {

@@ -7,6 +7,7 @@ use Rattle.mk_reply.specs.declared.refusal.Refusal.TheVariants.{Memory as OutOfM
 use Rattle.mk_reply.specs.declared.reply.Reply.{Reply}
 use Rattle.mk_reply.specs.declared.reply.Reply.TheVariants.{Refused}
 use Rattle.mk_rules.specs.Transcript.{Standing, opening}
+use Rattle.mk_rules.specs.Standings.{IsMarket}
 use Rattle.mk_session.specs.declared.counts.Tally.{Tally}
 use Rattle.mk_session.specs.declared.counts.TallyFault.{TallyFault}
 use Rattle.mk_session.specs.Transcript.{AreReplied}
@@ -27,8 +28,9 @@ pub record HasRoom (most : ℕ) (tally : Tally) : Type 0 where
   pub within : IsWithin most tally
   pub less : tally.replies < most
 
--- some lines from the opening on are answered, at no reply was memory wanting, and the counts are those of the replies
+-- some lines of a market from the opening on are answered, at no reply was memory wanting, and the counts are those of the replies
 pub record IsCounted (market : Market) (lines : List StreamLine) (now : Standing) (tally : Tally) : Type 0 where
+  pub is_market : IsMarket market
   pub replies : List Reply
   pub replied : AreReplied market opening lines now replies
   pub remembered : All IsRemembered replies

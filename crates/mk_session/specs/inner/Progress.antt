@@ -7,6 +7,7 @@ use Rattle.mk_io.specs.Stream.{StreamLine, stream_lines, AreWholeLines}
 use Rattle.mk_io.specs.Cutting.{Cutting, HoldsLine, stream_left}
 use Rattle.mk_exact.specs.Market.{Market}
 use Rattle.mk_rules.specs.Transcript.{Standing, opening}
+use Rattle.mk_rules.specs.Standings.{IsMarket}
 use Rattle.mk_session.specs.Texts.{ready_line}
 use Rattle.mk_session.specs.Transcript.{AreAnswered}
 use Rattle.mk_session.specs.Outcome.{Adds, Serves}
@@ -44,10 +45,17 @@ pub record IsPlaced (all : List ℕ) (cutting : Cutting) (source : Option (List 
   pub given : cutting.given ≡ length (stream_lines done)
   pub spent : cutting.spent ≡ length done
 
+-- a market's lines from the opening on are answered, and the answers are written but for the last bytes, which wait
+pub record AreSaid (market : Market) (lines : List StreamLine) (now : Standing) (before written : Option (List ℕ)) (waits : List ℕ) : Type 0 where
+  pub is_market : IsMarket market
+  pub bytes : List ℕ
+  pub added : written ≡ append_known before bytes
+  pub holds : AreAnswered market opening lines now (bytes ++ waits)
+
 -- the lines before the place are answered, and the answers are written but for the last bytes, which wait
 abbrev pub IsSoFar : Market → List ℕ → Cutting → Option (List ℕ) → Standing → Option (List ℕ) → Option (List ℕ) → List ℕ → Type 0
 IsSoFar market all cutting source now before written waits =
-    IsPlaced all cutting source (λ lines. Adds before written (λ gone. AreAnswered market opening lines now (gone ++ waits)))
+    IsPlaced all cutting source (λ lines. AreSaid market lines now before written waits)
 
 -- the end of a run whose ready line is written
 pub record IsEnded (status : Status) (market : Market) (all : List ℕ) (source before written : Option (List ℕ)) : Type 0 where

@@ -1,39 +1,94 @@
-use Rattle.mk_exact.specs.Events.{with_target}
+use Rattle.std.proofs.Common.{◌≡◌, [], refl, subst}
+use Rattle.mk_exact.specs.Events.{holds, with_target}
 use Rattle.mk_exact.specs.Weight.{IsSmall, total}
+use Rattle.mk_net.specs.Network.{sizes}
+use Rattle.mk_net.specs.Zeros.{with_zeros}
+use Rattle.std.specs.Prelude.{slice_index}
+use Rattle.mk_semiring.specs.declared.held.Held.{Held}
 use Rattle.mk_beliefs.specs.Meanings.{weights_of}
-use Rattle.mk_answers.proofs.Weights.{is_there, hit_in, part_in, hit_some, ends_in_order, interval_covers}
+use Rattle.mk_answers.specs.inner.Found.{IsBeliefIn}
+use Rattle.mk_answers.proofs.Bounding.{can_ask, room_of_weights, found_of}
+use Rattle.mk_answers.proofs.Homes.{home_of_condition}
+use Rattle.mk_answers.proofs.NoZeros.{hit_some, miss_some, condition_some, none_of}
+use Rattle.mk_answers.proofs.Sided.{priced}
+use Rattle.mk_answers.proofs.Weights.{is_there, hit_in, part_in, miss_in, condition_in, ends_in_order, interval_covers}
 use Rattle.mk_answers.proofs.price.price_of.Goals as goal
 
-pub enclosure_of-part-requires : goal.enclosure_of-part-requires
-enclosure_of-part-requires g c =
-    let a = c.requires in let asked = c.args.asked.now in
-    is_there c.belief.result (IsSmall a.network a.history) (total a.network a.history (with_target asked))
-    (hit_in a.network a.tree a.history a.is_open asked c.event.result c.belief.result c.event.ensures.pairs (c.belief.ensures.belief (weights_of a.network a.tree a.history) a.stands))
-    (hit_some a.network a.tree a.history a.is_open asked a.answered)
+pub belief_of_others-rest-requires : goal.belief_of_others-rest-requires
+belief_of_others-rest-requires g c =
+    let a = c.requires in let network = c.args.net.now in let asked = c.args.asked.now in let m = weights_of network a.tree a.history in
+    let sized : c.values-values.result ≡ slice_index (sizes network) asked.target.variable = rw c.target.ensures at c.values-values.ensures in
+    can_ask network a.tree a.history 0 a.is_open asked a.answered g.P.Engine.stands_for c.belief-part.new.self m c.values-values.result
+    (c.belief-part.ensures.kept m a.stands) refl refl (room_of_weights network a.tree a.history 0 a.is_open asked a.answered) sized
 
-pub whole_of-whole-requires : goal.whole_of-whole-requires
-whole_of-whole-requires g c =
-    let a = c.requires in let m = weights_of a.network a.tree a.history in (
-      record { network = a.network; tree = a.tree; history = a.history; stands = c.belief.ensures.kept m a.stands; is_open = a.is_open; answered = a.answered; sized = a.sized },
-      part_in a.network a.tree a.history a.is_open c.args.asked.now c.event.result c.belief.result c.enclosure_of-part.result c.event.ensures.pairs c.enclosure_of-part.ensures
-          (c.belief.ensures.belief m a.stands),
-    )
+pub price_of_sides-requires : goal.price_of_sides-requires
+price_of_sides-requires g c =
+    let a = c.requires in let network = c.args.net.now in let asked = c.args.asked.now in let m = weights_of network a.tree a.history in
+    let sized : c.values-values.result ≡ slice_index (sizes network) asked.target.variable = rw c.target.ensures at c.values-values.ensures in
+    record {
+      network = network;
+      history = a.history;
+      asked = asked;
+      sides = record {
+        hit = hit_in network a.tree a.history a.is_open asked c.event.result c.belief-part.result c.event.ensures.pairs (c.belief-part.ensures.belief m a.stands);
+        miss =
+            miss_in network a.tree a.history a.is_open asked c.values-values.result c.belief_of_others-rest.result a.answered.in_order.in_range sized
+            (c.belief_of_others-rest.ensures.belief m (c.belief-part.ensures.kept m a.stands) sized);
+      };
+    }
+
+pub returns-then-not-is_empty-clause-price : goal.returns-then-not-is_empty-clause-price
+returns-then-not-is_empty-clause-price g c = λ tree H stands is_open answered.
+    let network = c.args.net.now in let asked = c.args.asked.now in let m = weights_of network tree H in
+    let sized : c.values-values.result ≡ slice_index (sizes network) asked.target.variable = rw c.target.ensures at c.values-values.ensures in
+    c.price_of_sides.ensures network H asked is_open.legal is_open.proper (record {
+      hit = hit_in network tree H is_open asked c.event.result c.belief-part.result c.event.ensures.pairs (c.belief-part.ensures.belief m stands);
+      miss =
+          miss_in network tree H is_open asked c.values-values.result c.belief_of_others-rest.result answered.in_order.in_range sized
+          (c.belief_of_others-rest.ensures.belief m (c.belief-part.ensures.kept m stands) sized);
+    })
+
+pub belief-whole-requires-clause-fits : goal.belief-whole-requires-clause-fits
+belief-whole-requires-clause-fits g c =
+    let a = c.requires in let m = weights_of c.args.net.now a.tree a.history in
+    g.met.P.Engine.home_fits c.belief-part.new.self m c.condition-condition.result (c.belief-part.ensures.kept m a.stands)
+    (home_of_condition a.tree c.args.asked.now c.condition-condition.result c.condition-condition.ensures.condition a.answered.home)
+
+pub enclosure_of-requires : goal.enclosure_of-requires
+enclosure_of-requires g c =
+    let a = c.requires in let network = c.args.net.now in let asked = c.args.asked.now in
+    let no_shares : with_zeros network ≡ [] = none_of c.with_zeros.result.now (with_zeros network) c.is_empty.result c.if-not-is_empty.false c.is_empty.ensures c.with_zeros.ensures in
+    is_there c.belief-part.result (IsSmall network a.history) (total network a.history (with_target asked))
+    (hit_in network a.tree a.history a.is_open asked c.event.result c.belief-part.result c.event.ensures.pairs (c.belief-part.ensures.belief (weights_of network a.tree a.history) a.stands))
+    (hit_some network a.tree a.history a.is_open asked a.answered no_shares)
+
+pub enclosure_of-requires-2 : goal.enclosure_of-requires-2
+enclosure_of-requires-2 g c =
+    let a = c.requires in let network = c.args.net.now in let asked = c.args.asked.now in let m = weights_of network a.tree a.history in
+    let no_shares : with_zeros network ≡ [] = none_of c.with_zeros.result.now (with_zeros network) c.is_empty.result c.if-not-is_empty.false c.is_empty.ensures c.with_zeros.ensures in
+    is_there c.belief-whole.result (IsSmall network a.history) (total network a.history (holds asked.condition))
+    (condition_in network a.tree a.history a.is_open asked c.condition-condition.result c.belief-whole.result c.condition-condition.ensures.condition
+    (c.belief-whole.ensures.belief m (c.belief-part.ensures.kept m a.stands)))
+    (condition_some network a.tree a.history a.is_open asked a.answered no_shares)
 
 pub parts-requires-clause-part : goal.parts-requires-clause-part
 parts-requires-clause-part g c =
-    let a = c.requires in let asked = c.args.asked.now in let m = weights_of a.network a.tree a.history in
-    let part = part_in a.network a.tree a.history a.is_open asked c.event.result c.belief.result c.enclosure_of-part.result c.event.ensures.pairs c.enclosure_of-part.ensures (c.belief.ensures.belief m a.stands) in
-    ends_in_order a.network a.tree a.history a.is_open asked a.answered c.enclosure_of-part.result c.whole_of-whole.result part
-    (c.whole_of-whole.ensures.whole a.network a.tree a.history (c.belief.ensures.kept m a.stands) a.is_open a.answered a.sized part)
-
-pub returns-clause-kept : goal.returns-clause-kept
-returns-clause-kept g c = λ m stands. c.whole_of-whole.ensures.kept m (c.belief.ensures.kept m stands)
+    let a = c.requires in let network = c.args.net.now in let asked = c.args.asked.now in let m = weights_of network a.tree a.history in let small = IsSmall network a.history in
+    ends_in_order network a.history asked c.enclosure_of.result c.enclosure_of-2.result
+    (part_in network a.tree a.history a.is_open asked c.event.result c.belief-part.result c.enclosure_of.result c.event.ensures.pairs c.enclosure_of.ensures (c.belief-part.ensures.belief m a.stands))
+    (found_of c.enclosure_of-2.result small _ (subst (λ (b : Held). IsBeliefIn b small (total network a.history (holds asked.condition))) c.enclosure_of-2.ensures
+    (condition_in network a.tree a.history a.is_open asked c.condition-condition.result c.belief-whole.result c.condition-condition.ensures.condition
+    (c.belief-whole.ensures.belief m (c.belief-part.ensures.kept m a.stands)))))
 
 pub returns-clause-price : goal.returns-clause-price
-returns-clause-price g c = λ network tree H stands is_open answered sized.
-    let asked = c.args.asked.now in let m = weights_of network tree H in
-    let part = part_in network tree H is_open asked c.event.result c.belief.result c.enclosure_of-part.result c.event.ensures.pairs c.enclosure_of-part.ensures (c.belief.ensures.belief m stands) in
-    interval_covers network tree H is_open asked answered c.enclosure_of-part.result c.whole_of-whole.result part
-    (c.whole_of-whole.ensures.whole network tree H (c.belief.ensures.kept m stands) is_open answered sized part)
-    c.parts.result.0 c.parts.result.1
-    (record { low_is = c.parts.ensures.low; high_is = c.parts.ensures.high; below = c.parts.ensures.below; above = c.parts.ensures.above; narrow = c.parts.ensures.narrow })
+returns-clause-price g c = λ tree H stands is_open answered.
+    let network = c.args.net.now in let asked = c.args.asked.now in let m = weights_of network tree H in let small = IsSmall network H in
+    let no_shares : with_zeros network ≡ [] = none_of c.with_zeros.result.now (with_zeros network) c.is_empty.result c.if-not-is_empty.false c.is_empty.ensures c.with_zeros.ensures in
+    priced network H asked (condition_some network tree H is_open asked answered no_shares) c.parts.result
+    (interval_covers network H asked c.enclosure_of.result c.enclosure_of-2.result
+    (part_in network tree H is_open asked c.event.result c.belief-part.result c.enclosure_of.result c.event.ensures.pairs c.enclosure_of.ensures (c.belief-part.ensures.belief m stands))
+    (found_of c.enclosure_of-2.result small _ (subst (λ (b : Held). IsBeliefIn b small (total network H (holds asked.condition))) c.enclosure_of-2.ensures
+    (condition_in network tree H is_open asked c.condition-condition.result c.belief-whole.result c.condition-condition.ensures.condition
+    (c.belief-whole.ensures.belief m (c.belief-part.ensures.kept m stands)))))
+    (miss_some network tree H is_open asked answered no_shares) c.parts.result.0 c.parts.result.1
+    (record { low_is = c.parts.ensures.low; high_is = c.parts.ensures.high; below = c.parts.ensures.below; above = c.parts.ensures.above; narrow = c.parts.ensures.narrow }))

@@ -1,43 +1,33 @@
 use Rattle.std.proofs.Common.{arith}
-use Rattle.mk_exact.specs.Events.{with_target}
-use Rattle.mk_exact.specs.Weight.{total, IsSmall}
 use Rattle.mk_beliefs.specs.Meanings.{weights_of}
 use Rattle.mk_answers.specs.Open.{holding_of}
-use Rattle.mk_answers.proofs.Weights.{is_there, hit_in, part_in, hit_some, event_fits}
-use Rattle.mk_answers.proofs.Bounding.{some_hit, hit_for}
+use Rattle.mk_answers.proofs.Weights.{event_fits}
+use Rattle.mk_answers.proofs.Valued.{none_found, some_value, value_found}
 use Rattle.mk_answers.proofs.spread.value_bounds_of.Goals as goal
 
-pub least-least-requires-clause-range : goal.least-least-requires-clause-range
-least-least-requires-clause-range g c =
-    let a = c.requires.1 in
+pub least-requires-clause-range : goal.least-requires-clause-range
+least-requires-clause-range g c =
+    let a = c.requires in
     record {
-      holding = holding_of a.network a.tree a.history a.user;
+      holding = holding_of c.args.net.now a.tree a.history a.user;
       owns = a.owns;
-      in_range = event_fits a.network c.args.asked.now c.event-event.result c.event-event.ensures.pairs a.answered.can_ask.in_range;
+      in_range = event_fits c.args.net.now c.args.asked.now c.event-event.result c.event-event.ensures.pairs a.valued.in_order.in_range;
     }
-
-pub enclosure_of-requires : goal.enclosure_of-requires
-enclosure_of-requires g c =
-    let a = c.requires.1 in let asked = c.args.asked.now in
-    is_there c.belief-part.result (IsSmall a.network a.history) (total a.network a.history (with_target asked))
-    (hit_in a.network a.tree a.history a.is_open asked c.event-event.result c.belief-part.result c.event-event.ensures.pairs
-    (c.belief-part.ensures.belief (weights_of a.network a.tree a.history) a.stands))
-    (hit_some a.network a.tree a.history a.is_open asked a.answered)
 
 pub factor_of-requires : goal.factor_of-requires
 factor_of-requires g c =
-    let a = c.requires.1 in
-    some_hit a.network a.tree a.history a.user a.is_open c.args.asked.now a.answered c.event-event.result c.event-event.ensures.pairs _ c.least-least.result
-    (c.least-least.ensures.least (holding_of a.network a.tree a.history a.user) a.owns)
+    let a = c.requires in
+    some_value c.args.net.now a.tree a.history a.user a.is_open c.args.asked.now c.event-event.result c.event-event.ensures.pairs
+    c.belief.result c.in-Present.part c.in-Present.is (c.belief.ensures.belief (weights_of c.args.net.now a.tree a.history) a.stands)
+    _ c.least.result (c.least.ensures.least (holding_of c.args.net.now a.tree a.history a.user) a.owns)
 
-pub returns-clause-bounds : goal.returns-clause-bounds
-returns-clause-bounds g c = λ network tree H u stands owns is_open answered.
-    let asked = c.args.asked.now in
-    record {
-      part =
-          part_in network tree H is_open asked c.event-event.result c.belief-part.result c.enclosure_of.result c.event-event.ensures.pairs c.enclosure_of.ensures
-          (c.belief-part.ensures.belief (weights_of network tree H) stands);
-      factor =
-          hit_for network tree H u is_open asked answered c.event-event.result c.event-event.ensures.pairs _ c.least-least.result
-          (c.least-least.ensures.least (holding_of network tree H u) owns) c.factor_of.result c.factor_of.ensures (omega arith);
-    }
+pub returns-in-Absent-clause-found : goal.returns-in-Absent-clause-found
+returns-in-Absent-clause-found g c = λ tree H u stands owns is_open.
+    none_found c.args.net.now tree H u is_open c.args.asked.now c.event-event.result c.event-event.ensures.pairs
+    c.belief.result c.in-Absent.is (c.belief.ensures.belief (weights_of c.args.net.now tree H) stands)
+
+pub returns-in-Present-clause-found : goal.returns-in-Present-clause-found
+returns-in-Present-clause-found g c = λ tree H u stands owns is_open.
+    value_found c.args.net.now tree H u is_open c.args.asked.now c.event-event.result c.event-event.ensures.pairs
+    c.belief.result c.in-Present.part c.in-Present.is (c.belief.ensures.belief (weights_of c.args.net.now tree H) stands)
+    _ c.least.result (c.least.ensures.least (holding_of c.args.net.now tree H u) owns) c.factor_of.result c.factor_of.ensures (omega arith)

@@ -1,5 +1,5 @@
 -- Each of the four is the network of a draft that the check finds faultless.
-use Rattle.std.proofs.Common.{ℕ, List, map, pos, refl}
+use Rattle.std.proofs.Common.{ℕ, false, List, map, pos, refl}
 use Rattle.mk_net.specs.Network.{Variable}
 use Rattle.mk_net.specs.Named.{variable_at}
 use Rattle.mk_net.specs.Drafts.{DraftOfVariable}
@@ -18,10 +18,10 @@ drafted network = map (λ (v : Variable). record {
 
 pub returns : goal.returns
 returns c = record {
-  coin_is = checked_is_network (drafted coin) refl;
-  die_is = checked_is_network (drafted die) refl;
-  weather_is = checked_is_network (drafted weather) refl;
-  chain_is = checked_is_network (drafted chain) refl;
+  coin_is = checked_is_network false (drafted coin) refl;
+  die_is = checked_is_network false (drafted die) refl;
+  weather_is = checked_is_network false (drafted weather) refl;
+  chain_is = checked_is_network false (drafted chain) refl;
   coin_total = refl;
   die_total = refl;
   weather_total = refl;

@@ -8,7 +8,7 @@ use Rattle.mk_file.proofs.Grown.{names_are, linked_tree, cliques_stop, links_sto
 use Rattle.mk_file.proofs.accept.read_tree.Goals as goal
 
 pub read_cliques-requires-clause-names : goal.read_cliques-requires-clause-names
-read_cliques-requires-clause-names c = rw c.requires.checked (names_are (drafts_of c.args.draft.now.draft) c.requires.faultless)
+read_cliques-requires-clause-names c = rw c.requires.checked (names_are c.args.draft.now.draft.zeros (drafts_of c.args.draft.now.draft) c.requires.faultless)
 
 pub returns-in_err-cliques-clause-fault : goal.returns-in_err-cliques-clause-fault
 returns-in_err-cliques-clause-fault c =

@@ -17,7 +17,7 @@ weigh-requires g c =
 pub loop-variable-preserved : goal.loop-variable-preserved
 loop-variable-preserved g c =
     let net = c.args.file.now.net in let tree = c.args.file.now.tree in let k = c.loop-variable.variable in
-    subst (λ (m : Meaning). g.P.Engine.stands_for c.weigh.new.self m) (one_more net tree k)
+    subst (λ (m : Meaning). g.E.Engine.stands_for c.weigh.new.self m) (one_more net tree k)
     (c.weigh.ensures (first_rows net tree k) c.loop-variable.invariant refl)
 
 pub returns-clause-stands : goal.returns-clause-stands
@@ -25,5 +25,5 @@ returns-clause-stands g c =
     let net = c.args.file.now.net in let tree = c.args.file.now.tree in
     let done : c.loop-variable.variable ≡ length net =
     omega (arith, c.loop-variable-test.false, c.variables-variable-end.ensures.count, c.loop-variable.auto.variable-end) in
-    subst (g.P.Engine.stands_for c.loop-variable.engine) (all_rows net tree)
-    (subst (λ (k : ℕ). g.P.Engine.stands_for c.loop-variable.engine (first_rows net tree k)) done c.loop-variable.invariant)
+    subst (g.E.Engine.stands_for c.loop-variable.engine) (all_rows net tree)
+    (subst (λ (k : ℕ). g.E.Engine.stands_for c.loop-variable.engine (first_rows net tree k)) done c.loop-variable.invariant)

@@ -47,5 +47,5 @@ returns-clause-question c =
     let parts = spread_parts net c.args.variable.now ps (spread_in asked) c.requires.named in
     where_ok c.not_wide.result (λ held. can_answer_spread c.args.file.now H c.args.variable.now ps (spread_in asked) c.requires.named
     (front_apart asked.condition _ c.event_of.ensures.event.apart) asked.apart
-    (sym (c.in_ok-not_resolved.ensures net parts.0 parts.1)) (sym (c.in_ok-agrees.ensures net c.requires.known parts.2))
+    (sym (c.in_ok-not_resolved.ensures net parts.0 parts.1))
     (sym (c.not_wide.ensures ∙ ap (λ (event : List Pair). fault_if (is_none (home c.args.file.now.tree event)) Wide) c.event_of.ensures.pairs) ∙ held))

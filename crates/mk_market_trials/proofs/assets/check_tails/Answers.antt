@@ -29,5 +29,5 @@ least_of_others-after-requires g c =
       sized = rw c.heads-asked.ensures (sym sides);
       few = lit≤ tt;
       home = cc (c.home.ensures.home, c.event.ensures.pairs, c.is_some.ensures);
-      room = lit≤ tt;
+      room = rw coin.plain (lit≤ tt);
     }

@@ -8,9 +8,9 @@ trade-requires-2-clause-range g c =
     let coin = c.args.coin.now in let one = coin.one in let sides = coin.sides in
     record {
       holding = opening_holding coin.net coin.tree c.args.known.now;
-      owns = c.in_ok-assets.ensures coin.net coin.tree c.in_ok-plan.ensures;
+      owns = c.in_ok-assets.ensures coin.tree c.in_ok-plan.ensures;
       in_range = rw c.trade.ensures (record { variable = omega (arith, one); condition = tt; one_each = sym sides; positive = (lit≤ tt, (lit≤ tt, tt)) });
-      room = lit< tt;
+      room = rw coin.plain (lit< tt);
     }
 
 pub deposit-requires : goal.deposit-requires
@@ -19,7 +19,7 @@ deposit-requires g c =
     let first = opening_holding coin.net coin.tree c.args.known.now in
     record {
       holding = with_trade (trade_ratio c.trade.result) first;
-      owns = c.trade-2.ensures first (c.in_ok-assets.ensures coin.net coin.tree c.in_ok-plan.ensures);
+      owns = c.trade-2.ensures first (c.in_ok-assets.ensures coin.tree c.in_ok-plan.ensures);
       room = lit≤ tt;
     }
 
@@ -27,7 +27,7 @@ pub withdraw-requires : goal.withdraw-requires
 withdraw-requires g c =
     let coin = c.args.coin.now in let few = c.requires.withdrawn in
     let first = opening_holding coin.net coin.tree c.args.known.now in
-    let owns = c.trade-2.ensures first (c.in_ok-assets.ensures coin.net coin.tree c.in_ok-plan.ensures) in
+    let owns = c.trade-2.ensures first (c.in_ok-assets.ensures coin.tree c.in_ok-plan.ensures) in
     record {
       holding = with_deposit 1 (with_trade (trade_ratio c.trade.result) first);
       owns = c.deposit.ensures (with_trade (trade_ratio c.trade.result) first) owns (lit≤ tt);
@@ -39,5 +39,5 @@ returns g c =
     let coin = c.args.coin.now in let few = c.requires.withdrawn in
     let first = opening_holding coin.net coin.tree c.args.known.now in
     let second = with_trade (trade_ratio c.trade.result) first in
-    let owns = c.trade-2.ensures first (c.in_ok-assets.ensures coin.net coin.tree c.in_ok-plan.ensures) in
+    let owns = c.trade-2.ensures first (c.in_ok-assets.ensures coin.tree c.in_ok-plan.ensures) in
     rw c.trade.ensures at (c.withdraw.ensures (with_deposit 1 second) (c.deposit.ensures second owns (lit≤ tt)) (omega (arith, few)))

@@ -11,6 +11,6 @@ loop-status-init g c = record {
   counts = (refl, refl);
   far = λ all told. subst (λ (lines : Cutting). IsSoFar c.args.market.now.market all lines (g.I.Inputs.commands c.args.inputs.now) c.args.market.now.standing
       (g.S.Sink.written c.args.out.now) (g.S.Sink.written c.args.out.now) c.new-waiting.result.bytes) (sym c.new-lines.ensures)
-      (far_at_start c.args.market.now.market all (g.I.Inputs.commands c.args.inputs.now) c.args.market.now.standing (g.S.Sink.written c.args.out.now)
-      c.new-waiting.result.bytes told c.requires c.new-waiting.ensures);
+      (far_at_start c.args.market.now.market c.requires.is_market all (g.I.Inputs.commands c.args.inputs.now) c.args.market.now.standing (g.S.Sink.written c.args.out.now)
+      c.new-waiting.result.bytes told c.requires.opening c.new-waiting.ensures);
 }

@@ -5,8 +5,8 @@ use Rattle.mk_session.proofs.Counted.{counting_at_start, ends_count}
 use Rattle.mk_session.proofs.counting.count_replies.Goals as goal
 
 pub loop-ended-init : goal.loop-ended-init
-loop-ended-init c = counting_at_start c.args.market.now.market c.args.commands.items c.new-lines.result c.new-inputs.result.commands c.args.market.now.standing
-    c.new-tally.result c.new-lines.ensures c.new-tally.ensures (ap (λ (i : QuietIn). i.commands) c.new-inputs.ensures) c.requires
+loop-ended-init c = counting_at_start c.args.market.now.market c.requires.is_market c.args.commands.items c.new-lines.result c.new-inputs.result.commands c.args.market.now.standing
+    c.new-tally.result c.new-lines.ensures c.new-tally.ensures (ap (λ (i : QuietIn). i.commands) c.new-inputs.ensures) c.requires.opening
 
 pub returns-in-Some : goal.returns-in-Some
 returns-in-Some c = ends_count c.args.market.now.market c.loop-ended.market.market c.args.commands.items c.loop-ended.lines c.loop-ended.inputs.commands

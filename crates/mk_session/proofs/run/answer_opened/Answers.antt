@@ -15,6 +15,6 @@ pub returns-in-Err-clause-outcome : goal.returns-in-Err-clause-outcome
 returns-in-Err-clause-outcome g c = λ all told.
     let market = c.args.market.now.market in
     let line = c.as_bytes.ensures.value ∙ c.deref.ensures.0 ∙ c.requires.ready in
-    broken_at_ready market market all c.as_bytes.result.now
+    broken_at_ready market market c.requires.is_market all c.as_bytes.result.now
     (g.I.Inputs.commands c.args.inputs.now) (g.S.Sink.written c.args.out.now) (g.S.Sink.written c.write_all.new.out)
     refl line told c.in-Err.ensures.front

@@ -1,8 +1,13 @@
-use Rattle.std.proofs.Common.{◌≡◌, ◌-◌, length, drop}
+use Rattle.std.proofs.Common.{◌≡◌, filter}
+use Rattle.std.specs.List.{AllByRecursion}
 use Rattle.mk_net.specs.Network.{sizes}
-use Rattle.mk_exact.specs.States.{states}
+use Rattle.mk_exact.specs.States.{IsState}
+use Rattle.mk_exact.specs.InitialWeight.{can_come}
 use Rattle.mk_walk.specs.Lists.{lists}
 use Rattle.mk_walk.proofs.states.all_states.Given as goal
 
-abbrev pub invariant-loop-done : goal.invariant-loop-done
-invariant-loop-done l = lists l.states.items ≡ states (drop (length l.network - l.done) (sizes l.network))
+abbrev pub invariant-loop-values : goal.invariant-loop-values
+invariant-loop-values l = record {
+  kept : lists l.states.items ≡ filter (can_come l.network) (lists l.yielded);
+  left : AllByRecursion (IsState (sizes l.network)) (lists l.values-iterator.rest.items);
+}

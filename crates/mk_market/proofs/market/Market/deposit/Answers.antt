@@ -12,17 +12,17 @@ returns-in_err-user g c =
 
 pub deposit-requires : goal.deposit-requires
 deposit-requires g c =
-    can_deposit g.P.Engine.stands_for g.A.Engine.stands_for g.A.Engine.plan_for _ _ _ _ _ _ _ c.self.invariant c.args.name.now c.in_ok-user.user c.args.bits
+    can_deposit g.P.Engine.stands_for g.A.Engine.stands_for g.A.Engine.plan_for _ _ _ _ _ _ _ _ c.self.invariant c.args.name.now c.in_ok-user.user c.args.bits
     c.in_ok-user.ensures.user c.in_ok-user.ensures.room c.assets.result.now c.assets.ensures.value
 
 pub deposit-requires-2-clause-fits : goal.deposit-requires-2-clause-fits
 deposit-requires-2-clause-fits g c =
-    points_fit g.P.Engine.stands_for g.A.Engine.stands_for g.A.Engine.plan_for _ _ _ _ _ _ _ c.self.invariant c.args.name.now c.in_ok-user.user c.args.bits
+    points_fit g.P.Engine.stands_for g.A.Engine.stands_for g.A.Engine.plan_for _ _ _ _ _ _ _ _ c.self.invariant c.args.name.now c.in_ok-user.user c.args.bits
     c.in_ok-user.ensures.user c.in_ok-user.ensures.room
 
 pub invariant_of-self : goal.invariant_of-self
 invariant_of-self g c =
-    deposit_kept g.P.Engine.stands_for g.A.Engine.stands_for g.A.Engine.plan_for _ _ _ _ _ _ _ c.self.invariant c.args.name.now c.in_ok-user.user c.args.bits
+    deposit_kept g.P.Engine.stands_for g.A.Engine.stands_for g.A.Engine.plan_for _ _ _ _ _ _ _ _ c.self.invariant c.args.name.now c.in_ok-user.user c.args.bits
     c.in_ok-user.ensures.user c.in_ok-user.ensures.room c.assets.result.now c.deposit.new.self c.assets.ensures.value c.deposit-2.new.self c.deposit-3.new.self
     c.deposit-3.ensures.history (c.in_ok-user.ensures.deposit (market_of c.self.inside.file)) c.deposit-3.ensures.limit c.deposit.ensures c.deposit-2.ensures
 
@@ -30,10 +30,10 @@ pub returns : goal.returns
 returns g c =
     rw (← c.self.view_is) (record {
       same_market = refl;
-      allowed = deposit_allowed g.P.Engine.stands_for g.A.Engine.stands_for g.A.Engine.plan_for _ _ _ _ _ _ _ c.self.invariant c.args.name.now c.in_ok-user.user c.args.bits
+      allowed = deposit_allowed g.P.Engine.stands_for g.A.Engine.stands_for g.A.Engine.plan_for _ _ _ _ _ _ _ _ c.self.invariant c.args.name.now c.in_ok-user.user c.args.bits
           c.in_ok-user.ensures.user c.in_ok-user.ensures.room c.assets.result.now c.deposit.new.self c.assets.ensures.value c.deposit-2.new.self c.deposit-3.new.self
           c.deposit-3.ensures.history (c.in_ok-user.ensures.deposit (market_of c.self.inside.file)) c.revision.result c.revision.ensures;
-      next = deposit_next g.P.Engine.stands_for g.A.Engine.stands_for g.A.Engine.plan_for _ _ _ _ _ _ _ c.self.invariant c.args.name.now c.in_ok-user.user c.args.bits
+      next = deposit_next g.P.Engine.stands_for g.A.Engine.stands_for g.A.Engine.plan_for _ _ _ _ _ _ _ _ c.self.invariant c.args.name.now c.in_ok-user.user c.args.bits
           c.in_ok-user.ensures.user c.in_ok-user.ensures.room c.assets.result.now c.deposit.new.self c.assets.ensures.value c.deposit-2.new.self c.deposit-3.new.self
           c.deposit-3.ensures.history (c.in_ok-user.ensures.deposit (market_of c.self.inside.file)) c.revision.result;
     })

@@ -1,28 +1,48 @@
 use Rattle.std.proofs.Common.{refl}
 use Rattle.mk_command.specs.declared.command.Command.TheVariants.{Price}
-use Rattle.mk_market.proofs.Replies.{answered_refused}
-use Rattle.mk_market.proofs.Answers.{can_price, price_allowed, price_next, price_kept}
+use Rattle.mk_file.specs.MarketOf.{market_of}
+use Rattle.mk_beliefs.specs.Meanings.{weights_of}
+use Rattle.mk_market.proofs.Growing.{is_open}
+use Rattle.mk_market.proofs.Replies.{answered_refused, by_record}
+use Rattle.mk_market.proofs.Answers.{price_allowed, price_next}
+use Rattle.mk_market.proofs.Stopping.{price_known, can_refuse_condition, impossible_by, price_stopped}
 use Rattle.mk_market.proofs.market.Market.price.Goals as goal
 
 pub returns-in_err-asked : goal.returns-in_err-asked
 returns-in_err-asked g c =
+    let i = c.self.inside in
     answered_refused c.args.self.now _ c.self.view_is (Price c.args.question.now) tt c.in_err-asked.field-0.0 c.from_residual.result
-    c.from_residual.ensures.1 c.in_err-asked.ensures.refusal
+    c.from_residual.ensures.1 (by_record (market_of i.file) i.journal.history (Price c.args.question.now) c.in_err-asked.field-0.0 c.in_err-asked.ensures.refusal)
 
-pub price_of-low-requires : goal.price_of-low-requires
-price_of-low-requires g c =
-    can_price g.P.Engine.stands_for g.A.Engine.stands_for g.A.Engine.plan_for _ _ _ _ _ _ _ c.self.invariant c.args.question.now c.in_ok-asked.asked c.in_ok-asked.ensures.question
-    c.target.result c.target.ensures c.values-values.result c.values-values.ensures
+pub refuse_condition-requires : goal.refuse_condition-requires
+refuse_condition-requires g c =
+    let i = c.self.inside in
+    let found = c.in_ok-asked in
+    let opened = is_open g.P.Engine.stands_for g.A.Engine.stands_for g.A.Engine.plan_for i.file i.prices i.rows i.plan i.users i.ledger i.journal i.payments c.self.invariant in
+    let price = c.in-None.ensures.price i.file.tree i.journal.history c.self.invariant.prices_stand opened found.ensures.question.answered in
+    can_refuse_condition g.P.Engine.stands_for c.price_of.new.prices i.file.net i.file.tree i.journal.history
+    (c.price_of.ensures.kept (weights_of i.file.net i.file.tree i.journal.history) c.self.invariant.prices_stand) opened c.args.question.now found.asked
+    found.ensures.question.named (price_known i.file i.journal.history c.args.question.now found.ensures.refusal) found.ensures.question.answered
+    c.condition.result c.as_slice.result.now c.condition.ensures.condition c.as_slice.ensures.value (price.none.0 refl)
 
-pub invariant_of-self : goal.invariant_of-self
-invariant_of-self g c = price_kept g.P.Engine.stands_for g.A.Engine.stands_for g.A.Engine.plan_for _ _ _ _ _ _ _ c.self.invariant c.price_of-low.new.prices c.price_of-low.ensures.kept
-
-pub returns : goal.returns
-returns g c =
+pub returns-in-Some : goal.returns-in-Some
+returns-in-Some g c =
     rw (← c.self.view_is) (record {
       same_market = refl;
-      allowed = price_allowed g.P.Engine.stands_for g.A.Engine.stands_for g.A.Engine.plan_for _ _ _ _ _ _ _ c.self.invariant c.args.question.now c.in_ok-asked.asked c.in_ok-asked.ensures.question
-          c.target.result c.target.ensures c.values-values.result c.values-values.ensures
-          c.price_of-low.result.0 c.price_of-low.result.1 c.in_ok-asked.ensures.refusal c.price_of-low.ensures.price;
-      next = price_next g.P.Engine.stands_for g.A.Engine.stands_for g.A.Engine.plan_for _ _ _ _ _ _ _ c.self.invariant c.args.question.now c.price_of-low.result.0 c.price_of-low.result.1;
+      allowed = price_allowed g.P.Engine.stands_for g.A.Engine.stands_for g.A.Engine.plan_for _ _ _ _ _ _ _ _ c.self.invariant c.args.question.now c.in_ok-asked.asked c.in_ok-asked.ensures.question
+          c.in-Some.low c.in-Some.high c.in_ok-asked.ensures.refusal c.in-Some.ensures.price;
+      next = price_next g.P.Engine.stands_for g.A.Engine.stands_for g.A.Engine.plan_for _ _ _ _ _ _ _ _ c.self.invariant c.args.question.now c.in-Some.low c.in-Some.high;
     })
+
+pub returns-in-None : goal.returns-in-None
+returns-in-None g c =
+    let i = c.self.inside in
+    let found = c.in_ok-asked in
+    let opened = is_open g.P.Engine.stands_for g.A.Engine.stands_for g.A.Engine.plan_for i.file i.prices i.rows i.plan i.users i.ledger i.journal i.payments c.self.invariant in
+    let price = c.in-None.ensures.price i.file.tree i.journal.history c.self.invariant.prices_stand opened found.ensures.question.answered in
+    rw (← c.self.view_is) (price_stopped i.file i.journal i.users i.users refl c.args.question.now c.refuse_condition.result found.ensures.refusal
+    (impossible_by i.file.net i.journal.history c.args.question.now found.asked
+    (record { named = found.ensures.question.named; known = price_known i.file i.journal.history c.args.question.now found.ensures.refusal })
+    c.condition.result c.as_slice.result.now c.refuse_condition.result c.condition.ensures.condition c.as_slice.ensures.value (price.none.0 refl)
+    (c.refuse_condition.ensures.refusal i.file.net i.file.tree i.journal.history
+    (c.price_of.ensures.kept (weights_of i.file.net i.file.tree i.journal.history) c.self.invariant.prices_stand) opened)))

@@ -1,16 +1,65 @@
-use Rattle.mk_market.proofs.Resolved.{can_be_told, few_known, resolution_kept}
+use Rattle.std.proofs.Common.{refl}
+use Rattle.mk_engine.specs.Meaning.{Meaning}
+use Rattle.mk_file.specs.MarketOf.{market_of}
+use Rattle.mk_command.specs.declared.command.Command.TheVariants.{Resolve}
+use Rattle.mk_reply.specs.declared.refusal.Refusal.TheVariants.{Impossible}
+use Rattle.mk_market.specs.inner.Keeping.{standing_of}
+use Rattle.mk_market.proofs.Replies.{refused_stays}
+use Rattle.mk_market.proofs.Resolved.{can_be_told, can_ask, few_known, unrefused_where, never_answered, asked_kept, resolution_allowed, resolution_next, resolution_kept}
+use Rattle.mk_market.proofs.Refiled.{refiled}
 use Rattle.mk_market.proofs.market.Market.resolve.Goals as goal
 
+pub can_come-requires : goal.can_come-requires
+can_come-requires g c = can_ask g.P.Engine.stands_for g.A.Engine.stands_for g.A.Engine.plan_for _ _ _ _ _ _ _ _ c.self.invariant c.args.words.now c.in_ok-pair.pair
+    c.in_ok-pair.ensures.named c.in_ok-pair.ensures.pair
+
 pub tell-requires : goal.tell-requires
-tell-requires g c = can_be_told g.P.Engine.stands_for g.A.Engine.stands_for g.A.Engine.plan_for _ _ _ _ _ _ _ c.self.invariant c.args.words.now c.in_ok-pair.pair
+tell-requires g c = can_be_told g.P.Engine.stands_for g.A.Engine.stands_for g.A.Engine.plan_for _ _ _ _ _ _ _ _ c.self.invariant c.args.words.now c.in_ok-pair.pair
     c.in_ok-pair.ensures.named c.in_ok-pair.ensures.pair
 
 pub resolve-requires : goal.resolve-requires
-resolve-requires g c = few_known g.P.Engine.stands_for g.A.Engine.stands_for g.A.Engine.plan_for _ _ _ _ _ _ _ c.self.invariant c.args.words.now c.in_ok-pair.pair
-    c.in_ok-pair.ensures.named c.in_ok-pair.ensures.pair c.in_ok-pair.ensures.refusal
+resolve-requires g c = few_known g.P.Engine.stands_for g.A.Engine.stands_for g.A.Engine.plan_for _ _ _ _ _ _ _ _ c.self.invariant c.args.words.now c.in_ok-pair.pair
+    c.in_ok-pair.ensures.named c.in_ok-pair.ensures.pair
+    (unrefused_where g.P.Engine.stands_for g.A.Engine.stands_for g.A.Engine.plan_for _ _ _ _ _ _ _ _ c.self.invariant c.args.words.now c.in_ok-pair.pair
+    c.in_ok-pair.ensures.named c.in_ok-pair.ensures.pair c.in_ok-pair.ensures.refusal c.can_come.result c.can_come.ensures.found c.if-not-can_come.false)
 
 pub invariant_of-self : goal.invariant_of-self
 invariant_of-self g c =
-    resolution_kept g.P.Engine.stands_for g.A.Engine.stands_for g.A.Engine.plan_for _ _ _ _ _ _ _ c.self.invariant c.args.words.now c.in_ok-pair.pair
-    c.in_ok-pair.ensures.named c.in_ok-pair.ensures.pair c.in_ok-pair.ensures.refusal
-    c.know.new.self c.tell.new.users c.resolve.new.self c.resolve.ensures.history c.resolve.ensures.limit c.know.ensures c.tell.ensures.assets c.tell.ensures.names c.tell.ensures.quotes
+    refiled _ _ _ _ _ _ _ _ g.P.Engine.stands_for g.A.Engine.stands_for g.A.Engine.plan_for _ _ _ _ _ _ _
+    (asked_kept g.P.Engine.stands_for g.A.Engine.stands_for g.A.Engine.plan_for _ _ _ _ _ _ _ _ c.self.invariant c.args.words.now c.in_ok-pair.pair
+    c.in_ok-pair.ensures.named c.in_ok-pair.ensures.pair c.can_come.new.prices c.can_come.ensures.kept)
+
+pub invariant_of-self-2 : goal.invariant_of-self-2
+invariant_of-self-2 g c =
+    refiled _ _ _ _ _ _ _ _ g.P.Engine.stands_for g.A.Engine.stands_for g.A.Engine.plan_for _ _ _ _ _ _ _
+    (resolution_kept g.P.Engine.stands_for g.A.Engine.stands_for g.A.Engine.plan_for _ _ _ _ _ _ _ _ c.self.invariant c.args.words.now c.in_ok-pair.pair
+    c.in_ok-pair.ensures.named c.in_ok-pair.ensures.pair
+    (unrefused_where g.P.Engine.stands_for g.A.Engine.stands_for g.A.Engine.plan_for _ _ _ _ _ _ _ _ c.self.invariant c.args.words.now c.in_ok-pair.pair
+    c.in_ok-pair.ensures.named c.in_ok-pair.ensures.pair c.in_ok-pair.ensures.refusal c.can_come.result c.can_come.ensures.found c.if-not-can_come.false)
+    c.know.new.self c.know-2.new.self c.tell.new.users c.resolve.new.self c.resolve.ensures.history c.resolve.ensures.limit
+    (λ (m : Meaning) stands. c.know.ensures m (c.can_come.ensures.kept m stands)) c.know-2.ensures c.tell.ensures.assets c.tell.ensures.names c.tell.ensures.quotes)
+
+pub returns-then-not-can_come : goal.returns-then-not-can_come
+returns-then-not-can_come g c =
+    rw (← c.self.view_is) (record {
+      same_market = refl;
+      allowed = never_answered g.P.Engine.stands_for g.A.Engine.stands_for g.A.Engine.plan_for _ _ _ _ _ _ _ _ c.self.invariant c.args.words.now c.in_ok-pair.pair
+          c.in_ok-pair.ensures.named c.in_ok-pair.ensures.pair c.in_ok-pair.ensures.refusal c.can_come.result c.can_come.ensures.found c.if-not-can_come.true;
+      next = refused_stays (market_of c.self.inside.file) (standing_of c.self.inside.journal c.self.inside.users) (Resolve c.args.words.now) (Impossible c.args.words.now) tt;
+    })
+
+pub returns : goal.returns
+returns g c =
+    rw (← c.self.view_is) (record {
+      same_market = refl;
+      allowed = resolution_allowed g.P.Engine.stands_for g.A.Engine.stands_for g.A.Engine.plan_for _ _ _ _ _ _ _ _ c.self.invariant c.args.words.now c.in_ok-pair.pair
+          c.in_ok-pair.ensures.named c.in_ok-pair.ensures.pair
+          (unrefused_where g.P.Engine.stands_for g.A.Engine.stands_for g.A.Engine.plan_for _ _ _ _ _ _ _ _ c.self.invariant c.args.words.now c.in_ok-pair.pair
+          c.in_ok-pair.ensures.named c.in_ok-pair.ensures.pair c.in_ok-pair.ensures.refusal c.can_come.result c.can_come.ensures.found c.if-not-can_come.false)
+          c.resolve.new.self c.resolve.ensures.history c.revision.result c.revision.ensures;
+      next = resolution_next g.P.Engine.stands_for g.A.Engine.stands_for g.A.Engine.plan_for _ _ _ _ _ _ _ _ c.self.invariant c.args.words.now c.in_ok-pair.pair
+          c.in_ok-pair.ensures.named c.in_ok-pair.ensures.pair
+          (unrefused_where g.P.Engine.stands_for g.A.Engine.stands_for g.A.Engine.plan_for _ _ _ _ _ _ _ _ c.self.invariant c.args.words.now c.in_ok-pair.pair
+          c.in_ok-pair.ensures.named c.in_ok-pair.ensures.pair c.in_ok-pair.ensures.refusal c.can_come.result c.can_come.ensures.found c.if-not-can_come.false)
+          c.tell.new.users c.resolve.new.self c.resolve.ensures.history c.tell.ensures.quotes c.revision.result;
+    })

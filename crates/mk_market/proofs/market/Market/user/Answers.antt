@@ -3,6 +3,7 @@ use Rattle.mk_command.specs.declared.command.Command.TheVariants.{User}
 use Rattle.mk_file.specs.MarketOf.{market_of}
 use Rattle.mk_market.proofs.Replies.{answered_refused}
 use Rattle.mk_market.proofs.Joins.{memory_answered, join_kept, join_allowed, join_next}
+use Rattle.mk_market.proofs.Refiled.{refiled, same_inside}
 use Rattle.mk_market.proofs.market.Market.user.Goals as goal
 
 pub returns-in_err-refuse_user : goal.returns-in_err-refuse_user
@@ -16,21 +17,29 @@ returns-in_default g c = rw (← c.self.view_is) (memory_answered _ c.args.name.
 pub returns-in_default-join : goal.returns-in_default-join
 returns-in_default-join g c = rw (c.in_default-join.ensures.err, ← c.self.view_is) (memory_answered _ c.args.name.now (c.in_ok-refuse_user.ensures.refusal (market_of c.self.inside.file)))
 
+pub same-self-in_default : goal.same-self-in_default
+same-self-in_default g c = same_inside c.self.inside _ _ _ _ _ _ _
+
+pub invariant_of-self : goal.invariant_of-self
+invariant_of-self g c =
+    rw (c.in_default-join.ensures.err) (refiled _ _ _ _ _ _ _ _ g.P.Engine.stands_for g.A.Engine.stands_for g.A.Engine.plan_for _ _ _ _ _ _ _ c.self.invariant)
+
 pub invariant_of-self-2 : goal.invariant_of-self-2
 invariant_of-self-2 g c =
-    join_kept g.P.Engine.stands_for g.A.Engine.stands_for g.A.Engine.plan_for _ _ _ _ _ _ _ c.self.invariant c.args.name.now c.in-Ok.assets c.known.result.now c.known.ensures.same
-    (c.in-Ok.ensures c.self.inside.file.net c.self.inside.file.tree c.self.invariant.planned) c.join.new.self c.in-Ok-join.ensures.ok c.join-2.new.self c.join-3.new.self c.join-3.ensures.history
+    refiled _ _ _ _ _ _ _ _ g.P.Engine.stands_for g.A.Engine.stands_for g.A.Engine.plan_for _ _ _ _ _ _ _
+    (join_kept g.P.Engine.stands_for g.A.Engine.stands_for g.A.Engine.plan_for _ _ _ _ _ _ _ _ c.self.invariant c.args.name.now c.in-Ok.assets c.known-known.result.now c.known-known.ensures.same
+    (c.in-Ok.ensures c.self.inside.file.tree c.self.invariant.planned) c.join.new.self c.in-Ok-join.ensures.ok c.join-2.new.self c.join-3.new.self c.join-3.ensures.history
     (c.in_ok-refuse_user.ensures.refusal (market_of c.self.inside.file))
-    c.bytes.ensures.name c.join-3.ensures.limit c.join-2.ensures
+    c.bytes.ensures.name c.join-3.ensures.limit c.join-2.ensures)
 
 pub returns : goal.returns
 returns g c =
     rw (← c.self.view_is) (record {
       same_market = refl;
-      allowed = join_allowed g.P.Engine.stands_for g.A.Engine.stands_for g.A.Engine.plan_for _ _ _ _ _ _ _ c.self.invariant c.args.name.now c.in-Ok.assets c.known.result.now c.known.ensures.same
-          (c.in-Ok.ensures c.self.inside.file.net c.self.inside.file.tree c.self.invariant.planned) c.join.new.self c.in-Ok-join.ensures.ok c.join-2.new.self c.join-3.new.self c.join-3.ensures.history
+      allowed = join_allowed g.P.Engine.stands_for g.A.Engine.stands_for g.A.Engine.plan_for _ _ _ _ _ _ _ _ c.self.invariant c.args.name.now c.in-Ok.assets c.known-known.result.now c.known-known.ensures.same
+          (c.in-Ok.ensures c.self.inside.file.tree c.self.invariant.planned) c.join.new.self c.in-Ok-join.ensures.ok c.join-2.new.self c.join-3.new.self c.join-3.ensures.history
           (c.in_ok-refuse_user.ensures.refusal (market_of c.self.inside.file)) c.revision.result c.revision.ensures;
-      next = join_next g.P.Engine.stands_for g.A.Engine.stands_for g.A.Engine.plan_for _ _ _ _ _ _ _ c.self.invariant c.args.name.now c.in-Ok.assets c.known.result.now c.known.ensures.same
-          (c.in-Ok.ensures c.self.inside.file.net c.self.inside.file.tree c.self.invariant.planned) c.join.new.self c.in-Ok-join.ensures.ok c.join-2.new.self c.join-3.new.self c.join-3.ensures.history
+      next = join_next g.P.Engine.stands_for g.A.Engine.stands_for g.A.Engine.plan_for _ _ _ _ _ _ _ _ c.self.invariant c.args.name.now c.in-Ok.assets c.known-known.result.now c.known-known.ensures.same
+          (c.in-Ok.ensures c.self.inside.file.tree c.self.invariant.planned) c.join.new.self c.in-Ok-join.ensures.ok c.join-2.new.self c.join-3.new.self c.join-3.ensures.history
           (c.in_ok-refuse_user.ensures.refusal (market_of c.self.inside.file)) c.revision.result;
     })

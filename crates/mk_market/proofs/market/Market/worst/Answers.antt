@@ -2,7 +2,7 @@ use Rattle.std.proofs.Common.{refl}
 use Rattle.mk_command.specs.declared.command.Command.TheVariants.{Worst}
 use Rattle.mk_file.specs.MarketOf.{market_of}
 use Rattle.mk_market.proofs.Replies.{answered_refused}
-use Rattle.mk_market.proofs.Answers.{can_find, worst_allowed, worst_next, worst_kept}
+use Rattle.mk_market.proofs.Worsts.{can_find, worst_allowed, worst_next, worst_kept}
 use Rattle.mk_market.proofs.market.Market.worst.Goals as goal
 
 pub returns-in_err-user : goal.returns-in_err-user
@@ -12,16 +12,16 @@ returns-in_err-user g c =
 
 pub least_of-factor-requires : goal.least_of-factor-requires
 least_of-factor-requires g c =
-    can_find g.P.Engine.stands_for g.A.Engine.stands_for g.A.Engine.plan_for _ _ _ _ _ _ _ c.self.invariant c.args.name.now c.in_ok-user.user c.in_ok-user.ensures.user c.assets.result.now c.assets.result.now c.assets.ensures.value
+    can_find g.P.Engine.stands_for g.A.Engine.stands_for g.A.Engine.plan_for _ _ _ _ _ _ _ _ c.self.invariant c.args.name.now c.in_ok-user.user c.in_ok-user.ensures.user c.assets.result.now c.assets.result.now c.assets.ensures.value
 
 pub invariant_of-self : goal.invariant_of-self
-invariant_of-self g c = worst_kept g.P.Engine.stands_for g.A.Engine.stands_for g.A.Engine.plan_for _ _ _ _ _ _ _ c.self.invariant c.args.name.now c.in_ok-user.user c.in_ok-user.ensures.user c.assets.result.now c.least_of-factor.new.assets c.assets.ensures.value c.least_of-factor.ensures.kept
+invariant_of-self g c = worst_kept g.P.Engine.stands_for g.A.Engine.stands_for g.A.Engine.plan_for _ _ _ _ _ _ _ _ c.self.invariant c.args.name.now c.in_ok-user.user c.in_ok-user.ensures.user c.assets.result.now c.least_of-factor.new.assets c.assets.ensures.value c.least_of-factor.ensures.kept
 
 pub returns : goal.returns
 returns g c =
     rw (← c.self.view_is) (record {
       same_market = refl;
-      allowed = worst_allowed g.P.Engine.stands_for g.A.Engine.stands_for g.A.Engine.plan_for _ _ _ _ _ _ _ c.self.invariant c.args.name.now c.in_ok-user.user c.in_ok-user.ensures.user c.assets.result.now c.least_of-factor.new.assets c.assets.ensures.value c.least_of-factor.result c.cash-low.result.0 c.cash-low.result.1
+      allowed = worst_allowed g.P.Engine.stands_for g.A.Engine.stands_for g.A.Engine.plan_for _ _ _ _ _ _ _ _ c.self.invariant c.args.name.now c.in_ok-user.user c.in_ok-user.ensures.user c.assets.result.now c.least_of-factor.new.assets c.assets.ensures.value c.least_of-factor.result c.cash-low.result.0 c.cash-low.result.1
           (c.in_ok-user.ensures.refusal (market_of c.self.inside.file)) c.least_of-factor.ensures.least c.cash-low.ensures.covers;
-      next = worst_next g.P.Engine.stands_for g.A.Engine.stands_for g.A.Engine.plan_for _ _ _ _ _ _ _ c.self.invariant c.args.name.now c.in_ok-user.user c.in_ok-user.ensures.user c.assets.result.now c.least_of-factor.new.assets c.assets.ensures.value c.cash-low.result.0 c.cash-low.result.1;
+      next = worst_next g.P.Engine.stands_for g.A.Engine.stands_for g.A.Engine.plan_for _ _ _ _ _ _ _ _ c.self.invariant c.args.name.now c.in_ok-user.user c.in_ok-user.ensures.user c.assets.result.now c.least_of-factor.new.assets c.assets.ensures.value c.cash-low.result.0 c.cash-low.result.1;
     })

@@ -7,4 +7,4 @@ use Rattle.mk_net.proofs.draft.Draft.entry_fault.Given as goal
 abbrev pub invariant-variables : goal.invariant-variables
 invariant-variables l =
     (l.place ≡ l.variable-index)
-    × (first_in entry_at 1 (map draft_of_variable l.self.variables.items) ≡ first_in entry_at (l.place + 1) (map draft_of_variable (drop l.variable-index l.variable-items)))
+    × (first_in (entry_at l.self.zeros) 1 (map draft_of_variable l.self.variables.items) ≡ first_in (entry_at l.self.zeros) (l.place + 1) (map draft_of_variable (drop l.variable-index l.variable-items)))

@@ -17,5 +17,5 @@ sum_fault-requires-clause-widths c =
 
 pub sum_fault-requires-clause-shares : goal.sum_fault-requires-clause-shares
 sum_fault-requires-clause-shares c =
-    let none : first_in entry_at 1 (drafts_of c.args.self.now) ≡ None = search rules in
-    shares_counted c.args.self.now.variables.items none
+    let none : first_in (entry_at c.args.self.now.zeros) 1 (drafts_of c.args.self.now) ≡ None = search rules in
+    shares_counted c.args.self.now.zeros c.args.self.now.variables.items none

@@ -20,7 +20,7 @@ index-requires-3 c =
       arith,
       c.requires.value,
       row_length c.self.inside.variables.entries _ c.self.view_is c.args.variable c.args.row c.index.result.now c.index-2.result.now
-          (rw c.self.view_is at c.self.invariant) c.requires.variable c.index.ensures c.requires.row c.index-2.ensures,
+          (rw c.self.view_is at c.self.invariant.network) c.requires.variable c.index.ensures c.requires.row c.index-2.ensures,
     )
 
 pub returns : goal.returns
@@ -31,7 +31,7 @@ returns c =
       c.requires.value,
       c.index-2.result.now.ok.0,
       row_length c.self.inside.variables.entries _ c.self.view_is c.args.variable c.args.row c.index.result.now c.index-2.result.now
-          (rw c.self.view_is at c.self.invariant) c.requires.variable c.index.ensures c.requires.row c.index-2.ensures,
+          (rw c.self.view_is at c.self.invariant.network) c.requires.variable c.index.ensures c.requires.row c.index-2.ensures,
     ) in
     get_or_read c.index-2.result.now.items _ _ inside c.index-3.ensures 0
     ∙ sym (ap (λ (row : List ℕ). slice_index row c.args.value)

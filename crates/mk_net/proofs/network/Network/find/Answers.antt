@@ -22,7 +22,7 @@ overflow_cast-result-2 c =
     omega (
       arith,
       c.in_ok-value.ensures.within,
-      few_stored c.self.inside.variables.entries c.args.self.now c.self.view_is c.in_ok-variable.variable c.in_ok-variable.stored.now (rw c.self.view_is at c.self.invariant) kept,
+      few_stored c.self.inside.variables.entries c.args.self.now c.self.view_is c.in_ok-variable.variable c.in_ok-variable.stored.now (rw c.self.view_is at c.self.invariant.network) kept,
     )
 
 pub returns : goal.returns

@@ -1,4 +1,4 @@
-use Rattle.std.proofs.Common.{◌≡◌, ◌<◌, ◌≤◌, List, length, get_or, sym, ap, ◌∙◌, subst, arith}
+use Rattle.std.proofs.Common.{◌≡◌, ◌<◌, ◌≤◌, List, length, get_or, Option, sym, ap, ◌∙◌, subst, arith}
 use Rattle.std.proofs.lemmas.Slice.Zip.{AllZip-long}
 use Rattle.mk_quote.specs.declared.side.SideBounds.{SideBounds}
 use Rattle.mk_quote.proofs.Judging.{IsTaken, inside_taken, taken_inside, units_taken, units_are_ratios, units_are_fair, outside_at, all_units}
@@ -9,15 +9,15 @@ returns-then-xs-len-clause-inside c = λ inside.
     let values = c.args.self.now.sides.items in
     c.if-xs-len.true (AllZip-long IsTaken values c.args.xs.now (inside_taken values c.args.xs.now inside) ∙ sym c.len.ensures.value)
 
-pub returns-in_err-judge_share-clause-inside : goal.returns-in_err-judge_share-clause-inside
-returns-in_err-judge_share-clause-inside c =
+pub returns-in_err-units_of-clause-inside : goal.returns-in_err-units_of-clause-inside
+returns-in_err-units_of-clause-inside c =
     let values = c.args.self.now.sides.items in
     let xs = c.args.xs.now in
     let index = c.loop-index.index in
     let value = c.index-deref-index.result in
     let within : index < length values = omega (arith, c.len.ensures.value, c.if-xs-len.false, c.loop-index-test.true) in
-    let found : value ≡ get_or values index value = c.index-deref-index.is ∙ ap (λ (vs : List SideBounds). get_or vs index value) c.deref.ensures.0 in
-    rw c.from_residual.ensures (outside_at values xs index value 0 within (subst (λ (v : SideBounds). ¬ IsTaken v (get_or xs index 0)) found c.in_err-judge_share.ensures.inside))
+    let found : value ≡ get_or values index value = c.index-deref-index.is ∙ ap (λ (vs : List (Option SideBounds)). get_or vs index value) c.deref.ensures.0 in
+    rw c.from_residual.ensures (outside_at values xs index value 0 within (subst (λ (v : Option SideBounds). ¬ IsTaken v (get_or xs index 0)) found c.in_err-units_of.ensures.inside))
 
 pub returns-clause-inside : goal.returns-clause-inside
 returns-clause-inside c =

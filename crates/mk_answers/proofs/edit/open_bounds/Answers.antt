@@ -1,0 +1,66 @@
+use Rattle.std.proofs.Common.{List, refl, ap, ◌∙◌, arith}
+use Rattle.std.specs.Prelude.{is_some}
+use Rattle.mk_net.specs.declared.words.Pair.{Pair}
+use Rattle.mk_exact.specs.Events.{with_target, without_target}
+use Rattle.mk_exact.specs.Weight.{total, IsSmall}
+use Rattle.mk_tree.specs.Given.{home}
+use Rattle.mk_beliefs.specs.Meanings.{gains_of}
+use Rattle.mk_answers.specs.Open.{holding_of}
+use Rattle.mk_answers.proofs.Weights.{event_fits}
+use Rattle.mk_answers.proofs.Presence.{present_comes}
+use Rattle.mk_answers.proofs.Bounding.{can_ask, room_of_gains, sum_fits, some_hit, some_miss, hit_for, miss_for, are_bounds}
+use Rattle.mk_answers.proofs.edit.open_bounds.Goals as goal
+
+pub least-hit_factor-requires-clause-fits : goal.least-hit_factor-requires-clause-fits
+least-hit_factor-requires-clause-fits g c =
+    let a = c.requires in
+    g.met.A.Engine.home_fits c.args.assets.now.engine (gains_of a.network a.tree a.history a.user) c.event.result a.owns.stands
+    (ap (λ (ps : List Pair). is_some (home a.tree ps)) c.event.ensures.pairs ∙ a.answered.home)
+
+pub least-hit_factor-requires-clause-range : goal.least-hit_factor-requires-clause-range
+least-hit_factor-requires-clause-range g c =
+    let a = c.requires in
+    record {
+      holding = holding_of a.network a.tree a.history a.user;
+      owns = a.owns;
+      in_range = event_fits a.network c.args.asked.now c.event.result c.event.ensures.pairs a.answered.in_order.in_range;
+    }
+
+pub least_of_others-miss_factor-requires : goal.least_of_others-miss_factor-requires
+least_of_others-miss_factor-requires g c =
+    let a = c.requires in let asked = c.args.asked.now in let h = holding_of a.network a.tree a.history a.user in
+    can_ask a.network a.tree a.history a.user a.is_open asked a.answered g.A.Engine.stands_for c.least-hit_factor.new.self.engine h.meaning c.args.values
+    (c.least-hit_factor.ensures.kept h a.owns).stands refl refl (room_of_gains a.network a.tree a.history a.user a.is_open asked a.answered) a.sized
+
+pub add-requires : goal.add-requires
+add-requires g c =
+    let a = c.requires in let asked = c.args.asked.now in
+    sum_fits c.args.hit.now c.args.miss.now (IsSmall a.network a.history) (total a.network a.history (with_target asked)) (total a.network a.history (without_target asked)) a.part a.rest
+
+pub factor_of-requires : goal.factor_of-requires
+factor_of-requires g c =
+    let a = c.requires in let asked = c.args.asked.now in
+    some_hit a.network a.tree a.history a.user a.is_open asked a.answered c.event.result c.event.ensures.pairs _ c.least-hit_factor.result
+    (c.least-hit_factor.ensures.least (holding_of a.network a.tree a.history a.user) a.owns)
+    (present_comes a.network a.history (with_target asked) c.args.hit.now a.part.encloses)
+
+pub factor_of-requires-2 : goal.factor_of-requires-2
+factor_of-requires-2 g c =
+    let a = c.requires in let asked = c.args.asked.now in let h = holding_of a.network a.tree a.history a.user in
+    some_miss a.network a.tree a.history a.user a.is_open asked a.answered c.args.values a.sized _ c.least_of_others-miss_factor.result
+    (c.least_of_others-miss_factor.ensures.least h (c.least-hit_factor.ensures.kept h a.owns) a.sized)
+    (present_comes a.network a.history (without_target asked) c.args.miss.now a.rest.encloses)
+
+pub returns-clause-kept_assets : goal.returns-clause-kept_assets
+returns-clause-kept_assets g c = λ h owns. c.least_of_others-miss_factor.ensures.kept h (c.least-hit_factor.ensures.kept h owns)
+
+pub returns-clause-bounds : goal.returns-clause-bounds
+returns-clause-bounds g c = λ network tree H u on_hit on_miss owns is_open answered sized part rest sides.
+    let asked = c.args.asked.now in let h = holding_of network tree H u in
+    are_bounds network H u asked c.args.hit.now c.args.miss.now c.add.result c.factor_of.result c.factor_of-2.result part rest
+    (record { encloses = c.add.ensures.encloses; grade = c.add.ensures.grade; exact = c.add.ensures.exact })
+    (hit_for network tree H u is_open asked answered c.event.result c.event.ensures.pairs _ c.least-hit_factor.result
+    (c.least-hit_factor.ensures.least h owns) c.factor_of.result c.factor_of.ensures (omega arith))
+    (miss_for network tree H u is_open asked answered c.args.values sized _ c.least_of_others-miss_factor.result
+    (c.least_of_others-miss_factor.ensures.least h (c.least-hit_factor.ensures.kept h owns) sized) c.factor_of-2.result c.factor_of-2.ensures (omega arith))
+    on_hit on_miss sides

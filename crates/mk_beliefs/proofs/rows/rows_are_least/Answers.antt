@@ -1,0 +1,5 @@
+use Rattle.mk_beliefs.proofs.Initials.{rows_are_least}
+use Rattle.mk_beliefs.proofs.rows.rows_are_least.Goals as goal
+
+pub returns : goal.returns
+returns c = rows_are_least

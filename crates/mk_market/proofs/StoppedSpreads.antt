@@ -1,0 +1,265 @@
+-- What stops a spread is refused, and leaves the market.
+use Rattle.std.specs.Prelude.{◌≡◌, ℕ, ◌+◌, ◌≤◌, ◌<◌, List, [], ◌∷◌, length, map, find, slice_index, Bool, true, false, Option, Some, None, option_map, Err}
+use Rattle.std.specs.List.{enumerate_from}
+use Rattle.std.proofs.Common.{refl, cond, sym, ap, ap₂, ◌∙◌, subst, arith}
+use Rattle.arrayvec.specs.ArrayVec.{ArrayVec}
+use Rattle.mk_net.specs.declared.words.PairText.{PairText}
+use Rattle.mk_net.specs.Firsts.{fault_if, first_of}
+use Rattle.mk_net.specs.Network.{Variable, sizes}
+use Rattle.mk_exact.specs.History.{Entry}
+use Rattle.mk_spread.specs.Bounds.{InsideEach}
+use Rattle.mk_spread.specs.Markets.{values_left}
+use Rattle.mk_spread.specs.Spreads.{SpreadAsked}
+use Rattle.mk_spread.proofs.Suits.{is_impossible}
+use Rattle.mk_tree.specs.Given.{GivenTree}
+use Rattle.mk_file.specs.declared.market_file.MarketFile.{MarketFile}
+use Rattle.mk_file.specs.MarketOf.{market_of}
+use Rattle.mk_engine.specs.Meaning.{Meaning}
+use Rattle.mk_beliefs.specs.Meanings.{weights_of}
+use Rattle.mk_assets.specs.Holdings.{Holding}
+use Rattle.mk_cash.specs.declared.ledger.Account.{Account}
+use Rattle.mk_command.specs.declared.command.Command.TheVariants.{Bounds, Spread}
+use Rattle.mk_quote.specs.declared.spread_quote.SpreadQuote.{SpreadQuote}
+use Rattle.mk_quote.specs.Spreads.{sides_of, intervals_of}
+use Rattle.mk_quote.specs.Values.{has_no_side, impossible_share_in, misses_share_in}
+use Rattle.mk_reply.specs.declared.payments.Payment.{Payment}
+use Rattle.mk_reply.specs.declared.refusal.Refusal.{Refusal}
+use Rattle.mk_reply.specs.declared.refusal.Refusal.TheVariants.{Impossible, Range}
+use Rattle.mk_reply.specs.declared.reply.Reply.TheVariants.{Refused}
+use Rattle.mk_rules.specs.Refusals.{spread_named, unknown, refusals_by_record, first_refusal, pair_with, impossible_together, sure_value, impossible_share, missing_share}
+use Rattle.mk_rules.specs.Standings.{IsReady}
+use Rattle.mk_rules.proofs.Spreadable.{as_many_shares}
+use Rattle.mk_rules.proofs.Unrefused.{none_applies}
+use Rattle.mk_answers.specs.Open.{IsOpen, holding_of}
+use Rattle.mk_market.specs.declared.last_quote.LastQuote.{LastQuote}
+use Rattle.mk_market.specs.declared.last_quote.LastQuote.TheVariants.{Bounds as LastBounds}
+use Rattle.mk_market.specs.declared.possible.SpreadDecided.{SpreadDecided}
+use Rattle.mk_market.specs.declared.possible.SpreadDecided.TheVariants as decided
+use Rattle.mk_market.specs.declared.possible.Stopped.{Stopped}
+use Rattle.mk_market.specs.declared.possible.Stopped.TheVariants as stopped
+use Rattle.mk_market.specs.declared.users.Member.{Member}
+use Rattle.mk_market.specs.Journals.{JournalOf}
+use Rattle.mk_market.specs.Members.{names_of, quotes_of}
+use Rattle.mk_market.specs.Refused.{IsUser, IsSpreadQuestionFor}
+use Rattle.mk_market.specs.Trading.{Trading, IsAnswered}
+use Rattle.mk_market.specs.inner.Keeping.{quoted, AreKeptQuotes, IsKept}
+use Rattle.mk_market.specs.inner.Quoting.{OwnsAt, IsSpreadQuoteOf, IsTurnedDown}
+use Rattle.mk_market.specs.inner.Stopped.{IsSpreadDecidedBy, IsRefusedFor, MayStop, CanRefuseSpread}
+use Rattle.mk_market.proofs.Growing.{is_open}
+use Rattle.mk_market.proofs.Quotes.{trading, kept_quoted}
+use Rattle.mk_market.proofs.Replies.{answered_refused, stopped_by_states, unrefused}
+use Rattle.mk_market.proofs.Spreads.{spread_refused_answered, kept_quote, two_left, no_side_is, outside_answered}
+use Rattle.mk_market.proofs.TogetherSpreads.{together_left, sure_is, not_sure, impossible_by, missing_by, inside_is_placed}
+
+-- ---- the first refusal by what can come
+
+module _ (network : List Variable) (tree : GivenTree) (H : List Entry) (v : List ℕ) (words : List PairText) (spread : SpreadAsked) (named : spread_named network v words ≡ Some spread) where
+  -- what decides a distribution
+  pub decided_first : (why : SpreadDecided) (found : Refusal) (later : List (Option Refusal)) → IsSpreadDecidedBy network H spread why
+      → IsRefusedFor network H v words spread (stopped.Decided why) found → first_of (impossible_together network H words ∷ sure_value network H v words ∷ later) ≡ Some found
+  decided_first decided.Impossible found later by is = ap (λ (o : Option Refusal). first_of (o ∷ sure_value network H v words ∷ later)) is
+  decided_first (decided.Sure value) found later by is =
+      let one : length (values_left network H spread) ≡ 1 = ap length by in
+      ap₂ (λ (a b : Option Refusal). first_of (a ∷ b ∷ later)) (together_left network H v words spread named (omega (arith, one))) (sure_is network H v words spread named value by)
+      ∙ ap (λ (w : Refusal). Some w) (sym is)
+
+  module _ (open_for : IsOpen network tree H) (u : ℕ) (quote : SpreadQuote) (is : IsSpreadQuoteOf network tree H u spread quote) where
+    -- nothing decides one that has a quote
+    two : 2 ≤ length (values_left network H spread)
+    two = two_left network tree H u spread quote is
+
+    pub undecided : (later : List (Option Refusal)) → first_of (impossible_together network H words ∷ sure_value network H v words ∷ later) ≡ first_of later
+    undecided later =
+        ap₂ (λ (a b : Option Refusal). first_of (a ∷ b ∷ later)) (together_left network H v words spread named (omega (arith, two))) (not_sure network H v words spread named two)
+
+    -- where its shares stand at the wrong places that is the first
+    module _ (to : List ℕ) where
+      abbrev by_states : List (Option Refusal)
+      by_states = impossible_together network H words ∷ sure_value network H v words ∷ impossible_share network H v words to ∷ missing_share network H v words to ∷ []
+
+      abbrev at_places : Option ℕ → Option Refusal → Option Refusal
+      at_places impossible missing = first_of (option_map (λ value. Impossible (pair_with network v spread value)) impossible ∷ missing ∷ [])
+
+      first_at : first_of by_states ≡ at_places (impossible_share_in (sides_of quote) to) (fault_if (misses_share_in (sides_of quote) to) (Range 0))
+      first_at =
+          undecided (impossible_share network H v words to ∷ missing_share network H v words to ∷ [])
+          ∙ ap₂ (λ (a b : Option Refusal). first_of (a ∷ b ∷ []))
+          (impossible_by network H v words spread named (sides_of quote) (no_side_is network tree H u spread quote is open_for) to)
+          (missing_by network H v words spread named (sides_of quote) (no_side_is network tree H u spread quote is open_for) to)
+
+      pub impossible_first : (value : ℕ) → impossible_share_in (sides_of quote) to ≡ Some value → first_of by_states ≡ Some (Impossible (pair_with network v spread value))
+      impossible_first value e = first_at ∙ ap (λ (o : Option ℕ). at_places o (fault_if (misses_share_in (sides_of quote) to) (Range 0))) e
+
+      pub missing_first : impossible_share_in (sides_of quote) to ≡ None → misses_share_in (sides_of quote) to ≡ true → first_of by_states ≡ Some (Range 0)
+      missing_first none e = first_at ∙ ap₂ (λ (o : Option ℕ) (b : Bool). at_places o (fault_if b (Range 0))) none e
+
+      pub none_first : impossible_share_in (sides_of quote) to ≡ None → misses_share_in (sides_of quote) to ≡ false → first_of by_states ≡ None
+      none_first none e = first_at ∙ ap₂ (λ (o : Option ℕ) (b : Bool). at_places o (fault_if b (Range 0))) none e
+
+      -- shares inside of its intervals meet none
+      pub inside_first : InsideEach (intervals_of quote) to → first_of by_states ≡ None
+      inside_first inside = let both = inside_is_placed (sides_of quote) to inside in none_first (both.0) (both.1)
+
+-- ---- what may stop a spread
+
+first_below : (test : ℕ × ℕ → Bool) (a : ℕ) (Xs : List ℕ) (value : ℕ) → option_map (λ (numbered : ℕ × ℕ). numbered.0) (find test (enumerate_from a Xs)) ≡ Some value → value < a + length Xs
+first_below test a [] value e = cc
+first_below test a (X ∷ Xs) value e = at (test (a, X)) e (first_below test (a + 1) Xs value)
+  where
+    at : (b : Bool) → option_map (λ (numbered : ℕ × ℕ). numbered.0) (cond b (Some (a, X)) (find test (enumerate_from (a + 1) Xs))) ≡ Some value
+        → (option_map (λ (numbered : ℕ × ℕ). numbered.0) (find test (enumerate_from (a + 1) Xs)) ≡ Some value → value < a + 1 + length Xs) → value < a + length (X ∷ Xs)
+    at true e later = let same : a ≡ value = cc in omega (arith, same)
+    at false e later = let below = later e in omega (arith, below)
+
+module _ (network : List Variable) (tree : GivenTree) (H : List Entry) (u : ℕ) (spread : SpreadAsked) (quotes new_quotes : List (Option LastQuote)) (Xs : List ℕ)
+    (one_each : length Xs ≡ slice_index (sizes network) spread.variable) where
+  pub turned_may_stop : (why : Stopped) → IsTurnedDown network tree H u spread quotes new_quotes Xs why → MayStop network H spread why
+  turned_may_stop (stopped.Decided why) down = down.decided
+  turned_may_stop (stopped.ImpossibleShare value) down =
+      let below : value < 0 + length Xs = first_below (is_impossible (has_no_side (sides_of down.quote))) 0 Xs value down.is_stopped in
+      omega (arith, below, one_each)
+  turned_may_stop stopped.MissingShare down = tt
+  turned_may_stop (stopped.Outside box) down = tt
+
+-- ---- the market
+
+module _ {P A Plan : Type 0} (weights_stand : P → Meaning → Type 0) (gains_stand : A → Meaning → Type 0) (plan_for : Plan → List Variable → GivenTree → Type 0)
+    (file : MarketFile) (prices : P) (rows : A) (plan : Plan) (members : List (Member A Plan)) (accounts : List Account) (journal : JournalOf)
+    (payments : Option (List Payment)) (kept : IsKept weights_stand gains_stand plan_for file prices rows plan members accounts journal payments)
+    (new_prices : P) (new_members : List (Member A Plan)) where
+  -- users who were quoted the same are the same to its callers
+  same_trading : quotes_of new_members ≡ quotes_of members → trading file journal members ≡ trading file journal new_members
+  same_trading same =
+      ap (λ (qs : List (Option LastQuote)). record { market = market_of file; standing = record { history = journal.history; quotes = map (option_map quoted) qs } }) (sym same)
+
+  -- and the market is kept beside them
+  pub record AreBeside : Type 0 where
+    pub prices_beside : (m : Meaning) → weights_stand prices m → weights_stand new_prices m
+    pub names_beside : names_of new_members ≡ names_of members
+    pub assets_beside : (u : ℕ) (h : Holding) → OwnsAt gains_stand members u h → OwnsAt gains_stand new_members u h
+
+  pub kept_beside : AreBeside → quotes_of new_members ≡ quotes_of members → IsKept weights_stand gains_stand plan_for file new_prices rows plan new_members accounts journal payments
+  kept_beside are same = record {
+    legal = kept.legal;
+    tree = kept.tree;
+    planned = kept.planned;
+    prices_stand = are.prices_beside (weights_of file.net file.tree journal.history) kept.prices_stand;
+    rows_stand = kept.rows_stand;
+    named = are.names_beside ∙ kept.named;
+    owns = λ u. are.assets_beside u (holding_of file.net file.tree journal.history u) (kept.owns u);
+    quotes_kept = subst (AreKeptQuotes file.net file.tree journal.history) (sym same) kept.quotes_kept;
+    accounts_kept = kept.accounts_kept;
+    ready = subst (λ (qs : List (Option LastQuote)). IsReady (market_of file) (record { history = journal.history; quotes = map (option_map quoted) qs })) (sym same) kept.ready;
+    bounded = kept.bounded;
+    max_trades = kept.max_trades;
+    room = kept.room;
+  }
+
+  module _ (name : List ℕ) (user : ℕ) (is_user : IsUser journal.history name user) (v : List ℕ) (condition : ArrayVec PairText) (spread : SpreadAsked)
+      (is_question : IsSpreadQuestionFor (market_of file) file.tree journal.history v condition.items spread) where
+    open_for : IsOpen file.net file.tree journal.history
+    open_for = is_open weights_stand gains_stand plan_for file prices rows plan members accounts journal payments kept
+
+    -- the engine can find the words of what stops it
+    pub can_refuse : (words : List PairText) → words ≡ condition.items → unknown file.net condition.items ≡ None
+        → ((m : Meaning) → weights_stand prices m → weights_stand new_prices m) → (why : Stopped) → MayStop file.net journal.history spread why
+        → CanRefuseSpread weights_stand new_prices file.net v words spread why
+    can_refuse words same known still why may =
+        subst (λ (ps : List PairText). CanRefuseSpread weights_stand new_prices file.net v ps spread why) (sym same) (record {
+          tree = file.tree;
+          history = journal.history;
+          stands = still (weights_of file.net file.tree journal.history) kept.prices_stand;
+          is_open = open_for;
+          named = is_question.named;
+          known = known;
+          answered = is_question.answered;
+          may_stop = may;
+        })
+
+    -- a condition that no refusal meets is known
+    pub bounds_known : None ≡ first_of (refusals_by_record (market_of file) journal.history (Bounds name v condition)) → unknown file.net condition.items ≡ None
+    bounds_known none = (none_applies (refusals_by_record (market_of file) journal.history (Bounds name v condition)) (sym none)).1.1.1.0
+
+    -- bounds of a distribution that is decided
+    pub decided_answered : (why : SpreadDecided) (found : Refusal) → None ≡ first_of (refusals_by_record (market_of file) journal.history (Bounds name v condition))
+        → IsSpreadDecidedBy file.net journal.history spread why → IsRefusedFor file.net journal.history v condition.items spread (stopped.Decided why) found
+        → quotes_of new_members ≡ quotes_of members
+        → IsAnswered (trading file journal members) (trading file journal new_members) (Bounds name v condition) (Refused found)
+    decided_answered why found none by is same =
+        subst (λ (t : Trading). IsAnswered (trading file journal members) t (Bounds name v condition) (Refused found)) (same_trading same)
+        (answered_refused (trading file journal members) (trading file journal members) refl (Bounds name v condition) tt found (Err found) refl
+        (stopped_by_states (market_of file) journal.history (Bounds name v condition) found none
+        (decided_first file.net file.tree journal.history v condition.items spread is_question.named why found [] by is)))
+
+    -- where one has a quote its bounds are no refusal
+    pub bounds_unrefused : (quote : SpreadQuote) → IsSpreadQuoteOf file.net file.tree journal.history user spread quote
+        → None ≡ first_of (refusals_by_record (market_of file) journal.history (Bounds name v condition)) → None ≡ first_refusal (market_of file) journal.history (Bounds name v condition)
+    bounds_unrefused quote its none =
+        unrefused (market_of file) journal.history (Bounds name v condition) none
+        (undecided file.net file.tree journal.history v condition.items spread is_question.named open_for user quote its [])
+
+    -- ---- a spread
+
+    module _ (to : ArrayVec ℕ) (seen : Option ℕ) (none : None ≡ first_of (refusals_by_record (market_of file) journal.history (Spread name v condition to seen))) where
+      pub spread_known : unknown file.net condition.items ≡ None
+      spread_known = (none_applies (refusals_by_record (market_of file) journal.history (Spread name v condition to seen)) (sym none)).1.1.1.0
+
+      pub one_share_each : length to.items ≡ slice_index (sizes file.net) spread.variable
+      one_share_each =
+          as_many_shares file.net v condition.items spread to.items is_question.named
+          (none_applies (refusals_by_record (market_of file) journal.history (Spread name v condition to seen)) (sym none)).1.1.1.1.1.1.1.1.1.0
+
+      -- shares inside of its quote are no refusal
+      pub spread_unrefused : (quote : SpreadQuote) → IsSpreadQuoteOf file.net file.tree journal.history user spread quote → InsideEach (intervals_of quote) to.items
+          → None ≡ first_refusal (market_of file) journal.history (Spread name v condition to seen)
+      spread_unrefused quote its inside =
+          unrefused (market_of file) journal.history (Spread name v condition to seen) none
+          (inside_first file.net file.tree journal.history v condition.items spread is_question.named open_for user quote its to.items inside)
+
+      abbrev IsReply : Refusal → Type 0
+      IsReply found = IsAnswered (trading file journal members) (trading file journal new_members) (Spread name v condition to seen) (Refused found)
+
+      refused_same : (found : Refusal) → quotes_of new_members ≡ quotes_of members
+          → first_of (impossible_together file.net journal.history condition.items ∷ sure_value file.net journal.history v condition.items
+          ∷ impossible_share file.net journal.history v condition.items to.items ∷ missing_share file.net journal.history v condition.items to.items ∷ []) ≡ Some found → IsReply found
+      refused_same found same first =
+          subst (λ (t : Trading). IsAnswered (trading file journal members) t (Spread name v condition to seen) (Refused found)) (same_trading same)
+          (spread_refused_answered (trading file journal members) (trading file journal members) refl name v condition to seen found (Err found) refl
+          (stopped_by_states (market_of file) journal.history (Spread name v condition to seen) found none first))
+
+      abbrev IsTurned : Stopped → Type 0
+      IsTurned why = IsTurnedDown file.net file.tree journal.history user spread (quotes_of members) (quotes_of new_members) to.items why
+
+      -- what stops it is its reply
+      pub stopped_answered : (why : Stopped) (found : Refusal) → IsTurned why → IsRefusedFor file.net journal.history v condition.items spread why found → IsReply found
+      stopped_answered (stopped.Decided why) found down is =
+          refused_same found down.same_quotes (decided_first file.net file.tree journal.history v condition.items spread is_question.named why found
+          (impossible_share file.net journal.history v condition.items to.items ∷ missing_share file.net journal.history v condition.items to.items ∷ []) down.decided is)
+      stopped_answered (stopped.ImpossibleShare value) found down is =
+          refused_same found down.quotes_left
+          (impossible_first file.net file.tree journal.history v condition.items spread is_question.named open_for user down.quote down.judge.its to.items value down.is_stopped
+          ∙ ap (λ (w : Refusal). Some w) (sym is))
+      stopped_answered stopped.MissingShare found down is =
+          refused_same found down.quotes_left
+          (missing_first file.net file.tree journal.history v condition.items spread is_question.named open_for user down.quote down.judge.its to.items (down.is_stopped.0) (down.is_stopped.1)
+          ∙ ap (λ (w : Refusal). Some w) (sym is))
+      stopped_answered (stopped.Outside box) found down is =
+          subst IsReply (sym is)
+          (outside_answered weights_stand gains_stand plan_for file prices rows plan members new_members accounts journal payments kept name user is_user v condition spread is_question
+          down.quote down.judge.its down.quotes_left to seen box
+          (unrefused (market_of file) journal.history (Spread name v condition to seen) none
+          (none_first file.net file.tree journal.history v condition.items spread is_question.named open_for user down.quote down.judge.its to.items
+          down.is_stopped.no_impossible down.is_stopped.no_missing))
+          down.is_stopped down.judge.last)
+
+      -- and leaves the market kept
+      pub stopped_kept : (why : Stopped) (found : Refusal) → IsTurned why → IsRefusedFor file.net journal.history v condition.items spread why found → AreBeside
+          → IsKept weights_stand gains_stand plan_for file new_prices rows plan new_members accounts journal payments
+      stopped_kept (stopped.Decided why) found down is are = kept_beside are down.same_quotes
+      stopped_kept (stopped.ImpossibleShare value) found down is are = kept_beside are down.quotes_left
+      stopped_kept stopped.MissingShare found down is are = kept_beside are down.quotes_left
+      stopped_kept (stopped.Outside box) found down is are =
+          kept_quoted weights_stand gains_stand plan_for file prices new_prices rows plan members new_members accounts journal payments kept user (LastBounds down.quote)
+          (kept_quote file.net file.tree journal.history user spread down.quote down.judge.its)
+          (record { names = are.names_beside; quotes = down.quotes_left; assets = are.assets_beside }) are.prices_beside
+          (Spread name v condition to seen) (Refused found) (stopped_answered (stopped.Outside box) found down is)

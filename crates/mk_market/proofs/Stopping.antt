@@ -1,0 +1,158 @@
+-- A question that the record does not refuse, and what can come does.
+use Rattle.std.specs.Prelude.{◌≡◌, ℕ, List, [], ◌∷◌, true, false, Option, Some, None, option_map, option_and_then, map}
+use Rattle.std.specs.List.{AllByRecursion}
+use Rattle.std.proofs.Common.{refl, sym, ap, ◌∙◌, subst}
+use Rattle.mk_net.specs.declared.words.Pair.{Pair}
+use Rattle.mk_net.specs.declared.words.PairText.{PairText}
+use Rattle.mk_net.specs.declared.words.QuestionText.{QuestionText}
+use Rattle.mk_net.specs.Asked.{Asked}
+use Rattle.mk_net.specs.Firsts.{fault_if, or_else, first_of}
+use Rattle.mk_net.specs.Network.{Variable}
+use Rattle.mk_exact.specs.Events.{holds, with_target, without_target}
+use Rattle.mk_exact.specs.History.{Entry}
+use Rattle.mk_exact.specs.Proper.{IsPairOf}
+use Rattle.mk_exact.specs.Weight.{cannot_come}
+use Rattle.mk_tree.specs.Given.{GivenTree}
+use Rattle.mk_file.specs.declared.market_file.MarketFile.{MarketFile}
+use Rattle.mk_file.specs.MarketOf.{market_of}
+use Rattle.mk_engine.specs.Meaning.{Meaning}
+use Rattle.mk_beliefs.specs.Meanings.{weights_of}
+use Rattle.mk_command.specs.declared.command.Command.TheVariants.{Price, Limits, Edit}
+use Rattle.mk_reply.specs.declared.refusal.Refusal.{Refusal}
+use Rattle.mk_reply.specs.declared.refusal.Refusal.TheVariants.{Impossible, Sure}
+use Rattle.mk_reply.specs.declared.reply.Reply.TheVariants.{Refused}
+use Rattle.mk_rules.specs.Refusals.{pairs_of, known_pairs, question_named, unknown, impossible_together, decided, refusals_by_record, refusals_by_states, first_refusal}
+use Rattle.mk_rules.proofs.Ready.{edit_refused}
+use Rattle.mk_rules.proofs.Unrefused.{none_applies}
+use Rattle.mk_answers.specs.Open.{IsOpen, CanBeAnswered}
+use Rattle.mk_answers.specs.Results.{AreBothLeft}
+use Rattle.mk_answers.proofs.Homes.{home_of_condition}
+use Rattle.mk_market.specs.declared.last_quote.LastQuote.{LastQuote}
+use Rattle.mk_market.specs.declared.users.Member.{Member}
+use Rattle.mk_market.specs.Journals.{JournalOf}
+use Rattle.mk_market.specs.Members.{quotes_of}
+use Rattle.mk_market.specs.Trading.{IsAnswered}
+use Rattle.mk_market.specs.inner.Keeping.{quoted, standing_of}
+use Rattle.mk_market.specs.inner.Stopped.{IsAskedBy, IsConditionBy, CanRefuseCondition}
+use Rattle.mk_market.proofs.Quotes.{trading}
+use Rattle.mk_market.proofs.Refusing.{pairs_are, slice_known}
+use Rattle.mk_market.proofs.Replies.{refusal_allowed, none_appended, stopped_by_states, unrefused}
+use Rattle.mk_market.proofs.Together.{none_together, condition_comes}
+
+-- where the record does not refuse a question all its words are known
+pub price_known : (file : MarketFile) (H : List Entry) (q : QuestionText) → None ≡ first_of (refusals_by_record (market_of file) H (Price q)) → unknown file.net (pairs_of q) ≡ None
+price_known file H q none = (none_applies (refusals_by_record (market_of file) H (Price q)) (sym none)).1.0
+
+pub limits_known : (file : MarketFile) (H : List Entry) (name : List ℕ) (q : QuestionText) → None ≡ first_of (refusals_by_record (market_of file) H (Limits name q)) → unknown file.net (pairs_of q) ≡ None
+limits_known file H name q none = (none_applies (refusals_by_record (market_of file) H (Limits name q)) (sym none)).1.1.0
+
+pub edit_known : (file : MarketFile) (H : List Entry) (name : List ℕ) (q : QuestionText) (X : ℕ) (seen : Option ℕ)
+    → None ≡ first_of (refusals_by_record (market_of file) H (Edit name q X seen)) → unknown file.net (pairs_of q) ≡ None
+edit_known file H name q X seen none = (none_applies (refusals_by_record (market_of file) H (Edit name q X seen)) (sym none)).1.1.0
+
+-- what each refusal asks
+module _ {E : Type 0} (stands_for : E → Meaning → Type 0) (prices : E) (network : List Variable) (tree : GivenTree) (H : List Entry)
+    (stands : stands_for prices (weights_of network tree H)) (is_open : IsOpen network tree H) (q : QuestionText) (asked : Asked)
+    (named : question_named network q ≡ Some asked) (known : unknown network (pairs_of q) ≡ None) (answered : CanBeAnswered network tree H asked) where
+  pub can_refuse_condition : (condition : List Pair) (words : List PairText) → condition ≡ asked.condition → words ≡ q.condition.items → cannot_come network H (holds asked.condition) ≡ true
+      → CanRefuseCondition stands_for prices condition words
+  can_refuse_condition condition words e f cannot = record {
+    network = network;
+    tree = tree;
+    history = H;
+    stands = stands;
+    is_open = is_open;
+    condition_by = record { known = slice_known network q words f known; named = pairs_are network q asked condition words named e f };
+    in_range = subst (AllByRecursion (IsPairOf network)) (sym e) answered.in_order.in_range.condition;
+    home = home_of_condition tree asked condition e answered.home;
+    cannot = subst (λ (ps : List Pair). cannot_come network H (holds ps) ≡ true) (sym e) cannot;
+  }
+
+-- the first that applies of what can come
+first_is : (one later : Option Refusal) (why : Refusal) → one ≡ Some why → or_else one later ≡ Some why
+first_is None later why e = cc
+first_is (Some x) later why e = e
+
+module _ (network : List Variable) (H : List Entry) (q : QuestionText) (asked : Asked) (by : IsAskedBy network q asked) where
+  pub never_at_all : (words : List PairText) (why : Refusal) → words ≡ q.condition.items → impossible_together network H words ≡ Some why
+      → first_of (impossible_together network H q.condition.items ∷ decided network H q ∷ []) ≡ Some why
+  never_at_all words why same e = first_is _ _ why (ap (impossible_together network H) (sym same) ∙ e)
+
+  decided_is : decided network H q
+      ≡ or_else (fault_if (cannot_come network H (with_target asked)) (Impossible q.target)) (fault_if (cannot_come network H (without_target asked)) (Sure q.target))
+  decided_is = ap (option_and_then (λ (asked : Asked). or_else
+      (fault_if (cannot_come network H (with_target asked)) (Impossible q.target)) (fault_if (cannot_come network H (without_target asked)) (Sure q.target)))) by.named
+
+  condition_named : asked.condition ≡ known_pairs network q.condition.items
+  condition_named = pairs_are network q asked asked.condition q.condition.items by.named refl refl
+
+  pub never_refused : cannot_come network H (holds asked.condition) ≡ false → cannot_come network H (with_target asked) ≡ true
+      → first_of (impossible_together network H q.condition.items ∷ decided network H q ∷ []) ≡ Some (Impossible q.target)
+  never_refused comes never =
+      rw (none_together network H q.condition.items asked.condition condition_named comes, decided_is, never) refl
+
+  pub sure_refused : cannot_come network H (with_target asked) ≡ false → cannot_come network H (without_target asked) ≡ true
+      → first_of (impossible_together network H q.condition.items ∷ decided network H q ∷ []) ≡ Some (Sure q.target)
+  sure_refused hit miss =
+      rw (none_together network H q.condition.items asked.condition condition_named (condition_comes network H asked hit), decided_is, hit, miss) refl
+
+  -- where both sides are left nothing stops it
+  pub none_stops : AreBothLeft network H asked → first_of (impossible_together network H q.condition.items ∷ decided network H q ∷ []) ≡ None
+  none_stops left =
+      rw (none_together network H q.condition.items asked.condition condition_named (condition_comes network H asked left.hit), decided_is, left.hit, left.miss) refl
+
+  -- where its condition cannot come its pairs are refused
+  pub impossible_by : (condition : List Pair) (words : List PairText) (why : Refusal) → condition ≡ asked.condition → words ≡ q.condition.items
+      → cannot_come network H (holds asked.condition) ≡ true
+      → (IsConditionBy network words condition → cannot_come network H (holds condition) ≡ true → impossible_together network H words ≡ Some why)
+      → impossible_together network H q.condition.items ≡ Some why
+  impossible_by condition words why e f cannot refused =
+      ap (impossible_together network H) (sym f)
+      ∙ refused (record { known = slice_known network q words f by.known; named = pairs_are network q asked condition words by.named e f })
+      (subst (λ (ps : List Pair). cannot_come network H (holds ps) ≡ true) (sym e) cannot)
+
+pub limits_unrefused : (file : MarketFile) (H : List Entry) (name : List ℕ) (q : QuestionText) (asked : Asked) → question_named file.net q ≡ Some asked → AreBothLeft file.net H asked
+    → None ≡ first_of (refusals_by_record (market_of file) H (Limits name q)) → None ≡ first_refusal (market_of file) H (Limits name q)
+limits_unrefused file H name q asked named left none =
+    unrefused (market_of file) H (Limits name q) none (none_stops file.net H q asked (record { named = named; known = limits_known file H name q none }) left)
+
+pub edit_unrefused : (file : MarketFile) (H : List Entry) (name : List ℕ) (q : QuestionText) (X : ℕ) (seen : Option ℕ) (asked : Asked) → question_named file.net q ≡ Some asked
+    → AreBothLeft file.net H asked
+    → None ≡ first_of (refusals_by_record (market_of file) H (Edit name q X seen)) → None ≡ first_refusal (market_of file) H (Edit name q X seen)
+edit_unrefused file H name q X seen asked named left none =
+    unrefused (market_of file) H (Edit name q X seen) none (none_stops file.net H q asked (record { named = named; known = edit_known file H name q X seen none }) left)
+
+-- the market answers with the refusal
+module _ {A Plan : Type 0} (file : MarketFile) (journal : JournalOf) (members new_members : List (Member A Plan)) (same_quotes : quotes_of new_members ≡ quotes_of members) where
+  same_standing : standing_of journal new_members ≡ standing_of journal members
+  same_standing = ap (λ (qs : List (Option LastQuote)). record { history = journal.history; quotes = map (option_map quoted) qs }) same_quotes
+
+  pub price_stopped : (q : QuestionText) (why : Refusal) → None ≡ first_of (refusals_by_record (market_of file) journal.history (Price q))
+      → impossible_together file.net journal.history q.condition.items ≡ Some why → IsAnswered (trading file journal members) (trading file journal new_members) (Price q) (Refused why)
+  price_stopped q why none e = record {
+    same_market = refl;
+    allowed = refusal_allowed (market_of file) (standing_of journal members) (Price q) why
+        (stopped_by_states (market_of file) journal.history (Price q) why none (first_is _ _ why e));
+    next = same_standing ∙ none_appended (market_of file) (standing_of journal members) (Price q) (Refused why) refl refl;
+  }
+
+  pub limits_stopped : (name : List ℕ) (q : QuestionText) (why : Refusal) → None ≡ first_of (refusals_by_record (market_of file) journal.history (Limits name q))
+      → first_of (refusals_by_states (market_of file) journal.history (Limits name q)) ≡ Some why
+      → IsAnswered (trading file journal members) (trading file journal new_members) (Limits name q) (Refused why)
+  limits_stopped name q why none e = record {
+    same_market = refl;
+    allowed = refusal_allowed (market_of file) (standing_of journal members) (Limits name q) why (stopped_by_states (market_of file) journal.history (Limits name q) why none e);
+    next = same_standing ∙ none_appended (market_of file) (standing_of journal members) (Limits name q) (Refused why) refl refl;
+  }
+
+  pub edit_stopped : (name : List ℕ) (q : QuestionText) (X : ℕ) (seen : Option ℕ) (why : Refusal) → None ≡ first_of (refusals_by_record (market_of file) journal.history (Edit name q X seen))
+      → first_of (refusals_by_states (market_of file) journal.history (Edit name q X seen)) ≡ Some why
+      → IsAnswered (trading file journal members) (trading file journal new_members) (Edit name q X seen) (Refused why)
+  edit_stopped name q X seen why none e =
+      let first = stopped_by_states (market_of file) journal.history (Edit name q X seen) why none e in
+      record {
+        same_market = refl;
+        allowed = refusal_allowed (market_of file) (standing_of journal members) (Edit name q X seen) why first;
+        next = same_standing ∙ none_appended (market_of file) (standing_of journal members) (Edit name q X seen) (Refused why) refl
+            (edit_refused (market_of file) journal.history (map (option_map quoted) (quotes_of members)) name q X seen why (sym first));
+      }

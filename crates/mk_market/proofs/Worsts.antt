@@ -1,0 +1,88 @@
+-- What users are worth at least.
+use Rattle.std.specs.Prelude.{◌≡◌, ℕ, ◌^◌, List, map, Option, Some, None, option_map, slice_get, IsSomeAnd}
+use Rattle.std.proofs.Common.{refl, sym, ap, ◌∙◌, subst}
+use Rattle.mk_net.specs.Network.{Variable}
+use Rattle.mk_exact.specs.Events.{always}
+use Rattle.mk_exact.specs.History.{Entry}
+use Rattle.mk_exact.specs.Weight.{IsSmall}
+use Rattle.mk_exact.specs.Factors.{Fraction, IsAtLeastOne, factor_with, least_gain}
+use Rattle.mk_exact.specs.Cash.{CoversCash}
+use Rattle.mk_exact.specs.Existing.{HasLeast}
+use Rattle.mk_exact.proofs.ExistMarkets.{least_gain_exists}
+use Rattle.mk_tree.specs.Given.{GivenTree}
+use Rattle.mk_file.specs.declared.market_file.MarketFile.{MarketFile}
+use Rattle.mk_file.specs.MarketOf.{market_of}
+use Rattle.mk_engine.specs.Meaning.{Meaning}
+use Rattle.mk_enclose.specs.declared.factor.Factor.{Factor}
+use Rattle.mk_enclose.specs.Enclosure.{IsGradedWithin}
+use Rattle.mk_enclose.specs.Factor.{StandsFor}
+use Rattle.mk_assets.specs.declared.assets.Assets.{Assets}
+use Rattle.mk_assets.specs.Holdings.{Holding, Owns}
+use Rattle.mk_cash.specs.declared.ledger.Account.{Account}
+use Rattle.mk_market.specs.declared.last_quote.LastQuote.{LastQuote}
+use Rattle.mk_command.specs.declared.command.Command.TheVariants.{Worst}
+use Rattle.mk_reply.specs.declared.payments.Payment.{Payment}
+use Rattle.mk_reply.specs.declared.reply.Reply.TheVariants.{Worst as Worsted}
+use Rattle.mk_rules.specs.Refusals.{first_refusal}
+use Rattle.mk_rules.specs.Answers.{IsWorst}
+use Rattle.mk_rules.specs.Transcript.{OfCommand, IsAllowedFor, after}
+use Rattle.mk_answers.specs.Open.{IsOpen, IsFactorFor, holding_of}
+use Rattle.mk_answers.specs.Calls.{CanFindWorst}
+use Rattle.mk_market.specs.declared.users.Member.{Member}
+use Rattle.mk_market.specs.Journals.{JournalOf}
+use Rattle.mk_market.specs.Members.{assets_of, with_assets}
+use Rattle.mk_market.specs.Refused.{IsUser}
+use Rattle.mk_market.specs.inner.Keeping.{quoted, standing_of, IsKept}
+use Rattle.mk_market.proofs.Growing.{is_open, kept_still}
+use Rattle.mk_market.proofs.Owned.{names_same, quotes_same, all_still}
+use Rattle.mk_market.proofs.Replies.{answer_allowed, none_appended}
+
+module _ {P A Plan : Type 0} (weights_stand : P → Meaning → Type 0) (gains_stand : A → Meaning → Type 0) (plan_for : Plan → List Variable → GivenTree → Type 0)
+    (file : MarketFile) (prices : P) (rows : A) (plan : Plan) (members : List (Member A Plan)) (accounts : List Account) (journal : JournalOf) (payments : Option (List Payment))
+    (kept : IsKept weights_stand gains_stand plan_for file prices rows plan members accounts journal payments) where
+  opened : IsOpen file.net file.tree journal.history
+  opened = is_open weights_stand gains_stand plan_for file prices rows plan members accounts journal payments kept
+
+  -- a user
+  module _ (name : List ℕ) (user : ℕ) (is_user : IsUser journal.history name user) (before now : Assets A Plan) (there : slice_get (assets_of members) user ≡ Some before) where
+    pub can_find : CanFindWorst gains_stand before
+    can_find = record {
+      network = file.net;
+      tree = file.tree;
+      history = journal.history;
+      user = user;
+      owns = kept.owns user before there;
+      is_open = opened;
+    }
+
+    has_least : HasLeast file.net journal.history user
+    has_least = least_gain_exists file.net journal.history user kept.legal kept.ready.stands.proper kept.ready.stands.sound
+
+    pub worst_allowed : (factor : Factor) (low high : ℕ) → None ≡ first_refusal (market_of file) journal.history (Worst name)
+        → ((network : List Variable) (tree : GivenTree) (H : List Entry) (u g : ℕ) → Owns gains_stand before (holding_of network tree H u) → IsOpen network tree H
+        → least_gain network H u always ≡ Some g → IsFactorFor factor (IsSmall network H) (factor_with H u g))
+        → ((q : Fraction) → StandsFor factor q.num q.den → IsGradedWithin factor.gain (2 ^ 17) → IsAtLeastOne q → CoversCash q file.points_per_bit low high)
+        → IsAllowedFor (market_of file) (standing_of journal members) (OfCommand (Worst name)) (Worsted low high)
+    worst_allowed factor low high none found covers =
+        let least = has_least in let H = journal.history in
+        let is = found file.net file.tree H user least.least (kept.owns user before there) opened least.is_least in
+        let worst : IsWorst (factor_with H user least.least) file.points_per_bit (Worsted low high)
+        = record { low = low; high = high; printed = refl; covers = covers (factor_with H user least.least) is.stands is.graded least.safe.at_least_one } in
+        answer_allowed (market_of file) (standing_of journal members) (Worst name) (Worsted low high) none
+        (subst (λ (n : ℕ). IsSomeAnd (least_gain file.net H n always) (λ g. IsWorst (factor_with H n g) file.points_per_bit (Worsted low high))) is_user.number
+        (subst (λ (o : Option ℕ). IsSomeAnd o (λ g. IsWorst (factor_with H user g) file.points_per_bit (Worsted low high))) (sym least.is_least) worst))
+
+    pub worst_next : (low high : ℕ) → standing_of journal (with_assets members user now) ≡ after (market_of file) (standing_of journal members) (OfCommand (Worst name)) (Worsted low high)
+    worst_next low high =
+        ap (λ (qs : List (Option LastQuote)). record { history = journal.history; quotes = map (option_map quoted) qs }) (quotes_same members user before now there)
+        ∙ none_appended (market_of file) (standing_of journal members) (Worst name) (Worsted low high) refl refl
+
+    pub worst_kept : ((h : Holding) → Owns gains_stand before h → Owns gains_stand now h)
+        → IsKept weights_stand gains_stand plan_for file prices rows plan (with_assets members user now) accounts journal payments
+    worst_kept still = kept_still weights_stand gains_stand plan_for file prices prices rows plan members (with_assets members user now) accounts journal payments kept
+        (record {
+          prices_still = λ m stands. stands;
+          names_still = names_same members user before now there;
+          quotes_still = quotes_same members user before now there;
+          owned_still = all_still members user before now there gains_stand still;
+        })

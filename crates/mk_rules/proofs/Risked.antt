@@ -1,0 +1,96 @@
+-- What a reply to `bound` says stays so: each state that is possible later was possible then.
+use Rattle.std.proofs.Common.{◌≡◌, ℕ, ◌+◌, ◌*◌, ◌≤◌, true, false, Bool, length, sum, sum_by, ◌&&◌, List, [], ◌∷◌, ◌++◌, Option, Some, None, IfSome, IsSomeAnd, MatchOption, All, filter, cond, refl, sym, ap, ◌∙◌, subst}
+use Rattle.std.specs.Prelude.{option_to_list}
+use Rattle.std.specs.List.{AllByRecursion}
+use Rattle.std.proofs.lemmas.Bool.{and_parts, and_from}
+use Rattle.std.proofs.lemmas.List.Elements.{All-from_recursion, recursion_from_All, All-head, filter_map-append}
+use Rattle.mk_net.specs.declared.words.Pair.{Pair}
+use Rattle.mk_exact.specs.States.{numbers_below}
+use Rattle.mk_exact.specs.Events.{has, holds, always}
+use Rattle.mk_exact.specs.InitialWeight.{all_states, initial_total}
+use Rattle.mk_exact.specs.History.{Entry, resolution_in, resolutions, deposited, withdrawn, users}
+use Rattle.mk_exact.specs.Weight.{is_possible, possible_states}
+use Rattle.mk_exact.specs.Risk.{least_weight, CoversBound}
+use Rattle.mk_exact.specs.Laws.{LossIsBounded}
+use Rattle.mk_exact.specs.Market.{Market, network_of}
+use Rattle.mk_exact.proofs.Risk.{bound_holds}
+use Rattle.mk_exact.proofs.Sums.{list_all-append}
+use Rattle.mk_command.specs.declared.command.Command.TheVariants.{Settle, Bound}
+use Rattle.mk_reply.specs.declared.refusal.Refusal.{Refusal}
+use Rattle.mk_reply.specs.declared.payments.Payment.{Payment}
+use Rattle.mk_reply.specs.declared.reply.Reply.{Reply}
+use Rattle.mk_reply.specs.declared.reply.Reply.TheVariants.{Settled, Bound as Risked, Refused}
+use Rattle.mk_rules.specs.Refusals.{first_refusal}
+use Rattle.mk_rules.specs.Answers.{IsBound, entry_of}
+use Rattle.mk_rules.specs.Transcript.{Standing, opening, Line, OfCommand, NoCommand, LongLine, IsAllowedFor, after, Run}
+use Rattle.mk_rules.specs.Standings.{IsMarket, Stands}
+use Rattle.mk_rules.specs.Laws.{paid_by, CostsNoMoreThan}
+use Rattle.mk_rules.proofs.Options.{value_of}
+use Rattle.mk_rules.proofs.Keeps.{run_keeps, opening_stands}
+use Rattle.mk_rules.proofs.Paid.{settlement_keeps}
+
+-- a state that is possible behind more entries was possible before them
+possible_before : (H more : List Entry) (s : List ℕ) → is_possible (H ++ more) s ≡ true → is_possible H s ≡ true
+possible_before H more s e =
+    (and_parts (holds (resolutions H) s) (holds (resolutions more) s)
+    (sym (list_all-append (λ (p : Pair). has p s) (resolutions H) (resolutions more)) ∙ sym (ap (λ (ps : List Pair). holds ps s) (filter_map-append resolution_in H more)) ∙ e)).0
+
+line_narrows : (market : Market) (now : Standing) (line : Line) (reply : Reply) (s : List ℕ) → is_possible (after market now line reply).history s ≡ true → is_possible now.history s ≡ true
+line_narrows market now (OfCommand command) reply s e = possible_before now.history (option_to_list (entry_of market now.history command reply)) s e
+line_narrows market now NoCommand reply s e = e
+line_narrows market now LongLine reply s e = e
+
+run_narrows : (market : Market) (old new : Standing) (lines : List Line) (replies : List Reply) → Run market old lines replies new → (s : List ℕ)
+    → is_possible new.history s ≡ true → is_possible old.history s ≡ true
+run_narrows market old new [] [] run s e = ap (λ (now : Standing). is_possible now.history s) (sym run) ∙ e
+run_narrows market old new [] (reply ∷ replies) run s e = absurd run
+run_narrows market old new (line ∷ lines) [] run s e = absurd run
+run_narrows market old new (line ∷ lines) (reply ∷ replies) run s e =
+    line_narrows market old line reply s (run_narrows market (after market old line reply) new lines replies run.1 s e)
+
+-- what holds of all that pass a test holds of those that pass a stronger one
+each_fewer : {X : Type 0} (P : X → Type 0) (p q : X → Bool) (xs : List X) → ((x : X) → q x ≡ true → p x ≡ true) → AllByRecursion P (filter p xs) → AllByRecursion P (filter q xs)
+each_fewer P p q [] stronger h = tt
+each_fewer {X} P p q (x ∷ xs) stronger h = at (p x) (q x) (stronger x) h (each_fewer P p q xs stronger)
+  where
+    at : (a b : Bool) → (b ≡ true → a ≡ true) → AllByRecursion P (cond a (x ∷ filter p xs) (filter p xs))
+        → (AllByRecursion P (filter p xs) → AllByRecursion P (filter q xs)) → AllByRecursion P (cond b (x ∷ filter q xs) (filter q xs))
+    at true true s h rest = (h.0, rest h.1)
+    at true false s h rest = rest h.1
+    at false true s h rest = absurd (let e = s refl in cc)
+    at false false s h rest = rest h
+
+-- a reply to `bound` that is allowed is one of its answers
+is_bound : (market : Market) (now : Standing) (low high : ℕ) → IsAllowedFor market now (OfCommand Bound) (Risked low high)
+    → IsBound (network_of market now.history) now.history market.points_per_bit (Risked low high)
+is_bound market now low high h = at (first_refusal market now.history Bound) h
+  where
+    at : (o : Option Refusal) → MatchOption o (IsBound (network_of market now.history) now.history market.points_per_bit (Risked low high)) (λ why. Risked low high ≡ Refused why)
+        → IsBound (network_of market now.history) now.history market.points_per_bit (Risked low high)
+    at None h = h
+    at (Some why) e = absurd (cc)
+
+pub bound_is_kept : (market : Market) (middle new : Standing) (first second : List Line) (replies more : List Reply) (low high at : ℕ) (payments : List Payment)
+    → IsMarket market → Run market opening first replies middle → IsAllowedFor market middle (OfCommand Bound) (Risked low high)
+    → Run market middle second more new → IsAllowedFor market new (OfCommand Settle) (Settled at payments)
+    → CostsNoMoreThan market new.history payments high
+bound_is_kept market middle new first second replies more low high at payments is_market before asked behind settled =
+    let stands = run_keeps market middle new second more (run_keeps market opening middle first replies (opening_stands market is_market) before) behind in
+    let costs = settlement_keeps market new (OfCommand Settle) at payments stands settled in
+    let bound = is_bound market middle low high asked in
+    let least = value_of (λ (n : ℕ). CoversBound (initial_total market.network) n market.points_per_bit bound.low bound.high) (least_weight market.network middle.history) bound.covers in
+    let later = All-from_recursion (Holds bound.high) (possible_states market.network new.history always)
+    (each_fewer (Holds bound.high) (λ s. is_possible middle.history s && always s) (λ s. is_possible new.history s && always s) (all_states market.network)
+    (λ s e. and_from (is_possible middle.history s) true (run_narrows market middle new second more behind s (and_parts (is_possible new.history s) true e).0) refl)
+    (recursion_from_All (Holds bound.high) (possible_states market.network middle.history always)
+    (bound_holds market.network middle.history new.history market.points_per_bit least.0 bound.low bound.high (paid_by payments) least.1 least.2))) in
+    record {
+      bound = subst (λ (most : ℕ). sum (paid_by payments) + market.points_per_bit * sum_by (withdrawn new.history) (numbers_below (length (users new.history)))
+          ≤ market.points_per_bit * sum_by (deposited new.history) (numbers_below (length (users new.history))) + most) (let e = bound.printed in cc)
+          (All-head (Holds bound.high) costs.state [] (subst (All (Holds bound.high)) costs.one_state later) costs.bounded);
+    }
+  where
+    Holds : ℕ → List ℕ → Type 0
+    Holds most s = LossIsBounded market.network new.history market.points_per_bit s (paid_by payments)
+        → sum (paid_by payments) + market.points_per_bit * sum_by (withdrawn new.history) (numbers_below (length (users new.history)))
+        ≤ market.points_per_bit * sum_by (deposited new.history) (numbers_below (length (users new.history))) + most
