@@ -1,0 +1,224 @@
+"""What the program answers: a class for each kind of reply. `str` of a reply is the line that it was read from.
+
+Prices are exact decimals of ten digits, shares are parts per million, points and bits whole numbers, and ratios whole numbers in
+units of 2^-40. `at` is the revision after the reply.
+"""
+from __future__ import annotations
+
+import re
+from collections.abc import Callable
+from dataclasses import dataclass
+from decimal import Decimal
+
+from . import refusals
+from .amounts import (BOX, COUNT, INTERVAL, PRICE, PRICE_UNITS, Interval, box_text, interval_text, read_box, read_count, read_interval,
+                      read_price, read_ratio)
+from .questions import NAME, Pair
+from .refusals import Refusal
+
+
+class Reply:
+    """Any of the replies below that is no refusal."""
+
+    __slots__ = ()
+
+
+@dataclass(frozen=True, slots=True)
+class Joined(Reply):
+    """`user`: the user joined, and owns nothing."""
+
+    user: str
+    at: int
+
+    def __str__(self) -> str:
+        return f"user {self.user} at {self.at}"
+
+
+@dataclass(frozen=True, slots=True)
+class Deposited(Reply):
+    """`deposit`: so many bits were paid in."""
+
+    user: str
+    bits: int
+    at: int
+
+    def __str__(self) -> str:
+        return f"deposit {self.user} {self.bits} at {self.at}"
+
+
+@dataclass(frozen=True, slots=True)
+class Withdrawn(Reply):
+    """`withdraw`: so many bits were taken out."""
+
+    user: str
+    bits: int
+    at: int
+
+    def __str__(self) -> str:
+        return f"withdraw {self.user} {self.bits} at {self.at}"
+
+
+@dataclass(frozen=True, slots=True)
+class Price(Reply):
+    """`price`: the exact price lies between both ends, which are at most two units of 10^-10 apart."""
+
+    low: Decimal
+    high: Decimal
+
+    @property
+    def units(self) -> tuple[int, int]:
+        """Both ends as whole numbers of 10^-10."""
+        return int(self.low * PRICE_UNITS), int(self.high * PRICE_UNITS)
+
+    def __str__(self) -> str:
+        return f"price {self.low:.10f}..{self.high:.10f}"
+
+
+@dataclass(frozen=True, slots=True)
+class Limits(Reply):
+    """`limits`: the shares to which the user can take the price now; None where there is no such share."""
+
+    interval: Interval | None
+    at: int
+
+    def __str__(self) -> str:
+        return f"limits {interval_text(self.interval)} at {self.at}"
+
+
+@dataclass(frozen=True, slots=True)
+class Traded(Reply):
+    """`edit`: what weights of states with the target, and with another value, were multiplied by."""
+
+    hit: int
+    miss: int
+    at: int
+
+    def __str__(self) -> str:
+        return f"trade {self.hit} {self.miss} at {self.at}"
+
+
+@dataclass(frozen=True, slots=True)
+class Bounds(Reply):
+    """`bounds`: an interval of shares for each value in the file's order; None where the user can take no whole distribution."""
+
+    intervals: tuple[Interval, ...] | None
+    at: int
+
+    def __str__(self) -> str:
+        return f"bounds {box_text(self.intervals)} at {self.at}"
+
+
+@dataclass(frozen=True, slots=True)
+class Spread(Reply):
+    """`spread`: what weights of states with each value were multiplied by."""
+
+    ratios: tuple[int, ...]
+    at: int
+
+    def __str__(self) -> str:
+        return f"spread {' '.join(map(str, self.ratios))} at {self.at}"
+
+
+@dataclass(frozen=True, slots=True)
+class Worst(Reply):
+    """`worst`: what the user is paid at least, in points; the two are at most one apart."""
+
+    low: int
+    high: int
+
+    def __str__(self) -> str:
+        return f"worst {self.low}..{self.high}"
+
+
+@dataclass(frozen=True, slots=True)
+class Resolved(Reply):
+    """`resolve`: the variable has the value."""
+
+    pair: Pair
+    at: int
+
+    def __str__(self) -> str:
+        return f"resolve {self.pair} at {self.at}"
+
+
+@dataclass(frozen=True, slots=True)
+class Payment:
+    """What one user is paid: the low end of an interval that covers the cash of the user's factor, in points."""
+
+    user: str
+    low: int
+    high: int
+
+    @property
+    def paid(self) -> int:
+        return self.low
+
+    def __str__(self) -> str:
+        return f"{self.user} {self.low}..{self.high} paid {self.low}"
+
+
+@dataclass(frozen=True, slots=True)
+class Settlement(Reply):
+    """`settle`: a payment for each user, in the order of joining."""
+
+    at: int
+    payments: tuple[Payment, ...]
+
+    def __str__(self) -> str:
+        return ", ".join([f"settle at {self.at}", *map(str, self.payments)])
+
+
+@dataclass(frozen=True, slots=True)
+class Bound(Reply):
+    """`bound`: the most points that the operator can lose in the outcomes that are left; the two are at most one apart."""
+
+    low: int
+    high: int
+
+    def __str__(self) -> str:
+        return f"bound {self.low}..{self.high}"
+
+
+_PAYMENT = re.compile(rf"({NAME}) {COUNT}\.\.{COUNT} paid {COUNT}")
+MOST_PAYMENTS = 256
+
+
+def _settlement(at: str, rest: str) -> Settlement:
+    payments = []
+    for part in rest.split(", ")[1:]:
+        found = _PAYMENT.fullmatch(part)
+        if found is None or found[4] != found[2]:
+            raise ValueError(f"no payment: {part!r}")
+        payments.append(Payment(found[1], read_count(found[2]), read_count(found[3])))
+    if len(payments) > MOST_PAYMENTS:
+        raise ValueError(f"{len(payments)} payments")
+    return Settlement(read_count(at), tuple(payments))
+
+
+_TEXTS: list[tuple[str, Callable[..., Reply]]] = [
+    (rf"price {PRICE}\.\.{PRICE}", lambda a, b: Price(read_price(a), read_price(b))),
+    (f"trade {COUNT} {COUNT} at {COUNT}", lambda hit, miss, at: Traded(read_ratio(hit), read_ratio(miss), read_count(at))),
+    (f"limits {INTERVAL} at {COUNT}", lambda text, at: Limits(read_interval(text), read_count(at))),
+    (rf"worst {COUNT}\.\.{COUNT}", lambda a, b: Worst(read_count(a), read_count(b))),
+    (f"bounds {BOX} at {COUNT}", lambda text, at: Bounds(read_box(text), read_count(at))),
+    (f"spread ({COUNT}(?: {COUNT}){{1,15}}) at {COUNT}",
+     lambda text, *rest: Spread(tuple(map(read_ratio, text.split(" "))), read_count(rest[-1]))),
+    (f"user ({NAME}) at {COUNT}", lambda user, at: Joined(user, read_count(at))),
+    (f"deposit ({NAME}) {COUNT} at {COUNT}", lambda user, bits, at: Deposited(user, read_count(bits), read_count(at))),
+    (f"withdraw ({NAME}) {COUNT} at {COUNT}", lambda user, bits, at: Withdrawn(user, read_count(bits), read_count(at))),
+    (f"resolve ({NAME}={NAME}) at {COUNT}", lambda text, at: Resolved(Pair.read(text), read_count(at))),
+    (f"settle at {COUNT}((?:, [^,]*)*)", _settlement),
+    (rf"bound {COUNT}\.\.{COUNT}", lambda a, b: Bound(read_count(a), read_count(b))),
+]
+_BY_WORD: dict[str, list[tuple[re.Pattern[str], Callable[..., Reply | Refusal]]]] = {"refused": list(refusals.TEXTS)}
+for _text, _make in _TEXTS:
+    _BY_WORD[_text.split(" ", 1)[0]] = [(re.compile(_text), _make)]
+
+
+def read_reply(line: str) -> Reply | Refusal:
+    """The reply or refusal that has this text; ValueError where there is none."""
+    for pattern, make in _BY_WORD.get(line.split(" ", 1)[0], ()):
+        found = pattern.fullmatch(line)
+        if found is not None:
+            return make(*found.groups())
+    raise ValueError(f"no reply: {line!r}")

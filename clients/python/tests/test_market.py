@@ -1,0 +1,148 @@
+"""The client over the program: each command, refusals, batches, ends."""
+import os
+import signal
+import threading
+from decimal import Decimal
+
+import pytest
+
+import daggre
+from daggre import Interval, Market, Question, commands, exchange, refusals, replies
+
+pytestmark = pytest.mark.usefixtures("built")
+
+
+@pytest.fixture
+def ferry(example, built):
+    with Market(example("ferry"), timeout=20) as market:
+        yield market
+
+
+@pytest.fixture
+def coin(example, built):
+    with Market(example("coin"), timeout=20) as market:
+        yield market
+
+
+def test_every_command_has_a_method(ferry):
+    assert ferry.ready == daggre.Ready(3, 100)
+    assert ferry.user("alice") == replies.Joined("alice", 1)
+    assert ferry.deposit("alice", 2) == replies.Deposited("alice", 2, 2)
+    assert ferry.price("storm=yes").low == Decimal("0.25")
+    assert ferry.price(Question.read("ferry=sails | storm=yes")) == replies.Price(Decimal("0.2"), Decimal("0.2"))
+    assert ferry.limits("alice", "storm=yes") == replies.Limits(Interval(62500, 812500), 2)
+    assert ferry.edit("alice", "storm=yes", 500000, at=2) == replies.Traded(2199023255552, 733007751850, 3)
+    assert ferry.worst("alice") == replies.Worst(141, 141)
+    bounds = ferry.bounds("alice", "concert")
+    assert bounds.at == 3 and len(bounds.intervals) == 2
+    assert ferry.spread("alice", "concert", [600000, 400000], at=3).at == 4
+    assert ferry.withdraw("alice", 1).at == 5
+    assert [ferry.resolve(pair).at for pair in ("storm=yes", "ferry=stays", "concert=moved")] == [6, 7, 8]
+    settled = ferry.settle()
+    assert settled.at == 9 and settled.payments[0].user == "alice" and settled.payments[0].paid == settled.payments[0].low
+    assert ferry.close() == 0 and ferry.close() == 0
+
+
+def test_the_bound_where_the_program_knows_it(coin):
+    if coin.line("bound") == "refused syntax":
+        pytest.skip("this program has no command bound")
+    assert coin.bound() == replies.Bound(100, 100)
+
+
+@pytest.mark.parametrize("ask, cause", [
+    (lambda m: m.price("coin=edge"), refusals.UnknownName(daggre.Pair("coin", "edge"))),
+    (lambda m: m.price("Coin"), refusals.Syntax()),
+    (lambda m: m.deposit("bob", 1), refusals.UnknownUser("bob")),
+    (lambda m: m.user("alice"), refusals.Exists("alice")),
+    (lambda m: m.deposit("alice", 1001), refusals.OutOfRange(1001)),
+    (lambda m: m.edit("alice", "coin=heads", 600000), refusals.Beyond(Interval(500000, 500000))),
+    (lambda m: m.edit("alice", "coin=heads", 500000, at=7), refusals.Stale(7, 1)),
+    (lambda m: m.spread("alice", "coin", [1, 2]), refusals.Sum(3)),
+    (lambda m: m.settle(), refusals.StillOpen("coin")),
+    (lambda m: m.withdraw("alice", 1), refusals.Short(0)),
+])
+def test_a_refusal_is_raised_with_its_cause(coin, ask, cause):
+    coin.user("alice")
+    with pytest.raises(daggre.Refused) as raised:
+        ask(coin)
+    assert raised.value.cause == cause
+    assert str(cause) in str(raised.value)
+    assert coin.price("coin=heads").low == Decimal("0.5")
+
+
+def test_many_more_commands_than_pipes_hold(coin):
+    batch = [commands.user("alice")] + [commands.price("coin=heads"), commands.price("coin=edge")] * 6000
+    answered = coin.many(batch)
+    assert answered[0] == replies.Joined("alice", 1)
+    assert answered[1::2] == [replies.Price(Decimal("0.5"), Decimal("0.5"))] * 6000
+    assert answered[2::2] == [refusals.UnknownName(daggre.Pair("coin", "edge"))] * 6000
+    assert coin.many([]) == []
+
+
+def test_threads_share_a_market(coin):
+    found = {}
+
+    def ask(name):
+        found[name] = [coin.line(f"user {name}"), *(coin.line(f"worst {name}") for _ in range(50))]
+
+    threads = [threading.Thread(target=ask, args=(f"u{k}",)) for k in range(8)]
+    for thread in threads:
+        thread.start()
+    for thread in threads:
+        thread.join(30)
+    for name, lines in found.items():
+        assert lines[0].startswith(f"user {name} at ") and lines[1:] == ["worst 0..0"] * 50
+    assert len(found) == 8
+
+
+@pytest.mark.parametrize("text", ["", "   ", "\r", "price coin=heads\nsettle", "settle\n"])
+def test_what_has_not_one_reply_is_not_sent(coin, text):
+    with pytest.raises(daggre.NotALine):
+        coin.line(text)
+    assert coin.line("price coin=heads") == "price 0.5000000000..0.5000000000"
+
+
+def test_lines_of_any_bytes_are_sent_as_they_are(coin):
+    assert coin.lines(["price coin=heads\r", "x" * 1025, "caf\u00e9", "\udcff", "\0"]) == ["price 0.5000000000..0.5000000000", "refused long", *["refused syntax"] * 3]
+
+
+def test_markets_side_by_side(example, ferry, coin):
+    text = example("weather").read_text()
+    with Market.of_text(text) as weather:
+        done = exchange({ferry: ["price storm=yes"] * 3000, coin: ["price coin=heads"] * 5000, weather: ["price rain=yes"]}, 20)
+        assert done[ferry].lines() == ["price 0.2500000000..0.2500000000"] * 3000
+        assert done[coin].lines() == ["price 0.5000000000..0.5000000000"] * 5000
+        assert done[weather].lines() == ["price 0.3400000000..0.3400000000"]
+
+
+def test_a_market_that_ended_leaves_the_others(ferry, coin):
+    coin.close()
+    done = exchange({ferry: ["price storm=yes"], coin: ["price coin=heads"]}, 20)
+    assert done[ferry].lines() == ["price 0.2500000000..0.2500000000"]
+    with pytest.raises(daggre.Ended) as raised:
+        done[coin].lines()
+    assert raised.value.status == 0
+
+
+def test_a_process_that_was_killed_raises_and_is_not_started_again(coin, built):
+    os.kill(coin.pid, signal.SIGTERM)
+    coin._channel.process.wait(20)
+    with pytest.raises(daggre.Ended) as raised:
+        coin.many([commands.price("coin=heads")] * 10)
+    assert raised.value.status == -signal.SIGTERM
+    with pytest.raises(daggre.Ended):
+        coin.price("coin=heads")
+
+
+def test_a_refused_file_says_what_is_wrong(tmp_path, built):
+    path = tmp_path / "bad.toml"
+    path.write_text("points_per_bit = 0\n")
+    with pytest.raises(daggre.FileRefused) as raised:
+        Market(path)
+    assert raised.value.fault == daggre.FileFault("missing", "max_trades", (0,))
+
+
+def test_a_file_that_is_not_there(tmp_path, built):
+    with pytest.raises(daggre.Ended) as raised:
+        Market(tmp_path / "nowhere.toml")
+    assert raised.value.status == 3

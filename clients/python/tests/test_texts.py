@@ -1,0 +1,131 @@
+"""Texts of replies, refusals and faults of files, by the grammar of docs/REFERENCE.md. No program is needed."""
+from decimal import Decimal
+from pathlib import Path
+
+import pytest
+
+from daggre import FileFault, Interval, Pair, Question, read_reply, refusals, replies
+from daggre.questions import Distribution
+
+GREATEST = 2**63 - 1
+REPLIES = {
+    "user alice at 1": replies.Joined("alice", 1),
+    "deposit alice 2 at 2": replies.Deposited("alice", 2, 2),
+    "withdraw alice 1 at 5": replies.Withdrawn("alice", 1, 5),
+    "price 0.7272727272..0.7272727273": replies.Price(Decimal("0.7272727272"), Decimal("0.7272727273")),
+    "price 0.0000000000..1.0000000000": replies.Price(Decimal(0), Decimal(1)),
+    "limits 62500..812500 at 2": replies.Limits(Interval(62500, 812500), 2),
+    "limits none at 4": replies.Limits(None, 4),
+    "trade 1759218604441 879609302220 at 3": replies.Traded(1759218604441, 879609302220, 3),
+    f"trade 1 {GREATEST} at {GREATEST}": replies.Traded(1, GREATEST, GREATEST),
+    "bounds 166667..999999 0..0 166668..999999 at 3": replies.Bounds((Interval(166667, 999999), Interval(0, 0), Interval(166668, 999999)), 3),
+    "bounds none at 3": replies.Bounds(None, 3),
+    "spread 1099511627775 824634957783 at 4": replies.Spread((1099511627775, 824634957783), 4),
+    "worst 167..168": replies.Worst(167, 168),
+    "resolve storm=no at 6": replies.Resolved(Pair("storm", "no"), 6),
+    "settle at 9": replies.Settlement(9, ()),
+    "settle at 9, alice 67..67 paid 67, bob 0..1 paid 0": replies.Settlement(9, (replies.Payment("alice", 67, 67), replies.Payment("bob", 0, 1))),
+    "bound 300..301": replies.Bound(300, 301),
+    "refused syntax": refusals.Syntax(),
+    "refused long": refusals.Long(),
+    "refused settled": refusals.Settled(),
+    "refused user alice": refusals.UnknownUser("alice"),
+    "refused exists alice": refusals.Exists("alice"),
+    "refused users 256": refusals.TooManyUsers(256),
+    "refused variable snow": refusals.UnknownVariable("snow"),
+    "refused name storm=maybe": refusals.UnknownName(Pair("storm", "maybe")),
+    "refused twice storm": refusals.Twice("storm"),
+    "refused stale 5 1": refusals.Stale(5, 1),
+    "refused resolved storm": refusals.AlreadyResolved("storm"),
+    "refused impossible storm=no": refusals.Impossible(Pair("storm", "no")),
+    "refused wide": refusals.Wide(),
+    "refused numbers 3": refusals.Numbers(3),
+    "refused range 1001": refusals.OutOfRange(1001),
+    "refused sum 1100000": refusals.Sum(1100000),
+    "refused full 1": refusals.Full(1),
+    "refused sure storm=yes": refusals.Sure(Pair("storm", "yes")),
+    "refused beyond 250000..250000": refusals.Beyond(Interval(250000, 250000)),
+    "refused beyond none": refusals.Beyond(None),
+    "refused outside 250000..999999 0..0": refusals.Outside((Interval(250000, 999999), Interval(0, 0))),
+    "refused outside none": refusals.Outside(None),
+    "refused short 1": refusals.Short(1),
+    "refused open ferry": refusals.StillOpen("ferry"),
+    "refused memory": refusals.Memory(),
+}
+NO_REPLIES = [
+    "", "ready 3 100", "user Alice at 1", "user alice at 01", "user alice", "user  alice at 1", "user alice at 1 ", f"user alice at {GREATEST + 1}",
+    f"user {'a' * 33} at 1", "price 0.5..0.5", "price 0.50000000000..0.5000000000", "price 2.0000000000..2.0000000000", "price 1.0000000001..1.0000000001",
+    "limits 0..5 at 1", "limits 5..4 at 1", "limits 1..1000000 at 1", "limits 0..0 at 1", "trade 0 1 at 1", f"trade {GREATEST + 1} 1 at 1",
+    "bounds 1..2 at 1", "bounds 0..1 1..5 at 2", "bounds 0..0 0..5 at 2", f"bounds {' '.join(['1..2'] * 17)} at 1", "spread 1 at 1", "spread 0 1 at 1",
+    "worst 1", "worst -1..0", "resolve storm at 6", "settle", "settle at 9, alice 67..67 paid 66", "settle at 9,alice 67..67 paid 67",
+    "bound 5", "bound 5..6 at 1", "bound none", "refused", "refused sure w", "refused users 65537", "refused beyond", "refused Syntax", "refused syntax ",
+    "refused market toml", "price 0.5000000000..0.5000000000\n", "price ٠.5000000000..0.5000000000", "settle at 9" + "".join(f", u{k} 0..0 paid 0" for k in range(257)),
+]
+
+
+@pytest.mark.parametrize("line", REPLIES)
+def test_each_reply_is_read_and_is_its_line_again(line):
+    assert read_reply(line) == REPLIES[line]
+    assert str(REPLIES[line]) == line
+
+
+def test_every_cause_and_kind_of_reply_has_a_text_here():
+    shown = {type(reply).__name__ for reply in REPLIES.values()}
+    assert shown == {kind.__name__ for base in (refusals.Refusal, replies.Reply) for kind in base.__subclasses__()}
+
+
+@pytest.mark.parametrize("line", NO_REPLIES)
+def test_no_reply_is_made_of_other_texts(line):
+    with pytest.raises(ValueError):
+        read_reply(line)
+
+
+def test_every_line_that_the_examples_expect_is_read():
+    count = 0
+    for path in sorted((Path(__file__).resolve().parents[3] / "examples").glob("*.expected")):
+        for line in path.read_text().splitlines()[1:]:
+            assert str(read_reply(line)) == line
+            count += 1
+    assert count > 100
+
+
+def test_prices_are_exact_decimals():
+    price = read_reply("price 0.7272727272..0.7272727273")
+    assert price.high - price.low == Decimal("0.0000000001")
+    assert price.units == (7272727272, 7272727273)
+
+
+def test_intervals_hold_their_ends():
+    interval = Interval(62500, 812500)
+    assert 62500 in interval and 812500 in interval and 62499 not in interval and 812501 not in interval
+    assert interval.can_come and not Interval(0, 0).can_come
+
+
+@pytest.mark.parametrize("text", ["storm=yes", "ferry=sails | storm=yes", "a=b | " + ", ".join(f"c{k}=d" for k in range(8))])
+def test_questions_are_read_and_are_their_texts_again(text):
+    assert str(Question.read(text)) == text
+
+
+@pytest.mark.parametrize("text", ["", "storm", "storm=", "Storm=yes", "storm=yes |", "storm=yes|ferry=stays", "storm=yes | ", "a=b | c=d,e=f",
+                                  "a=b | " + ", ".join(f"c{k}=d" for k in range(9))])
+def test_other_texts_are_no_questions(text):
+    with pytest.raises(ValueError):
+        Question.read(text)
+
+
+def test_questions_about_every_value():
+    assert Distribution.read("ferry | storm=yes") == Distribution("ferry", (Pair("storm", "yes"),))
+    assert str(Distribution.read("ferry")) == "ferry"
+    with pytest.raises(ValueError):
+        Distribution.read("ferry=sails")
+
+
+@pytest.mark.parametrize("line, fault", [
+    ("refused market long", FileFault("long", None, ())),
+    ("refused market missing links 0", FileFault("missing", "links", (0,))),
+    ("refused market count points_per_bit 0 -1", FileFault("count", "points_per_bit", (0, -1))),
+    ("refused market sum 1 1 999999", FileFault("sum", None, (1, 1, 999999))),
+])
+def test_faults_of_files(line, fault):
+    assert FileFault.read(line) == fault
+    assert str(fault) == line
