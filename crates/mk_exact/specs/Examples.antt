@@ -8,7 +8,7 @@ use Rattle.mk_exact.specs.InitialWeight.{all_states, initial_total}
 use Rattle.mk_exact.specs.Events.{has, with_target, always}
 use Rattle.mk_exact.specs.History.{Entry, Join, Deposit, Resolve}
 use Rattle.mk_exact.specs.Weight.{weight, total, possible_states, cannot_come, IsSmall}
-use Rattle.mk_exact.specs.Factors.{Fraction, factor, factor_with, least_gain}
+use Rattle.mk_exact.specs.Factors.{Fraction, HoldsNoTrade, factor, factor_with, least_gain}
 use Rattle.mk_exact.specs.Prices.{exact_price}
 use Rattle.mk_exact.specs.Cash.{IsCash}
 use Rattle.mk_exact.specs.Risk.{least_weight, CoversBound}
@@ -125,7 +125,7 @@ pub record WasSafe : Type 0 where
 pub record IsWorth : Type 0 where
   pub heads_cash : IsCash (factor heads_taken 0 (0 ∷ [])) 100 126
   pub tails_cash : IsCash (factor heads_taken 0 (1 ∷ [])) 100 67
-  pub no_bit : IsMost (IsSmall coin heads_taken) (factor_with heads_taken 0 879609302220) 0
+  pub no_bit : IsMost (IsSmall coin heads_taken) (HoldsNoTrade heads_taken 0) (factor_with heads_taken 0 879609302220) 0
 
 -- both sides of heads before it: an even price, and a factor of two
 abbrev pub even : Side

@@ -1,5 +1,5 @@
 -- A user's factor in a state: 2 to the net bits, times the gain, over one unit for each trade.
-use Rattle.std.specs.Prelude.{ℕ, ◌*◌, ◌^◌, ◌≤◌, min, List, Bool, Option, Some, None, length}
+use Rattle.std.specs.Prelude.{◌≡◌, ℕ, ◌*◌, ◌^◌, ◌≤◌, min, List, Bool, Option, Some, None, length}
 use Rattle.mk_net.specs.Network.{Variable}
 use Rattle.mk_exact.specs.States.{product_by, plus_over}
 use Rattle.mk_exact.specs.Ratios.{unit, ratio_at}
@@ -17,6 +17,9 @@ gain H u s = product_by (λ (t : UserTrade). ratio_at t.ratio s) (trades_of H u)
 
 abbrev pub trade_count : List Entry → ℕ → ℕ
 trade_count H u = length (trades_of H u)
+
+abbrev pub HoldsNoTrade : List Entry → ℕ → Type 0
+HoldsNoTrade H u = trade_count H u ≡ 0
 
 -- the factor of a gain: bits withdrawn, and one unit for each trade, stand below the line
 abbrev pub factor_with : List Entry → ℕ → ℕ → Fraction

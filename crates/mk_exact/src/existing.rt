@@ -1,9 +1,14 @@
 //! What exists: an answer to each line that a market can be asked.
-ghost use Rattle.mk_exact.specs.Existing.{PriceIsCovered, CashExists, CashIsCovered, CashIsBounded, MostExists, CoveredIsLess, WithdrawalIsJudged, LimitsExist, InsideIsDecided, LimitsJudge, StateExists, PriceExists, LeastExists, SidesExist, RightLimitsExist, OutcomeExists, BoundsKept, FairPairFits, CashFits, LeastCashFits, BoundExists, BoundFits};
+ghost use Rattle.mk_exact.specs.Existing.{PriceIsCovered, PriceIsNarrow, CashExists, CashIsCovered, CashIsNarrow, CashIsBounded, MostExists, CoveredIsLess, WithdrawalIsJudged, LimitsExist, InsideIsDecided, LimitsJudge, StateExists, PriceExists, LeastExists, SidesExist, RightLimitsExist, OutcomeExists, BoundsKept, FairPairFits, CashFits, LeastCashFits, BoundExists, BoundFits};
 
 /// A price of at most one has an interval: its floor and its ceiling.
 pub fn price_is_covered()
     ensures { PriceIsCovered }
+{}
+
+/// Each interval that covers a price is at most two units wide.
+pub fn price_is_narrow()
+    ensures { PriceIsNarrow }
 {}
 
 /// A factor of at least one has its cash.
@@ -14,6 +19,11 @@ pub fn cash_exists()
 /// Its cash has an interval.
 pub fn cash_is_covered()
     ensures { CashIsCovered }
+{}
+
+/// At up to a million points per bit each such interval is at most one point wide.
+pub fn cash_is_narrow()
+    ensures { CashIsNarrow }
 {}
 
 /// The cash of a factor of at most `2^m` is at most `m` times the points per bit.

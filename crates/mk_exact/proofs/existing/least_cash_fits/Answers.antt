@@ -1,5 +1,7 @@
+use Rattle.mk_exact.specs.Weight.{IsSmall}
+use Rattle.mk_exact.specs.Factors.{HoldsNoTrade}
 use Rattle.mk_exact.proofs.existing.least_cash_fits.Goals as goal
 use Rattle.mk_exact.proofs.ExistBounds.{least_cash_fits}
 
 pub returns : goal.returns
-returns c = least_cash_fits
+returns c = λ network H u. least_cash_fits (IsSmall network H) (HoldsNoTrade H u) network H u
