@@ -152,15 +152,19 @@ pub cash_is_covered : (q : Fraction) (b : ℕ) → IsSafeFactor q → (low : ℕ
 cash_is_covered q b safe = covers (cash_exists q b safe)
   where
     covers : (cash : ℕ) × IsCash q b cash → (low : ℕ) × (high : ℕ) × CoversCash ⊤ ⊤ q b low high
-    covers c = (c.0, c.0, record {
-      cash = c.0;
-      is_cash = c.1;
-      above = le_refl (c.0);
-      below = le_refl (c.0);
-      near = near_itself (2 ^ 42) q b (c.0) (omega arith) (c.1);
-      nearer = λ _. near_itself (2 ^ 59) q b (c.0) (omega arith) (c.1);
-      exact = λ _. (refl, refl);
-    })
+    covers c = (
+      c.0,
+      c.0,
+      record {
+        cash = c.0;
+        is_cash = c.1;
+        above = le_refl (c.0);
+        below = le_refl (c.0);
+        near = near_itself (2 ^ 42) q b (c.0) (omega arith) (c.1);
+        nearer = λ _. near_itself (2 ^ 59) q b (c.0) (omega arith) (c.1);
+        exact = λ _. (refl, refl);
+      },
+    )
 
 -- what serves the small case, and a user without trades, serves any
 pub cash_in : (small idle : Type 0) (q : Fraction) (b low high : ℕ) → CoversCash ⊤ ⊤ q b low high → CoversCash small idle q b low high

@@ -1,5 +1,5 @@
 //! The numbers of five small markets.
-ghost use Rattle.mk_exact.specs.Examples.{AreNetworks, HaveWeights, HavePrices, HasTraded, WasSafe, IsWorth, HasLimits, HasConditioned, HasTwoTraders, HasZeros};
+ghost use Rattle.mk_exact.specs.Examples.{AreNetworks, HaveWeights, HavePrices, HasTraded, WasSafe, IsWorth, HasLimits, HasConditioned, HasTwoTraders, AreSharp, HasZeros};
 
 /// The four are networks, and the weights of their states together a power of a million.
 pub fn example_networks()
@@ -44,6 +44,11 @@ pub fn example_condition()
 /// The numbers after trades of two users on a chain of three variables.
 pub fn example_traders()
     ensures { HasTwoTraders }
+{}
+
+/// Intervals after these trades that cover a price and cash, and wider ones that do not.
+pub fn example_sharp()
+    ensures { AreSharp }
 {}
 
 /// What never and what surely comes in a cup with shares of nothing, and the most that its operator can lose.
