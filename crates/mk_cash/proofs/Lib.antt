@@ -1,3 +1,4 @@
+pub mod Nearness
 pub mod Covering
 pub mod Ranges
 pub mod Quotients

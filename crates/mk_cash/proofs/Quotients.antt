@@ -8,7 +8,8 @@ use Rattle.std.proofs.lemmas.Nat.{pow-add, mul-pow, pow_pos}
 use Rattle.mk_scaled.specs.Near.{IsNear, near-mul, near_trans, near_same, near_self, near_step, near_between}
 use Rattle.mk_scaled.specs.Range.{two_to, IsInRange, two_to-small, two_to-suc, two_to-lt, exponent_below, power_in_range, pow-lt_reflects, pow_le}
 use Rattle.mk_cash.specs.inner.Quotient.{IsLessNear}
-use Rattle.mk_cash.proofs.Covering.{near_power, power_of_power}
+use Rattle.mk_cash.proofs.Nearness.{near_power}
+use Rattle.mk_cash.proofs.Covering.{power_of_power}
 
 -- ---- what a comparison says
 

@@ -3,22 +3,25 @@ ghost use Rattle.std.specs.Prelude.{◌≡◌, ◌+◌, ◌*◌, ◌^◌, ◌<�
 ghost use Rattle.mk_net.specs.Bounds.{max_points_per_bit, number_limit};
 ghost use Rattle.mk_exact.specs.Factors.{Fraction, IsAtLeastOne};
 ghost use Rattle.mk_exact.specs.Cash.{CoversCash};
+ghost use Rattle.mk_scaled.specs.Near.{IsNear};
 ghost use Rattle.mk_scaled.specs.Range.{IsInRange};
-ghost use Rattle.mk_enclose.specs.Enclosure.{lower_of, upper_of, IsGradedWithin};
+ghost use Rattle.mk_enclose.specs.Enclosure.{lower_of, upper_of, Encloses, IsExact, IsGradedWithin};
 ghost use Rattle.mk_enclose.specs.Factor.{paid_in, taken_out, StandsFor};
 ghost use Rattle.mk_cash.specs.Factors.{HasPowersInRange};
+ghost use Rattle.mk_cash.specs.inner.Quotient.{IsLessNear};
 
 use mk_enclose::{Enclosure, Factor};
 
-/// Bounds on the points that a factor of at least one is worth, at most one apart: `points_per_bit` times the
-/// logarithm of the factor to base 2, rounded down.
+/// Bounds on the points that a factor of at least one is worth: `points_per_bit` times the logarithm of the factor to
+/// base 2, rounded down. They are nearer where the gain is exact, and both the points where it is one.
 ///
 /// Nothing is said of a factor below one but that both numbers are small.
 pub fn cash(factor: &Factor, points_per_bit: u32) -> (u64, u64)
     requires some_points { 1 ≤ points_per_bit }
     requires few_points { points_per_bit ≤ max_points_per_bit }
     requires range { HasPowersInRange factor.now points_per_bit }
-    ensures covers { (q : Fraction) → StandsFor factor.now q.num q.den → IsGradedWithin factor.now.gain (2 ^ 17) → IsAtLeastOne q → CoversCash q points_per_bit result.0 result.1 }
+    ensures covers { (q : Fraction) → StandsFor factor.now q.num q.den → IsGradedWithin factor.now.gain (2 ^ 17) → IsAtLeastOne q
+        → CoversCash (IsExact factor.now.gain) (Encloses factor.now.gain 1) q points_per_bit result.0 result.1 }
     ensures low_fits { result.0 < number_limit }
     ensures high_fits { result.1 < number_limit }
 {
@@ -38,7 +41,8 @@ fn power_bits(gain: &Enclosure, power: u32) -> (u64, u64)
     requires range { IsInRange (upper_of gain.now ^ power) }
     ensures below { 2 ^ result.0 ≤ lower_of gain.now ^ power }
     ensures above { upper_of gain.now ^ power < 2 ^ (result.1 + 1) }
-    ensures narrow { IsGradedWithin gain.now (2 ^ 17) → result.1 ≤ result.0 + 1 }
+    ensures low_near { IsLessNear (2 ^ (result.0 + 1)) (lower_of gain.now ^ power) (2 * power) }
+    ensures high_near { IsNear (upper_of gain.now ^ power) (2 ^ result.1) (2 * power) }
     ensures low_small { result.0 < 2 ^ 52 }
     ensures high_small { result.1 < 2 ^ 52 }
 {

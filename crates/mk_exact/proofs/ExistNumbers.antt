@@ -114,7 +114,7 @@ below_power zero = omega (arith, pow-zero 2)
 below_power (suc n) = omega (arith, pow-suc 2 n, below_power n)
 
 -- the greatest power of two whose product with d is at most n
-greatest_power : (n d : ℕ) → 1 ≤ d → d ≤ n → (k : ℕ) × (2 ^ k * d ≤ n) × (n < 2 ^ (k + 1) * d)
+pub greatest_power : (n d : ℕ) → 1 ≤ d → d ≤ n → (k : ℕ) × (2 ^ k * d ≤ n) × (n < 2 ^ (k + 1) * d)
 greatest_power n d p q = last_within (λ k. 2 ^ k * d) n n (omega arith) (lt_of_lt_of_le (below_power n) (le-mul_of_pos_right (2 ^ n) p))
 
 -- a power that stays within n is less than one that does not
