@@ -12,7 +12,7 @@ use Rattle.mk_exact.specs.Risk.{CoversBound}
 use Rattle.mk_exact.specs.Events.{holds, always, with_target, without_target}
 use Rattle.mk_exact.specs.History.{Entry, users, resolutions, revision}
 use Rattle.mk_exact.specs.Weight.{IsSmall, possible_states}
-use Rattle.mk_exact.specs.Factors.{Fraction, factor, factor_with, least_gain}
+use Rattle.mk_exact.specs.Factors.{Fraction, HoldsNoTrade, factor, factor_with, least_gain}
 use Rattle.mk_exact.specs.Limits.{Inside}
 use Rattle.mk_exact.specs.Sides.{AreRightLimits}
 use Rattle.mk_exact.specs.Accepted.{Covers, IsMost}
@@ -20,7 +20,7 @@ use Rattle.mk_exact.specs.Market.{Market, network_of}
 use Rattle.mk_exact.specs.Proper.{IsProper}
 use Rattle.mk_exact.proofs.Coming.{state_of}
 use Rattle.mk_exact.specs.Existing.{IsSafeFactor, CanBeAsked, CanMove, HasFairPair}
-use Rattle.mk_exact.proofs.ExistNumbers.{cash_is_covered, withdrawal_is_judged, most_in}
+use Rattle.mk_exact.proofs.ExistNumbers.{cash_is_covered, cash_in, withdrawal_is_judged, most_in}
 use Rattle.mk_exact.proofs.ExistLimits.{limits_judge}
 use Rattle.mk_exact.proofs.ExistMarkets.{price_exists, least_gain_exists, right_limits_exist}
 use Rattle.mk_exact.proofs.ExistOutcome.{outcome_exists}
@@ -84,12 +84,12 @@ module _ (market : Market) (now : Standing) (is_market : IsMarket market) (ready
   of_named : {X : Type 0} (o : Option X) (P : X → Reply → Type 0) (x : X) → o ≡ Some x → (reply : Reply) × P x reply → (reply : Reply) × IsSomeAnd o (λ x. P x reply)
   of_named o P x named (reply, h) = (reply, subst (λ (o : Option _). IsSomeAnd o (λ x. P x reply)) (sym named) h)
 
-  withdrawal : (u : List ℕ) (bits : ℕ) (q : Fraction) → IsSafeFactor q → (reply : Reply) × IsWithdrawal (IsSmall network H) q u bits (revision H + 1) reply
-  withdrawal u bits q safe = at (withdrawal_is_judged q bits safe)
+  withdrawal : (idle : Type 0) (u : List ℕ) (bits : ℕ) (q : Fraction) → IsSafeFactor q → (reply : Reply) × IsWithdrawal (IsSmall network H) idle q u bits (revision H + 1) reply
+  withdrawal idle u bits q safe = at (withdrawal_is_judged q bits safe)
     where
-      at : (Covers q bits ⊎ ((most : ℕ) × (most < bits) × IsMost ⊤ q most)) → (reply : Reply) × IsWithdrawal (IsSmall network H) q u bits (revision H + 1) reply
+      at : (Covers q bits ⊎ ((most : ℕ) × (most < bits) × IsMost ⊤ ⊤ q most)) → (reply : Reply) × IsWithdrawal (IsSmall network H) idle q u bits (revision H + 1) reply
       at (inl covers) = (Withdrawn u bits (revision H + 1), inl (covers, refl))
-      at (inr short) = (Refused (Short short.0), inr (record { most = short.0; less = short.1; is_most = most_in (IsSmall network H) q short.0 short.2; printed = refl }))
+      at (inr short) = (Refused (Short short.0), inr (record { most = short.0; less = short.1; is_most = most_in (IsSmall network H) idle q short.0 short.2; printed = refl }))
 
   of_least : (u : ℕ) (P : Fraction → Reply → Type 0) → ((q : Fraction) → IsSafeFactor q → (reply : Reply) × P q reply)
       → (reply : Reply) × IsSomeAnd (least_gain network H u always) (λ g. P (factor_with H u g) reply)
@@ -177,12 +177,13 @@ module _ (market : Market) (now : Standing) (is_market : IsMarket market) (ready
 
   -- a payment for each user who is counted from n on
   payments_from : (s : List ℕ) → ((u : ℕ) → IsSafeFactor (factor H u s)) → (n : ℕ) (names : List (List ℕ))
-      → (payments : List Payment) × AllZip (IsPayment H market.points_per_bit s) (enumerate_from n names) payments
+      → (payments : List Payment) × AllZip (IsPayment network H market.points_per_bit s) (enumerate_from n names) payments
   payments_from s safe n [] = ([], tt)
   payments_from s safe n (name ∷ names) =
       let cash = cash_is_covered (factor H n s) market.points_per_bit (safe n) in
       let later = payments_from s safe (n + 1) names in
-      (record { user = name; low = cash.0; high = cash.1; paid = cash.0 } ∷ later.0, (record { name = refl; covers = cash.2; low_end = refl }, later.1))
+      let covers = cash_in (IsSmall network H) (HoldsNoTrade H n) (factor H n s) market.points_per_bit cash.0 cash.1 cash.2 in
+      (record { user = name; low = cash.0; high = cash.1; paid = cash.0 } ∷ later.0, (record { name = refl; covers = covers; low_end = refl }, later.1))
 
   settlement : ((v : ℕ) → v < length network → speaks_of (resolutions H) v ≡ true) → (reply : Reply) × IsSettlement network H market.points_per_bit reply
   settlement each =
@@ -193,7 +194,8 @@ module _ (market : Market) (now : Standing) (is_market : IsMarket market) (ready
   answered : (command : Command) → first_refusal market H command ≡ None → HasAnswer command
   answered (User u) none = (Joined u (revision H + 1), inl refl)
   answered (Deposit u bits) none = (Deposited u bits (revision H + 1), refl)
-  answered (Withdraw u bits) none = of_least (user_number H u) (λ q reply. IsWithdrawal (IsSmall network H) q u bits (revision H + 1) reply) (withdrawal u bits)
+  answered (Withdraw u bits) none = of_least (user_number H u) (λ q reply. IsWithdrawal (IsSmall network H) (HoldsNoTrade H (user_number H u)) q u bits (revision H + 1) reply)
+      (withdrawal (HoldsNoTrade H (user_number H u)) u bits)
   answered (Price q) none =
       let refused = none_applies (refusals market H (Price q)) none in
       let asked = question_exists network q refused.1.0 in
@@ -227,9 +229,10 @@ module _ (market : Market) (now : Standing) (is_market : IsMarket market) (ready
       (spread_answer (user_number H u) spread.0 to.items
       (can_be_spread network H v condition.items spread.0 ready.stands.proper spread.1 refused.1.1.1.1.0 refused.1.1.1.1.1.1.0 refused.1.1.1.1.1.1.1.1.1.1.1.1.1.0 refused.1.1.1.1.1.1.1.1.1.1.1.1.1.1.0)
       (current_bounds (last_quote now.quotes (user_number H u)) spread.0 (revision H)) refl)
-  answered (Worst u) none = of_least (user_number H u) (λ q reply. IsWorst q market.points_per_bit reply) (λ q safe.
+  answered (Worst u) none = of_least (user_number H u) (λ q reply. IsWorst (IsSmall network H) (HoldsNoTrade H (user_number H u)) q market.points_per_bit reply) (λ q safe.
       let cash = cash_is_covered q market.points_per_bit safe in
-      (Worsted cash.0 cash.1, record { low = cash.0; high = cash.1; printed = refl; covers = cash.2 }))
+      let covers = cash_in (IsSmall network H) (HoldsNoTrade H (user_number H u)) q market.points_per_bit cash.0 cash.1 cash.2 in
+      (Worsted cash.0 cash.1, record { low = cash.0; high = cash.1; printed = refl; covers = covers }))
   answered (Resolve p) none = (Resolved p (revision H + 1), refl)
   answered Settle none = settlement (all_resolved network H (none_applies (refusals market H Settle) none).1.0)
   answered Bound none =

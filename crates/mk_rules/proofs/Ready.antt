@@ -13,7 +13,7 @@ use Rattle.mk_net.specs.Firsts.{fault_if, first_of}
 use Rattle.mk_exact.specs.Events.{always}
 use Rattle.mk_exact.specs.History.{Entry, Join, Deposit as Deposits, Withdraw as Withdraws, Settle as Settles, join_in, users, revision}
 use Rattle.mk_exact.specs.Weight.{IsSmall}
-use Rattle.mk_exact.specs.Factors.{factor_with, least_gain}
+use Rattle.mk_exact.specs.Factors.{HoldsNoTrade, factor_with, least_gain}
 use Rattle.mk_exact.specs.Sides.{AreRightLimits}
 use Rattle.mk_exact.specs.Market.{Market, network_of, cliques_of}
 use Rattle.mk_exact.proofs.After.{users_kept, users_more}
@@ -252,7 +252,7 @@ module _ (market : Market) (now : Standing) (kept : AreKept market now.history n
       → IfSome (option_map (λ (spread : SpreadAsked). SpreadBounds spread intervals) o) (IsRight market now.history n)
   bounds_right n spread intervals o named right = rw named right
 
-  withdrawal_kept : (u : List ℕ) (bits g : ℕ) (reply : Reply) → IsWithdrawal (IsSmall (network_of market now.history) now.history) (factor_with now.history (user_number now.history u) g) u bits (revision now.history + 1) reply
+  withdrawal_kept : (u : List ℕ) (bits g : ℕ) (reply : Reply) → IsWithdrawal (IsSmall (network_of market now.history) now.history) (HoldsNoTrade now.history (user_number now.history u)) (factor_with now.history (user_number now.history u) g) u bits (revision now.history + 1) reply
       → KeptAfter market now (Withdraw u bits) reply
   unfolding KeptAfter
   withdrawal_kept u bits g reply (inl taken) = reply_kept market now (Withdraw u bits) reply _ taken.1 (after_some (Some (Withdraws (user_number now.history u) bits)) refl)

@@ -23,7 +23,7 @@ use Rattle.mk_net.specs.Firsts.{fault_if, first_of}
 use Rattle.mk_exact.specs.Events.{always}
 use Rattle.mk_exact.specs.History.{Entry, users, revision}
 use Rattle.mk_exact.specs.Weight.{IsSmall}
-use Rattle.mk_exact.specs.Factors.{Fraction, factor, factor_with, least_gain}
+use Rattle.mk_exact.specs.Factors.{Fraction, HoldsNoTrade, factor, factor_with, least_gain}
 use Rattle.mk_exact.specs.Limits.{IsWithinRange}
 use Rattle.mk_exact.specs.Prices.{CoversPrice, exact_price}
 use Rattle.mk_exact.specs.Sides.{AreRightLimits}
@@ -208,15 +208,16 @@ low_at_most_one small price low high positive covers = at (cases_lt (10 ^ 10) lo
     at (inr most) = most
 
 -- payments of a bounded history have texts
-payments_have : (H : List Entry) (b : ℕ) (s : List ℕ) → ((u low high : ℕ) (covers : CoversCash (factor H u s) b low high) → high < 2 ^ 63)
-    → (n : ℕ) (names : List (List ℕ)) (payments : List Payment) → AllByRecursion IsName names → AllZip (IsPayment H b s) (enumerate_from n names) payments → AllByRecursion HasText payments
-payments_have H b s fits n [] [] named paid = tt
-payments_have H b s fits n [] (payment ∷ payments) named paid = absurd paid
-payments_have H b s fits n (name ∷ names) [] named paid = absurd paid
-payments_have H b s fits n (name ∷ names) (payment ∷ payments) named paid =
+payments_have : (network : List Variable) (H : List Entry) (b : ℕ) (s : List ℕ)
+    → ((u low high : ℕ) (covers : CoversCash (IsSmall network H) (HoldsNoTrade H u) (factor H u s) b low high) → high < 2 ^ 63)
+    → (n : ℕ) (names : List (List ℕ)) (payments : List Payment) → AllByRecursion IsName names → AllZip (IsPayment network H b s) (enumerate_from n names) payments → AllByRecursion HasText payments
+payments_have network H b s fits n [] [] named paid = tt
+payments_have network H b s fits n [] (payment ∷ payments) named paid = absurd paid
+payments_have network H b s fits n (name ∷ names) [] named paid = absurd paid
+payments_have network H b s fits n (name ∷ names) (payment ∷ payments) named paid =
     let high : payment.high < 2 ^ 63 = fits n payment.low payment.high paid.0.covers in (
       record { user = subst IsName (sym paid.0.name) named.0; low = omega (arith, paid.0.covers.above, paid.0.covers.below); high = high; paid = paid.0.low_end },
-      payments_have H b s fits (n + 1) names payments named.1 paid.1,
+      payments_have network H b s fits (n + 1) names payments named.1 paid.1,
     )
 
 -- a reply that is known
@@ -385,15 +386,15 @@ module _ (market : Market) (now : Standing) (is_market : IsMarket market) (ready
   spread_judged_has u spread Xs reply within (Some intervals) e (inr outside) = outside_has u spread intervals Xs reply within
       (current_bounds_right market H u spread intervals (last_quote now.quotes u) (ready.quotes_right u) e) outside
 
-  withdrawal_has : (u : List ℕ) (bits g : ℕ) (reply : Reply) → IsName u → IsShort bits → IsWithdrawal (IsSmall network H) (factor_with H (user_number H u) g) u bits (revision H + 1) reply → IsReply reply
+  withdrawal_has : (u : List ℕ) (bits g : ℕ) (reply : Reply) → IsName u → IsShort bits → IsWithdrawal (IsSmall network H) (HoldsNoTrade H (user_number H u)) (factor_with H (user_number H u) g) u bits (revision H + 1) reply → IsReply reply
   withdrawal_has u bits g reply named short (inl taken) = reply_has reply _ taken.1 (named, omega (arith, short), next)
   withdrawal_has u bits g reply named short (inr less) = reply_has reply _ less.printed (omega (arith, short, less.less))
 
   settlement_has : (reply : Reply) → IsSettlement network H market.points_per_bit reply → IsReply reply
   settlement_has reply settlement =
-      let each : AllByRecursion HasText settlement.payments = payments_have H market.points_per_bit settlement.state
-      (λ u low high covers. cash_fits H u settlement.state market.points_per_bit low high bounded.within is_market.few_points covers) 0 (users H) settlement.payments bounded.users_named settlement.paid in
-      let many : length settlement.payments ≡ length (users H) = AllZip-long (IsPayment H market.points_per_bit settlement.state) (enumerate_from 0 (users H)) settlement.payments settlement.paid ∙ length-enumerate_from 0 (users H) in
+      let each : AllByRecursion HasText settlement.payments = payments_have network H market.points_per_bit settlement.state
+      (λ u low high covers. cash_fits (IsSmall network H) (HoldsNoTrade H u) H u settlement.state market.points_per_bit low high bounded.within is_market.few_points covers) 0 (users H) settlement.payments bounded.users_named settlement.paid in
+      let many : length settlement.payments ≡ length (users H) = AllZip-long (IsPayment network H market.points_per_bit settlement.state) (enumerate_from 0 (users H)) settlement.payments settlement.paid ∙ length-enumerate_from 0 (users H) in
       reply_has reply _ settlement.printed (next, record { few = omega (arith, bounded.few_users); each = All-from_recursion HasText settlement.payments each })
 
   answer_has : (command : Command) (reply : Reply) → IsCommand command → first_refusal market H command ≡ None → IsAnswer market H now.quotes command reply → IsReply reply
@@ -425,7 +426,7 @@ module _ (market : Market) (now : Standing) (is_market : IsMarket market) (ready
       spread_judged_has (user_number H u) judged.0 to.items reply within (current_bounds (last_quote now.quotes (user_number H u)) judged.0 (revision H)) refl judged.2
   answer_has (Worst u) reply text none h =
       let least = value_of _ (least_gain network H (user_number H u) always) h in
-      let high = least_cash_fits network H (user_number H u) always least.0 market.points_per_bit least.2.low least.2.high bounded.within is_market.few_points least.1 least.2.covers in
+      let high = least_cash_fits (IsSmall network H) (HoldsNoTrade H (user_number H u)) network H (user_number H u) always least.0 market.points_per_bit least.2.low least.2.high bounded.within is_market.few_points least.1 least.2.covers in
       reply_has reply _ least.2.printed (omega (arith, high, least.2.covers.above, least.2.covers.below), high)
   answer_has (Resolve p) reply text none h = reply_has reply _ h (text, next)
   answer_has Settle reply text none h = settlement_has reply h

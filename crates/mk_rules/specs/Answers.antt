@@ -10,7 +10,7 @@ use Rattle.mk_exact.specs.InitialWeight.{initial_total}
 use Rattle.mk_exact.specs.Events.{always}
 use Rattle.mk_exact.specs.History.{Entry, Join, Deposit as Deposits, Withdraw as Withdraws, Trade, Resolve as Resolves, Settle as Settles, users, revision}
 use Rattle.mk_exact.specs.Weight.{IsSmall, possible_states}
-use Rattle.mk_exact.specs.Factors.{Fraction, factor, factor_with, least_gain}
+use Rattle.mk_exact.specs.Factors.{Fraction, HoldsNoTrade, factor, factor_with, least_gain}
 use Rattle.mk_exact.specs.Prices.{CoversPrice, exact_price}
 use Rattle.mk_exact.specs.Cash.{CoversCash}
 use Rattle.mk_exact.specs.Risk.{least_weight, CoversBound}
@@ -87,15 +87,15 @@ abbrev pub IsSpreadJudgedAfresh : List Variable → List Entry → ℕ → Sprea
 IsSpreadJudgedAfresh network H u spread Xs reply = IsSpreadTrade network H u spread Xs reply ⊎ IsOutsideRight network H u spread Xs reply
 
 -- a withdrawal that is too much, with the bits that may be taken out
-pub record IsShort (small : Type 0) (q : Fraction) (bits : ℕ) (reply : Reply) : Type 0 where
+pub record IsShort (small idle : Type 0) (q : Fraction) (bits : ℕ) (reply : Reply) : Type 0 where
   pub most : ℕ
   pub less : most < bits
-  pub is_most : IsMost small q most
+  pub is_most : IsMost small idle q most
   pub printed : reply ≡ Refused (Short most)
 
 -- a withdrawal that the factor covers, or one that is too much
-abbrev pub IsWithdrawal : Type 0 → Fraction → List ℕ → ℕ → ℕ → Reply → Type 0
-IsWithdrawal small q u bits at reply = (Covers q bits × (reply ≡ Withdrawn u bits at)) ⊎ IsShort small q bits reply
+abbrev pub IsWithdrawal : Type 0 → Type 0 → Fraction → List ℕ → ℕ → ℕ → Reply → Type 0
+IsWithdrawal small idle q u bits at reply = (Covers q bits × (reply ≡ Withdrawn u bits at)) ⊎ IsShort small idle q bits reply
 
 -- an interval that covers the exact price
 pub record IsPrice (network : List Variable) (H : List Entry) (asked : Asked) (reply : Reply) : Type 0 where
@@ -117,16 +117,16 @@ pub record IsBounds (network : List Variable) (H : List Entry) (u : ℕ) (spread
   pub right : AreRightBoundsOf network H u spread (given_in box)
 
 -- an interval that covers the cash of a factor
-pub record IsWorst (q : Fraction) (points_per_bit : ℕ) (reply : Reply) : Type 0 where
+pub record IsWorst (small idle : Type 0) (q : Fraction) (points_per_bit : ℕ) (reply : Reply) : Type 0 where
   pub low : ℕ
   pub high : ℕ
   pub printed : reply ≡ Worsted low high
-  pub covers : CoversCash q points_per_bit low high
+  pub covers : CoversCash small idle q points_per_bit low high
 
 -- a user's payment in the one possible state: the low end of an interval that covers the cash
-pub record IsPayment (H : List Entry) (points_per_bit : ℕ) (s : List ℕ) (user : ℕ × List ℕ) (payment : Payment) : Type 0 where
+pub record IsPayment (network : List Variable) (H : List Entry) (points_per_bit : ℕ) (s : List ℕ) (user : ℕ × List ℕ) (payment : Payment) : Type 0 where
   pub name : payment.user ≡ user.1
-  pub covers : CoversCash (factor H (user.0) s) points_per_bit payment.low payment.high
+  pub covers : CoversCash (IsSmall network H) (HoldsNoTrade H (user.0)) (factor H (user.0) s) points_per_bit payment.low payment.high
   pub low_end : payment.paid ≡ payment.low
 
 -- one payment for each user, in the order of joining
@@ -135,7 +135,7 @@ pub record IsSettlement (network : List Variable) (H : List Entry) (points_per_b
   pub one_state : possible_states network H always ≡ state ∷ []
   pub payments : List Payment
   pub printed : reply ≡ Settled (revision H + 1) payments
-  pub paid : AllZip (IsPayment H points_per_bit state) (enumerate_from 0 (users H)) payments
+  pub paid : AllZip (IsPayment network H points_per_bit state) (enumerate_from 0 (users H)) payments
 
 -- an interval that covers the most that the operator can lose
 pub record IsBound (network : List Variable) (H : List Entry) (points_per_bit : ℕ) (reply : Reply) : Type 0 where
@@ -151,7 +151,7 @@ IsAnswer market H quotes (Deposit u bits) reply = reply ≡ Deposited u bits (re
 IsAnswer market H quotes (Withdraw u bits) reply =
     let network = network_of market H in
     let n = user_number H u in
-    IsSomeAnd (least_gain network H n always) (λ g. IsWithdrawal (IsSmall network H) (factor_with H n g) u bits (revision H + 1) reply)
+    IsSomeAnd (least_gain network H n always) (λ g. IsWithdrawal (IsSmall network H) (HoldsNoTrade H n) (factor_with H n g) u bits (revision H + 1) reply)
 IsAnswer market H quotes (Price q) reply =
     let network = network_of market H in
     IsSomeAnd (question_named network q) (λ asked. IsPrice network H asked reply)
@@ -172,8 +172,9 @@ IsAnswer market H quotes (Spread u v condition to seen) reply =
     IsSomeAnd (spread_named network v condition.items) (λ spread. MatchOption (current_bounds (last_quote quotes n) spread (revision H))
     (IsSpreadJudgedAfresh network H n spread to.items reply) (λ intervals. IsSpreadJudged network H n spread to.items intervals reply))
 IsAnswer market H quotes (Worst u) reply =
+    let network = network_of market H in
     let n = user_number H u in
-    IsSomeAnd (least_gain (network_of market H) H n always) (λ g. IsWorst (factor_with H n g) market.points_per_bit reply)
+    IsSomeAnd (least_gain network H n always) (λ g. IsWorst (IsSmall network H) (HoldsNoTrade H n) (factor_with H n g) market.points_per_bit reply)
 IsAnswer market H quotes (Resolve p) reply = reply ≡ Resolved p (revision H + 1)
 IsAnswer market H quotes Settle reply = IsSettlement (network_of market H) H market.points_per_bit reply
 IsAnswer market H quotes Bound reply = IsBound (network_of market H) H market.points_per_bit reply

@@ -200,7 +200,8 @@ pub record AreAnswered : Type 0 where
 -- alice's least worth is that in tails
 pub record IsWorstPaid : Type 0 where
   pub allowed : IsAllowed coin_market heads_taken (None ∷ []) (Worst alice) (Worsted 67 67)
-  pub wider : IsAllowed coin_market heads_taken (None ∷ []) (Worst alice) (Worsted 66 67)
+  pub not_less : IsAllowed coin_market heads_taken (None ∷ []) (Worst alice) (Worsted 66 67) → ⊥
+  pub not_more : IsAllowed coin_market heads_taken (None ∷ []) (Worst alice) (Worsted 67 68) → ⊥
   pub not_above : IsAllowed coin_market heads_taken (None ∷ []) (Worst alice) (Worsted 68 68) → ⊥
   pub not_wide : IsAllowed coin_market heads_taken (None ∷ []) (Worst alice) (Worsted 66 68) → ⊥
   pub appended : next_history coin_market heads_taken (Worst alice) (Worsted 67 67) ≡ heads_taken
@@ -235,10 +236,13 @@ paying user low high paid = record { user = user; low = low; high = high; paid =
 abbrev pub settled_with : List Payment → Reply
 settled_with payments = Settled 6 payments
 
--- heads came up: alice is paid 126 points and bob none, in this order; the high end of a wider interval is not paid
+-- heads came up: alice is paid 126 points and bob, who holds no trade, none, in this order; no wider interval will do, and no point
+-- less
 pub record IsPaid : Type 0 where
   pub allowed : IsAllowed coin_market heads_up [] Settle (settled_with (paying alice 126 126 126 ∷ paying bob 0 0 0 ∷ []))
-  pub wider : IsAllowed coin_market heads_up [] Settle (settled_with (paying alice 126 127 126 ∷ paying bob 0 1 0 ∷ []))
+  pub not_wide : IsAllowed coin_market heads_up [] Settle (settled_with (paying alice 126 127 126 ∷ paying bob 0 0 0 ∷ [])) → ⊥
+  pub not_less : IsAllowed coin_market heads_up [] Settle (settled_with (paying alice 125 126 125 ∷ paying bob 0 0 0 ∷ [])) → ⊥
+  pub not_idle : IsAllowed coin_market heads_up [] Settle (settled_with (paying alice 126 126 126 ∷ paying bob 0 1 0 ∷ [])) → ⊥
   pub not_high : IsAllowed coin_market heads_up [] Settle (settled_with (paying alice 126 127 127 ∷ paying bob 0 0 0 ∷ [])) → ⊥
   pub not_above : IsAllowed coin_market heads_up [] Settle (settled_with (paying alice 127 128 127 ∷ paying bob 0 0 0 ∷ [])) → ⊥
   pub not_one : IsAllowed coin_market heads_up [] Settle (settled_with (paying alice 126 126 126 ∷ [])) → ⊥

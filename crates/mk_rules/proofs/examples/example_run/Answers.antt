@@ -1,6 +1,6 @@
 use Rattle.std.proofs.Common.{Some, inl, inr, refl, arith}
 use Rattle.mk_exact.specs.Weight.{IsSmall}
-use Rattle.mk_exact.specs.Factors.{Fraction, factor_with}
+use Rattle.mk_exact.specs.Factors.{HoldsNoTrade, Fraction, factor_with}
 use Rattle.mk_exact.specs.Limits.{Inside, IsFairAndSolvent}
 use Rattle.mk_exact.specs.Prices.{CoversPrice, exact_price}
 use Rattle.mk_exact.specs.Sides.{AreSides, AreRightLimits, IsFairPair}
@@ -45,7 +45,7 @@ price = record { low = 6000000000; high = 6000000001; printed = refl; covers = c
 least : Fraction
 least = factor_with heads_taken 0 879609302220
 
-short : IsMost (IsSmall coin heads_taken) least 0 → IsShort (IsSmall coin heads_taken) least 1 (Refused (Short 0))
+short : IsMost (IsSmall coin heads_taken) (HoldsNoTrade heads_taken 0) least 0 → IsShort (IsSmall coin heads_taken) (HoldsNoTrade heads_taken 0) least 1 (Refused (Short 0))
 short most = record { most = 0; less = omega arith; is_most = most; printed = refl }
 
 pub returns : goal.returns

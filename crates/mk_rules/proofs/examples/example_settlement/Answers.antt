@@ -1,7 +1,8 @@
-use Rattle.std.proofs.Common.{◌≡◌, ℕ, ◌≤◌, List, [], ◌∷◌, get_or, refl, sym, ap, subst, arith}
+use Rattle.std.proofs.Common.{◌≡◌, ℕ, ◌^◌, List, [], ◌∷◌, get_or, refl, sym, ap, subst, arith}
 use Rattle.std.specs.List.{AllZip, enumerate_from}
 use Rattle.mk_exact.specs.History.{users}
-use Rattle.mk_exact.specs.Factors.{factor}
+use Rattle.mk_exact.specs.Weight.{IsSmall}
+use Rattle.mk_exact.specs.Factors.{HoldsNoTrade, factor}
 use Rattle.mk_exact.specs.Cash.{IsCash, CoversCash}
 use Rattle.mk_exact.specs.Examples.{coin, alice, heads_taken}
 use Rattle.mk_reply.specs.declared.payments.Payment.{Payment}
@@ -12,20 +13,38 @@ use Rattle.mk_rules.specs.Examples.{bob, heads_up, paying, settled_with}
 use Rattle.mk_rules.proofs.Cashed.{no_more}
 use Rattle.mk_rules.proofs.examples.example_settlement.Goals as goal
 
-alice_covers : (high : ℕ) → 126 ≤ high → high ≤ 127 → IsCash (factor heads_taken 0 (0 ∷ [])) 100 126 → CoversCash (factor heads_up 0 (0 ∷ [])) 100 126 high
-alice_covers high p q h = record { cash = 126; is_cash = h; above = omega arith; below = omega arith; narrow = omega arith }
+abbrev Small : Type 0
+Small = IsSmall coin heads_up
 
-bob_covers : (high : ℕ) → high ≤ 1 → CoversCash (factor heads_up 1 (0 ∷ [])) 100 0 high
-bob_covers high p = record { cash = 0; is_cash = record { covered = omega arith; greatest = omega arith }; above = omega arith; below = omega arith; narrow = omega arith }
+alice_covers : IsCash (factor heads_taken 0 (0 ∷ [])) 100 126 → CoversCash Small (HoldsNoTrade heads_up 0) (factor heads_up 0 (0 ∷ [])) 100 126 126
+alice_covers h = record {
+  cash = 126;
+  is_cash = h;
+  above = omega arith;
+  below = omega arith;
+  near = record { low_near = omega arith; high_near = omega arith };
+  nearer = λ s. record { low_near = omega arith; high_near = omega arith };
+  exact = λ e. (refl, refl);
+}
 
-settlement : (a b : ℕ) → 126 ≤ a → a ≤ 127 → b ≤ 1 → IsCash (factor heads_taken 0 (0 ∷ [])) 100 126
-    → IsSettlement coin heads_up 100 (settled_with (paying alice 126 a 126 ∷ paying bob 0 b 0 ∷ []))
-settlement a b p q r h = record {
+bob_covers : CoversCash Small (HoldsNoTrade heads_up 1) (factor heads_up 1 (0 ∷ [])) 100 0 0
+bob_covers = record {
+  cash = 0;
+  is_cash = record { covered = omega arith; greatest = omega arith };
+  above = omega arith;
+  below = omega arith;
+  near = record { low_near = omega arith; high_near = omega arith };
+  nearer = λ s. record { low_near = omega arith; high_near = omega arith };
+  exact = λ e. (refl, refl);
+}
+
+settlement : IsCash (factor heads_taken 0 (0 ∷ [])) 100 126 → IsSettlement coin heads_up 100 (settled_with (paying alice 126 126 126 ∷ paying bob 0 0 0 ∷ []))
+settlement h = record {
   state = 0 ∷ [];
   one_state = refl;
-  payments = paying alice 126 a 126 ∷ paying bob 0 b 0 ∷ [];
+  payments = paying alice 126 126 126 ∷ paying bob 0 0 0 ∷ [];
   printed = refl;
-  paid = (record { name = refl; covers = alice_covers a p q h; low_end = refl }, (record { name = refl; covers = bob_covers b r; low_end = refl }, tt));
+  paid = (record { name = refl; covers = alice_covers h; low_end = refl }, (record { name = refl; covers = bob_covers; low_end = refl }, tt));
 }
 
 payments_in : Reply → List Payment
@@ -33,17 +52,19 @@ payments_in (Settled at payments) = payments
 payments_in _ = []
 
 -- what the payments of an allowed settlement are
-are_paid : (payments : List Payment) → IsSettlement coin heads_up 100 (settled_with payments) → AllZip (IsPayment heads_up 100 (0 ∷ [])) (enumerate_from 0 (users heads_up)) payments
+are_paid : (payments : List Payment) → IsSettlement coin heads_up 100 (settled_with payments) → AllZip (IsPayment coin heads_up 100 (0 ∷ [])) (enumerate_from 0 (users heads_up)) payments
 unfolding payments_in
 are_paid payments h =
     let state : h.state ≡ 0 ∷ [] = ap (λ (states : List (List ℕ)). get_or states 0 []) (sym h.one_state) in
-    subst (λ (s : List ℕ). AllZip (IsPayment heads_up 100 s) (enumerate_from 0 (users heads_up)) payments) state
-    (subst (λ (ps : List Payment). AllZip (IsPayment heads_up 100 h.state) (enumerate_from 0 (users heads_up)) ps) (sym (ap payments_in h.printed)) h.paid)
+    subst (λ (s : List ℕ). AllZip (IsPayment coin heads_up 100 s) (enumerate_from 0 (users heads_up)) payments) state
+    (subst (λ (ps : List Payment). AllZip (IsPayment coin heads_up 100 h.state) (enumerate_from 0 (users heads_up)) ps) (sym (ap payments_in h.printed)) h.paid)
 
 pub returns : goal.returns
 returns c = record {
-  allowed = settlement 126 0 (omega arith) (omega arith) (omega arith) c.example_cash.ensures.heads_cash;
-  wider = settlement 127 1 (omega arith) (omega arith) (omega arith) c.example_cash.ensures.heads_cash;
+  allowed = settlement c.example_cash.ensures.heads_cash;
+  not_wide = λ h. omega (arith, (are_paid _ h).0.covers.near.high_near);
+  not_less = λ h. omega (arith, (are_paid _ h).0.covers.near.low_near);
+  not_idle = λ h. omega (arith, (are_paid _ h).1.0.covers.near.high_near);
   not_high = λ h. omega (arith, (are_paid _ h).0.low_end);
   not_above = λ h. let covers = (are_paid _ h).0.covers in
       omega (arith, no_more (factor heads_up 0 (0 ∷ [])) 100 126 covers.cash c.example_cash.ensures.heads_cash covers.is_cash, covers.above);
