@@ -1,10 +1,9 @@
 -- An interval made of the bits of two quotients covers the most that the operator can lose.
-use Rattle.std.proofs.Common.{◌≡◌, ℕ, zero, suc, ◌+◌, ◌-◌, ◌*◌, ◌^◌, ◌<◌, ◌≤◌, refl, sym, ap, ◌∙◌, ⊎_elim, arith, le_refl, le_trans}
-use Rattle.std.proofs.Math.Nat.{pow-suc, pow-zero, mul-le-mul_left, mul-le-mul_right, mul-lt-mul_of_pos_right, one-le-mul, one-le-pow, pow-le-pow_left, pow-le-pow_right, le_of_mul-le-mul_right, lt_of_mul-lt-mul_right}
+use Rattle.std.proofs.Common.{◌≡◌, ℕ, ◌+◌, ◌*◌, ◌^◌, ◌<◌, ◌≤◌, ⊎_elim, arith, le_trans}
+use Rattle.std.proofs.Math.Nat.{mul-le-mul_left, pow-le-pow_left, pow-le-pow_right}
 use Rattle.std.proofs.lemmas.Bool.{cases_lt, lt-ltb, le-ltb}
-use Rattle.std.proofs.lemmas.Nat.{pow-add, mul-pow}
 use Rattle.mk_net.specs.Bounds.{number_limit, million}
-use Rattle.mk_scaled.specs.Near.{IsNear, near-mul, near_trans, near_same, near_between, width_law}
+use Rattle.mk_scaled.specs.Near.{IsNear}
 use Rattle.mk_scaled.specs.Range.{two_to, IsInRange, two_to-small, two_to-suc, two_to-mono, pow_at_most, power_in_range}
 use Rattle.mk_exact.specs.Cash.{IsCash}
 use Rattle.mk_exact.specs.Risk.{nearness, CoversBound}

@@ -1,4 +1,4 @@
-use Rattle.std.proofs.Common.{◌^◌, refl, inr, arith}
+use Rattle.std.proofs.Common.{refl, arith}
 use Rattle.mk_exact.proofs.examples.example_sharp.Goals as goal
 
 pub returns : goal.returns
