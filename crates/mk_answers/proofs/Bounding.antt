@@ -18,6 +18,7 @@ use Rattle.mk_exact.specs.Weight.{weight, total, is_possible, cannot_come, IsSma
 use Rattle.mk_exact.proofs.Positive.{few_values_at}
 use Rattle.mk_cell.specs.Least.{least}
 use Rattle.mk_tree.specs.Given.{GivenTree}
+use Rattle.mk_tree.specs.Held.{IsHeldAt}
 use Rattle.mk_scaled.specs.Range.{IsInRange}
 use Rattle.mk_enclose.specs.declared.enclosure.Enclosure.{Enclosure}
 use Rattle.mk_enclose.specs.declared.factor.Factor.{Factor}
@@ -156,15 +157,16 @@ module _ (network : List Variable) (tree : GivenTree) (H : List Entry) (u : ℕ)
       miss_for f is close g e = factor_for network tree H u is_open (exact_others least (gains_of network tree H u) asked values) most result f is least_is close g (miss_gain values sized g e).0
 
     -- what a call for the other values asks of an engine
-    pub can_ask : {E : Type 0} (stands_for : E → Meaning → Type 0) (engine : E) (m : Meaning) (values : ℕ) → stands_for engine m
-        → m.network ≡ network → m.tree ≡ tree → length m.factors ≤ max_factors → values ≡ slice_index (sizes network) asked.target.variable → CanAskOthers stands_for engine asked values
-    can_ask stands_for engine m values stands of_network of_tree room sized = record {
+    pub can_ask : {E : Type 0} (stands_for : E → Meaning → Type 0) (engine : E) (m : Meaning) (at values : ℕ) → stands_for engine m
+        → m.network ≡ network → m.tree ≡ tree → IsHeldAt tree at (pairs_asked asked) → length m.factors ≤ max_factors
+        → values ≡ slice_index (sizes network) asked.target.variable → CanAskOthers stands_for engine at asked values
+    can_ask stands_for engine m at values stands of_network of_tree held room sized = record {
       meaning = m;
       stands = stands;
       question = rw of_network answered.in_order.in_range;
       sized = rw of_network sized;
       few = omega (arith, sized, few_values_at network is_open.legal asked.target.variable answered.in_order.in_range.target.variable);
-      home = rw of_tree answered.home;
+      held = rw of_tree held;
       room = room;
     }
 

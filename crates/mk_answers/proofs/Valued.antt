@@ -15,6 +15,7 @@ use Rattle.mk_exact.specs.Weight.{total, cannot_come, IsSmall}
 use Rattle.mk_exact.proofs.Coming.{state_of}
 use Rattle.mk_cell.specs.Least.{least}
 use Rattle.mk_tree.specs.Given.{GivenTree}
+use Rattle.mk_tree.specs.Held.{IsHeldAt}
 use Rattle.mk_enclose.specs.declared.enclosure.Enclosure.{Enclosure}
 use Rattle.mk_enclose.specs.declared.factor.Factor.{Factor}
 use Rattle.mk_semiring.specs.declared.held.Held.{Held}
@@ -133,8 +134,8 @@ module _ (network : List Variable) (tree : GivenTree) (H : List Entry) (is_open 
 
 -- a question about one value is in order where that about all is
 module _ (network : List Variable) (tree : GivenTree) (H : List Entry) (spread : SpreadAsked) (answered : CanBeSpreadHere network tree H spread) where
-  pub valued_at : (k : ℕ) → k < slice_index (sizes network) spread.variable → CanBeValuedHere network tree H (asked_of spread k)
-  valued_at k within =
+  pub valued_at : (at k : ℕ) → IsHeldAt tree at (pairs_asked (asked_of spread k)) → k < slice_index (sizes network) spread.variable → CanBeValuedHere network tree H at (asked_of spread k)
+  valued_at at k held within =
       let ordered = answered.in_order in
       record {
         in_order = record {
@@ -143,7 +144,7 @@ module _ (network : List Variable) (tree : GivenTree) (H : List Entry) (spread :
           target_apart = ordered.variable_apart;
           unresolved = ordered.unresolved;
         };
-        home = answered.home k;
+        held = held;
       }
 
 module _ (network : List Variable) (H : List Entry) (u : ℕ) (spread : SpreadAsked) where

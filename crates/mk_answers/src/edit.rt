@@ -35,15 +35,16 @@ pub enum Sides {
     Sure,
 }
 
-/// The sides of a question for a user: their bounds enclose them, and are exact in the small case. It leaves what the engine
-/// and the assets stand for as it was.
+/// The sides of a question for a user, asked in a clique that holds it: their bounds enclose them, and are exact in the small case.
+/// It leaves what the engine and the assets stand for as it was.
 pub fn bounds_of<P: Engine<SumProd>, A: Engine<MinProd>>(
     prices: &mut P,
     assets: &mut Assets<A>,
     net: &Network,
+    at: u32,
     asked: &Question,
 ) -> Sides
-    requires { CanBound P.stands_for A.stands_for prices.old assets.old net.now asked.now }
+    requires { CanBound P.stands_for A.stands_for prices.old assets.old net.now at asked.now }
     ensures kept { (m : Meaning) → P.stands_for prices.old m → P.stands_for prices.new m }
     ensures kept_assets { (h : Holding) → Owns A.stands_for assets.old h → Owns A.stands_for assets.new h }
     ensures sides { (tree : GivenTree) (H : List Entry) (u : ℕ)
@@ -51,11 +52,11 @@ pub fn bounds_of<P: Engine<SumProd>, A: Engine<MinProd>>(
         → IsOpen net.now tree H → CanBeAnswered net.now tree H asked.now → AreSidesFor net.now H u asked.now result }
 {
     let values = net.values(asked.target().variable);
-    let hit = prices.belief(&asked.event());
-    let miss = belief_of_others::<SumProd, P>(prices, asked, values);
+    let hit = prices.belief(at, &asked.event());
+    let miss = belief_of_others::<SumProd, P>(prices, at, asked, values);
     match (hit, miss) {
         (Held::Present(hit), Held::Present(miss)) => {
-            Sides::Open(open_bounds(assets, asked, values, &hit, &miss))
+            Sides::Open(open_bounds(assets, at, asked, values, &hit, &miss))
         }
         (Held::Absent, Held::Absent) => Sides::Impossible,
         (Held::Absent, Held::Present(_)) => Sides::Never,
@@ -67,12 +68,13 @@ pub fn bounds_of<P: Engine<SumProd>, A: Engine<MinProd>>(
 /// leaves what the assets stand for as it was.
 fn open_bounds<A: Engine<MinProd>>(
     assets: &mut Assets<A>,
+    at: u32,
     asked: &Question,
     values: u32,
     hit: &Enclosure,
     miss: &Enclosure,
 ) -> Bounds
-    requires { CanOpen A.stands_for assets.old asked.now values hit.now miss.now }
+    requires { CanOpen A.stands_for assets.old at asked.now values hit.now miss.now }
     ensures kept_assets { (h : Holding) → Owns A.stands_for assets.old h → Owns A.stands_for assets.new h }
     ensures bounds { (network : List Variable) (tree : GivenTree) (H : List Entry) (u : ℕ) (on_hit on_miss : Side)
         → Owns A.stands_for assets.old (holding_of network tree H u) → IsOpen network tree H → CanBeAnswered network tree H asked.now
@@ -80,8 +82,8 @@ fn open_bounds<A: Engine<MinProd>>(
         → IsPartFor network H asked.now hit.now → IsRestFor network H asked.now miss.now
         → AreSides network H u asked.now on_hit on_miss → AreBoundsFor result (IsSmall network H) on_hit on_miss }
 {
-    let hit_factor = assets.least(&asked.event());
-    let miss_factor = assets.least_of_others(asked, values);
+    let hit_factor = assets.least(at, &asked.event());
+    let miss_factor = assets.least_of_others(at, asked, values);
     Bounds {
         hit: *hit,
         miss: *miss,

@@ -14,9 +14,9 @@ use mk_net::{Event, Pair};
 use mk_semiring::{Held, SumProd};
 
 /// The place of the first pair of an event with which, beside those before it, no possible state is left. None where some state
-/// has all of them. It asks one belief a pair, and leaves what the engine stands for as it was.
-pub fn first_impossible<P: Engine<SumProd>>(prices: &mut P, event: &Event) -> Option<usize>
-    requires { CanSearch P.stands_for prices.old event.now }
+/// has all of them. It asks one belief a pair, in a clique that holds the event, and leaves what the engine stands for as it was.
+pub fn first_impossible<P: Engine<SumProd>>(prices: &mut P, at: u32, event: &Event) -> Option<usize>
+    requires { CanSearch P.stands_for prices.old at event.now }
     ensures kept { (m : Meaning) → P.stands_for prices.old m → P.stands_for prices.new m }
     ensures first { (network : List Variable) (tree : GivenTree) (H : List Entry) → P.stands_for prices.old (weights_of network tree H)
         → IsOpen network tree H → result ≡ first_impossible network H [] event.now }
@@ -28,7 +28,7 @@ pub fn first_impossible<P: Engine<SumProd>>(prices: &mut P, event: &Event) -> Op
             unreachable!()
         };
         held = longer;
-        if let Held::Absent = prices.belief(&held) {
+        if let Held::Absent = prices.belief(at, &held) {
             return Some(place);
         }
     }

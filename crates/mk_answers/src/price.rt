@@ -23,28 +23,29 @@ const UNITS: u64 = 10_000_000_000;
 
 /// Bounds on the price of a question, in units of 10^-10: at most two apart, the floor and the ceiling in the small case, and
 /// nothing or all of one where the target cannot come or nothing else can. None where the condition cannot come. It leaves what
-/// the engine stands for as it was.
+/// the engine stands for as it was. All is asked in one clique that holds the question, so no message is made for the condition.
 ///
 /// Where the network has shares of nothing it asks for both sides. Elsewhere both can come: of two values the other one's
 /// states are half of the condition's, and of more, or without a condition, the condition is asked for.
 pub fn price_of<P: Engine<SumProd>>(
     prices: &mut P,
     net: &Network,
+    at: u32,
     asked: &Question,
 ) -> Option<(u64, u64)>
-    requires { CanPrice P.stands_for prices.old net.now asked.now }
+    requires { CanPrice P.stands_for prices.old net.now at asked.now }
     ensures kept { (m : Meaning) → P.stands_for prices.old m → P.stands_for prices.new m }
     ensures price { (tree : GivenTree) (H : List Entry) → P.stands_for prices.old (weights_of net.now tree H) → IsOpen net.now tree H
         → CanBeAnswered net.now tree H asked.now → IsPriceFor net.now H asked.now result }
 {
-    let part = prices.belief(&asked.event());
+    let part = prices.belief(at, &asked.event());
     let condition = asked.condition();
     let values = net.values(asked.target().variable);
     if !net.with_zeros().is_empty() || (values == 2 && !condition.pairs().is_empty()) {
-        let rest = belief_of_others::<SumProd, P>(prices, asked, values);
+        let rest = belief_of_others::<SumProd, P>(prices, at, asked, values);
         return price_of_sides(&part, &rest);
     }
-    let whole = prices.belief(&condition);
+    let whole = prices.belief(at, &condition);
     Some(Enclosure::parts(&enclosure_of(&part), &enclosure_of(&whole), UNITS))
 }
 

@@ -10,7 +10,7 @@ ghost use Rattle.mk_beliefs.specs.Meanings.{rows_of};
 ghost use Rattle.mk_answers.specs.Open.{IsOpen};
 ghost use Rattle.mk_answers.specs.Calls.{CanFindBound};
 
-use crate::found::enclosure_of;
+use crate::found::{ROOT, enclosure_of};
 use mk_cash::bound;
 use mk_engine::Engine;
 use mk_net::{Event, Network};
@@ -28,6 +28,6 @@ pub fn bound_of<A: Engine<MinProd>>(rows: &mut A, net: &Network, points_per_bit:
     ensures low_fits { result.0 < number_limit }
     ensures high_fits { result.1 < number_limit }
 {
-    let least = enclosure_of(&rows.belief(&Event::empty()));
+    let least = enclosure_of(&rows.belief(ROOT, &Event::empty()));
     bound(&least, net.variables(), points_per_bit)
 }

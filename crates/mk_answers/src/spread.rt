@@ -33,28 +33,29 @@ pub enum SpreadSides {
     Sure(u32),
 }
 
-/// The sides of a question about every value of a variable, for a user: their bounds enclose them, and are exact in the small
-/// case. It leaves what the engine and the assets stand for as it was.
+/// The sides of a question about every value of a variable, for a user, asked in a clique that holds it: their bounds enclose them,
+/// and are exact in the small case. It leaves what the engine and the assets stand for as it was.
 pub fn spread_bounds_of<P: Engine<SumProd>, A: Engine<MinProd>>(
     prices: &mut P,
     assets: &mut Assets<A>,
     net: &Network,
+    at: u32,
     asked: &SpreadQuestion,
 ) -> SpreadSides
-    requires { CanBoundSpread P.stands_for A.stands_for prices.old assets.old net.now (spread_in asked.now) }
+    requires { CanBoundSpread P.stands_for A.stands_for prices.old assets.old net.now at (spread_in asked.now) }
     ensures kept { (m : Meaning) → P.stands_for prices.old m → P.stands_for prices.new m }
     ensures kept_assets { (h : Holding) → Owns A.stands_for assets.old h → Owns A.stands_for assets.new h }
     ensures sides { (tree : GivenTree) (H : List Entry) (u : ℕ)
         → P.stands_for prices.old (weights_of net.now tree H) → Owns A.stands_for assets.old (holding_of net.now tree H u)
         → IsOpen net.now tree H → CanBeSpreadHere net.now tree H (spread_in asked.now) → AreSpreadSidesFor net.now H u (spread_in asked.now) result }
 {
-    let Held::Present(whole) = prices.belief(&asked.condition) else {
+    let Held::Present(whole) = prices.belief(at, &asked.condition) else {
         return SpreadSides::Impossible;
     };
     let mut parts = ArrayVec::new();
     for value in 0..net.values(asked.variable) {
         let question = question_at(asked, value);
-        parts.push(value_bounds_of(prices, assets, net, &question));
+        parts.push(value_bounds_of(prices, assets, net, at, &question));
     }
     match alone(parts.as_slice()) {
         Some(value) => SpreadSides::Sure(value),
@@ -100,9 +101,10 @@ fn value_bounds_of<P: Engine<SumProd>, A: Engine<MinProd>>(
     prices: &mut P,
     assets: &mut Assets<A>,
     net: &Network,
+    at: u32,
     asked: &Question,
 ) -> Option<ValueBounds>
-    requires { CanFindValue P.stands_for A.stands_for prices.old assets.old net.now asked.now }
+    requires { CanFindValue P.stands_for A.stands_for prices.old assets.old net.now at asked.now }
     ensures kept { (m : Meaning) → P.stands_for prices.old m → P.stands_for prices.new m }
     ensures kept_assets { (h : Holding) → Owns A.stands_for assets.old h → Owns A.stands_for assets.new h }
     ensures found { (tree : GivenTree) (H : List Entry) (u : ℕ)
@@ -110,11 +112,11 @@ fn value_bounds_of<P: Engine<SumProd>, A: Engine<MinProd>>(
         → IsOpen net.now tree H → IsValueFound net.now H u asked.now result }
 {
     let event = asked.event();
-    match prices.belief(&event) {
+    match prices.belief(at, &event) {
         Held::Absent => None,
         Held::Present(part) => Some(ValueBounds {
             part,
-            factor: factor_of(assets.least(&event)),
+            factor: factor_of(assets.least(at, &event)),
         }),
     }
 }

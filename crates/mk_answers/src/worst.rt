@@ -13,7 +13,7 @@ ghost use Rattle.mk_assets.specs.Holdings.{Holding, Owns};
 ghost use Rattle.mk_answers.specs.Open.{IsOpen, IsFactorFor, holding_of};
 ghost use Rattle.mk_answers.specs.Calls.{CanFindWorst};
 
-use crate::found::factor_of;
+use crate::found::{ROOT, factor_of};
 use mk_assets::Assets;
 use mk_enclose::Factor;
 use mk_engine::Engine;
@@ -29,7 +29,7 @@ pub fn least_of<A: Engine<MinProd>>(assets: &mut Assets<A>) -> Factor
         → IsFactorFor result (IsSmall network H) (factor_with H u g) }
     ensures range { (b : ℕ) → b ≤ max_points_per_bit → HasPowersInRange result b }
 {
-    factor_of(assets.least(&Event::empty()))
+    factor_of(assets.least(ROOT, &Event::empty()))
 }
 
 /// The most bits that can be taken from a factor of at least one: the greatest number in the small case, and else all

@@ -11,6 +11,7 @@ use Rattle.mk_enclose.specs.declared.factor.Factor.{Factor}
 use Rattle.mk_enclose.specs.Enclosure.{Encloses, IsExact}
 use Rattle.mk_enclose.specs.Factor.{paid_in, taken_out}
 use Rattle.mk_tree.specs.Given.{GivenTree}
+use Rattle.mk_tree.specs.Checked.{IsTreeOf}
 use Rattle.mk_semiring.specs.declared.held.Held.TheVariants.{Present}
 use Rattle.mk_semiring.specs.Held.{HasHeldGrade}
 use Rattle.mk_engine.specs.Meaning.{Meaning, SupportOf, RatioOf, is_ratio, with_factor, with_known, whole_sum, max_factors, ArePairsOf}
@@ -57,10 +58,17 @@ max_bits = max_transfers * max_transfer_bits
 pub record IsNet (net : ℤ) (deposited withdrawn : ℕ) : Type 0 where
   pub same : paid_in net + withdrawn ≡ deposited + taken_out net
 
--- the plan stands for the network, whose pairs these are
-pub record CanStart {P : Type 0} (plan_for : P → List Variable → GivenTree → Type 0) (plan : P) (network : List Variable) (known : List Pair) : Type 0 where
+-- the plan stands for the network
+pub record IsPlanned {P : Type 0} (plan_for : P → List Variable → GivenTree → Type 0) (plan : P) (network : List Variable) : Type 0 where
   pub legal : IsNetwork network
   pub tree : GivenTree
+  pub planned : plan_for plan network tree
+
+-- the plan stands for the network, whose pairs these are, and this tree of it
+pub record CanStart {P : Type 0} (plan_for : P → List Variable → GivenTree → Type 0) (plan : P) (network : List Variable) (tree : GivenTree)
+    (known : List Pair) : Type 0 where
+  pub legal : IsNetwork network
+  pub tree_of_it : IsTreeOf network tree
   pub planned : plan_for plan network tree
   pub in_range : ArePairsOf network known
 
@@ -105,12 +113,12 @@ module _ {E P : Type 0} (stands_for : E → Meaning → Type 0) where
     pub in_range : ArePairsOf holding.meaning.network event
 
   -- their engine can be asked for the other values of a question's variable, of which there are so many
-  abbrev pub CanFindLeastOfOthers : Assets E P → Asked → ℕ → Type 0
-  CanFindLeastOfOthers assets asked values = CanAskOthers stands_for assets.engine asked values
+  abbrev pub CanFindLeastOfOthers : Assets E P → ℕ → Asked → ℕ → Type 0
+  CanFindLeastOfOthers assets at asked values = CanAskOthers stands_for assets.engine at asked values
 
--- their engine can answer an event
-abbrev pub FitsEvent : {E P : Type 0} → (E → List Pair → Bool) → Assets E P → List Pair → Type 0
-FitsEvent fitting assets event = fitting assets.engine event ≡ true
+-- their engine answers an event in this clique, or places there what speaks of its variables
+abbrev pub IsTakenAt : {E P : Type 0} → (E → ℕ → List Pair → Type 0) → Assets E P → ℕ → List Pair → Type 0
+IsTakenAt takes assets at event = takes assets.engine at event
 
 -- the least factor of a holding over the states where the known pairs and an event hold: none where there is no such state
 pub record IsLeastFactor (h : Holding) (least_gain most : ℕ) (result : Option Factor) : Type 0 where

@@ -1,20 +1,21 @@
 //! One user's assets.
 
-ghost use Rattle.std.specs.Prelude.{◌≡◌, ℕ, ◌+◌, ◌≤◌, List, [], length, slice_index, IfOk};
+ghost use Rattle.std.specs.Prelude.{◌≡◌, ℕ, ◌+◌, ◌≤◌, List, [], ◌∷◌, length, slice_index, true, is_some, Some, IfOk};
 ghost use Rattle.mk_net.specs.Network.{sizes};
 ghost use Rattle.mk_net.specs.Asked.{ratio_pairs};
 ghost use Rattle.mk_net.specs.Bounds.{max_values};
 ghost use Rattle.mk_net.specs.Trades.{trade_ratio};
-ghost use Rattle.mk_tree.specs.Given.{GivenTree};
+ghost use Rattle.mk_tree.specs.Given.{GivenTree, home};
 ghost use Rattle.mk_engine.specs.Meaning.{exact_belief, max_grade};
 ghost use Rattle.mk_engine.specs.Cases.{exact_others};
-ghost use Rattle.mk_assets.specs.Holdings.{Holding, Owns, CanStart, CanTrade, CanDeposit, CanWithdraw, CanLearn, CanFindLeast, CanFindLeastOfOthers, FitsEvent, IsLeastFactor, max_bits, trades_in, opening_holding, with_trade, with_deposit, with_withdrawal, with_known_pair};
+ghost use Rattle.mk_assets.specs.Holdings.{Holding, Owns, IsPlanned, CanStart, CanTrade, CanDeposit, CanWithdraw, CanLearn, CanFindLeast, CanFindLeastOfOthers, IsTakenAt, IsLeastFactor, max_bits, trades_in, opening_holding, with_trade, with_deposit, with_withdrawal, with_known_pair};
 ghost use Rattle.mk_assets.specs.inner.Found.{IsFound};
 
 use mk_enclose::Factor;
 use mk_engine::{Engine, belief_of_others};
 use mk_net::{Event, Network, NoMemory, Pair, Question, Ratio};
 use mk_semiring::{Held, MinProd, Semiring};
+use mk_tree::Tree;
 use std::alloc::Global;
 
 /// One user's engine with the number of trades and the bits that were paid in, less those taken out.
@@ -28,20 +29,21 @@ pub struct Assets<E: Engine<MinProd>> {
 }
 
 impl<E: Engine<MinProd>> Assets<E> {
-    /// The assets of a user who has not traded, with what is known already. They are told in which states each variable of the
-    /// network that has a share of nothing cannot come.
+    /// The assets of a user who has not traded, with what is known already, over the tree of the network that the plan was made for.
+    /// They are told in which states each variable of the network that has a share of nothing cannot come.
     pub fn start(
         alloc: Global,
         plan: &E::Plan,
         net: &Network,
+        tree: &Tree,
         known: &[Pair],
     ) -> Result<Assets<E>, NoMemory>
-        requires { CanStart E.plan_for plan.now net.now known.now }
-        ensures { IfOk result (λ assets. (tree : GivenTree) → E.plan_for plan.now net.now tree → Owns E.stands_for assets (opening_holding net.now tree known.now)) }
+        requires { CanStart E.plan_for plan.now net.now tree.now known.now }
+        ensures { IfOk result (λ assets. Owns E.stands_for assets (opening_holding net.now tree.now known.now)) }
     {
         let mut engine = Self::supported(alloc, plan, net)?;
         for pair in known {
-            engine.know(*pair);
+            engine.know(home_of(tree, *pair), *pair);
         }
         Ok(Assets {
             engine,
@@ -52,7 +54,7 @@ impl<E: Engine<MinProd>> Assets<E> {
 
     /// An engine with the support of each variable of a network that has a share of nothing.
     fn supported(alloc: Global, plan: &E::Plan, net: &Network) -> Result<E, NoMemory>
-        requires { CanStart E.plan_for plan.now net.now [] }
+        requires { IsPlanned E.plan_for plan.now net.now }
         ensures { IfOk result (λ engine. (tree : GivenTree) → E.plan_for plan.now net.now tree → E.stands_for engine (opening_holding net.now tree []).meaning) }
     {
         let mut engine = E::start(alloc, plan)?;
@@ -62,13 +64,13 @@ impl<E: Engine<MinProd>> Assets<E> {
         Ok(engine)
     }
 
-    /// Adds a trade.
-    pub fn trade(&mut self, ratio: &Ratio)
-        requires fits { FitsEvent E.fitting self.old (ratio_pairs (trade_ratio ratio.now)) }
+    /// Adds a trade, whose home this is.
+    pub fn trade(&mut self, home: u32, ratio: &Ratio)
+        requires home { IsTakenAt E.places_at self.old home (ratio_pairs (trade_ratio ratio.now)) }
         requires range { CanTrade E.stands_for self.old (trade_ratio ratio.now) }
         ensures { (h : Holding) → Owns E.stands_for self.old h → Owns E.stands_for self.new (with_trade (trade_ratio ratio.now) h) }
     {
-        self.engine.multiply(ratio);
+        self.engine.multiply(home, ratio);
         self.trades += 1;
     }
 
@@ -95,35 +97,38 @@ impl<E: Engine<MinProd>> Assets<E> {
         self.net -= bits as i64;
     }
 
-    /// Adds a known pair.
-    pub fn know(&mut self, pair: Pair)
-        requires { CanLearn E.stands_for self.old pair }
+    /// Adds a known pair, whose home this is.
+    pub fn know(&mut self, home: u32, pair: Pair)
+        requires home { IsTakenAt E.places_at self.old home (pair ∷ []) }
+        requires range { CanLearn E.stands_for self.old pair }
         ensures { (h : Holding) → Owns E.stands_for self.old h → Owns E.stands_for self.new (with_known_pair pair h) }
     {
-        self.engine.know(pair);
+        self.engine.know(home, pair);
     }
 
-    /// The least factor over the states where the known pairs and an event hold. None where there is no such state.
-    pub fn least(&mut self, event: &Event) -> Option<Factor>
-        requires fits { FitsEvent E.fitting self.old event.now }
+    /// The least factor over the states where the known pairs and an event hold, asked in a clique that holds the event. None where
+    /// there is no such state.
+    pub fn least(&mut self, at: u32, event: &Event) -> Option<Factor>
+        requires held { IsTakenAt E.answers_at self.old at event.now }
         requires range { CanFindLeast E.stands_for self.old event.now }
         ensures kept { (h : Holding) → Owns E.stands_for self.old h → Owns E.stands_for self.new h }
         ensures least { (h : Holding) → Owns E.stands_for self.old h
             → IsLeastFactor h (exact_belief ⟦<MinProd as Semiring>⟧.plus_of h.meaning event.now) (length h.meaning.factors + max_grade) result }
     {
-        let found = self.engine.belief(event);
+        let found = self.engine.belief(at, event);
         self.factor(&found)
     }
 
     /// The least factor over the states where the known pairs and the condition of a question hold and its target does
-    /// not: its variable has one of its other values, of which there are `values` with the target's.
-    pub fn least_of_others(&mut self, asked: &Question, values: u32) -> Option<Factor>
-        requires { CanFindLeastOfOthers E.stands_for self.old asked.now values }
+    /// not, asked in a clique that holds the question: its variable has one of its other values, of which there are `values` with the
+    /// target's.
+    pub fn least_of_others(&mut self, at: u32, asked: &Question, values: u32) -> Option<Factor>
+        requires { CanFindLeastOfOthers E.stands_for self.old at asked.now values }
         ensures kept { (h : Holding) → Owns E.stands_for self.old h → Owns E.stands_for self.new h }
         ensures least { (h : Holding) → Owns E.stands_for self.old h → values ≡ slice_index (sizes h.meaning.network) asked.now.target.variable
             → IsLeastFactor h (exact_others ⟦<MinProd as Semiring>⟧.plus_of h.meaning asked.now values) (length h.meaning.factors + max_grade + max_values) result }
     {
-        let found = belief_of_others::<MinProd, E>(&mut self.engine, asked, values);
+        let found = belief_of_others::<MinProd, E>(&mut self.engine, at, asked, values);
         self.factor(&found)
     }
 
@@ -139,5 +144,16 @@ impl<E: Engine<MinProd>> Assets<E> {
                 net: self.net,
             }),
         }
+    }
+}
+
+/// The home of a pair.
+fn home_of(tree: &Tree, pair: Pair) -> u32
+    requires { is_some (home tree.now (pair ∷ [])) ≡ true }
+    ensures { home tree.now (pair ∷ []) ≡ Some result }
+{
+    match tree.pair_home(pair) {
+        Some(home) => home,
+        None => unreachable!(),
     }
 }

@@ -17,23 +17,22 @@ use Rattle.mk_exact.specs.States.{numbers_below, plus_over}
 use Rattle.mk_exact.specs.Proper.{IsPairOf, IsQuestionOf}
 use Rattle.mk_exact.proofs.Sums.{plus_over-append, list_all-append, each-append}
 use Rattle.mk_sums.proofs.States.{is_plus}
-use Rattle.mk_tree.specs.Given.{GivenTree, home, holds_event}
+use Rattle.mk_tree.specs.Given.{GivenTree, holds_event}
+use Rattle.mk_tree.specs.Held.{IsHeldAt}
+use Rattle.mk_tree.proofs.Held.{held_weaker}
 use Rattle.mk_engine.specs.Meaning.{Meaning, exact_belief, whole_sum, max_grade, ArePairsOf}
 use Rattle.mk_engine.specs.Beliefs.{IsBelief}
 use Rattle.mk_engine.specs.Cases.{pairs_with, other_values, exact_others}
 use Rattle.mk_engine.proofs.Cases.{others_at_most}
 
--- a home depends on variables alone
-pub home_with : (t : GivenTree) (asked : Asked) (v : ℕ) → home t (pairs_with asked v) ≡ home t (pairs_asked asked)
-home_with t asked v = ap (λ (has : VarSet → Bool). option_map (λ (k : ℕ). k + 1) (position has t.cliques)) (fun_ext same)
+-- a clique that holds a question holds each case of it, since the variables are the same
+pub case_is_held : (t : GivenTree) (at : ℕ) (asked : Asked) (v : ℕ) (event : List Pair) → event ≡ pairs_with asked v → IsHeldAt t at (pairs_asked asked) → IsHeldAt t at event
+case_is_held t at asked v event e h = rw e (held_weaker t at (pairs_asked asked) (pairs_with asked v) same h)
   where
-    same : (set : VarSet) → holds_event (pairs_with asked v) set ≡ holds_event (pairs_asked asked) set
-    same set =
+    same : (set : VarSet) → holds_event (pairs_asked asked) set ≡ true → holds_event (pairs_with asked v) set ≡ true
+    same set k =
         list_all-append (λ (p : Pair). is_member set p.variable) asked.condition (record { variable = asked.target.variable; value = v } ∷ [])
-        ∙ sym (list_all-append (λ (p : Pair). is_member set p.variable) asked.condition (asked.target ∷ []))
-
-pub has_home : (t : GivenTree) (asked : Asked) (v : ℕ) (event : List Pair) → event ≡ pairs_with asked v → is_some (home t (pairs_asked asked)) ≡ true → is_some (home t event) ≡ true
-has_home t asked v event e h = ap (λ (ps : List Pair). is_some (home t ps)) e ∙ ap is_some (home_with t asked v) ∙ h
+        ∙ sym (list_all-append (λ (p : Pair). is_member set p.variable) asked.condition (asked.target ∷ [])) ∙ k
 
 -- and each pair is one of the network's
 pub pairs_fit : (network : List Variable) (asked : Asked) (v : ℕ) → IsQuestionOf network asked → v < slice_index (sizes network) asked.target.variable

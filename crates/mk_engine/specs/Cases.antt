@@ -1,5 +1,5 @@
 -- The cases of a question: its condition with each value of its variable.
-use Rattle.std.specs.Prelude.{◌≡◌, ℕ, ◌+◌, ◌<◌, ◌≤◌, List, [], ◌∷◌, ◌++◌, length, slice_index, true, not, ◌==◌, is_some}
+use Rattle.std.specs.Prelude.{◌≡◌, ℕ, ◌+◌, ◌<◌, ◌≤◌, List, [], ◌∷◌, ◌++◌, length, slice_index, true, not, ◌==◌}
 use Rattle.std.specs.List.{filter}
 use Rattle.mk_net.specs.declared.words.Pair.{Pair}
 use Rattle.mk_net.specs.Asked.{Asked}
@@ -8,7 +8,7 @@ use Rattle.mk_net.specs.Network.{sizes}
 use Rattle.mk_net.specs.Events.{pairs_asked}
 use Rattle.mk_exact.specs.States.{numbers_below, plus_over}
 use Rattle.mk_exact.specs.Proper.{IsQuestionOf}
-use Rattle.mk_tree.specs.Given.{home}
+use Rattle.mk_tree.specs.Held.{IsHeldAt}
 use Rattle.mk_engine.specs.Meaning.{Meaning, exact_belief, whole_sum, max_factors, max_grade}
 
 -- its condition, and this value of its variable
@@ -23,15 +23,15 @@ other_values asked values = filter (λ v. not (v == asked.target.value)) (number
 abbrev pub exact_others : (ℕ → ℕ → ℕ) → Meaning → Asked → ℕ → ℕ
 exact_others plus m asked values = plus_over plus 0 (λ v. exact_belief plus m (pairs_with asked v)) (other_values asked values)
 
--- the engine stands for a meaning of whose network this is a question, whose variable has so many values, and in whose tree it
--- has a home; and there are no more factors than an engine may hold
-pub record CanAskOthers {E : Type 0} (stands_for : E → Meaning → Type 0) (engine : E) (asked : Asked) (values : ℕ) : Type 0 where
+-- the engine stands for a meaning of whose network this is a question, whose variable has so many values, and in whose tree this
+-- clique holds it; and there are no more factors than an engine may hold
+pub record CanAskOthers {E : Type 0} (stands_for : E → Meaning → Type 0) (engine : E) (at : ℕ) (asked : Asked) (values : ℕ) : Type 0 where
   pub meaning : Meaning
   pub stands : stands_for engine meaning
   pub question : IsQuestionOf meaning.network asked
   pub sized : values ≡ slice_index (sizes meaning.network) asked.target.variable
   pub few : values ≤ max_values
-  pub home : is_some (home meaning.tree (pairs_asked asked)) ≡ true
+  pub held : IsHeldAt meaning.tree at (pairs_asked asked)
   pub room : length meaning.factors ≤ max_factors
 
 -- what is found encloses it, at a grade of one step more for each value than a belief's, and is exact in the small case

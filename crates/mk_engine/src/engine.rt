@@ -1,12 +1,13 @@
 //! The trait.
 
-ghost use Rattle.std.specs.Prelude.{◌≡◌, List, Bool, true, false, is_some, IfOk};
+ghost use Rattle.std.specs.Prelude.{◌≡◌, ℕ, List, [], ◌∷◌, Some, IfOk};
 ghost use Rattle.mk_net.specs.declared.words.Pair.{Pair};
 ghost use Rattle.mk_net.specs.Network.{Variable};
 ghost use Rattle.mk_net.specs.Asked.{ratio_pairs};
 ghost use Rattle.mk_net.specs.Trades.{trade_ratio};
 ghost use Rattle.mk_tree.specs.Given.{GivenTree, home};
 ghost use Rattle.mk_tree.specs.Checked.{IsTreeOf};
+ghost use Rattle.mk_tree.specs.Held.{IsHeldAt};
 ghost use Rattle.mk_engine.specs.Meaning.{Meaning, RowsOf, SupportOf, RatioOf, opening, with_factor, with_known};
 ghost use Rattle.mk_engine.specs.Beliefs.{CanWeigh, CanMultiply, CanKnow, CanBelieve, IsBelief};
 
@@ -19,6 +20,9 @@ use std::alloc::Global;
 ///
 /// An engine stands for meanings: a network, a tree of it, a list of factors and a list of known pairs. Each clause holds
 /// for every meaning that the engine stands for before the call.
+///
+/// Calls name a clique of the tree, which counts from 1: the home of what is placed, which is the first clique that holds it, and
+/// any clique that holds what is asked. So whoever asks many questions of one event looks for its clique once.
 pub trait Engine<R: Semiring>: Sized + Drop {
     /// What is made once for a network and a tree.
     type Plan: Drop;
@@ -32,8 +36,11 @@ pub trait Engine<R: Semiring>: Sized + Drop {
     // The meanings that an engine stands for.
     ghost stands_for: { Self → Meaning → Type 0 };
 
-    // The events that an engine can answer.
-    ghost fitting: { Self → List Pair → Bool };
+    // The cliques in which an engine can answer an event.
+    ghost answers_at: { Self → ℕ → List Pair → Type 0 };
+
+    // The clique in which an engine places what speaks of the variables of an event.
+    ghost places_at: { Self → ℕ → List Pair → Type 0 };
 
     /// The plan for a network and a tree of it.
     fn plan(alloc: Global, net: &Network, tree: &Tree) -> Result<Self::Plan, NoMemory>
@@ -55,29 +62,29 @@ pub trait Engine<R: Semiring>: Sized + Drop {
         requires { CanWeigh stands_for self.old net.now variable }
         ensures { (m : Meaning) → stands_for self.old m → m.network ≡ net.now → stands_for self.new (with_factor (SupportOf variable) m) };
 
-    /// Adds the ratio of a trade as a factor.
-    fn multiply(&mut self, ratio: &Ratio)
-        requires fits { fitting self.old (ratio_pairs (trade_ratio ratio.now)) ≡ true }
+    /// Adds the ratio of a trade, whose home this is, as a factor.
+    fn multiply(&mut self, home: u32, ratio: &Ratio)
+        requires home { places_at self.old home (ratio_pairs (trade_ratio ratio.now)) }
         requires range { CanMultiply stands_for self.old (trade_ratio ratio.now) }
         ensures { (m : Meaning) → stands_for self.old m → stands_for self.new (with_factor (RatioOf (trade_ratio ratio.now)) m) };
 
-    /// Adds a known pair.
-    fn know(&mut self, pair: Pair)
-        requires { CanKnow stands_for self.old pair }
+    /// Adds a known pair, whose home this is.
+    fn know(&mut self, home: u32, pair: Pair)
+        requires home { places_at self.old home (pair ∷ []) }
+        requires range { CanKnow stands_for self.old pair }
         ensures { (m : Meaning) → stands_for self.old m → stands_for self.new (with_known pair m) };
 
-    /// Whether an event can be answered.
-    fn fits(&self, event: &Event) -> bool
-        ensures { result ≡ fitting self.now event.now };
-
-    /// The plus, over all states where the known pairs and the event hold, of the product of all factors. It leaves what
-    /// the engine stands for as it was.
-    fn belief(&mut self, event: &Event) -> R::Value
-        requires fits { fitting self.old event.now ≡ true }
+    /// The plus, over all states where the known pairs and the event hold, of the product of all factors, asked in a clique that
+    /// holds the event. It leaves what the engine stands for as it was.
+    fn belief(&mut self, at: u32, event: &Event) -> R::Value
+        requires held { answers_at self.old at event.now }
         requires range { CanBelieve stands_for self.old event.now }
         ensures kept { (m : Meaning) → stands_for self.old m → stands_for self.new m }
         ensures belief { (m : Meaning) → stands_for self.old m → IsBelief R.encloses R.has_grade R.is_exact R.plus_of m event.now result };
 
-    // An event that has a home in the tree can be answered.
-    ghost home_fits: { (engine : Self) (m : Meaning) (event : List Pair) → stands_for engine m → is_some (home m.tree event) ≡ true → fitting engine event ≡ true };
+    // An event can be answered in each clique that holds it.
+    ghost held_is_answered: { (engine : Self) (m : Meaning) (at : ℕ) (event : List Pair) → stands_for engine m → IsHeldAt m.tree at event → answers_at engine at event };
+
+    // What speaks of its variables is placed in its home.
+    ghost home_is_place: { (engine : Self) (m : Meaning) (at : ℕ) (event : List Pair) → stands_for engine m → home m.tree event ≡ Some at → places_at engine at event };
 }

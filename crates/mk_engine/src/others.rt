@@ -9,14 +9,15 @@ use crate::Engine;
 use mk_net::{Event, Pair, Question};
 use mk_semiring::Semiring;
 
-/// The plus of the beliefs in the other values of a question's variable, of which there are `values`, under its condition.
-/// It leaves what the engine stands for as it was.
+/// The plus of the beliefs in the other values of a question's variable, of which there are `values`, under its condition, asked in
+/// a clique that holds the question. It leaves what the engine stands for as it was.
 pub fn belief_of_others<R: Semiring, E: Engine<R>>(
     engine: &mut E,
+    at: u32,
     asked: &Question,
     values: u32,
 ) -> R::Value
-    requires { CanAskOthers E.stands_for engine.old asked.now values }
+    requires { CanAskOthers E.stands_for engine.old at asked.now values }
     ensures kept { (m : Meaning) → E.stands_for engine.old m → E.stands_for engine.new m }
     ensures belief { (m : Meaning) → E.stands_for engine.old m → values ≡ slice_index (sizes m.network) asked.now.target.variable
         → IsOthersBelief R.encloses R.has_grade R.is_exact R.plus_of m asked.now values result }
@@ -25,7 +26,7 @@ pub fn belief_of_others<R: Semiring, E: Engine<R>>(
     let mut others = R::absent();
     for value in 0..values {
         if value != target.value {
-            let belief = engine.belief(&with_value(asked, value));
+            let belief = engine.belief(at, &with_value(asked, value));
             others = R::plus(&others, &belief);
         }
     }

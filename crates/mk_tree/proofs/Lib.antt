@@ -5,3 +5,4 @@ pub mod Families
 pub mod Tested
 pub mod Cells
 pub mod Faultless
+pub mod Held

@@ -2,3 +2,4 @@ pub mod Given
 pub mod Tests
 pub mod Checked
 pub mod Laws
+pub mod Held

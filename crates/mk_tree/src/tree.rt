@@ -1,6 +1,6 @@
 //! A checked tree.
 
-ghost use Rattle.std.specs.Prelude.{◌≡◌, ◌≢◌, ℕ, ◌<◌, ◌≤◌, length, None, Some, IfOk, IfErr, IfSome, position};
+ghost use Rattle.std.specs.Prelude.{◌≡◌, ◌≢◌, ℕ, ◌<◌, ◌≤◌, [], ◌∷◌, length, None, Some, IfOk, IfErr, IfSome, position};
 ghost use Rattle.mk_tree.specs.Given.{AreLinked, AreOfNetwork, clique_at, link_of, home, holds_event};
 ghost use Rattle.mk_tree.specs.Tests.{tree_fault};
 ghost use Rattle.mk_tree.specs.Checked.{IsTreeOf};
@@ -102,6 +102,15 @@ impl Tree {
         ensures within { IfSome result (λ k. k ≤ length self.now.cliques) }
     {
         let place = first_holder(&self.cliques, event.pairs())?;
+        Some(place as u32 + 1)
+    }
+
+    /// The first clique that holds the variable of a pair. None exactly where no clique does.
+    pub fn pair_home(&self, pair: Pair) -> Option<u32>
+        ensures { result ≡ home self.now (pair ∷ []) }
+    {
+        let pairs = [pair];
+        let place = first_holder(&self.cliques, &pairs)?;
         Some(place as u32 + 1)
     }
 }

@@ -1,5 +1,5 @@
 -- Beliefs in what is possible.
-use Rattle.std.specs.Prelude.{◌≡◌, ℕ, ◌+◌, ◌^◌, ◌≤◌, List, slice_index, true, Option, Some, is_some, IsNone, IfSome, ◌↔◌}
+use Rattle.std.specs.Prelude.{◌≡◌, ℕ, ◌+◌, ◌^◌, ◌≤◌, List, slice_index, true, Option, Some, IsNone, IfSome, ◌↔◌}
 use Rattle.mk_net.specs.Bounds.{max_values}
 use Rattle.mk_net.specs.Network.{Variable, sizes}
 use Rattle.mk_net.specs.Asked.{Asked}
@@ -14,7 +14,8 @@ use Rattle.mk_enclose.specs.Enclosure.{Encloses, IsExact, IsGradedWithin}
 use Rattle.mk_semiring.specs.declared.held.Held.{Held}
 use Rattle.mk_semiring.specs.declared.held.Held.TheVariants.{Present}
 use Rattle.mk_semiring.specs.Held.{HeldEncloses, HasHeldGrade, IsHeldExact}
-use Rattle.mk_tree.specs.Given.{GivenTree, home}
+use Rattle.mk_tree.specs.Given.{GivenTree}
+use Rattle.mk_tree.specs.Held.{IsHeldAt}
 use Rattle.mk_engine.specs.Meaning.{Meaning, max_factors, max_grade}
 use Rattle.mk_beliefs.specs.Meanings.{weights_of}
 use Rattle.mk_assets.specs.declared.assets.Assets.{Assets}
@@ -69,7 +70,7 @@ pub record HasSides (part rest : Held) : Type 0 where
 
 -- the assets are a user's of a market in use, where the question can be answered, its variable has so many values, and both of its
 -- sides have these weights
-pub record CanOpen {E P : Type 0} (stands_for : E → Meaning → Type 0) (assets : Assets E P) (asked : Asked) (values : ℕ) (hit miss : Enclosure) : Type 0 where
+pub record CanOpen {E P : Type 0} (stands_for : E → Meaning → Type 0) (assets : Assets E P) (at : ℕ) (asked : Asked) (values : ℕ) (hit miss : Enclosure) : Type 0 where
   pub network : List Variable
   pub tree : GivenTree
   pub history : List Entry
@@ -77,6 +78,7 @@ pub record CanOpen {E P : Type 0} (stands_for : E → Meaning → Type 0) (asset
   pub owns : Owns stands_for assets (holding_of network tree history user)
   pub is_open : IsOpen network tree history
   pub answered : CanBeAnswered network tree history asked
+  pub held : IsHeldAt tree at (pairs_asked asked)
   pub sized : values ≡ slice_index (sizes network) asked.target.variable
   pub part : IsPartFor network history asked hit
   pub rest : IsRestFor network history asked miss
@@ -92,18 +94,18 @@ pub record IsValueFound (network : List Variable) (H : List Entry) (u : ℕ) (as
   pub none : IsNone found ↔ (cannot_come network H (with_target asked) ≡ true)
   pub bounds : IfSome found (AreValueBoundsOf network H u asked)
 
--- a question in order that has a home
-pub record CanBeValuedHere (network : List Variable) (tree : GivenTree) (H : List Entry) (asked : Asked) : Type 0 where
+-- a question in order that a clique holds
+pub record CanBeValuedHere (network : List Variable) (tree : GivenTree) (H : List Entry) (at : ℕ) (asked : Asked) : Type 0 where
   pub in_order : IsInOrder network H asked
-  pub home : is_some (home tree (pairs_asked asked)) ≡ true
+  pub held : IsHeldAt tree at (pairs_asked asked)
 
 -- the engine has the weights and the assets are a user's of one market in use of this network, where the question is such
 pub record CanFindValue {E A P : Type 0} (stands_for : E → Meaning → Type 0) (owned_for : A → Meaning → Type 0) (prices : E) (assets : Assets A P)
-    (network : List Variable) (asked : Asked) : Type 0 where
+    (network : List Variable) (at : ℕ) (asked : Asked) : Type 0 where
   pub tree : GivenTree
   pub history : List Entry
   pub user : ℕ
   pub stands : stands_for prices (weights_of network tree history)
   pub owns : Owns owned_for assets (holding_of network tree history user)
   pub is_open : IsOpen network tree history
-  pub valued : CanBeValuedHere network tree history asked
+  pub valued : CanBeValuedHere network tree history at asked

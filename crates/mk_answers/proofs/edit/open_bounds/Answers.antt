@@ -1,21 +1,19 @@
-use Rattle.std.proofs.Common.{List, refl, ap, ◌∙◌, arith}
-use Rattle.std.specs.Prelude.{is_some}
-use Rattle.mk_net.specs.declared.words.Pair.{Pair}
+use Rattle.std.proofs.Common.{refl, arith}
 use Rattle.mk_exact.specs.Events.{with_target, without_target}
 use Rattle.mk_exact.specs.Weight.{total, IsSmall}
-use Rattle.mk_tree.specs.Given.{home}
 use Rattle.mk_beliefs.specs.Meanings.{gains_of}
 use Rattle.mk_answers.specs.Open.{holding_of}
+use Rattle.mk_answers.proofs.Homes.{question_is_held}
 use Rattle.mk_answers.proofs.Weights.{event_fits}
 use Rattle.mk_answers.proofs.Presence.{present_comes}
 use Rattle.mk_answers.proofs.Bounding.{can_ask, room_of_gains, sum_fits, some_hit, some_miss, hit_for, miss_for, are_bounds}
 use Rattle.mk_answers.proofs.edit.open_bounds.Goals as goal
 
-pub least-hit_factor-requires-clause-fits : goal.least-hit_factor-requires-clause-fits
-least-hit_factor-requires-clause-fits g c =
+pub least-hit_factor-requires-clause-held : goal.least-hit_factor-requires-clause-held
+least-hit_factor-requires-clause-held g c =
     let a = c.requires in
-    g.met.A.Engine.home_fits c.args.assets.now.engine (gains_of a.network a.tree a.history a.user) c.event.result a.owns.stands
-    (ap (λ (ps : List Pair). is_some (home a.tree ps)) c.event.ensures.pairs ∙ a.answered.home)
+    g.met.A.Engine.held_is_answered c.args.assets.now.engine (gains_of a.network a.tree a.history a.user) c.args.at c.event.result a.owns.stands
+    (question_is_held a.tree c.args.at c.args.asked.now c.event.result c.event.ensures.pairs a.held)
 
 pub least-hit_factor-requires-clause-range : goal.least-hit_factor-requires-clause-range
 least-hit_factor-requires-clause-range g c =
@@ -29,8 +27,8 @@ least-hit_factor-requires-clause-range g c =
 pub least_of_others-miss_factor-requires : goal.least_of_others-miss_factor-requires
 least_of_others-miss_factor-requires g c =
     let a = c.requires in let asked = c.args.asked.now in let h = holding_of a.network a.tree a.history a.user in
-    can_ask a.network a.tree a.history a.user a.is_open asked a.answered g.A.Engine.stands_for c.least-hit_factor.new.self.engine h.meaning c.args.values
-    (c.least-hit_factor.ensures.kept h a.owns).stands refl refl (room_of_gains a.network a.tree a.history a.user a.is_open asked a.answered) a.sized
+    can_ask a.network a.tree a.history a.user a.is_open asked a.answered g.A.Engine.stands_for c.least-hit_factor.new.self.engine h.meaning c.args.at c.args.values
+    (c.least-hit_factor.ensures.kept h a.owns).stands refl refl a.held (room_of_gains a.network a.tree a.history a.user a.is_open asked a.answered) a.sized
 
 pub add-requires : goal.add-requires
 add-requires g c =

@@ -6,7 +6,7 @@ use Rattle.mk_net.specs.inner.KeptEvents.{blank}
 use Rattle.mk_exact.specs.Proper.{IsPairOf}
 use Rattle.mk_engine.specs.Meaning.{ArePairsOf}
 use Rattle.mk_beliefs.specs.Meanings.{weights_of}
-use Rattle.mk_answers.proofs.Homes.{home_of_front}
+use Rattle.mk_tree.proofs.Held.{held_take}
 use Rattle.mk_answers.proofs.Searching.{has_room, take_more, goes_on, ends_here, never_comes, may_come}
 use Rattle.mk_answers.proofs.possible.first_impossible.Goals as goal
 
@@ -17,13 +17,13 @@ unreachable-requires g c =
     has_room event place blank c.loop-place.held c.pairs-pair-items.ensures.event within c.loop-place.invariant.front
     (rw c.pairs-pair-items.ensures.pairs at c.in_default.ensures.none)
 
-pub belief-requires-clause-fits : goal.belief-requires-clause-fits
-belief-requires-clause-fits g c =
+pub belief-requires-clause-held : goal.belief-requires-clause-held
+belief-requires-clause-held g c =
     let a = c.requires in let event = c.args.event.now in let place = c.loop-place.place in
     let within : place < length event = rw c.pairs-pair-items.ensures.pairs at c.loop-place-test.true in
     let more : c.in-Some.longer ≡ c.loop-place.held ++ slice_index_or event place blank ∷ [] = rw c.pairs-pair-items.ensures.pairs at c.in-Some.ensures.some in
-    g.met.P.Engine.home_fits c.loop-place.prices (weights_of a.network a.tree a.history) c.in-Some.longer (c.loop-place.invariant.kept _ a.stands)
-    (home_of_front a.tree (place + 1) event c.in-Some.longer (take_more event place blank c.loop-place.held c.in-Some.longer within c.loop-place.invariant.front more) a.home)
+    g.met.P.Engine.held_is_answered c.loop-place.prices (weights_of a.network a.tree a.history) c.args.at c.in-Some.longer (c.loop-place.invariant.kept _ a.stands)
+    (held_take a.tree c.args.at (place + 1) event c.in-Some.longer (take_more event place blank c.loop-place.held c.in-Some.longer within c.loop-place.invariant.front more) a.held)
 
 pub belief-requires-clause-range : goal.belief-requires-clause-range
 belief-requires-clause-range g c =

@@ -8,7 +8,7 @@ use Rattle.mk_semiring.specs.declared.held.Held.{Held}
 use Rattle.mk_beliefs.specs.Meanings.{weights_of}
 use Rattle.mk_answers.specs.inner.Found.{IsBeliefIn}
 use Rattle.mk_answers.proofs.Bounding.{can_ask, room_of_weights, found_of}
-use Rattle.mk_answers.proofs.Homes.{home_of_condition}
+use Rattle.mk_answers.proofs.Homes.{condition_is_held}
 use Rattle.mk_answers.proofs.NoZeros.{hit_some, miss_some, condition_some, none_of}
 use Rattle.mk_answers.proofs.Sided.{priced}
 use Rattle.mk_answers.proofs.Weights.{is_there, hit_in, part_in, miss_in, condition_in, ends_in_order, interval_covers}
@@ -18,8 +18,8 @@ pub belief_of_others-rest-requires : goal.belief_of_others-rest-requires
 belief_of_others-rest-requires g c =
     let a = c.requires in let network = c.args.net.now in let asked = c.args.asked.now in let m = weights_of network a.tree a.history in
     let sized : c.values-values.result ≡ slice_index (sizes network) asked.target.variable = rw c.target.ensures at c.values-values.ensures in
-    can_ask network a.tree a.history 0 a.is_open asked a.answered g.P.Engine.stands_for c.belief-part.new.self m c.values-values.result
-    (c.belief-part.ensures.kept m a.stands) refl refl (room_of_weights network a.tree a.history 0 a.is_open asked a.answered) sized
+    can_ask network a.tree a.history 0 a.is_open asked a.answered g.P.Engine.stands_for c.belief-part.new.self m c.args.at c.values-values.result
+    (c.belief-part.ensures.kept m a.stands) refl refl a.held (room_of_weights network a.tree a.history 0 a.is_open asked a.answered) sized
 
 pub price_of_sides-requires : goal.price_of_sides-requires
 price_of_sides-requires g c =
@@ -48,11 +48,11 @@ returns-then-not-is_empty-clause-price g c = λ tree H stands is_open answered.
           (c.belief_of_others-rest.ensures.belief m (c.belief-part.ensures.kept m stands) sized);
     })
 
-pub belief-whole-requires-clause-fits : goal.belief-whole-requires-clause-fits
-belief-whole-requires-clause-fits g c =
+pub belief-whole-requires-clause-held : goal.belief-whole-requires-clause-held
+belief-whole-requires-clause-held g c =
     let a = c.requires in let m = weights_of c.args.net.now a.tree a.history in
-    g.met.P.Engine.home_fits c.belief-part.new.self m c.condition-condition.result (c.belief-part.ensures.kept m a.stands)
-    (home_of_condition a.tree c.args.asked.now c.condition-condition.result c.condition-condition.ensures.condition a.answered.home)
+    g.met.P.Engine.held_is_answered c.belief-part.new.self m c.args.at c.condition-condition.result (c.belief-part.ensures.kept m a.stands)
+    (condition_is_held a.tree c.args.at c.args.asked.now c.condition-condition.result c.condition-condition.ensures.condition a.held)
 
 pub enclosure_of-requires : goal.enclosure_of-requires
 enclosure_of-requires g c =

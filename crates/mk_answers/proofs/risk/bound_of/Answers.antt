@@ -1,13 +1,13 @@
 use Rattle.mk_beliefs.specs.Meanings.{rows_of}
-use Rattle.mk_answers.proofs.Homes.{home_of_nothing}
+use Rattle.mk_answers.proofs.Homes.{nothing_at_root}
 use Rattle.mk_answers.proofs.Losing.{least_left, least_there, encloses_least, graded, exact_where, in_range, at_most_all, covers_least}
 use Rattle.mk_answers.proofs.risk.bound_of.Goals as goal
 
-pub belief-requires-clause-fits : goal.belief-requires-clause-fits
-belief-requires-clause-fits g c =
+pub belief-requires-clause-held : goal.belief-requires-clause-held
+belief-requires-clause-held g c =
     let a = c.requires.rows in
-    g.met.A.Engine.home_fits c.args.rows.now (rows_of c.args.net.now a.tree a.history) c.empty.result a.stands
-    (home_of_nothing a.tree c.empty.result c.empty.ensures a.is_open.tree_of_it.linked.some)
+    g.met.A.Engine.held_is_answered c.args.rows.now (rows_of c.args.net.now a.tree a.history) 1 c.empty.result a.stands
+    (nothing_at_root a.tree c.empty.result c.empty.ensures a.is_open.tree_of_it.linked.some)
 
 pub enclosure_of-least-requires : goal.enclosure_of-least-requires
 enclosure_of-least-requires g c =

@@ -1,15 +1,15 @@
 use Rattle.std.proofs.Common.{arith}
 use Rattle.mk_beliefs.specs.Meanings.{gains_of}
 use Rattle.mk_answers.specs.Open.{holding_of}
-use Rattle.mk_answers.proofs.Homes.{home_of_nothing}
+use Rattle.mk_answers.proofs.Homes.{nothing_at_root}
 use Rattle.mk_answers.proofs.Least.{some_worst, worst_for, worst_in_range}
 use Rattle.mk_answers.proofs.worst.least_of.Goals as goal
 
-pub least-requires-clause-fits : goal.least-requires-clause-fits
-least-requires-clause-fits g c =
+pub least-requires-clause-held : goal.least-requires-clause-held
+least-requires-clause-held g c =
     let a = c.requires in
-    g.met.A.Engine.home_fits c.args.assets.now.engine (gains_of a.network a.tree a.history a.user) c.empty.result a.owns.stands
-    (home_of_nothing a.tree c.empty.result c.empty.ensures a.is_open.tree_of_it.linked.some)
+    g.met.A.Engine.held_is_answered c.args.assets.now.engine (gains_of a.network a.tree a.history a.user) 1 c.empty.result a.owns.stands
+    (nothing_at_root a.tree c.empty.result c.empty.ensures a.is_open.tree_of_it.linked.some)
 
 pub factor_of-requires : goal.factor_of-requires
 factor_of-requires g c =

@@ -1,14 +1,14 @@
 use Rattle.std.proofs.Common.{◌≡◌, ◌∙◌, sym, ap}
 use Rattle.mk_net.specs.declared.words.Pair.{Pair}
-use Rattle.mk_engine.proofs.Found.{has_home, found_same, found_more}
+use Rattle.mk_engine.proofs.Found.{case_is_held, found_same, found_more}
 use Rattle.mk_engine.proofs.others.belief_of_others.Goals as goal
 use Rattle.mk_engine.proofs.others.belief_of_others.Goals.{then-value-target, else-value-target}
 
-pub belief-belief-requires-clause-fits : goal.belief-belief-requires-clause-fits
-belief-belief-requires-clause-fits g c =
+pub belief-belief-requires-clause-held : goal.belief-belief-requires-clause-held
+belief-belief-requires-clause-held g c =
     let a = c.requires in
-    g.met.E.Engine.home_fits c.loop-value.engine a.meaning c.with_value.result (c.loop-value.invariant.kept a.meaning a.stands)
-    (has_home a.meaning.tree c.args.asked.now c.loop-value.value c.with_value.result c.with_value.ensures a.home)
+    g.met.E.Engine.held_is_answered c.loop-value.engine a.meaning c.args.at c.with_value.result (c.loop-value.invariant.kept a.meaning a.stands)
+    (case_is_held a.meaning.tree c.args.at c.args.asked.now c.loop-value.value c.with_value.result c.with_value.ensures a.held)
 
 pub loop-value-preserved : goal.loop-value-preserved
 loop-value-preserved g c =
