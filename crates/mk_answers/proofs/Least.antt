@@ -1,7 +1,7 @@
 -- The least factors of a user's assets in a market in use.
 use Rattle.std.proofs.Common.{◌≡◌, ℕ, zero, suc, ℤ, pos, negsuc, ◌+◌, ◌*◌, ◌^◌, ◌<◌, ◌≤◌, ◌↔◌, true, false, cond, List, [], ◌∷◌, ◌++◌, map, length, Option, Some, None, IsSome, refl, sym, ap, subst, ◌∙◌, arith}
-use Rattle.std.specs.Prelude.{is_some}
-use Rattle.std.specs.List.{count_by}
+use Rattle.std.specs.Prelude.{is_some, IfSome}
+use Rattle.std.specs.List.{count_by, AllByRecursion}
 use Rattle.std.proofs.lemmas.List.{length-map}
 use Rattle.std.proofs.lemmas.List.Sums.{sum_by-cons}
 use Rattle.std.proofs.Common.{length-append}
@@ -11,13 +11,16 @@ use Rattle.mk_net.specs.Bounds.{max_points_per_bit, max_values}
 use Rattle.mk_net.specs.Network.{Variable}
 use Rattle.mk_net.specs.Zeros.{with_zeros}
 use Rattle.mk_exact.specs.Events.{always}
-use Rattle.mk_exact.specs.Factors.{factor_with, least_gain, trade_count}
+use Rattle.mk_exact.specs.Factors.{HoldsNoTrade, gain, factor_with, least_gain, trade_count}
 use Rattle.mk_exact.specs.History.{Entry, UserTrade, deposited, withdrawn, trades_of}
-use Rattle.mk_exact.specs.Weight.{IsSmall}
-use Rattle.mk_exact.proofs.ExistMarkets.{least_gain_exists}
+use Rattle.mk_exact.specs.Ratios.{ratio_at}
+use Rattle.mk_exact.specs.States.{product_by}
+use Rattle.mk_exact.specs.Weight.{IsSmall, possible_states}
+use Rattle.mk_exact.proofs.ExistMarkets.{least_gain_exists, of_least}
 use Rattle.mk_cell.specs.Least.{least}
 use Rattle.mk_tree.specs.Given.{GivenTree}
 use Rattle.mk_enclose.specs.declared.factor.Factor.{Factor}
+use Rattle.mk_enclose.specs.Enclosure.{Encloses}
 use Rattle.mk_enclose.specs.Factor.{paid_in, taken_out, StandsFor}
 use Rattle.mk_enclose.specs.inner.Standing.{stands_for}
 use Rattle.mk_engine.specs.Meaning.{Factor as Multiplied, SupportOf, RatioOf, is_ratio, exact_belief, max_factors, max_grade}
@@ -67,6 +70,14 @@ trades_are : (ks : List ℕ) (ts : List UserTrade) → count_by is_ratio (map Su
 trades_are [] ts = ratios_are ts
 trades_are (k ∷ ks) ts = trades_are ks ts
 
+-- the gain of a user who holds no trade is one, in each state
+none_gained : (ts : List UserTrade) (s : List ℕ) → length ts ≡ 0 → product_by (λ (t : UserTrade). ratio_at t.ratio s) ts ≡ 1
+none_gained [] s none = refl
+none_gained (t ∷ ts) s none = absurd (omega arith)
+
+idle_gain : (H : List Entry) (u : ℕ) → HoldsNoTrade H u → (s : List ℕ) → gain H u s ≡ 1
+idle_gain H u none s = none_gained (trades_of H u) s none
+
 module _ (network : List Variable) (tree : GivenTree) (H : List Entry) (u : ℕ) (is_open : IsOpen network tree H) where
   few : length (gains_of network tree H u).factors ≤ max_factors
   few = (factors_are_few network tree H u is_open.legal is_open.within.few_trades).1
@@ -92,6 +103,9 @@ module _ (network : List Variable) (tree : GivenTree) (H : List Entry) (u : ℕ)
       graded = record { grade = most; small = omega (arith, close, few); has = its.grade.0 };
       exact = λ s. its.exact (gains_are_small network tree H u is_open.legal is_open.proper s);
     }
+
+    pub encloses_least : (g : ℕ) → n ≡ g → Encloses f.gain g
+    encloses_least g e = subst (Encloses f.gain) e its.gain
 
     own_few : trade_count H u ≤ max_factors
     own_few =
@@ -120,6 +134,17 @@ module _ (network : List Variable) (tree : GivenTree) (H : List Entry) (u : ℕ)
   pub always_is : (g : ℕ) → least_gain network H u always ≡ Some g → exact_belief least (gains_of network tree H u) [] ≡ g
   always_is g e = (present_is (exact_belief least (gains_of network tree H u) []) g (sym (all_is_least network tree H u is_open.legal is_open.proper) ∙ e)).0
 
+  -- which is one where the user holds no trade
+  always_one : HoldsNoTrade H u → exact_belief least (gains_of network tree H u) [] ≡ 1
+  always_one none =
+      let has = least_gain_exists network H u is_open.legal is_open.proper is_open.sound in
+      let one : IfSome (least_gain network H u always) (λ g. g ≡ 1) = of_least (gain H u) (λ g. g ≡ 1) (possible_states network H always) (each_one (possible_states network H always)) in
+      always_is has.least has.is_least ∙ subst (λ (o : Option ℕ). IfSome o (λ g. g ≡ 1)) has.is_least one
+    where
+      each_one : (ss : List (List ℕ)) → AllByRecursion (λ s. gain H u s ≡ 1) ss
+      each_one [] = tt
+      each_one (s ∷ ss) = (idle_gain H u none s, each_one ss)
+
   module _ (event : List Pair) (nothing : event ≡ []) (most : ℕ) (result : Option Factor)
       (least_is : IsLeastFactor (holding_of network tree H u) (exact_belief least (gains_of network tree H u) event) most result) where
     over_all : IsLeastFactor (holding_of network tree H u) (exact_belief least (gains_of network tree H u) []) most result
@@ -131,6 +156,9 @@ module _ (network : List Variable) (tree : GivenTree) (H : List Entry) (u : ℕ)
     module _ (f : Factor) (is : result ≡ Some f) (close : most ≤ length (gains_of network tree H u).factors + max_grade + max_values) where
       pub worst_for : (g : ℕ) → least_gain network H u always ≡ Some g → IsFactorFor f (IsSmall network H) (factor_with H u g)
       worst_for g e = factor_for (exact_belief least (gains_of network tree H u) []) most result f is over_all close g (always_is g e)
+
+      pub worst_idle : HoldsNoTrade H u → Encloses f.gain 1
+      worst_idle none = encloses_least (exact_belief least (gains_of network tree H u) []) most result f is over_all close 1 (always_one none)
 
       pub worst_in_range : deposited H u ≤ max_bits → withdrawn H u ≤ max_bits → (b : ℕ) → b ≤ max_points_per_bit → HasPowersInRange f b
       worst_in_range few_in few_out = factor_in_range (exact_belief least (gains_of network tree H u) []) most result f is over_all close few_in few_out

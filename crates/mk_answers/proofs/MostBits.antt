@@ -5,10 +5,10 @@ use Rattle.std.proofs.lemmas.Nat.{pow-add, pow_pos}
 use Rattle.std.proofs.Math.Nat.{pow-zero, pow-suc, pow-le-pow_right, mul-le-mul_left, mul-le-mul_right, mul-lt-mul_of_pos_right, one-le-mul, one-le-pow, le_of_mul-le-mul_right, lt_of_mul-lt-mul_right}
 use Rattle.mk_exact.specs.Accepted.{Covers, IsMost}
 use Rattle.mk_exact.specs.Factors.{Fraction, IsAtLeastOne}
+use Rattle.mk_scaled.specs.Near.{IsNear, near_width}
 use Rattle.mk_enclose.specs.declared.factor.Factor.{Factor}
-use Rattle.mk_enclose.specs.Enclosure.{lower_of, upper_of, IsExact, IsGradedWithin}
+use Rattle.mk_enclose.specs.Enclosure.{lower_of, upper_of, Encloses, IsExact, IsGradedWithin}
 use Rattle.mk_enclose.specs.Factor.{paid_in, taken_out, StandsFor, BitsFit}
-use Rattle.mk_enclose.specs.inner.Widths.{narrow_ends}
 use Rattle.mk_answers.specs.Open.{IsFactorFor}
 
 -- ---- over plain numbers: n / d is g with p for a factor above the line, and s below it
@@ -21,12 +21,13 @@ within k n d s p g low same below fit positive =
     le_of_mul-le-mul_right c positive
 
 -- a number below the next power of two, by the ends that are near each other
-nearly : (k n d s p g low high : ℕ) → n * s ≡ p * g * d → g ≤ high → high * 2 ^ 40 ≤ low * (2 ^ 40 + 1) → low * p < k * s → 1 ≤ d
-    → n * 2 ^ 40 < k * d * (2 ^ 40 + 1)
-nearly k n d s p g low high same above near short positive =
-    let a : p * d * (g * 2 ^ 40) ≤ p * d * (low * (2 ^ 40 + 1)) = mul-le-mul_left (p * d) (le_trans (mul-le-mul_right (2 ^ 40) above) near) in
-    let b : low * p * d < k * s * d = mul-lt-mul_of_pos_right short positive in
-    let c : n * 2 ^ 40 * s < k * d * (2 ^ 40 + 1) * s = omega arith in
+nearly : (k n d s p g low high less more : ℕ) → n * s ≡ p * g * d → g ≤ high → high * less ≤ low * more → low * p < k * s → 1 ≤ d → 1 ≤ more
+    → n * less < k * d * more
+nearly k n d s p g low high less more same above near short positive some =
+    let a : p * d * (g * less) ≤ p * d * (low * more) = mul-le-mul_left (p * d) (le_trans (mul-le-mul_right less above) near) in
+    let b : low * p * (d * more) < k * s * (d * more) = mul-lt-mul_of_pos_right short (one-le-mul positive some) in
+    let e : n * s * less ≡ p * g * d * less = ap (λ z. z * less) same in
+    let c : n * less * s < k * d * more * s = omega arith in
     lt_of_mul-lt-mul_right s c
 
 exactly : (k n d s p g low : ℕ) → n * s ≡ p * g * d → g ≡ low → low * p < k * s → 1 ≤ d → n < k * d
@@ -36,8 +37,16 @@ exactly k n d s p g low same exact short positive =
     let c : n * s < k * d * s = omega arith in
     lt_of_mul-lt-mul_right s c
 
-nearest : (n x : ℕ) → n * 2 ^ 40 < x * (2 ^ 40 + 1) → n * (2 ^ 40 - 1) < x * 2 ^ 40
-nearest n x h = omega arith
+-- a grade leaves the ends within one part in 2^43
+thin : (low high c : ℕ) → 2 ^ 60 - 2 ^ 17 ≤ c → high * c ≤ low * 2 ^ 60 → high * (2 ^ 43 - 1) ≤ low * 2 ^ 43
+thin low high c h l = let m : high * (2 ^ 60 - 2 ^ 17) ≤ high * c = mul-le-mul_left high h in omega arith
+
+thin_ends : (low high g : ℕ) → g ≤ 2 ^ 17 → IsNear low high g → high * (2 ^ 43 - 1) ≤ low * 2 ^ 43
+thin_ends low high g h l = thin low high (2 ^ 60 - g) (omega arith) (near_width low high g l)
+
+-- where the ends are such and one is between them, both are one
+one_alone : (low high : ℕ) → 1 ≤ low → low ≤ 1 → 1 ≤ high → high * (2 ^ 43 - 1) ≤ low * 2 ^ 43 → low ≡ high
+one_alone low high some few most near = omega arith
 
 -- ---- over factors
 
@@ -94,19 +103,30 @@ module _ (f : Factor) (bits : ℕ) (are : AreBitsOf f bits) (q : Fraction) (stan
       (λ more. absurd (let l = are.greatest (bits + 1) (record { fit = subst (λ n. n ≤ lower_of f.gain * 2 ^ paid_in f.net) (sym (split (bits + 1) f)) more }) in omega arith))
       (cases_lt (lower_of f.gain * 2 ^ paid_in f.net) (2 ^ (bits + 1) * owed f))
 
-  near : IsGradedWithin f.gain (2 ^ 17) → q.num * (2 ^ 40 - 1) < 2 ^ (bits + 1) * 2 ^ 40 * q.den
+  narrow : IsGradedWithin f.gain (2 ^ 17) → upper_of f.gain * (2 ^ 43 - 1) ≤ lower_of f.gain * 2 ^ 43
+  narrow graded = thin_ends (lower_of f.gain) (upper_of f.gain) graded.grade graded.small graded.has.near
+
+  near : IsGradedWithin f.gain (2 ^ 17) → q.num * (2 ^ 43 - 1) < 2 ^ (bits + 1) * 2 ^ 43 * q.den
   near graded =
-      let narrow = narrow_ends (lower_of f.gain) (upper_of f.gain) graded.grade graded.small graded.has.near in
-      let l = nearest q.num (2 ^ (bits + 1) * q.den)
-      (nearly (2 ^ (bits + 1)) q.num q.den (owed f) (2 ^ paid_in f.net) stands.gain (lower_of f.gain) (upper_of f.gain) same stands.encloses.upper narrow short stands.positive) in
+      let l = nearly (2 ^ (bits + 1)) q.num q.den (owed f) (2 ^ paid_in f.net) stands.gain (lower_of f.gain) (upper_of f.gain) (2 ^ 43 - 1) (2 ^ 43)
+      same stands.encloses.upper (narrow graded) short stands.positive (omega arith) in
       omega arith
 
   next : IsExact f.gain → q.num < 2 ^ (bits + 1) * q.den
   next exact = exactly (2 ^ (bits + 1)) q.num q.den (owed f) (2 ^ paid_in f.net) stands.gain (lower_of f.gain) same
       (omega (arith, stands.encloses.lower, stands.encloses.upper, exact.same)) short stands.positive
 
-  pub is_most : (small : Type 0) → IsGradedWithin f.gain (2 ^ 17) → (small → IsExact f.gain) → IsMost small q bits
-  is_most small graded exact = record { within = covered; nearly = near graded; exactly = λ s. next (exact s) }
+  -- a gain that can be one is one
+  one_exact : IsGradedWithin f.gain (2 ^ 17) → Encloses f.gain 1 → IsExact f.gain
+  one_exact graded one = record { same = one_alone (lower_of f.gain) (upper_of f.gain) f.gain.positive one.lower one.upper (narrow graded) }
 
-pub most_for : (f : Factor) (bits : ℕ) → AreBitsOf f bits → (small : Type 0) (q : Fraction) → IsFactorFor f small q → IsAtLeastOne q → IsMost small q bits
+  pub is_most : (small : Type 0) → IsGradedWithin f.gain (2 ^ 17) → (small → IsExact f.gain) → IsMost small (Encloses f.gain 1) q bits
+  is_most small graded exact = record {
+    within = covered;
+    nearly = near graded;
+    exactly = λ either. next (⊎_elim exact (one_exact graded) either);
+  }
+
+pub most_for : (f : Factor) (bits : ℕ) → AreBitsOf f bits → (small : Type 0) (q : Fraction) → IsFactorFor f small q → IsAtLeastOne q
+    → IsMost small (Encloses f.gain 1) q bits
 most_for f bits are small q for least = is_most f bits are q for.stands least small for.graded for.exact

@@ -19,7 +19,8 @@ module _ (small exact : Type 0) (then : small → exact) where
     below = covers.below;
     above = covers.above;
     at_most_one = covers.at_most_one;
-    narrow = covers.narrow;
+    low_near = covers.low_near;
+    high_near = covers.high_near;
     never = covers.never;
     sure = covers.sure;
     floor = λ s. covers.floor (then s);

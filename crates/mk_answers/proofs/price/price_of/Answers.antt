@@ -91,4 +91,4 @@ returns-clause-price g c = λ tree H stands is_open answered.
     (condition_in network tree H is_open asked c.condition-condition.result c.belief-whole.result c.condition-condition.ensures.condition
     (c.belief-whole.ensures.belief m (c.belief-part.ensures.kept m stands)))))
     (miss_some network tree H is_open asked answered no_shares) c.parts.result.0 c.parts.result.1
-    (record { low_is = c.parts.ensures.low; high_is = c.parts.ensures.high; below = c.parts.ensures.below; above = c.parts.ensures.above; narrow = c.parts.ensures.narrow }))
+    (record { low_is = c.parts.ensures.low; high_is = c.parts.ensures.high; below = c.parts.ensures.below; above = c.parts.ensures.above }))

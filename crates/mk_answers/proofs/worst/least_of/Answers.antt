@@ -2,7 +2,7 @@ use Rattle.std.proofs.Common.{arith}
 use Rattle.mk_beliefs.specs.Meanings.{gains_of}
 use Rattle.mk_answers.specs.Open.{holding_of}
 use Rattle.mk_answers.proofs.Homes.{nothing_at_root}
-use Rattle.mk_answers.proofs.Least.{some_worst, worst_for, worst_in_range}
+use Rattle.mk_answers.proofs.Least.{some_worst, worst_for, worst_idle, worst_in_range}
 use Rattle.mk_answers.proofs.worst.least_of.Goals as goal
 
 pub least-requires-clause-held : goal.least-requires-clause-held
@@ -20,6 +20,11 @@ pub returns-clause-least : goal.returns-clause-least
 returns-clause-least g c = λ network tree H u gain owns is_open is_least.
     worst_for network tree H u is_open c.empty.result c.empty.ensures _ c.least.result (c.least.ensures.least (holding_of network tree H u) owns)
     c.factor_of.result c.factor_of.ensures (omega arith) gain is_least
+
+pub returns-clause-idle : goal.returns-clause-idle
+returns-clause-idle g c = λ network tree H u owns is_open none.
+    worst_idle network tree H u is_open c.empty.result c.empty.ensures _ c.least.result (c.least.ensures.least (holding_of network tree H u) owns)
+    c.factor_of.result c.factor_of.ensures (omega arith) none
 
 pub returns-clause-range : goal.returns-clause-range
 returns-clause-range g c =
