@@ -321,7 +321,7 @@ module _ (file : MarketFile) (H : List Entry) (q : QuestionText) (asked : Asked)
   pub plain_answered : IsQuestionFor (market_of file) file.tree H q asked
   plain_answered = can_answer file H q asked named known plain_question plain_free plain_agreed at_home
 
-pub where_ok : {P : Type 0} (r : Result ⊤ Refusal) → (refusal_in r ≡ None → P) → IfOk r (λ _. P)
+pub where_ok : {T P : Type 0} (r : Result T Refusal) → (refusal_in r ≡ None → P) → IfOk r (λ _. P)
 where_ok (Ok x) h = h refl
 where_ok (Err why) h = tt
 

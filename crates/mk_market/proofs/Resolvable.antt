@@ -18,40 +18,14 @@ use Rattle.mk_exact.specs.Weight.{cannot_come}
 use Rattle.mk_exact.proofs.Coming.{comes_in}
 use Rattle.mk_exact.proofs.Remains.{state_remains}
 use Rattle.mk_exact.proofs.Zeros.{no_zeros}
-use Rattle.mk_tree.specs.Given.{GivenTree, home, holds_event}
-use Rattle.mk_tree.specs.Checked.{IsTreeOf}
-use Rattle.mk_tree.specs.Tests.{holds_family}
+use Rattle.mk_tree.specs.Given.{GivenTree}
+use Rattle.mk_tree.proofs.Held.{home_is_held}
 use Rattle.mk_engine.specs.Meaning.{Meaning}
 use Rattle.mk_answers.specs.Calls.{CanSearch}
 use Rattle.mk_answers.specs.Open.{IsOpen}
 use Rattle.mk_answers.specs.Results.{first_impossible}
 use Rattle.mk_market.specs.Refused.{CanBeResolved}
 use Rattle.mk_market.specs.inner.Stopped.{CanAskOfPair}
-
--- ---- the home of one pair
-
--- where some item passes a test, the first that passes a weaker one is among them
-below : {X : Type 0} (p q : X → Bool) → ((x : X) → p x ≡ true → q x ≡ true) → (xs : List X) → list_any p xs ≡ true → position_or_len q xs < length xs
-below p q weaker [] h = absurd (cc)
-below {X} p q weaker (x ∷ xs) h = at (p x) (q x) (weaker x) h (below p q weaker xs)
-  where
-    at : (a b : Bool) → (a ≡ true → b ≡ true) → (a || list_any p xs) ≡ true → (list_any p xs ≡ true → position_or_len q xs < length xs)
-        → cond (not b) (1 + position_or_len q xs) 0 < length (x ∷ xs)
-    at a true h any rest = omega arith
-    at true false h any rest = absurd (let e = h refl in cc)
-    at false false h any rest = let before = rest any in omega (arith, before)
-
-found_there : (b : Bool) (k : ℕ) → b ≡ true → is_some (option_map (λ (n : ℕ). n + 1) (cond b (Some k) None)) ≡ true
-found_there true k e = refl
-found_there false k e = e
-
-pub home_of_pair : (network : List Variable) (tree : GivenTree) (pair : Pair) → IsTreeOf network tree → pair.variable < length network → is_some (home tree (pair ∷ [])) ≡ true
-home_of_pair network tree pair of_it within =
-    found_there (ltb (position_or_len (holds_event (pair ∷ [])) tree.cliques) (length tree.cliques)) (position_or_len (holds_event (pair ∷ [])) tree.cliques)
-    (lt-ltb _ _ (below (holds_family network pair.variable) (holds_event (pair ∷ [])) weaker tree.cliques (of_it.covers pair.variable within)))
-  where
-    weaker : (set : VarSet) → holds_family network pair.variable set ≡ true → holds_event (pair ∷ []) set ≡ true
-    weaker set h = and_from (is_member set pair.variable) true (and_parts (is_member set pair.variable) _ h).0 refl
 
 -- ---- one pair as an event
 
@@ -102,14 +76,14 @@ module _ (network : List Variable) (H : List Entry) (pair : Pair) (can : CanBeRe
       (state_remains network H (pair ∷ []) is_open.legal (no_zeros network none) is_open.proper (can.in_range, tt) (refl, tt) (silent (resolutions H) can.unresolved, tt))
 
 -- it can be searched for
-pub can_search : {E : Type 0} (stands_for : E → Meaning → Type 0) (prices : E) (network : List Variable) (pair : Pair) (event : List Pair) → event ≡ pair ∷ []
-    → CanAskOfPair stands_for prices network pair → CanSearch stands_for prices event
-can_search stands_for prices network pair event is can = rw is (record {
+pub can_search : {E : Type 0} (stands_for : E → Meaning → Type 0) (prices : E) (network : List Variable) (at : ℕ) (pair : Pair) (event : List Pair) → event ≡ pair ∷ []
+    → CanAskOfPair stands_for prices network at pair → CanSearch stands_for prices at event
+can_search stands_for prices network at pair event is can = rw is (record {
   network = network;
   tree = can.tree;
   history = can.history;
   stands = can.stands;
   is_open = can.is_open;
   in_range = (can.resolvable.in_range, tt);
-  home = home_of_pair network can.tree pair can.is_open.tree_of_it can.resolvable.in_range.variable;
+  held = home_is_held can.tree at (pair ∷ []) can.at_home;
 })

@@ -21,6 +21,8 @@ use Rattle.mk_exact.specs.History.{Entry, trades}
 use Rattle.mk_exact.proofs.Sums.{each_weaker}
 use Rattle.mk_spread.specs.Spreads.{SpreadAsked, asked_of}
 use Rattle.mk_tree.specs.Given.{GivenTree, home, holds_event}
+use Rattle.mk_tree.specs.Held.{IsHeldAt}
+use Rattle.mk_tree.proofs.Held.{home_is_held}
 use Rattle.mk_file.specs.declared.market_file.MarketFile.{MarketFile}
 use Rattle.mk_file.specs.MarketOf.{market_of}
 use Rattle.mk_command.specs.declared.command.Command.TheVariants.{Bounds, Spread}
@@ -96,6 +98,11 @@ same_holds set (p ∷ condition) a b same = ap (λ (rest : Bool). is_member set 
 
 each_home : (tree : GivenTree) (condition : List Pair) (a b : Pair) → a.variable ≡ b.variable → home tree (condition ++ a ∷ []) ≡ home tree (condition ++ b ∷ [])
 each_home tree condition a b same = ap (λ (test : VarSet → Bool). option_map (λ (k : ℕ). k + 1) (position test tree.cliques)) (fun_ext (λ set. same_holds set condition a b same))
+
+-- the home of the first value holds each
+pub value_is_held : (tree : GivenTree) (at : ℕ) (spread : SpreadAsked) (value : ℕ) → home tree (pairs_asked (asked_of spread 0)) ≡ Some at
+    → IsHeldAt tree at (pairs_asked (asked_of spread value))
+value_is_held tree at spread value at_home = home_is_held tree at _ (each_home tree spread.condition _ _ refl ∙ at_home)
 
 -- a distribution is wide exactly where its variable's first value has no home
 pub spread_is_homeless : (file : MarketFile) (H : List Entry) (v : List ℕ) (ps : List PairText) (spread : SpreadAsked) → spread_named file.net v ps ≡ Some spread

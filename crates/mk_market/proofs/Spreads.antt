@@ -292,12 +292,9 @@ module _ (file : MarketFile) (journal : JournalOf) (open_for : IsOpen file.net f
   pub of_values : AreOfValues factors.items × All IsUnits factors.items
   of_values = fair_list_fits file.net journal.history user spread to.items factors.items list open_for.legal is_question.answered.in_order.in_range.variable
 
-  -- the ratio is the network's, and has a home
+  -- the ratio is the network's
   pub ratio_is : IsRatioOf file.net (spread_ratio spread factors.items)
   ratio_is = fair_list_is_ratio file.net journal.history user spread to.items factors.items list is_question.answered.in_order.in_range
-
-  pub ratio_has_home : is_some (home file.tree (ratio_pairs (spread_ratio spread factors.items))) ≡ true
-  ratio_has_home = is_question.answered.home 0
 
   module _ {A Plan : Type 0} (members new_members : List (Member A Plan)) (new_journal : JournalOf) (seen : Option ℕ)
       (none : None ≡ first_refusal (market_of file) journal.history (Spread name v condition to seen)) (inside : InsideEach (intervals_of quote) to.items)

@@ -9,9 +9,12 @@ use Rattle.mk_net.specs.Network.{Variable, sizes}
 use Rattle.mk_exact.specs.History.{Entry}
 use Rattle.mk_spread.specs.Bounds.{InsideEach}
 use Rattle.mk_spread.specs.Markets.{values_left}
-use Rattle.mk_spread.specs.Spreads.{SpreadAsked}
+use Rattle.mk_spread.specs.Spreads.{SpreadAsked, asked_of}
+use Rattle.mk_quote.specs.Questions.{spread_in}
+use Rattle.mk_net.specs.Events.{pairs_asked}
+use Rattle.mk_market.specs.declared.requests.SpreadRequest.{SpreadRequest}
 use Rattle.mk_spread.proofs.Suits.{is_impossible}
-use Rattle.mk_tree.specs.Given.{GivenTree}
+use Rattle.mk_tree.specs.Given.{GivenTree, home}
 use Rattle.mk_file.specs.declared.market_file.MarketFile.{MarketFile}
 use Rattle.mk_file.specs.MarketOf.{market_of}
 use Rattle.mk_engine.specs.Meaning.{Meaning}
@@ -161,19 +164,21 @@ module _ {P A Plan : Type 0} (weights_stand : P → Meaning → Type 0) (gains_s
     open_for = is_open weights_stand gains_stand plan_for file prices rows plan members accounts journal payments kept
 
     -- the engine can find the words of what stops it
-    pub can_refuse : (words : List PairText) → words ≡ condition.items → unknown file.net condition.items ≡ None
+    pub can_refuse : (request : SpreadRequest) → spread_in request.question ≡ spread → home file.tree (pairs_asked (asked_of (spread_in request.question) 0)) ≡ Some request.home
+        → (words : List PairText) → words ≡ condition.items → unknown file.net condition.items ≡ None
         → ((m : Meaning) → weights_stand prices m → weights_stand new_prices m) → (why : Stopped) → MayStop file.net journal.history spread why
-        → CanRefuseSpread weights_stand new_prices file.net v words spread why
-    can_refuse words same known still why may =
-        subst (λ (ps : List PairText). CanRefuseSpread weights_stand new_prices file.net v ps spread why) (sym same) (record {
+        → CanRefuseSpread weights_stand new_prices file.net v words request why
+    can_refuse request its at_home words same known still why may =
+        subst (λ (ps : List PairText). CanRefuseSpread weights_stand new_prices file.net v ps request why) (sym same) (record {
           tree = file.tree;
           history = journal.history;
           stands = still (weights_of file.net file.tree journal.history) kept.prices_stand;
           is_open = open_for;
-          named = is_question.named;
+          named = rw its is_question.named;
           known = known;
-          answered = is_question.answered;
-          may_stop = may;
+          answered = rw its is_question.answered;
+          at_home = at_home;
+          may_stop = rw its may;
         })
 
     -- a condition that no refusal meets is known

@@ -12,7 +12,9 @@ use Rattle.mk_exact.specs.Events.{holds, with_target, without_target}
 use Rattle.mk_exact.specs.History.{Entry}
 use Rattle.mk_exact.specs.Proper.{IsPairOf}
 use Rattle.mk_exact.specs.Weight.{cannot_come}
-use Rattle.mk_tree.specs.Given.{GivenTree}
+use Rattle.mk_net.specs.Events.{pairs_asked}
+use Rattle.mk_tree.specs.Given.{GivenTree, home}
+use Rattle.mk_tree.proofs.Held.{home_is_held}
 use Rattle.mk_file.specs.declared.market_file.MarketFile.{MarketFile}
 use Rattle.mk_file.specs.MarketOf.{market_of}
 use Rattle.mk_engine.specs.Meaning.{Meaning}
@@ -26,7 +28,7 @@ use Rattle.mk_rules.proofs.Ready.{edit_refused}
 use Rattle.mk_rules.proofs.Unrefused.{none_applies}
 use Rattle.mk_answers.specs.Open.{IsOpen, CanBeAnswered}
 use Rattle.mk_answers.specs.Results.{AreBothLeft}
-use Rattle.mk_answers.proofs.Homes.{home_of_condition}
+use Rattle.mk_answers.proofs.Homes.{condition_is_held}
 use Rattle.mk_market.specs.declared.last_quote.LastQuote.{LastQuote}
 use Rattle.mk_market.specs.declared.users.Member.{Member}
 use Rattle.mk_market.specs.Journals.{JournalOf}
@@ -54,9 +56,9 @@ edit_known file H name q X seen none = (none_applies (refusals_by_record (market
 module _ {E : Type 0} (stands_for : E → Meaning → Type 0) (prices : E) (network : List Variable) (tree : GivenTree) (H : List Entry)
     (stands : stands_for prices (weights_of network tree H)) (is_open : IsOpen network tree H) (q : QuestionText) (asked : Asked)
     (named : question_named network q ≡ Some asked) (known : unknown network (pairs_of q) ≡ None) (answered : CanBeAnswered network tree H asked) where
-  pub can_refuse_condition : (condition : List Pair) (words : List PairText) → condition ≡ asked.condition → words ≡ q.condition.items → cannot_come network H (holds asked.condition) ≡ true
-      → CanRefuseCondition stands_for prices condition words
-  can_refuse_condition condition words e f cannot = record {
+  pub can_refuse_condition : (at : ℕ) → home tree (pairs_asked asked) ≡ Some at → (condition : List Pair) (words : List PairText) → condition ≡ asked.condition → words ≡ q.condition.items → cannot_come network H (holds asked.condition) ≡ true
+      → CanRefuseCondition stands_for prices at condition words
+  can_refuse_condition at at_home condition words e f cannot = record {
     network = network;
     tree = tree;
     history = H;
@@ -64,7 +66,7 @@ module _ {E : Type 0} (stands_for : E → Meaning → Type 0) (prices : E) (netw
     is_open = is_open;
     condition_by = record { known = slice_known network q words f known; named = pairs_are network q asked condition words named e f };
     in_range = subst (AllByRecursion (IsPairOf network)) (sym e) answered.in_order.in_range.condition;
-    home = home_of_condition tree asked condition e answered.home;
+    held = condition_is_held tree at asked condition e (home_is_held tree at _ at_home);
     cannot = subst (λ (ps : List Pair). cannot_come network H (holds ps) ≡ true) (sym e) cannot;
   }
 

@@ -7,10 +7,10 @@ use Rattle.std.proofs.lemmas.Option.{slice_get_past}
 use Rattle.mk_net.specs.declared.words.Pair.{Pair}
 use Rattle.mk_engine.specs.Meaning.{Meaning}
 use Rattle.mk_assets.specs.declared.assets.Assets.{Assets}
-use Rattle.mk_assets.specs.Holdings.{Holding, Owns, CanLearn, with_known_pair}
+use Rattle.mk_assets.specs.Holdings.{Holding, Owns, with_known_pair}
 use Rattle.mk_market.specs.declared.users.Member.{Member}
 use Rattle.mk_market.specs.Members.{names_of, quotes_of, assets_of, with_assets}
-use Rattle.mk_market.specs.inner.Quoting.{OwnsAt, CanBeTold}
+use Rattle.mk_market.specs.inner.Quoting.{OwnsAt, CanBeTold, CanLearnAt}
 use Rattle.mk_market.proofs.Owned.{names_same, quotes_same, whose}
 
 module _ {A Plan : Type 0} (gains_stand : A → Meaning → Type 0) (pair : Pair) (old : List (Member A Plan)) where
@@ -54,9 +54,9 @@ module _ {A Plan : Type 0} (gains_stand : A → Meaning → Type 0) (pair : Pair
       now_rest u assets from (inr p) = so_far.rest u assets (omega (arith, from)) (p.1)
 
   -- a user who was not told yet can be
-  pub can_be_told : (n : ℕ) (new : List (Member A Plan)) (before : Assets A Plan) → AreToldBefore n new → CanBeTold gains_stand old pair → slice_get (assets_of new) n ≡ Some before
-      → CanLearn gains_stand before pair
-  can_be_told n new before so_far can there = can n before (so_far.rest n before (omega arith) there)
+  pub can_be_told : (at n : ℕ) (new : List (Member A Plan)) (before : Assets A Plan) → AreToldBefore n new → CanBeTold gains_stand old at pair → slice_get (assets_of new) n ≡ Some before
+      → CanLearnAt gains_stand before at pair
+  can_be_told at n new before so_far can there = can n before (so_far.rest n before (omega arith) there)
 
   none_past : (u : ℕ) (new : List (Member A Plan)) (assets : Assets A Plan) → length new ≤ u → slice_get (assets_of new) u ≡ Some assets → ⊥
   none_past u new assets past at =

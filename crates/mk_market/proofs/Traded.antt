@@ -6,6 +6,7 @@ use Rattle.std.proofs.lemmas.List.{length_push}
 use Rattle.mk_net.specs.declared.words.Pair.{Pair}
 use Rattle.mk_net.specs.declared.sets.VarSet.{VarSet}
 use Rattle.mk_net.specs.Asked.{Asked, TradeRatio, ratio_pairs}
+use Rattle.mk_net.specs.Events.{pairs_asked}
 use Rattle.mk_net.specs.Bounds.{max_values, max_market_trades}
 use Rattle.mk_net.specs.Network.{Variable, IsNetwork, sizes}
 use Rattle.mk_net.specs.Named.{nobody}
@@ -23,7 +24,7 @@ use Rattle.mk_beliefs.specs.Meanings.{weights_of, gains_of}
 use Rattle.mk_beliefs.proofs.Grown.{weights_grow, factors_are_few}
 use Rattle.mk_assets.specs.declared.assets.Assets.{Assets}
 use Rattle.mk_assets.specs.Holdings.{Holding, Owns, CanTrade, with_trade}
-use Rattle.mk_answers.specs.Open.{CanBeAnswered, holding_of}
+use Rattle.mk_answers.specs.Open.{holding_of}
 use Rattle.mk_market.proofs.Owned.{holding_grows, holding_same}
 
 -- the same test finds the same place
@@ -56,10 +57,10 @@ module _ (network : List Variable) (legal : IsNetwork network) (asked : Asked) (
   few_values = omega (arith, sized, few_values_at network legal asked.target.variable fits.target.variable)
 
 -- the ratio of an edit has the home of its question
-pub home_of_ratio : (network : List Variable) (tree : GivenTree) (H : List Entry) (asked : Asked) → CanBeAnswered network tree H asked → (hit miss : ℕ)
-    → is_some (home tree (ratio_pairs (ratio_in network asked hit miss))) ≡ true
-home_of_ratio network tree H asked answered hit miss =
-    ap is_some (same_home tree asked.condition (record { variable = asked.target.variable; value = 0 }) asked.target refl) ∙ answered.home
+pub home_of_ratio : (network : List Variable) (tree : GivenTree) (asked : Asked) (at : ℕ) → home tree (pairs_asked asked) ≡ Some at → (hit miss : ℕ)
+    → home tree (ratio_pairs (ratio_in network asked hit miss)) ≡ Some at
+home_of_ratio network tree asked at at_home hit miss =
+    same_home tree asked.condition (record { variable = asked.target.variable; value = 0 }) asked.target refl ∙ at_home
 
 -- what users hold after a trade
 module _ (network : List Variable) (tree : GivenTree) (H : List Entry) (user : ℕ) (ratio : TradeRatio) where

@@ -5,6 +5,7 @@ use crate::market::Market;
 use crate::possible::refuse_decided;
 use crate::quoting::{fresh_quote, present_quote};
 use crate::refusals::{refuse_edit, refuse_limits};
+use crate::requests::EditWish;
 use crate::trading::{ratio_of_edit, trade};
 use mk_engine::Engine;
 use mk_net::{Name, QuestionText};
@@ -19,19 +20,19 @@ impl<P: Engine<SumProd>, A: Engine<MinProd>> Market<P, A> {
     pub(crate) fn limits(&mut self, name: &Name, question: &QuestionText) -> Result<Reply, Refusal>
         ensures { IsAnswered self.old self.new (Limits name.now question.now) (reply_of result) }
     {
-        let (user, asked) = refuse_limits(&self.file, &self.journal, &self.users, name, question)?;
+        let request = refuse_limits(&self.file, &self.journal, &self.users, name, question)?;
         let quote = match fresh_quote(
             &self.file,
             &mut self.prices,
             &mut self.users,
             &self.journal,
-            user,
-            &asked,
+            &request,
         ) {
             Ok(quote) => quote,
-            Err(why) => return Err(refuse_decided(&mut self.prices, question, &asked, why)),
+            Err(why) => return Err(refuse_decided(&mut self.prices, question, &request, why)),
         };
-        self.users.set_quote(user, LastQuote::Limits { quote });
+        self.users
+            .set_quote(request.user, LastQuote::Limits { quote });
         Ok(Reply::Limits {
             limits: quote.limits(),
             at: self.journal.revision(),
@@ -50,38 +51,32 @@ impl<P: Engine<SumProd>, A: Engine<MinProd>> Market<P, A> {
     ) -> Result<Reply, Refusal>
         ensures { IsAnswered self.old self.new (Edit name.now question.now to at) (reply_of result) }
     {
-        let (user, asked) = refuse_edit(
-            &self.file,
-            &self.journal,
-            &self.users,
-            name,
-            question,
-            to,
-            at,
-        )?;
+        let wish = EditWish { question, to, at };
+        let request = refuse_edit(&self.file, &self.journal, &self.users, name, &wish)?;
         let quote = match present_quote(
             &self.file,
             &mut self.prices,
             &mut self.users,
             &self.journal,
-            user,
-            &asked,
+            &request,
         ) {
             Ok(quote) => quote,
-            Err(why) => return Err(refuse_decided(&mut self.prices, question, &asked, why)),
+            Err(why) => return Err(refuse_decided(&mut self.prices, question, &request, why)),
         };
         let Some(units) = quote.judge(to) else {
-            self.users.set_quote(user, LastQuote::Limits { quote });
+            self.users
+                .set_quote(request.user, LastQuote::Limits { quote });
             return Err(Refusal::Beyond {
                 limits: quote.limits(),
             });
         };
-        let ratio = ratio_of_edit(&self.file.net, &asked, units);
+        let ratio = ratio_of_edit(&self.file.net, &request.question, units);
         trade(
             &mut self.prices,
             &mut self.users,
             &mut self.journal,
-            user,
+            request.user,
+            request.home,
             ratio,
         );
         Ok(Reply::Traded {

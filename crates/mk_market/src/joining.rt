@@ -19,7 +19,8 @@ impl<P: Engine<SumProd>, A: Engine<MinProd>> Market<P, A> {
     {
         refuse_user(&self.journal, &self.users, name)?;
         let known = self.journal.known();
-        let Ok(assets) = Assets::start(alloc, &self.plan, &self.file.net, known) else {
+        let Ok(assets) = Assets::start(alloc, &self.plan, &self.file.net, &self.file.tree, known)
+        else {
             return Err(Refusal::Memory);
         };
         let Ok(()) = self.users.join(*name, assets) else {

@@ -15,6 +15,7 @@ mod pricing;
 mod quoting;
 mod refusals;
 mod refusing_spreads;
+mod requests;
 mod resolving;
 mod settling;
 mod spread_quoting;

@@ -15,9 +15,10 @@ ghost use Rattle.mk_answers.specs.Open.{IsOpen};
 ghost use Rattle.mk_market.specs.Refused.{CanBeResolved};
 ghost use Rattle.mk_market.specs.inner.Stopped.{IsAskedBy, IsConditionBy, IsDecidedBy, IsRefusedFor, MayStop, CanRefuse, CanRefuseCondition, CanRefuseSpread, CanAskOfPair};
 
+use crate::requests::{Request, SpreadRequest};
 use mk_answers::first_impossible;
 use mk_engine::Engine;
-use mk_net::{Event, Name, Network, Pair, PairText, Question, QuestionText};
+use mk_net::{Event, Name, Network, Pair, PairText, QuestionText};
 use mk_quote::SpreadQuestion;
 use mk_reply::{Intervals, Refusal};
 use mk_semiring::SumProd;
@@ -74,18 +75,24 @@ impl Stopped {
 pub(crate) fn refuse_decided<P: Engine<SumProd>>(
     prices: &mut P,
     question: &QuestionText,
-    asked: &Question,
+    request: &Request,
     why: Decided,
 ) -> Refusal
-    requires { CanRefuse P.stands_for prices.old question.now asked.now why }
+    requires { CanRefuse P.stands_for prices.old question.now request.now why }
     ensures kept { (m : Meaning) → P.stands_for prices.old m → P.stands_for prices.new m }
     ensures refusal { (network : List Variable) (tree : GivenTree) (H : List Entry) → P.stands_for prices.old (weights_of network tree H)
-        → IsOpen network tree H → IsAskedBy network question.now asked.now → IsDecidedBy network H asked.now why
+        → IsOpen network tree H → IsAskedBy network question.now request.now.question → IsDecidedBy network H request.now.question why
         → first_of (rules.impossible_together network H question.now.condition.items ∷ rules.decided network H question.now ∷ []) ≡ Some result }
 {
     match why {
         Decided::Impossible => {
-            refuse_condition(prices, &asked.condition(), question.condition.as_slice())
+            let condition = request.question.condition();
+            refuse_condition(
+                prices,
+                request.home,
+                &condition,
+                question.condition.as_slice(),
+            )
         }
         Decided::Never => Refusal::Impossible {
             pair: question.target,
@@ -96,20 +103,21 @@ pub(crate) fn refuse_decided<P: Engine<SumProd>>(
     }
 }
 
-/// The refusal of a condition that cannot come, in its words: its first pair with which no possible state is left. It leaves what the
-/// engine stands for as it was.
+/// The refusal of a condition that cannot come, in its words: its first pair with which no possible state is left. It is asked in a
+/// clique that holds the condition, and leaves what the engine stands for as it was.
 pub(crate) fn refuse_condition<P: Engine<SumProd>>(
     prices: &mut P,
+    at: u32,
     condition: &Event,
     words: &[PairText],
 ) -> Refusal
-    requires { CanRefuseCondition P.stands_for prices.old condition.now words.now }
+    requires { CanRefuseCondition P.stands_for prices.old at condition.now words.now }
     ensures kept { (m : Meaning) → P.stands_for prices.old m → P.stands_for prices.new m }
     ensures refusal { (network : List Variable) (tree : GivenTree) (H : List Entry) → P.stands_for prices.old (weights_of network tree H)
         → IsOpen network tree H → IsConditionBy network words.now condition.now → cannot_come network H (holds condition.now) ≡ true
         → rules.impossible_together network H words.now ≡ Some result }
 {
-    match first_impossible(prices, condition) {
+    match first_impossible(prices, at, condition) {
         Some(place) => Refusal::Impossible { pair: words[place] },
         None => unreachable!(),
     }
@@ -121,23 +129,25 @@ pub(crate) fn refuse_stopped<P: Engine<SumProd>>(
     net: &Network,
     variable: &Name,
     condition: &[PairText],
-    asked: &SpreadQuestion,
+    request: &SpreadRequest,
     why: Stopped,
 ) -> Refusal
-    requires { CanRefuseSpread P.stands_for prices.old net.now variable.now condition.now (spread_in asked.now) why }
+    requires { CanRefuseSpread P.stands_for prices.old net.now variable.now condition.now request.now why }
     ensures kept { (m : Meaning) → P.stands_for prices.old m → P.stands_for prices.new m }
     ensures refusal { (tree : GivenTree) (H : List Entry) → P.stands_for prices.old (weights_of net.now tree H) → IsOpen net.now tree H
-        → MayStop net.now H (spread_in asked.now) why → IsRefusedFor net.now H variable.now condition.now (spread_in asked.now) why result }
+        → MayStop net.now H (spread_in request.now.question) why → IsRefusedFor net.now H variable.now condition.now (spread_in request.now.question) why result }
 {
     match why {
         Stopped::Decided(why) => match why {
-            SpreadDecided::Impossible => refuse_condition(prices, &asked.condition, condition),
+            SpreadDecided::Impossible => {
+                refuse_condition(prices, request.home, &request.question.condition, condition)
+            }
             SpreadDecided::Sure(value) => Refusal::Sure {
-                pair: pair_with(net, variable, asked, value),
+                pair: pair_with(net, variable, &request.question, value),
             },
         },
         Stopped::ImpossibleShare(value) => Refusal::Impossible {
-            pair: pair_with(net, variable, asked, value),
+            pair: pair_with(net, variable, &request.question, value),
         },
         Stopped::MissingShare => Refusal::Range { number: 0 },
         Stopped::Outside(intervals) => Refusal::Outside { intervals },
@@ -157,9 +167,14 @@ fn pair_with(net: &Network, variable: &Name, asked: &SpreadQuestion, value: u32)
 }
 
 /// Whether some possible state has a pair of a variable that is not resolved. Where the network has no shares of nothing one has, and
-/// no belief is asked. It leaves what the engine stands for as it was.
-pub(crate) fn can_come<P: Engine<SumProd>>(prices: &mut P, net: &Network, pair: Pair) -> bool
-    requires { CanAskOfPair P.stands_for prices.old net.now pair }
+/// no belief is asked. It is asked in the pair's home, and leaves what the engine stands for as it was.
+pub(crate) fn can_come<P: Engine<SumProd>>(
+    prices: &mut P,
+    net: &Network,
+    home: u32,
+    pair: Pair,
+) -> bool
+    requires { CanAskOfPair P.stands_for prices.old net.now home pair }
     ensures kept { (m : Meaning) → P.stands_for prices.old m → P.stands_for prices.new m }
     ensures found { (tree : GivenTree) (H : List Entry) → P.stands_for prices.old (weights_of net.now tree H) → IsOpen net.now tree H
         → CanBeResolved net.now H pair → result ≡ not (cannot_come net.now H (has pair)) }
@@ -170,5 +185,5 @@ pub(crate) fn can_come<P: Engine<SumProd>>(prices: &mut P, net: &Network, pair: 
     let Some(event) = Event::empty().with(pair) else {
         unreachable!()
     };
-    first_impossible(prices, &event).is_none()
+    first_impossible(prices, home, &event).is_none()
 }

@@ -23,19 +23,20 @@ impl<P: Engine<SumProd>, A: Engine<MinProd>> Market<P, A> {
         ensures priced { IfSome result (λ price. IsAnswered self.old self.new (Price question.now) (reply.Price price.0 price.1)) }
         ensures unpriced { IfNone result (self.new ≡ self.old) }
     {
-        let asked = plain_price(&self.file, &self.journal, question)?;
-        price_of(&mut self.prices, &self.file.net, &asked)
+        let (asked, home) = plain_price(&self.file, &self.journal, question)?;
+        price_of(&mut self.prices, &self.file.net, home, &asked)
     }
 
     /// The price of a question.
     pub(crate) fn price(&mut self, question: &QuestionText) -> Result<Reply, Refusal>
         ensures { IsAnswered self.old self.new (Price question.now) (reply_of result) }
     {
-        let asked = refuse_price(&self.file, &self.journal, question)?;
-        match price_of(&mut self.prices, &self.file.net, &asked) {
+        let (asked, home) = refuse_price(&self.file, &self.journal, question)?;
+        match price_of(&mut self.prices, &self.file.net, home, &asked) {
             Some((low, high)) => Ok(Reply::Price { low, high }),
             None => Err(refuse_condition(
                 &mut self.prices,
+                home,
                 &asked.condition(),
                 question.condition.as_slice(),
             )),

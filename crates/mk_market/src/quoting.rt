@@ -1,7 +1,9 @@
 //! The quotes by which edits are judged.
 
 ghost use Rattle.std.specs.Prelude.{◌≡◌, ◌<◌, ℕ, length, Some, Ok, slice_get, IfSome, IfNone, MatchResult};
+ghost use Rattle.mk_net.specs.Events.{pairs_asked};
 ghost use Rattle.mk_exact.specs.History.{revision};
+ghost use Rattle.mk_tree.specs.Given.{home};
 ghost use Rattle.mk_engine.specs.Meaning.{Meaning};
 ghost use Rattle.mk_assets.specs.Holdings.{Holding};
 ghost use Rattle.mk_quote.specs.declared.quote.Quote.{Quote as Held};
@@ -15,6 +17,7 @@ ghost use Rattle.mk_market.specs.inner.Stopped.{IsDecidedBy};
 use crate::journal::Journal;
 use crate::last_quote::LastQuote;
 use crate::possible::Decided;
+use crate::requests::Request;
 use crate::users::Users;
 use mk_answers::{Sides, bounds_of};
 use mk_engine::Engine;
@@ -30,21 +33,26 @@ pub(crate) fn fresh_quote<P: Engine<SumProd>, A: Engine<MinProd>>(
     prices: &mut P,
     users: &mut Users<A>,
     journal: &Journal,
-    user: u32,
-    asked: &Question,
+    request: &Request,
 ) -> Result<Quote, Decided>
     requires in_use { AreInUse P.stands_for A.stands_for file.now.net file.now.tree journal.now.history prices.old users.old }
-    requires user { user < length users.old }
-    requires answered { CanBeAnswered file.now.net file.now.tree journal.now.history asked.now }
+    requires user { request.now.user < length users.old }
+    requires answered { CanBeAnswered file.now.net file.now.tree journal.now.history request.now.question }
+    requires home { home file.now.tree (pairs_asked request.now.question) ≡ Some request.now.home }
     ensures prices { (m : Meaning) → P.stands_for prices.old m → P.stands_for prices.new m }
     ensures assets { (u : ℕ) (h : Holding) → OwnsAt A.stands_for users.old u h → OwnsAt A.stands_for users.new u h }
     ensures names { names_of users.new ≡ names_of users.old }
     ensures quotes { quotes_of users.new ≡ quotes_of users.old }
-    ensures quote { MatchResult result (λ quote. IsQuoteOf file.now.net file.now.tree journal.now.history user asked.now quote)
-        (λ why. IsDecidedBy file.now.net journal.now.history asked.now why) }
+    ensures quote { MatchResult result (λ quote. IsQuoteOf file.now.net file.now.tree journal.now.history request.now.user request.now.question quote)
+        (λ why. IsDecidedBy file.now.net journal.now.history request.now.question why) }
 {
-    match bounds_of(prices, users.assets(user), &file.net, asked) {
-        Sides::Open(bounds) => Ok(Quote::make(user, *asked, journal.revision(), &bounds)),
+    let Request {
+        user,
+        question,
+        home,
+    } = *request;
+    match bounds_of(prices, users.assets(user), &file.net, home, &question) {
+        Sides::Open(bounds) => Ok(Quote::make(user, question, journal.revision(), &bounds)),
         Sides::Impossible => Err(Decided::Impossible),
         Sides::Never => Err(Decided::Never),
         Sides::Sure => Err(Decided::Sure),
@@ -76,23 +84,24 @@ pub(crate) fn present_quote<P: Engine<SumProd>, A: Engine<MinProd>>(
     prices: &mut P,
     users: &mut Users<A>,
     journal: &Journal,
-    user: u32,
-    asked: &Question,
+    request: &Request,
 ) -> Result<Quote, Decided>
     requires in_use { AreInUse P.stands_for A.stands_for file.now.net file.now.tree journal.now.history prices.old users.old }
     requires quotes { AreKeptQuotes file.now.net file.now.tree journal.now.history (quotes_of users.old) }
-    requires user { user < length users.old }
-    requires answered { CanBeAnswered file.now.net file.now.tree journal.now.history asked.now }
+    requires user { request.now.user < length users.old }
+    requires answered { CanBeAnswered file.now.net file.now.tree journal.now.history request.now.question }
+    requires home { home file.now.tree (pairs_asked request.now.question) ≡ Some request.now.home }
     ensures prices { (m : Meaning) → P.stands_for prices.old m → P.stands_for prices.new m }
     ensures assets { (u : ℕ) (h : Holding) → OwnsAt A.stands_for users.old u h → OwnsAt A.stands_for users.new u h }
     ensures names { names_of users.new ≡ names_of users.old }
     ensures quotes { quotes_of users.new ≡ quotes_of users.old }
-    ensures quote { MatchResult result (λ quote. IsQuoteOf file.now.net file.now.tree journal.now.history user asked.now quote)
-        (λ why. IsDecidedBy file.now.net journal.now.history asked.now why) }
-    ensures last { (quote : Held) → slice_get (quotes_of users.old) user ≡ Some (Some (LastQuote.Limits quote)) → IsFor quote asked.now (revision journal.now.history) → result ≡ Ok quote }
+    ensures quote { MatchResult result (λ quote. IsQuoteOf file.now.net file.now.tree journal.now.history request.now.user request.now.question quote)
+        (λ why. IsDecidedBy file.now.net journal.now.history request.now.question why) }
+    ensures last { (quote : Held) → slice_get (quotes_of users.old) request.now.user ≡ Some (Some (LastQuote.Limits quote))
+        → IsFor quote request.now.question (revision journal.now.history) → result ≡ Ok quote }
 {
-    match last_quote(users, user, asked, journal.revision()) {
+    match last_quote(users, request.user, &request.question, journal.revision()) {
         Some(quote) => Ok(quote),
-        None => fresh_quote(file, prices, users, journal, user, asked),
+        None => fresh_quote(file, prices, users, journal, request),
     }
 }

@@ -2,6 +2,7 @@
 
 ghost use Rattle.std.specs.Prelude.{◌≡◌, ◌≤◌, ◌<◌, ℕ, List, [], ◌∷◌, length, is_none, Some, None, IfOk, IfSome, position};
 ghost use Rattle.std.specs.List.{count_by};
+ghost use Rattle.mk_net.specs.Events.{pairs_asked};
 ghost use Rattle.mk_net.specs.Bounds.{max_users, max_transfers, max_transfer_bits, million};
 ghost use Rattle.mk_net.specs.Firsts.{fault_if, first_of};
 ghost use Rattle.mk_net.specs.Named.{pair_named, variable_named};
@@ -18,6 +19,7 @@ ghost use Rattle.mk_market.specs.Refused.{refusal_in, IsUser, IsQuestionFor, Has
 
 use crate::asking::{ask, ask_plain, known};
 use crate::journal::Journal;
+use crate::requests::{EditWish, Request};
 use crate::users::Users;
 use mk_engine::Engine;
 use mk_file::MarketFile;
@@ -73,39 +75,42 @@ pub(crate) fn refuse_transfer<A: Engine<MinProd>>(
 }
 
 /// What `price` is refused for by the record: a settlement, a pair that is unknown, a variable that occurs twice, a target that is
-/// resolved, a condition that a resolution contradicts, and a question that no clique holds.
+/// resolved, a condition that a resolution contradicts, and a question that no clique holds. Else the question has a home.
 pub(crate) fn refuse_price(
     file: &MarketFile,
     journal: &Journal,
     question: &QuestionText,
-) -> Result<Question, Refusal>
+) -> Result<(Question, u32), Refusal>
     ensures refusal { refusal_in result ≡ first_of (rules.refusals_by_record (market_of file.now) journal.now.history (command.Price question.now)) }
-    ensures question { IfOk result (λ asked. IsQuestionFor (market_of file.now) file.now.tree journal.now.history question.now asked) }
+    ensures question { IfOk result (λ found. IsQuestionFor (market_of file.now) file.now.tree journal.now.history question.now found.0) }
+    ensures home { IfOk result (λ found. home file.now.tree (pairs_asked found.0) ≡ Some found.1) }
 {
     not_settled(journal)?;
     let asked = ask(&file.net, question)?;
-    can_be_answered(file, journal, question, &asked)?;
-    Ok(asked)
+    let home = can_be_answered(file, journal, question, &asked)?;
+    Ok((asked, home))
 }
 
-/// The question of a price without a condition that the record does not refuse. None says nothing: no step to it can hold a refusal, which would
-/// cost more than the step.
+/// The question of a price without a condition that the record does not refuse, and its home. None says nothing: no step to it can hold
+/// a refusal, which would cost more than the step.
 pub(crate) fn plain_price(
     file: &MarketFile,
     journal: &Journal,
     question: &QuestionText,
-) -> Option<Question>
-    ensures refusal { IfSome result (λ asked. first_of (rules.refusals_by_record (market_of file.now) journal.now.history (command.Price question.now)) ≡ None) }
-    ensures question { IfSome result (λ asked. IsQuestionFor (market_of file.now) file.now.tree journal.now.history question.now asked) }
+) -> Option<(Question, u32)>
+    ensures refusal { IfSome result (λ found. first_of (rules.refusals_by_record (market_of file.now) journal.now.history (command.Price question.now)) ≡ None) }
+    ensures question { IfSome result (λ found. IsQuestionFor (market_of file.now) file.now.tree journal.now.history question.now found.0) }
+    ensures home { IfSome result (λ found. home file.now.tree (pairs_asked found.0) ≡ Some found.1) }
 {
     if journal.is_settled() || !question.condition.is_empty() {
         return None;
     }
     let asked = ask_plain(&file.net, question)?;
-    if journal.is_resolved(asked.target().variable) || file.tree.home(&asked.event()).is_none() {
+    if journal.is_resolved(asked.target().variable) {
         return None;
     }
-    Some(asked)
+    let home = file.tree.home(&asked.event())?;
+    Some((asked, home))
 }
 
 /// What `limits` is refused for by the record: as a price, and behind a settlement for an unknown user.
@@ -115,17 +120,22 @@ pub(crate) fn refuse_limits<A: Engine<MinProd>>(
     users: &Users<A>,
     name: &Name,
     question: &QuestionText,
-) -> Result<(u32, Question), Refusal>
+) -> Result<Request, Refusal>
     requires named { names_of users.now ≡ history.users journal.now.history }
     ensures refusal { refusal_in result ≡ first_of (rules.refusals_by_record (market_of file.now) journal.now.history (command.Limits name.now question.now)) }
-    ensures user { IfOk result (λ found. IsUser journal.now.history name.now found.0) }
-    ensures question { IfOk result (λ found. IsQuestionFor (market_of file.now) file.now.tree journal.now.history question.now found.1) }
+    ensures user { IfOk result (λ found. IsUser journal.now.history name.now found.user) }
+    ensures question { IfOk result (λ found. IsQuestionFor (market_of file.now) file.now.tree journal.now.history question.now found.question) }
+    ensures home { IfOk result (λ found. home file.now.tree (pairs_asked found.question) ≡ Some found.home) }
 {
     not_settled(journal)?;
     let user = find_user(users, name)?;
     let asked = ask(&file.net, question)?;
-    can_be_answered(file, journal, question, &asked)?;
-    Ok((user, asked))
+    let home = can_be_answered(file, journal, question, &asked)?;
+    Ok(Request {
+        user,
+        question: asked,
+        home,
+    })
 }
 
 /// What `edit` is refused for by the record: as `limits`, behind a variable that occurs twice for a
@@ -136,25 +146,28 @@ pub(crate) fn refuse_edit<A: Engine<MinProd>>(
     journal: &Journal,
     users: &Users<A>,
     name: &Name,
-    question: &QuestionText,
-    to: u32,
-    at: Option<u32>,
-) -> Result<(u32, Question), Refusal>
+    wish: &EditWish,
+) -> Result<Request, Refusal>
     requires named { names_of users.now ≡ history.users journal.now.history }
     requires max_trades { journal.now.max_trades ≡ file.now.max_trades }
-    ensures refusal { refusal_in result ≡ first_of (rules.refusals_by_record (market_of file.now) journal.now.history (command.Edit name.now question.now to at)) }
-    ensures user { IfOk result (λ found. IsUser journal.now.history name.now found.0) }
-    ensures question { IfOk result (λ found. IsQuestionFor (market_of file.now) file.now.tree journal.now.history question.now found.1) }
-    ensures room { IfOk result (λ _. CanBeTraded journal.now to) }
+    ensures refusal { refusal_in result ≡ first_of (rules.refusals_by_record (market_of file.now) journal.now.history (command.Edit name.now wish.now.question.now wish.now.to wish.now.at)) }
+    ensures user { IfOk result (λ found. IsUser journal.now.history name.now found.user) }
+    ensures question { IfOk result (λ found. IsQuestionFor (market_of file.now) file.now.tree journal.now.history wish.now.question.now found.question) }
+    ensures home { IfOk result (λ found. home file.now.tree (pairs_asked found.question) ≡ Some found.home) }
+    ensures room { IfOk result (λ _. CanBeTraded journal.now wish.now.to) }
 {
     not_settled(journal)?;
     let user = find_user(users, name)?;
-    let asked = ask(&file.net, question)?;
-    not_stale(journal, at)?;
-    can_be_answered(file, journal, question, &asked)?;
-    in_range(to, MAX_SHARE)?;
+    let asked = ask(&file.net, wish.question)?;
+    not_stale(journal, wish.at)?;
+    let home = can_be_answered(file, journal, wish.question, &asked)?;
+    in_range(wish.to, MAX_SHARE)?;
     room_for_trade(journal)?;
-    Ok((user, asked))
+    Ok(Request {
+        user,
+        question: asked,
+        home,
+    })
 }
 
 /// What `worst` is refused for: a settlement, and an unknown user.
@@ -196,23 +209,24 @@ pub(crate) fn refuse_settle(file: &MarketFile, journal: &Journal) -> Result<(), 
     all_resolved(&file.net, journal)
 }
 
-/// Refuses a question that is asked by its target, its condition and its cliques, in this order.
+/// The home of a question. It is refused by its target, its condition and its cliques, in this order.
 fn can_be_answered(
     file: &MarketFile,
     journal: &Journal,
     question: &QuestionText,
     asked: &Question,
-) -> Result<(), Refusal>
+) -> Result<u32, Refusal>
     requires named { rules.question_named file.now.net question.now ≡ Some asked.now }
     requires known { rules.unknown file.now.net (rules.pairs_of question.now) ≡ None }
     ensures refusal { refusal_in result ≡ first_of (rules.resolved file.now.net journal.now.history question.now.target.variable
         ∷ rules.impossible file.now.net journal.now.history question.now.condition.items
         ∷ rules.wide_question (market_of file.now) journal.now.history question.now ∷ []) }
     ensures question { IfOk result (λ _. IsQuestionFor (market_of file.now) file.now.tree journal.now.history question.now asked.now) }
+    ensures home { IfOk result (λ found. home file.now.tree (pairs_asked asked.now) ≡ Some found) }
 {
     not_resolved(journal, &question.target.variable, asked.target().variable)?;
     agrees(journal, &asked.condition(), question.condition.as_slice())?;
-    not_wide(&file.tree, &asked.event())
+    home_in(&file.tree, &asked.event())
 }
 
 /// Refuses where a test passes.
@@ -326,11 +340,12 @@ fn first_contradicted(journal: &Journal, pairs: &[Pair]) -> Option<usize>
     pairs.iter().position(|pair| journal.contradicts(*pair))
 }
 
-/// A clique is to hold the event of a question.
-pub(crate) fn not_wide(tree: &Tree, event: &Event) -> Result<(), Refusal>
-    ensures { refusal_in result ≡ fault_if (is_none (home tree.now event.now)) Refusal.Wide }
+/// The home of the event of a question. It is refused where no clique holds it.
+pub(crate) fn home_in(tree: &Tree, event: &Event) -> Result<u32, Refusal>
+    ensures refusal { refusal_in result ≡ fault_if (is_none (home tree.now event.now)) Refusal.Wide }
+    ensures home { IfOk result (λ found. home tree.now event.now ≡ Some found) }
 {
-    refuse_if(tree.home(event).is_none(), Refusal::Wide)
+    tree.home(event).ok_or(Refusal::Wide)
 }
 
 /// Each variable is to be resolved.

@@ -10,6 +10,7 @@ ghost use Rattle.mk_net.specs.Named.{variable_named};
 ghost use Rattle.mk_net.specs.Network.{Variable};
 ghost use Rattle.mk_exact.specs.History as history;
 ghost use Rattle.mk_spread.specs.Spreads.{asked_of};
+ghost use Rattle.mk_tree.specs.Given.{home};
 ghost use Rattle.mk_file.specs.MarketOf.{market_of};
 ghost use Rattle.mk_command.specs.declared.command.Command.TheVariants as command;
 ghost use Rattle.mk_quote.specs.Questions.{spread_in};
@@ -20,9 +21,10 @@ ghost use Rattle.mk_market.specs.Refused.{refusal_in, IsUser, IsSpreadQuestionFo
 use crate::asking::ask_spread;
 use crate::journal::Journal;
 use crate::refusals::{
-    MAX_SHARE, agrees, find_user, not_resolved, not_settled, not_stale, not_wide, refuse_if,
+    MAX_SHARE, agrees, find_user, home_in, not_resolved, not_settled, not_stale, refuse_if,
     room_for_trade,
 };
+use crate::requests::{SpreadRequest, SpreadWish};
 use crate::users::Users;
 use mk_engine::Engine;
 use mk_file::MarketFile;
@@ -44,19 +46,24 @@ pub(crate) fn refuse_bounds<A: Engine<MinProd>>(
     name: &Name,
     variable: &Name,
     condition: &[PairText],
-) -> Result<(u32, SpreadQuestion), Refusal>
+) -> Result<SpreadRequest, Refusal>
     requires few { length condition.now ≤ max_condition }
     requires named { names_of users.now ≡ history.users journal.now.history }
     ensures refusal { (pairs : ArrayVec PairText) → pairs.items ≡ condition.now
         → refusal_in result ≡ first_of (rules.refusals_by_record (market_of file.now) journal.now.history (command.Bounds name.now variable.now pairs)) }
-    ensures user { IfOk result (λ found. IsUser journal.now.history name.now found.0) }
-    ensures question { IfOk result (λ found. IsSpreadQuestionFor (market_of file.now) file.now.tree journal.now.history variable.now condition.now (spread_in found.1)) }
+    ensures user { IfOk result (λ found. IsUser journal.now.history name.now found.user) }
+    ensures question { IfOk result (λ found. IsSpreadQuestionFor (market_of file.now) file.now.tree journal.now.history variable.now condition.now (spread_in found.question)) }
+    ensures home { IfOk result (λ found. home file.now.tree (pairs_asked (asked_of (spread_in found.question) 0)) ≡ Some found.home) }
 {
     not_settled(journal)?;
     let user = find_user(users, name)?;
     let asked = ask_spread(&file.net, variable, condition)?;
-    can_be_spread(file, journal, variable, condition, &asked)?;
-    Ok((user, asked))
+    let home = can_be_spread(file, journal, variable, condition, &asked)?;
+    Ok(SpreadRequest {
+        user,
+        question: asked,
+        home,
+    })
 }
 
 /// What `spread` is refused for by the record: as `bounds`, behind a variable that occurs twice for a
@@ -67,49 +74,52 @@ pub(crate) fn refuse_spread<A: Engine<MinProd>>(
     journal: &Journal,
     users: &Users<A>,
     name: &Name,
-    variable: &Name,
-    condition: &[PairText],
-    to: &[u32],
-    at: Option<u32>,
-) -> Result<(u32, SpreadQuestion), Refusal>
-    requires few_pairs { length condition.now ≤ max_condition }
-    requires few_shares { length to.now ≤ max_values }
+    wish: &SpreadWish,
+) -> Result<SpreadRequest, Refusal>
+    requires few_pairs { length wish.now.condition.now ≤ max_condition }
+    requires few_shares { length wish.now.to.now ≤ max_values }
     requires named { names_of users.now ≡ history.users journal.now.history }
     requires max_trades { journal.now.max_trades ≡ file.now.max_trades }
-    ensures refusal { (pairs : ArrayVec PairText) (shares : ArrayVec ℕ) → pairs.items ≡ condition.now → shares.items ≡ to.now
-        → refusal_in result ≡ first_of (rules.refusals_by_record (market_of file.now) journal.now.history (command.Spread name.now variable.now pairs shares at)) }
-    ensures user { IfOk result (λ found. IsUser journal.now.history name.now found.0) }
-    ensures question { IfOk result (λ found. IsSpreadQuestionFor (market_of file.now) file.now.tree journal.now.history variable.now condition.now (spread_in found.1)) }
+    ensures refusal { (pairs : ArrayVec PairText) (shares : ArrayVec ℕ) → pairs.items ≡ wish.now.condition.now → shares.items ≡ wish.now.to.now
+        → refusal_in result ≡ first_of (rules.refusals_by_record (market_of file.now) journal.now.history (command.Spread name.now wish.now.variable.now pairs shares wish.now.at)) }
+    ensures user { IfOk result (λ found. IsUser journal.now.history name.now found.user) }
+    ensures question { IfOk result (λ found. IsSpreadQuestionFor (market_of file.now) file.now.tree journal.now.history wish.now.variable.now wish.now.condition.now (spread_in found.question)) }
+    ensures home { IfOk result (λ found. home file.now.tree (pairs_asked (asked_of (spread_in found.question) 0)) ≡ Some found.home) }
     ensures room { IfOk result (λ _. length (history.trades journal.now.history) < journal.now.max_trades) }
 {
     not_settled(journal)?;
     let user = find_user(users, name)?;
-    let asked = ask_spread(&file.net, variable, condition)?;
-    not_stale(journal, at)?;
-    can_be_spread(file, journal, variable, condition, &asked)?;
-    is_distribution(file, asked.variable, to)?;
+    let asked = ask_spread(&file.net, wish.variable, wish.condition)?;
+    not_stale(journal, wish.at)?;
+    let home = can_be_spread(file, journal, wish.variable, wish.condition, &asked)?;
+    is_distribution(file, asked.variable, wish.to)?;
     room_for_trade(journal)?;
-    Ok((user, asked))
+    Ok(SpreadRequest {
+        user,
+        question: asked,
+        home,
+    })
 }
 
-/// Refuses a spread that is asked by its variable, its condition and its cliques, in this order.
+/// The home of a spread. It is refused by its variable, its condition and its cliques, in this order.
 fn can_be_spread(
     file: &MarketFile,
     journal: &Journal,
     variable: &Name,
     condition: &[PairText],
     asked: &SpreadQuestion,
-) -> Result<(), Refusal>
+) -> Result<u32, Refusal>
     requires named { rules.spread_named file.now.net variable.now condition.now ≡ Some (spread_in asked.now) }
     requires known { rules.unknown file.now.net condition.now ≡ None }
     ensures refusal { refusal_in result ≡ first_of (rules.resolved file.now.net journal.now.history variable.now
         ∷ rules.impossible file.now.net journal.now.history condition.now
         ∷ rules.wide_spread (market_of file.now) journal.now.history variable.now condition.now ∷ []) }
     ensures question { IfOk result (λ _. IsSpreadQuestionFor (market_of file.now) file.now.tree journal.now.history variable.now condition.now (spread_in asked.now)) }
+    ensures home { IfOk result (λ found. home file.now.tree (pairs_asked (asked_of (spread_in asked.now) 0)) ≡ Some found) }
 {
     not_resolved(journal, variable, asked.variable)?;
     agrees(journal, &asked.condition, condition)?;
-    not_wide(&file.tree, &event_of(asked))
+    home_in(&file.tree, &event_of(asked))
 }
 
 /// The condition's pairs, and the variable with its first value. A clique that holds them holds each value.

@@ -5,6 +5,7 @@ use crate::possible::can_come;
 use crate::refusals::refuse_resolve;
 use crate::users::Users;
 use mk_engine::Engine;
+use mk_file::MarketFile;
 use mk_net::{Pair, PairText};
 use mk_reply::{Refusal, Reply};
 use mk_semiring::{MinProd, SumProd};
@@ -18,12 +19,13 @@ impl<P: Engine<SumProd>, A: Engine<MinProd>> Market<P, A> {
         ensures { IsAnswered self.old self.new (Resolve words.now) (reply_of result) }
     {
         let pair = refuse_resolve(&self.file, &self.journal, words)?;
-        if !can_come(&mut self.prices, &self.file.net, pair) {
+        let home = home_of(&self.file, pair);
+        if !can_come(&mut self.prices, &self.file.net, home, pair) {
             return Err(Refusal::Impossible { pair: *words });
         }
-        self.prices.know(pair);
-        self.rows.know(pair);
-        tell(&mut self.users, pair);
+        self.prices.know(home, pair);
+        self.rows.know(home, pair);
+        tell(&mut self.users, home, pair);
         self.journal.resolve(pair);
         Ok(Reply::Resolved {
             pair: *words,
@@ -32,19 +34,31 @@ impl<P: Engine<SumProd>, A: Engine<MinProd>> Market<P, A> {
     }
 }
 
-ghost use Rattle.std.specs.Prelude.{◌≡◌, ℕ};
+ghost use Rattle.std.specs.Prelude.{◌≡◌, ℕ, [], ◌∷◌, true, is_some, Some};
+ghost use Rattle.mk_tree.specs.Given.{home};
 ghost use Rattle.mk_assets.specs.Holdings.{Holding, with_known_pair};
 ghost use Rattle.mk_market.specs.Members.{names_of, quotes_of};
 ghost use Rattle.mk_market.specs.inner.Quoting.{OwnsAt, CanBeTold};
 
-/// Every user's assets learn a pair.
-fn tell<A: Engine<MinProd>>(users: &mut Users<A>, pair: Pair)
-    requires { CanBeTold A.stands_for users.old pair }
+/// The home of a pair of the network.
+fn home_of(file: &MarketFile, pair: Pair) -> u32
+    requires { is_some (home file.now.tree (pair ∷ [])) ≡ true }
+    ensures { home file.now.tree (pair ∷ []) ≡ Some result }
+{
+    let Some(home) = file.tree.pair_home(pair) else {
+        unreachable!()
+    };
+    home
+}
+
+/// Every user's assets learn a pair, whose home this is.
+fn tell<A: Engine<MinProd>>(users: &mut Users<A>, home: u32, pair: Pair)
+    requires { CanBeTold A.stands_for users.old home pair }
     ensures assets { (u : ℕ) (h : Holding) → OwnsAt A.stands_for users.old u h → OwnsAt A.stands_for users.new u (with_known_pair pair h) }
     ensures names { names_of users.new ≡ names_of users.old }
     ensures quotes { quotes_of users.new ≡ quotes_of users.old }
 {
     for user in 0..users.count() {
-        users.assets(user).know(pair);
+        users.assets(user).know(home, pair);
     }
 }

@@ -2,7 +2,10 @@
 
 ghost use Rattle.std.specs.Prelude.{◌≡◌, ◌<◌, ◌≤◌, ℕ, length, Some, slice_get, slice_index, IfSome, IfNone, MatchResult};
 ghost use Rattle.mk_net.specs.Bounds.{max_values};
+ghost use Rattle.mk_net.specs.Events.{pairs_asked};
 ghost use Rattle.mk_net.specs.Network.{sizes};
+ghost use Rattle.mk_spread.specs.Spreads.{asked_of};
+ghost use Rattle.mk_tree.specs.Given.{home};
 ghost use Rattle.mk_engine.specs.Meaning.{Meaning};
 ghost use Rattle.mk_assets.specs.Holdings.{Holding};
 ghost use Rattle.mk_quote.specs.declared.spread_quote.SpreadQuote.{SpreadQuote as Held};
@@ -17,6 +20,7 @@ ghost use Rattle.mk_market.specs.inner.Stopped.{IsSpreadDecidedBy};
 use crate::journal::Journal;
 use crate::last_quote::LastQuote;
 use crate::possible::{SpreadDecided, Stopped};
+use crate::requests::SpreadRequest;
 use crate::users::Users;
 use arrayvec::ArrayVec;
 use mk_answers::{SpreadSides, spread_bounds_of};
@@ -32,23 +36,28 @@ pub(crate) fn fresh_spread_quote<P: Engine<SumProd>, A: Engine<MinProd>>(
     prices: &mut P,
     users: &mut Users<A>,
     journal: &Journal,
-    user: u32,
-    asked: &SpreadQuestion,
+    request: &SpreadRequest,
 ) -> Result<SpreadQuote, SpreadDecided>
     requires in_use { AreInUse P.stands_for A.stands_for file.now.net file.now.tree journal.now.history prices.old users.old }
-    requires user { user < length users.old }
-    requires answered { CanBeSpreadHere file.now.net file.now.tree journal.now.history (spread_in asked.now) }
+    requires user { request.now.user < length users.old }
+    requires answered { CanBeSpreadHere file.now.net file.now.tree journal.now.history (spread_in request.now.question) }
+    requires home { home file.now.tree (pairs_asked (asked_of (spread_in request.now.question) 0)) ≡ Some request.now.home }
     ensures prices { (m : Meaning) → P.stands_for prices.old m → P.stands_for prices.new m }
     ensures assets { (u : ℕ) (h : Holding) → OwnsAt A.stands_for users.old u h → OwnsAt A.stands_for users.new u h }
     ensures names { names_of users.new ≡ names_of users.old }
     ensures quotes { quotes_of users.new ≡ quotes_of users.old }
-    ensures quote { MatchResult result (λ quote. IsSpreadQuoteOf file.now.net file.now.tree journal.now.history user (spread_in asked.now) quote)
-        (λ why. IsSpreadDecidedBy file.now.net journal.now.history (spread_in asked.now) why) }
+    ensures quote { MatchResult result (λ quote. IsSpreadQuoteOf file.now.net file.now.tree journal.now.history request.now.user (spread_in request.now.question) quote)
+        (λ why. IsSpreadDecidedBy file.now.net journal.now.history (spread_in request.now.question) why) }
 {
-    match spread_bounds_of(prices, users.assets(user), &file.net, asked) {
+    let SpreadRequest {
+        user,
+        question,
+        home,
+    } = *request;
+    match spread_bounds_of(prices, users.assets(user), &file.net, home, &question) {
         SpreadSides::Open(bounds) => Ok(SpreadQuote::make(
             user,
-            *asked,
+            question,
             journal.revision(),
             &bounds,
         )),
@@ -102,26 +111,31 @@ pub(crate) fn judge_spread<P: Engine<SumProd>, A: Engine<MinProd>>(
     prices: &mut P,
     users: &mut Users<A>,
     journal: &Journal,
-    user: u32,
-    asked: &SpreadQuestion,
+    request: &SpreadRequest,
     shares: &[u32],
 ) -> Result<ArrayVec<u64, 16>, Stopped>
     requires in_use { AreInUse P.stands_for A.stands_for file.now.net file.now.tree journal.now.history prices.old users.old }
     requires quotes { AreKeptQuotes file.now.net file.now.tree journal.now.history (quotes_of users.old) }
-    requires user { user < length users.old }
-    requires answered { CanBeSpreadHere file.now.net file.now.tree journal.now.history (spread_in asked.now) }
-    requires one_each { length shares.now ≡ slice_index (sizes file.now.net) asked.now.variable }
+    requires user { request.now.user < length users.old }
+    requires answered { CanBeSpreadHere file.now.net file.now.tree journal.now.history (spread_in request.now.question) }
+    requires home { home file.now.tree (pairs_asked (asked_of (spread_in request.now.question) 0)) ≡ Some request.now.home }
+    requires one_each { length shares.now ≡ slice_index (sizes file.now.net) request.now.question.variable }
     ensures prices { (m : Meaning) → P.stands_for prices.old m → P.stands_for prices.new m }
     ensures assets { (u : ℕ) (h : Holding) → OwnsAt A.stands_for users.old u h → OwnsAt A.stands_for users.new u h }
     ensures names { names_of users.new ≡ names_of users.old }
     ensures judged { MatchResult result
-        (λ units. IsTaken file.now.net file.now.tree journal.now.history user (spread_in asked.now) (quotes_of users.old) (quotes_of users.new) shares.now units.items)
-        (λ why. IsTurnedDown file.now.net file.now.tree journal.now.history user (spread_in asked.now) (quotes_of users.old) (quotes_of users.new) shares.now why) }
+        (λ units. IsTaken file.now.net file.now.tree journal.now.history request.now.user (spread_in request.now.question) (quotes_of users.old) (quotes_of users.new) shares.now units.items)
+        (λ why. IsTurnedDown file.now.net file.now.tree journal.now.history request.now.user (spread_in request.now.question) (quotes_of users.old) (quotes_of users.new) shares.now why) }
 {
-    if let Some(quote) = last_spread_quote(users, user, asked, journal.revision()) {
+    if let Some(quote) = last_spread_quote(
+        users,
+        request.user,
+        &request.question,
+        journal.revision(),
+    ) {
         return judged_by(quote, shares);
     }
-    let quote = match fresh_spread_quote(file, prices, users, journal, user, asked) {
+    let quote = match fresh_spread_quote(file, prices, users, journal, request) {
         Ok(quote) => quote,
         Err(why) => return Err(Stopped::Decided(why)),
     };
@@ -129,7 +143,7 @@ pub(crate) fn judge_spread<P: Engine<SumProd>, A: Engine<MinProd>>(
         Ok(units) => Ok(units),
         Err(why) => {
             if why.is_outside() {
-                users.set_quote(user, LastQuote::Bounds { quote });
+                users.set_quote(request.user, LastQuote::Bounds { quote });
             }
             Err(why)
         }

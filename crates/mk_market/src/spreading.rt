@@ -4,6 +4,7 @@ use crate::last_quote::LastQuote;
 use crate::market::Market;
 use crate::possible::{Stopped, refuse_stopped};
 use crate::refusing_spreads::{refuse_bounds, refuse_spread};
+use crate::requests::SpreadWish;
 use crate::spread_quoting::{fresh_spread_quote, judge_spread};
 use crate::trading::{ratio_of_spread, trade};
 use arrayvec::ArrayVec;
@@ -25,7 +26,7 @@ impl<P: Engine<SumProd>, A: Engine<MinProd>> Market<P, A> {
     ) -> Result<Reply, Refusal>
         ensures { IsAnswered self.old self.new (Bounds name.now variable.now condition.now) (reply_of result) }
     {
-        let (user, asked) = refuse_bounds(
+        let request = refuse_bounds(
             &self.file,
             &self.journal,
             &self.users,
@@ -38,8 +39,7 @@ impl<P: Engine<SumProd>, A: Engine<MinProd>> Market<P, A> {
             &mut self.prices,
             &mut self.users,
             &self.journal,
-            user,
-            &asked,
+            &request,
         ) {
             Ok(quote) => quote,
             Err(why) => {
@@ -49,13 +49,14 @@ impl<P: Engine<SumProd>, A: Engine<MinProd>> Market<P, A> {
                     &self.file.net,
                     variable,
                     condition.as_slice(),
-                    &asked,
+                    &request,
                     why,
                 ));
             }
         };
         let intervals = quote.intervals();
-        self.users.set_quote(user, LastQuote::Bounds { quote });
+        self.users
+            .set_quote(request.user, LastQuote::Bounds { quote });
         Ok(Reply::Bounded {
             intervals,
             at: self.journal.revision(),
@@ -75,23 +76,19 @@ impl<P: Engine<SumProd>, A: Engine<MinProd>> Market<P, A> {
     ) -> Result<Reply, Refusal>
         ensures { IsAnswered self.old self.new (Spread name.now variable.now condition.now to.now at) (reply_of result) }
     {
-        let (user, asked) = refuse_spread(
-            &self.file,
-            &self.journal,
-            &self.users,
-            name,
+        let wish = SpreadWish {
             variable,
-            condition.as_slice(),
-            to.as_slice(),
+            condition: condition.as_slice(),
+            to: to.as_slice(),
             at,
-        )?;
+        };
+        let request = refuse_spread(&self.file, &self.journal, &self.users, name, &wish)?;
         let factors = match judge_spread(
             &self.file,
             &mut self.prices,
             &mut self.users,
             &self.journal,
-            user,
-            &asked,
+            &request,
             to.as_slice(),
         ) {
             Ok(factors) => factors,
@@ -100,16 +97,17 @@ impl<P: Engine<SumProd>, A: Engine<MinProd>> Market<P, A> {
                 &self.file.net,
                 variable,
                 condition.as_slice(),
-                &asked,
+                &request,
                 why,
             )),
         };
-        let ratio = ratio_of_spread(&asked, factors.as_slice());
+        let ratio = ratio_of_spread(&request.question, factors.as_slice());
         trade(
             &mut self.prices,
             &mut self.users,
             &mut self.journal,
-            user,
+            request.user,
+            request.home,
             ratio,
         );
         Ok(Reply::Spreaded {

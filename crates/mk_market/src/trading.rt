@@ -53,15 +53,16 @@ pub(crate) fn ratio_of_spread(asked: &SpreadQuestion, units: &[u64]) -> Ratio
     }
 }
 
-/// A user trades by a ratio. The engine of prices and the user's assets take it, and the journal an entry.
+/// A user trades by a ratio, whose home this is. The engine of prices and the user's assets take it, and the journal an entry.
 pub(crate) fn trade<P: Engine<SumProd>, A: Engine<MinProd>>(
     prices: &mut P,
     users: &mut Users<A>,
     journal: &mut Journal,
     user: u32,
+    home: u32,
     ratio: Ratio,
 )
-    requires { CanBeMade P.stands_for A.stands_for prices.old users.old journal.old user (trade_ratio ratio) }
+    requires { CanBeMade P.stands_for A.stands_for prices.old users.old journal.old user home (trade_ratio ratio) }
     ensures history { journal.new.history ≡ journal.old.history ++ Trade user (trade_ratio ratio) ∷ [] }
     ensures limit { journal.new.max_trades ≡ journal.old.max_trades }
     ensures prices { (m : Meaning) → P.stands_for prices.old m → P.stands_for prices.new (with_factor (RatioOf (trade_ratio ratio)) m) }
@@ -70,7 +71,7 @@ pub(crate) fn trade<P: Engine<SumProd>, A: Engine<MinProd>>(
     ensures names { names_of users.new ≡ names_of users.old }
     ensures quotes { quotes_of users.new ≡ quotes_of users.old }
 {
-    prices.multiply(&ratio);
-    users.assets(user).trade(&ratio);
+    prices.multiply(home, &ratio);
+    users.assets(user).trade(home, &ratio);
     journal.trade(user, ratio);
 }

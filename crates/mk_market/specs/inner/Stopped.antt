@@ -1,18 +1,20 @@
 -- Why a question has no quote, or a spread is no trade, and the refusal that says so.
-use Rattle.std.specs.Prelude.{◌≡◌, ℕ, ◌<◌, List, [], ◌∷◌, Bool, true, false, is_some, slice_index, ⊤, Some, None}
+use Rattle.std.specs.Prelude.{◌≡◌, ℕ, ◌<◌, List, [], ◌∷◌, Bool, true, false, slice_index, ⊤, Some, None}
 use Rattle.std.specs.List.{AllByRecursion}
 use Rattle.mk_net.specs.declared.words.Pair.{Pair}
 use Rattle.mk_net.specs.declared.words.PairText.{PairText}
 use Rattle.mk_net.specs.declared.words.QuestionText.{QuestionText}
 use Rattle.mk_net.specs.Asked.{Asked}
+use Rattle.mk_net.specs.Events.{pairs_asked}
 use Rattle.mk_net.specs.Network.{Variable, sizes}
 use Rattle.mk_exact.specs.Events.{holds, with_target, without_target}
 use Rattle.mk_exact.specs.History.{Entry}
 use Rattle.mk_exact.specs.Proper.{IsPairOf}
 use Rattle.mk_exact.specs.Weight.{cannot_come}
-use Rattle.mk_spread.specs.Spreads.{SpreadAsked}
+use Rattle.mk_spread.specs.Spreads.{SpreadAsked, asked_of}
 use Rattle.mk_spread.specs.Markets.{values_left}
 use Rattle.mk_tree.specs.Given.{GivenTree, home}
+use Rattle.mk_tree.specs.Held.{IsHeldAt}
 use Rattle.mk_engine.specs.Meaning.{Meaning}
 use Rattle.mk_beliefs.specs.Meanings.{weights_of}
 use Rattle.mk_reply.specs.declared.refusal.Refusal.{Refusal}
@@ -25,6 +27,9 @@ use Rattle.mk_market.specs.declared.possible.SpreadDecided.{SpreadDecided}
 use Rattle.mk_market.specs.declared.possible.SpreadDecided.TheVariants as spread
 use Rattle.mk_market.specs.declared.possible.Stopped.{Stopped}
 use Rattle.mk_market.specs.declared.possible.Stopped.TheVariants as stopped
+use Rattle.mk_quote.specs.Questions.{spread_in}
+use Rattle.mk_market.specs.declared.requests.Request.{Request}
+use Rattle.mk_market.specs.declared.requests.SpreadRequest.{SpreadRequest}
 use Rattle.mk_market.specs.Refused.{CanBeResolved}
 
 -- a question in words, all of them known, in numbers
@@ -68,19 +73,20 @@ MayStop network H asked (stopped.ImpossibleShare value) = value < slice_index (s
 MayStop network H asked stopped.MissingShare = ⊤
 MayStop network H asked (stopped.Outside box) = ⊤
 
--- the engine has the weights of a market in use, where the question can be answered and is decided
-pub record CanRefuse {E : Type 0} (stands_for : E → Meaning → Type 0) (prices : E) (q : QuestionText) (asked : Asked) (why : Decided) : Type 0 where
+-- the engine has the weights of a market in use, where the question can be answered in its home, and is decided
+pub record CanRefuse {E : Type 0} (stands_for : E → Meaning → Type 0) (prices : E) (q : QuestionText) (request : Request) (why : Decided) : Type 0 where
   pub network : List Variable
   pub tree : GivenTree
   pub history : List Entry
   pub stands : stands_for prices (weights_of network tree history)
   pub is_open : IsOpen network tree history
-  pub asked_by : IsAskedBy network q asked
-  pub answered : CanBeAnswered network tree history asked
-  pub decided : IsDecidedBy network history asked why
+  pub asked_by : IsAskedBy network q request.question
+  pub answered : CanBeAnswered network tree history request.question
+  pub at_home : home tree (pairs_asked request.question) ≡ Some request.home
+  pub decided : IsDecidedBy network history request.question why
 
--- the engine has the weights of a market in use, where the condition has a home and cannot come
-pub record CanRefuseCondition {E : Type 0} (stands_for : E → Meaning → Type 0) (prices : E) (condition : List Pair) (words : List PairText) : Type 0 where
+-- the engine has the weights of a market in use, where a clique holds the condition, which cannot come
+pub record CanRefuseCondition {E : Type 0} (stands_for : E → Meaning → Type 0) (prices : E) (at : ℕ) (condition : List Pair) (words : List PairText) : Type 0 where
   pub network : List Variable
   pub tree : GivenTree
   pub history : List Entry
@@ -88,25 +94,27 @@ pub record CanRefuseCondition {E : Type 0} (stands_for : E → Meaning → Type 
   pub is_open : IsOpen network tree history
   pub condition_by : IsConditionBy network words condition
   pub in_range : AllByRecursion (IsPairOf network) condition
-  pub home : is_some (home tree condition) ≡ true
+  pub held : IsHeldAt tree at condition
   pub cannot : cannot_come network history (holds condition) ≡ true
 
--- the engine has the weights of a market in use of this network, where the spread can be answered and this may stop it
+-- the engine has the weights of a market in use of this network, where the spread can be answered in its home, and this may stop it
 pub record CanRefuseSpread {E : Type 0} (stands_for : E → Meaning → Type 0) (prices : E) (network : List Variable) (v : List ℕ) (words : List PairText)
-    (asked : SpreadAsked) (why : Stopped) : Type 0 where
+    (request : SpreadRequest) (why : Stopped) : Type 0 where
   pub tree : GivenTree
   pub history : List Entry
   pub stands : stands_for prices (weights_of network tree history)
   pub is_open : IsOpen network tree history
-  pub named : spread_named network v words ≡ Some asked
+  pub named : spread_named network v words ≡ Some (spread_in request.question)
   pub known : unknown network words ≡ None
-  pub answered : CanBeSpreadHere network tree history asked
-  pub may_stop : MayStop network history asked why
+  pub answered : CanBeSpreadHere network tree history (spread_in request.question)
+  pub at_home : home tree (pairs_asked (asked_of (spread_in request.question) 0)) ≡ Some request.home
+  pub may_stop : MayStop network history (spread_in request.question) why
 
--- the engine has the weights of a market in use of this network, where the pair's variable is not resolved
-pub record CanAskOfPair {E : Type 0} (stands_for : E → Meaning → Type 0) (prices : E) (network : List Variable) (pair : Pair) : Type 0 where
+-- the engine has the weights of a market in use of this network, where the pair has this home, and its variable is not resolved
+pub record CanAskOfPair {E : Type 0} (stands_for : E → Meaning → Type 0) (prices : E) (network : List Variable) (at : ℕ) (pair : Pair) : Type 0 where
   pub tree : GivenTree
   pub history : List Entry
   pub stands : stands_for prices (weights_of network tree history)
   pub is_open : IsOpen network tree history
+  pub at_home : home tree (pair ∷ []) ≡ Some at
   pub resolvable : CanBeResolved network history pair

@@ -10,10 +10,10 @@ use Rattle.mk_market.proofs.Owned.{owned_one}
 use Rattle.mk_market.proofs.Traded.{can_multiply, can_trade, trader_holding, others_holding}
 use Rattle.mk_market.proofs.trading.trade.Goals as goal
 
-pub multiply-requires-clause-fits : goal.multiply-requires-clause-fits
-multiply-requires-clause-fits g c =
+pub multiply-requires-clause-home : goal.multiply-requires-clause-home
+multiply-requires-clause-home g c =
     let a = c.requires in
-    g.met.P.Engine.home_fits c.args.prices.now (weights_of a.network a.tree c.args.journal.now.history) (ratio_pairs (trade_ratio c.args.ratio)) a.in_use.weights a.home
+    g.met.P.Engine.home_is_place c.args.prices.now (weights_of a.network a.tree c.args.journal.now.history) c.args.home (ratio_pairs (trade_ratio c.args.ratio)) a.in_use.weights a.at_home
 
 pub multiply-requires-clause-range : goal.multiply-requires-clause-range
 multiply-requires-clause-range g c =
@@ -24,11 +24,11 @@ multiply-requires-clause-range g c =
 pub assets-requires : goal.assets-requires
 assets-requires g c = c.requires.within
 
-pub trade-requires-clause-fits : goal.trade-requires-clause-fits
-trade-requires-clause-fits g c =
+pub trade-requires-clause-home : goal.trade-requires-clause-home
+trade-requires-clause-home g c =
     let a = c.requires in
-    g.met.A.Engine.home_fits c.assets.result.now.engine (gains_of a.network a.tree c.args.journal.now.history c.args.user) (ratio_pairs (trade_ratio c.args.ratio))
-    (a.in_use.owns c.args.user c.assets.result.now c.assets.ensures.value).stands a.home
+    g.met.A.Engine.home_is_place c.assets.result.now.engine (gains_of a.network a.tree c.args.journal.now.history c.args.user) c.args.home (ratio_pairs (trade_ratio c.args.ratio))
+    (a.in_use.owns c.args.user c.assets.result.now c.assets.ensures.value).stands a.at_home
 
 pub trade-requires-clause-range : goal.trade-requires-clause-range
 trade-requires-clause-range g c =

@@ -2,6 +2,8 @@ use Rattle.std.proofs.Common.{refl}
 use Rattle.mk_command.specs.declared.command.Command.TheVariants.{Price}
 use Rattle.mk_file.specs.MarketOf.{market_of}
 use Rattle.mk_beliefs.specs.Meanings.{weights_of}
+use Rattle.mk_net.specs.Events.{pairs_asked}
+use Rattle.mk_tree.proofs.Held.{home_is_held}
 use Rattle.mk_market.proofs.Growing.{is_open}
 use Rattle.mk_market.proofs.Replies.{answered_refused, by_record}
 use Rattle.mk_market.proofs.Answers.{price_allowed, price_next}
@@ -14,6 +16,19 @@ returns-in_err-asked g c =
     answered_refused c.args.self.now _ c.self.view_is (Price c.args.question.now) tt c.in_err-asked.field-0.0 c.from_residual.result
     c.from_residual.ensures.1 (by_record (market_of i.file) i.journal.history (Price c.args.question.now) c.in_err-asked.field-0.0 c.in_err-asked.ensures.refusal)
 
+pub price_of-requires : goal.price_of-requires
+price_of-requires g c =
+    let i = c.self.inside in
+    let found = c.in_ok-asked in
+    record {
+      tree = i.file.tree;
+      history = i.journal.history;
+      stands = c.self.invariant.prices_stand;
+      is_open = is_open g.P.Engine.stands_for g.A.Engine.stands_for g.A.Engine.plan_for i.file i.prices i.rows i.plan i.users i.ledger i.journal i.payments c.self.invariant;
+      answered = found.ensures.question.answered;
+      held = home_is_held i.file.tree found.home (pairs_asked found.asked) found.ensures.home;
+    }
+
 pub refuse_condition-requires : goal.refuse_condition-requires
 refuse_condition-requires g c =
     let i = c.self.inside in
@@ -23,7 +38,7 @@ refuse_condition-requires g c =
     can_refuse_condition g.P.Engine.stands_for c.price_of.new.prices i.file.net i.file.tree i.journal.history
     (c.price_of.ensures.kept (weights_of i.file.net i.file.tree i.journal.history) c.self.invariant.prices_stand) opened c.args.question.now found.asked
     found.ensures.question.named (price_known i.file i.journal.history c.args.question.now found.ensures.refusal) found.ensures.question.answered
-    c.condition.result c.as_slice.result.now c.condition.ensures.condition c.as_slice.ensures.value (price.none.0 refl)
+    found.home found.ensures.home c.condition.result c.as_slice.result.now c.condition.ensures.condition c.as_slice.ensures.value (price.none.0 refl)
 
 pub returns-in-Some : goal.returns-in-Some
 returns-in-Some g c =
