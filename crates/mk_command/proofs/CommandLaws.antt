@@ -14,9 +14,11 @@ use Rattle.mk_text.proofs.ReadingLaws.{Took, Reads, Tells, Spelled, MayFollow, B
 use Rattle.mk_text.proofs.PartLaws.{EndsQuestion, EndsSeveral, name_reads, short_reads, shorts_reads, pair_reads, condition_reads, question_reads}
 use Rattle.mk_command.specs.Commands.{command_of, command_text, IsCommand, at_text}
 use Rattle.mk_command.specs.inner.Reading.{read_user, read_deposit, read_withdraw, read_price, read_limits, read_at, read_edit, held, read_bounds, read_spread, read_worst, read_resolve, forms, read_form}
+use Rattle.mk_command.specs.inner.Reading.{read_prices, read_position, other_forms, read_other}
 use Rattle.mk_command.specs.declared.command.Command.{Command}
 use Rattle.mk_command.specs.declared.command.CommandRef.{CommandRef}
 use Rattle.mk_command.specs.declared.command.Command.TheVariants.{User, Deposit, Withdraw, Price, Limits, Edit, Bounds, Spread, Worst, Resolve, Settle, Bound}
+use Rattle.mk_command.specs.declared.command.Command.TheVariants.{Prices, Position, Status}
 
 abbrev OfCommand : List ℕ × Read Command → Type 0
 OfCommand = Spelled command_text IsCommand
@@ -71,8 +73,14 @@ before_condition : (pairs : List PairText) (rest : List ℕ) → EndsWord rest �
 before_condition [] rest ends = ends
 before_condition (pair ∷ pairs) rest ends = refl
 
+-- a variable and the condition behind it
+variable_reads : Reads (both read_name read_condition)
+    (both_text (λ (name : List ℕ). name) condition_text) (BothFit IsName IsCondition) EndsQuestion
+variable_reads =
+    both_reads name_reads condition_reads (λ pairs rest fits ends. before_condition pairs rest (ends.word))
+
 values_reads : Reads (both read_name (behind (codes " ") (both read_name read_condition))) values_text ValuesFit EndsQuestion
-values_reads = both_reads name_reads (behind_reads (codes " ") (both_reads name_reads condition_reads (λ pairs rest fits ends. before_condition pairs rest (ends.word))))
+values_reads = both_reads name_reads (behind_reads (codes " ") variable_reads)
     (λ parts rest fits ends. refl)
 
 -- the numbers that a spread asks for, and the revision that it names
@@ -164,9 +172,33 @@ settle_form = spelled_alone command_text IsCommand (codes "settle") Settle refl 
 bound_form : OfCommand (codes "bound", given Bound)
 bound_form = spelled_alone command_text IsCommand (codes "bound") Bound refl tt
 
-form_takes : (bytes : List ℕ) (c : Command) (rest : List ℕ) → read_form bytes ≡ Some (c, rest) → Took command_text IsCommand bytes c rest
+prices_form : OfCommand (codes "prices ", read_prices)
+unfolding read_prices
+prices_form = spelled_by (codes "prices ") (λ parts. Prices (parts.0) (held (parts.1)))
+    variable_reads (λ parts fits. (refl, (fits.0, fits.1)))
+
+position_form : OfCommand (codes "position ", read_position)
+unfolding read_position
+position_form =
+    spelled_by (codes "position ") (λ parts. Position (parts.0) (parts.1.0) (held (parts.1.1)))
+    values_reads (λ parts fits. (refl, (fits.0, fits.1.0, fits.1.1)))
+
+status_form : OfCommand (codes "status", given Status)
+status_form = spelled_alone command_text IsCommand (codes "status") Status refl tt
+
+abbrev Takes : Read Command → Type 0
+Takes read = (bytes : List ℕ) (c : Command) (rest : List ℕ) →
+    read bytes ≡ Some (c, rest) → Took command_text IsCommand bytes c rest
+
+other_takes : Takes read_other
+unfolding read_other
+other_takes = choose_takes command_text IsCommand other_forms nothing
+    (settle_form, (bound_form, (prices_form, (position_form, (status_form, tt)))))
+    (nothing_takes command_text IsCommand)
+
+form_takes : Takes read_form
 unfolding read_form
-form_takes = choose_takes command_text IsCommand forms nothing (
+form_takes = choose_takes command_text IsCommand forms read_other (
   user_form,
   (
     deposit_form,
@@ -176,12 +208,12 @@ form_takes = choose_takes command_text IsCommand forms nothing (
         price_form,
         (
           limits_form,
-          (edit_form, (bounds_form, (spread_form, (worst_form, (resolve_form, (settle_form, (bound_form, tt))))))),
+          (edit_form, (bounds_form, (spread_form, (worst_form, (resolve_form, tt))))),
         ),
       ),
     ),
   ),
-) (nothing_takes command_text IsCommand)
+) other_takes
 
 ends_edit : MayFollow (codes " at ") EndsWord []
 unfolding after
@@ -196,7 +228,7 @@ unfolding after
 ends_moves = record { follows = record { word = refl; ends = record { stopped = inr refl } }; missing = refl }
 
 form_last : (c : Command) → IsCommand c → read_form (command_text c) ≡ Some (c, [])
-unfolding read_form read_user read_deposit read_withdraw read_price read_limits read_edit read_bounds read_spread read_worst read_resolve after
+unfolding read_form read_other read_prices read_position read_user read_deposit read_withdraw read_price read_limits read_edit read_bounds read_spread read_worst read_resolve after
 form_last (User user) fits = made_last (λ user. User user) name_reads user fits refl
 form_last (Deposit user bits) fits = made_last (λ parts. Deposit (parts.0) (parts.1)) user_and_bits (user, bits) fits refl
 form_last (Withdraw user bits) fits = made_last (λ parts. Withdraw (parts.0) (parts.1)) user_and_bits (user, bits) fits refl
@@ -213,6 +245,13 @@ form_last (Worst user) fits = made_last (λ user. Worst user) name_reads user fi
 form_last (Resolve pair) fits = made_last (λ pair. Resolve pair) pair_reads pair fits refl
 form_last Settle fits = refl
 form_last Bound fits = refl
+form_last (Prices variable condition) fits =
+    made_last (λ parts. Prices (parts.0) (held (parts.1))) variable_reads
+    (variable, condition.items) (fits.0, fits.1) ends_question
+form_last (Position user variable condition) fits =
+    made_last (λ parts. Position (parts.0) (parts.1.0) (held (parts.1.1))) values_reads
+    (user, (variable, condition.items)) (fits.0, (fits.1, fits.2)) ends_question
+form_last Status fits = refl
 
 pub form_tells : Tells read_form command_text IsCommand
 form_tells = record { takes = form_takes; last = form_last }

@@ -8,6 +8,7 @@ use Rattle.mk_text.proofs.LengthLaws.{short_length, shorts_length, pair_length, 
 use Rattle.mk_command.specs.Commands.{command_text, IsCommand, at_text}
 use Rattle.mk_command.specs.declared.command.Command.{Command}
 use Rattle.mk_command.specs.declared.command.Command.TheVariants.{User, Deposit, Withdraw, Price, Limits, Edit, Bounds, Spread, Worst, Resolve, Settle, Bound}
+use Rattle.mk_command.specs.declared.command.Command.TheVariants.{Prices, Position, Status}
 
 at_length : (at : Option ℕ) → IfSome at IsShort → length (at_text at) ≤ 13
 at_length None fits = omega arith
@@ -46,3 +47,9 @@ command_length (Worst user) fits = simp length-append (omega (arith, fits.short)
 command_length (Resolve pair) fits = simp length-append (omega (arith, pair_length pair fits))
 command_length Settle fits = omega arith
 command_length Bound fits = omega arith
+command_length (Prices variable condition) fits =
+    simp length-append (omega (arith, fits.0.short, condition_length condition.items fits.1))
+command_length (Position user variable condition) fits =
+    let asked = condition_length condition.items fits.2 in
+    simp length-append (omega (arith, fits.0.short, fits.1.short, asked))
+command_length Status fits = omega arith

@@ -8,6 +8,7 @@ use Rattle.mk_command.specs.declared.command.Command.{Command}
 use Rattle.mk_command.specs.declared.command.CommandRef.{CommandRef}
 use Rattle.mk_command.specs.declared.command.CommandRef.TheVariants as lent
 use Rattle.mk_command.specs.declared.command.Command.TheVariants.{User, Deposit, Withdraw, Price, Limits, Edit, Bounds, Spread, Worst, Resolve, Settle, Bound}
+use Rattle.mk_command.specs.declared.command.Command.TheVariants.{Prices, Position, Status}
 
 -- the command whose words are lent
 unfoldable pub command_of : CommandRef → Command
@@ -23,6 +24,9 @@ command_of (lent.Worst user) = Worst user
 command_of (lent.Resolve pair) = Resolve pair
 command_of lent.Settle = Settle
 command_of lent.Bound = Bound
+command_of (lent.Prices variable condition) = Prices variable condition.now
+command_of (lent.Position user variable condition) = Position user variable condition.now
+command_of lent.Status = Status
 
 -- the revision that an edit names
 abbrev pub at_text : Option ℕ → List ℕ
@@ -42,6 +46,11 @@ command_text (Worst user) = codes "worst " & user
 command_text (Resolve pair) = codes "resolve " & pair_text pair
 command_text Settle = codes "settle"
 command_text Bound = codes "bound"
+command_text (Prices variable condition) =
+    codes "prices " & variable & condition_text condition.items
+command_text (Position user variable condition) =
+    codes "position " & user & codes " " & variable & condition_text condition.items
+command_text Status = codes "status"
 
 -- the commands that have a text: their words are names, and their numbers have at most nine digits
 abbrev pub IsCommand : Command → Type 0
@@ -58,6 +67,10 @@ IsCommand (Worst user) = IsName user
 IsCommand (Resolve pair) = IsPairText pair
 IsCommand Settle = ⊤
 IsCommand Bound = ⊤
+IsCommand (Prices variable condition) = IsName variable × IsCondition condition.items
+IsCommand (Position user variable condition) =
+    IsName user × IsName variable × IsCondition condition.items
+IsCommand Status = ⊤
 
 -- its numbers have at most nine digits, and a distribution is 2 to 16 of them
 abbrev pub HasShortNumbers : Command → Type 0
@@ -73,3 +86,6 @@ HasShortNumbers (Worst user) = ⊤
 HasShortNumbers (Resolve pair) = ⊤
 HasShortNumbers Settle = ⊤
 HasShortNumbers Bound = ⊤
+HasShortNumbers (Prices variable condition) = ⊤
+HasShortNumbers (Position user variable condition) = ⊤
+HasShortNumbers Status = ⊤

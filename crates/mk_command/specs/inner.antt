@@ -1,2 +1,3 @@
 -- What only proofs and private contracts cite.
 pub mod Reading
+pub mod Kinds

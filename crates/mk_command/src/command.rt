@@ -2,6 +2,7 @@
 
 ghost use Rattle.std.specs.Prelude.{◌≡◌};
 ghost use Rattle.mk_command.specs.Commands.{command_of};
+ghost use Rattle.mk_command.specs.inner.Kinds.{IsOfValues};
 
 use arrayvec::ArrayVec;
 use mk_net::{Name, PairText, QuestionText};
@@ -32,7 +33,8 @@ pub enum Command {
         user: Name,
         question: QuestionText,
     },
-    /// `edit U Q to X` or `edit U Q to X at R`: U moves it to X millionths, having seen the revision R.
+    /// `edit U Q to X` or `edit U Q to X at R`: U moves it to X millionths, having seen the revision
+    /// R.
     Edit {
         user: Name,
         question: QuestionText,
@@ -45,8 +47,8 @@ pub enum Command {
         variable: Name,
         condition: ArrayVec<PairText, 8>,
     },
-    /// `spread U V to X..` or `spread U V to X.. at R`, perhaps under a condition: U moves the values of V, in their order, to these
-    /// millionths, having seen the revision R.
+    /// `spread U V to X..` or `spread U V to X.. at R`, perhaps under a condition: U moves the
+    /// values of V, in their order, to these millionths, having seen the revision R.
     Spread {
         user: Name,
         variable: Name,
@@ -66,6 +68,19 @@ pub enum Command {
     Settle,
     /// `bound`: what can the operator lose at most?
     Bound,
+    /// `prices V`, perhaps under a condition: what is the price of each value of V?
+    Prices {
+        variable: Name,
+        condition: ArrayVec<PairText, 8>,
+    },
+    /// `position U V`, perhaps under a condition: what is U sure of by each value of V?
+    Position {
+        user: Name,
+        variable: Name,
+        condition: ArrayVec<PairText, 8>,
+    },
+    /// `status`: how far is the market, and how full?
+    Status,
 }
 
 const _: () = prove!(size_of::<Command>() <= 700);
@@ -77,8 +92,8 @@ pub struct Words {
     pub(crate) shares: ArrayVec<u32, 16>,
 }
 
-/// A command whose question, or condition and shares, are lent: what `Command` is, passed on without a copy of these. `command_of` in the
-/// definitions says which command it is.
+/// A command whose question, or condition and shares, are lent: what `Command` is, passed on without
+/// a copy of these. `command_of` in the definitions says which command it is.
 #[derive(Debug, Drop, PartialEq, Eq)]
 pub enum CommandRef<'a> {
     /// `user U`.
@@ -137,6 +152,19 @@ pub enum CommandRef<'a> {
     Settle,
     /// `bound`.
     Bound,
+    /// `prices V`, perhaps under a condition.
+    Prices {
+        variable: Name,
+        condition: &'a ArrayVec<PairText, 8>,
+    },
+    /// `position U V`, perhaps under a condition.
+    Position {
+        user: Name,
+        variable: Name,
+        condition: &'a ArrayVec<PairText, 8>,
+    },
+    /// `status`.
+    Status,
 }
 
 const _: () = prove!(size_of::<CommandRef>() <= 112);
@@ -173,6 +201,25 @@ impl Command {
                 to: *to,
                 at: *at,
             },
+            Command::Worst { user } => CommandRef::Worst { user: *user },
+            Command::Resolve { pair } => CommandRef::Resolve { pair: *pair },
+            Command::Settle => CommandRef::Settle,
+            Command::Bound => CommandRef::Bound,
+            Command::Status => CommandRef::Status,
+            Command::Bounds { .. }
+            | Command::Spread { .. }
+            | Command::Prices { .. }
+            | Command::Position { .. } => self.lend_values(),
+        }
+    }
+
+    /// The same, of a command that speaks of every value of a variable.
+    #[tactic(auto, unfolding(crate::specs::Commands::command_of))]
+    fn lend_values(&self) -> CommandRef<'_>
+        requires { IsOfValues self.now }
+        ensures { command_of result ≡ self.now }
+    {
+        match self {
             Command::Bounds {
                 user,
                 variable,
@@ -195,10 +242,23 @@ impl Command {
                 to,
                 at: *at,
             },
-            Command::Worst { user } => CommandRef::Worst { user: *user },
-            Command::Resolve { pair } => CommandRef::Resolve { pair: *pair },
-            Command::Settle => CommandRef::Settle,
-            Command::Bound => CommandRef::Bound,
+            Command::Prices {
+                variable,
+                condition,
+            } => CommandRef::Prices {
+                variable: *variable,
+                condition,
+            },
+            Command::Position {
+                user,
+                variable,
+                condition,
+            } => CommandRef::Position {
+                user: *user,
+                variable: *variable,
+                condition,
+            },
+            _ => unreachable!(),
         }
     }
 }

@@ -6,6 +6,7 @@ ghost use Rattle.mk_text.specs.Numbers.{IsShort};
 ghost use Rattle.mk_text.specs.Joined.{spaced, AreSeveral};
 ghost use Rattle.mk_text.specs.Texts.{condition_text, question_text};
 ghost use Rattle.mk_command.specs.Commands.{HasShortNumbers, command_text, at_text};
+ghost use Rattle.mk_command.specs.inner.Kinds.{IsOfValues};
 
 use crate::command::Command;
 use arrayvec::ArrayString;
@@ -46,6 +47,26 @@ pub fn print_command(command: &Command, out: &mut ArrayString<1024>)
             put_asked(out, question);
             put_move(out, *to, *at);
         }
+        Command::Worst { user } => put_user(out, "worst ", user),
+        Command::Resolve { pair } => {
+            out.push_str("resolve ");
+            put_pair(out, pair);
+        }
+        Command::Settle => out.push_str("settle"),
+        Command::Bound => out.push_str("bound"),
+        Command::Status => out.push_str("status"),
+        _ => put_of_values(out, command),
+    }
+}
+
+// The text of a command that speaks of every value of a variable.
+fn put_of_values(out: &mut ArrayString<1024>, command: &Command)
+    requires values { IsOfValues command.now }
+    requires numbers { HasShortNumbers command.now }
+    requires empty { array_string_len out.old ≡ 0 }
+    ensures { out.new.bytes ≡ out.old.bytes ++ command_text command.now }
+{
+    match command {
         Command::Bounds {
             user,
             variable,
@@ -65,13 +86,23 @@ pub fn print_command(command: &Command, out: &mut ArrayString<1024>)
             put_values_asked(out, variable, condition.as_slice());
             put_moves(out, to.as_slice(), *at);
         }
-        Command::Worst { user } => put_user(out, "worst ", user),
-        Command::Resolve { pair } => {
-            out.push_str("resolve ");
-            put_pair(out, pair);
+        Command::Prices {
+            variable,
+            condition,
+        } => {
+            out.push_str("prices ");
+            put_name(out, variable);
+            put_condition(out, condition.as_slice());
         }
-        Command::Settle => out.push_str("settle"),
-        Command::Bound => out.push_str("bound"),
+        Command::Position {
+            user,
+            variable,
+            condition,
+        } => {
+            put_user(out, "position ", user);
+            put_values_asked(out, variable, condition.as_slice());
+        }
+        _ => unreachable!(),
     }
 }
 

@@ -4,15 +4,17 @@ ghost use Rattle.std.specs.Prelude.{◌≡◌, ◌≢◌, ◌<◌, ◌^◌, IfOk
 ghost use Rattle.mk_text.specs.Reading.{Finds, read_short};
 ghost use Rattle.mk_command.specs.Commands.{IsCommand, command_of, command_text};
 ghost use Rattle.mk_command.specs.inner.Reading.{read_user, read_deposit, read_withdraw, read_price, read_limits, read_edit, read_at, read_bounds, read_spread, read_worst, read_resolve, read_form};
+ghost use Rattle.mk_command.specs.inner.Reading.{read_prices, read_position, read_other};
 ghost use Rattle.mk_command.specs.declared.command.Command.{Command};
 
 use crate::command::{CommandRef, Words};
 use mk_net::Syntax;
 use mk_text::{Item, Reader, several};
 
-/// The command of which these bytes are the text, with its longer words in `words`, where they are written over those of another
-/// line. Syntax where the bytes are the text of no command.
-// It and its forms are calls of their own: within one another, each line would clear and move the words of every form.
+/// The command of which these bytes are the text, with its longer words in `words`, where they are
+/// written over those of another line. Syntax where the bytes are the text of no command.
+// It and its forms are calls of their own: within one another, each line would clear and move the
+// words of every form.
 #[inline(never)]
 pub fn read_command<'a>(line: &[u8], words: &'a mut Words) -> Result<CommandRef<'a>, Syntax>
     ensures found { IfOk result (λ c. IsCommand (command_of c) × (line.now ≡ command_text (command_of c))) }
@@ -63,11 +65,28 @@ fn command<'a>(reader: &mut Reader, words: &'a mut Words) -> Option<CommandRef<'
     if reader.skip(b"resolve ") {
         return resolve(reader);
     }
+    other(reader, words)
+}
+
+// The forms that are looked for behind all others.
+#[tactic(auto, unfolding(crate::specs::inner::Reading::read_other, crate::specs::Commands::command_of))]
+fn other<'a>(reader: &mut Reader, words: &'a mut Words) -> Option<CommandRef<'a>>
+    ensures { Finds (option_map command_of result) reader.new (read_other reader.old) }
+{
     if reader.skip(b"settle") {
         return Some(CommandRef::Settle);
     }
     if reader.skip(b"bound") {
         return Some(CommandRef::Bound);
+    }
+    if reader.skip(b"prices ") {
+        return prices(reader, words);
+    }
+    if reader.skip(b"position ") {
+        return position(reader, words);
+    }
+    if reader.skip(b"status") {
+        return Some(CommandRef::Status);
     }
     None
 }
@@ -212,6 +231,37 @@ fn resolve<'a>(reader: &mut Reader) -> Option<CommandRef<'a>>
 {
     let pair = reader.pair()?;
     Some(CommandRef::Resolve { pair })
+}
+
+#[inline(never)]
+#[tactic(auto, unfolding(crate::specs::inner::Reading::read_prices, crate::specs::Commands::command_of))]
+fn prices<'a>(reader: &mut Reader, words: &'a mut Words) -> Option<CommandRef<'a>>
+    ensures { Finds (option_map command_of result) reader.new (read_prices reader.old) }
+{
+    let variable = reader.name()?;
+    reader.condition(&mut words.question.condition)?;
+    let condition = &words.question.condition;
+    Some(CommandRef::Prices {
+        variable,
+        condition,
+    })
+}
+
+#[inline(never)]
+#[tactic(auto, unfolding(crate::specs::inner::Reading::read_position, crate::specs::Commands::command_of))]
+fn position<'a>(reader: &mut Reader, words: &'a mut Words) -> Option<CommandRef<'a>>
+    ensures { Finds (option_map command_of result) reader.new (read_position reader.old) }
+{
+    let user = reader.name()?;
+    reader.expect(b" ")?;
+    let variable = reader.name()?;
+    reader.condition(&mut words.question.condition)?;
+    let condition = &words.question.condition;
+    Some(CommandRef::Position {
+        user,
+        variable,
+        condition,
+    })
 }
 
 /// A number of at most nine digits.

@@ -1,9 +1,11 @@
 -- No reply is long.
 use Rattle.std.specs.Prelude.{ℕ, ◌+◌, ◌≤◌, ◌<◌, List, [], ◌∷◌, ◌++◌, length, codes, decimal, Option, Some, None}
 use Rattle.std.proofs.lemmas.List.Elements.{All-head, All-tail}
-use Rattle.std.proofs.Common.{arith, length-append}
+use Rattle.std.proofs.Common.{◌*◌, arith, length-append}
+use Rattle.std.proofs.Math.Nat.{mul-le-mul_left}
 use Rattle.mk_text.specs.Joined.{items_text, spaced, AreSeveral}
 use Rattle.mk_text.specs.Numbers.{IsLong, IsNarrow, price_text, limits_text, IsInterval, interval_text, AreIntervals, intervals_text}
+use Rattle.mk_text.specs.Numbers.{range_text, ArePrices, prices_text, AreEnds, ends_text}
 use Rattle.mk_text.proofs.LengthLaws.{long_length, pair_length, price_length, limits_length, items_length}
 use Rattle.mk_text.proofs.PartLaws.{interval_ends}
 use Rattle.mk_reply.specs.Refusals.{refusal_text, given_in, IsRefusal}
@@ -11,6 +13,7 @@ use Rattle.mk_reply.specs.Replies.{reply_text, at_text, payment_text, IsRatio, I
 use Rattle.mk_reply.specs.declared.payments.Payment.{Payment}
 use Rattle.mk_reply.specs.declared.reply.Reply.{Reply}
 use Rattle.mk_reply.specs.declared.reply.Reply.TheVariants.{Joined, Deposited, Withdrawn, Price, Limits, Traded, Bounded, Spreaded, Worst, Resolved, Settled, Bound, Refused}
+use Rattle.mk_reply.specs.declared.reply.Reply.TheVariants.{Prices, Position, Status}
 use Rattle.mk_reply.specs.declared.refusal.Refusal.{Refusal}
 use Rattle.mk_reply.specs.declared.refusal.Refusal.TheVariants.{Syntax, Long, Settled as Over, User, Exists, Users, Unknown, Twice, Stale, Resolved as Known, Impossible, Wide, Range, Full, Beyond, Short, Unresolved, NoVariable, Numbers, Sum, Outside, Sure, Memory}
 
@@ -80,6 +83,33 @@ refusal_length Memory fits = omega arith
 two_lengths : (a b : List ℕ) (m n : ℕ) → length a ≤ m → length b ≤ n → length (a ++ b) ≤ m + n
 two_lengths a b m n first second = omega (arith, length-append a b, first, second)
 
+-- the lengths of several
+several_length : {X : Type 0} (text : X → List ℕ) (Fits : X → Type 0) (most : ℕ) →
+    ((x : X) → Fits x → length (text x) ≤ most) →
+    (xs : List X) → AreSeveral Fits xs → length (spaced text xs) ≤ most + (1 + most) * 15
+several_length text Fits most each [] fits = absurd (omega (arith, fits.two))
+several_length text Fits most each (first ∷ others) fits =
+    let here = each first (All-head Fits first others fits.each) in
+    let all = All-tail Fits first others fits.each in
+    let few : length others ≤ 15 = omega (arith, fits.few) in
+    let more = items_length (codes " ") text Fits (1 + most)
+    (λ x is. let l = each x in omega (arith, l)) others all in
+    let fifteen = mul-le-mul_left (1 + most) few in
+    let whole = length-append (text first) (items_text (codes " ") text others) in
+    omega (arith, whole, here, more, fifteen)
+
+prices_length : (prices : ℕ × ℕ) → ArePrices prices → length (prices_text prices) ≤ 62
+prices_length prices fits =
+    let low = price_text (prices.0) in
+    let high = price_text (prices.1) in
+    let behind = two_lengths (codes "..") high 2 30 (omega arith) (price_length (prices.1) fits.1) in
+    two_lengths low (codes ".." ++ high) 30 32 (price_length (prices.0) fits.0) behind
+
+ends_length : (ends : Option (ℕ × ℕ)) → AreEnds ends → length (ends_text ends) ≤ 40
+ends_length None fits = omega arith
+ends_length (Some two) fits =
+    simp length-append (omega (arith, long_length (two.0) fits.0, long_length (two.1) fits.1))
+
 pub reply_length : (r : Reply) → IsReply r → length (reply_text r) < 32768
 reply_length (Joined user at) fits = simp length-append (omega (arith, fits.0.short, long_length at fits.1))
 reply_length (Deposited user bits at) fits = simp length-append (omega (arith, fits.0.short, narrow_length bits fits.1, long_length at fits.2))
@@ -107,4 +137,20 @@ reply_length (Settled at payments) fits =
     let list = items_length (codes ", ") payment_text IsPayment 100 payment_length payments fits.1.each in
     let both = two_lengths (at_text at) (items_text (codes ", ") payment_text payments) 23 25600 (at_length at fits.0) (omega (arith, list, fits.1.few)) in
     omega (arith, length-append (codes "settle") (at_text at ++ items_text (codes ", ") payment_text payments), both)
+reply_length (Prices intervals) fits =
+    let list = several_length prices_text ArePrices 62 prices_length intervals.items fits in
+    omega (arith, length-append (codes "prices ") (spaced prices_text intervals.items), list)
+reply_length (Position intervals) fits =
+    let list = several_length ends_text AreEnds 40 ends_length intervals.items fits in
+    omega (arith, length-append (codes "position ") (spaced ends_text intervals.items), list)
+reply_length (Status at users trades most transfers most_transfers unresolved questions) fits =
+    let revision = long_length at fits.0 in
+    let first = narrow_length users fits.1 in
+    let traded = narrow_length trades fits.2 in
+    let limit = narrow_length most fits.3 in
+    let moved = narrow_length transfers fits.4 in
+    let limit_of_moves = narrow_length most_transfers fits.5 in
+    let left = narrow_length unresolved fits.6 in
+    let all = narrow_length questions fits.7 in
+    simp length-append (omega arith)
 reply_length (Refused why) fits = omega (arith, length-append (codes "refused ") (refusal_text why), refusal_length why fits)

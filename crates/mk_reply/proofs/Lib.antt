@@ -1,3 +1,4 @@
 pub mod RefusalLaws
+pub mod ToldLaws
 pub mod ReplyLaws
 pub mod LengthLaws

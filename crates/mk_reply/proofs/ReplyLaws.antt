@@ -13,10 +13,16 @@ use Rattle.mk_text.proofs.WordLemmas.{after_begins}
 use Rattle.mk_text.proofs.PartLaws.{EndsSeveral, name_reads, pair_reads, limits_reads, price_reads, range_reads, units_reads, several_reads, number_goes_on, intervals_reads, both_ends, AreBelow}
 use Rattle.mk_reply.specs.Replies.{reply_text, at_text, payment_text, IsRatio, IsPayment, IsReply, IsUnread}
 use Rattle.mk_reply.specs.Reading.{read_long, dated, boxed, read_joined, read_moved, read_prices, read_limited, read_traded, read_bounded, read_spreaded, read_worst, read_bound, read_resolved, read_payment, read_payments, read_settled, read_refusal, other_forms, read_other, read_form}
+use Rattle.mk_reply.specs.Reading.{read_all_prices, read_position, read_status, status_of}
+use Rattle.mk_reply.specs.Reading.{later_forms, read_later}
+use Rattle.mk_text.proofs.SpanLaws.{all_prices_reads, all_ends_reads}
+use Rattle.mk_reply.proofs.ToldLaws.{all_prices_form, position_form, status_form}
+use Rattle.mk_reply.proofs.ToldLaws.{status_parts, ends_line}
 use Rattle.mk_reply.proofs.RefusalLaws.{long_reads, narrow_reads, given_same, refusal_reads}
 use Rattle.mk_reply.specs.declared.payments.Payment.{Payment}
 use Rattle.mk_reply.specs.declared.reply.Reply.{Reply}
 use Rattle.mk_reply.specs.declared.reply.Reply.TheVariants.{Joined, Deposited, Withdrawn, Price, Limits, Traded, Bounded, Spreaded, Worst, Resolved, Settled, Bound, Refused}
+use Rattle.mk_reply.specs.declared.reply.Reply.TheVariants.{Prices, Position, Status}
 use Rattle.mk_reply.specs.declared.unread.Unread.{Unread}
 use Rattle.mk_reply.specs.declared.unread.Unread.TheVariants.{Syntax, Memory}
 
@@ -182,19 +188,29 @@ settled_form = spelled_by (codes "settle") (λ parts. Settled (parts.0) (parts.1
 refused_form : OfReply (codes "refused ", made (λ why. Refused why) read_refusal)
 refused_form = spelled_by (codes "refused ") (λ why. Refused why) refusal_reads (λ why fits. (refl, fits))
 
-other_takes : (bytes : List ℕ) (r : Reply) (rest : List ℕ) → read_other bytes ≡ Some (r, rest) → Took reply_text IsReply bytes r rest
+abbrev Takes : Read Reply → Type 0
+Takes read = (bytes : List ℕ) (r : Reply) (rest : List ℕ) →
+    read bytes ≡ Some (r, rest) → Took reply_text IsReply bytes r rest
+
+later_takes : Takes read_later
+unfolding read_later
+later_takes = choose_takes reply_text IsReply later_forms nothing
+    (bound_form, (all_prices_form, (position_form, (status_form, tt))))
+    (nothing_takes reply_text IsReply)
+
+other_takes : Takes read_other
 unfolding read_other
-other_takes = choose_takes reply_text IsReply other_forms nothing (
+other_takes = choose_takes reply_text IsReply other_forms read_later (
   joined_form,
   (
     spelled_by (codes "deposit ") (λ parts. Deposited (parts.0) (parts.1.0) (parts.1.1)) moved_reads (λ parts fits. (refl, (fits.0, fits.1.0, fits.1.1))),
     (
       spelled_by (codes "withdraw ") (λ parts. Withdrawn (parts.0) (parts.1.0) (parts.1.1)) moved_reads (λ parts fits. (refl, (fits.0, fits.1.0, fits.1.1))),
-      (prices_form, (limited_form, (traded_form, (bounded_form, (spreaded_form, (worst_form, (resolved_form, (bound_form, (refused_form, tt))))))))),
+      (prices_form, (limited_form, (traded_form, (bounded_form, (spreaded_form, (worst_form, (resolved_form, (refused_form, tt)))))))),
     ),
   ),
 )
-    (nothing_takes reply_text IsReply)
+    later_takes
 
 form_takes : (bytes : List ℕ) (r : Reply) (rest : List ℕ) → read_form bytes ≡ Some (r, rest) → Took reply_text IsReply bytes r rest
 unfolding read_form
@@ -205,7 +221,7 @@ unfolding after
 ends_payments = record { follows = refl; missing = refl }
 
 form_last : (r : Reply) → IsReply r → read_form (reply_text r) ≡ Some (r, [])
-unfolding read_form read_other read_joined read_prices read_limited read_traded read_bounded read_spreaded read_worst read_bound read_resolved read_settled after
+unfolding read_form read_other read_later read_all_prices read_position read_status read_joined read_prices read_limited read_traded read_bounded read_spreaded read_worst read_bound read_resolved read_settled after
 form_last (Joined user at) fits = made_last (λ parts. Joined (parts.0) (parts.1)) (dated_reads name_reads) (user, at) fits refl
 form_last (Deposited user bits at) fits =
     made_last (λ parts. Deposited (parts.0) (parts.1.0) (parts.1.1)) moved_reads (user, (bits, at)) (fits.0, (fits.1, fits.2)) refl
@@ -223,6 +239,14 @@ form_last (Resolved pair at) fits = made_last (λ parts. Resolved (parts.0) (par
 form_last (Settled at payments) fits = made_last (λ parts. Settled (parts.0) (parts.1)) settled_parts (at, payments)
     (fits.0, record { few = fits.1.few; each = fits.1.each }) ends_payments
 form_last (Bound low high) fits = made_last (λ range. Bound (range.0) (range.1)) ends_parts (low, high) fits refl
+form_last (Prices intervals) fits =
+    made_last (λ xs. Prices (record { items = xs })) all_prices_reads intervals.items fits ends_line
+form_last (Position intervals) fits =
+    made_last (λ xs. Position (record { items = xs })) all_ends_reads intervals.items fits ends_line
+form_last (Status at users trades most transfers most_transfers unresolved questions) fits =
+    made_last status_of status_parts
+    (at, (users, ((trades, most), ((transfers, most_transfers), (unresolved, questions)))))
+    (fits.0, (fits.1, ((fits.2, fits.3), ((fits.4, fits.5), (fits.6, fits.7))))) refl
 form_last (Refused why) fits = made_last (λ why. Refused why) refusal_reads why fits refl
 
 pub form_tells : Tells read_form reply_text IsReply

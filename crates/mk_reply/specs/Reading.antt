@@ -2,12 +2,14 @@
 use Rattle.std.specs.Prelude.{ℕ, ◌^◌, List, [], ◌∷◌, codes, ◌==◌, Option, option_map}
 use Rattle.arrayvec.specs.ArrayVec.{ArrayVec}
 use Rattle.mk_text.specs.Reading.{Read, both, behind, made, passed, given, never, items, choose, nothing, read_name, read_number, read_short, read_units, read_pair, read_price, read_range, read_limits, read_several, read_intervals}
+use Rattle.mk_text.specs.Reading.{read_two_prices, read_ends}
 use Rattle.mk_net.specs.Bounds.{max_users}
 use Rattle.mk_reply.specs.declared.refusal.Refusal.{Refusal}
 use Rattle.mk_reply.specs.declared.refusal.Refusal.TheVariants.{Syntax, Long, Settled, User, Exists, Users, Unknown, Twice, Stale, Resolved, Impossible, Wide, Range, Full, Beyond, Short, Unresolved, NoVariable, Numbers, Sum, Outside, Sure, Memory}
 use Rattle.mk_reply.specs.declared.payments.Payment.{Payment}
 use Rattle.mk_reply.specs.declared.reply.Reply.{Reply}
 use Rattle.mk_reply.specs.declared.reply.Reply.TheVariants.{Joined, Deposited, Withdrawn, Price, Limits as Limited, Traded, Bounded, Spreaded, Worst, Resolved as ResolvedPair, Settled as AllSettled, Bound, Refused}
+use Rattle.mk_reply.specs.declared.reply.Reply.TheVariants.{Prices, Position, Status}
 
 unfoldable pub read_long : Read ℕ
 read_long = read_number (2 ^ 63)
@@ -132,6 +134,33 @@ read_payments = items never (codes ", ") read_payment 256 []
 unfoldable pub read_settled : Read Reply
 read_settled = made (λ parts. AllSettled (parts.0) (parts.1)) (both (behind (codes " at ") read_long) read_payments)
 
+unfoldable pub read_all_prices : Read Reply
+read_all_prices = made (λ xs. Prices (record { items = xs })) (read_several read_two_prices)
+
+unfoldable pub read_position : Read Reply
+read_position = made (λ xs. Position (record { items = xs })) (read_several read_ends)
+
+-- a number, and how many there may be
+unfoldable pub read_of : Read (ℕ × ℕ)
+read_of = both read_narrow (behind (codes " of ") read_narrow)
+
+abbrev pub StatusParts : Type 0
+StatusParts = ℕ × (ℕ × ((ℕ × ℕ) × ((ℕ × ℕ) × (ℕ × ℕ))))
+
+abbrev pub status_of : StatusParts → Reply
+status_of (at, (users, (trades, (transfers, unresolved)))) =
+    Status at users trades.0 trades.1 transfers.0 transfers.1 unresolved.0 unresolved.1
+
+-- what stands behind the trades of a status
+unfoldable pub read_transfers : Read ((ℕ × ℕ) × (ℕ × ℕ))
+read_transfers =
+    behind (codes " transfers ") (both read_of (behind (codes " open ") read_of))
+
+unfoldable pub read_status : Read Reply
+read_status = made status_of (both read_long (behind (codes " users ")
+    (both read_narrow (behind (codes " trades ") (both read_of read_transfers)))))
+
+-- the forms of replies that are looked for first, and the others
 abbrev pub other_forms : List (List ℕ × Read Reply)
 other_forms =
     (codes "user ", read_joined)
@@ -144,12 +173,22 @@ other_forms =
     ∷ (codes "spread ", read_spreaded)
     ∷ (codes "worst ", read_worst)
     ∷ (codes "resolve ", read_resolved)
-    ∷ (codes "bound ", read_bound)
     ∷ (codes "refused ", made (λ why. Refused why) read_refusal)
     ∷ []
 
+abbrev pub later_forms : List (List ℕ × Read Reply)
+later_forms =
+    (codes "bound ", read_bound)
+    ∷ (codes "prices ", read_all_prices)
+    ∷ (codes "position ", read_position)
+    ∷ (codes "status at ", read_status)
+    ∷ []
+
+unfoldable pub read_later : Read Reply
+read_later = choose later_forms nothing
+
 unfoldable pub read_other : Read Reply
-read_other = choose other_forms nothing
+read_other = choose other_forms read_later
 
 -- a settlement, which alone takes memory, or another reply
 unfoldable pub read_form : Read Reply

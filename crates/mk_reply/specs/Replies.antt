@@ -4,11 +4,13 @@ use Rattle.mk_net.specs.Bounds.{max_users}
 use Rattle.mk_net.specs.Name.{IsName}
 use Rattle.mk_text.specs.Joined.{◌&◌, items_text, spaced, AreSeveral}
 use Rattle.mk_text.specs.Numbers.{IsLong, IsNarrow, IsPrice, price_text, range_text, AreLimits, limits_text, AreIntervals, intervals_text}
+use Rattle.mk_text.specs.Numbers.{ArePrices, prices_text, AreEnds, ends_text}
 use Rattle.mk_text.specs.Texts.{IsPairText, pair_text}
 use Rattle.mk_reply.specs.Refusals.{refusal_text, given_in, IsRefusal}
 use Rattle.mk_reply.specs.declared.payments.Payment.{Payment}
 use Rattle.mk_reply.specs.declared.reply.Reply.{Reply}
 use Rattle.mk_reply.specs.declared.reply.Reply.TheVariants.{Joined, Deposited, Withdrawn, Price, Limits, Traded, Bounded, Spreaded, Worst, Resolved, Settled, Bound, Refused}
+use Rattle.mk_reply.specs.declared.reply.Reply.TheVariants.{Prices, Position, Status}
 use Rattle.mk_reply.specs.declared.unread.Unread.{Unread}
 use Rattle.mk_reply.specs.declared.unread.Unread.TheVariants.{Syntax, Memory}
 
@@ -18,6 +20,10 @@ at_text at = codes " at " & decimal at
 
 abbrev pub payment_text : Payment → List ℕ
 payment_text p = p.user & codes " " & range_text p.low p.high & codes " paid " & decimal p.paid
+
+-- a number, and how many there may be
+abbrev pub of_text : ℕ × ℕ → List ℕ
+of_text number = decimal number.0 & codes " of " & decimal number.1
 
 abbrev pub reply_text : Reply → List ℕ
 reply_text (Joined user at) = codes "user " & user & at_text at
@@ -32,6 +38,13 @@ reply_text (Worst low high) = codes "worst " & range_text low high
 reply_text (Resolved pair at) = codes "resolve " & pair_text pair & at_text at
 reply_text (Settled at payments) = codes "settle" & at_text at & items_text (codes ", ") payment_text payments
 reply_text (Bound low high) = codes "bound " & range_text low high
+reply_text (Prices intervals) = codes "prices " & spaced prices_text intervals.items
+reply_text (Position intervals) = codes "position " & spaced ends_text intervals.items
+reply_text (Status at users trades most transfers most_transfers unresolved questions) =
+    codes "status" & at_text at & codes " users " & decimal users
+    & codes " trades " & of_text (trades, most)
+    & codes " transfers " & of_text (transfers, most_transfers)
+    & codes " open " & of_text (unresolved, questions)
 reply_text (Refused why) = codes "refused " & refusal_text why
 
 -- a ratio of a trade
@@ -68,6 +81,11 @@ IsReply (Worst low high) = IsLong low × IsLong high
 IsReply (Resolved pair at) = IsPairText pair × IsLong at
 IsReply (Settled at payments) = IsLong at × ArePayments payments
 IsReply (Bound low high) = IsLong low × IsLong high
+IsReply (Prices intervals) = AreSeveral ArePrices intervals.items
+IsReply (Position intervals) = AreSeveral AreEnds intervals.items
+IsReply (Status at users trades most transfers most_transfers unresolved questions) =
+    IsLong at × IsNarrow users × IsNarrow trades × IsNarrow most
+    × IsNarrow transfers × IsNarrow most_transfers × IsNarrow unresolved × IsNarrow questions
 IsReply (Refused why) = IsRefusal why
 
 -- bytes that are not read: the text of no reply, or the front of a settlement, for which memory was wanting

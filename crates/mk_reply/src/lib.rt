@@ -15,5 +15,5 @@ pub use payments::{Payment, Payments};
 pub use print::print_reply;
 pub use read::read_reply;
 pub use refusal::{Intervals, Refusal};
-pub use reply::Reply;
+pub use reply::{Reply, Spans};
 pub use unread::Unread;

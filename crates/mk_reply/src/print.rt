@@ -6,7 +6,8 @@ ghost use Rattle.mk_text.specs.Joined.{items_text};
 ghost use Rattle.mk_text.specs.Numbers.{price_text, range_text, limits_text, intervals_text};
 ghost use Rattle.mk_text.specs.Texts.{pair_text};
 ghost use Rattle.mk_reply.specs.Refusals.{refusal_text, given_in};
-ghost use Rattle.mk_reply.specs.Replies.{reply_text, at_text, payment_text};
+ghost use Rattle.mk_reply.specs.Replies.{reply_text, at_text, payment_text, of_text};
+ghost use Rattle.mk_reply.specs.inner.Kinds.{IsTold};
 
 use crate::payments::Payment;
 use crate::refusal::{Intervals, Refusal};
@@ -14,7 +15,8 @@ use crate::reply::Reply;
 use arrayvec::ArrayString;
 use mk_net::{Name, PairText};
 use mk_text::{
-    put_intervals, put_limits, put_name, put_number, put_pair, put_price, put_range, put_units,
+    put_all_ends, put_all_prices, put_intervals, put_limits, put_name, put_number, put_pair,
+    put_price, put_range, put_units,
 };
 
 /// The text of a reply. Each has room, also a settlement with 256 payments.
@@ -41,22 +43,12 @@ pub fn print_reply(reply: &Reply, out: &mut ArrayString<32768>)
             put_counted(out, " ", *bits as u64);
             put_at(out, *at);
         }
-        Reply::Price { low, high } => put_prices(out, *low, *high),
-        Reply::Limits { limits, at } => {
-            put_limited(out, "limits ", *limits);
-            put_at(out, *at);
-        }
         Reply::Traded { hit, miss, at } => put_trade(out, *hit, *miss, *at),
-        Reply::Bounded { intervals, at } => {
-            put_given(out, "bounds ", intervals);
-            put_at(out, *at);
-        }
         Reply::Spreaded { factors, at } => {
             out.push_str("spread ");
             put_units(out, factors.as_slice());
             put_at(out, *at);
         }
-        Reply::Worst { low, high } => put_ends(out, "worst ", *low, *high),
         Reply::Resolved { pair, at } => {
             put_paired(out, "resolve ", pair);
             put_at(out, *at);
@@ -66,11 +58,59 @@ pub fn print_reply(reply: &Reply, out: &mut ArrayString<32768>)
             put_at(out, *at);
             put_payments(out, payments.rows());
         }
-        Reply::Bound { low, high } => put_ends(out, "bound ", *low, *high),
         Reply::Refused { why } => {
             out.push_str("refused ");
             put_refusal(out, why);
         }
+        _ => put_told(out, reply),
+    }
+}
+
+// The text of a reply to a question.
+fn put_told(out: &mut Text, reply: &Reply)
+    requires told { IsTold reply.now }
+    requires empty { array_string_len out.old ≡ 0 }
+    ensures text { out.new.bytes ≡ out.old.bytes ++ reply_text reply.now }
+    ensures room { array_string_len out.new < 32768 }
+{
+    match reply {
+        Reply::Price { low, high } => put_prices(out, *low, *high),
+        Reply::Limits { limits, at } => {
+            put_limited(out, "limits ", *limits);
+            put_at(out, *at);
+        }
+        Reply::Bounded { intervals, at } => {
+            put_given(out, "bounds ", intervals);
+            put_at(out, *at);
+        }
+        Reply::Worst { low, high } => put_ends(out, "worst ", *low, *high),
+        Reply::Bound { low, high } => put_ends(out, "bound ", *low, *high),
+        Reply::Prices { intervals } => {
+            out.push_str("prices ");
+            put_all_prices(out, intervals.as_slice());
+        }
+        Reply::Position { intervals } => {
+            out.push_str("position ");
+            put_all_ends(out, intervals.as_slice());
+        }
+        Reply::Status {
+            at,
+            users,
+            trades,
+            most,
+            transfers,
+            most_transfers,
+            open,
+            questions,
+        } => {
+            out.push_str("status");
+            put_at(out, *at);
+            put_counted(out, " users ", *users as u64);
+            put_of(out, " trades ", *trades, *most);
+            put_of(out, " transfers ", *transfers, *most_transfers);
+            put_of(out, " open ", *open, *questions);
+        }
+        _ => unreachable!(),
     }
 }
 
@@ -99,6 +139,15 @@ fn put_counted(out: &mut Text, word: &str, number: u64)
 {
     out.push_str(word);
     put_number(out, number);
+}
+
+fn put_of(out: &mut Text, word: &str, number: u32, most: u32)
+    requires { array_string_len out.old + length word.now + 44 ≤ 32768 }
+    ensures text { out.new.bytes ≡ out.old.bytes ++ (word.now ++ of_text (number, most)) }
+    ensures growth { array_string_len out.new ≤ array_string_len out.old + length word.now + 44 }
+{
+    put_counted(out, word, number as u64);
+    put_counted(out, " of ", most as u64);
 }
 
 fn put_ends(out: &mut Text, word: &str, low: u64, high: u64)

@@ -4,6 +4,8 @@ ghost use Rattle.std.specs.Prelude.{◌≡◌, ℕ, List, IfOk, IfErr, option_ma
 ghost use Rattle.mk_text.specs.Reading.{Finds, behind};
 ghost use Rattle.mk_reply.specs.Replies.{IsReply, reply_text, IsUnread};
 ghost use Rattle.mk_reply.specs.Reading.{read_long, read_joined, read_moved, read_prices, read_limited, read_traded, read_bounded, read_spreaded, read_worst, read_bound, read_resolved, read_payment, read_payments, read_settled, read_other, read_form};
+ghost use Rattle.mk_reply.specs.Reading.{read_all_prices, read_position, read_later};
+ghost use Rattle.mk_reply.specs.Reading.{read_of, read_transfers, read_status};
 
 use crate::payments::{Payment, Payments};
 use crate::read_refusal::{long, narrow, refusal};
@@ -78,12 +80,29 @@ fn other(reader: &mut Reader) -> Option<Reply>
     if reader.skip(b"resolve ") {
         return resolved(reader);
     }
-    if reader.skip(b"bound ") {
-        return bound(reader);
-    }
     if reader.skip(b"refused ") {
         let why = refusal(reader)?;
         return Some(Reply::Refused { why });
+    }
+    later(reader)
+}
+
+// The forms that are looked for behind all others.
+#[tactic(auto, unfolding(crate::specs::Reading::read_later))]
+fn later(reader: &mut Reader) -> Option<Reply>
+    ensures { Finds result reader.new (read_later reader.old) }
+{
+    if reader.skip(b"bound ") {
+        return bound(reader);
+    }
+    if reader.skip(b"prices ") {
+        return all_prices(reader);
+    }
+    if reader.skip(b"position ") {
+        return position(reader);
+    }
+    if reader.skip(b"status at ") {
+        return status(reader);
     }
     None
 }
@@ -178,6 +197,67 @@ fn bound(reader: &mut Reader) -> Option<Reply>
 {
     let (low, high) = reader.range(1 << 63)?;
     Some(Reply::Bound { low, high })
+}
+
+#[tactic(auto, unfolding(crate::specs::Reading::read_all_prices))]
+fn all_prices(reader: &mut Reader) -> Option<Reply>
+    ensures { Finds result reader.new (read_all_prices reader.old) }
+{
+    let intervals = several(reader)?;
+    Some(Reply::Prices { intervals })
+}
+
+#[tactic(auto, unfolding(crate::specs::Reading::read_position))]
+fn position(reader: &mut Reader) -> Option<Reply>
+    ensures { Finds result reader.new (read_position reader.old) }
+{
+    let intervals = several(reader)?;
+    Some(Reply::Position { intervals })
+}
+
+#[tactic(auto, unfolding(crate::specs::Reading::read_status))]
+fn status(reader: &mut Reader) -> Option<Reply>
+    ensures { Finds result reader.new (read_status reader.old) }
+{
+    let at = long(reader)?;
+    reader.expect(b" users ")?;
+    let users = narrow(reader)?;
+    reader.expect(b" trades ")?;
+    let (trades, most) = number_of(reader)?;
+    let ((transfers, most_transfers), (open, questions)) = transfers(reader)?;
+    Some(Reply::Status {
+        at,
+        users,
+        trades,
+        most,
+        transfers,
+        most_transfers,
+        open,
+        questions,
+    })
+}
+
+/// What stands behind the trades of a status.
+#[tactic(auto, unfolding(crate::specs::Reading::read_transfers))]
+fn transfers(reader: &mut Reader) -> Option<((u32, u32), (u32, u32))>
+    ensures { Finds result reader.new (read_transfers reader.old) }
+{
+    reader.expect(b" transfers ")?;
+    let transfers = number_of(reader)?;
+    reader.expect(b" open ")?;
+    let open = number_of(reader)?;
+    Some((transfers, open))
+}
+
+/// A number, and how many there may be.
+#[tactic(auto, unfolding(crate::specs::Reading::read_of))]
+fn number_of(reader: &mut Reader) -> Option<(u32, u32)>
+    ensures { Finds result reader.new (read_of reader.old) }
+{
+    let number = narrow(reader)?;
+    reader.expect(b" of ")?;
+    let most = narrow(reader)?;
+    Some((number, most))
 }
 
 #[tactic(auto, unfolding(crate::specs::Reading::read_resolved))]

@@ -5,6 +5,9 @@ use crate::refusal::{Intervals, Refusal};
 use arrayvec::ArrayVec;
 use mk_net::{Name, PairText};
 
+/// For each value of a variable, the two ends of an interval.
+pub type Spans = ArrayVec<(u64, u64), 16>;
+
 /// The answer to a line. `at` is the revision after it.
 #[derive(Debug, Drop, PartialEq)]
 pub enum Reply {
@@ -71,10 +74,31 @@ pub enum Reply {
         low: u64,
         high: u64,
     },
+    /// For each value of a variable, an interval that holds its price, in units of 10^-10.
+    Prices {
+        intervals: Spans,
+    },
+    /// For each value of a variable, an interval that holds what a user is paid at least where the
+    /// value comes, in points, or none where it cannot come.
+    Position {
+        intervals: ArrayVec<Option<(u64, u64)>, 16>,
+    },
+    /// How many users there are; how many trades, of how many at most; how many deposits and
+    /// withdrawals together, of how many at most; how many variables are not resolved, of how many.
+    Status {
+        at: u64,
+        users: u32,
+        trades: u32,
+        most: u32,
+        transfers: u32,
+        most_transfers: u32,
+        open: u32,
+        questions: u32,
+    },
     /// The line is refused.
     Refused {
         why: Refusal,
     },
 }
 
-const _: () = prove!(size_of::<Reply>() <= 176);
+const _: () = prove!(size_of::<Reply>() <= 400);

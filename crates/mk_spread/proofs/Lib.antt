@@ -7,4 +7,5 @@ pub mod Summed
 pub mod Safe
 pub mod Moves
 pub mod Exist
+pub mod Telling
 pub mod Agree

@@ -63,3 +63,19 @@ AreIntervals (Some intervals) = AreSeveral IsInterval intervals
 abbrev pub intervals_text : Option (List (ℕ × ℕ)) → List ℕ
 intervals_text None = codes "none"
 intervals_text (Some intervals) = spaced interval_text intervals
+
+-- two prices with two points between them
+abbrev pub ArePrices : ℕ × ℕ → Type 0
+ArePrices prices = IsPrice prices.0 × IsPrice prices.1
+
+abbrev pub prices_text : ℕ × ℕ → List ℕ
+prices_text prices = price_text prices.0 & codes ".." & price_text prices.1
+
+-- two numbers of a reply with two points between them, or none
+abbrev pub AreEnds : Option (ℕ × ℕ) → Type 0
+AreEnds None = ⊤
+AreEnds (Some ends) = IsLong ends.0 × IsLong ends.1
+
+abbrev pub ends_text : Option (ℕ × ℕ) → List ℕ
+ends_text None = codes "none"
+ends_text (Some ends) = range_text ends.0 ends.1

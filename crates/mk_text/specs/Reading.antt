@@ -136,3 +136,11 @@ read_several read = passed (λ xs. nat_le 2 (length xs)) (λ bytes. option_and_t
 
 unfoldable pub read_intervals : Read (Option (List (ℕ × ℕ)))
 read_intervals = either (codes "none") (given None) (made (λ intervals. Some intervals) (read_several read_interval))
+
+-- two prices with two points between them
+unfoldable pub read_two_prices : Read (ℕ × ℕ)
+read_two_prices = both read_price (behind (codes "..") read_price)
+
+-- two numbers of a reply, or none
+unfoldable pub read_ends : Read (Option (ℕ × ℕ))
+read_ends = either (codes "none") (given None) (made (λ ends. Some ends) (read_range (2 ^ 63)))

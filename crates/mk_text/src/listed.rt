@@ -57,6 +57,28 @@ impl Item for (u32, u32) {
     }
 }
 
+/// Two prices.
+impl Item for (u64, u64) {
+    ghost use Rattle.mk_text.specs.Reading.{read_two_prices};
+
+    ghost reads = { read_two_prices };
+
+    fn next(reader: &mut Reader) -> Option<(u64, u64)> {
+        reader.two_prices()
+    }
+}
+
+/// Two numbers below `2^63`, or none.
+impl Item for Option<(u64, u64)> {
+    ghost use Rattle.mk_text.specs.Reading.{read_ends};
+
+    ghost reads = { read_ends };
+
+    fn next(reader: &mut Reader) -> Option<Option<(u64, u64)>> {
+        reader.ends()
+    }
+}
+
 /// 2 to 16 things with a space between them. A revision may stand behind the last.
 #[tactic(auto, using(crate::proofs::Rests::rest_of_rest), unfolding(crate::specs::Reading::read_several))]
 pub fn several<T: Item>(reader: &mut Reader) -> Option<ArrayVec<T, 16>>

@@ -1,8 +1,12 @@
 //! Reading names, numbers, pairs and questions from the front of some bytes.
 
-ghost use Rattle.std.specs.Prelude.{◌≡◌, ◌<◌, ◌≤◌, ◌^◌, true, false, IfSome, Some, None, is_some, option_map, if◌then◌else◌, ◌==◌, length, take, drop};
+ghost use Rattle.std.specs.Prelude.{◌≡◌, ◌<◌, ◌≤◌, ◌^◌, ◌==◌, true, false, if◌then◌else◌, length};
+ghost use Rattle.std.specs.Prelude.{IfSome, Some, None, is_some, option_map, take, drop};
 ghost use Rattle.mk_text.specs.Words.{word, word_len, behind_word, after, IsRestOf};
-ghost use Rattle.mk_text.specs.Reading.{Finds, read_name, read_number, read_pair, read_condition, more_pairs, read_question, read_price, read_range, read_two_limits, read_interval, read_limits};
+ghost use Rattle.mk_text.specs.Reading.{Finds, read_name, read_number, read_pair, read_condition};
+ghost use Rattle.mk_text.specs.Reading.{more_pairs, read_question, read_price, read_range};
+ghost use Rattle.mk_text.specs.Reading.{read_two_limits, read_interval, read_limits};
+ghost use Rattle.mk_text.specs.Reading.{read_two_prices, read_ends};
 ghost use Rattle.arrayvec.specs.ArrayVec.{array_vec_len};
 
 use crate::numbers::{number_of, ten_places_of};
@@ -215,6 +219,31 @@ impl<'a> Reader<'a> {
         }
         let limits = self.two_limits()?;
         Some(Some(limits))
+    }
+
+    /// Two prices with two points between them.
+    #[tactic(auto, using(crate::proofs::Rests::rest_of_rest), unfolding(crate::specs::Reading::read_two_prices))]
+    pub fn two_prices(&mut self) -> Option<(u64, u64)>
+        ensures found { Finds result self.new (read_two_prices self.old) }
+        ensures rest { IsRestOf self.new self.old }
+    {
+        let least = self.price()?;
+        self.expect(b"..")?;
+        let most = self.price()?;
+        Some((least, most))
+    }
+
+    /// Two numbers below 2^63 with two points between them, or none.
+    #[tactic(auto, using(crate::proofs::Rests::rest_of_rest), unfolding(crate::specs::Reading::read_ends))]
+    pub fn ends(&mut self) -> Option<Option<(u64, u64)>>
+        ensures found { Finds result self.new (read_ends self.old) }
+        ensures rest { IsRestOf self.new self.old }
+    {
+        if self.skip(b"none") {
+            return Some(None);
+        }
+        let ends = self.range(1 << 63)?;
+        Some(Some(ends))
     }
 
     /// Passes over the next word, which is the longest run of letters, digits and underscores. It may be empty.

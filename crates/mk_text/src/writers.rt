@@ -6,6 +6,7 @@ ghost use Rattle.arrayvec.specs.ArrayString.{array_string_len};
 ghost use Rattle.mk_net.specs.Bounds.{max_values};
 ghost use Rattle.mk_text.specs.Joined.{items_text, spaced, AreSeveral};
 ghost use Rattle.mk_text.specs.Numbers.{places, IsShort, price_text, range_text, limits_text, interval_text, intervals_text};
+ghost use Rattle.mk_text.specs.Numbers.{prices_text, ends_text};
 ghost use Rattle.mk_text.specs.Texts.{pair_text, condition_text, question_text};
 
 use arrayvec::ArrayString;
@@ -226,5 +227,78 @@ pub fn put_limits<const N: usize>(out: &mut ArrayString<N>, limits: Option<(u32,
     match limits {
         Some((low, high)) => put_range(out, low as u64, high as u64),
         None => out.push_str("none"),
+    }
+}
+
+/// Writes two prices in points with two points between them, in at most 64 bytes.
+pub fn put_two_prices<const N: usize>(out: &mut ArrayString<N>, low: u64, high: u64)
+    requires { array_string_len out.old + 64 ≤ N }
+    ensures text { out.new.bytes ≡ out.old.bytes ++ prices_text (low, high) }
+    ensures growth { array_string_len out.new ≤ array_string_len out.old + 64 }
+{
+    put_price(out, low);
+    out.push_str("..");
+    put_price(out, high);
+}
+
+/// Writes at most 16 times two prices with a space between them, in at most 1,040 bytes.
+pub fn put_all_prices<const N: usize>(out: &mut ArrayString<N>, prices: &[(u64, u64)])
+    requires few { length prices.now ≤ max_values }
+    requires room { array_string_len out.old + 1040 ≤ N }
+    ensures text { out.new.bytes ≡ out.old.bytes ++ spaced prices_text prices.now }
+    ensures growth { array_string_len out.new ≤ array_string_len out.old + 1040 }
+{
+    if let [first, rest @ ..] = prices {
+        put_two_prices(out, first.0, first.1);
+        put_more_prices(out, rest);
+    }
+}
+
+fn put_more_prices<const N: usize>(out: &mut ArrayString<N>, prices: &[(u64, u64)])
+    requires few { length prices.now ≤ 15 }
+    requires room { array_string_len out.old + 975 ≤ N }
+    ensures text { out.new.bytes ≡ out.old.bytes ++ items_text (codes " ") prices_text prices.now }
+    ensures growth { array_string_len out.new ≤ array_string_len out.old + 975 }
+{
+    for two in prices {
+        out.push_str(" ");
+        put_two_prices(out, two.0, two.1);
+    }
+}
+
+/// Writes two numbers with two points between them, in at most 42 bytes, or `none`.
+pub fn put_ends<const N: usize>(out: &mut ArrayString<N>, ends: Option<(u64, u64)>)
+    requires { array_string_len out.old + 42 ≤ N }
+    ensures text { out.new.bytes ≡ out.old.bytes ++ ends_text ends }
+    ensures growth { array_string_len out.new ≤ array_string_len out.old + 42 }
+{
+    match ends {
+        Some((low, high)) => put_range(out, low, high),
+        None => out.push_str("none"),
+    }
+}
+
+/// Writes at most 16 of these with a space between them, in at most 688 bytes.
+pub fn put_all_ends<const N: usize>(out: &mut ArrayString<N>, ends: &[Option<(u64, u64)>])
+    requires few { length ends.now ≤ max_values }
+    requires room { array_string_len out.old + 688 ≤ N }
+    ensures text { out.new.bytes ≡ out.old.bytes ++ spaced ends_text ends.now }
+    ensures growth { array_string_len out.new ≤ array_string_len out.old + 688 }
+{
+    if let [first, rest @ ..] = ends {
+        put_ends(out, *first);
+        put_more_ends(out, rest);
+    }
+}
+
+fn put_more_ends<const N: usize>(out: &mut ArrayString<N>, ends: &[Option<(u64, u64)>])
+    requires few { length ends.now ≤ 15 }
+    requires room { array_string_len out.old + 645 ≤ N }
+    ensures text { out.new.bytes ≡ out.old.bytes ++ items_text (codes " ") ends_text ends.now }
+    ensures growth { array_string_len out.new ≤ array_string_len out.old + 645 }
+{
+    for one in ends {
+        out.push_str(" ");
+        put_ends(out, *one);
     }
 }

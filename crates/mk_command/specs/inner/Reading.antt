@@ -4,6 +4,7 @@ use Rattle.arrayvec.specs.ArrayVec.{ArrayVec}
 use Rattle.mk_text.specs.Reading.{Read, both, behind, made, given, nothing, perhaps, choose, read_name, read_short, read_pair, read_condition, read_question, read_several}
 use Rattle.mk_command.specs.declared.command.Command.{Command}
 use Rattle.mk_command.specs.declared.command.Command.TheVariants.{User, Deposit, Withdraw, Price, Limits, Edit, Bounds, Spread, Worst, Resolve, Settle, Bound}
+use Rattle.mk_command.specs.declared.command.Command.TheVariants.{Prices, Position, Status}
 
 unfoldable pub read_user : Read Command
 read_user = made (λ user. User user) read_name
@@ -43,6 +44,14 @@ read_worst = made (λ user. Worst user) read_name
 unfoldable pub read_resolve : Read Command
 read_resolve = made (λ pair. Resolve pair) read_pair
 
+unfoldable pub read_prices : Read Command
+read_prices = made (λ parts. Prices (parts.0) (held (parts.1))) (both read_name read_condition)
+
+unfoldable pub read_position : Read Command
+read_position = made (λ parts. Position (parts.0) (parts.1.0) (held (parts.1.1)))
+    (both read_name (behind (codes " ") (both read_name read_condition)))
+
+-- the forms that are looked for first, and the others
 abbrev pub forms : List (List ℕ × Read Command)
 forms =
     (codes "user ", read_user)
@@ -55,9 +64,19 @@ forms =
     ∷ (codes "spread ", read_spread)
     ∷ (codes "worst ", read_worst)
     ∷ (codes "resolve ", read_resolve)
-    ∷ (codes "settle", given Settle)
-    ∷ (codes "bound", given Bound)
     ∷ []
 
+abbrev pub other_forms : List (List ℕ × Read Command)
+other_forms =
+    (codes "settle", given Settle)
+    ∷ (codes "bound", given Bound)
+    ∷ (codes "prices ", read_prices)
+    ∷ (codes "position ", read_position)
+    ∷ (codes "status", given Status)
+    ∷ []
+
+unfoldable pub read_other : Read Command
+read_other = choose other_forms nothing
+
 unfoldable pub read_form : Read Command
-read_form = choose forms nothing
+read_form = choose forms read_other
