@@ -14,13 +14,13 @@ use Rattle.mk_net.specs.Network.{Variable, IsNetwork, sizes}
 use Rattle.mk_exact.specs.States.{plus_over}
 use Rattle.mk_exact.specs.Events.{holds, with_target}
 use Rattle.mk_exact.specs.History.{Entry}
-use Rattle.mk_exact.specs.Weight.{total}
-use Rattle.mk_exact.specs.Factors.{Fraction, factor_with, least_gain}
+use Rattle.mk_exact.specs.Weight.{total, IsSmall}
+use Rattle.mk_exact.specs.Factors.{Fraction, factor_with, least_gain, HoldsNoTrade}
 use Rattle.mk_exact.specs.Prices.{exact_price}
 use Rattle.mk_exact.specs.Sound.{IsSound}
 use Rattle.mk_exact.specs.Proper.{IsProper}
 use Rattle.mk_exact.specs.Existing.{IsPortion, CanBeAsked, IsSafeFactor, IsWithinBounds}
-use Rattle.mk_exact.proofs.ExistNumbers.{cash_is_covered}
+use Rattle.mk_exact.proofs.ExistNumbers.{cash_is_covered, cash_in}
 use Rattle.mk_exact.proofs.ExistMarkets.{total_positive, price_exists, least_where}
 use Rattle.mk_exact.proofs.ExistBounds.{least_cash_fits}
 use Rattle.mk_spread.specs.Spreads.{SpreadAsked, asked_of}
@@ -209,7 +209,7 @@ module _ (network : List Variable) (H : List Entry) (u b : ℕ) (spread : Spread
           IsSafeFactor (factor_with H u g) → HasSure k
       covered g e safe =
           let cash = cash_is_covered (factor_with H u g) b safe in
-          (Some (cash.0, cash.1), rw e cash.2, tt)
+          (Some (cash.0, cash.1), rw e (cash_in (IsSmall network H) (HoldsNoTrade H u) (factor_with H u g) b cash.0 cash.1 cash.2), tt)
 
       at : (gone : Bool) → value_cannot_come network H spread k ≡ gone → HasSure k
       at true e = (None, no_side network H spread u k e, tt)
@@ -241,7 +241,7 @@ module _ (network : List Variable) (H : List Entry) (u b : ℕ) (spread : Spread
       fits k low high None e covers = absurd (rw e at covers)
       fits k low high (Some g) e covers =
           let cash = rw e at covers in
-          let most = least_cash_fits network H u (comes k) g b low high bounds few e cash in
+          let most = least_cash_fits (IsSmall network H) (HoldsNoTrade H u) network H u (comes k) g b low high bounds few e cash in
           (omega (arith, most, cash.above, cash.below), most)
 
       numbers : (k : ℕ) (interval : Option (ℕ × ℕ)) → IsSure k interval → AreNumbers interval

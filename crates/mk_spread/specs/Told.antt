@@ -8,7 +8,7 @@ use Rattle.mk_net.specs.Network.{Variable, IsNetwork}
 use Rattle.mk_exact.specs.Events.{holds, with_target}
 use Rattle.mk_exact.specs.History.{Entry}
 use Rattle.mk_exact.specs.Weight.{IsSmall, possible_states}
-use Rattle.mk_exact.specs.Factors.{factor_with, least_gain}
+use Rattle.mk_exact.specs.Factors.{factor_with, least_gain, HoldsNoTrade}
 use Rattle.mk_exact.specs.Prices.{CoversPrice, exact_price}
 use Rattle.mk_exact.specs.Cash.{CoversCash}
 use Rattle.mk_exact.specs.Sound.{IsSound}
@@ -38,7 +38,8 @@ ArePricesOf network H spread intervals =
 abbrev pub CoversLeast : List Variable → List Entry → ℕ → ℕ → (List ℕ → Bool) → ℕ × ℕ → Type 0
 CoversLeast network H u points_per_bit test ends =
     IsSomeAnd (least_gain network H u test)
-    (λ g. CoversCash (factor_with H u g) points_per_bit ends.0 ends.1)
+    (λ g. CoversCash (IsSmall network H) (HoldsNoTrade H u) (factor_with H u g) points_per_bit
+    ends.0 ends.1)
 
 -- where a value comes: none where it cannot
 abbrev pub IsSureOf :
