@@ -75,7 +75,7 @@ none_gained : (ts : List UserTrade) (s : List ℕ) → length ts ≡ 0 → produ
 none_gained [] s none = refl
 none_gained (t ∷ ts) s none = absurd (omega arith)
 
-idle_gain : (H : List Entry) (u : ℕ) → HoldsNoTrade H u → (s : List ℕ) → gain H u s ≡ 1
+pub idle_gain : (H : List Entry) (u : ℕ) → HoldsNoTrade H u → (s : List ℕ) → gain H u s ≡ 1
 idle_gain H u none s = none_gained (trades_of H u) s none
 
 module _ (network : List Variable) (tree : GivenTree) (H : List Entry) (u : ℕ) (is_open : IsOpen network tree H) where

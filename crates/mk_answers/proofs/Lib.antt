@@ -10,6 +10,7 @@ pub mod Sided
 pub mod Bounding
 pub mod Alone
 pub mod Valued
+pub mod Told
 pub mod NoZeros
 pub mod Searching
 pub mod Losing

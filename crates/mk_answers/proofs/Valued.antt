@@ -92,7 +92,7 @@ abbrev pub AreFirstFound : List Variable → List Entry → ℕ → SpreadAsked 
 AreFirstFound network H u spread n parts = AllZip (λ value part. IsValueFound network H u (asked_of spread value) part) (numbers_below n) parts
 
 -- one more number of a range
-range_more : {X : Type 0} (P : ℕ → X → Type 0) (n a : ℕ) (xs : List X) (x : X) → AllZip P (range_with_len a n) xs → P (a + n) x → AllZip P (range_with_len a (suc n)) (xs ++ x ∷ [])
+pub range_more : {X : Type 0} (P : ℕ → X → Type 0) (n a : ℕ) (xs : List X) (x : X) → AllZip P (range_with_len a n) xs → P (a + n) x → AllZip P (range_with_len a (suc n)) (xs ++ x ∷ [])
 range_more P zero a [] x h p =
     let here : a + 0 ≡ a = omega arith in
     (subst (λ k. P k x) here p, tt)

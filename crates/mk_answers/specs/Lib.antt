@@ -2,4 +2,5 @@ pub mod Open
 pub mod Results
 pub mod Calls
 pub mod Laws
+pub mod Telling
 pub mod inner

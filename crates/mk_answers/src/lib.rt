@@ -1,5 +1,6 @@
-//! The numbers of a market's answers, from the beliefs of its engines: prices, the bounds of an edit of a question or of a
-//! whole distribution, what can come, the least that a user owns, and the most that the operator can lose.
+//! The numbers of a market's answers, from the beliefs of its engines: prices, also of every value of a variable, the bounds of an
+//! edit of a question or of a whole distribution, what can come, the least that a user owns, also where each value comes, and the most
+//! that the operator can lose.
 #![tactic(auto)]
 
 mod edit;
@@ -9,6 +10,7 @@ mod possible;
 mod price;
 mod risk;
 mod spread;
+mod telling;
 mod worst;
 
 pub use edit::{Sides, bounds_of};
@@ -17,4 +19,5 @@ pub use possible::first_impossible;
 pub use price::price_of;
 pub use risk::bound_of;
 pub use spread::{SpreadSides, spread_bounds_of};
+pub use telling::{position_of, prices_of};
 pub use worst::{least_of, most_bits};

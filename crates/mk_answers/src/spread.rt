@@ -81,7 +81,7 @@ fn alone(parts: &[Option<ValueBounds>]) -> Option<u32>
 }
 
 /// The question about one value, which counts from 0.
-fn question_at(asked: &SpreadQuestion, value: u32) -> Question
+pub(crate) fn question_at(asked: &SpreadQuestion, value: u32) -> Question
     ensures { result ≡ asked_of (spread_in asked.now) value }
 {
     let target = Pair {

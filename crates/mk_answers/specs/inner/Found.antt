@@ -109,3 +109,12 @@ pub record CanFindValue {E A P : Type 0} (stands_for : E → Meaning → Type 0)
   pub owns : Owns owned_for assets (holding_of network tree history user)
   pub is_open : IsOpen network tree history
   pub valued : CanBeValuedHere network tree history at asked
+
+-- the assets are a user's of a market in use of this network, where the question is such
+pub record CanFindSure {A P : Type 0} (owned_for : A → Meaning → Type 0) (assets : Assets A P) (network : List Variable) (at : ℕ) (asked : Asked) : Type 0 where
+  pub tree : GivenTree
+  pub history : List Entry
+  pub user : ℕ
+  pub owns : Owns owned_for assets (holding_of network tree history user)
+  pub is_open : IsOpen network tree history
+  pub valued : CanBeValuedHere network tree history at asked
