@@ -1,5 +1,6 @@
 pub mod Refusals
 pub mod Quotes
+pub mod Told
 pub mod Answers
 pub mod Transcript
 pub mod Standings
