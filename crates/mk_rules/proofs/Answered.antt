@@ -1,7 +1,7 @@
 -- In a ready standing every line has an allowed reply.
 use Rattle.std.proofs.Common.{◌≡◌, ℕ, ◌+◌, ◌<◌, ◌≤◌, ◌⊎◌, inl, inr, true, false, List, [], ◌∷◌, Option, Some, None, IsSomeAnd, MatchOption, length, refl, sym, subst}
 use Rattle.std.specs.Prelude.{⊤}
-use Rattle.std.specs.List.{AllByRecursion, AllZip, enumerate_from}
+use Rattle.std.specs.List.{AllZip, enumerate_from}
 use Rattle.arrayvec.specs.ArrayVec.{ArrayVec}
 use Rattle.mk_net.specs.declared.words.QuestionText.{QuestionText}
 use Rattle.mk_net.specs.Events.{speaks_of, AreApart}
@@ -47,8 +47,8 @@ use Rattle.mk_rules.specs.Answers.{IsTrade, IsJudged, IsJudgedAfresh, IsSpreadTr
 use Rattle.mk_rules.specs.Transcript.{Standing, Line, OfCommand, NoCommand, LongLine, after}
 use Rattle.mk_rules.specs.Standings.{IsMarket, IsReady}
 use Rattle.mk_rules.specs.Laws.{HasReply, HasRun}
-use Rattle.mk_rules.proofs.Unrefused.{none_applies, question_exists, question_known, target_named, not_resolved, not_faulted, all_resolved}
-use Rattle.mk_rules.proofs.Coming.{some_where, both_sides, two_values}
+use Rattle.mk_rules.proofs.Unrefused.{none_applies, question_exists, question_known, target_named, not_resolved, all_resolved}
+use Rattle.mk_rules.proofs.Coming.{some_where, both_sides}
 use Rattle.mk_rules.proofs.Apart.{condition_apart, target_apart}
 use Rattle.mk_rules.proofs.Spreadable.{spread_exists, can_be_spread, can_be_told}
 use Rattle.mk_rules.proofs.Quoted.{current_right, current_bounds_right}

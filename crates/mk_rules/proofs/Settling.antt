@@ -18,7 +18,8 @@ use Rattle.mk_reply.specs.declared.refusal.Refusal.TheVariants.{Settled as Settl
 use Rattle.mk_reply.specs.declared.payments.Payment.{Payment}
 use Rattle.mk_reply.specs.declared.reply.Reply.{Reply}
 use Rattle.mk_reply.specs.declared.reply.Reply.TheVariants.{Joined, Deposited, Withdrawn, Price as Priced, Limits as Limited, Traded, Bounded, Spreaded, Worst as Worsted, Resolved, Settled, Bound as Risked, Refused}
-use Rattle.mk_reply.specs.declared.reply.Reply.TheVariants.{Prices as Told, Position as Positioned, Status as Counted}
+use Rattle.mk_reply.specs.declared.reply.Reply.TheVariants.{Prices as Told, Position as Positioned}
+use Rattle.mk_reply.specs.declared.reply.Reply.TheVariants.{Status as Counted}
 use Rattle.mk_rules.specs.Refusals.{first_refusal}
 use Rattle.mk_rules.specs.Quotes.{Quotes}
 use Rattle.mk_rules.specs.Answers.{IsAnswer, IsAllowed, entry_of, next_history}
@@ -142,7 +143,7 @@ reply_pays market old new line (Resolved p at) lines replies stands allowed run 
 reply_pays market old new line (Risked low high) lines replies stands allowed run = tt
 reply_pays market old new line (Told intervals) lines replies stands allowed run = tt
 reply_pays market old new line (Positioned intervals) lines replies stands allowed run = tt
-reply_pays market old new line (Counted at users trades most moves most_moves left all) lines replies
+reply_pays market old new line (Counted at users trades most moves more left all) lines replies
     stands allowed run = tt
 reply_pays market old new line (Refused why) lines replies stands allowed run = tt
 

@@ -1,7 +1,7 @@
 -- A distribution that meets no refusal can be asked about.
 use Rattle.std.proofs.Common.{◌≡◌, ℕ, ◌+◌, ◌<◌, ◌≤◌, not, slice_index, arith, Bool, true, false, cond, ◌||◌, List, [], ◌∷◌, length, Option, Some, None, option_map, is_none, refl, sym, ap, ◌∙◌, subst, zero-add}
 use Rattle.std.specs.Prelude.{◌==◌, find}
-use Rattle.std.specs.List.{AllByRecursion, enumerate_from, position_or_len, slice_get, cons_option}
+use Rattle.std.specs.List.{enumerate_from, position_or_len, slice_get, cons_option}
 use Rattle.std.proofs.lemmas.Bool.{eqb-true}
 use Rattle.std.proofs.lemmas.List.FromFn.{get_or-enumerate_from, length-enumerate_from}
 use Rattle.std.proofs.lemmas.List.Folds.{find_at}
@@ -16,7 +16,7 @@ use Rattle.mk_net.specs.Named.{nobody, pair_named, variable_named, variable_at}
 use Rattle.mk_net.specs.Texts.{same_text}
 use Rattle.mk_net.proofs.SameText.{equal_of_same_text}
 use Rattle.mk_net.proofs.Named.{pair_variable_name}
-use Rattle.mk_exact.specs.History.{Entry, resolutions}
+use Rattle.mk_exact.specs.History.{Entry}
 use Rattle.mk_exact.specs.Proper.{IsProper}
 use Rattle.mk_exact.proofs.Sums.{each_weaker}
 use Rattle.mk_exact.specs.Events.{holds}
@@ -171,7 +171,8 @@ pub can_be_told : (network : List Variable) (H : List Entry) (v : List ℕ) (pai
 can_be_told network H v pairs spread proper named once unsettled together = record {
   in_order = spread_in_order network H v pairs spread named once unsettled;
   some_state = subst (λ (ps : List Pair). 1 ≤ length (possible_states network H (holds ps)))
-      (sym (spread_parts network v pairs spread named).2) (some_where network H proper pairs together);
+      (sym (spread_parts network v pairs spread named).2)
+      (some_where network H proper pairs together);
 }
 
 -- its shares suit its values

@@ -1,5 +1,5 @@
 -- In a ready standing an allowed reply to a line that is a text has a text.
-use Rattle.std.proofs.Common.{◌≡◌, ℕ, ◌+◌, ◌*◌, ◌^◌, ◌<◌, ◌≤◌, ◌⊎◌, inl, inr, Bool, true, false, cond, List, [], ◌∷◌, ◌++◌, length, sum, Option, Some, None, IfSome, MatchOption, slice_index, slice_index_or, refl, sym, ◌∙◌, subst, arith, mul-le-mul_right}
+use Rattle.std.proofs.Common.{◌≡◌, ℕ, ◌+◌, ◌*◌, ◌^◌, ◌<◌, ◌≤◌, ◌⊎◌, inl, inr, Bool, true, false, cond, List, [], ◌∷◌, ◌++◌, length, sum, Option, Some, None, IfSome, MatchOption, slice_index, slice_index_or, refl, sym, ◌∙◌, subst, arith}
 use Rattle.std.specs.Prelude.{option_map, option_and_then, find, All}
 use Rattle.std.specs.List.{AllByRecursion, AllZip, enumerate_from, list_any}
 use Rattle.std.proofs.lemmas.Bool.{cases_lt}
@@ -23,13 +23,12 @@ use Rattle.mk_net.specs.Firsts.{fault_if, first_of}
 use Rattle.mk_exact.specs.Events.{always}
 use Rattle.mk_exact.specs.History.{Entry, users, revision}
 use Rattle.mk_exact.specs.Weight.{IsSmall}
-use Rattle.mk_exact.specs.Factors.{Fraction, factor, factor_with, least_gain}
+use Rattle.mk_exact.specs.Factors.{factor, factor_with, least_gain}
 use Rattle.mk_exact.specs.Limits.{IsWithinRange}
-use Rattle.mk_exact.specs.Prices.{CoversPrice, exact_price}
+use Rattle.mk_exact.specs.Prices.{exact_price}
 use Rattle.mk_exact.specs.Sides.{AreRightLimits}
 use Rattle.mk_exact.specs.Market.{Market, network_of, cliques_of}
 use Rattle.mk_exact.specs.Cash.{CoversCash}
-use Rattle.mk_exact.specs.Existing.{IsPortion}
 use Rattle.mk_exact.proofs.ExistBounds.{cash_fits, least_cash_fits}
 use Rattle.mk_exact.proofs.Sums.{each_weaker}
 use Rattle.mk_exact.proofs.ExistMarkets.{price_exists}
@@ -317,7 +316,10 @@ module _ (market : Market) (now : Standing) (is_market : IsMarket market) (ready
             names_have v items named pairs,
             (
               faulted _ _ named,
-              (impossible_has network H items pairs, (wide_spread_has market H v items, (together, tt))),
+              (
+                impossible_has network H items pairs,
+                (wide_spread_has market H v items, (together, tt)),
+              ),
             ),
           ),
         ),
@@ -490,7 +492,8 @@ module _ (market : Market) (now : Standing) (is_market : IsMarket market) (ready
       let fit = position_fits network H (user_number H u) market.points_per_bit found.0
       found.2.intervals.items is_market.network within bounded.within is_market.few_points
       found.2.covers in
-      let each : All AreEnds found.2.intervals.items = λ k d inside. ends_have _ (fit.1 k d inside) in
+      let each : All AreEnds found.2.intervals.items =
+      λ k d inside. ends_have _ (fit.1 k d inside) in
       reply_has reply _ found.2.printed (record { two = fit.0.two; few = fit.0.few; each = each })
   answer_has Status reply text none h =
       let left = counted_at_most (λ v. not (is_resolved H v)) 0 (length network) in

@@ -8,3 +8,4 @@ pub mod Bounded
 pub mod Laws
 pub mod Examples
 pub mod SpreadExamples
+pub mod ToldExamples

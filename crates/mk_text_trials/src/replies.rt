@@ -261,7 +261,7 @@ fn reads_and_prints_what_is_told_of_each_value(rt: HostRuntime) -> Result<(), Fa
     position(&rt, alloc, "position none none", &[None, None])
 }
 
-/// Stops unless a reply has a text of this length, and has it both ways, and with more behind it is read as none.
+/// Stops unless a reply has a text of this length both ways, and with more behind it none is read.
 fn no_longer(
     rt: &impl Abort,
     alloc: Global,
