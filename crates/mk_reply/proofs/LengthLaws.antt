@@ -5,7 +5,7 @@ use Rattle.std.proofs.Common.{◌*◌, arith, length-append}
 use Rattle.std.proofs.Math.Nat.{mul-le-mul_left}
 use Rattle.mk_text.specs.Joined.{items_text, spaced, AreSeveral}
 use Rattle.mk_text.specs.Numbers.{IsLong, IsNarrow, price_text, limits_text, IsInterval, interval_text, AreIntervals, intervals_text}
-use Rattle.mk_text.specs.Numbers.{range_text, ArePrices, prices_text, AreEnds, ends_text}
+use Rattle.mk_text.specs.Numbers.{ArePrices, prices_text, AreEnds, ends_text}
 use Rattle.mk_text.proofs.LengthLaws.{long_length, pair_length, price_length, limits_length, items_length}
 use Rattle.mk_text.proofs.PartLaws.{interval_ends}
 use Rattle.mk_reply.specs.Refusals.{refusal_text, given_in, IsRefusal}

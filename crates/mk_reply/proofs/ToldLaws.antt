@@ -1,8 +1,7 @@
 -- What is read of prices, of a position and of a status.
 use Rattle.std.specs.Prelude.{◌≡◌, ℕ, List, [], ◌++◌, codes, decimal}
 use Rattle.std.proofs.Common.{refl, inr}
-use Rattle.mk_text.specs.Joined.{spaced}
-use Rattle.mk_text.specs.Numbers.{IsLong, IsNarrow, prices_text, ends_text}
+use Rattle.mk_text.specs.Numbers.{IsLong, IsNarrow}
 use Rattle.mk_text.specs.Words.{after, EndsWord}
 use Rattle.mk_text.specs.Reading.{Read, both, behind}
 use Rattle.mk_text.proofs.ReadingLaws.{Reads, Spelled, BothFit, both_text, behind_text}
@@ -14,7 +13,7 @@ use Rattle.mk_reply.specs.Reading.{read_long, read_narrow, read_all_prices, read
 use Rattle.mk_reply.specs.Reading.{StatusParts, status_of, read_transfers, read_status}
 use Rattle.mk_reply.proofs.RefusalLaws.{long_reads, narrow_reads}
 use Rattle.mk_reply.specs.declared.reply.Reply.{Reply}
-use Rattle.mk_reply.specs.declared.reply.Reply.TheVariants.{Prices, Position, Status}
+use Rattle.mk_reply.specs.declared.reply.Reply.TheVariants.{Prices, Position}
 
 abbrev OfReply : List ℕ × Read Reply → Type 0
 OfReply = Spelled reply_text IsReply

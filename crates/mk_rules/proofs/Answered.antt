@@ -1,7 +1,7 @@
 -- In a ready standing every line has an allowed reply.
 use Rattle.std.proofs.Common.{◌≡◌, ℕ, ◌+◌, ◌<◌, ◌≤◌, ◌⊎◌, inl, inr, true, false, List, [], ◌∷◌, Option, Some, None, IsSomeAnd, MatchOption, length, refl, sym, subst}
 use Rattle.std.specs.Prelude.{⊤}
-use Rattle.std.specs.List.{AllByRecursion, AllZip, enumerate_from}
+use Rattle.std.specs.List.{AllZip, enumerate_from}
 use Rattle.arrayvec.specs.ArrayVec.{ArrayVec}
 use Rattle.mk_net.specs.declared.words.QuestionText.{QuestionText}
 use Rattle.mk_net.specs.Events.{speaks_of, AreApart}
@@ -31,22 +31,26 @@ use Rattle.mk_spread.specs.Markets.{AreRightBoundsOf, HasFairList, CanBeSpread}
 use Rattle.mk_spread.proofs.Exist.{right_bounds_exist, bounds_judge}
 use Rattle.mk_command.specs.declared.command.Command.{Command}
 use Rattle.mk_command.specs.declared.command.Command.TheVariants.{User, Deposit, Withdraw, Price, Limits, Edit, Bounds, Spread, Worst, Resolve, Settle, Bound}
+use Rattle.mk_command.specs.declared.command.Command.TheVariants.{Prices, Position, Status}
 use Rattle.mk_reply.specs.declared.refusal.Refusal.{Refusal}
 use Rattle.mk_reply.specs.declared.refusal.Refusal.TheVariants.{Syntax, Long, Beyond, Outside, Short}
 use Rattle.mk_reply.specs.declared.payments.Payment.{Payment}
 use Rattle.mk_reply.specs.declared.reply.Reply.{Reply}
 use Rattle.mk_reply.specs.declared.reply.Reply.TheVariants.{Joined, Deposited, Withdrawn, Price as Priced, Limits as Limited, Traded, Bounded, Spreaded, Worst as Worsted, Resolved, Settled, Bound as Risked, Refused}
+use Rattle.mk_reply.specs.declared.reply.Reply.TheVariants.{Prices as Told, Position as Positioned}
 use Rattle.mk_reply.specs.Refusals.{given_in}
+use Rattle.mk_spread.proofs.Telling.{prices_exist, position_exists}
+use Rattle.mk_rules.specs.Told.{ArePrices, IsPosition, status_of}
 use Rattle.mk_rules.specs.Refusals.{pairs_of, names_in, question_named, spread_named, user_number, unknown, twice, resolved, impossible_together, decided, refusals, first_refusal}
 use Rattle.mk_rules.specs.Quotes.{Interval, last_quote, current_limits, current_bounds}
 use Rattle.mk_rules.specs.Answers.{IsTrade, IsJudged, IsJudgedAfresh, IsSpreadTrade, IsSpreadJudged, IsSpreadJudgedAfresh, IsOutside, IsWithdrawal, IsPrice, IsLimits, IsBounds, IsWorst, IsPayment, IsSettlement, IsAnswer}
 use Rattle.mk_rules.specs.Transcript.{Standing, Line, OfCommand, NoCommand, LongLine, after}
 use Rattle.mk_rules.specs.Standings.{IsMarket, IsReady}
 use Rattle.mk_rules.specs.Laws.{HasReply, HasRun}
-use Rattle.mk_rules.proofs.Unrefused.{none_applies, question_exists, question_known, target_named, not_resolved, not_faulted, all_resolved}
-use Rattle.mk_rules.proofs.Coming.{some_where, both_sides, two_values}
+use Rattle.mk_rules.proofs.Unrefused.{none_applies, question_exists, question_known, target_named, not_resolved, all_resolved}
+use Rattle.mk_rules.proofs.Coming.{some_where, both_sides}
 use Rattle.mk_rules.proofs.Apart.{condition_apart, target_apart}
-use Rattle.mk_rules.proofs.Spreadable.{spread_exists, can_be_spread}
+use Rattle.mk_rules.proofs.Spreadable.{spread_exists, can_be_spread, can_be_told}
 use Rattle.mk_rules.proofs.Quoted.{current_right, current_bounds_right}
 use Rattle.mk_rules.proofs.Ready.{ready_keeps}
 
@@ -245,6 +249,25 @@ module _ (market : Market) (now : Standing) (is_market : IsMarket market) (ready
           covers = subst (λ (o : Option ℕ). IsSomeAnd o (λ least. CoversBound (initial_total network) least market.points_per_bit bound.low bound.high)) (sym bound.is_least) bound.covers;
         },
       )
+  answered (Prices v condition) none =
+      let refused = none_applies (refusals market H (Prices v condition)) none in
+      let spread = spread_exists network v condition.items refused.1.0 in
+      let told = can_be_told network H v condition.items spread.0 ready.stands.proper spread.1
+      refused.1.1.1.0 refused.1.1.1.1.0 refused.1.1.1.1.1.1.1.0 in
+      let prices = prices_exist network H spread.0 is_market.network ready.stands.proper told in
+      let intervals : ArrayVec (ℕ × ℕ) = record { items = prices.0 } in
+      of_named (spread_named network v condition.items) (ArePrices network H) spread.0 spread.1
+      (Told intervals, record { intervals = intervals; printed = refl; covers = prices.1 })
+  answered (Position u v condition) none =
+      let refused = none_applies (refusals market H (Position u v condition)) none in
+      let spread = spread_exists network v condition.items refused.1.1.0 in
+      let n = user_number H u in
+      let found = position_exists network H n market.points_per_bit spread.0 ready.stands.sound in
+      let intervals : ArrayVec (Option (ℕ × ℕ)) = record { items = found.0 } in
+      of_named (spread_named network v condition.items)
+      (IsPosition network H n market.points_per_bit) spread.0 spread.1
+      (Positioned intervals, record { intervals = intervals; printed = refl; covers = found.1 })
+  answered Status none = (status_of market H, refl)
 
   of_command : (command : Command) → HasReply market now (OfCommand command)
   of_command command = at (first_refusal market H command) refl

@@ -10,6 +10,7 @@ use Rattle.mk_spread.specs.Spreads.{SpreadAsked}
 use Rattle.mk_spread.specs.Bounds.{Intervals}
 use Rattle.mk_command.specs.declared.command.Command.{Command}
 use Rattle.mk_command.specs.declared.command.Command.TheVariants.{User, Deposit, Withdraw, Price, Limits, Edit, Bounds, Spread, Worst, Resolve, Settle, Bound}
+use Rattle.mk_command.specs.declared.command.Command.TheVariants.{Prices, Position, Status}
 use Rattle.mk_reply.specs.declared.refusal.Refusal.{Refusal}
 use Rattle.mk_reply.specs.declared.reply.Reply.{Reply}
 use Rattle.mk_reply.specs.declared.reply.Reply.TheVariants.{Refused}
@@ -35,6 +36,9 @@ refused_appends P market H (Worst u) why = tt
 refused_appends P market H (Resolve p) why = tt
 refused_appends P market H Settle why = tt
 refused_appends P market H Bound why = tt
+refused_appends P market H (Prices v condition) why = tt
+refused_appends P market H (Position u v condition) why = tt
+refused_appends P market H Status why = tt
 
 -- a reply that is known
 pub reply_appends : (P : Entry → Type 0) (market : Market) (H : List Entry) (command : Command) (reply known : Reply) → reply ≡ known → Appends P market H command known

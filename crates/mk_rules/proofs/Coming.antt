@@ -1,7 +1,7 @@
 -- What no refusal by what can come leaves.
-use Rattle.std.proofs.Common.{◌≡◌, ℕ, zero, suc, ◌+◌, ◌<◌, ◌≤◌, ◌⊎◌, inl, inr, Bool, true, false, cond, List, [], ◌∷◌, ◌++◌, Option, None, Some, IfSome, length, slice_index, slice_index_or, ◌||◌, eqb, refl, sym, ap, subst, ◌∙◌, arith, append-nil, append_assoc}
+use Rattle.std.proofs.Common.{◌≡◌, ℕ, zero, suc, ◌+◌, ◌<◌, ◌≤◌, Bool, true, false, cond, List, [], ◌∷◌, ◌++◌, Option, None, Some, IfSome, length, slice_index, slice_index_or, ◌||◌, eqb, refl, sym, ap, subst, ◌∙◌, arith, append-nil, append_assoc}
 use Rattle.std.specs.Prelude.{find, filter, option_map, option_and_then, nat_le, not, ◌==◌, ◌&&◌}
-use Rattle.std.specs.List.{AllByRecursion, AllZip, filter_map, cons_option, range_with_len, enumerate_from, list_any}
+use Rattle.std.specs.List.{AllByRecursion, AllZip, cons_option, range_with_len, enumerate_from, list_any}
 use Rattle.std.proofs.lemmas.Bool.{and_parts, le-leb}
 use Rattle.std.proofs.lemmas.List.Elements.{filter_map-append}
 use Rattle.mk_net.specs.declared.words.Pair.{Pair}
@@ -12,7 +12,6 @@ use Rattle.mk_net.specs.declared.words.QuestionText.{QuestionText}
 use Rattle.mk_net.specs.Asked.{Asked}
 use Rattle.mk_net.specs.Firsts.{fault_if, or_else, first_of}
 use Rattle.mk_net.proofs.Events.{neither}
-use Rattle.mk_exact.specs.States.{numbers_below}
 use Rattle.mk_exact.specs.Events.{has, holds, with_target, without_target, always}
 use Rattle.mk_exact.specs.History.{Entry}
 use Rattle.mk_exact.specs.Weight.{possible_states, cannot_come}

@@ -22,6 +22,7 @@ use Rattle.mk_spread.specs.Spreads.{SpreadAsked}
 use Rattle.mk_spread.proofs.Listed.{each_units}
 use Rattle.mk_command.specs.declared.command.Command.{Command}
 use Rattle.mk_command.specs.declared.command.Command.TheVariants.{User, Deposit, Withdraw, Price, Limits, Edit, Bounds, Spread, Worst, Resolve, Settle, Bound}
+use Rattle.mk_command.specs.declared.command.Command.TheVariants.{Prices, Position, Status}
 use Rattle.mk_reply.specs.declared.refusal.Refusal.{Refusal}
 use Rattle.mk_reply.specs.declared.refusal.Refusal.TheVariants.{Memory}
 use Rattle.mk_reply.specs.declared.reply.Reply.{Reply}
@@ -105,6 +106,14 @@ module _ (market : Market) (H : List Entry) where
   answer_follows quotes (Worst u) reply text none h =
       reply_appends (MayFollow market H) market H (Worst u) reply _ (value_of _ (least_gain (network_of market H) H (user_number H u) always) h).2.printed tt
   answer_follows quotes Bound reply text none h = reply_appends (MayFollow market H) market H Bound reply _ h.printed tt
+  answer_follows quotes (Prices v condition) reply text none h =
+      let told = value_of _ (spread_named (network_of market H) v condition.items) h in
+      reply_appends (MayFollow market H) market H (Prices v condition) reply _ told.2.printed tt
+  answer_follows quotes (Position u v condition) reply text none h =
+      let told = value_of _ (spread_named (network_of market H) v condition.items) h in
+      reply_appends (MayFollow market H) market H (Position u v condition) reply _ told.2.printed tt
+  answer_follows quotes Status reply text none h =
+      reply_appends (MayFollow market H) market H Status reply _ h tt
   answer_follows quotes (Resolve p) reply text none h = reply_appends (MayFollow market H) market H (Resolve p) reply _ h (resolves (pair_named (network_of market H) p))
     where
       resolves : (o : Option _) → IfSome (option_map Resolves o) (MayFollow market H)
@@ -146,6 +155,9 @@ joins_by_name (OfCommand (Worst u)) text = tt
 joins_by_name (OfCommand (Resolve p)) text = tt
 joins_by_name (OfCommand Settle) text = tt
 joins_by_name (OfCommand Bound) text = tt
+joins_by_name (OfCommand (Prices v condition)) text = tt
+joins_by_name (OfCommand (Position u v condition)) text = tt
+joins_by_name (OfCommand Status) text = tt
 joins_by_name NoCommand text = tt
 joins_by_name LongLine text = tt
 

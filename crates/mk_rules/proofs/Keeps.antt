@@ -24,6 +24,7 @@ use Rattle.mk_spread.proofs.Fair.{fair_list_is_ratio}
 use Rattle.mk_spread.proofs.Safe.{fair_list_is_safe}
 use Rattle.mk_command.specs.declared.command.Command.{Command}
 use Rattle.mk_command.specs.declared.command.Command.TheVariants.{User, Deposit, Withdraw, Price, Limits, Edit, Bounds, Spread, Worst, Resolve, Settle, Bound}
+use Rattle.mk_command.specs.declared.command.Command.TheVariants.{Prices, Position, Status}
 use Rattle.mk_reply.specs.declared.refusal.Refusal.{Refusal}
 use Rattle.mk_reply.specs.declared.refusal.Refusal.TheVariants.{Memory}
 use Rattle.mk_reply.specs.declared.reply.Reply.{Reply}
@@ -156,6 +157,14 @@ answer_fits market H quotes (Worst u) reply proper none h = let worst = value_of
 answer_fits market H quotes (Resolve p) reply proper none h = resolve_fits market H p reply proper none h
 answer_fits market H quotes Settle reply proper none h = reply_appends (Fits market H) market H Settle reply _ h.printed (record { acceptable = tt; in_range = tt; narrow = tt })
 answer_fits market H quotes Bound reply proper none h = reply_appends (Fits market H) market H Bound reply _ h.printed tt
+answer_fits market H quotes (Prices v condition) reply proper none h =
+    let told = value_of _ (spread_named (network_of market H) v condition.items) h in
+    reply_appends (Fits market H) market H (Prices v condition) reply _ told.2.printed tt
+answer_fits market H quotes (Position u v condition) reply proper none h =
+    let told = value_of _ (spread_named (network_of market H) v condition.items) h in
+    reply_appends (Fits market H) market H (Position u v condition) reply _ told.2.printed tt
+answer_fits market H quotes Status reply proper none h =
+    reply_appends (Fits market H) market H Status reply _ h tt
 
 -- an allowed reply appends what may be appended
 allowed_fits : (market : Market) (H : List Entry) (quotes : Quotes) (command : Command) (reply : Reply) → IsProper (network_of market H) H → IsAllowed market H quotes command reply → AppendsFit market H command reply

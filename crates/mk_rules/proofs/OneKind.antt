@@ -2,7 +2,6 @@
 -- allowed reply. So has a spread, since right bounds hold the shares of a fair and solvent list.
 use Rattle.std.proofs.Common.{◌≡◌, ℕ, ◌-◌, ◌*◌, ◌/◌, ◌^◌, ◌<◌, ◌≤◌, inl, inr, List, Option, Some, None, IsSomeAnd, MatchOption, Bool, ◌∙◌, sym, subst, arith}
 use Rattle.std.specs.Prelude.{◌↔◌}
-use Rattle.std.specs.List.{AllByRecursion}
 use Rattle.std.proofs.Math.Nat.{div-eq_of_lt-le}
 use Rattle.mk_net.specs.Bounds.{million}
 use Rattle.arrayvec.specs.ArrayVec.{ArrayVec}

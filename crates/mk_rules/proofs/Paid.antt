@@ -19,6 +19,7 @@ use Rattle.mk_spread.specs.Spreads.{SpreadAsked}
 use Rattle.mk_spread.specs.Bounds.{Intervals}
 use Rattle.mk_command.specs.declared.command.Command.{Command}
 use Rattle.mk_command.specs.declared.command.Command.TheVariants.{User, Deposit, Withdraw, Price, Limits, Edit, Bounds, Spread, Worst, Resolve, Settle, Bound}
+use Rattle.mk_command.specs.declared.command.Command.TheVariants.{Prices, Position, Status}
 use Rattle.mk_reply.specs.declared.refusal.Refusal.{Refusal}
 use Rattle.mk_reply.specs.declared.payments.Payment.{Payment}
 use Rattle.mk_reply.specs.declared.reply.Reply.{Reply}
@@ -112,6 +113,13 @@ module _ (market : Market) (H : List Entry) (quotes : Quotes) (at : ℕ) (paymen
   settles_alone (Resolve p) h = absurd (cc)
   settles_alone Settle h = refl
   settles_alone Bound h = let e = h.printed in absurd (cc)
+  settles_alone (Prices v condition) h =
+      let e = (value_of _ (spread_named (network_of market H) v condition.items) h).2.printed in
+      absurd (cc)
+  settles_alone (Position u v condition) h =
+      let e = (value_of _ (spread_named (network_of market H) v condition.items) h).2.printed in
+      absurd (cc)
+  settles_alone Status h = absurd (cc)
 
   answer_costs : (command : Command) → Stands market H → IsAnswer market H quotes command (settling at payments) → CostsAtMost market H payments
   answer_costs command stands h = settlement_costs market H at payments stands

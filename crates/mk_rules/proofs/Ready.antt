@@ -22,6 +22,7 @@ use Rattle.mk_spread.specs.Bounds.{Intervals}
 use Rattle.mk_spread.specs.Markets.{AreRightBoundsOf, value_cannot_come}
 use Rattle.mk_command.specs.declared.command.Command.{Command}
 use Rattle.mk_command.specs.declared.command.Command.TheVariants.{User, Deposit, Withdraw, Price, Limits, Edit, Bounds, Spread, Worst, Resolve, Settle, Bound}
+use Rattle.mk_command.specs.declared.command.Command.TheVariants.{Prices, Position, Status}
 use Rattle.mk_reply.specs.declared.refusal.Refusal.{Refusal}
 use Rattle.mk_reply.specs.declared.refusal.Refusal.TheVariants.{Unknown, Twice, Impossible, Range, Beyond, Outside}
 use Rattle.mk_reply.specs.declared.reply.Reply.{Reply}
@@ -232,6 +233,9 @@ module _ (market : Market) (now : Standing) (kept : AreKept market now.history n
   refused_kept (Resolve p) why h = stays now.quotes kept
   refused_kept Settle why h = stays now.quotes kept
   refused_kept Bound why h = stays now.quotes kept
+  refused_kept (Prices v condition) why h = stays now.quotes kept
+  refused_kept (Position u v condition) why h = stays now.quotes kept
+  refused_kept Status why h = stays now.quotes kept
 
   -- what is right is quoted
   quoted_kept : (n : ℕ) (said : Option Quoted) → IfSome said (IsRight market now.history n)
@@ -333,6 +337,13 @@ module _ (market : Market) (now : Standing) (kept : AreKept market now.history n
   answer_kept (Resolve p) reply h = reply_kept market now (Resolve p) reply _ h (after_some _ (mapped (λ (e : Entry). join_in e ≡ None) _ (λ pair. refl) (pair_named (network_of market now.history) p)))
   answer_kept Settle reply h = reply_kept market now Settle reply _ h.printed (after_some (Some Settles) refl)
   answer_kept Bound reply h = reply_kept market now Bound reply _ h.printed (stays now.quotes kept)
+  answer_kept (Prices v condition) reply h =
+      let told = value_of _ (spread_named (network_of market now.history) v condition.items) h in
+      reply_kept market now (Prices v condition) reply _ told.2.printed (stays now.quotes kept)
+  answer_kept (Position u v condition) reply h =
+      let told = value_of _ (spread_named (network_of market now.history) v condition.items) h in
+      reply_kept market now (Position u v condition) reply _ told.2.printed (stays now.quotes kept)
+  answer_kept Status reply h = reply_kept market now Status reply _ h (stays now.quotes kept)
 
   allowed_kept : (command : Command) (reply : Reply) → IsAllowed market now.history now.quotes command reply → KeptAfter market now command reply
   allowed_kept command reply h = meet (first_refusal market now.history command) refl h

@@ -1,5 +1,5 @@
 -- What a reply to `bound` says stays so: each state that is possible later was possible then.
-use Rattle.std.proofs.Common.{◌≡◌, ℕ, ◌+◌, ◌*◌, ◌≤◌, true, false, Bool, length, sum, sum_by, ◌&&◌, List, [], ◌∷◌, ◌++◌, Option, Some, None, IfSome, IsSomeAnd, MatchOption, All, filter, cond, refl, sym, ap, ◌∙◌, subst}
+use Rattle.std.proofs.Common.{◌≡◌, ℕ, ◌+◌, ◌*◌, ◌≤◌, true, false, Bool, length, sum, sum_by, ◌&&◌, List, [], ◌∷◌, ◌++◌, Option, Some, None, MatchOption, All, filter, cond, refl, sym, ap, ◌∙◌, subst}
 use Rattle.std.specs.Prelude.{option_to_list}
 use Rattle.std.specs.List.{AllByRecursion}
 use Rattle.std.proofs.lemmas.Bool.{and_parts, and_from}
@@ -23,7 +23,7 @@ use Rattle.mk_reply.specs.declared.reply.Reply.TheVariants.{Settled, Bound as Ri
 use Rattle.mk_rules.specs.Refusals.{first_refusal}
 use Rattle.mk_rules.specs.Answers.{IsBound, entry_of}
 use Rattle.mk_rules.specs.Transcript.{Standing, opening, Line, OfCommand, NoCommand, LongLine, IsAllowedFor, after, Run}
-use Rattle.mk_rules.specs.Standings.{IsMarket, Stands}
+use Rattle.mk_rules.specs.Standings.{IsMarket}
 use Rattle.mk_rules.specs.Laws.{paid_by, CostsNoMoreThan}
 use Rattle.mk_rules.proofs.Options.{value_of}
 use Rattle.mk_rules.proofs.Keeps.{run_keeps, opening_stands}

@@ -12,11 +12,14 @@ use Rattle.mk_exact.specs.Market.{Market}
 use Rattle.mk_exact.proofs.After.{users_kept, resolutions_kept, deposited_kept, withdrawn_kept}
 use Rattle.mk_command.specs.declared.command.Command.{Command}
 use Rattle.mk_command.specs.declared.command.Command.TheVariants.{User, Deposit, Withdraw, Price, Limits, Edit, Bounds, Spread, Worst, Resolve, Settle, Bound}
+use Rattle.mk_command.specs.declared.command.Command.TheVariants.{Prices, Position, Status}
 use Rattle.mk_reply.specs.declared.refusal.Refusal.{Refusal}
 use Rattle.mk_reply.specs.declared.refusal.Refusal.TheVariants.{Settled as SettledBefore}
 use Rattle.mk_reply.specs.declared.payments.Payment.{Payment}
 use Rattle.mk_reply.specs.declared.reply.Reply.{Reply}
 use Rattle.mk_reply.specs.declared.reply.Reply.TheVariants.{Joined, Deposited, Withdrawn, Price as Priced, Limits as Limited, Traded, Bounded, Spreaded, Worst as Worsted, Resolved, Settled, Bound as Risked, Refused}
+use Rattle.mk_reply.specs.declared.reply.Reply.TheVariants.{Prices as Told, Position as Positioned}
+use Rattle.mk_reply.specs.declared.reply.Reply.TheVariants.{Status as Counted}
 use Rattle.mk_rules.specs.Refusals.{first_refusal}
 use Rattle.mk_rules.specs.Quotes.{Quotes}
 use Rattle.mk_rules.specs.Answers.{IsAnswer, IsAllowed, entry_of, next_history}
@@ -45,6 +48,9 @@ refused_behind market H (Worst u) s = (SettledBefore, rw s refl)
 refused_behind market H (Resolve p) s = (SettledBefore, rw s refl)
 refused_behind market H Settle s = (SettledBefore, rw s refl)
 refused_behind market H Bound s = (SettledBefore, rw s refl)
+refused_behind market H (Prices v condition) s = (SettledBefore, rw s refl)
+refused_behind market H (Position u v condition) s = (SettledBefore, rw s refl)
+refused_behind market H Status s = (SettledBefore, rw s refl)
 
 none_there : {X : Type 0} (o : Option X) → IfSome o (λ _. ⊥) → o ≡ None
 none_there None h = refl
@@ -135,6 +141,10 @@ reply_pays market old new line (Spreaded factors at) lines replies stands allowe
 reply_pays market old new line (Worsted low high) lines replies stands allowed run = tt
 reply_pays market old new line (Resolved p at) lines replies stands allowed run = tt
 reply_pays market old new line (Risked low high) lines replies stands allowed run = tt
+reply_pays market old new line (Told intervals) lines replies stands allowed run = tt
+reply_pays market old new line (Positioned intervals) lines replies stands allowed run = tt
+reply_pays market old new line (Counted at users trades most moves more left all) lines replies
+    stands allowed run = tt
 reply_pays market old new line (Refused why) lines replies stands allowed run = tt
 
 pub run_settles : (market : Market) (old new : Standing) (lines : List Line) (replies : List Reply) → Stands market old.history

@@ -1,7 +1,7 @@
 -- A distribution that meets no refusal can be asked about.
 use Rattle.std.proofs.Common.{◌≡◌, ℕ, ◌+◌, ◌<◌, ◌≤◌, not, slice_index, arith, Bool, true, false, cond, ◌||◌, List, [], ◌∷◌, length, Option, Some, None, option_map, is_none, refl, sym, ap, ◌∙◌, subst, zero-add}
 use Rattle.std.specs.Prelude.{◌==◌, find}
-use Rattle.std.specs.List.{AllByRecursion, enumerate_from, position_or_len, slice_get, cons_option}
+use Rattle.std.specs.List.{enumerate_from, position_or_len, slice_get, cons_option}
 use Rattle.std.proofs.lemmas.Bool.{eqb-true}
 use Rattle.std.proofs.lemmas.List.FromFn.{get_or-enumerate_from, length-enumerate_from}
 use Rattle.std.proofs.lemmas.List.Folds.{find_at}
@@ -16,14 +16,17 @@ use Rattle.mk_net.specs.Named.{nobody, pair_named, variable_named, variable_at}
 use Rattle.mk_net.specs.Texts.{same_text}
 use Rattle.mk_net.proofs.SameText.{equal_of_same_text}
 use Rattle.mk_net.proofs.Named.{pair_variable_name}
-use Rattle.mk_exact.specs.History.{Entry, resolutions}
+use Rattle.mk_exact.specs.History.{Entry}
 use Rattle.mk_exact.specs.Proper.{IsProper}
 use Rattle.mk_exact.proofs.Sums.{each_weaker}
+use Rattle.mk_exact.specs.Events.{holds}
+use Rattle.mk_exact.specs.Weight.{possible_states}
+use Rattle.mk_spread.specs.Told.{CanBeTold}
 use Rattle.mk_spread.specs.Spreads.{SpreadAsked}
 use Rattle.mk_spread.specs.Markets.{IsSpreadInOrder, CanBeSpread, SuitValues, value_cannot_come}
 use Rattle.mk_rules.specs.Refusals.{spread_named, names_in, known_pairs, no_variable, twice, resolved, numbers, ranges, impossible_together, sure_value, impossible_share, missing_share}
 use Rattle.mk_rules.proofs.Unrefused.{not_faulted, not_mapped}
-use Rattle.mk_rules.proofs.Coming.{two_values, suit_from}
+use Rattle.mk_rules.proofs.Coming.{some_where, two_values, suit_from}
 use Rattle.mk_rules.proofs.Apart.{condition_apart, target_apart}
 use Rattle.mk_rules.proofs.Spreads.{spread_parts, spread_is, numbers_in_range}
 
@@ -158,6 +161,18 @@ pub can_be_spread : (network : List Variable) (H : List Entry) (v : List ℕ) (p
 can_be_spread network H v pairs spread proper named once unsettled together several = record {
   in_order = spread_in_order network H v pairs spread named once unsettled;
   two_left = two_values network H v pairs spread proper (spread_is network v pairs spread named).variable named (spread_parts network v pairs spread named).2 together several;
+}
+
+-- and one whose condition can come can be told
+pub can_be_told : (network : List Variable) (H : List Entry) (v : List ℕ) (pairs : List PairText)
+    (spread : SpreadAsked) → IsProper network H → spread_named network v pairs ≡ Some spread →
+    twice (v ∷ names_in pairs) ≡ None → resolved network H v ≡ None →
+    impossible_together network H pairs ≡ None → CanBeTold network H spread
+can_be_told network H v pairs spread proper named once unsettled together = record {
+  in_order = spread_in_order network H v pairs spread named once unsettled;
+  some_state = subst (λ (ps : List Pair). 1 ≤ length (possible_states network H (holds ps)))
+      (sym (spread_parts network v pairs spread named).2)
+      (some_where network H proper pairs together);
 }
 
 -- its shares suit its values

@@ -1,11 +1,11 @@
 -- In a ready standing an allowed reply to a line that is a text has a text.
-use Rattle.std.proofs.Common.{◌≡◌, ℕ, ◌+◌, ◌*◌, ◌^◌, ◌<◌, ◌≤◌, ◌⊎◌, inl, inr, Bool, true, false, cond, List, [], ◌∷◌, ◌++◌, length, sum, Option, Some, None, IfSome, MatchOption, slice_index, slice_index_or, refl, sym, ◌∙◌, subst, arith, mul-le-mul_right}
+use Rattle.std.proofs.Common.{◌≡◌, ℕ, ◌+◌, ◌*◌, ◌^◌, ◌<◌, ◌≤◌, ◌⊎◌, inl, inr, Bool, true, false, cond, List, [], ◌∷◌, ◌++◌, length, sum, Option, Some, None, IfSome, MatchOption, slice_index, slice_index_or, refl, sym, ◌∙◌, subst, arith}
 use Rattle.std.specs.Prelude.{option_map, option_and_then, find, All}
 use Rattle.std.specs.List.{AllByRecursion, AllZip, enumerate_from, list_any}
 use Rattle.std.proofs.lemmas.Bool.{cases_lt}
 use Rattle.std.proofs.lemmas.List.Elements.{All-from_recursion, recursion_from_All}
-use Rattle.std.proofs.lemmas.List.FromFn.{length-enumerate_from}
-use Rattle.std.proofs.lemmas.List.Sums.{sum_by-le}
+use Rattle.std.proofs.lemmas.List.FromFn.{length-enumerate_from, length-range_with_len}
+use Rattle.std.proofs.lemmas.List.Sums.{sum_by-le, count_by-le-length}
 use Rattle.std.proofs.lemmas.Slice.Zip.{AllZip-long}
 use Rattle.arrayvec.specs.ArrayVec.{ArrayVec}
 use Rattle.mk_net.specs.declared.words.PairText.{PairText}
@@ -23,13 +23,12 @@ use Rattle.mk_net.specs.Firsts.{fault_if, first_of}
 use Rattle.mk_exact.specs.Events.{always}
 use Rattle.mk_exact.specs.History.{Entry, users, revision}
 use Rattle.mk_exact.specs.Weight.{IsSmall}
-use Rattle.mk_exact.specs.Factors.{Fraction, HoldsNoTrade, factor, factor_with, least_gain}
+use Rattle.mk_exact.specs.Factors.{HoldsNoTrade, factor, factor_with, least_gain}
 use Rattle.mk_exact.specs.Limits.{IsWithinRange}
-use Rattle.mk_exact.specs.Prices.{CoversPrice, exact_price}
+use Rattle.mk_exact.specs.Prices.{exact_price}
 use Rattle.mk_exact.specs.Sides.{AreRightLimits}
 use Rattle.mk_exact.specs.Market.{Market, network_of, cliques_of}
 use Rattle.mk_exact.specs.Cash.{CoversCash}
-use Rattle.mk_exact.specs.Existing.{IsPortion}
 use Rattle.mk_exact.proofs.ExistBounds.{cash_fits, least_cash_fits}
 use Rattle.mk_exact.proofs.Sums.{each_weaker}
 use Rattle.mk_exact.proofs.ExistMarkets.{price_exists}
@@ -39,13 +38,16 @@ use Rattle.mk_spread.specs.Spreads.{SpreadAsked}
 use Rattle.mk_spread.specs.Bounds.{Intervals}
 use Rattle.mk_spread.specs.Markets.{AreRightBoundsOf}
 use Rattle.mk_spread.specs.Existing.{IsShareInterval}
+use Rattle.mk_spread.specs.Told.{AreNumbers}
 use Rattle.mk_spread.proofs.Exist.{right_bounds_fit}
+use Rattle.mk_spread.proofs.Telling.{low_at_most_one, prices_fit, position_fits}
 use Rattle.mk_spread.proofs.Fair.{fair_list_fits}
 use Rattle.mk_text.specs.Numbers.{IsShort, AreLimits, IsInterval, AreIntervals}
 use Rattle.mk_text.specs.Texts.{IsPairText, IsCondition, IsQuestionText}
 use Rattle.mk_command.specs.Commands.{IsCommand}
 use Rattle.mk_command.specs.declared.command.Command.{Command}
 use Rattle.mk_command.specs.declared.command.Command.TheVariants.{User, Deposit, Withdraw, Price, Limits, Edit, Bounds, Spread, Worst, Resolve, Settle, Bound}
+use Rattle.mk_command.specs.declared.command.Command.TheVariants.{Prices, Position, Status}
 use Rattle.mk_reply.specs.Refusals.{given_in, IsRefusal}
 use Rattle.mk_reply.specs.Replies.{IsReply, IsRatio, IsPayment as HasText}
 use Rattle.mk_reply.specs.declared.refusal.Refusal.{Refusal}
@@ -54,6 +56,10 @@ use Rattle.mk_reply.specs.declared.payments.Payment.{Payment}
 use Rattle.mk_reply.specs.declared.reply.Reply.{Reply}
 use Rattle.mk_reply.specs.declared.reply.Reply.TheVariants.{Refused}
 use Rattle.mk_rules.specs.Refusals.{pairs_of, names_in, variables_in, question_named, spread_named, user_number, first_repeat, settled, no_user, no_variable, unknown, twice, stale, resolved, impossible, impossible_together, sure_value, impossible_share, missing_share, least_share, wide, wide_spread, numbers, ranges, sums, trades_full, unresolved, refusals, first_refusal}
+use Rattle.mk_rules.specs.Refusals.{is_resolved}
+use Rattle.mk_text.specs.Numbers.{AreEnds}
+use Rattle.std.specs.Prelude.{not}
+use Rattle.std.specs.List.{count_by, range_with_len}
 use Rattle.mk_rules.specs.Quotes.{Interval, last_quote, current_limits, current_bounds}
 use Rattle.mk_rules.specs.Answers.{IsTrade, IsJudged, IsJudgedAfresh, IsSpreadTrade, IsOutside, IsSpreadJudged, IsSpreadJudgedAfresh, IsWithdrawal, IsPayment, IsSettlement, IsAnswer, IsAllowed}
 use Rattle.mk_rules.specs.Transcript.{Standing, Line, OfCommand, NoCommand, LongLine, IsAllowedFor}
@@ -62,7 +68,7 @@ use Rattle.mk_rules.specs.Bounded.{IsLine, IsBounded}
 use Rattle.mk_rules.proofs.Options.{value_of}
 use Rattle.mk_rules.proofs.Unrefused.{none_applies}
 use Rattle.mk_rules.proofs.Spreads.{spread_is, numbers_in_range}
-use Rattle.mk_rules.proofs.Spreadable.{as_many_shares}
+use Rattle.mk_rules.proofs.Spreadable.{as_many_shares, can_be_told}
 use Rattle.mk_rules.proofs.Quoted.{current_right, current_bounds_right}
 use Rattle.mk_rules.proofs.Revisions.{revision_fits}
 use Rattle.mk_rules.proofs.Answered.{can_be_asked}
@@ -196,16 +202,15 @@ right_bounds_have network H u spread (Some given) net within right =
     let fit = right_bounds_fit network H u spread given net within right in
     record { two = fit.0.two; few = fit.0.few; each = λ k d inside. interval_has _ (fit.1 k d inside) }
 
--- the low end of a price is no more than one
-low_at_most_one : (small : Type 0) (price : Fraction) (low high : ℕ) → IsPortion price → CoversPrice small price low high → low ≤ 10 ^ 10
-low_at_most_one small price low high positive covers = at (cases_lt (10 ^ 10) low)
-  where
-    at : (10 ^ 10 < low) ⊎ (low ≤ 10 ^ 10) → low ≤ 10 ^ 10
-    at (inl more) =
-        let next : 10 ^ 10 + 1 ≤ low = omega arith in
-        let above : (10 ^ 10 + 1) * price.den ≤ low * price.den = mul-le-mul_right price.den next in
-        absurd (omega (arith, covers.below, positive.divides, positive.at_most_one))
-    at (inr most) = most
+-- the ends of a position have texts
+ends_have : (interval : Option (ℕ × ℕ)) → AreNumbers interval → AreEnds interval
+ends_have None h = tt
+ends_have (Some ends) h = h
+
+-- no more numbers of a range pass a test than there are
+counted_at_most : (test : ℕ → Bool) (a n : ℕ) → count_by test (range_with_len a n) ≤ n
+counted_at_most test a n =
+    omega (arith, count_by-le-length test (range_with_len a n), length-range_with_len a n)
 
 -- payments of a bounded history have texts
 payments_have : (network : List Variable) (H : List Entry) (b : ℕ) (s : List ℕ)
@@ -291,6 +296,36 @@ module _ (market : Market) (now : Standing) (is_market : IsMarket market) (ready
         ),
       ))))
 
+  -- the refusals of a question about every value, behind those of its user
+  abbrev refusals_of_values : List ℕ → ArrayVec PairText → List (Option Refusal)
+  refusals_of_values v condition =
+      no_variable network v ∷ unknown network condition.items ∷ twice (v ∷ names_in condition.items)
+      ∷ resolved network H v ∷ impossible network H condition.items
+      ∷ wide_spread market H v condition.items ∷ impossible_together network H condition.items ∷ []
+
+  values_have : (v : List ℕ) (condition : ArrayVec PairText) → IsName v →
+      AllByRecursion IsPairText condition.items →
+      IfSome (first_of (refusals_of_values v condition)) IsRefusal
+  values_have v condition named pairs =
+      let items = condition.items in
+      let together = together_have IsRefusal network H [] items pairs in
+      first_has (refusals_of_values v condition) (
+        faulted _ _ named,
+        (
+          unknown_has network items pairs,
+          (
+            names_have v items named pairs,
+            (
+              faulted _ _ named,
+              (
+                impossible_has network H items pairs,
+                (wide_spread_has market H v items, (together, tt)),
+              ),
+            ),
+          ),
+        ),
+      )
+
   refused_has : (command : Command) → IsCommand command → IfSome (first_refusal market H command) IsRefusal
   refused_has (User u) text = first_has (refusals market H (User u)) (faulted _ _ tt, (faulted _ _ text, (faulted _ _ refl, tt)))
   refused_has (Deposit u bits) text = first_has (refusals market H (Deposit u bits)) (faulted _ _ tt, (faulted _ _ text.0, (faulted _ _ (omega (arith, text.1)), (faulted _ _ (omega arith), tt))))
@@ -347,6 +382,15 @@ module _ (market : Market) (now : Standing) (is_market : IsMarket market) (ready
   refused_has (Resolve p) text = first_has (refusals market H (Resolve p)) (faulted _ _ tt, (unknown_has network (p ∷ []) (text, tt), (faulted _ _ text.variable, (together_have IsRefusal network H [] (p ∷ []) (text, tt), tt))))
   refused_has Settle text = first_has (refusals market H Settle) (faulted _ _ tt, (unresolved_has network H is_market.network, tt))
   refused_has Bound text = first_has (refusals market H Bound) (faulted _ _ tt, tt)
+  refused_has (Prices v condition) text =
+      let pairs = condition_pairs condition.items text.1 in
+      first_then (settled H ∷ []) (refusals_of_values v condition) (faulted _ _ tt, tt)
+      (values_have v condition text.0 pairs)
+  refused_has (Position u v condition) text =
+      let pairs = condition_pairs condition.items text.2 in
+      first_then (settled H ∷ no_user H u ∷ []) (refusals_of_values v condition)
+      (faulted _ _ tt, (faulted _ _ text.0, tt)) (values_have v condition text.1 pairs)
+  refused_has Status text = first_has (refusals market H Status) (faulted _ _ tt, tt)
 
   refusal_has : (command : Command) (why : Refusal) → IsCommand command → first_refusal market H command ≡ Some why → IsRefusal why
   refusal_has command why text e = subst (λ (o : Option Refusal). IfSome o IsRefusal) e (refused_has command text)
@@ -409,7 +453,7 @@ module _ (market : Market) (now : Standing) (is_market : IsMarket market) (ready
       let price = value_of _ (question_named network q) h in
       let exact = price_exists network H price.0 is_market.network ready.stands.proper
       (can_be_asked network H q price.0 ready.stands.proper price.1 refused.1.0 refused.1.1.0 refused.1.1.1.0 refused.1.1.1.1.1.1.0) in
-      reply_has reply _ price.2.printed (low_at_most_one (IsSmall network H) (exact_price network H price.0) price.2.low price.2.high exact.exact price.2.covers, price.2.covers.at_most_one)
+      reply_has reply _ price.2.printed (low_at_most_one (exact_price network H price.0) price.2.low exact.exact price.2.covers.below, price.2.covers.at_most_one)
   answer_has (Limits u q) reply text none h =
       let limits = value_of _ (question_named network q) h in
       reply_has reply _ limits.2.printed (right_limits_have network H (user_number H u) limits.0 limits.2.limits limits.2.right, omega (arith, next))
@@ -434,6 +478,37 @@ module _ (market : Market) (now : Standing) (is_market : IsMarket market) (ready
       let least = value_of _ (least_weight network H) h.covers in
       let high = bound_fits network H market.points_per_bit least.0 h.low h.high is_market.network is_market.few_points least.1 least.2 in
       reply_has reply _ h.printed (omega (arith, high, least.2.above, least.2.below), high)
+  answer_has (Prices v condition) reply text none h =
+      let refused = none_applies (refusals market H (Prices v condition)) none in
+      let prices = value_of _ (spread_named network v condition.items) h in
+      let told = can_be_told network H v condition.items prices.0 ready.stands.proper prices.1
+      refused.1.1.1.0 refused.1.1.1.1.0 refused.1.1.1.1.1.1.1.0 in
+      let fit = prices_fit network H prices.0 prices.2.intervals.items is_market.network
+      ready.stands.proper told prices.2.covers in
+      reply_has reply _ prices.2.printed
+      (record { two = fit.0.two; few = fit.0.few; each = fit.1 })
+  answer_has (Position u v condition) reply text none h =
+      let found = value_of _ (spread_named network v condition.items) h in
+      let within = (spread_is network v condition.items found.0 found.1).variable in
+      let fit = position_fits network H (user_number H u) market.points_per_bit found.0
+      found.2.intervals.items is_market.network within bounded.within is_market.few_points
+      found.2.covers in
+      let each : All AreEnds found.2.intervals.items =
+      λ k d inside. ends_have _ (fit.1 k d inside) in
+      reply_has reply _ found.2.printed (record { two = fit.0.two; few = fit.0.few; each = each })
+  answer_has Status reply text none h =
+      let left = counted_at_most (λ v. not (is_resolved H v)) 0 (length network) in
+      let many = is_market.network.few in
+      reply_has reply _ h (
+        omega (arith, next),
+        omega (arith, bounded.few_users),
+        omega (arith, bounded.few_trades, is_market.few_trades),
+        omega (arith, is_market.few_trades),
+        omega (arith, bounded.within.few_transfers),
+        omega arith,
+        omega (arith, left, many),
+        omega (arith, many),
+      )
 
   command_has : (command : Command) (reply : Reply) → IsCommand command → IsAllowed market H now.quotes command reply → IsReply reply
   command_has command reply text h = at (first_refusal market H command) refl h

@@ -24,11 +24,13 @@ use Rattle.mk_spread.specs.Markets.{AreRightBoundsOf, IsFairList}
 use Rattle.arrayvec.specs.ArrayVec.{ArrayVec}
 use Rattle.mk_command.specs.declared.command.Command.{Command}
 use Rattle.mk_command.specs.declared.command.Command.TheVariants.{User, Deposit, Withdraw, Price, Limits, Edit, Bounds, Spread, Worst, Resolve, Settle, Bound}
+use Rattle.mk_command.specs.declared.command.Command.TheVariants.{Prices, Position, Status}
 use Rattle.mk_reply.specs.declared.refusal.Refusal.TheVariants.{Beyond, Outside, Short, Memory}
 use Rattle.mk_reply.specs.declared.payments.Payment.{Payment}
 use Rattle.mk_reply.specs.declared.reply.Reply.{Reply}
 use Rattle.mk_reply.specs.declared.reply.Reply.TheVariants.{Joined, Deposited, Withdrawn, Price as Priced, Limits as Limited, Traded, Bounded, Spreaded, Worst as Worsted, Resolved, Settled, Bound as Risked, Refused}
 use Rattle.mk_reply.specs.Refusals.{given_in}
+use Rattle.mk_rules.specs.Told.{ArePrices, IsPosition, status_of}
 use Rattle.mk_rules.specs.Refusals.{question_named, spread_named, user_number, first_refusal}
 use Rattle.mk_rules.specs.Quotes.{Interval, Quoted, EditLimits, SpreadBounds, Quotes, last_quote, current_limits, current_bounds}
 
@@ -178,6 +180,14 @@ IsAnswer market H quotes (Worst u) reply =
 IsAnswer market H quotes (Resolve p) reply = reply ≡ Resolved p (revision H + 1)
 IsAnswer market H quotes Settle reply = IsSettlement (network_of market H) H market.points_per_bit reply
 IsAnswer market H quotes Bound reply = IsBound (network_of market H) H market.points_per_bit reply
+IsAnswer market H quotes (Prices v condition) reply =
+    let network = network_of market H in
+    IsSomeAnd (spread_named network v condition.items) (λ spread. ArePrices network H spread reply)
+IsAnswer market H quotes (Position u v condition) reply =
+    let network = network_of market H in
+    IsSomeAnd (spread_named network v condition.items)
+    (λ spread. IsPosition network H (user_number H u) market.points_per_bit spread reply)
+IsAnswer market H quotes Status reply = reply ≡ status_of market H
 
 -- the refusal of the table that comes first is the one reply; else the command's answers
 abbrev pub IsAllowed : Market → List Entry → Quotes → Command → Reply → Type 0

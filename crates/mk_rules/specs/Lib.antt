@@ -1,5 +1,6 @@
 pub mod Refusals
 pub mod Quotes
+pub mod Told
 pub mod Answers
 pub mod Transcript
 pub mod Standings
@@ -7,3 +8,4 @@ pub mod Bounded
 pub mod Laws
 pub mod Examples
 pub mod SpreadExamples
+pub mod ToldExamples

@@ -1,5 +1,5 @@
 -- The refusals that come in every history, and their order. Each answers a refusal or none.
-use Rattle.std.specs.Prelude.{ℕ, ◌-◌, List, [], ◌∷◌, length, map, sum, Bool, false, ◌&&◌, ◌||◌, not, ◌++◌, slice_index_or, ◌==◌, nat_le, if◌then◌else◌, is_none, Option, Some, None, option_map, option_and_then, find}
+use Rattle.std.specs.Prelude.{ℕ, ◌-◌, List, [], ◌∷◌, length, map, sum, Bool, false, ◌&&◌, not, ◌++◌, slice_index_or, ◌==◌, nat_le, if◌then◌else◌, is_none, Option, Some, None, option_map, option_and_then, find}
 use Rattle.std.specs.List.{list_all, list_any, position_or_len, enumerate_from, filter_map, count_by}
 use Rattle.mk_net.specs.declared.words.Pair.{Pair}
 use Rattle.mk_net.specs.declared.words.PairText.{PairText}
@@ -19,6 +19,7 @@ use Rattle.mk_spread.specs.Spreads.{SpreadAsked}
 use Rattle.mk_spread.specs.Markets.{value_cannot_come, values_left}
 use Rattle.mk_command.specs.declared.command.Command.{Command}
 use Rattle.mk_command.specs.declared.command.Command.TheVariants.{User, Deposit, Withdraw, Price, Limits, Edit, Bounds, Spread, Worst, Resolve, Settle, Bound}
+use Rattle.mk_command.specs.declared.command.Command.TheVariants.{Prices, Position, Status}
 use Rattle.mk_reply.specs.declared.refusal.Refusal.{Refusal}
 use Rattle.mk_reply.specs.declared.refusal.Refusal.TheVariants.{Settled, User as NoUser, Exists, Users, Unknown, Twice, Stale, Resolved, Impossible, Wide, Range, Full, Unresolved, NoVariable, Numbers, Sum, Sure}
 
@@ -231,6 +232,17 @@ refusals_by_record market H (Resolve p) =
     settled H ∷ unknown network (p ∷ []) ∷ resolved network H p.variable ∷ []
 refusals_by_record market H Settle = settled H ∷ unresolved (network_of market H) H ∷ []
 refusals_by_record market H Bound = settled H ∷ []
+refusals_by_record market H (Prices v condition) =
+    let network = network_of market H in
+    settled H ∷ no_variable network v ∷ unknown network condition.items
+    ∷ twice (v ∷ names_in condition.items) ∷ resolved network H v
+    ∷ impossible network H condition.items ∷ wide_spread market H v condition.items ∷ []
+refusals_by_record market H (Position u v condition) =
+    let network = network_of market H in
+    settled H ∷ no_user H u ∷ no_variable network v ∷ unknown network condition.items
+    ∷ twice (v ∷ names_in condition.items) ∷ resolved network H v
+    ∷ impossible network H condition.items ∷ wide_spread market H v condition.items ∷ []
+refusals_by_record market H Status = settled H ∷ []
 
 -- what it is refused for by what can come, behind these
 abbrev pub refusals_by_states : Market → List Entry → Command → List (Option Refusal)
@@ -246,6 +258,10 @@ refusals_by_states market H (Spread u v condition to seen) =
     impossible_together network H condition.items ∷ sure_value network H v condition.items
     ∷ impossible_share network H v condition.items to.items ∷ missing_share network H v condition.items to.items ∷ []
 refusals_by_states market H (Resolve p) = impossible_together (network_of market H) H (p ∷ []) ∷ []
+refusals_by_states market H (Prices v condition) =
+    impossible_together (network_of market H) H condition.items ∷ []
+refusals_by_states market H (Position u v condition) =
+    impossible_together (network_of market H) H condition.items ∷ []
 refusals_by_states market H _ = []
 
 -- what it is refused for, in this order

@@ -1,5 +1,6 @@
 //! The rules at work in small markets.
 ghost use Rattle.mk_rules.specs.Examples.{AreMarkets, AreRefused, ComeInOrder, AreAnswered, AreCurrent, IsTakenOut, IsWorstPaid, IsResolved, IsPaid, IsJudgedByNewLimits, RunsThrough};
+ghost use Rattle.mk_rules.specs.ToldExamples.{ToldInOrder, IsTold};
 ghost use Rattle.mk_rules.specs.SpreadExamples.{AreSpreadsRefused, SpreadsComeInOrder, AreSpreadsCurrent, AreSpreadsAnswered};
 
 use mk_exact::{example_cash, example_limits, example_networks};
@@ -92,3 +93,14 @@ pub fn example_spreads()
 {
     example_bounds();
 }
+
+/// For each two neighbours among the refusals of prices, of a position and of a status, that the
+/// first of them comes where both apply.
+pub fn example_told_order()
+    ensures { ToldInOrder }
+{}
+
+/// Prices, positions and a status that are allowed, and replies that are not.
+pub fn example_told()
+    ensures { IsTold }
+{}

@@ -2,14 +2,14 @@
 use Rattle.std.proofs.Common.{◌≡◌, ℕ, zero, suc, ◌+◌, ◌*◌, ◌^◌, ◌<◌, ◌≤◌, ◌⊎◌, inl, inr}
 use Rattle.std.proofs.Common.{Bool, true, false}
 use Rattle.std.proofs.Common.{List, [], ◌∷◌, length, slice_index, Option, Some, None, All, sum_by}
-use Rattle.std.proofs.Common.{refl, sym, subst, arith, mul-le-mul_right}
+use Rattle.std.proofs.Common.{refl, arith, mul-le-mul_right}
 use Rattle.std.proofs.Math.Nat.{le_of_mul-le-mul_left}
 use Rattle.std.specs.Bool.{⊤}
 use Rattle.std.specs.List.{AllZip, AllByRecursion, range_with_len}
 use Rattle.std.proofs.lemmas.Bool.{cases_lt}
 use Rattle.std.proofs.lemmas.List.Elements.{All-from_recursion}
 use Rattle.std.proofs.lemmas.List.Sums.{sum_by-cons}
-use Rattle.mk_net.specs.Bounds.{million, number_limit}
+use Rattle.mk_net.specs.Bounds.{million}
 use Rattle.mk_net.specs.Network.{Variable, IsNetwork, sizes}
 use Rattle.mk_exact.specs.States.{plus_over}
 use Rattle.mk_exact.specs.Events.{holds, with_target}

@@ -216,6 +216,60 @@ fn reads_and_prints_spreads(rt: HostRuntime) {
     spread(&rt, text, &[], &[1u32; 16], Some(0));
 }
 
+/// Stops unless a question for the prices of a variable is printed as this text, and read from it.
+fn prices(rt: &impl Abort, text: &str, variable: &[u8], pairs: &[PairText]) {
+    let command = Command::Prices {
+        variable: name(rt, variable),
+        condition: condition(pairs),
+    };
+    both_ways(rt, text, command);
+}
+
+fn position(rt: &impl Abort, text: &str, user: &[u8], variable: &[u8], pairs: &[PairText]) {
+    let command = Command::Position {
+        user: name(rt, user),
+        variable: name(rt, variable),
+        condition: condition(pairs),
+    };
+    both_ways(rt, text, command);
+}
+
+#[test]
+fn reads_and_prints_what_asks_of_each_value(rt: HostRuntime) {
+    prices(&rt, "prices coin", b"coin", &[]);
+    prices(&rt, "prices prices", b"prices", &[]);
+    let pairs = [pair(&rt, b"season", b"wet")];
+    prices(&rt, "prices rain | season=wet", b"rain", &pairs);
+    let text = "position position status | season=wet";
+    position(&rt, text, b"position", b"status", &pairs);
+    let text = "prices rain | position=status, to=at";
+    let pairs = [pair(&rt, b"position", b"status"), pair(&rt, b"to", b"at")];
+    prices(&rt, text, b"rain", &pairs);
+    position(&rt, "position alice coin", b"alice", b"coin", &[]);
+    both_ways(&rt, "status", Command::Status);
+    let user = name(&rt, b"status");
+    both_ways(&rt, "worst status", Command::Worst { user });
+}
+
+#[test]
+fn reads_and_prints_the_longest_position(rt: HostRuntime) {
+    let user = name(&rt, LONGEST_NAME);
+    let pair = PairText {
+        variable: user,
+        value: user,
+    };
+    let pairs = [pair; 8];
+    let command = Command::Position {
+        user,
+        variable: user,
+        condition: condition(&pairs),
+    };
+    let mut text = ArrayString::new();
+    print_command(&command, &mut text);
+    assert_eq!(rt; text.len(), 611);
+    both_ways(&rt, text.as_str(), command);
+}
+
 #[test]
 fn reads_and_prints_the_longest(rt: HostRuntime) {
     let user = name(&rt, LONGEST_NAME);
@@ -301,6 +355,23 @@ Bound
 bound at 0
 bounds
 bound 0..0
+prices
+prices 
+prices coin=heads
+prices coin |coin=heads
+prices coin to 5
+prices coin | c=d, c=d, c=d, c=d, c=d, c=d, c=d, c=d, c=d
+prices 0.5000000000..0.5000000000 0.5000000000..0.5000000000
+position coin
+position alice coin=heads
+position alice coin at 1
+position alice  coin
+position 0..0 0..0
+position none 100..100
+status at 0
+status now
+Status
+status at 1 users 1 trades 0 of 1000 transfers 0 of 65536 open 1 of 1
 worst
 resolve coin
 resolve coin=heads | rain=yes";

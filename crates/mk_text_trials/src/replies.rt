@@ -1,7 +1,9 @@
 use crate::names::{expect_none, expect_text, name};
 use arrayvec::{ArrayString, ArrayVec};
 use mk_net::{Name, PairText};
-use mk_reply::{Intervals, Payment, Payments, Refusal, Reply, Unread, print_reply, read_reply};
+use mk_reply::{
+    Intervals, Payment, Payments, Refusal, Reply, Spans, Unread, print_reply, read_reply,
+};
 use std::alloc::Global;
 use std::process::Abort;
 use std::test::Fail;
@@ -204,6 +206,114 @@ fn reads_and_prints_refusals_of_whole_distributions(rt: HostRuntime) -> Result<(
     refused(&rt, alloc, "refused outside none", why)
 }
 
+fn spans(list: &[(u64, u64)]) -> Spans {
+    let mut spans = ArrayVec::new();
+    for span in list {
+        let _ = spans.try_push(*span);
+    }
+    spans
+}
+
+fn ends(list: &[Option<(u64, u64)>]) -> ArrayVec<Option<(u64, u64)>, 16> {
+    let mut ends = ArrayVec::new();
+    for one in list {
+        let _ = ends.try_push(*one);
+    }
+    ends
+}
+
+fn prices(rt: &impl Abort, alloc: Global, text: &str, list: &[(u64, u64)]) -> Result<(), Fail> {
+    let intervals = spans(list);
+    both_ways(rt, alloc, text, Reply::Prices { intervals })
+}
+
+fn position(
+    rt: &impl Abort,
+    alloc: Global,
+    text: &str,
+    list: &[Option<(u64, u64)>],
+) -> Result<(), Fail> {
+    let intervals = ends(list);
+    both_ways(rt, alloc, text, Reply::Position { intervals })
+}
+
+const HALF: (u64, u64) = (5_000_000_000, 5_000_000_000);
+
+#[test]
+fn reads_and_prints_what_is_told_of_each_value(rt: HostRuntime) -> Result<(), Fail> {
+    let alloc = rt.alloc();
+    let text = "prices 0.5000000000..0.5000000000 0.5000000000..0.5000000000";
+    let halves = [HALF, HALF];
+    prices(&rt, alloc, text, &halves)?;
+    let text = "prices 0.6000000000..0.6000000001 0.3999999999..0.4000000000";
+    let taken = [
+        (6_000_000_000, 6_000_000_001),
+        (3_999_999_999, 4_000_000_000),
+    ];
+    prices(&rt, alloc, text, &taken)?;
+    let text = "prices 1.0000000000..0.0000000000 0.0000000000..1.0000000000";
+    let odd = [(10_000_000_000, 0), (0, 10_000_000_000)];
+    prices(&rt, alloc, text, &odd)?;
+    let text = "position 126..126 67..67";
+    position(&rt, alloc, text, &[Some((126, 126)), Some((67, 67))])?;
+    let text = "position none 100..100 0..9223372036854775807";
+    position(&rt, alloc, text, &[None, Some((100, 100)), Some((0, MOST))])?;
+    position(&rt, alloc, "position none none", &[None, None])
+}
+
+/// Stops unless a reply has a text of this length both ways, and with more behind it none is read.
+fn no_longer(
+    rt: &impl Abort,
+    alloc: Global,
+    reply: Reply,
+    length: usize,
+    more: &str,
+) -> Result<(), Fail> {
+    let mut text = ArrayString::new();
+    print_reply(&reply, &mut text);
+    assert_eq!(rt; text.len(), length);
+    reads(rt, alloc, text.as_str(), reply)?;
+    let _ = text.try_push_str(more);
+    expect_none(rt, is_none(alloc, text.as_str())?, more);
+    Ok(())
+}
+
+#[test]
+fn no_more_than_sixteen_values_are_told_of(rt: HostRuntime) -> Result<(), Fail> {
+    let intervals = spans(&[(10_000_000_000, 10_000_000_000); 16]);
+    let one_more = " 1.0000000000..1.0000000000";
+    no_longer(&rt, rt.alloc(), Reply::Prices { intervals }, 438, one_more)?;
+    let intervals = ends(&[Some((MOST, MOST)); 16]);
+    no_longer(&rt, rt.alloc(), Reply::Position { intervals }, 664, " none")
+}
+
+#[test]
+fn reads_and_prints_how_full_a_market_is(rt: HostRuntime) -> Result<(), Fail> {
+    let status = Reply::Status {
+        at: 3,
+        users: 1,
+        trades: 2,
+        most: 1000,
+        transfers: 4,
+        most_transfers: 65_536,
+        open: 5,
+        questions: 6,
+    };
+    let text = "status at 3 users 1 trades 2 of 1000 transfers 4 of 65536 open 5 of 6";
+    both_ways(&rt, rt.alloc(), text, status)?;
+    let longest = Reply::Status {
+        at: MOST,
+        users: u32::MAX,
+        trades: u32::MAX,
+        most: u32::MAX,
+        transfers: u32::MAX,
+        most_transfers: u32::MAX,
+        open: u32::MAX,
+        questions: u32::MAX,
+    };
+    no_longer(&rt, rt.alloc(), longest, 143, " ")
+}
+
 #[test]
 fn reads_and_prints_settlements(rt: HostRuntime) -> Result<(), Fail> {
     let alice = Payment {
@@ -339,6 +449,26 @@ bound 5..6 at 1
 bound none
 bound 0..9223372036854775808
 bound
+prices 0.5000000000..0.5000000000
+prices 0.5000000000..0.5000000000 0.5000000000..1.0000000001
+prices 0.5000000000..0.5000000000 none
+prices 0.5000000000..0.5000000000  0.5000000000..0.5000000000
+prices 0.5000000000..0.5000000000 0.5000000000..0.5000000000 at 1
+prices none
+prices
+position none
+position none nonetheless
+position 5..6
+position 5..6 05..6
+position 5..6 5..9223372036854775808
+position 5..6 5..6 at 1
+position 5..6 5..6 
+position
+status
+status at 1 users 1 trades 0 of 1000 transfers 0 open 1 of 1
+status at 1 users 1 trades 0 of 1000 transfers 0 of 4294967296 open 1 of 1
+status at 9223372036854775808 users 1 trades 0 of 1000 transfers 0 of 65536 open 1 of 1
+status at 01 users 1 trades 0 of 1000 transfers 0 of 65536 open 1 of 1
 spread 1 at 1
 spread 0 1 at 1
 spread 1 9223372036854775808 at 1
