@@ -1,14 +1,11 @@
 -- A pair of a variable that is not resolved can be asked about, and where no share is nothing it can come.
-use Rattle.std.proofs.Common.{◌≡◌, ℕ, ◌+◌, ◌<◌, Bool, true, false, cond, not, ◌&&◌, ◌||◌, eqb, ltb, List, [], ◌∷◌, ◌++◌, length, Option, Some, None, is_none, refl, sym, ap, ◌∙◌, arith, eq-eqb}
+use Rattle.std.proofs.Common.{◌≡◌, ℕ, ◌+◌, Bool, true, false, cond, not, ◌&&◌, eqb, List, [], ◌∷◌, ◌++◌, Option, Some, None, is_none, refl, sym, ap, ◌∙◌, eq-eqb}
 use Rattle.std.proofs.Math.Path.{fun_ext}
 use Rattle.std.specs.Prelude.{option_map, is_some}
-use Rattle.std.specs.List.{list_any, position_or_len, AllByRecursion}
-use Rattle.std.proofs.lemmas.Bool.{and_parts, and_from, lt-ltb}
+use Rattle.std.specs.List.{AllByRecursion}
 use Rattle.mk_net.specs.declared.words.Pair.{Pair}
-use Rattle.mk_net.specs.declared.sets.VarSet.{VarSet}
 use Rattle.mk_net.specs.Events.{speaks_of}
 use Rattle.mk_net.specs.Network.{Variable}
-use Rattle.mk_net.specs.Sets.{is_member}
 use Rattle.mk_net.specs.Zeros.{with_zeros}
 use Rattle.mk_net.proofs.Events.{neither}
 use Rattle.mk_exact.specs.Events.{has, holds}

@@ -1,5 +1,5 @@
 -- A user trades.
-use Rattle.std.specs.Prelude.{◌≡◌, ℕ, ◌+◌, ◌<◌, ◌≤◌, List, [], ◌∷◌, ◌++◌, length, Bool, true, cond, not, ◌&&◌, ltb, Some, None, option_map, position, is_some, slice_index}
+use Rattle.std.specs.Prelude.{◌≡◌, ℕ, ◌+◌, ◌<◌, ◌≤◌, List, [], ◌∷◌, ◌++◌, length, Bool, true, cond, not, ◌&&◌, ltb, Some, None, option_map, position, slice_index}
 use Rattle.std.specs.List.{position_or_len, list_all}
 use Rattle.std.proofs.Common.{refl, sym, ap, ap₂, add-zero, ◌∙◌, arith, eq-eqb, ne_eqb}
 use Rattle.std.proofs.lemmas.List.{length_push}
