@@ -23,6 +23,7 @@ pub mod Replies
 pub mod Deposits
 pub mod Joins
 pub mod Answers
+pub mod Weaker
 pub mod Worsts
 pub mod Openings
 pub mod Traded

@@ -12,10 +12,11 @@ use Rattle.mk_file.specs.MarketOf.{market_of}
 use Rattle.mk_exact.specs.Accepted.{Covers, IsMost}
 use Rattle.mk_exact.specs.Events.{always}
 use Rattle.mk_exact.specs.Existing.{HasLeast}
-use Rattle.mk_exact.specs.Factors.{Fraction, IsAtLeastOne, factor_with, least_gain}
+use Rattle.mk_exact.specs.Factors.{Fraction, HoldsNoTrade, IsAtLeastOne, factor_with, least_gain}
 use Rattle.mk_exact.specs.Weight.{IsSmall}
 use Rattle.mk_exact.proofs.ExistMarkets.{least_gain_exists}
 use Rattle.mk_enclose.specs.declared.factor.Factor.{Factor}
+use Rattle.mk_enclose.specs.Enclosure.{Encloses}
 use Rattle.mk_reply.specs.declared.refusal.Refusal.TheVariants.{Short}
 use Rattle.mk_rules.specs.Answers.{IsShort, IsWithdrawal}
 use Rattle.mk_answers.specs.Open.{IsOpen, IsFactorFor, holding_of}
@@ -42,6 +43,7 @@ use Rattle.mk_market.proofs.Growing.{is_open, kept_grown}
 use Rattle.mk_market.proofs.Owned.{names_same, quotes_same, owned_one, withdrawal_holding, withdrawal_others, few_moved}
 use Rattle.mk_market.proofs.Accounted.{accounts_withdrawn}
 use Rattle.mk_market.proofs.Replies.{answer_allowed, none_appended, unsettled}
+use Rattle.mk_market.proofs.Weaker.{most_when}
 
 module _ {P A Plan : Type 0} (weights_stand : P → Meaning → Type 0) (gains_stand : A → Meaning → Type 0) (plan_for : Plan → List Variable → GivenTree → Type 0)
     (file : MarketFile) (prices : P) (rows : A) (plan : Plan) (members : List (Member A Plan)) (accounts : List Account) (journal : JournalOf) (payments : Option (List Payment))
@@ -75,22 +77,33 @@ module _ {P A Plan : Type 0} (weights_stand : P → Meaning → Type 0) (gains_s
       worth_for = found file.net file.tree journal.history user has_least.least (kept.owns user before there)
           (is_open weights_stand gains_stand plan_for file prices rows plan members accounts journal payments kept) has_least.is_least
 
-      answered : (reply : Reply) → IsWithdrawal (IsSmall file.net journal.history) worth name bits (revision journal.history + 1) reply
+      answered : (reply : Reply) → IsWithdrawal (IsSmall file.net journal.history) (HoldsNoTrade journal.history user) worth name bits (revision journal.history + 1) reply
           → IsAllowedFor (market_of file) (standing_of journal members) (OfCommand (Withdraw name bits)) reply
       unfolding worth
       answered reply withdrawal =
           let H = journal.history in
           answer_allowed (market_of file) (standing_of journal members) (Withdraw name bits) reply none
-          (subst (λ (n : ℕ). IsSomeAnd (least_gain file.net H n always) (λ g. IsWithdrawal (IsSmall file.net H) (factor_with H n g) name bits (revision H + 1) reply)) is_user.number
-          (subst (λ (o : Option ℕ). IsSomeAnd o (λ g. IsWithdrawal (IsSmall file.net H) (factor_with H user g) name bits (revision H + 1) reply)) (sym has_least.is_least) withdrawal))
+          (subst (λ (n : ℕ). IsSomeAnd (least_gain file.net H n always) (λ g. IsWithdrawal (IsSmall file.net H) (HoldsNoTrade H n) (factor_with H n g) name bits (revision H + 1) reply)) is_user.number
+          (subst (λ (o : Option ℕ). IsSomeAnd o (λ g. IsWithdrawal (IsSmall file.net H) (HoldsNoTrade H user) (factor_with H user g) name bits (revision H + 1) reply)) (sym has_least.is_least) withdrawal))
 
       -- bits beyond the most are refused
-      pub short_allowed : most < bits → ((network : List Variable) (H : List Entry) (q : Fraction) → IsFactorFor factor (IsSmall network H) q → IsAtLeastOne q → IsMost (IsSmall network H) q most)
+      pub short_allowed : ((network : List Variable) (tree : GivenTree) (H : List Entry) (u : ℕ) → Owns gains_stand before (holding_of network tree H u) → IsOpen network tree H
+          → HoldsNoTrade H u → Encloses factor.gain 1) → most < bits
+          → ((network : List Variable) (H : List Entry) (q : Fraction) → IsFactorFor factor (IsSmall network H) q → IsAtLeastOne q
+          → IsMost (IsSmall network H) (Encloses factor.gain 1) q most)
           → IsAllowedFor (market_of file) (standing_of journal members) (OfCommand (Withdraw name bits)) (Refused (Short most))
       unfolding worth
-      short_allowed less is_most =
-          let short : IsShort (IsSmall file.net journal.history) worth bits (Refused (Short most))
-          = record { most = most; less = less; is_most = is_most file.net journal.history worth worth_for has_least.safe.at_least_one; printed = refl } in
+      short_allowed one_gain less is_most =
+          let small = IsSmall file.net journal.history in let idle = HoldsNoTrade journal.history user in
+          let opened = is_open weights_stand gains_stand plan_for file prices rows plan members accounts journal payments kept in
+          let short : IsShort small idle worth bits (Refused (Short most))
+          = record {
+            most = most;
+            less = less;
+            is_most = most_when small small idle (Encloses factor.gain 1) (λ s. s) (one_gain file.net file.tree journal.history user (kept.owns user before there) opened) worth most
+                (is_most file.net journal.history worth worth_for has_least.safe.at_least_one);
+            printed = refl;
+          } in
           answered (Refused (Short most)) (inr short)
 
       -- and others are covered

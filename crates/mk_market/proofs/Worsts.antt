@@ -5,7 +5,7 @@ use Rattle.mk_net.specs.Network.{Variable}
 use Rattle.mk_exact.specs.Events.{always}
 use Rattle.mk_exact.specs.History.{Entry}
 use Rattle.mk_exact.specs.Weight.{IsSmall}
-use Rattle.mk_exact.specs.Factors.{Fraction, IsAtLeastOne, factor_with, least_gain}
+use Rattle.mk_exact.specs.Factors.{Fraction, HoldsNoTrade, IsAtLeastOne, factor_with, least_gain}
 use Rattle.mk_exact.specs.Cash.{CoversCash}
 use Rattle.mk_exact.specs.Existing.{HasLeast}
 use Rattle.mk_exact.proofs.ExistMarkets.{least_gain_exists}
@@ -14,7 +14,7 @@ use Rattle.mk_file.specs.declared.market_file.MarketFile.{MarketFile}
 use Rattle.mk_file.specs.MarketOf.{market_of}
 use Rattle.mk_engine.specs.Meaning.{Meaning}
 use Rattle.mk_enclose.specs.declared.factor.Factor.{Factor}
-use Rattle.mk_enclose.specs.Enclosure.{IsGradedWithin}
+use Rattle.mk_enclose.specs.Enclosure.{Encloses, IsExact, IsGradedWithin}
 use Rattle.mk_enclose.specs.Factor.{StandsFor}
 use Rattle.mk_assets.specs.declared.assets.Assets.{Assets}
 use Rattle.mk_assets.specs.Holdings.{Holding, Owns}
@@ -36,6 +36,7 @@ use Rattle.mk_market.specs.inner.Keeping.{quoted, standing_of, IsKept}
 use Rattle.mk_market.proofs.Growing.{is_open, kept_still}
 use Rattle.mk_market.proofs.Owned.{names_same, quotes_same, all_still}
 use Rattle.mk_market.proofs.Replies.{answer_allowed, none_appended}
+use Rattle.mk_market.proofs.Weaker.{cash_when}
 
 module _ {P A Plan : Type 0} (weights_stand : P → Meaning → Type 0) (gains_stand : A → Meaning → Type 0) (plan_for : Plan → List Variable → GivenTree → Type 0)
     (file : MarketFile) (prices : P) (rows : A) (plan : Plan) (members : List (Member A Plan)) (accounts : List Account) (journal : JournalOf) (payments : Option (List Payment))
@@ -61,16 +62,26 @@ module _ {P A Plan : Type 0} (weights_stand : P → Meaning → Type 0) (gains_s
     pub worst_allowed : (factor : Factor) (low high : ℕ) → None ≡ first_refusal (market_of file) journal.history (Worst name)
         → ((network : List Variable) (tree : GivenTree) (H : List Entry) (u g : ℕ) → Owns gains_stand before (holding_of network tree H u) → IsOpen network tree H
         → least_gain network H u always ≡ Some g → IsFactorFor factor (IsSmall network H) (factor_with H u g))
-        → ((q : Fraction) → StandsFor factor q.num q.den → IsGradedWithin factor.gain (2 ^ 17) → IsAtLeastOne q → CoversCash q file.points_per_bit low high)
+        → ((network : List Variable) (tree : GivenTree) (H : List Entry) (u : ℕ) → Owns gains_stand before (holding_of network tree H u) → IsOpen network tree H
+        → HoldsNoTrade H u → Encloses factor.gain 1)
+        → ((q : Fraction) → StandsFor factor q.num q.den → IsGradedWithin factor.gain (2 ^ 17) → IsAtLeastOne q
+        → CoversCash (IsExact factor.gain) (Encloses factor.gain 1) q file.points_per_bit low high)
         → IsAllowedFor (market_of file) (standing_of journal members) (OfCommand (Worst name)) (Worsted low high)
-    worst_allowed factor low high none found covers =
+    worst_allowed factor low high none found one_gain covers =
         let least = has_least in let H = journal.history in
         let is = found file.net file.tree H user least.least (kept.owns user before there) opened least.is_least in
-        let worst : IsWorst (factor_with H user least.least) file.points_per_bit (Worsted low high)
-        = record { low = low; high = high; printed = refl; covers = covers (factor_with H user least.least) is.stands is.graded least.safe.at_least_one } in
+        let q = factor_with H user least.least in
+        let worst : IsWorst (IsSmall file.net H) (HoldsNoTrade H user) q file.points_per_bit (Worsted low high)
+        = record {
+          low = low;
+          high = high;
+          printed = refl;
+          covers = cash_when (IsSmall file.net H) (IsExact factor.gain) (HoldsNoTrade H user) (Encloses factor.gain 1) is.exact
+              (one_gain file.net file.tree H user (kept.owns user before there) opened) q file.points_per_bit low high (covers q is.stands is.graded least.safe.at_least_one);
+        } in
         answer_allowed (market_of file) (standing_of journal members) (Worst name) (Worsted low high) none
-        (subst (λ (n : ℕ). IsSomeAnd (least_gain file.net H n always) (λ g. IsWorst (factor_with H n g) file.points_per_bit (Worsted low high))) is_user.number
-        (subst (λ (o : Option ℕ). IsSomeAnd o (λ g. IsWorst (factor_with H user g) file.points_per_bit (Worsted low high))) (sym least.is_least) worst))
+        (subst (λ (n : ℕ). IsSomeAnd (least_gain file.net H n always) (λ g. IsWorst (IsSmall file.net H) (HoldsNoTrade H n) (factor_with H n g) file.points_per_bit (Worsted low high))) is_user.number
+        (subst (λ (o : Option ℕ). IsSomeAnd o (λ g. IsWorst (IsSmall file.net H) (HoldsNoTrade H user) (factor_with H user g) file.points_per_bit (Worsted low high))) (sym least.is_least) worst))
 
     pub worst_next : (low high : ℕ) → standing_of journal (with_assets members user now) ≡ after (market_of file) (standing_of journal members) (OfCommand (Worst name)) (Worsted low high)
     worst_next low high =

@@ -2,8 +2,8 @@
 use Rattle.std.specs.Prelude.{◌≡◌, ℕ, ◌*◌, ◌<◌, List, [], ◌∷◌, length, true, false}
 use Rattle.mk_exact.specs.Events.{always}
 use Rattle.mk_exact.specs.History.{Entry, users, deposited, withdrawn, is_settled}
-use Rattle.mk_exact.specs.Weight.{possible_states}
-use Rattle.mk_exact.specs.Factors.{factor}
+use Rattle.mk_exact.specs.Weight.{IsSmall, possible_states}
+use Rattle.mk_exact.specs.Factors.{HoldsNoTrade, factor}
 use Rattle.mk_exact.specs.Cash.{CoversCash}
 use Rattle.mk_exact.specs.Market.{Market, network_of}
 use Rattle.mk_cash.specs.declared.ledger.Account.{Account}
@@ -14,7 +14,7 @@ pub record IsPaidOff (market : Market) (H : List Entry) (u points : ℕ) : Type 
   pub state : List ℕ
   pub one_state : possible_states (network_of market H) H always ≡ state ∷ []
   pub high : ℕ
-  pub covers : CoversCash (factor H u state) market.points_per_bit points high
+  pub covers : CoversCash (IsSmall (network_of market H) H) (HoldsNoTrade H u) (factor H u state) market.points_per_bit points high
 
 -- a user's account: the points of the bits that went in and out, and nothing paid before the settlement, which pays the user off
 pub record IsAccount (market : Market) (H : List Entry) (u : ℕ) (account : Account) : Type 0 where

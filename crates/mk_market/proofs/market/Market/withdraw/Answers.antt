@@ -28,7 +28,7 @@ returns-then-bits-most g c =
       allowed = short_allowed g.P.Engine.stands_for g.A.Engine.stands_for g.A.Engine.plan_for _ _ _ _ _ _ _ _ c.self.invariant c.args.name.now c.in_ok-user.user c.args.bits c.in_ok-user.ensures.user c.in_ok-user.ensures.room
           c.assets-assets.result.now c.least_of.new.assets c.assets-assets.ensures.value c.least_of.ensures.kept
           c.least_of.result c.most_bits-most.result (c.in_ok-user.ensures.withdrawal (market_of c.self.inside.file)) c.least_of.ensures.least
-          c.if-bits-most.true c.most_bits-most.ensures.most;
+          c.least_of.ensures.idle c.if-bits-most.true c.most_bits-most.ensures.most;
       next = short_next g.P.Engine.stands_for g.A.Engine.stands_for g.A.Engine.plan_for _ _ _ _ _ _ _ _ c.self.invariant c.args.name.now c.in_ok-user.user c.args.bits c.in_ok-user.ensures.user c.in_ok-user.ensures.room
           c.assets-assets.result.now c.least_of.new.assets c.assets-assets.ensures.value c.least_of.ensures.kept c.least_of.new.assets c.most_bits-most.result;
     })

@@ -1,0 +1,25 @@
+-- What holds of a gain of which nothing was rounded, and of a gain of one, holds in the small case and of a user without trades.
+use Rattle.std.specs.Prelude.{ℕ}
+use Rattle.std.proofs.Common.{inl, inr, ⊎_elim}
+use Rattle.mk_exact.specs.Accepted.{IsMost}
+use Rattle.mk_exact.specs.Cash.{CoversCash}
+use Rattle.mk_exact.specs.Factors.{Fraction}
+
+module _ (small exact idle one : Type 0) (small_is : small → exact) (idle_is : idle → one) (q : Fraction) where
+  pub cash_when : (points low high : ℕ) → CoversCash exact one q points low high → CoversCash small idle q points low high
+  cash_when points low high covers = record {
+    cash = covers.cash;
+    is_cash = covers.is_cash;
+    above = covers.above;
+    below = covers.below;
+    near = covers.near;
+    nearer = λ s. covers.nearer (small_is s);
+    exact = λ i. covers.exact (idle_is i);
+  }
+
+  pub most_when : (bits : ℕ) → IsMost exact one q bits → IsMost small idle q bits
+  most_when bits most = record {
+    within = most.within;
+    nearly = most.nearly;
+    exactly = λ either. most.exactly (⊎_elim (λ s. inl (small_is s)) (λ i. inr (idle_is i)) either);
+  }
