@@ -5,6 +5,7 @@ pub mod KnownVariables
 pub mod Gathering
 pub mod Refusing
 pub mod Together
+pub mod EveryValue
 pub mod SpreadRefusals
 pub mod NamesKept
 pub mod Growing

@@ -25,11 +25,11 @@ use Rattle.mk_tree.specs.Held.{IsHeldAt}
 use Rattle.mk_tree.proofs.Held.{home_is_held}
 use Rattle.mk_file.specs.declared.market_file.MarketFile.{MarketFile}
 use Rattle.mk_file.specs.MarketOf.{market_of}
-use Rattle.mk_command.specs.declared.command.Command.TheVariants.{Bounds, Spread}
+use Rattle.mk_command.specs.declared.command.Command.TheVariants.{Bounds, Spread, Prices}
 use Rattle.mk_reply.specs.declared.refusal.Refusal.{Refusal}
 use Rattle.mk_reply.specs.declared.refusal.Refusal.TheVariants.{NoVariable, Twice, Wide, Range, Numbers}
 use Rattle.mk_rules.specs.Refusals.{names_in, known_pairs, spread_named, settled, no_user, no_variable, unknown, twice, stale, resolved, impossible, wide, wide_spread, numbers, ranges, sums, full, passes, least_share, refusals_by_record}
-use Rattle.mk_rules.proofs.Unrefused.{not_faulted}
+use Rattle.mk_rules.proofs.Unrefused.{not_faulted, condition_agrees}
 use Rattle.mk_rules.proofs.Spreads.{spread_parts, spread_is, numbers_in_range}
 use Rattle.mk_market.specs.Refused.{IsSpreadQuestionFor}
 use Rattle.mk_market.specs.inner.Gathered.{IsGathered}
@@ -114,9 +114,9 @@ spread_is_homeless file H v ps spread named =
 
 -- a distribution that none of its refusals meets can be answered
 pub can_answer_spread : (file : MarketFile) (H : List Entry) (v : List ℕ) (ps : List PairText) (spread : SpreadAsked) → spread_named file.net v ps ≡ Some spread → AreApart spread.condition
-    → speaks_of spread.condition spread.variable ≡ false → resolved file.net H v ≡ None
+    → speaks_of spread.condition spread.variable ≡ false → resolved file.net H v ≡ None → impossible file.net H ps ≡ None
     → fault_if (is_none (home file.tree (pairs_asked (asked_of spread 0)))) Wide ≡ None → IsSpreadQuestionFor (market_of file) file.tree H v ps spread
-can_answer_spread file H v ps spread named apart variable_apart free held =
+can_answer_spread file H v ps spread named apart variable_apart free agreed held =
     let parts = spread_parts file.net v ps spread named in
     record {
       named = named;
@@ -127,6 +127,7 @@ can_answer_spread file H v ps spread named apart variable_apart free held =
           variable_apart = variable_apart;
           unresolved = rw parts.1 at (not_faulted _ _ free);
         };
+        agrees = rw parts.2 (condition_agrees file.net H ps agreed);
         home = λ value. ap is_some (each_home file.tree spread.condition _ _ refl) ∙ has_home (home file.tree (pairs_asked (asked_of spread 0))) held;
       };
     }
@@ -210,6 +211,36 @@ module _ (file : MarketFile) (H : List Entry) (v : List ℕ) (ps : List PairText
   spread_impossible why e h =
       passed (resolved file.net H v) (impossible file.net H ps ∷ wide_spread (market_of file) H v ps ∷ []) (Some why) e
       (applies (impossible file.net H ps) (wide_spread (market_of file) H v ps ∷ []) why h)
+
+  -- ---- the refusals of prices
+
+  module _ (pairs : ArrayVec PairText) (given : pairs.items ≡ ps) where
+    abbrev IsFirstOfPrices : Option Refusal → Type 0
+    IsFirstOfPrices found = found ≡ first_of (refusals_by_record (market_of file) H (Prices v pairs))
+
+    prices_are : first_of (settled H ∷ (asking ++ answering))
+        ≡ first_of (refusals_by_record (market_of file) H (Prices v pairs))
+    prices_are =
+        ap (λ (qs : List PairText). first_of (settled H ∷ no_variable file.net v
+        ∷ unknown file.net qs ∷ twice (v ∷ names_in qs) ∷ resolved file.net H v
+        ∷ impossible file.net H qs ∷ wide_spread (market_of file) H v qs ∷ [])) (sym given)
+
+    pub prices_settled : (why : Refusal) → Some why ≡ settled H → IsFirstOfPrices (Some why)
+    prices_settled why h = applies _ (asking ++ answering) why h ∙ prices_are
+
+    pub prices_unasked : (why : Refusal) → None ≡ settled H
+        → Some why ≡ or_else (no_variable file.net v) (or_else (unknown file.net ps)
+        (twice (v ∷ names_in ps))) → IsFirstOfPrices (Some why)
+    prices_unasked why e h =
+        passed _ (asking ++ answering) _ e (front_applies asking answering why (h ∙ asking_is))
+        ∙ prices_are
+
+    pub prices_answered : (found : Option Refusal) → None ≡ settled H
+        → None ≡ or_else (no_variable file.net v) (or_else (unknown file.net ps)
+        (twice (v ∷ names_in ps))) → found ≡ first_of answering → IsFirstOfPrices found
+    prices_answered found e g h =
+        passed _ (asking ++ answering) _ e (front_passed asking answering _ (g ∙ asking_is) h)
+        ∙ prices_are
 
   module _ (u : List ℕ) (pairs : ArrayVec PairText) (given : pairs.items ≡ ps) where
     bounds_are : first_of (settled H ∷ no_user H u ∷ (asking ++ answering)) ≡ first_of (refusals_by_record (market_of file) H (Bounds u v pairs))

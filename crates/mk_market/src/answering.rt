@@ -69,6 +69,16 @@ impl<P: Engine<SumProd>, A: Engine<MinProd>> Market<P, A> {
             CommandRef::Resolve { pair } => self.resolve(pair),
             CommandRef::Settle => self.settle(),
             CommandRef::Bound => self.bound(),
+            CommandRef::Prices {
+                variable,
+                condition,
+            } => self.prices(variable, condition),
+            CommandRef::Position {
+                user,
+                variable,
+                condition,
+            } => self.position(user, variable, condition),
+            CommandRef::Status => self.status(),
         }
     }
 }

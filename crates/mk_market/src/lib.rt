@@ -20,6 +20,7 @@ mod resolving;
 mod settling;
 mod spread_quoting;
 mod spreading;
+mod telling;
 mod trading;
 mod transfers;
 mod users;

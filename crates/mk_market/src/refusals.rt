@@ -31,7 +31,7 @@ use mk_tree::Tree;
 /// The most users of a market, its most deposits and withdrawals, and the most bits of one.
 const MAX_USERS: u32 = 256;
 
-const MAX_TRANSFERS: u32 = 65_536;
+pub(crate) const MAX_TRANSFERS: u32 = 65_536;
 
 const MAX_TRANSFER_BITS: u32 = 1_000;
 

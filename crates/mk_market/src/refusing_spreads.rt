@@ -36,7 +36,7 @@ use mk_semiring::MinProd;
 /// The sum of the shares of a whole distribution.
 const MILLION: u32 = 1_000_000;
 
-/// What `bounds` is refused for by the record: a settlement, an unknown user, a variable that is unknown, a pair of the condition that
+/// What `bounds` and `position` are refused for by the record: a settlement, an unknown user, a variable that is unknown, a pair of the condition that
 /// is, a variable that occurs twice, one that is asked about and resolved, a condition that a resolution contradicts, and
 /// a question that no clique holds.
 pub(crate) fn refuse_bounds<A: Engine<MinProd>>(
@@ -64,6 +64,25 @@ pub(crate) fn refuse_bounds<A: Engine<MinProd>>(
         question: asked,
         home,
     })
+}
+
+/// What `prices` is refused for by the record: as `bounds`, but for the user. Else the question has a home.
+pub(crate) fn refuse_prices(
+    file: &MarketFile,
+    journal: &Journal,
+    variable: &Name,
+    condition: &[PairText],
+) -> Result<(SpreadQuestion, u32), Refusal>
+    requires few { length condition.now ≤ max_condition }
+    ensures refusal { (pairs : ArrayVec PairText) → pairs.items ≡ condition.now
+        → refusal_in result ≡ first_of (rules.refusals_by_record (market_of file.now) journal.now.history (command.Prices variable.now pairs)) }
+    ensures question { IfOk result (λ found. IsSpreadQuestionFor (market_of file.now) file.now.tree journal.now.history variable.now condition.now (spread_in found.0)) }
+    ensures home { IfOk result (λ found. home file.now.tree (pairs_asked (asked_of (spread_in found.0) 0)) ≡ Some found.1) }
+{
+    not_settled(journal)?;
+    let asked = ask_spread(&file.net, variable, condition)?;
+    let home = can_be_spread(file, journal, variable, condition, &asked)?;
+    Ok((asked, home))
 }
 
 /// What `spread` is refused for by the record: as `bounds`, behind a variable that occurs twice for a

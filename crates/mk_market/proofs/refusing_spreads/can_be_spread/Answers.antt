@@ -48,6 +48,7 @@ returns-clause-question c =
     where_ok c.home_in.result (λ held. can_answer_spread c.args.file.now H c.args.variable.now ps (spread_in asked) c.requires.named
     (front_apart asked.condition _ c.event_of.ensures.event.apart) asked.apart
     (sym (c.in_ok-not_resolved.ensures net parts.0 parts.1))
+    (sym (c.in_ok-agrees.ensures net c.requires.known parts.2))
     (sym (c.home_in.ensures.refusal ∙ ap (λ (event : List Pair). fault_if (is_none (home c.args.file.now.tree event)) Wide) c.event_of.ensures.pairs) ∙ held))
 
 pub returns-clause-home : goal.returns-clause-home
