@@ -7,6 +7,8 @@ mod both;
 #[cfg(test)]
 mod chain;
 #[cfg(test)]
+mod edits;
+#[cfg(test)]
 mod engines;
 #[cfg(test)]
 mod fixtures;
