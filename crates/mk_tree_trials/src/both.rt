@@ -9,10 +9,9 @@ ghost use Rattle.mk_tree.specs.Checked.{IsTreeOf};
 ghost use Rattle.mk_joint.specs.inner.Joints.{joint_states};
 ghost use Rattle.mk_tree_trials.specs.Used.{IsInUse};
 
-use crate::engines::{
-    A, About, B, C, Change, ask_in, event, home_of, is_held_in, ratio, start, tell,
-};
+use crate::engines::{A, About, B, C, Change, ask_in, event, home_of, ratio, start, tell};
 use crate::fixtures::{CHAIN, all_variables, read};
+use crate::flows::holds_event;
 use mk_engine::Engine;
 use mk_file::MarketFile;
 use mk_joint::JointEngine;
@@ -132,7 +131,7 @@ fn check_each<R: Semiring<Value = Held>, E: Engine<R>>(
 {
     let tree = &file.tree;
     for at in home_of(rt, tree, event)..tree.cliques() + 1 {
-        if is_held_in(event, &tree.clique(at)) {
+        if holds_event(tree, at, event) {
             check(rt, &ask_in::<R, E>(engine, file, at, event, before), walked);
         }
     }

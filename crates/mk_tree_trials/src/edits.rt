@@ -7,8 +7,9 @@ ghost use Rattle.mk_tree.specs.Held.{IsHeldAt};
 ghost use Rattle.mk_exact.specs.Proper.{IsPairOf};
 ghost use Rattle.mk_tree_trials.specs.Used.{IsInUse};
 
-use crate::engines::{About, Change, ask_in, event, home_of, is_held_in, start, tell};
+use crate::engines::{About, Change, ask_in, event, home_of, start, tell};
 use crate::fixtures::read;
+use crate::flows::holds_event;
 use mk_engine::Engine;
 use mk_file::MarketFile;
 use mk_net::{Event, Pair};
@@ -56,9 +57,9 @@ const LAST: u32 = 19;
 /// are asked in the first clique.
 struct Behind(u32, u32, u64, u64, u64);
 
-/// As many separators lie between two cliques as their numbers are apart. A condition is on the first day of its clique, whose home is
-/// the clique before: the way there from a later edit, or one in the same clique, is one message longer. The way from an edit to the first clique
-/// leaves the way to the price in the earlier of the two.
+/// As many separators lie between two cliques as their numbers are apart. A condition is on the first day of its clique; beyond the
+/// first clique its home is the clique before, and the way there from an edit that is not earlier is one message longer. The way from
+/// an edit to the first clique leaves the way to the price in the earlier of the two.
 const PRICES: &[Behind] = &[
     Behind(1, 19, 18, 0, 0),
     Behind(2, 19, 17, 0, 1),
@@ -95,7 +96,7 @@ fn expect_held(rt: &impl Abort, tree: &Tree, at: u32, event: &Event)
     ensures { IsHeldAt tree.now at event.now }
 {
     assert!(rt; 1 <= at && at <= tree.cliques());
-    assert!(rt; is_held_in(event, &tree.clique(at)));
+    assert!(rt; holds_event(tree, at, event));
 }
 
 /// Stops unless a belief makes as many messages as it is to make, all of which were stale.

@@ -4,7 +4,7 @@ ghost use Rattle.std.specs.Prelude.{◌≡◌, ◌+◌, ◌<◌, Some, IfOk};
 ghost use Rattle.std.specs.List.{AllByRecursion};
 ghost use Rattle.mk_net.specs.Trades.{trade_ratio};
 ghost use Rattle.mk_exact.specs.Proper.{IsPairOf, IsQuestionOf, IsRatioOf};
-ghost use Rattle.mk_tree.specs.Given.{home, holds_event};
+ghost use Rattle.mk_tree.specs.Given.{home};
 ghost use Rattle.mk_tree.specs.Checked.{IsTreeOf};
 ghost use Rattle.mk_tree.specs.Held.{IsHeldAt};
 ghost use Rattle.mk_tree_trials.specs.Used.{IsInUse};
@@ -12,7 +12,7 @@ ghost use Rattle.mk_tree_trials.specs.Used.{IsInUse};
 use crate::fixtures::{check_exact, only};
 use mk_engine::Engine;
 use mk_file::MarketFile;
-use mk_net::{Event, Network, NoMemory, Pair, Question, Ratio, VarSet};
+use mk_net::{Event, Network, NoMemory, Pair, Question, Ratio};
 use mk_semiring::{Held, Semiring, SumProd};
 use mk_tree::Tree;
 use mk_tree_engine::TreeEngine;
@@ -107,13 +107,6 @@ pub(crate) fn home_of(rt: &impl Abort, tree: &Tree, event: &Event) -> u32
     ensures held { IsHeldAt tree.now result event.now }
 {
     tree.home(event).expect(rt, "a home")
-}
-
-/// Whether a clique holds each variable of an event.
-pub(crate) fn is_held_in(event: &Event, clique: &VarSet) -> bool
-    ensures { result ≡ holds_event event.now clique.now }
-{
-    event.pairs().iter().all(|pair| clique.has(pair.variable))
 }
 
 /// Tells an engine, after so many changes.
