@@ -116,7 +116,8 @@ fn check(rt: &impl Abort, held: &Held, walked: Option<u128>) {
     }
 }
 
-/// Stops unless an engine's belief in an event is as walked, after so many changes, in each clique that holds the event.
+/// Stops unless an engine's belief in an event is as walked, after so many changes, in each clique
+/// that holds the event.
 fn check_each<R: Semiring<Value = Held>, E: Engine<R>>(
     rt: &impl Abort,
     engine: &mut E,

@@ -1,4 +1,5 @@
-//! How many messages a price makes behind an edit, along a chain of twenty variables, by numbers worked out by hand.
+//! How many messages a price makes behind an edit, along a chain of twenty variables, by numbers
+//! worked out by hand.
 
 ghost use Rattle.std.specs.Prelude.{◌+◌, ◌<◌, ◌≤◌};
 ghost use Rattle.std.specs.List.{AllByRecursion};
@@ -23,43 +24,47 @@ use std::test::Fail;
 /// Twenty days, each the parent of the next, in nineteen cliques of two days each.
 const DAYS: &str = "points_per_bit = 1
 max_trades = 1
-cliques = [['a', 'b'], ['b', 'c'], ['c', 'd'], ['d', 'e'], ['e', 'f'], ['f', 'g'], ['g', 'h'], ['h', 'i'], ['i', 'j'], ['j', 'k'],
-    ['k', 'l'], ['l', 'm'], ['m', 'n'], ['n', 'o'], ['o', 'p'], ['p', 'q'], ['q', 'r'], ['r', 's'], ['s', 't']]
+cliques = [
+    ['a', 'b'], ['b', 'c'], ['c', 'd'], ['d', 'e'], ['e', 'f'], ['f', 'g'], ['g', 'h'],
+    ['h', 'i'], ['i', 'j'], ['j', 'k'], ['k', 'l'], ['l', 'm'], ['m', 'n'], ['n', 'o'],
+    ['o', 'p'], ['p', 'q'], ['q', 'r'], ['r', 's'], ['s', 't'],
+]
 links = [1, 2, 3, 4, 5, 6, 7, 8, 9, 10, 11, 12, 13, 14, 15, 16, 17, 18]
 variable = [
-    { name = 'a', values = ['wet', 'dry'], parents = [], rows = [[400000, 600000]] },
-    { name = 'b', values = ['wet', 'dry'], parents = ['a'], rows = [[700000, 300000], [200000, 800000]] },
-    { name = 'c', values = ['wet', 'dry'], parents = ['b'], rows = [[700000, 300000], [200000, 800000]] },
-    { name = 'd', values = ['wet', 'dry'], parents = ['c'], rows = [[700000, 300000], [200000, 800000]] },
-    { name = 'e', values = ['wet', 'dry'], parents = ['d'], rows = [[700000, 300000], [200000, 800000]] },
-    { name = 'f', values = ['wet', 'dry'], parents = ['e'], rows = [[700000, 300000], [200000, 800000]] },
-    { name = 'g', values = ['wet', 'dry'], parents = ['f'], rows = [[700000, 300000], [200000, 800000]] },
-    { name = 'h', values = ['wet', 'dry'], parents = ['g'], rows = [[700000, 300000], [200000, 800000]] },
-    { name = 'i', values = ['wet', 'dry'], parents = ['h'], rows = [[700000, 300000], [200000, 800000]] },
-    { name = 'j', values = ['wet', 'dry'], parents = ['i'], rows = [[700000, 300000], [200000, 800000]] },
-    { name = 'k', values = ['wet', 'dry'], parents = ['j'], rows = [[700000, 300000], [200000, 800000]] },
-    { name = 'l', values = ['wet', 'dry'], parents = ['k'], rows = [[700000, 300000], [200000, 800000]] },
-    { name = 'm', values = ['wet', 'dry'], parents = ['l'], rows = [[700000, 300000], [200000, 800000]] },
-    { name = 'n', values = ['wet', 'dry'], parents = ['m'], rows = [[700000, 300000], [200000, 800000]] },
-    { name = 'o', values = ['wet', 'dry'], parents = ['n'], rows = [[700000, 300000], [200000, 800000]] },
-    { name = 'p', values = ['wet', 'dry'], parents = ['o'], rows = [[700000, 300000], [200000, 800000]] },
-    { name = 'q', values = ['wet', 'dry'], parents = ['p'], rows = [[700000, 300000], [200000, 800000]] },
-    { name = 'r', values = ['wet', 'dry'], parents = ['q'], rows = [[700000, 300000], [200000, 800000]] },
-    { name = 's', values = ['wet', 'dry'], parents = ['r'], rows = [[700000, 300000], [200000, 800000]] },
-    { name = 't', values = ['wet', 'dry'], parents = ['s'], rows = [[700000, 300000], [200000, 800000]] },
+{name = 'a', values = ['wet', 'dry'], parents = [], rows = [[400000, 600000]]},
+{name = 'b', values = ['wet', 'dry'], parents = ['a'], rows = [[700000, 300000], [200000, 800000]]},
+{name = 'c', values = ['wet', 'dry'], parents = ['b'], rows = [[700000, 300000], [200000, 800000]]},
+{name = 'd', values = ['wet', 'dry'], parents = ['c'], rows = [[700000, 300000], [200000, 800000]]},
+{name = 'e', values = ['wet', 'dry'], parents = ['d'], rows = [[700000, 300000], [200000, 800000]]},
+{name = 'f', values = ['wet', 'dry'], parents = ['e'], rows = [[700000, 300000], [200000, 800000]]},
+{name = 'g', values = ['wet', 'dry'], parents = ['f'], rows = [[700000, 300000], [200000, 800000]]},
+{name = 'h', values = ['wet', 'dry'], parents = ['g'], rows = [[700000, 300000], [200000, 800000]]},
+{name = 'i', values = ['wet', 'dry'], parents = ['h'], rows = [[700000, 300000], [200000, 800000]]},
+{name = 'j', values = ['wet', 'dry'], parents = ['i'], rows = [[700000, 300000], [200000, 800000]]},
+{name = 'k', values = ['wet', 'dry'], parents = ['j'], rows = [[700000, 300000], [200000, 800000]]},
+{name = 'l', values = ['wet', 'dry'], parents = ['k'], rows = [[700000, 300000], [200000, 800000]]},
+{name = 'm', values = ['wet', 'dry'], parents = ['l'], rows = [[700000, 300000], [200000, 800000]]},
+{name = 'n', values = ['wet', 'dry'], parents = ['m'], rows = [[700000, 300000], [200000, 800000]]},
+{name = 'o', values = ['wet', 'dry'], parents = ['n'], rows = [[700000, 300000], [200000, 800000]]},
+{name = 'p', values = ['wet', 'dry'], parents = ['o'], rows = [[700000, 300000], [200000, 800000]]},
+{name = 'q', values = ['wet', 'dry'], parents = ['p'], rows = [[700000, 300000], [200000, 800000]]},
+{name = 'r', values = ['wet', 'dry'], parents = ['q'], rows = [[700000, 300000], [200000, 800000]]},
+{name = 's', values = ['wet', 'dry'], parents = ['r'], rows = [[700000, 300000], [200000, 800000]]},
+{name = 't', values = ['wet', 'dry'], parents = ['s'], rows = [[700000, 300000], [200000, 800000]]},
 ]
 ";
 
 const LAST: u32 = 19;
 
-/// An edit in a clique, a price in another, and three numbers of messages. The first is what the price's part makes in its own clique.
-/// What it is a part of makes none there. It makes the second where a condition is asked in its home, and the third where all states
-/// are asked in the first clique.
+/// An edit in a clique, a price in another, and three numbers of messages. The first is what the
+/// price's part makes in its own clique. What it is a part of makes none there. It makes the second
+/// where a condition is asked in its home, and the third where all states are asked in the first.
 struct Behind(u32, u32, u64, u64, u64);
 
-/// As many separators lie between two cliques as their numbers are apart. A condition is on the first day of its clique; beyond the
-/// first clique its home is the clique before, and the way there from an edit that is not earlier is one message longer. The way from
-/// an edit to the first clique leaves the way to the price in the earlier of the two.
+/// As many separators lie between two cliques as their numbers are apart. A condition is on the
+/// first day of its clique; beyond the first clique its home is the clique before, and the way
+/// there from an edit that is not earlier is one message longer. The way from an edit to the first
+/// clique leaves the way to the price in the earlier of the two.
 const PRICES: &[Behind] = &[
     Behind(1, 19, 18, 0, 0),
     Behind(2, 19, 17, 0, 1),
@@ -107,9 +112,11 @@ fn expect_made(
     asked: &Asked,
     before: u32,
 )
-    requires used { IsInUse ⟦<TreeEngine<SumProd> as Engine<SumProd>>⟧.stands_for engine.old file.now before }
+    requires used { IsInUse ⟦<TreeEngine<SumProd> as Engine<SumProd>>⟧.stands_for
+        engine.old file.now before }
     requires own { AllByRecursion (IsPairOf file.now.net) asked.now.event }
-    ensures { IsInUse ⟦<TreeEngine<SumProd> as Engine<SumProd>>⟧.stands_for engine.new file.now before }
+    ensures { IsInUse ⟦<TreeEngine<SumProd> as Engine<SumProd>>⟧.stands_for
+        engine.new file.now before }
 {
     let Asked { event, at, makes } = asked;
     expect_held(rt, &file.tree, *at, event);
@@ -120,37 +127,42 @@ fn expect_made(
 }
 
 /// Makes all messages: those towards each end of the chain.
-fn make_all(rt: &impl Abort, engine: &mut TreeEngine<SumProd>, file: &MarketFile, before: u32)
-    requires { IsInUse ⟦<TreeEngine<SumProd> as Engine<SumProd>>⟧.stands_for engine.old file.now before }
-    ensures { IsInUse ⟦<TreeEngine<SumProd> as Engine<SumProd>>⟧.stands_for engine.new file.now before }
+fn make_all<R: Semiring, E: Engine<R>>(
+    rt: &impl Abort,
+    engine: &mut E,
+    file: &MarketFile,
+    before: u32,
+)
+    requires { IsInUse E.stands_for engine.old file.now before }
+    ensures { IsInUse E.stands_for engine.new file.now before }
 {
     let all = Event::empty();
     expect_held(rt, &file.tree, 1, &all);
     expect_held(rt, &file.tree, LAST, &all);
-    let _ = ask_in(engine, file, 1, &all, before);
-    let _ = ask_in(engine, file, LAST, &all, before);
+    let _ = ask_in::<R, E>(engine, file, 1, &all, before);
+    let _ = ask_in::<R, E>(engine, file, LAST, &all, before);
 }
 
 /// Edits the second day of a clique under its first, once all messages were made.
-fn edit(
+fn edit<R: Semiring, E: Engine<R>>(
     rt: &impl Abort,
-    engine: &mut TreeEngine<SumProd>,
+    engine: &mut E,
     file: &MarketFile,
     clique: u32,
     before: u32,
 )
-    requires used { IsInUse ⟦<TreeEngine<SumProd> as Engine<SumProd>>⟧.stands_for engine.old file.now before }
+    requires used { IsInUse E.stands_for engine.old file.now before }
     requires few { before < 100 }
-    ensures { IsInUse ⟦<TreeEngine<SumProd> as Engine<SumProd>>⟧.stands_for engine.new file.now (before + 1) }
+    ensures { IsInUse E.stands_for engine.new file.now (before + 1) }
 {
     assert!(rt; 1 <= clique);
-    make_all(rt, engine, file, before);
+    make_all::<R, E>(rt, engine, file, before);
     let about = About(wet(clique), Some(wet(clique - 1)));
-    tell(rt, engine, file, &Change::Traded(about, 2, 3), before);
+    tell::<R, E>(rt, engine, file, &Change::Traded(about, 2, 3), before);
 }
 
-/// A price behind an edit: its part, what it is a part of, and a clique beside the part's own where that is asked as well, with how many
-/// messages it then makes.
+/// A price behind an edit: its part, what it is a part of, and another clique where that is asked
+/// as well, with how many messages it then makes.
 #[derive(Clone, Copy)]
 struct Price {
     edited: u32,
@@ -160,8 +172,8 @@ struct Price {
     makes: u64,
 }
 
-/// Stops unless a price makes its messages, behind two edits: with the whole asked in the part's clique, where it makes none, and
-/// elsewhere.
+/// Stops unless a price makes its messages, behind two edits: with the whole asked in the part's
+/// clique, where it makes none, and elsewhere.
 fn expect_price(
     rt: &impl Abort,
     engine: &mut TreeEngine<SumProd>,
@@ -169,11 +181,13 @@ fn expect_price(
     price: &Price,
     before: u32,
 )
-    requires used { IsInUse ⟦<TreeEngine<SumProd> as Engine<SumProd>>⟧.stands_for engine.old file.now before }
+    requires used { IsInUse ⟦<TreeEngine<SumProd> as Engine<SumProd>>⟧.stands_for
+        engine.old file.now before }
     requires few { before < 99 }
     requires part { AllByRecursion (IsPairOf file.now.net) price.now.part.event }
     requires whole { AllByRecursion (IsPairOf file.now.net) price.now.whole }
-    ensures { IsInUse ⟦<TreeEngine<SumProd> as Engine<SumProd>>⟧.stands_for engine.new file.now (before + 2) }
+    ensures { IsInUse ⟦<TreeEngine<SumProd> as Engine<SumProd>>⟧.stands_for
+        engine.new file.now (before + 2) }
 {
     let (event, beside) = (price.whole, price.part.at);
     let whole = Asked {
@@ -202,9 +216,11 @@ fn check_condition(
     row: &Behind,
     before: u32,
 )
-    requires used { IsInUse ⟦<TreeEngine<SumProd> as Engine<SumProd>>⟧.stands_for engine.old file.now before }
+    requires used { IsInUse ⟦<TreeEngine<SumProd> as Engine<SumProd>>⟧.stands_for
+        engine.old file.now before }
     requires few { before < 99 }
-    ensures { IsInUse ⟦<TreeEngine<SumProd> as Engine<SumProd>>⟧.stands_for engine.new file.now (before + 2) }
+    ensures { IsInUse ⟦<TreeEngine<SumProd> as Engine<SumProd>>⟧.stands_for
+        engine.new file.now (before + 2) }
 {
     let Behind(edited, at, makes, in_home, _) = *row;
     assert!(rt; 1 <= at);
@@ -228,9 +244,11 @@ fn check_all_states(
     row: &Behind,
     before: u32,
 )
-    requires used { IsInUse ⟦<TreeEngine<SumProd> as Engine<SumProd>>⟧.stands_for engine.old file.now before }
+    requires used { IsInUse ⟦<TreeEngine<SumProd> as Engine<SumProd>>⟧.stands_for
+        engine.old file.now before }
     requires few { before < 99 }
-    ensures { IsInUse ⟦<TreeEngine<SumProd> as Engine<SumProd>>⟧.stands_for engine.new file.now (before + 2) }
+    ensures { IsInUse ⟦<TreeEngine<SumProd> as Engine<SumProd>>⟧.stands_for
+        engine.new file.now (before + 2) }
 {
     let Behind(edited, at, makes, _, in_first) = *row;
     let event = event(rt, &file.net, &About(wet(at), None));
