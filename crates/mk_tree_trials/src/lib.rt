@@ -1,5 +1,5 @@
-//! Trials of trees, tables, flows and engines, and of a plain walk over all states, over their public calls: a crate of its own, since a
-//! crate with tests is proved twice.
+//! Trials of trees, flows and engines, and of a plain walk over all states, over their public calls: a crate of its own, since a crate
+//! with tests is proved twice.
 #![tactic(auto)]
 
 #[cfg(test)]
@@ -14,8 +14,6 @@ mod engines;
 mod fixtures;
 #[cfg(test)]
 mod flows;
-#[cfg(test)]
-mod tables;
 #[cfg(test)]
 mod trees;
 #[cfg(test)]
