@@ -1,6 +1,6 @@
 //! The engine.
 
-ghost use Rattle.std.specs.Prelude.{◌≡◌, ℕ, ◌+◌, ◌<◌, ◌≤◌, length, true, IfOk, refl};
+ghost use Rattle.std.specs.Prelude.{◌≡◌, ℕ, ◌+◌, ◌<◌, ◌≤◌, length, true, IfOk, ⊤};
 ghost use Rattle.mk_net.specs.Bounds.{max_clique_cells};
 ghost use Rattle.mk_net.specs.Sets.{is_member};
 ghost use Rattle.mk_net.specs.Network.{IsNetwork};
@@ -40,7 +40,9 @@ impl<R: Semiring> Engine<R> for JointEngine<R> {
 
     ghost stands_for = { λ engine m. HasJoint engine.table engine.factors m };
 
-    ghost fitting = { λ engine event. true };
+    ghost answers_at = { λ engine at event. ⊤ };
+
+    ghost places_at = { λ engine at event. ⊤ };
 
     fn plan(alloc: Global, net: &Network, _tree: &Tree) -> Result<Rc<Scope>, NoMemory>
         requires { joint_states net.now ≤ max_clique_cells }
@@ -70,22 +72,16 @@ impl<R: Semiring> Engine<R> for JointEngine<R> {
         self.factors += 1;
     }
 
-    fn multiply(&mut self, ratio: &Ratio) {
+    fn multiply(&mut self, _home: u32, ratio: &Ratio) {
         self.table.times_ratio(ratio, &mut self.chosen);
         self.factors += 1;
     }
 
-    fn know(&mut self, pair: Pair) {
+    fn know(&mut self, _home: u32, pair: Pair) {
         self.table.restrict(pair);
     }
 
-    fn fits(&self, _event: &Event) -> bool
-        ensures { result ≡ true }
-    {
-        true
-    }
-
-    fn belief(&mut self, event: &Event) -> R::Value
+    fn belief(&mut self, _at: u32, event: &Event) -> R::Value
         requires { CanBelieve ⟦<JointEngine<R> as Engine<R>>⟧.stands_for self.old event.now }
         ensures kept { (m : Meaning) → ⟦<JointEngine<R> as Engine<R>>⟧.stands_for self.old m → ⟦<JointEngine<R> as Engine<R>>⟧.stands_for self.new m }
         ensures belief { (m : Meaning) → ⟦<JointEngine<R> as Engine<R>>⟧.stands_for self.old m
@@ -102,7 +98,9 @@ impl<R: Semiring> Engine<R> for JointEngine<R> {
         )
     }
 
-    ghost home_fits = { λ engine m event stands home. refl };
+    ghost held_is_answered = { λ engine m at event stands held. tt };
+
+    ghost home_is_place = { λ engine m at event stands home. tt };
 }
 
 /// The set of all variables of a network.

@@ -1,18 +1,18 @@
 -- The first clique that holds something.
-use Rattle.std.proofs.Common.{◌≡◌, ℕ, suc, ◌+◌, ◌<◌, ◌≤◌, Bool, true, false, cond, not, ◌⊎◌, inl, inr, List, [], ◌∷◌, length, get_or, Option, Some, None, is_some, unwrap_or, option_map, position, refl, sym, ap, ◌∙◌, arith}
-use Rattle.std.specs.List.{position_or_len, list_any, list_all}
-use Rattle.std.proofs.lemmas.Bool.{both_ways, cond-true, lt-ltb, or_from, or_cases, and_parts}
-use Rattle.std.proofs.Math.Bool.{and-true}
-use Rattle.std.proofs.lemmas.List.Quantifiers.{position-Some}
+use Rattle.std.proofs.Common.{◌≡◌, ℕ, suc, ◌+◌, ◌<◌, ◌≤◌, Bool, true, false, List, [], ◌∷◌, length, get_or, Option, Some, unwrap_or, option_map, position, refl, sym, ap, ◌∙◌, arith}
+use Rattle.std.specs.List.{list_any}
+use Rattle.std.proofs.lemmas.Bool.{both_ways, or_from}
 use Rattle.mk_net.specs.declared.words.Pair.{Pair}
-use Rattle.mk_net.specs.declared.sets.VarSet.{VarSet}
-use Rattle.mk_net.specs.Sets.{is_member, no_variables}
-use Rattle.mk_net.specs.Named.{variable_at}
+use Rattle.mk_net.specs.Asked.{TradeRatio, ratio_pairs}
+use Rattle.mk_net.specs.Sets.{no_variables}
 use Rattle.mk_net.specs.Network.{Variable}
-use Rattle.mk_tree.specs.Given.{GivenTree, clique_at, home, holds_event}
+use Rattle.mk_tree.specs.Given.{GivenTree, clique_at, home}
 use Rattle.mk_tree.specs.Tests.{holds_family, is_covered}
+use Rattle.mk_tree.specs.Held.{IsHeldAt}
+use Rattle.mk_engine.specs.Meaning.{RatioOf}
 use Rattle.mk_propagate.specs.Shapes.{IsClique}
 use Rattle.mk_propagate.proofs.Starts.{first_passes, at_place}
+use Rattle.mk_tree_engine.specs.Engines.{factor_home, pair_home}
 
 -- no item passes
 none_passes : {X : Type 0} (p : X → Bool) (xs : List X) (d : X) → ((i : ℕ) → i < length xs → p (get_or xs i d) ≡ false) → list_any p xs ≡ false
@@ -36,40 +36,13 @@ module _ (tree : GivenTree) where
       both_ways (list_any (holds_family network x) tree.cliques)
       (none_passes (holds_family network x) tree.cliques no_variables (λ i q. ap (holds_family network x) (sym (at_place tree i)) ∙ none i (omega arith))) covered
 
-  -- the home of an event holds it
-  pub home_holds : (event : List Pair) (k : ℕ) → home tree event ≡ Some k → IsClique tree k × (holds_event event (clique_at tree k) ≡ true)
-  home_holds event k h = at (position (holds_event event) tree.cliques) refl h
-    where
-      at : (o : Option ℕ) → position (holds_event event) tree.cliques ≡ o → option_map (λ (n : ℕ). n + 1) o ≡ Some k → IsClique tree k × (holds_event event (clique_at tree k) ≡ true)
-      at None e f = absurd (cc)
-      at (Some i) e f =
-          let g : i + 1 ≡ k = cc in
-          let p = position-Some (holds_event event) tree.cliques i no_variables e in (
-            record { first = omega arith; last = omega (arith, p.0) },
-            ap (λ n. holds_event event (clique_at tree n)) (sym g) ∙ ap (holds_event event) (at_place tree i) ∙ p.1,
-          )
+-- a clique that holds an event is one of the tree's
+pub clique_of : (tree : GivenTree) (k : ℕ) (event : List Pair) → IsHeldAt tree k event → IsClique tree k
+clique_of tree k event h = record { first = h.first; last = h.last }
 
--- where an item passes a test, one passes a weaker test
-weaker_passes : {X : Type 0} (p q : X → Bool) (xs : List X) → ((x : X) → q x ≡ true → p x ≡ true) → list_any q xs ≡ true → position_or_len p xs < length xs
-weaker_passes p q [] h e = absurd (both_ways false refl e)
-weaker_passes p q (x ∷ xs) h e = at (p x) refl (or_cases (q x) (list_any q xs) e) (weaker_passes p q xs h)
-  where
-    at : (b : Bool) → p x ≡ b → ((q x ≡ true) ⊎ (list_any q xs ≡ true)) → (list_any q xs ≡ true → position_or_len p xs < length xs) → position_or_len p (x ∷ xs) < length (x ∷ xs)
-    at true t _ ih =
-        let z : position_or_len p (x ∷ xs) ≡ 0 = ap {B = ℕ} (λ b. cond (not b) (1 + position_or_len p xs) 0) t in
-        omega (arith, z)
-    at false t (inl s) ih = absurd (both_ways (p x) t (h x s))
-    at false t (inr s) ih =
-        let z : position_or_len p (x ∷ xs) ≡ 1 + position_or_len p xs = ap {B = ℕ} (λ b. cond (not b) (1 + position_or_len p xs) 0) t in
-        let l = ih s in
-        omega (arith, z, l)
+-- what has a home is placed there
+pub ratio_place : (network : List Variable) (tree : GivenTree) (k : ℕ) (ratio : TradeRatio) → home tree (ratio_pairs ratio) ≡ Some k → k ≡ factor_home network tree (RatioOf ratio)
+ratio_place network tree k ratio e = sym (ap (λ (o : Option ℕ). unwrap_or o 0) e)
 
--- a known pair of a covered variable has a home
-pub pair_somewhere : (network : List Variable) (tree : GivenTree) (pair : Pair) → is_covered network tree.cliques pair.variable ≡ true → is_some (home tree (pair ∷ [])) ≡ true
-pair_somewhere network tree pair covered =
-    let l = weaker_passes (holds_event (pair ∷ [])) (holds_family network pair.variable) tree.cliques fits covered in
-    ap (λ (o : Option ℕ). is_some (option_map (λ (k : ℕ). k + 1) o))
-    (cond-true _ (Some (position_or_len (holds_event (pair ∷ [])) tree.cliques)) None (lt-ltb (position_or_len (holds_event (pair ∷ [])) tree.cliques) (length tree.cliques) l))
-  where
-    fits : (set : VarSet) → holds_family network pair.variable set ≡ true → holds_event (pair ∷ []) set ≡ true
-    fits set h = and-true (is_member set pair.variable) ∙ (and_parts (is_member set pair.variable) (list_all (is_member set) (variable_at network pair.variable).parents) h).0
+pub pair_place : (tree : GivenTree) (k : ℕ) (pair : Pair) → home tree (pair ∷ []) ≡ Some k → k ≡ pair_home tree pair
+pair_place tree k pair e = sym (ap (λ (o : Option ℕ). unwrap_or o 0) e)

@@ -69,10 +69,6 @@ abbrev pub ClearsTowards : MarkedFlow → MarkedFlow → ℕ → Type 0
 ClearsTowards old new c =
     (a b : ℕ) → are_linked old.flow.shape.tree a b ≡ true → is_stale new a b ≡ (is_stale old a b && not (leads_towards old.flow.shape.tree c a b))
 
--- the clique in which the belief in an event is read
-abbrev pub reading_clique : GivenTree → List Pair → ℕ
-reading_clique tree event = unwrap_or (home tree event) 0
-
 -- the shape and the count of messages are as they were
 pub record KeepsCount (old new : MarkedFlow) : Type 0 where
   pub same_shape : new.flow.shape ≡ old.flow.shape

@@ -1,18 +1,19 @@
 //! The engine.
 
-ghost use Rattle.std.specs.Prelude.{◌≡◌, ℕ, ◌<◌, ◌≤◌, length, true, is_some, IfOk, ⊤};
+ghost use Rattle.std.specs.Prelude.{◌≡◌, ℕ, ◌<◌, ◌≤◌, [], ◌∷◌, length, Some, IfOk, ⊤};
 ghost use Rattle.mk_net.specs.Asked.{ratio_pairs};
 ghost use Rattle.mk_net.specs.Trades.{trade_ratio};
 ghost use Rattle.std.proofs.Common.{sym, subst};
 ghost use Rattle.mk_tree.specs.Given.{GivenTree, home};
 ghost use Rattle.mk_tree.specs.Checked.{IsTreeOf};
+ghost use Rattle.mk_tree.specs.Held.{IsHeldAt};
 ghost use Rattle.mk_engine.specs.Meaning.{Meaning, RowsOf, SupportOf, RatioOf, with_factor, with_known};
 ghost use Rattle.mk_engine.specs.Beliefs.{CanWeigh, CanMultiply, CanKnow, CanBelieve, IsBelief};
 ghost use Rattle.mk_propagate.specs.Shapes.{IsClique};
 ghost use Rattle.mk_propagate.specs.Flows.{counted_on, reading_grade};
-ghost use Rattle.mk_tree_engine.specs.Engines.{HasTree, IsPlanFor, MarksAway, ClearsTowards, KeepsCount, factor_home, pair_home, placing_of, reading_clique, stale_number};
+ghost use Rattle.mk_tree_engine.specs.Engines.{HasTree, IsPlanFor, MarksAway, ClearsTowards, KeepsCount, factor_home, placing_of, stale_number};
 
-use crate::homes::{event_home, family_home};
+use crate::homes::family_home;
 use crate::marks::Marks;
 use crate::passes::{collect, count_stale};
 use mk_engine::Engine;
@@ -25,8 +26,8 @@ use std::marker::Model;
 use std::rc::Rc;
 
 /// An engine over a tree of cliques: each factor and each known pair is placed in the first clique that holds its variables, and a
-/// belief is read in the first clique that holds its event, once the stale messages that lead towards it were made. It suits
-/// every network with a tree of it.
+/// belief is read in the clique that it is asked in, once the stale messages that lead towards that clique were made. It suits every
+/// network with a tree of it.
 #[derive(Drop)]
 pub struct TreeEngine<R: Semiring> {
     flow: Flow<R>,
@@ -70,7 +71,9 @@ impl<R: Semiring> Engine<R> for TreeEngine<R> {
 
     ghost stands_for = { λ engine m. HasTree R.plus_of engine m };
 
-    ghost fitting = { λ engine event. is_some (home engine.flow.shape.tree event) };
+    ghost answers_at = { λ engine at event. IsHeldAt engine.flow.shape.tree at event };
+
+    ghost places_at = { λ engine at event. home engine.flow.shape.tree event ≡ Some at };
 
     fn plan(alloc: Global, net: &Network, tree: &Tree) -> Result<Rc<Shape>, NoMemory>
         requires { IsTreeOf net.now tree.now }
@@ -110,57 +113,48 @@ impl<R: Semiring> Engine<R> for TreeEngine<R> {
         self.marks.mark_away(self.flow.shape(), clique);
     }
 
-    fn multiply(&mut self, ratio: &Ratio)
-        requires fits { is_some (home self.old.flow.shape.tree (ratio_pairs (trade_ratio ratio.now))) ≡ true }
+    fn multiply(&mut self, clique: u32, ratio: &Ratio)
+        requires home { home self.old.flow.shape.tree (ratio_pairs (trade_ratio ratio.now)) ≡ Some clique }
         requires range { CanMultiply ⟦<TreeEngine<R> as Engine<R>>⟧.stands_for self.old (trade_ratio ratio.now) }
         ensures stands { (m : Meaning) → ⟦<TreeEngine<R> as Engine<R>>⟧.stands_for self.old m
             → ⟦<TreeEngine<R> as Engine<R>>⟧.stands_for self.new (with_factor (RatioOf (trade_ratio ratio.now)) m) }
-        ensures marks { (m : Meaning) → ⟦<TreeEngine<R> as Engine<R>>⟧.stands_for self.old m
-            → MarksAway self.old self.new (factor_home m.network self.old.flow.shape.tree (RatioOf (trade_ratio ratio.now))) }
+        ensures marks { MarksAway self.old self.new clique }
         ensures kept { KeepsCount self.old self.new }
     {
-        let clique = event_home(self.flow.shape(), &ratio.event());
         self.flow.times_ratio(clique, ratio);
         self.marks.mark_away(self.flow.shape(), clique);
     }
 
-    fn know(&mut self, pair: Pair)
-        requires { CanKnow ⟦<TreeEngine<R> as Engine<R>>⟧.stands_for self.old pair }
+    fn know(&mut self, clique: u32, pair: Pair)
+        requires home { home self.old.flow.shape.tree (pair ∷ []) ≡ Some clique }
+        requires range { CanKnow ⟦<TreeEngine<R> as Engine<R>>⟧.stands_for self.old pair }
         ensures stands { (m : Meaning) → ⟦<TreeEngine<R> as Engine<R>>⟧.stands_for self.old m
             → ⟦<TreeEngine<R> as Engine<R>>⟧.stands_for self.new (with_known pair m) }
-        ensures marks { MarksAway self.old self.new (pair_home self.old.flow.shape.tree pair) }
+        ensures marks { MarksAway self.old self.new clique }
         ensures kept { KeepsCount self.old self.new }
     {
-        let Some(event) = Event::empty().with(pair) else {
-            unreachable!()
-        };
-        let clique = event_home(self.flow.shape(), &event);
         self.flow.restrict(clique, pair);
         self.marks.mark_away(self.flow.shape(), clique);
     }
 
-    fn fits(&self, event: &Event) -> bool {
-        self.flow.shape().home(event).is_some()
-    }
-
-    fn belief(&mut self, event: &Event) -> R::Value
-        requires fits { is_some (home self.old.flow.shape.tree event.now) ≡ true }
+    fn belief(&mut self, at: u32, event: &Event) -> R::Value
+        requires held { IsHeldAt self.old.flow.shape.tree at event.now }
         requires range { CanBelieve ⟦<TreeEngine<R> as Engine<R>>⟧.stands_for self.old event.now }
         ensures kept { (m : Meaning) → ⟦<TreeEngine<R> as Engine<R>>⟧.stands_for self.old m → ⟦<TreeEngine<R> as Engine<R>>⟧.stands_for self.new m }
         ensures belief { (m : Meaning) → ⟦<TreeEngine<R> as Engine<R>>⟧.stands_for self.old m
             → IsBelief R.encloses R.has_grade R.is_exact R.plus_of m event.now result }
         ensures shape { self.new.flow.shape ≡ self.old.flow.shape }
-        ensures counted { self.new.flow.computed
-            ≡ counted_on self.old.flow.computed (stale_number self.old (reading_clique self.old.flow.shape.tree event.now)) }
-        ensures marks { ClearsTowards self.old self.new (reading_clique self.old.flow.shape.tree event.now) }
+        ensures counted { self.new.flow.computed ≡ counted_on self.old.flow.computed (stale_number self.old at) }
+        ensures marks { ClearsTowards self.old self.new at }
         ensures sharp { (m : Meaning) → ⟦<TreeEngine<R> as Engine<R>>⟧.stands_for self.old m
-            → R.has_grade result (reading_grade m.tree (placing_of m) (reading_clique m.tree event.now)) }
+            → R.has_grade result (reading_grade m.tree (placing_of m) at) }
     {
-        let clique = event_home(self.flow.shape(), event);
         let _ = self.flow.computed();
-        collect(&mut self.flow, &mut self.marks, clique);
-        self.flow.read(clique, event)
+        collect(&mut self.flow, &mut self.marks, at);
+        self.flow.read(at, event)
     }
 
-    ghost home_fits = { λ engine m event stands has. subst (λ (t : GivenTree). is_some (home t event) ≡ true) (sym stands.tree_is) has };
+    ghost held_is_answered = { λ engine m at event stands held. subst (λ (t : GivenTree). IsHeldAt t at event) (sym stands.tree_is) held };
+
+    ghost home_is_place = { λ engine m at event stands is. subst (λ (t : GivenTree). home t event ≡ Some at) (sym stands.tree_is) is };
 }

@@ -1,18 +1,17 @@
-//! Where factors are placed.
+//! Where rows and supports are placed.
 
-ghost use Rattle.std.specs.Prelude.{◌≡◌, ℕ, ◌+◌, ◌<◌, ◌≤◌, ◌&&◌, length, true, is_some, Some};
+ghost use Rattle.std.specs.Prelude.{◌≡◌, ℕ, ◌+◌, ◌<◌, ◌≤◌, ◌&&◌, length, true};
 ghost use Rattle.std.specs.List.{list_all};
 ghost use Rattle.mk_net.specs.Sets.{is_member};
 ghost use Rattle.mk_net.specs.Network.{IsNetwork};
-ghost use Rattle.mk_tree.specs.Given.{GivenTree, clique_at, home, holds_event};
+ghost use Rattle.mk_tree.specs.Given.{clique_at};
 ghost use Rattle.mk_tree.specs.Tests.{holds_family};
 ghost use Rattle.mk_tree.specs.Checked.{IsTreeOf};
 ghost use Rattle.mk_engine.specs.Meaning.{RowsOf};
 ghost use Rattle.mk_propagate.specs.Shapes.{IsClique};
-ghost use Rattle.mk_tree_engine.specs.Engines.{factor_home, reading_clique};
+ghost use Rattle.mk_tree_engine.specs.Engines.{factor_home};
 
-use mk_net::{Event, Network, VarSet};
-use mk_propagate::Shape;
+use mk_net::{Network, VarSet};
 use mk_tree::Tree;
 
 /// The first clique that holds a variable and its parents.
@@ -43,17 +42,4 @@ fn holds_each(set: &VarSet, variables: &[u32]) -> bool
     ensures { result ≡ list_all (is_member set.now) variables.now }
 {
     variables.iter().all(|variable| set.has(*variable))
-}
-
-/// The first clique that holds each variable of an event.
-pub(crate) fn event_home(shape: &Shape, event: &Event) -> u32
-    requires { is_some (home shape.now.tree event.now) ≡ true }
-    ensures home { result ≡ reading_clique shape.now.tree event.now }
-    ensures clique { IsClique shape.now.tree result }
-    ensures fits { holds_event event.now (clique_at shape.now.tree result) ≡ true }
-{
-    let Some(clique) = shape.home(event) else {
-        unreachable!()
-    };
-    clique
 }

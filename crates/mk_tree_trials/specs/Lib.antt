@@ -1,3 +1,2 @@
-pub mod Weather
 pub mod Placed
 pub mod Used

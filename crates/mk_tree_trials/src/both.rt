@@ -2,17 +2,20 @@
 //! all states.
 
 ghost use Rattle.std.specs.Prelude.{◌+◌, ◌<◌, ◌≤◌, IfOk};
+ghost use Rattle.std.specs.List.{AllByRecursion};
 ghost use Rattle.mk_net.specs.Bounds.{max_clique_cells};
+ghost use Rattle.mk_exact.specs.Proper.{IsPairOf};
 ghost use Rattle.mk_tree.specs.Checked.{IsTreeOf};
 ghost use Rattle.mk_joint.specs.inner.Joints.{joint_states};
 ghost use Rattle.mk_tree_trials.specs.Used.{IsInUse};
 
-use crate::engines::{A, About, B, C, Change, ask, event, ratio, start, tell};
+use crate::engines::{A, About, B, C, Change, ask_in, event, home_of, ratio, start, tell};
 use crate::fixtures::{CHAIN, all_variables, read};
+use crate::flows::holds_event;
 use mk_engine::Engine;
 use mk_file::MarketFile;
 use mk_joint::JointEngine;
-use mk_net::{Network, NoMemory, Pair};
+use mk_net::{Event, Network, NoMemory, Pair};
 use mk_semiring::{Held, MinProd, Semiring, SumProd};
 use mk_tree::Tree;
 use mk_tree_engine::TreeEngine;
@@ -113,23 +116,45 @@ fn check(rt: &impl Abort, held: &Held, walked: Option<u128>) {
     }
 }
 
+/// Stops unless an engine's belief in an event is as walked, after so many changes, in each clique
+/// that holds the event.
+fn check_each<R: Semiring<Value = Held>, E: Engine<R>>(
+    rt: &impl Abort,
+    engine: &mut E,
+    file: &MarketFile,
+    event: &Event,
+    before: u32,
+    walked: Option<u128>,
+)
+    requires used { IsInUse E.stands_for engine.old file.now before }
+    requires own { AllByRecursion (IsPairOf file.now.net) event.now }
+    ensures { IsInUse E.stands_for engine.new file.now before }
+{
+    let tree = &file.tree;
+    for at in home_of(rt, tree, event)..tree.cliques() + 1 {
+        if holds_event(tree, at, event) {
+            check(rt, &ask_in::<R, E>(engine, file, at, event, before), walked);
+        }
+    }
+}
+
 /// Stops unless an engine's beliefs are as walked, after so many changes.
 fn check_all<R: Semiring<Value = Held> + Walked, E: Engine<R>>(
     rt: &impl Abort,
     alloc: Global,
     engine: &mut E,
-    net: &Network,
+    file: &MarketFile,
     past: &Past,
     asked: &[About],
     before: u32,
 ) -> Result<(), Fail>
-    requires { IsInUse E.stands_for engine.old net.now before }
-    ensures { IsInUse E.stands_for engine.new net.now before }
+    requires { IsInUse E.stands_for engine.old file.now before }
+    ensures { IsInUse E.stands_for engine.new file.now before }
 {
     for about in asked {
-        let event = event(rt, net, about);
-        let walked = R::walked(alloc, net, past, event.pairs())?;
-        check(rt, &ask::<R, E>(rt, engine, net, &event, before), walked);
+        let event = event(rt, &file.net, about);
+        let walked = R::walked(alloc, &file.net, past, event.pairs())?;
+        check_each::<R, E>(rt, engine, file, &event, before, walked);
     }
     Ok(())
 }
@@ -139,22 +164,22 @@ fn tell_all<R: Semiring<Value = Held> + Walked, E: Engine<R>>(
     rt: &impl Abort,
     alloc: Global,
     engine: &mut E,
-    net: &Network,
+    file: &MarketFile,
     past: &mut Past,
     changes: &[Change],
     from: usize,
     asked: &[About],
 ) -> Result<(), Fail>
-    requires { IsInUse E.stands_for engine.old net.now 0 }
+    requires { IsInUse E.stands_for engine.old file.now 0 }
 {
     let mut before = 0;
     for change in changes {
         assert!(rt; before < 100);
-        tell::<R, E>(rt, engine, net, change, before);
+        tell::<R, E>(rt, engine, file, change, before);
         before += 1;
-        past.add(rt, net, change)?;
+        past.add(rt, &file.net, change)?;
         if before as usize >= from {
-            check_all::<R, E>(rt, alloc, engine, net, past, asked, before)?;
+            check_all::<R, E>(rt, alloc, engine, file, past, asked, before)?;
         }
     }
     Ok(())
@@ -178,7 +203,7 @@ fn follow<R: Semiring<Value = Held> + Walked, E: Engine<R>>(
         rt,
         alloc,
         &mut engine,
-        &file.net,
+        file,
         &mut past,
         changes,
         from,

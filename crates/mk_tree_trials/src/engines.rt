@@ -1,17 +1,20 @@
 //! What engines are told and asked, each after so many changes, and how many messages that makes.
 
-ghost use Rattle.std.specs.Prelude.{◌+◌, ◌<◌, IfOk};
+ghost use Rattle.std.specs.Prelude.{◌≡◌, ◌+◌, ◌<◌, Some, IfOk};
 ghost use Rattle.std.specs.List.{AllByRecursion};
 ghost use Rattle.mk_net.specs.Trades.{trade_ratio};
 ghost use Rattle.mk_exact.specs.Proper.{IsPairOf, IsQuestionOf, IsRatioOf};
+ghost use Rattle.mk_tree.specs.Given.{home};
 ghost use Rattle.mk_tree.specs.Checked.{IsTreeOf};
+ghost use Rattle.mk_tree.specs.Held.{IsHeldAt};
 ghost use Rattle.mk_tree_trials.specs.Used.{IsInUse};
 
-use crate::fixtures::check_exact;
+use crate::fixtures::{check_exact, only};
 use mk_engine::Engine;
 use mk_file::MarketFile;
 use mk_net::{Event, Network, NoMemory, Pair, Question, Ratio};
 use mk_semiring::{Held, Semiring, SumProd};
+use mk_tree::Tree;
 use mk_tree_engine::TreeEngine;
 use std::alloc::Global;
 use std::process::Abort;
@@ -98,18 +101,27 @@ pub(crate) fn ratio(rt: &impl Abort, net: &Network, about: &About, hit: u64, mis
     Ratio::of_question(&asked, values, hit, miss)
 }
 
+/// The first clique that holds an event; there is one.
+pub(crate) fn home_of(rt: &impl Abort, tree: &Tree, event: &Event) -> u32
+    ensures home { home tree.now event.now ≡ Some result }
+    ensures held { IsHeldAt tree.now result event.now }
+{
+    tree.home(event).expect(rt, "a home")
+}
+
 /// Tells an engine, after so many changes.
 pub(crate) fn tell<R: Semiring, E: Engine<R>>(
     rt: &impl Abort,
     engine: &mut E,
-    net: &Network,
+    file: &MarketFile,
     change: &Change,
     before: u32,
 )
-    requires used { IsInUse E.stands_for engine.old net.now before }
+    requires used { IsInUse E.stands_for engine.old file.now before }
     requires few { before < 100 }
-    ensures { IsInUse E.stands_for engine.new net.now (before + 1) }
+    ensures { IsInUse E.stands_for engine.new file.now (before + 1) }
 {
+    let (net, tree) = (&file.net, &file.tree);
     match *change {
         Change::Rows(variable) => {
             assert!(rt; variable < net.variables());
@@ -121,30 +133,45 @@ pub(crate) fn tell<R: Semiring, E: Engine<R>>(
         }
         Change::Traded(about, hit, miss) => {
             let ratio = ratio(rt, net, &about, hit, miss);
-            assert!(rt; engine.fits(&ratio.event()));
-            engine.multiply(&ratio);
+            engine.multiply(home_of(rt, tree, &ratio.event()), &ratio);
         }
         Change::Known(pair) => {
             check_pair(rt, net, pair);
-            engine.know(pair);
+            engine.know(home_of(rt, tree, &only(rt, pair)), pair);
         }
     }
 }
 
-/// The belief in an event, after so many changes.
-pub(crate) fn ask<R: Semiring, E: Engine<R>>(
-    rt: &impl Abort,
+/// The belief in an event, asked in a clique that holds it, after so many changes.
+pub(crate) fn ask_in<R: Semiring, E: Engine<R>>(
     engine: &mut E,
-    net: &Network,
+    file: &MarketFile,
+    at: u32,
     event: &Event,
     before: u32,
 ) -> R::Value
-    requires used { IsInUse E.stands_for engine.old net.now before }
-    requires own { AllByRecursion (IsPairOf net.now) event.now }
-    ensures { IsInUse E.stands_for engine.new net.now before }
+    requires used { IsInUse E.stands_for engine.old file.now before }
+    requires own { AllByRecursion (IsPairOf file.now.net) event.now }
+    requires held { IsHeldAt file.now.tree at event.now }
+    ensures { IsInUse E.stands_for engine.new file.now before }
 {
-    assert!(rt; engine.fits(event));
-    engine.belief(event)
+    engine.belief(at, event)
+}
+
+/// The belief in an event, asked in its home, after so many changes.
+pub(crate) fn ask<R: Semiring, E: Engine<R>>(
+    rt: &impl Abort,
+    engine: &mut E,
+    file: &MarketFile,
+    event: &Event,
+    before: u32,
+) -> R::Value
+    requires used { IsInUse E.stands_for engine.old file.now before }
+    requires own { AllByRecursion (IsPairOf file.now.net) event.now }
+    ensures { IsInUse E.stands_for engine.new file.now before }
+{
+    let home = home_of(rt, &file.tree, event);
+    ask_in::<R, E>(engine, file, home, event, before)
 }
 
 /// An engine that was told nothing.
@@ -154,7 +181,7 @@ pub(crate) fn start<R: Semiring, E: Engine<R>>(
 ) -> Result<E, NoMemory>
     requires tree { IsTreeOf file.now.net file.now.tree }
     requires suits { E.suits file.now.net file.now.tree }
-    ensures { IfOk result (λ engine. IsInUse E.stands_for engine file.now.net 0) }
+    ensures { IfOk result (λ engine. IsInUse E.stands_for engine file.now 0) }
 {
     let plan = E::plan(alloc, &file.net, &file.tree)?;
     let engine = E::start(alloc, &plan)?;
@@ -169,16 +196,16 @@ pub(crate) struct Exact(pub(crate) u64, pub(crate) u64);
 pub(crate) fn expect<R: Semiring<Value = Held>, E: Engine<R>>(
     rt: &impl Abort,
     engine: &mut E,
-    net: &Network,
+    file: &MarketFile,
     event: &Event,
     before: u32,
     number: Exact,
 )
-    requires used { IsInUse E.stands_for engine.old net.now before }
-    requires own { AllByRecursion (IsPairOf net.now) event.now }
-    ensures { IsInUse E.stands_for engine.new net.now before }
+    requires used { IsInUse E.stands_for engine.old file.now before }
+    requires own { AllByRecursion (IsPairOf file.now.net) event.now }
+    ensures { IsInUse E.stands_for engine.new file.now before }
 {
-    let believed = ask::<R, E>(rt, engine, net, event, before);
+    let believed = ask::<R, E>(rt, engine, file, event, before);
     check_exact(rt, &believed, number.0, number.1);
 }
 
@@ -186,32 +213,32 @@ pub(crate) fn expect<R: Semiring<Value = Held>, E: Engine<R>>(
 fn expect_made(
     rt: &impl Abort,
     engine: &mut TreeEngine<SumProd>,
-    net: &Network,
+    file: &MarketFile,
     pair: Pair,
     before: u32,
     belief: u64,
     computed: u64,
 )
-    requires { IsInUse ⟦<TreeEngine<SumProd> as Engine<SumProd>>⟧.stands_for engine.old net.now before }
-    ensures { IsInUse ⟦<TreeEngine<SumProd> as Engine<SumProd>>⟧.stands_for engine.new net.now before }
+    requires { IsInUse ⟦<TreeEngine<SumProd> as Engine<SumProd>>⟧.stands_for engine.old file.now before }
+    ensures { IsInUse ⟦<TreeEngine<SumProd> as Engine<SumProd>>⟧.stands_for engine.new file.now before }
 {
-    let event = event(rt, net, &About(pair, None));
-    expect(rt, engine, net, &event, before, Exact(belief, 0));
+    let event = event(rt, &file.net, &About(pair, None));
+    expect(rt, engine, file, &event, before, Exact(belief, 0));
     assert!(rt; engine.computed() == computed);
 }
 
 /// Over the chain: an engine that was told nothing, and how many messages it makes.
-fn check_messages(rt: &impl Abort, engine: &mut TreeEngine<SumProd>, net: &Network)
-    requires { IsInUse ⟦<TreeEngine<SumProd> as Engine<SumProd>>⟧.stands_for engine.old net.now 0 }
+fn check_messages(rt: &impl Abort, engine: &mut TreeEngine<SumProd>, file: &MarketFile)
+    requires { IsInUse ⟦<TreeEngine<SumProd> as Engine<SumProd>>⟧.stands_for engine.old file.now 0 }
 {
-    tell(rt, engine, net, &Change::Rows(0), 0);
-    tell(rt, engine, net, &Change::Rows(1), 1);
-    tell(rt, engine, net, &Change::Rows(2), 2);
-    expect_made(rt, engine, net, C, 3, 415_000_000_000_000_000, 2);
-    expect_made(rt, engine, net, C, 3, 415_000_000_000_000_000, 2);
-    tell(rt, engine, net, &Change::Traded(About(A, None), 2, 3), 3);
-    expect_made(rt, engine, net, C, 4, 985_000_000_000_000_000, 3);
-    expect_made(rt, engine, net, B, 4, 1_050_000_000_000_000_000, 4);
+    tell(rt, engine, file, &Change::Rows(0), 0);
+    tell(rt, engine, file, &Change::Rows(1), 1);
+    tell(rt, engine, file, &Change::Rows(2), 2);
+    expect_made(rt, engine, file, C, 3, 415_000_000_000_000_000, 2);
+    expect_made(rt, engine, file, C, 3, 415_000_000_000_000_000, 2);
+    tell(rt, engine, file, &Change::Traded(About(A, None), 2, 3), 3);
+    expect_made(rt, engine, file, C, 4, 985_000_000_000_000_000, 3);
+    expect_made(rt, engine, file, B, 4, 1_050_000_000_000_000_000, 4);
 }
 
 /// Over the chain, only stale messages are made.
@@ -219,6 +246,6 @@ pub(crate) fn check_stale(rt: &impl Abort, alloc: Global, file: &MarketFile) -> 
     requires { IsTreeOf file.now.net file.now.tree }
 {
     let mut engine = start::<SumProd, TreeEngine<SumProd>>(alloc, file)?;
-    check_messages(rt, &mut engine, &file.net);
+    check_messages(rt, &mut engine, file);
     Ok(())
 }

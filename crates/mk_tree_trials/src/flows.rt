@@ -50,7 +50,7 @@ fn holds_family(net: &Network, tree: &Tree, clique: u32, variable: u32) -> bool
 }
 
 /// Whether a clique holds each variable of an event.
-fn holds_event(tree: &Tree, clique: u32, event: &Event) -> bool
+pub(crate) fn holds_event(tree: &Tree, clique: u32, event: &Event) -> bool
     requires { IsClique tree.now clique }
     ensures { result ≡ holds_event event.now (clique_at tree.now clique) }
 {

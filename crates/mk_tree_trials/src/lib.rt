@@ -1,5 +1,5 @@
-//! Trials of trees, tables, flows and engines, and of a plain walk over all states, over their public calls: a crate of its own, since a
-//! crate with tests is proved twice.
+//! Trials of trees, flows and engines, and of a plain walk over all states, over their public calls: a crate of its own, since a crate
+//! with tests is proved twice.
 #![tactic(auto)]
 
 #[cfg(test)]
@@ -7,13 +7,13 @@ mod both;
 #[cfg(test)]
 mod chain;
 #[cfg(test)]
+mod edits;
+#[cfg(test)]
 mod engines;
 #[cfg(test)]
 mod fixtures;
 #[cfg(test)]
 mod flows;
-#[cfg(test)]
-mod tables;
 #[cfg(test)]
 mod trees;
 #[cfg(test)]

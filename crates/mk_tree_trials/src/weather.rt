@@ -11,7 +11,7 @@ use crate::fixtures::read;
 use mk_engine::Engine;
 use mk_file::MarketFile;
 use mk_joint::JointEngine;
-use mk_net::{Event, Network};
+use mk_net::Event;
 use mk_semiring::{Held, MinProd, Semiring, SumProd};
 use mk_tree_engine::TreeEngine;
 use std::alloc::Global;
@@ -38,15 +38,15 @@ fn whole(n: u64) -> Exact {
 fn expect_rounded<R: Semiring<Value = Held>, E: Engine<R>>(
     rt: &impl Abort,
     engine: &mut E,
-    net: &Network,
+    file: &MarketFile,
     event: &Event,
     before: u32,
 )
-    requires used { IsInUse E.stands_for engine.old net.now before }
-    requires own { AllByRecursion (IsPairOf net.now) event.now }
-    ensures { IsInUse E.stands_for engine.new net.now before }
+    requires used { IsInUse E.stands_for engine.old file.now before }
+    requires own { AllByRecursion (IsPairOf file.now.net) event.now }
+    ensures { IsInUse E.stands_for engine.new file.now before }
 {
-    match ask::<R, E>(rt, engine, net, event, before) {
+    match ask::<R, E>(rt, engine, file, event, before) {
         Held::Absent => assert!(rt; false),
         Held::Present(enclosure) => {
             let (low, high) = (enclosure.lo(), enclosure.hi());
@@ -59,21 +59,27 @@ fn expect_rounded<R: Semiring<Value = Held>, E: Engine<R>>(
 fn check_wet<R: Semiring<Value = Held>, E: Engine<R>>(
     rt: &impl Abort,
     engine: &mut E,
-    net: &Network,
+    file: &MarketFile,
     known: &Known,
 )
-    requires { IsInUse E.stands_for engine.old net.now 0 }
+    requires { IsInUse E.stands_for engine.old file.now 0 }
 {
-    let (rain, all) = (event(rt, net, &About(B, None)), Event::empty());
-    tell::<R, E>(rt, engine, net, &Change::Rows(0), 0);
-    tell::<R, E>(rt, engine, net, &Change::Rows(1), 1);
-    expect::<R, E>(rt, engine, net, &rain, 2, whole(known.rain));
-    expect::<R, E>(rt, engine, net, &all, 2, whole(known.all));
-    tell::<R, E>(rt, engine, net, &Change::Known(A), 2);
-    expect::<R, E>(rt, engine, net, &rain, 3, whole(known.wet_rain));
-    expect::<R, E>(rt, engine, net, &all, 3, whole(known.wet));
-    tell::<R, E>(rt, engine, net, &Change::Traded(About(B, Some(A)), 2, 3), 3);
-    expect::<R, E>(rt, engine, net, &all, 4, whole(known.traded));
+    let (rain, all) = (event(rt, &file.net, &About(B, None)), Event::empty());
+    tell::<R, E>(rt, engine, file, &Change::Rows(0), 0);
+    tell::<R, E>(rt, engine, file, &Change::Rows(1), 1);
+    expect::<R, E>(rt, engine, file, &rain, 2, whole(known.rain));
+    expect::<R, E>(rt, engine, file, &all, 2, whole(known.all));
+    tell::<R, E>(rt, engine, file, &Change::Known(A), 2);
+    expect::<R, E>(rt, engine, file, &rain, 3, whole(known.wet_rain));
+    expect::<R, E>(rt, engine, file, &all, 3, whole(known.wet));
+    tell::<R, E>(
+        rt,
+        engine,
+        file,
+        &Change::Traded(About(B, Some(A)), 2, 3),
+        3,
+    );
+    expect::<R, E>(rt, engine, file, &all, 4, whole(known.traded));
 }
 
 /// 60,000,000,000 and 600,000,000,000 times 2^40.
@@ -88,31 +94,37 @@ const TRADE: Change = Change::Traded(About(B, Some(A)), 1256584717458, 733007751
 fn check_dry<R: Semiring<Value = Held>, E: Engine<R>>(
     rt: &impl Abort,
     engine: &mut E,
-    net: &Network,
+    file: &MarketFile,
     known: &Known,
 )
-    requires { IsInUse E.stands_for engine.old net.now 0 }
+    requires { IsInUse E.stands_for engine.old file.now 0 }
 {
-    tell::<R, E>(rt, engine, net, &Change::Rows(0), 0);
-    tell::<R, E>(rt, engine, net, &Change::Rows(1), 1);
-    tell::<R, E>(rt, engine, net, &TRADE, 2);
-    let dry_rain = event(rt, net, &About(B, Some(NOT_A)));
-    expect::<R, E>(rt, engine, net, &dry_rain, 3, DRY_RAIN);
+    tell::<R, E>(rt, engine, file, &Change::Rows(0), 0);
+    tell::<R, E>(rt, engine, file, &Change::Rows(1), 1);
+    tell::<R, E>(rt, engine, file, &TRADE, 2);
+    let dry_rain = event(rt, &file.net, &About(B, Some(NOT_A)));
+    expect::<R, E>(rt, engine, file, &dry_rain, 3, DRY_RAIN);
     expect::<R, E>(
         rt,
         engine,
-        net,
-        &event(rt, net, &About(NOT_A, None)),
+        file,
+        &event(rt, &file.net, &About(NOT_A, None)),
         3,
         known.dry,
     );
-    expect_rounded::<R, E>(rt, engine, net, &event(rt, net, &About(B, Some(A))), 3);
-    tell::<R, E>(rt, engine, net, &Change::Known(NOT_A), 3);
+    expect_rounded::<R, E>(
+        rt,
+        engine,
+        file,
+        &event(rt, &file.net, &About(B, Some(A))),
+        3,
+    );
+    tell::<R, E>(rt, engine, file, &Change::Known(NOT_A), 3);
     expect::<R, E>(
         rt,
         engine,
-        net,
-        &event(rt, net, &About(B, None)),
+        file,
+        &event(rt, &file.net, &About(B, None)),
         4,
         DRY_RAIN,
     );
@@ -128,8 +140,8 @@ fn check_engine<R: Semiring<Value = Held>, E: Engine<R>>(
     requires tree { IsTreeOf file.now.net file.now.tree }
     requires suits { E.suits file.now.net file.now.tree }
 {
-    check_wet::<R, E>(rt, &mut start::<R, E>(alloc, file)?, &file.net, known);
-    check_dry::<R, E>(rt, &mut start::<R, E>(alloc, file)?, &file.net, known);
+    check_wet::<R, E>(rt, &mut start::<R, E>(alloc, file)?, file, known);
+    check_dry::<R, E>(rt, &mut start::<R, E>(alloc, file)?, file, known);
     Ok(())
 }
 

@@ -8,5 +8,6 @@ returns g c = record {
   meaning = opening c.args.file.now.net c.args.file.now.tree;
   stands = c.in_ok-engine.ensures c.args.file.now.net c.args.file.now.tree c.in_ok-plan.ensures;
   of_network = refl;
+  of_tree = refl;
   few = omega arith;
 }

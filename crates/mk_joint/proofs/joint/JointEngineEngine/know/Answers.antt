@@ -8,12 +8,12 @@ use Rattle.mk_joint.proofs.joint.JointEngineEngine.know.Goals as goal
 
 pub restrict-requires : goal.restrict-requires
 restrict-requires g c =
-    subst (λ (s : ScopeOf). has_variable s c.args.pair.variable ≡ true) (sym c.requires.stands.scope)
-    (has_all c.requires.meaning.network c.args.pair.variable c.requires.in_range.variable)
+    let a = c.requires.range in let x = c.args.pair.variable in
+    subst (λ (s : ScopeOf). has_variable s x ≡ true) (sym a.stands.scope) (has_all a.meaning.network x a.in_range.variable)
 
 pub returns : goal.returns
 returns g c = λ m h.
-    let a = c.requires in let old = c.args.self.now.table in
+    let a = c.requires.range in let old = c.args.self.now.table in
     let same = same_sizes a.meaning.network m.network old.scope a.stands.scope h.scope in
     known_more old c.restrict.new.self c.args.self.now.factors m c.args.pair h (pair_same a.meaning.network m.network same c.args.pair a.in_range)
     c.restrict.ensures.scope c.restrict.ensures.shift

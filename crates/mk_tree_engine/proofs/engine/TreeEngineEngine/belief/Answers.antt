@@ -1,109 +1,96 @@
-use Rattle.std.proofs.Common.{◌≡◌, ℕ, true, is_some, sym, ap, subst, ◌∙◌, arith}
-use Rattle.mk_tree.specs.Given.{GivenTree, home, holds_event, clique_at}
-use Rattle.mk_propagate.specs.Shapes.{ShapeOf, IsClique}
-use Rattle.mk_propagate.specs.Flows.{counted_on, reading_grade}
-use Rattle.mk_tree_engine.specs.Engines.{MarkedFlow, ClearsTowards, reading_clique, stale_number, placing_of}
+use Rattle.std.proofs.Common.{◌≡◌, sym, ap, subst, ◌∙◌, arith}
+use Rattle.mk_tree.specs.Held.{IsHeldAt}
+use Rattle.mk_propagate.specs.Shapes.{ShapeOf}
+use Rattle.mk_propagate.specs.Flows.{counted_on}
+use Rattle.mk_tree_engine.specs.Engines.{MarkedFlow, ClearsTowards, stale_number}
 use Rattle.mk_tree_engine.specs.inner.Marks.{marked, IsMarked}
 use Rattle.mk_tree_engine.specs.inner.Passes.{IsCount}
+use Rattle.mk_tree_engine.proofs.Families.{clique_of}
 use Rattle.mk_tree_engine.proofs.Placed.{stands_old, still_stands}
 use Rattle.mk_tree_engine.proofs.Believing.{can_collect, is_marked, kept_tree, clears, counts, can_read, sharp, belief_of}
 use Rattle.mk_tree_engine.proofs.engine.TreeEngineEngine.belief.Goals as goal
 
-pub event_home-clique-requires : goal.event_home-clique-requires
-event_home-clique-requires g c =
-    let e : c.shape.result.now.tree ≡ c.args.self.now.flow.shape.tree = ap (λ (s : ShapeOf). s.tree) c.shape.ensures ∙ ap (λ (e : MarkedFlow). e.flow.shape.tree) c.self.view_is in
-    subst (λ (t : GivenTree). is_some (home t c.args.event.now) ≡ true) (sym e) c.requires.fits
-
 pub collect-requires-clause-could : goal.collect-requires-clause-could
 collect-requires-clause-could g c =
-    let plus = g.R.Semiring.plus_of in let a = c.requires.range in let k = c.event_home-clique.result in
+    let plus = g.R.Semiring.plus_of in let a = c.requires.range in let k = c.args.at in let event = c.args.event.now in
     let inside = c.self.inside in let old = marked inside.flow inside.marks.up.items inside.marks.down.items in
-    let e : c.shape.result.now.tree ≡ inside.flow.shape.tree = ap (λ (s : ShapeOf). s.tree) c.shape.ensures in
-    let at_k = subst (λ (t : GivenTree). IsClique t k) e c.event_home-clique.ensures.clique in
+    let held = subst (λ (e : MarkedFlow). IsHeldAt e.flow.shape.tree k event) (sym c.self.view_is) c.requires.held in
+    let at_k = clique_of inside.flow.shape.tree k event held in
     can_collect plus old c.self.invariant.marks_of a.meaning (stands_old plus old c.args.self.now a.meaning c.self.view_is a.stands) k at_k
 
 pub read-requires : goal.read-requires
 read-requires g c =
-    let plus = g.R.Semiring.plus_of in let a = c.requires.range in let k = c.event_home-clique.result in let event = c.args.event.now in
+    let plus = g.R.Semiring.plus_of in let a = c.requires.range in let k = c.args.at in let event = c.args.event.now in
     let inside = c.self.inside in let old = marked inside.flow inside.marks.up.items inside.marks.down.items in
     let last = marked c.collect.new.flow c.collect.new.marks.up.items c.collect.new.marks.down.items in
-    let e : c.shape.result.now.tree ≡ inside.flow.shape.tree = ap (λ (s : ShapeOf). s.tree) c.shape.ensures in
-    let at_k = subst (λ (t : GivenTree). IsClique t k) e c.event_home-clique.ensures.clique in
-    let holds = subst (λ (t : GivenTree). holds_event event (clique_at t k) ≡ true) e c.event_home-clique.ensures.fits in
+    let held = subst (λ (e : MarkedFlow). IsHeldAt e.flow.shape.tree k event) (sym c.self.view_is) c.requires.held in
+    let at_k = clique_of inside.flow.shape.tree k event held in
     let h = stands_old plus old c.args.self.now a.meaning c.self.view_is a.stands in
-    can_read plus old c.self.invariant.marks_of k at_k last c.collect.ensures.made a.meaning h event holds
+    can_read plus old c.self.invariant.marks_of k at_k last c.collect.ensures.made a.meaning h event held.held
 
 pub invariant_of-self : goal.invariant_of-self
 invariant_of-self g c =
-    let plus = g.R.Semiring.plus_of in let k = c.event_home-clique.result in
+    let plus = g.R.Semiring.plus_of in let k = c.args.at in let event = c.args.event.now in
     let inside = c.self.inside in let old = marked inside.flow inside.marks.up.items inside.marks.down.items in
     let last = marked c.collect.new.flow c.collect.new.marks.up.items c.collect.new.marks.down.items in
-    let e : c.shape.result.now.tree ≡ inside.flow.shape.tree = ap (λ (s : ShapeOf). s.tree) c.shape.ensures in
-    let at_k = subst (λ (t : GivenTree). IsClique t k) e c.event_home-clique.ensures.clique in
+    let held = subst (λ (e : MarkedFlow). IsHeldAt e.flow.shape.tree k event) (sym c.self.view_is) c.requires.held in
+    let at_k = clique_of inside.flow.shape.tree k event held in
     subst (λ (s : ShapeOf). IsMarked s.tree c.collect.new.marks.up.items c.collect.new.marks.down.items c.collect.new.marks.collected) (sym c.read.ensures.kept.same_shape)
     (is_marked plus old c.self.invariant.marks_of k at_k last c.collect.ensures.made c.collect.new.marks.collected c.collect.ensures.collected)
 
 pub returns-clause-kept : goal.returns-clause-kept
 returns-clause-kept g c = λ m stands.
-    let plus = g.R.Semiring.plus_of in let k = c.event_home-clique.result in
+    let plus = g.R.Semiring.plus_of in let k = c.args.at in let event = c.args.event.now in
     let inside = c.self.inside in let old = marked inside.flow inside.marks.up.items inside.marks.down.items in
     let last = marked c.collect.new.flow c.collect.new.marks.up.items c.collect.new.marks.down.items in
-    let e : c.shape.result.now.tree ≡ inside.flow.shape.tree = ap (λ (s : ShapeOf). s.tree) c.shape.ensures in
-    let at_k = subst (λ (t : GivenTree). IsClique t k) e c.event_home-clique.ensures.clique in
+    let held = subst (λ (e : MarkedFlow). IsHeldAt e.flow.shape.tree k event) (sym c.self.view_is) c.requires.held in
+    let at_k = clique_of inside.flow.shape.tree k event held in
     let h = stands_old plus old c.args.self.now m c.self.view_is stands in
     still_stands plus c.collect.new.flow c.read.new.self c.collect.new.marks.up.items c.collect.new.marks.down.items m c.read.ensures.kept c.read.ensures.still
     (kept_tree plus old c.self.invariant.marks_of k at_k last c.collect.ensures.made m h)
 
 pub returns-clause-belief : goal.returns-clause-belief
 returns-clause-belief g c = λ m stands.
-    let R = g.R.Semiring in let plus = R.plus_of in let law = g.met.R.Semiring in let k = c.event_home-clique.result in
+    let R = g.R.Semiring in let plus = R.plus_of in let law = g.met.R.Semiring in let k = c.args.at in let event = c.args.event.now in
     let inside = c.self.inside in let old = marked inside.flow inside.marks.up.items inside.marks.down.items in
     let last = marked c.collect.new.flow c.collect.new.marks.up.items c.collect.new.marks.down.items in
-    let e : c.shape.result.now.tree ≡ inside.flow.shape.tree = ap (λ (s : ShapeOf). s.tree) c.shape.ensures in
-    let at_k = subst (λ (t : GivenTree). IsClique t k) e c.event_home-clique.ensures.clique in
+    let held = subst (λ (e : MarkedFlow). IsHeldAt e.flow.shape.tree k event) (sym c.self.view_is) c.requires.held in
+    let at_k = clique_of inside.flow.shape.tree k event held in
     let h = stands_old plus old c.args.self.now m c.self.view_is stands in
     belief_of plus old c.self.invariant.marks_of k at_k last c.collect.ensures.made
-    R.encloses R.has_grade R.is_exact law.grade_more c.args.event.now c.read.result c.read.ensures.reading m h
+    R.encloses R.has_grade R.is_exact law.grade_more event c.read.result c.read.ensures.reading m h
 
 pub returns-clause-shape : goal.returns-clause-shape
 returns-clause-shape g c = c.read.ensures.kept.same_shape ∙ c.collect.ensures.made.kept.same_shape ∙ ap (λ (e : MarkedFlow). e.flow.shape) c.self.view_is
 
 pub returns-clause-counted : goal.returns-clause-counted
 returns-clause-counted g c =
-    let plus = g.R.Semiring.plus_of in let k = c.event_home-clique.result in let event = c.args.event.now in
+    let plus = g.R.Semiring.plus_of in let k = c.args.at in let event = c.args.event.now in
     let inside = c.self.inside in let old = marked inside.flow inside.marks.up.items inside.marks.down.items in
     let last = marked c.collect.new.flow c.collect.new.marks.up.items c.collect.new.marks.down.items in
-    let e : c.shape.result.now.tree ≡ inside.flow.shape.tree = ap (λ (s : ShapeOf). s.tree) c.shape.ensures in
-    let at_k = subst (λ (t : GivenTree). IsClique t k) e c.event_home-clique.ensures.clique in
+    let held = subst (λ (e : MarkedFlow). IsHeldAt e.flow.shape.tree k event) (sym c.self.view_is) c.requires.held in
+    let at_k = clique_of inside.flow.shape.tree k event held in
     let few : IsCount inside.flow.computed = omega (arith, c.computed.ensures, c.computed.type_inv) in
     let counted = counts plus old c.self.invariant.marks_of k at_k last c.collect.ensures.made few in
-    let place : k ≡ reading_clique c.args.self.now.flow.shape.tree event =
-    c.event_home-clique.ensures.home ∙ ap (λ (t : GivenTree). reading_clique t event) (e ∙ ap (λ (e : MarkedFlow). e.flow.shape.tree) c.self.view_is) in
-    subst (λ (n : ℕ). c.read.new.self.computed ≡ counted_on c.args.self.now.flow.computed (stale_number c.args.self.now n)) place
-    (subst (λ (o : MarkedFlow). c.read.new.self.computed ≡ counted_on o.flow.computed (stale_number o k)) c.self.view_is (c.read.ensures.kept.same_count ∙ counted))
+    subst (λ (o : MarkedFlow). c.read.new.self.computed ≡ counted_on o.flow.computed (stale_number o k)) c.self.view_is (c.read.ensures.kept.same_count ∙ counted)
 
 pub returns-clause-marks : goal.returns-clause-marks
 returns-clause-marks g c =
-    let plus = g.R.Semiring.plus_of in let k = c.event_home-clique.result in let event = c.args.event.now in
+    let plus = g.R.Semiring.plus_of in let k = c.args.at in let event = c.args.event.now in
     let inside = c.self.inside in let old = marked inside.flow inside.marks.up.items inside.marks.down.items in
     let last = marked c.collect.new.flow c.collect.new.marks.up.items c.collect.new.marks.down.items in
-    let e : c.shape.result.now.tree ≡ inside.flow.shape.tree = ap (λ (s : ShapeOf). s.tree) c.shape.ensures in
-    let at_k = subst (λ (t : GivenTree). IsClique t k) e c.event_home-clique.ensures.clique in
-    let place : k ≡ reading_clique c.args.self.now.flow.shape.tree event =
-    c.event_home-clique.ensures.home ∙ ap (λ (t : GivenTree). reading_clique t event) (e ∙ ap (λ (e : MarkedFlow). e.flow.shape.tree) c.self.view_is) in
+    let held = subst (λ (e : MarkedFlow). IsHeldAt e.flow.shape.tree k event) (sym c.self.view_is) c.requires.held in
+    let at_k = clique_of inside.flow.shape.tree k event held in
     let read = marked c.read.new.self c.collect.new.marks.up.items c.collect.new.marks.down.items in
-    subst (λ (n : ℕ). ClearsTowards c.args.self.now read n) place
-    (subst (λ (o : MarkedFlow). ClearsTowards o read k) c.self.view_is (clears plus old c.self.invariant.marks_of k at_k last c.collect.ensures.made))
+    subst (λ (o : MarkedFlow). ClearsTowards o read k) c.self.view_is (clears plus old c.self.invariant.marks_of k at_k last c.collect.ensures.made)
 
 pub returns-clause-sharp : goal.returns-clause-sharp
 returns-clause-sharp g c = λ m stands.
-    let R = g.R.Semiring in let plus = R.plus_of in let law = g.met.R.Semiring in let k = c.event_home-clique.result in let event = c.args.event.now in
+    let R = g.R.Semiring in let plus = R.plus_of in let law = g.met.R.Semiring in let k = c.args.at in let event = c.args.event.now in
     let inside = c.self.inside in let old = marked inside.flow inside.marks.up.items inside.marks.down.items in
     let last = marked c.collect.new.flow c.collect.new.marks.up.items c.collect.new.marks.down.items in
-    let e : c.shape.result.now.tree ≡ inside.flow.shape.tree = ap (λ (s : ShapeOf). s.tree) c.shape.ensures in
-    let at_k = subst (λ (t : GivenTree). IsClique t k) e c.event_home-clique.ensures.clique in
+    let held = subst (λ (e : MarkedFlow). IsHeldAt e.flow.shape.tree k event) (sym c.self.view_is) c.requires.held in
+    let at_k = clique_of inside.flow.shape.tree k event held in
     let h = stands_old plus old c.args.self.now m c.self.view_is stands in
-    let place : k ≡ reading_clique m.tree event = c.event_home-clique.ensures.home ∙ ap (λ (t : GivenTree). reading_clique t event) (e ∙ h.tree_is) in
-    subst (λ (n : ℕ). R.has_grade c.read.result (reading_grade m.tree (placing_of m) n)) place
-    (sharp plus old c.self.invariant.marks_of k at_k last c.collect.ensures.made
-    R.encloses R.has_grade R.is_exact law.grade_more event c.read.result c.read.ensures.reading m h)
+    sharp plus old c.self.invariant.marks_of k at_k last c.collect.ensures.made
+    R.encloses R.has_grade R.is_exact law.grade_more event c.read.result c.read.ensures.reading m h

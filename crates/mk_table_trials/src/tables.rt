@@ -7,7 +7,7 @@ ghost use Rattle.mk_net.specs.Network.{sizes};
 ghost use Rattle.mk_net.specs.Trades.{trade_ratio};
 ghost use Rattle.mk_table.specs.Scopes.{LiesIn};
 ghost use Rattle.mk_table.specs.Tables.{HasRoom};
-ghost use Rattle.mk_tree_trials.specs.Weather.{of_all, of_rain, of_wind};
+ghost use Rattle.mk_table_trials.specs.Weather.{of_all, of_rain, of_wind};
 
 use crate::fixtures::{only, read};
 use arrayvec::ArrayVec;

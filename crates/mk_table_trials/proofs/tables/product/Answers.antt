@@ -1,7 +1,7 @@
 use Rattle.std.proofs.Common.{refl, sym, subst, arith, lit<, ◌∙◌}
 use Rattle.mk_table.specs.Tables.{TableOf, HasRoom}
-use Rattle.mk_tree_trials.proofs.Examples.{one_parent, room_of}
-use Rattle.mk_tree_trials.proofs.tables.product.Goals as goal
+use Rattle.mk_table_trials.proofs.Examples.{one_parent, room_of}
+use Rattle.mk_table_trials.proofs.tables.product.Goals as goal
 
 pub times_rows-requires-2-clause-parents : goal.times_rows-requires-2-clause-parents
 times_rows-requires-2-clause-parents g c =

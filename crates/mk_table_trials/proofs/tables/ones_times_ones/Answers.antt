@@ -1,6 +1,6 @@
 use Rattle.std.proofs.Common.{arith, lit<}
-use Rattle.mk_tree_trials.proofs.Examples.{room_of}
-use Rattle.mk_tree_trials.proofs.tables.ones_times_ones.Goals as goal
+use Rattle.mk_table_trials.proofs.Examples.{room_of}
+use Rattle.mk_table_trials.proofs.tables.ones_times_ones.Goals as goal
 
 pub returns-clause-room : goal.returns-clause-room
 returns-clause-room g c =
