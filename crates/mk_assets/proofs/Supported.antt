@@ -1,7 +1,7 @@
 -- The supports of a network's variables as factors: few, of its variables, and none of them a trade.
 use Rattle.std.proofs.Common.{◌≡◌, ℕ, zero, suc, ◌+◌, ◌<◌, ◌≤◌, Bool, true, false, cond, List, [], ◌∷◌, map, filter, length, slice_index, refl, arith}
 use Rattle.std.specs.List.{count_by, range_with_len, AllByRecursion}
-use Rattle.std.proofs.lemmas.List.Elements.{All-from_recursion, All-get_or}
+use Rattle.std.proofs.lemmas.List.Elements.{All-from_recursion}
 use Rattle.std.proofs.lemmas.List.FromFn.{length-range_with_len}
 use Rattle.mk_net.specs.Network.{Variable}
 use Rattle.mk_net.specs.Zeros.{has_zero, with_zeros}

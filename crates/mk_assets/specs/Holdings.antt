@@ -1,5 +1,5 @@
 -- What one user's assets stand for, and what is asked of them.
-use Rattle.std.specs.Prelude.{◌≡◌, ℕ, ◌+◌, ◌*◌, ◌<◌, ◌≤◌, ℤ, List, map, Bool, true, length, Option, IsNone, IfSome, ◌↔◌}
+use Rattle.std.specs.Prelude.{◌≡◌, ℕ, ◌+◌, ◌*◌, ◌<◌, ◌≤◌, ℤ, List, map, length, Option, IsNone, IfSome, ◌↔◌}
 use Rattle.std.specs.List.{count_by}
 use Rattle.mk_net.specs.declared.words.Pair.{Pair}
 use Rattle.mk_net.specs.Asked.{Asked, TradeRatio}

@@ -1,8 +1,6 @@
 -- What is found after some of the values, and what a call for one value more asks.
-use Rattle.std.proofs.Common.{◌≡◌, ℕ, suc, zero, ◌+◌, ◌^◌, ◌<◌, ◌≤◌, Bool, true, cond, not, eqb, List, [], ◌∷◌, ◌++◌, length, filter, slice_index, sym, ap, subst, ◌∙◌, arith, append-nil, add-one, eq-eqb, ne_eqb}
-use Rattle.std.proofs.Math.Path.{fun_ext}
+use Rattle.std.proofs.Common.{◌≡◌, ℕ, suc, zero, ◌+◌, ◌^◌, ◌<◌, ◌≤◌, true, cond, not, eqb, List, [], ◌∷◌, ◌++◌, length, filter, slice_index, sym, ap, subst, ◌∙◌, arith, append-nil, add-one, eq-eqb, ne_eqb}
 use Rattle.std.proofs.Math.Nat.{lt_of_le_of_lt}
-use Rattle.std.specs.Prelude.{option_map, position, is_some}
 use Rattle.std.specs.List.{range_with_len}
 use Rattle.std.proofs.lemmas.List.Elements.{filter-append, All-from_recursion}
 use Rattle.mk_net.specs.declared.words.Pair.{Pair}

@@ -1,6 +1,5 @@
 use Rattle.std.proofs.Common.{◌<◌, ◌≤◌, ℕ, List, [], map, take, length, slice_index, refl, sym, subst, arith}
 use Rattle.std.proofs.lemmas.List.{length-map, length-take}
-use Rattle.mk_net.specs.Zeros.{with_zeros}
 use Rattle.mk_engine.specs.Meaning.{SupportOf}
 use Rattle.mk_assets.proofs.Supported.{zero_within, few_zeros}
 use Rattle.mk_assets.proofs.assets.Assets.supported.Goals as goal
