@@ -25,13 +25,13 @@ use Rattle.mk_answers.specs.Open.{holding_of}
 use Rattle.mk_market.specs.declared.users.Member.{Member}
 use Rattle.mk_market.specs.Journals.{JournalOf}
 use Rattle.mk_market.specs.Members.{assets_of, quotes_of, with_assets}
-use Rattle.mk_market.specs.Points.{IsAccount}
+use Rattle.mk_market.specs.Points.{IsAccount, ArePaidBy}
 use Rattle.mk_market.specs.Refused.{IsUser, HasRoomForTransfer}
 use Rattle.mk_market.specs.inner.Keeping.{quoted, standing_of, IsKept}
 use Rattle.mk_market.proofs.Appends.{not_there, not_found}
 use Rattle.mk_market.proofs.Growing.{kept_grown}
 use Rattle.mk_market.proofs.Owned.{names_same, quotes_same, owned_one, deposit_holding, deposit_others, few_moved}
-use Rattle.mk_market.proofs.Accounted.{accounts_deposited}
+use Rattle.mk_market.proofs.Accounted.{paid_set, accounts_deposited}
 use Rattle.mk_market.proofs.Replies.{answer_allowed, unsettled}
 
 module _ {P A Plan : Type 0} (weights_stand : P → Meaning → Type 0) (gains_stand : A → Meaning → Type 0) (plan_for : Plan → List Variable → GivenTree → Type 0)
@@ -49,6 +49,14 @@ module _ {P A Plan : Type 0} (weights_stand : P → Meaning → Type 0) (gains_s
       let account : IsAccount (market_of file) journal.history user (account_of accounts user) = kept.accounts_kept.each user (omega (arith, is_user.within, kept.accounts_kept.one_each)) in
       let most : file.points_per_bit * (deposited journal.history user + bits) ≤ 1000000 * 65536000 = mul-le-mul file.points_most bits_fit in
       omega (arith, account.paid_in, most)
+
+  pub deposit_paid : (new_accounts : List Account)
+      → new_accounts ≡ slice_set accounts user (let account = account_of accounts user in record account { deposited = account.deposited + file.points_per_bit * bits })
+      → (at : ℕ) → ArePaidBy (Deposited name bits at) accounts new_accounts
+  deposit_paid new_accounts entered at u =
+      ap (λ (xs : List Account). (account_of xs u).paid) entered
+      ∙ paid_set accounts user (let account = account_of accounts user in record account { deposited = account.deposited + file.points_per_bit * bits })
+      (omega (arith, is_user.within, kept.accounts_kept.one_each)) refl u
 
   module _ (before now : Assets A Plan) (there : slice_get (assets_of members) user ≡ Some before) (new_accounts : List Account) (new_journal : JournalOf)
       (history : new_journal.history ≡ journal.history ++ Deposits user bits ∷ []) (none : None ≡ first_refusal (market_of file) journal.history (Deposit name bits)) where

@@ -14,7 +14,7 @@ use Rattle.mk_engine.specs.Meaning.{Meaning}
 use Rattle.mk_assets.specs.declared.assets.Assets.{Assets}
 use Rattle.mk_assets.specs.Holdings.{Owns, opening_holding}
 use Rattle.mk_cash.specs.declared.ledger.Account.{Account}
-use Rattle.mk_cash.specs.Accounts.{empty_account}
+use Rattle.mk_cash.specs.Accounts.{account_of, empty_account}
 use Rattle.mk_command.specs.declared.command.Command.TheVariants.{User}
 use Rattle.mk_reply.specs.declared.payments.Payment.{Payment}
 use Rattle.mk_reply.specs.declared.refusal.Refusal.TheVariants.{Memory}
@@ -25,12 +25,13 @@ use Rattle.mk_rules.specs.Transcript.{OfCommand, IsAllowedFor, after}
 use Rattle.mk_market.specs.declared.users.Member.{Member}
 use Rattle.mk_market.specs.Journals.{JournalOf}
 use Rattle.mk_market.specs.Members.{new_member, names_of, quotes_of}
+use Rattle.mk_market.specs.Points.{ArePaidBy}
 use Rattle.mk_market.specs.Trading.{Trading, IsAnswered}
 use Rattle.mk_market.specs.inner.Keeping.{quoted, standing_of, IsKept}
 use Rattle.mk_market.proofs.Appends.{not_there}
 use Rattle.mk_market.proofs.Growing.{kept_grown}
 use Rattle.mk_market.proofs.Owned.{owned_joined, none_quoted_joined}
-use Rattle.mk_market.proofs.Accounted.{accounts_joined}
+use Rattle.mk_market.proofs.Accounted.{paid_opened, accounts_joined}
 use Rattle.mk_market.proofs.Replies.{answer_allowed, refused_stays, unsettled}
 
 -- where memory is wanting nothing changes
@@ -39,6 +40,7 @@ memory_answered now name none = record {
   same_market = refl;
   allowed = answer_allowed now.market now.standing (User name) (Refused Memory) none (inr refl);
   next = refused_stays now.market now.standing (User name) Memory tt;
+  paid = λ u. refl;
 }
 
 module _ {P A Plan : Type 0} (weights_stand : P → Meaning → Type 0) (gains_stand : A → Meaning → Type 0) (plan_for : Plan → List Variable → GivenTree → Type 0)
@@ -61,6 +63,9 @@ module _ {P A Plan : Type 0} (weights_stand : P → Meaning → Type 0) (gains_s
     pub join_allowed : (at : ℕ) → at ≡ revision new_journal.history → IsAllowedFor (market_of file) (standing_of journal members) (OfCommand (User name)) (Joined name at)
     join_allowed at e = answer_allowed (market_of file) (standing_of journal members) (User name) (Joined name at) none
         (Rattle.std.proofs.Common.inl (ap (λ (n : ℕ). Joined name n) (e ∙ ap (λ (H : List Entry). length H) history ∙ length_push journal.history (Join name))))
+
+    pub join_paid : (at : ℕ) → new_accounts ≡ accounts ++ empty_account ∷ [] → ArePaidBy (Joined name at) accounts new_accounts
+    join_paid at opened u = ap (λ (xs : List Account). (account_of xs u).paid) opened ∙ paid_opened accounts u
 
     names_more : names_of new_members ≡ users (journal.history ++ Join name ∷ [])
     names_more =

@@ -92,6 +92,7 @@ refused_answered old command why other e = record {
   same_market = refl;
   allowed = refusal_allowed old.market old.standing command why e;
   next = refused_stays old.market old.standing command why other;
+  paid = λ u. refl;
 }
 
 -- so does the market

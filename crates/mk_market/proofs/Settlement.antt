@@ -3,6 +3,7 @@ use Rattle.std.specs.Prelude.{◌≡◌, ℕ, ◌+◌, ◌*◌, ◌^◌, ◌<◌
 use Rattle.std.specs.List.{AllZip, enumerate_from}
 use Rattle.std.proofs.Common.{refl, sym, ap, ap₂, ◌∙◌, subst, arith, add-zero}
 use Rattle.std.proofs.lemmas.List.{length_push}
+use Rattle.std.proofs.lemmas.Option.{slice_get_within}
 use Rattle.mk_net.specs.Network.{Variable}
 use Rattle.mk_net.specs.declared.words.Pair.{Pair}
 use Rattle.mk_exact.specs.Cash.{CoversCash}
@@ -35,7 +36,7 @@ use Rattle.mk_answers.specs.Open.{holding_of}
 use Rattle.mk_market.specs.declared.users.Member.{Member}
 use Rattle.mk_market.specs.Journals.{JournalOf}
 use Rattle.mk_market.specs.Members.{names_of, quotes_of}
-use Rattle.mk_market.specs.Points.{IsPaidOff, AreAccounts}
+use Rattle.mk_market.specs.Points.{IsPaidOff, AreAccounts, ArePaidBy}
 use Rattle.mk_market.specs.Refused.{CanBeSettled}
 use Rattle.mk_market.specs.inner.Keeping.{quoted, standing_of, IsKept}
 use Rattle.mk_market.specs.inner.Paying.{ArePaid}
@@ -59,6 +60,12 @@ payment_at R (x ∷ xs) (p ∷ ps) m (suc u) h l =
     let later = payment_at R xs ps (m + 1) u (h.1) (omega (arith, l)) in
     let same : m + 1 + u ≡ m + suc u = omega arith in
     (later.0, later.1, later.2, subst (λ (k : ℕ). R (k, later.0) (later.1)) same (later.3))
+
+one_for_each : {A B : Type 0} (R : ℕ × A → B → Type 0) (names : List A) (pays : List B) (m : ℕ) → AllZip R (enumerate_from m names) pays → length pays ≡ length names
+one_for_each R [] [] m h = refl
+one_for_each R [] (p ∷ ps) m h = absurd h
+one_for_each R (x ∷ xs) [] m h = absurd h
+one_for_each R (x ∷ xs) (p ∷ ps) m h = let later = one_for_each R xs ps (m + 1) (h.1) in omega (arith, later)
 
 -- the small case, and a user without trades, are what they were before the settlement
 small_before : (network : List Variable) (H : List Entry) → IsSmall network (H ++ Settles ∷ []) → IsSmall network H
@@ -135,6 +142,14 @@ module _ {P A Plan : Type 0} (weights_stand : P → Meaning → Type 0) (gains_s
 
   pub settlement_next : standing_of new_journal new_members ≡ after (market_of file) (standing_of journal members) (OfCommand Settle) (Settled at pays)
   settlement_next = ap₂ (λ (H : List Entry) (qs : List (Option LastQuote)). record { history = H; quotes = map (option_map quoted) qs }) history same_quotes
+
+  -- there is one payment for each account, and each account was paid nothing before
+  pub settlement_paid : (new_accounts : List Account) → ArePaid accounts new_accounts pays → ArePaidBy (Settled at pays) accounts new_accounts
+  settlement_paid new_accounts entered u payment there =
+      let few = slice_get_within pays u payment there in
+      let one_each = one_for_each (IsPayment file.net journal.history file.points_per_bit outcome.state) (users journal.history) pays 0 paid_there in
+      let before = kept.accounts_kept.each u (omega (arith, few, one_each, kept.accounts_kept.one_each)) in
+      omega (arith, entered.paid u payment there, before.unpaid can.unsettled)
 
   -- the market is kept
   pub settlement_kept : (new_accounts : List Account) (left : Option (List Payment)) → new_journal.max_trades ≡ journal.max_trades → names_of new_members ≡ names_of members

@@ -69,6 +69,7 @@ refused_answered old name v condition to seen why e = record {
   allowed = refusal_allowed old.market old.standing (Spread name v condition to seen) why e;
   next = none_appended old.market old.standing (Spread name v condition to seen) (Refused why) refl
       (spread_refused old.market old.standing.history old.standing.quotes name v condition to seen why (sym e));
+  paid = λ u. refl;
 }
 
 pub spread_refused_answered : (old known : Trading) → known ≡ old → (name v : List ℕ) (condition : ArrayVec PairText) (to : ArrayVec ℕ) (seen : Option ℕ) (why : Refusal)
@@ -246,7 +247,7 @@ module _ {P A Plan : Type 0} (weights_stand : P → Meaning → Type 0) (gains_s
   -- the bounds of a spread
   pub bounds_answered : (box : Option (ArrayVec (ℕ × ℕ))) (at : ℕ) → None ≡ first_refusal (market_of file) journal.history (Bounds name v condition)
       → given_in box ≡ intervals_of quote → AreRightForEach (sides_of quote) (given_in box) → at ≡ revision journal.history
-      → IsAnswered (trading file journal members) (trading file journal new_members) (Bounds name v condition) (Bounded box at)
+      → IsAnswered (trading file accounts journal members) (trading file accounts journal new_members) (Bounds name v condition) (Bounded box at)
   bounds_answered box at none given right now = record {
     same_market = refl;
     allowed = answer_allowed (market_of file) (standing_of journal members) (Bounds name v condition) (Bounded box at) none
@@ -257,13 +258,14 @@ module _ {P A Plan : Type 0} (weights_stand : P → Meaning → Type 0) (gains_s
           right = subst (λ (n : ℕ). AreRightBoundsOf file.net journal.history n spread (given_in box)) is_user.number (right_for (given_in box) right);
         }));
     next = next_quoted (given_in box) given;
+    paid = λ u. refl;
   }
 
   -- a spread that is outside of the quote's bounds
   pub outside_answered : (to : ArrayVec ℕ) (seen : Option ℕ) (box : Option (ArrayVec (ℕ × ℕ))) → None ≡ first_refusal (market_of file) journal.history (Spread name v condition to seen)
       → IsOutside quote to.items box
       → ((held : SpreadQuote) → slice_get (quotes_of members) user ≡ Some (Some (LastBounds held)) → IsSpreadFor held spread (revision journal.history) → quote ≡ held)
-      → IsAnswered (trading file journal members) (trading file journal new_members) (Spread name v condition to seen) (Refused (Outside box))
+      → IsAnswered (trading file accounts journal members) (trading file accounts journal new_members) (Spread name v condition to seen) (Refused (Outside box))
   outside_answered to seen box none out last =
       let reply = Refused (Outside box) in
       let outside : PrintsOutside (intervals_of quote) to.items reply = record { outside = out.outside; box = box; given = out.given; printed = refl } in
@@ -277,6 +279,7 @@ module _ {P A Plan : Type 0} (weights_stand : P → Meaning → Type 0) (gains_s
             }))
             (inr outside);
         next = next_quoted (given_in box) out.given;
+        paid = λ u. refl;
       }
 
 -- ---- a trade
@@ -317,5 +320,6 @@ module _ (file : MarketFile) (journal : JournalOf) (open_for : IsOpen file.net f
         ∙ ap (λ (n : ℕ). journal.history ++ option_to_list (option_map (λ (s : SpreadAsked). Trade n (spread_ratio s factors.items)) (spread_named file.net v condition.items))) is_user.number)
         same_quotes
 
-    pub spread_trade_answered : IsAnswered (trading file journal members) (trading file new_journal new_members) (Spread name v condition to seen) (Spreaded factors at)
-    spread_trade_answered = record { same_market = refl; allowed = spread_trade_allowed; next = spread_trade_next }
+    pub spread_trade_answered : (accounts : List Account)
+        → IsAnswered (trading file accounts journal members) (trading file accounts new_journal new_members) (Spread name v condition to seen) (Spreaded factors at)
+    spread_trade_answered accounts = record { same_market = refl; allowed = spread_trade_allowed; next = spread_trade_next; paid = λ u. refl }

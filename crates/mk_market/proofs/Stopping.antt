@@ -17,6 +17,7 @@ use Rattle.mk_tree.specs.Given.{GivenTree, home}
 use Rattle.mk_tree.proofs.Held.{home_is_held}
 use Rattle.mk_file.specs.declared.market_file.MarketFile.{MarketFile}
 use Rattle.mk_file.specs.MarketOf.{market_of}
+use Rattle.mk_cash.specs.declared.ledger.Account.{Account}
 use Rattle.mk_engine.specs.Meaning.{Meaning}
 use Rattle.mk_beliefs.specs.Meanings.{weights_of}
 use Rattle.mk_command.specs.declared.command.Command.TheVariants.{Price, Limits, Edit}
@@ -125,31 +126,33 @@ edit_unrefused file H name q X seen asked named left none =
     unrefused (market_of file) H (Edit name q X seen) none (none_stops file.net H q asked (record { named = named; known = edit_known file H name q X seen none }) left)
 
 -- the market answers with the refusal
-module _ {A Plan : Type 0} (file : MarketFile) (journal : JournalOf) (members new_members : List (Member A Plan)) (same_quotes : quotes_of new_members ≡ quotes_of members) where
+module _ {A Plan : Type 0} (file : MarketFile) (accounts : List Account) (journal : JournalOf) (members new_members : List (Member A Plan)) (same_quotes : quotes_of new_members ≡ quotes_of members) where
   same_standing : standing_of journal new_members ≡ standing_of journal members
   same_standing = ap (λ (qs : List (Option LastQuote)). record { history = journal.history; quotes = map (option_map quoted) qs }) same_quotes
 
   pub price_stopped : (q : QuestionText) (why : Refusal) → None ≡ first_of (refusals_by_record (market_of file) journal.history (Price q))
-      → impossible_together file.net journal.history q.condition.items ≡ Some why → IsAnswered (trading file journal members) (trading file journal new_members) (Price q) (Refused why)
+      → impossible_together file.net journal.history q.condition.items ≡ Some why → IsAnswered (trading file accounts journal members) (trading file accounts journal new_members) (Price q) (Refused why)
   price_stopped q why none e = record {
     same_market = refl;
     allowed = refusal_allowed (market_of file) (standing_of journal members) (Price q) why
         (stopped_by_states (market_of file) journal.history (Price q) why none (first_is _ _ why e));
     next = same_standing ∙ none_appended (market_of file) (standing_of journal members) (Price q) (Refused why) refl refl;
+    paid = λ u. refl;
   }
 
   pub limits_stopped : (name : List ℕ) (q : QuestionText) (why : Refusal) → None ≡ first_of (refusals_by_record (market_of file) journal.history (Limits name q))
       → first_of (refusals_by_states (market_of file) journal.history (Limits name q)) ≡ Some why
-      → IsAnswered (trading file journal members) (trading file journal new_members) (Limits name q) (Refused why)
+      → IsAnswered (trading file accounts journal members) (trading file accounts journal new_members) (Limits name q) (Refused why)
   limits_stopped name q why none e = record {
     same_market = refl;
     allowed = refusal_allowed (market_of file) (standing_of journal members) (Limits name q) why (stopped_by_states (market_of file) journal.history (Limits name q) why none e);
     next = same_standing ∙ none_appended (market_of file) (standing_of journal members) (Limits name q) (Refused why) refl refl;
+    paid = λ u. refl;
   }
 
   pub edit_stopped : (name : List ℕ) (q : QuestionText) (X : ℕ) (seen : Option ℕ) (why : Refusal) → None ≡ first_of (refusals_by_record (market_of file) journal.history (Edit name q X seen))
       → first_of (refusals_by_states (market_of file) journal.history (Edit name q X seen)) ≡ Some why
-      → IsAnswered (trading file journal members) (trading file journal new_members) (Edit name q X seen) (Refused why)
+      → IsAnswered (trading file accounts journal members) (trading file accounts journal new_members) (Edit name q X seen) (Refused why)
   edit_stopped name q X seen why none e =
       let first = stopped_by_states (market_of file) journal.history (Edit name q X seen) why none e in
       record {
@@ -157,4 +160,5 @@ module _ {A Plan : Type 0} (file : MarketFile) (journal : JournalOf) (members ne
         allowed = refusal_allowed (market_of file) (standing_of journal members) (Edit name q X seen) why first;
         next = same_standing ∙ none_appended (market_of file) (standing_of journal members) (Edit name q X seen) (Refused why) refl
             (edit_refused (market_of file) journal.history (map (option_map quoted) (quotes_of members)) name q X seen why (sym first));
+        paid = λ u. refl;
       }

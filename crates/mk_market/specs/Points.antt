@@ -1,5 +1,5 @@
 -- The accounts of a market's users, in points.
-use Rattle.std.specs.Prelude.{◌≡◌, ℕ, ◌*◌, ◌<◌, List, [], ◌∷◌, length, true, false}
+use Rattle.std.specs.Prelude.{◌≡◌, ℕ, ◌*◌, ◌<◌, List, [], ◌∷◌, length, slice_get, Some, true, false}
 use Rattle.mk_exact.specs.Events.{always}
 use Rattle.mk_exact.specs.History.{Entry, users, deposited, withdrawn, is_settled}
 use Rattle.mk_exact.specs.Weight.{IsSmall, possible_states}
@@ -8,6 +8,9 @@ use Rattle.mk_exact.specs.Cash.{CoversCash}
 use Rattle.mk_exact.specs.Market.{Market, network_of}
 use Rattle.mk_cash.specs.declared.ledger.Account.{Account}
 use Rattle.mk_cash.specs.Accounts.{account_of}
+use Rattle.mk_reply.specs.declared.payments.Payment.{Payment}
+use Rattle.mk_reply.specs.declared.reply.Reply.{Reply}
+use Rattle.mk_reply.specs.declared.reply.Reply.TheVariants.{Settled}
 
 -- a user is paid off with the low end of an interval that covers the cash of the user's factor in the one possible state
 pub record IsPaidOff (market : Market) (H : List Entry) (u points : ℕ) : Type 0 where
@@ -27,3 +30,8 @@ pub record IsAccount (market : Market) (H : List Entry) (u : ℕ) (account : Acc
 pub record AreAccounts (market : Market) (H : List Entry) (accounts : List Account) : Type 0 where
   pub one_each : length accounts ≡ length (users H)
   pub each : (u : ℕ) → u < length accounts → IsAccount market H u (account_of accounts u)
+
+-- after a settlement each user was paid what its payment prints, and every other reply leaves what users were paid
+abbrev pub ArePaidBy : Reply → List Account → List Account → Type 0
+ArePaidBy (Settled at payments) old new = (u : ℕ) (payment : Payment) → slice_get payments u ≡ Some payment → (account_of new u).paid ≡ payment.paid
+ArePaidBy _ old new = (u : ℕ) → (account_of new u).paid ≡ (account_of old u).paid

@@ -34,7 +34,7 @@ impl<P: Engine<SumProd>, A: Engine<MinProd>> Model for Market<P, A> {
 
     ghost Value = { Trading };
 
-    ghost view = { λ m. record { market = market_of m.file; standing = standing_of m.journal m.users } };
+    ghost view = { λ m. record { market = market_of m.file; standing = standing_of m.journal m.users; accounts = m.ledger } };
 
     ghost invariant = { λ m. IsKept P.stands_for A.stands_for A.plan_for m.file m.prices m.rows m.plan m.users m.ledger m.journal m.payments };
 }
@@ -68,7 +68,8 @@ impl<P: Engine<SumProd>, A: Engine<MinProd>> Market<P, A> {
 
     /// What each user deposited, withdrew and was paid.
     pub fn ledger(&self) -> &Ledger
-        ensures { AreAccounts self.now.market (self.now.standing).history result.now }
+        ensures same { result.now ≡ self.now.accounts }
+        ensures accounts { AreAccounts self.now.market (self.now.standing).history result.now }
     {
         &self.ledger
     }

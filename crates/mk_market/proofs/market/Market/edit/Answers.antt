@@ -39,7 +39,7 @@ returns-in-Err g c =
     let found = c.in_ok-request in
     let made = c.present_quote in
     rw (← c.self.view_is)
-    (edit_stopped i.file i.journal i.users made.new.users made.ensures.quotes c.args.name.now c.args.question.now c.args.to c.args.at c.refuse_decided.result found.ensures.refusal
+    (edit_stopped i.file i.ledger i.journal i.users made.new.users made.ensures.quotes c.args.name.now c.args.question.now c.args.to c.args.at c.refuse_decided.result found.ensures.refusal
     (c.refuse_decided.ensures.refusal i.file.net i.file.tree i.journal.history (made.ensures.prices (weights_of i.file.net i.file.tree i.journal.history) c.self.invariant.prices_stand)
     (is_open g.P.Engine.stands_for g.A.Engine.stands_for g.A.Engine.plan_for i.file i.prices i.rows i.plan i.users i.ledger i.journal i.payments c.self.invariant)
     (record { named = found.ensures.question.named; known = edit_known i.file i.journal.history c.args.name.now c.args.question.now c.args.to c.args.at found.ensures.refusal }) c.in-Err.ensures.quote))
@@ -162,4 +162,4 @@ returns g c =
     (trade_answered i.file i.journal opened c.args.name.now found.request.user found.ensures.user c.args.question.now found.request.question found.ensures.question ok.quote ok.ensures.quote
     c.args.to (c.in-Some.units.0) (c.in-Some.units.1) c.in-Some.ensures.fair i.users c.trade.new.users c.trade.new.journal c.args.at none c.in-Some.ensures.inside last
     (c.trade.ensures.history ∙ ap (λ (r : TradeRatio). i.journal.history ++ Trade found.request.user r ∷ []) c.ratio_of_edit-ratio.ensures)
-    (c.trade.ensures.quotes ∙ made.ensures.quotes) c.revision.result c.revision.ensures)
+    (c.trade.ensures.quotes ∙ made.ensures.quotes) c.revision.result c.revision.ensures i.ledger)

@@ -30,7 +30,7 @@ returns-in-Err g c =
     let found = c.in_ok-request in
     let made = c.fresh_quote in
     rw (← c.self.view_is)
-    (limits_stopped i.file i.journal i.users made.new.users made.ensures.quotes c.args.name.now c.args.question.now c.refuse_decided.result found.ensures.refusal
+    (limits_stopped i.file i.ledger i.journal i.users made.new.users made.ensures.quotes c.args.name.now c.args.question.now c.refuse_decided.result found.ensures.refusal
     (c.refuse_decided.ensures.refusal i.file.net i.file.tree i.journal.history (made.ensures.prices (weights_of i.file.net i.file.tree i.journal.history) c.self.invariant.prices_stand)
     (is_open g.P.Engine.stands_for g.A.Engine.stands_for g.A.Engine.plan_for i.file i.prices i.rows i.plan i.users i.ledger i.journal i.payments c.self.invariant)
     (record { named = found.ensures.question.named; known = limits_known i.file i.journal.history c.args.name.now c.args.question.now found.ensures.refusal }) c.in-Err.ensures.quote))

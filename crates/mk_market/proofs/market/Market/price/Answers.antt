@@ -47,6 +47,7 @@ returns-in-Some g c =
       allowed = price_allowed g.P.Engine.stands_for g.A.Engine.stands_for g.A.Engine.plan_for _ _ _ _ _ _ _ _ c.self.invariant c.args.question.now c.in_ok-asked.asked c.in_ok-asked.ensures.question
           c.in-Some.low c.in-Some.high c.in_ok-asked.ensures.refusal c.in-Some.ensures.price;
       next = price_next g.P.Engine.stands_for g.A.Engine.stands_for g.A.Engine.plan_for _ _ _ _ _ _ _ _ c.self.invariant c.args.question.now c.in-Some.low c.in-Some.high;
+      paid = λ u. refl;
     })
 
 pub returns-in-None : goal.returns-in-None
@@ -55,7 +56,7 @@ returns-in-None g c =
     let found = c.in_ok-asked in
     let opened = is_open g.P.Engine.stands_for g.A.Engine.stands_for g.A.Engine.plan_for i.file i.prices i.rows i.plan i.users i.ledger i.journal i.payments c.self.invariant in
     let price = c.in-None.ensures.price i.file.tree i.journal.history c.self.invariant.prices_stand opened found.ensures.question.answered in
-    rw (← c.self.view_is) (price_stopped i.file i.journal i.users i.users refl c.args.question.now c.refuse_condition.result found.ensures.refusal
+    rw (← c.self.view_is) (price_stopped i.file i.ledger i.journal i.users i.users refl c.args.question.now c.refuse_condition.result found.ensures.refusal
     (impossible_by i.file.net i.journal.history c.args.question.now found.asked
     (record { named = found.ensures.question.named; known = price_known i.file i.journal.history c.args.question.now found.ensures.refusal })
     c.condition.result c.as_slice.result.now c.refuse_condition.result c.condition.ensures.condition c.as_slice.ensures.value (price.none.0 refl)

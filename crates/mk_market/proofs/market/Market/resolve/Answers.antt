@@ -63,6 +63,7 @@ returns-then-not-can_come g c =
       allowed = never_answered g.P.Engine.stands_for g.A.Engine.stands_for g.A.Engine.plan_for _ _ _ _ _ _ _ _ c.self.invariant c.args.words.now c.in_ok-pair.pair
           c.in_ok-pair.ensures.named c.in_ok-pair.ensures.pair c.in_ok-pair.ensures.refusal c.can_come.result c.can_come.ensures.found c.if-not-can_come.true;
       next = refused_stays (market_of c.self.inside.file) (standing_of c.self.inside.journal c.self.inside.users) (Resolve c.args.words.now) (Impossible c.args.words.now) tt;
+      paid = λ u. refl;
     })
 
 pub returns : goal.returns
@@ -79,4 +80,5 @@ returns g c =
           (unrefused_where g.P.Engine.stands_for g.A.Engine.stands_for g.A.Engine.plan_for _ _ _ _ _ _ _ _ c.self.invariant c.args.words.now c.in_ok-pair.pair
           c.in_ok-pair.ensures.named c.in_ok-pair.ensures.pair c.in_ok-pair.ensures.refusal c.can_come.result c.can_come.ensures.found c.if-not-can_come.false)
           c.tell.new.users c.resolve.new.self c.resolve.ensures.history c.tell.ensures.quotes c.revision.result;
+      paid = λ u. refl;
     })

@@ -207,4 +207,4 @@ returns g c =
     rw (← c.self.view_is)
     (spread_trade_answered i.file i.journal opened c.args.name.now found.request.user found.ensures.user c.args.variable.now c.args.condition.now spread question judged.quote judged.judge.its
     c.args.to.now factors judged.is_inside.fair i.users c.trade.new.users c.trade.new.journal c.args.at none judged.is_inside.inside judged.judge.last history quotes
-    c.revision.result c.revision.ensures)
+    c.revision.result c.revision.ensures i.ledger)

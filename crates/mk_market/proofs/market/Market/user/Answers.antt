@@ -2,7 +2,7 @@ use Rattle.std.proofs.Common.{refl}
 use Rattle.mk_command.specs.declared.command.Command.TheVariants.{User}
 use Rattle.mk_file.specs.MarketOf.{market_of}
 use Rattle.mk_market.proofs.Replies.{answered_refused}
-use Rattle.mk_market.proofs.Joins.{memory_answered, join_kept, join_allowed, join_next}
+use Rattle.mk_market.proofs.Joins.{memory_answered, join_kept, join_allowed, join_next, join_paid}
 use Rattle.mk_market.proofs.Refiled.{refiled, same_inside}
 use Rattle.mk_market.proofs.market.Market.user.Goals as goal
 
@@ -42,4 +42,7 @@ returns g c =
       next = join_next g.P.Engine.stands_for g.A.Engine.stands_for g.A.Engine.plan_for _ _ _ _ _ _ _ _ c.self.invariant c.args.name.now c.in-Ok.assets c.known-known.result.now c.known-known.ensures.same
           c.in-Ok.ensures c.join.new.self c.in-Ok-join.ensures.ok c.join-2.new.self c.join-3.new.self c.join-3.ensures.history
           (c.in_ok-refuse_user.ensures.refusal (market_of c.self.inside.file)) c.revision.result;
+      paid = join_paid g.P.Engine.stands_for g.A.Engine.stands_for g.A.Engine.plan_for _ _ _ _ _ _ _ _ c.self.invariant c.args.name.now c.in-Ok.assets c.known-known.result.now c.known-known.ensures.same
+          c.in-Ok.ensures c.join.new.self c.in-Ok-join.ensures.ok c.join-2.new.self c.join-3.new.self c.join-3.ensures.history
+          (c.in_ok-refuse_user.ensures.refusal (market_of c.self.inside.file)) c.revision.result c.join-2.ensures;
     })
