@@ -153,17 +153,18 @@ broken_behind market all line old new source rest now before written after waite
     (gives.taken ∙ prepend_known_twice gives.piece new.left rest) cut far
 
 -- a line that was answered: the run goes on, one line further
-pub goes_on_after : {T E : Type 0} (said : Result T E) (ended : Option Status) (market : Market) (line : StreamLine) (old new : Cutting)
+pub goes_on_after : {T E : Type 0} (said : Result T E) (ended : Option Status) (market : Market) (line : StreamLine) (old new kept : Cutting)
     (source rest : Option (List ℕ)) (now then : Standing) (written after : Option (List ℕ)) (waited waits : List ℕ)
-    → MatchResult said (λ _. ended ≡ None) (λ _. ended ≡ Some WriteFault)
+    → MatchResult said (λ _. ended ≡ None) (λ _. ended ≡ Some WriteFault) → kept ≡ new
     → old.last ≡ None → GivesLine line old new (stream_left old source) (stream_left new rest)
     → OnOk said (AreGathered market now (line ∷ []) then written after waited waits)
-    → IfNone ended ((all : List ℕ) (before : Option (List ℕ)) → IsSoFar market all old source now before written waited → IsSoFar market all new rest then before after waits)
-goes_on_after (Ok v) ended market line old new source rest now then written after waited waits e none gives answered =
-    subst (λ (o : Option Status). IfNone o ((all : List ℕ) (before : Option (List ℕ)) → IsSoFar market all old source now before written waited → IsSoFar market all new rest then before after waits))
-    (sym e) (λ all before far. so_far_next market all line old new source rest now then before written after waited waits none gives answered far)
-goes_on_after (Err x) ended market line old new source rest now then written after waited waits e none gives answered =
-    subst (λ (o : Option Status). IfNone o ((all : List ℕ) (before : Option (List ℕ)) → IsSoFar market all old source now before written waited → IsSoFar market all new rest then before after waits))
+    → IfNone ended ((all : List ℕ) (before : Option (List ℕ)) → IsSoFar market all old source now before written waited → IsSoFar market all kept rest then before after waits)
+goes_on_after (Ok v) ended market line old new kept source rest now then written after waited waits e same none gives answered =
+    subst (λ (o : Option Status). IfNone o ((all : List ℕ) (before : Option (List ℕ)) → IsSoFar market all old source now before written waited → IsSoFar market all kept rest then before after waits))
+    (sym e) (λ all before far. subst (λ (cutting : Cutting). IsSoFar market all cutting rest then before after waits) (sym same)
+    (so_far_next market all line old new source rest now then before written after waited waits none gives answered far))
+goes_on_after (Err x) ended market line old new kept source rest now then written after waited waits e same none gives answered =
+    subst (λ (o : Option Status). IfNone o ((all : List ℕ) (before : Option (List ℕ)) → IsSoFar market all old source now before written waited → IsSoFar market all kept rest then before after waits))
     (sym e) tt
 
 -- a line whose reply had no room: the run is broken

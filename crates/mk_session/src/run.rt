@@ -1,7 +1,8 @@
 //! A whole run.
 
-ghost use Rattle.std.specs.Prelude.{◌≡◌, ◌≢◌, ◌+◌, ◌<◌, ◌≤◌, ℕ, List, Some, Ok, Err, Result, length, ◌⊎◌, IsOk, IfOk, IfErr};
+ghost use Rattle.std.specs.Prelude.{◌≡◌, ◌≢◌, ◌+◌, ◌<◌, ◌≤◌, ℕ, List, [], Some, Ok, Err, Result, length, ◌⊎◌, IsOk, IfOk, IfErr};
 ghost use Rattle.mk_io.specs.Outside.{Rose, IsAtEnd, CountsFault};
+ghost use Rattle.mk_io.specs.Cutting.{fresh};
 ghost use Rattle.mk_file.specs.File.{file_of};
 ghost use Rattle.mk_tree.specs.Checked.{IsTreeOf};
 ghost use Rattle.mk_file.specs.MarketOf.{market_of};
@@ -14,9 +15,9 @@ ghost use Rattle.mk_session.specs.Texts.{ready_line};
 ghost use Rattle.mk_session.specs.Complete.{AreWithin};
 ghost use Rattle.mk_session.specs.inner.Loading.{opened_part, IsTaken, HasLoadCause};
 
-use crate::answer::answer_lines;
+use crate::answer::Conversation;
 use crate::market::{TreeMarket, open};
-use crate::print::{LineBuffer, print_fault_line, print_ready};
+use crate::print::{LineBuffer, print_fault_line};
 use mk_file::{FileFault, MarketFile, read_market};
 use mk_io::{InputFailed, Inputs, Sink, Status, write_all};
 use std::alloc::Global;
@@ -65,15 +66,14 @@ fn serve_bytes<I: Inputs, S: Sink>(
 {
     let read = read_market(alloc, bytes.as_slice());
     drop(bytes);
-    let mut line = LineBuffer::new();
     match read {
-        Err(fault) => refuse(fault, &mut line, out),
-        Ok(file) => answer_file(alloc, file, inputs, &mut line, out),
+        Err(fault) => refuse(fault, out),
+        Ok(file) => answer_file(alloc, file, inputs, out),
     }
 }
 
 /// Writes the one line of a refused file, unless memory was wanting.
-fn refuse<S: Sink>(fault: FileFault, line: &mut LineBuffer, out: &mut S) -> Status
+fn refuse<S: Sink>(fault: FileFault, out: &mut S) -> Status
     ensures output { (given : Result Market FileFault) (all : List ℕ) → (fault ≢ FileFault.Memory → given ≡ Err fault) →
         Adds (S.written out.old) (S.written out.new) (Ends result given all all) }
     ensures causes { (inputs : ℕ) → HasCauses result inputs inputs (S.faults out.old) (S.faults out.new) }
@@ -82,7 +82,8 @@ fn refuse<S: Sink>(fault: FileFault, line: &mut LineBuffer, out: &mut S) -> Stat
     match fault {
         FileFault::Memory => Status::Memory,
         _ => {
-            print_fault_line(&fault, line);
+            let mut line = LineBuffer::new();
+            print_fault_line(&fault, &mut line);
             match write_all(out, line.as_bytes()) {
                 Ok(()) => Status::MarketRefused,
                 Err(_) => Status::WriteFault,
@@ -96,7 +97,6 @@ fn answer_file<I: Inputs, S: Sink>(
     alloc: Global,
     file: MarketFile,
     inputs: &mut I,
-    line: &mut LineBuffer,
     out: &mut S,
 ) -> Status
     requires tree { IsTreeOf file.net file.tree }
@@ -105,10 +105,11 @@ fn answer_file<I: Inputs, S: Sink>(
     ensures causes { HasCauses result (I.faults inputs.old) (I.faults inputs.new) (S.faults out.old) (S.faults out.new) }
     ensures not_usage { result ≢ Status.Usage }
 {
-    print_ready(&file, line);
+    let mut conversation = Conversation::new();
+    conversation.print_ready(&file);
     match open(alloc, file) {
         Ok(mut market) => {
-            let status = answer_opened(alloc, &mut market, inputs, line, out);
+            let status = answer_opened(alloc, &mut conversation, &mut market, inputs, out);
             // The process ends next, and gives all memory back at once, also where the ready line could not be written: one by
             // one, the many small tables of a chain take long.
             mem::forget(market);
@@ -118,24 +119,26 @@ fn answer_file<I: Inputs, S: Sink>(
     }
 }
 
-/// Writes the ready line of an opened market, which stands in `line`, and answers its commands.
+/// Writes the ready line of an opened market, which was printed last, and answers its commands.
 fn answer_opened<I: Inputs, S: Sink>(
     alloc: Global,
+    conversation: &mut Conversation,
     market: &mut TreeMarket,
     inputs: &mut I,
-    line: &mut LineBuffer,
     out: &mut S,
 ) -> Status
     requires is_market { IsMarket market.old.market }
     requires opening { market.old.standing ≡ opening }
-    requires ready { line.old.bytes ≡ ready_line market.old.market }
+    requires ready { conversation.old.line.bytes ≡ ready_line market.old.market }
+    requires unread { conversation.old.lines ≡ fresh }
+    requires none_waits { conversation.old.waiting.bytes ≡ [] }
     ensures outcome { (all : List ℕ) → I.commands inputs.old ≡ Some all →
         Opened result (Ok market.old.market) all (I.commands inputs.new) (S.written out.old) (S.written out.new) }
     ensures causes { HasCauses result (I.faults inputs.old) (I.faults inputs.new) (S.faults out.old) (S.faults out.new) }
     ensures not_usage { result ≢ Status.Usage }
 {
-    match write_all(out, line.as_bytes()) {
-        Ok(()) => answer_lines(alloc, market, inputs, line, out),
+    match conversation.write_ready(out) {
+        Ok(()) => conversation.answer_lines(alloc, market, inputs, out),
         Err(_) => Status::WriteFault,
     }
 }

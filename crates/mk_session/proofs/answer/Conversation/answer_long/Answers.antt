@@ -6,7 +6,7 @@ use Rattle.mk_rules.specs.Transcript.{LongLine}
 use Rattle.mk_session.specs.Texts.{reply_line}
 use Rattle.mk_session.proofs.Answering.{one_replied, one_answered}
 use Rattle.mk_session.proofs.Gathering.{gathered_when_said}
-use Rattle.mk_session.proofs.answer.answer_long.Goals as goal
+use Rattle.mk_session.proofs.answer.Conversation.answer_long.Goals as goal
 
 pub returns-clause-answered : goal.returns-clause-answered
 returns-clause-answered g c = λ market now.
