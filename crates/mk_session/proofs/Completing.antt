@@ -23,6 +23,10 @@ first_size_within [] = omega arith
 first_size_within (b ∷ bytes) = elim (eqb b 10) as (λ test. cond test 1 (1 + first_size bytes) ≤ length (b ∷ bytes))
     [ true ↦ omega arith | false ↦ omega (arith, first_size_within bytes) ]
 
+-- no bytes are within the limits
+pub none_within_stream : AreWithin []
+none_within_stream = record { lines = omega arith; bytes = omega arith }
+
 -- commands within the limits do not overrun them
 pub past_limits : (all whole rest : List ℕ) → all ≡ whole ++ rest → AreWholeLines whole → 0 < length rest
     → (length (stream_lines whole) ≡ max_stream_lines) ⊎ (max_stream_bytes < length whole + first_size rest) → AreWithin all → ⊥

@@ -3,9 +3,9 @@ use Rattle.std.proofs.Common.{◌≡◌, ℕ, ◌+◌, ◌≤◌, cond, Bool, tr
 use Rattle.std.specs.Int.{from_bool}
 use Rattle.std.proofs.lemmas.List.Elements.{All-nil, All-cons, All-append}
 use Rattle.std.proofs.lemmas.List.Sums.{sum_by_push}
-use Rattle.mk_io.specs.declared.lines.Next.TheVariants.{End, ReadFault}
+use Rattle.mk_io.specs.declared.lines.Next.TheVariants.{ReadFault}
 use Rattle.mk_io.specs.Stream.{StreamLine, stream_lines, max_stream_lines, max_stream_bytes}
-use Rattle.mk_io.specs.Cutting.{Cutting, fresh, stream_left, first_size, GivesLine, Stays, Overruns, IsTooMuch, HasReadCause}
+use Rattle.mk_io.specs.Cutting.{Cutting, fresh, stream_left, first_size, GivesLine, IsWithinLimits, Overruns, IsTooMuch, HasReadCause}
 use Rattle.mk_exact.specs.Market.{Market}
 use Rattle.mk_reply.specs.declared.reply.Reply.{Reply}
 use Rattle.mk_rules.specs.Standings.{IsMarket}
@@ -20,7 +20,7 @@ use Rattle.mk_session.specs.inner.Counting.{uncounted, is_want, IsWithin, IsCoun
 use Rattle.mk_session.proofs.Answering.{no_more, none_replied, then_replied, allowed_run_of}
 use Rattle.mk_session.proofs.Underway.{are_whole, placed_next}
 use Rattle.mk_session.proofs.Endings.{past_of, risen}
-use Rattle.mk_session.proofs.Completing.{past_limits, none_rose}
+use Rattle.mk_session.proofs.Completing.{past_limits, none_rose, none_within_stream}
 
 last_more : (replies : List Reply) (reply : Reply) → last_reply (replies ++ reply ∷ []) ≡ Some reply
 last_more [] reply = refl
@@ -79,6 +79,7 @@ counted_at_start market is_market all source now told begins = record {
   answers = none_counted market is_market now begins;
   given = refl;
   spent = refl;
+  within = none_within_stream;
 }
 
 none_within : IsWithin fresh.given uncounted
@@ -97,20 +98,17 @@ counting_at_start market is_market all lines source now tally unread none told b
 
 -- a line was given and counted
 pub counted_so_far_next : (market : Market) (all : List ℕ) (line : StreamLine) (old new : Cutting) (source rest : List ℕ) (now then : Standing)
-    (before after : Tally) → old.last ≡ None → GivesLine line old new (stream_left old (Some source)) (stream_left new (Some rest))
+    (before after : Tally) → old.last ≡ None → IsWithinLimits new → GivesLine line old new (stream_left old (Some source)) (stream_left new (Some rest))
     → CountsLine market now line then before after → IsCountedSoFar market all old source now before → IsCountedSoFar market all new rest then after
-counted_so_far_next market all line old new source rest now then before after none gives more far =
+counted_so_far_next market all line old new source rest now then before after none limits gives more far =
     placed_next all line old new (Some source) (Some rest) (λ lines. IsCounted market lines now before) (λ lines. IsCounted market lines then after)
-    none gives (λ lines counted. counted_next market lines line now then before after more counted) far
+    none limits gives (λ lines counted. counted_next market lines line now then before after more counted) far
 
 -- where the stream is at its end, the count is that of all commands
-pub tally_of : (market : Market) (all : List ℕ) (old new : Cutting) (source rest : List ℕ) (now : Standing) (tally : Tally)
-    → (far : IsCountedSoFar market all old source now tally) → far.left ≡ [] → Stays old new (Some source) (Some rest) End
-    → new.given ≤ max_stream_lines → new.spent ≤ max_stream_bytes → IsTally market all tally
-tally_of market all old new source rest now tally far empty stays few_lines few_bytes =
+pub tally_of : (market : Market) (all : List ℕ) (cutting : Cutting) (source : List ℕ) (now : Standing) (tally : Tally)
+    → (far : IsCountedSoFar market all cutting source now tally) → far.left ≡ [] → IsTally market all tally
+tally_of market all cutting source now tally far empty =
     let whole : all ≡ far.done = far.bytes ∙ ap (λ (left : List ℕ). far.done ++ left) empty ∙ no_more far.done in
-    let given : new.given ≡ old.given = ap (λ (x : Cutting). x.given) stays.same in
-    let spent : new.spent ≡ old.spent = ap (λ (x : Cutting). x.spent) stays.same in
     let counted = far.answers in
     record {
       after = now;
@@ -119,10 +117,7 @@ tally_of market all old new source rest now tally far empty stays few_lines few_
           (subst (λ (bytes : List ℕ). AreReplied market opening (stream_lines bytes) now counted.replies) (sym whole) counted.replied);
       remembered = counted.remembered;
       counts = counted.counts;
-      within = record {
-        lines = subst (λ (bytes : List ℕ). length (stream_lines bytes) ≤ max_stream_lines) (sym whole) (omega (arith, far.given));
-        bytes = omega (arith, far.spent, ap length whole);
-      };
+      within = subst AreWithin (sym whole) far.within;
     }
 
 -- where the next line is too much, the commands are not within the limits
@@ -139,13 +134,13 @@ not_within market all old new source rest now tally far none over within =
 pub counts_on : {T E U : Type 0} (said : Result T E) (ended : Option (Result U TallyFault)) (market : Market) (line : StreamLine) (old new : Cutting)
     (source rest : List ℕ) (now then : Standing) (before after : Tally)
     → MatchResult said (λ _. ended ≡ None) (λ _. ended ≡ Some (Err Memory))
-    → old.last ≡ None → GivesLine line old new (stream_left old (Some source)) (stream_left new (Some rest))
+    → old.last ≡ None → IsWithinLimits new → GivesLine line old new (stream_left old (Some source)) (stream_left new (Some rest))
     → OnOk said (CountsLine market now line then before after)
     → IfNone ended ((all : List ℕ) → IsCountedSoFar market all old source now before → IsCountedSoFar market all new rest then after)
-counts_on {U = U} (Ok v) ended market line old new source rest now then before after e none gives counted =
+counts_on {U = U} (Ok v) ended market line old new source rest now then before after e none limits gives counted =
     subst (λ (o : Option (Result U TallyFault)). IfNone o ((all : List ℕ) → IsCountedSoFar market all old source now before → IsCountedSoFar market all new rest then after))
-    (sym e) (λ all far. counted_so_far_next market all line old new source rest now then before after none gives counted far)
-counts_on {U = U} (Err x) ended market line old new source rest now then before after e none gives counted =
+    (sym e) (λ all far. counted_so_far_next market all line old new source rest now then before after none limits gives counted far)
+counts_on {U = U} (Err x) ended market line old new source rest now then before after e none limits gives counted =
     subst (λ (o : Option (Result U TallyFault)). IfNone o ((all : List ℕ) → IsCountedSoFar market all old source now before → IsCountedSoFar market all new rest then after))
     (sym e) tt
 

@@ -6,12 +6,13 @@ use Rattle.mk_io.specs.declared.lines.Next.{Next}
 use Rattle.mk_io.specs.declared.lines.Next.TheVariants.{Line, Long, End, ReadFault as Unread, TooMany as Overrun}
 use Rattle.mk_io.specs.Outside.{append_known, prepend_known, AddsFront, IsAtEnd, HasCause, CountsFault}
 use Rattle.mk_io.specs.Stream.{StreamLine, stream_lines, AreWholeLines, max_stream_lines, max_stream_bytes}
-use Rattle.mk_io.specs.Cutting.{Cutting, stream_left, first_size, GoesOn, GivesLine, Stays, IsAnswer, IsFreshAnswer, StopsInLine, Overruns, IsTooMuch, CountsReadFault, HasReadCause}
+use Rattle.mk_io.specs.Cutting.{Cutting, stream_left, first_size, GoesOn, GivesLine, Stays, IsAnswer, IsFreshAnswer, StopsInLine, Overruns, IsTooMuch, IsWithinLimits, CountsReadFault, HasReadCause}
 use Rattle.mk_io.proofs.Told.{append_known_twice, prepend_known_twice}
 use Rattle.mk_exact.specs.Market.{Market}
 use Rattle.mk_rules.specs.Transcript.{Standing, opening}
 use Rattle.mk_session.specs.Texts.{ready_line}
 use Rattle.mk_session.specs.Transcript.{AreAnswered, Transcript}
+use Rattle.mk_session.specs.Complete.{AreWithin}
 use Rattle.mk_session.specs.Outcome.{HasCauses, CountsNone}
 use Rattle.mk_session.specs.inner.Progress.{Gathers, AreGathered, IsBetween, IsSoFar, IsEnded}
 use Rattle.mk_session.proofs.Answering.{no_more, transcript_of}
@@ -33,12 +34,10 @@ second_empty (x ∷ xs) ys e = absurd (cc)
 
 pub ended_done : (market : Market) (all : List ℕ) (old new : Cutting) (source rest : Option (List ℕ)) (now : Standing) (before written after : Option (List ℕ))
     (waits : List ℕ) → waits ≡ [] → (far : IsSoFar market all old source now before written waits) → far.left ≡ [] → Stays old new source rest End → after ≡ written
-    → new.given ≤ max_stream_lines → new.spent ≤ max_stream_bytes → IsEnded Done market all rest before after
-ended_done market all old new source rest now before written after waits none_waits far empty stays still few_lines few_bytes =
+    → IsEnded Done market all rest before after
+ended_done market all old new source rest now before written after waits none_waits far empty stays still =
     let r = rest_of old.left far.left source (sym far.known) in
     let whole : all ≡ far.done = far.bytes ∙ ap (λ (left : List ℕ). far.done ++ left) empty ∙ no_more far.done in
-    let given : new.given ≡ old.given = ap (λ (x : Cutting). x.given) stays.same in
-    let spent : new.spent ≡ old.spent = ap (λ (x : Cutting). x.spent) stays.same in
     record {
       rest = r.rest;
       told = stays.untouched ∙ r.told;
@@ -49,8 +48,7 @@ ended_done market all old new source rest now before written after waits none_wa
           transcript = subst (λ (bytes : List ℕ). Transcript market (stream_lines bytes) (ready_line market ++ far.answers.bytes)) (sym whole)
               (transcript_so_far market all old source now before written waits none_waits far);
           to_the_end = second_empty old.left r.rest (sym r.parts ∙ empty);
-          within_lines = subst (λ (bytes : List ℕ). length (stream_lines bytes) ≤ max_stream_lines) (sym whole) (omega (arith, far.given));
-          within_bytes = omega (arith, far.spent, ap length whole);
+          within = subst AreWithin (sym whole) far.within;
         };
       };
     }
@@ -72,6 +70,7 @@ ended_read_fault market all old new source rest now before written after waits n
           bytes = far.bytes ∙ ap (λ (left : List ℕ). far.done ++ left) r.parts;
           lines = are_whole old.last far.done far.left none far.between;
           no_lf = stops.no_lf;
+          within = far.within;
           transcript = transcript_so_far market all old source now before written waits none_waits far;
         };
       };
@@ -103,6 +102,7 @@ ended_too_many market all old new source rest now before written after waits non
           more = much.more;
           past = past_of old.given (length (stream_lines far.done)) old.spent (length far.done) max_stream_lines max_stream_bytes
               (first_size (over.part ++ r.rest)) far.given far.spent much.past;
+          within = far.within;
           transcript = transcript_so_far market all old source now before written waits none_waits far;
         };
       };
@@ -137,6 +137,7 @@ ended_broken market all part cutting source rest now before written after waited
           part = part;
           bytes = far.bytes ∙ ap (λ (left : List ℕ). far.done ++ left) r.parts;
           lines = whole_or_none cutting.last far.done far.left (part ++ r.rest) r.parts far.between;
+          within = far.within;
           text = ready_line market ++ (bytes ++ waited);
           transcript = transcript_of market far.answers.is_market (stream_lines far.done) now (bytes ++ waited) far.answers.holds;
           front = record { rest = cut.rest; parts = front_parts (ready_line market) bytes waited cut.front cut.rest cut.parts };
@@ -153,19 +154,30 @@ broken_behind market all line old new source rest now before written after waite
     (gives.taken ∙ prepend_known_twice gives.piece new.left rest) cut far
 
 -- a line that was answered: the run goes on, one line further
-pub goes_on_after : {T E : Type 0} (said : Result T E) (ended : Option Status) (market : Market) (line : StreamLine) (old new kept : Cutting)
-    (source rest : Option (List ℕ)) (now then : Standing) (written after : Option (List ℕ)) (waited waits : List ℕ)
+pub goes_on_after : {T E : Type 0} (said : Result T E) (ended : Option Status) (market : Market)
+    (line : StreamLine) (old new kept : Cutting) (source rest : Option (List ℕ)) (now then : Standing)
+    (written after : Option (List ℕ)) (waited waits : List ℕ)
     → MatchResult said (λ _. ended ≡ None) (λ _. ended ≡ Some WriteFault) → kept ≡ new
-    → old.last ≡ None → GivesLine line old new (stream_left old source) (stream_left new rest)
+    → old.last ≡ None → IsWithinLimits new
+    → GivesLine line old new (stream_left old source) (stream_left new rest)
     → OnOk said (AreGathered market now (line ∷ []) then written after waited waits)
-    → IfNone ended ((all : List ℕ) (before : Option (List ℕ)) → IsSoFar market all old source now before written waited → IsSoFar market all kept rest then before after waits)
-goes_on_after (Ok v) ended market line old new kept source rest now then written after waited waits e same none gives answered =
-    subst (λ (o : Option Status). IfNone o ((all : List ℕ) (before : Option (List ℕ)) → IsSoFar market all old source now before written waited → IsSoFar market all kept rest then before after waits))
-    (sym e) (λ all before far. subst (λ (cutting : Cutting). IsSoFar market all cutting rest then before after waits) (sym same)
-    (so_far_next market all line old new source rest now then before written after waited waits none gives answered far))
-goes_on_after (Err x) ended market line old new kept source rest now then written after waited waits e same none gives answered =
-    subst (λ (o : Option Status). IfNone o ((all : List ℕ) (before : Option (List ℕ)) → IsSoFar market all old source now before written waited → IsSoFar market all kept rest then before after waits))
-    (sym e) tt
+    → IfNone ended ((all : List ℕ) (before : Option (List ℕ))
+    → IsSoFar market all old source now before written waited
+    → IsSoFar market all kept rest then before after waits)
+goes_on_after (Ok v) ended market line old new kept source rest now then written after waited waits
+    e same none limits gives answered =
+    subst (λ (o : Option Status). IfNone o ((all : List ℕ) (before : Option (List ℕ))
+    → IsSoFar market all old source now before written waited
+    → IsSoFar market all kept rest then before after waits)) (sym e)
+    (λ all before far.
+    subst (λ (cutting : Cutting). IsSoFar market all cutting rest then before after waits) (sym same)
+    (so_far_next market all line old new source rest now then before written after waited waits
+    none limits gives answered far))
+goes_on_after (Err x) ended market line old new kept source rest now then written after waited waits
+    e same none limits gives answered =
+    subst (λ (o : Option Status). IfNone o ((all : List ℕ) (before : Option (List ℕ))
+    → IsSoFar market all old source now before written waited
+    → IsSoFar market all kept rest then before after waits)) (sym e) tt
 
 -- a line whose reply had no room: the run is broken
 pub breaks_after : {T E : Type 0} (said : Result T E) (ended : Option Status) (market : Market) (line : StreamLine) (old new : Cutting)

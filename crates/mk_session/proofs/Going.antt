@@ -14,6 +14,7 @@ use Rattle.mk_session.specs.inner.Progress.{IsSoFar}
 use Rattle.mk_session.specs.Outcome.{CountsNone, HasCauses}
 use Rattle.mk_session.specs.inner.Loading.{IsTaken}
 use Rattle.mk_session.proofs.Answering.{no_more, none_answered}
+use Rattle.mk_session.proofs.Completing.{none_within_stream}
 
 -- between two lines: the market is the same, the lines go on, no fault was counted, and the run is so far
 pub record IsGoing (start market : Market) (commands : Option (List ℕ)) (lines : Cutting) (source : Option (List ℕ)) (now : Standing)
@@ -39,6 +40,7 @@ far_at_start market is_market all source now before waits told begins empty = re
   };
   given = refl;
   spent = refl;
+  within = none_within_stream;
 }
 
 -- what a turn counts is what the run has counted, since no fault was counted before

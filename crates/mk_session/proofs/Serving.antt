@@ -18,6 +18,7 @@ use Rattle.mk_session.specs.Outcome.{Adds, Ends, Serves, NotOpened, Opened}
 use Rattle.mk_session.specs.inner.Progress.{IsEnded}
 use Rattle.mk_session.specs.inner.Loading.{opened_part}
 use Rattle.mk_session.proofs.Answering.{no_more, none_answered, transcript_of}
+use Rattle.mk_session.proofs.Completing.{none_within_stream}
 
 memory_ends : (given : Result Market FileFault) (all : List ℕ) → Ends Memory given all all []
 memory_ends (Ok market) all = record { nothing = refl; unread = refl }
@@ -88,6 +89,7 @@ broken_at_ready market file is_market all line source before after same is told 
           part = [];
           bytes = refl;
           lines = inl (inl refl);
+          within = none_within_stream;
           text = ready_line market ++ [];
           transcript = transcript_of market is_market [] opening [] (none_answered market opening opening refl);
           front = record { rest = front.rest; parts = no_more (ready_line market) ∙ sym is ∙ front.parts };

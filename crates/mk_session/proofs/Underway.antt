@@ -3,7 +3,7 @@ use Rattle.std.proofs.Common.{◌≡◌, ℕ, ◌+◌, List, [], ◌∷◌, ◌+
 use Rattle.mk_io.specs.declared.lines.Next.{Next}
 use Rattle.mk_io.specs.Outside.{append_known, prepend_known, IsAtEnd}
 use Rattle.mk_io.specs.Stream.{StreamLine, stream_lines, EndsInLf, AreWholeLines}
-use Rattle.mk_io.specs.Cutting.{Cutting, stream_left, TakesPiece, GivesLine}
+use Rattle.mk_io.specs.Cutting.{Cutting, stream_left, TakesPiece, GivesLine, IsWithinLimits}
 use Rattle.mk_io.proofs.Told.{append_known_twice}
 use Rattle.mk_io.proofs.WholeLines.{whole_lines-append}
 use Rattle.mk_exact.specs.Market.{Market}
@@ -72,13 +72,15 @@ are_whole last done left none between = subst (λ (o : Option Next). IsBetween o
 
 -- a line was given: the place is behind it
 pub placed_next : (all : List ℕ) (line : StreamLine) (old new : Cutting) (source rest : Option (List ℕ)) (P Q : List StreamLine → Type 0) → old.last ≡ None
-    → GivesLine line old new (stream_left old source) (stream_left new rest) → ((lines : List StreamLine) → P lines → Q (lines ++ line ∷ []))
+    → IsWithinLimits new → GivesLine line old new (stream_left old source) (stream_left new rest) → ((lines : List StreamLine) → P lines → Q (lines ++ line ∷ []))
     → IsPlaced all old source P → IsPlaced all new rest Q
-placed_next all line old new source rest P Q none gives step far =
+placed_next all line old new source rest P Q none limits gives step far =
     let whole = are_whole old.last far.done far.left none far.between in
     let b = behind all far.done far.left line old new source rest far.bytes far.known whole gives in
     let count : length (stream_lines (far.done ++ gives.piece)) ≡ length (stream_lines far.done) + 1 =
     ap (λ (ls : List StreamLine). length ls) b.lines ∙ length-append (stream_lines far.done) (line ∷ []) in
+    let given : new.given ≡ length (stream_lines (far.done ++ gives.piece)) = omega (arith, gives.given, far.given, count) in
+    let spent : new.spent ≡ length (far.done ++ gives.piece) = omega (arith, gives.spent, far.spent, length-append far.done gives.piece) in
     record {
       done = far.done ++ gives.piece;
       left = b.left;
@@ -86,20 +88,21 @@ placed_next all line old new source rest P Q none gives step far =
       known = b.known;
       between = b.between;
       answers = subst Q (sym b.lines) (step (stream_lines far.done) far.answers);
-      given = omega (arith, gives.given, far.given, count);
-      spent = omega (arith, gives.spent, far.spent, length-append far.done gives.piece);
+      given = given;
+      spent = spent;
+      within = record { lines = omega (arith, given, limits.given); bytes = omega (arith, spent, limits.spent) };
     }
 
 -- a line was given and answered: the run has come one line further
 pub so_far_next : (market : Market) (all : List ℕ) (line : StreamLine) (old new : Cutting) (source rest : Option (List ℕ)) (now then : Standing)
-    (before written after : Option (List ℕ)) (waited waits : List ℕ) → old.last ≡ None
+    (before written after : Option (List ℕ)) (waited waits : List ℕ) → old.last ≡ None → IsWithinLimits new
     → GivesLine line old new (stream_left old source) (stream_left new rest)
     → AreGathered market now (line ∷ []) then written after waited waits → IsSoFar market all old source now before written waited
     → IsSoFar market all new rest then before after waits
-so_far_next market all line old new source rest now then before written after waited waits none gives said far =
+so_far_next market all line old new source rest now then before written after waited waits none limits gives said far =
     let gone = said.gathers.gone in
     placed_next all line old new source rest (λ lines. AreSaid market lines now before written waited)
-    (λ lines. AreSaid market lines then before after waits) none gives
+    (λ lines. AreSaid market lines then before after waits) none limits gives
     (λ lines answers. record {
       is_market = answers.is_market;
       bytes = answers.bytes ++ gone;
@@ -131,4 +134,5 @@ still_so_far market all cutting source now before written after waited waits gat
       };
       given = far.given;
       spent = far.spent;
+      within = far.within;
     }

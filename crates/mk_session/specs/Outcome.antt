@@ -1,5 +1,5 @@
 -- What each status says of a run.
-use Rattle.std.specs.Prelude.{◌≡◌, ◌≢◌, ℕ, ◌+◌, ◌<◌, ◌≤◌, List, [], ◌++◌, length, Option, Some, All, ◌⊎◌, Result, Ok, Err}
+use Rattle.std.specs.Prelude.{◌≡◌, ◌≢◌, ℕ, ◌+◌, ◌<◌, List, [], ◌++◌, length, Option, Some, All, ◌⊎◌, Result, Ok, Err}
 use Rattle.mk_io.specs.declared.status.Status.{Status}
 use Rattle.mk_io.specs.declared.status.Status.TheVariants.{Done, Usage, MarketRefused, ReadFault, WriteFault, Memory, TooMany}
 use Rattle.mk_io.specs.Outside.{append_known, CountsFault}
@@ -9,6 +9,7 @@ use Rattle.mk_exact.specs.Market.{Market}
 use Rattle.mk_file.specs.declared.fault.FileFault.{FileFault}
 use Rattle.mk_file.specs.File.{file_of}
 use Rattle.mk_session.specs.Texts.{fault_line}
+use Rattle.mk_session.specs.Complete.{AreWithin}
 use Rattle.mk_session.specs.Transcript.{Transcript}
 
 -- some bytes with a fact about them were added, and no others
@@ -26,8 +27,7 @@ pub record IsFrontOf (whole front : List ℕ) : Type 0 where
 pub record IsWhole (market : Market) (all rest output : List ℕ) : Type 0 where
   pub transcript : Transcript market (stream_lines all) output
   pub to_the_end : rest ≡ []
-  pub within_lines : length (stream_lines all) ≤ max_stream_lines
-  pub within_bytes : length all ≤ max_stream_bytes
+  pub within : AreWithin all
 
 -- reading failed: the whole lines that were read are answered, and the part of a line behind them is not
 pub record IsStopped (market : Market) (all rest output : List ℕ) : Type 0 where
@@ -36,6 +36,7 @@ pub record IsStopped (market : Market) (all rest output : List ℕ) : Type 0 whe
   pub bytes : all ≡ whole ++ (part ++ rest)
   pub lines : AreWholeLines whole
   pub no_lf : All (λ b. b ≢ 10) part
+  pub within : AreWithin whole
   pub transcript : Transcript market (stream_lines whole) output
 
 -- there are too many lines or bytes: the whole lines before the one that is too much are answered
@@ -46,6 +47,7 @@ pub record IsOverrun (market : Market) (all rest output : List ℕ) : Type 0 whe
   pub lines : AreWholeLines whole
   pub more : 0 < length (part ++ rest)
   pub past : (length (stream_lines whole) ≡ max_stream_lines) ⊎ (max_stream_bytes < length whole + first_size (part ++ rest))
+  pub within : AreWithin whole
   pub transcript : Transcript market (stream_lines whole) output
 
 -- writing failed: a front of the transcript of some first lines was written
@@ -54,6 +56,7 @@ pub record IsBroken (market : Market) (all rest output : List ℕ) : Type 0 wher
   pub part : List ℕ
   pub bytes : all ≡ done ++ (part ++ rest)
   pub lines : AreWholeLines done ⊎ (part ++ rest ≡ [])
+  pub within : AreWithin done
   pub text : List ℕ
   pub transcript : Transcript market (stream_lines done) text
   pub front : IsFrontOf text output

@@ -1,6 +1,8 @@
 //! Answering the lines of a stream, one after another.
 
-ghost use Rattle.std.specs.Prelude.{◌≡◌, ◌≢◌, ◌+◌, ◌≤◌, ℕ, List, [], ◌∷◌, None, Option, Some, ◌==◌, OnOk, OnErr, true, false, IfNone, IfSome, MatchOption, MatchResult};
+ghost use Rattle.std.specs.Prelude.{◌≡◌, ◌≢◌, ◌+◌, ◌≤◌, ◌==◌, ℕ, List, [], ◌∷◌, true, false};
+ghost use Rattle.std.specs.Prelude.{Option, None, Some, OnOk, OnErr, IfNone, IfSome};
+ghost use Rattle.std.specs.Prelude.{MatchOption, MatchResult};
 ghost use Rattle.std.specs.List.{list_all};
 ghost use Rattle.mk_io.specs.Outside.{HasCause, AddsFront, append_known};
 ghost use Rattle.mk_io.specs.Stream.{text, long, max_stream_lines};
@@ -39,7 +41,8 @@ pub(crate) fn reply_to(
 ) -> Reply
     requires { list_all (λ b. b == 32) line.now ≡ false }
     ensures market { market.new.market ≡ market.old.market }
-    ensures replied { AreReplied market.old.market market.old.standing (text line.now ∷ []) market.new.standing (result ∷ []) }
+    ensures replied { AreReplied market.old.market market.old.standing (text line.now ∷ [])
+        market.new.standing (result ∷ []) }
 {
     match read_command(line, words) {
         Err(_) => Reply::Refused {
@@ -49,7 +52,8 @@ pub(crate) fn reply_to(
     }
 }
 
-/// What stands between a market and who talks to it: what was read and not answered, and what was answered and not written.
+/// What stands between a market and who talks to it: what was read and not answered, and what was
+/// answered and not written.
 #[derive(Drop)]
 pub(crate) struct Conversation {
     /// Reads the commands and cuts them into lines.
@@ -85,11 +89,13 @@ impl Conversation {
         print_ready(file, &mut self.line);
     }
 
-    /// Writes the line that was printed last. Only the ready line is written so, before any other waits.
+    /// Writes the line that was printed last. Only the ready line is written so, before others wait.
     pub(crate) fn write_ready<S: Sink>(&self, out: &mut S) -> Result<(), SinkFailed>
         ensures cause { HasCause (S.faults out.old) (S.faults out.new) result }
-        ensures whole { OnOk result (S.written out.new ≡ append_known (S.written out.old) self.now.line.bytes) }
-        ensures front { OnErr result (AddsFront (S.written out.old) (S.written out.new) self.now.line.bytes) }
+        ensures whole { OnOk result
+            (S.written out.new ≡ append_known (S.written out.old) self.now.line.bytes) }
+        ensures front { OnErr result
+            (AddsFront (S.written out.old) (S.written out.new) self.now.line.bytes) }
     {
         write_all(out, self.line.as_bytes())
     }
@@ -107,8 +113,10 @@ impl Conversation {
         requires unread { self.old.lines ≡ fresh }
         requires none_waits { self.old.waiting.bytes ≡ [] }
         ensures ended { (all : List ℕ) → I.commands inputs.old ≡ Some all →
-            IsEnded result market.old.market all (I.commands inputs.new) (S.written out.old) (S.written out.new) }
-        ensures causes { HasCauses result (I.faults inputs.old) (I.faults inputs.new) (S.faults out.old) (S.faults out.new) }
+            IsEnded result market.old.market all (I.commands inputs.new)
+            (S.written out.old) (S.written out.new) }
+        ensures causes { HasCauses result (I.faults inputs.old) (I.faults inputs.new)
+            (S.faults out.old) (S.faults out.new) }
         ensures not_usage { result ≢ Status.Usage }
     {
         loop {
@@ -118,8 +126,8 @@ impl Conversation {
         }
     }
 
-    /// Answers the next line, and writes what waits before it where more has to be read. None where the run goes on; else
-    /// how it ends.
+    /// Answers the next line, and writes what waits before it where more has to be read. None where
+    /// the run goes on; else how it ends.
     fn take_turn<I: Inputs, S: Sink>(
         &mut self,
         alloc: Global,
@@ -133,14 +141,20 @@ impl Conversation {
         ensures counts { IfNone result (self.new.lines.given ≡ self.old.lines.given + 1) }
         ensures within { IfNone result (self.new.lines.given ≤ max_stream_lines) }
         ensures so_far { IfNone result ((all : List ℕ) (before : Option (List ℕ)) →
-            IsSoFar market.old.market all self.old.lines (I.commands inputs.old) market.old.standing before (S.written out.old) self.old.waiting.bytes →
-            IsSoFar market.old.market all self.new.lines (I.commands inputs.new) market.new.standing before (S.written out.new) self.new.waiting.bytes) }
+            IsSoFar market.old.market all self.old.lines (I.commands inputs.old)
+            market.old.standing before (S.written out.old) self.old.waiting.bytes →
+            IsSoFar market.old.market all self.new.lines (I.commands inputs.new)
+            market.new.standing before (S.written out.new) self.new.waiting.bytes) }
         ensures ended { IfSome result (λ status. (all : List ℕ) (before : Option (List ℕ)) →
-            IsSoFar market.old.market all self.old.lines (I.commands inputs.old) market.old.standing before (S.written out.old) self.old.waiting.bytes →
-            IsEnded status market.old.market all (I.commands inputs.new) before (S.written out.new)) }
+            IsSoFar market.old.market all self.old.lines (I.commands inputs.old)
+            market.old.standing before (S.written out.old) self.old.waiting.bytes →
+            IsEnded status market.old.market all (I.commands inputs.new) before
+            (S.written out.new)) }
         ensures causes { MatchOption result
-            (CountsNone (I.faults inputs.old) (I.faults inputs.new) (S.faults out.old) (S.faults out.new))
-            (λ status. HasCauses status (I.faults inputs.old) (I.faults inputs.new) (S.faults out.old) (S.faults out.new)) }
+            (CountsNone (I.faults inputs.old) (I.faults inputs.new)
+            (S.faults out.old) (S.faults out.new))
+            (λ status. HasCauses status (I.faults inputs.old) (I.faults inputs.new)
+            (S.faults out.old) (S.faults out.new)) }
         ensures not_usage { IfSome result (λ status. status ≢ Status.Usage) }
     {
         match write_before_read(&self.lines, &mut self.waiting, out) {
@@ -149,7 +163,8 @@ impl Conversation {
         }
     }
 
-    /// Takes the next line of the stream and answers it. None where the run goes on; else how it ends.
+    /// Takes the next line of the stream and answers it. None where the run goes on; else how it
+    /// ends.
     fn answer_next<I: Inputs, S: Sink>(
         &mut self,
         alloc: Global,
@@ -164,14 +179,20 @@ impl Conversation {
         ensures counts { IfNone result (self.new.lines.given ≡ self.old.lines.given + 1) }
         ensures within { IfNone result (self.new.lines.given ≤ max_stream_lines) }
         ensures so_far { IfNone result ((all : List ℕ) (before : Option (List ℕ)) →
-            IsSoFar market.old.market all self.old.lines (I.commands inputs.old) market.old.standing before (S.written out.old) self.old.waiting.bytes →
-            IsSoFar market.old.market all self.new.lines (I.commands inputs.new) market.new.standing before (S.written out.new) self.new.waiting.bytes) }
+            IsSoFar market.old.market all self.old.lines (I.commands inputs.old)
+            market.old.standing before (S.written out.old) self.old.waiting.bytes →
+            IsSoFar market.old.market all self.new.lines (I.commands inputs.new)
+            market.new.standing before (S.written out.new) self.new.waiting.bytes) }
         ensures ended { IfSome result (λ status. (all : List ℕ) (before : Option (List ℕ)) →
-            IsSoFar market.old.market all self.old.lines (I.commands inputs.old) market.old.standing before (S.written out.old) self.old.waiting.bytes →
-            IsEnded status market.old.market all (I.commands inputs.new) before (S.written out.new)) }
+            IsSoFar market.old.market all self.old.lines (I.commands inputs.old)
+            market.old.standing before (S.written out.old) self.old.waiting.bytes →
+            IsEnded status market.old.market all (I.commands inputs.new) before
+            (S.written out.new)) }
         ensures causes { MatchOption result
-            (CountsNone (I.faults inputs.old) (I.faults inputs.new) (S.faults out.old) (S.faults out.new))
-            (λ status. HasCauses status (I.faults inputs.old) (I.faults inputs.new) (S.faults out.old) (S.faults out.new)) }
+            (CountsNone (I.faults inputs.old) (I.faults inputs.new)
+            (S.faults out.old) (S.faults out.new))
+            (λ status. HasCauses status (I.faults inputs.old) (I.faults inputs.new)
+            (S.faults out.old) (S.faults out.new)) }
         ensures not_usage { IfSome result (λ status. status ≢ Status.Usage) }
     {
         match self.lines.next(inputs) {
@@ -193,9 +214,11 @@ impl Conversation {
         ensures market { market.new.market ≡ market.old.market }
         ensures lines { self.new.lines ≡ self.old.lines }
         ensures cause { HasCause (S.faults out.old) (S.faults out.new) result }
-        ensures answered { OnOk result (AreGathered market.old.market market.old.standing (text self.old.lines.line ∷ []) market.new.standing
+        ensures answered { OnOk result (AreGathered market.old.market market.old.standing
+            (text self.old.lines.line ∷ []) market.new.standing
             (S.written out.old) (S.written out.new) self.old.waiting.bytes self.new.waiting.bytes) }
-        ensures front { OnErr result (AddsFront (S.written out.old) (S.written out.new) self.old.waiting.bytes) }
+        ensures front { OnErr result
+            (AddsFront (S.written out.old) (S.written out.new) self.old.waiting.bytes) }
     {
         if is_blank(self.lines.line()) {
             return Ok(());
@@ -208,9 +231,11 @@ impl Conversation {
     fn answer_long<S: Sink>(&mut self, out: &mut S) -> Result<(), SinkFailed>
         ensures lines { self.new.lines ≡ self.old.lines }
         ensures cause { HasCause (S.faults out.old) (S.faults out.new) result }
-        ensures answered { (market : Market) (now : Standing) → OnOk result (AreGathered market now (long ∷ []) now
-            (S.written out.old) (S.written out.new) self.old.waiting.bytes self.new.waiting.bytes) }
-        ensures front { OnErr result (AddsFront (S.written out.old) (S.written out.new) self.old.waiting.bytes) }
+        ensures answered { (market : Market) (now : Standing) → OnOk result
+            (AreGathered market now (long ∷ []) now (S.written out.old) (S.written out.new)
+            self.old.waiting.bytes self.new.waiting.bytes) }
+        ensures front { OnErr result
+            (AddsFront (S.written out.old) (S.written out.new) self.old.waiting.bytes) }
     {
         self.say(&Reply::Refused { why: Refusal::Long }, out)
     }
@@ -219,8 +244,10 @@ impl Conversation {
     fn say<S: Sink>(&mut self, reply: &Reply, out: &mut S) -> Result<(), SinkFailed>
         ensures lines { self.new.lines ≡ self.old.lines }
         ensures cause { HasCause (S.faults out.old) (S.faults out.new) result }
-        ensures gathers { OnOk result (Gathers (S.written out.old) (S.written out.new) self.old.waiting.bytes (reply_line reply.now) self.new.waiting.bytes) }
-        ensures front { OnErr result (AddsFront (S.written out.old) (S.written out.new) self.old.waiting.bytes) }
+        ensures gathers { OnOk result (Gathers (S.written out.old) (S.written out.new)
+            self.old.waiting.bytes (reply_line reply.now) self.new.waiting.bytes) }
+        ensures front { OnErr result
+            (AddsFront (S.written out.old) (S.written out.new) self.old.waiting.bytes) }
     {
         print_reply_line(reply, &mut self.line);
         put_line(self.line.as_str(), &mut self.waiting, out)

@@ -10,6 +10,7 @@ use Rattle.mk_rules.specs.Transcript.{Standing, opening}
 use Rattle.mk_rules.specs.Standings.{IsMarket}
 use Rattle.mk_session.specs.Texts.{ready_line}
 use Rattle.mk_session.specs.Transcript.{AreAnswered}
+use Rattle.mk_session.specs.Complete.{AreWithin}
 use Rattle.mk_session.specs.Outcome.{Adds, Serves}
 
 -- some bytes came behind those that waited, and a first part of them all was written; the others wait
@@ -44,6 +45,7 @@ pub record IsPlaced (all : List ℕ) (cutting : Cutting) (source : Option (List 
   pub answers : P (stream_lines done)
   pub given : cutting.given ≡ length (stream_lines done)
   pub spent : cutting.spent ≡ length done
+  pub within : AreWithin done
 
 -- a market's lines from the opening on are answered, and the answers are written but for the last bytes, which wait
 pub record AreSaid (market : Market) (lines : List StreamLine) (now : Standing) (before written : Option (List ℕ)) (waits : List ℕ) : Type 0 where

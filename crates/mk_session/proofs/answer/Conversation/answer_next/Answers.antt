@@ -11,7 +11,7 @@ returns-in-Line-clause-so_far g c =
     let gives = fresh_answer Line c.args.self.now.lines c.next.new.self (g.I.Inputs.commands c.args.inputs.now) (g.I.Inputs.commands c.next.new.inputs) none c.in-Line.ensures.answer in
     goes_on_after c.answer_text.result c.end_after.result c.args.market.now.market (text c.next.new.self.line) c.args.self.now.lines c.next.new.self c.answer_text.new.self.lines
     (g.I.Inputs.commands c.args.inputs.now) (g.I.Inputs.commands c.next.new.inputs) c.args.market.now.standing c.answer_text.new.market.standing
-    (g.S.Sink.written c.args.out.now) (g.S.Sink.written c.answer_text.new.out) c.args.self.now.waiting.bytes c.answer_text.new.self.waiting.bytes c.end_after.ensures c.answer_text.ensures.lines none gives c.answer_text.ensures.answered
+    (g.S.Sink.written c.args.out.now) (g.S.Sink.written c.answer_text.new.out) c.args.self.now.waiting.bytes c.answer_text.new.self.waiting.bytes c.end_after.ensures c.answer_text.ensures.lines none c.next.ensures.within gives c.answer_text.ensures.answered
 
 pub returns-in-Line-clause-ended : goal.returns-in-Line-clause-ended
 returns-in-Line-clause-ended g c =
@@ -33,7 +33,7 @@ returns-in-Long-clause-so_far g c =
     let gives = fresh_answer Long c.args.self.now.lines c.next.new.self (g.I.Inputs.commands c.args.inputs.now) (g.I.Inputs.commands c.next.new.inputs) none c.in-Long.ensures.answer in
     goes_on_after c.answer_long.result c.end_after-in-Long.result c.args.market.now.market long c.args.self.now.lines c.next.new.self c.answer_long.new.self.lines
     (g.I.Inputs.commands c.args.inputs.now) (g.I.Inputs.commands c.next.new.inputs) c.args.market.now.standing c.args.market.now.standing
-    (g.S.Sink.written c.args.out.now) (g.S.Sink.written c.answer_long.new.out) c.args.self.now.waiting.bytes c.answer_long.new.self.waiting.bytes c.end_after-in-Long.ensures c.answer_long.ensures.lines none gives.0 (c.answer_long.ensures.answered c.args.market.now.market c.args.market.now.standing)
+    (g.S.Sink.written c.args.out.now) (g.S.Sink.written c.answer_long.new.out) c.args.self.now.waiting.bytes c.answer_long.new.self.waiting.bytes c.end_after-in-Long.ensures c.answer_long.ensures.lines none c.next.ensures.within gives.0 (c.answer_long.ensures.answered c.args.market.now.market c.args.market.now.standing)
 
 pub returns-in-Long-clause-ended : goal.returns-in-Long-clause-ended
 returns-in-Long-clause-ended g c =
@@ -56,7 +56,6 @@ returns-in-End-clause-ended g c = λ all before far.
     ended_done c.args.market.now.market all c.args.self.now.lines c.next.new.self (g.I.Inputs.commands c.args.inputs.now) (g.I.Inputs.commands c.next.new.inputs)
     c.args.market.now.standing before (g.S.Sink.written c.args.out.now) (g.S.Sink.written c.args.out.now) c.args.self.now.waiting.bytes
     (none_waits c.args.self.now.lines c.args.self.now.waiting.bytes c.requires.ready c.in-End.ensures.held) far empty stays refl
-    c.next.ensures.within.given c.next.ensures.within.spent
 
 pub returns-in-End-clause-causes : goal.returns-in-End-clause-causes
 returns-in-End-clause-causes g c =
