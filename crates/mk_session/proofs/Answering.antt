@@ -5,15 +5,15 @@ use Rattle.std.proofs.lemmas.List.Elements.{filter-append}
 use Rattle.std.proofs.lemmas.Grind.{flat_map-append}
 use Rattle.std.proofs.lemmas.List.Concat.{flat_map-cons}
 use Rattle.mk_io.specs.Stream.{StreamLine, is_not_blank}
-use Rattle.mk_exact.specs.Market.{Market, network_of}
-use Rattle.mk_exact.proofs.Gains.{gains_bounded}
+use Rattle.mk_exact.specs.Market.{Market}
 use Rattle.mk_reply.specs.declared.reply.Reply.{Reply}
 use Rattle.mk_rules.specs.Transcript.{Standing, opening, Line, IsAllowedFor, after, Run}
 use Rattle.mk_rules.specs.Standings.{IsMarket, Stands}
-use Rattle.mk_rules.proofs.Keeps.{run_keeps, opening_stands}
+use Rattle.mk_rules.proofs.Keeps.{opening_stands}
 use Rattle.mk_rules.proofs.Settling.{run_settles}
 use Rattle.mk_session.specs.Texts.{ready_line, reply_line}
 use Rattle.mk_session.specs.Transcript.{Asks, AreReplied, AreAnswered, IsAllowedRun, Transcript}
+use Rattle.mk_session.proofs.Passing.{safe_on_way}
 
 pub no_more : {X : Type 0} (xs : List X) → xs ++ [] ≡ xs
 no_more [] = refl
@@ -94,12 +94,11 @@ then_answered market old mid new ls ms a b first second = record {
 pub allowed_run_of : (market : Market) → IsMarket market → (lines : List StreamLine) (end : Standing) (replies : List Reply) → AreReplied market opening lines end replies
     → IsAllowedRun market lines end replies
 allowed_run_of market is_market lines end replies replied =
-    let stands : Stands market end.history = run_keeps market opening end replied.asked replies (opening_stands market is_market) replied.run in
+    let stands : Stands market opening.history = opening_stands market is_market in
     record {
       replied = replied;
-      stands = stands;
-      bounded = gains_bounded (network_of market end.history) end.history stands.sound stands.proper;
-      settled = run_settles market opening end replied.asked replies (opening_stands market is_market) replied.run;
+      safe = safe_on_way market opening end replied.asked replies stands replied.run;
+      settled = run_settles market opening end replied.asked replies stands replied.run;
     }
 
 -- behind the ready line they are a transcript
