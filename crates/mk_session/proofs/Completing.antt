@@ -10,7 +10,7 @@ use Rattle.mk_exact.specs.Market.{Market}
 use Rattle.mk_file.specs.declared.fault.FileFault.{FileFault}
 use Rattle.mk_io.proofs.WholeLines.{some_part, whole_lines-append}
 use Rattle.mk_file.specs.File.{file_of}
-use Rattle.mk_session.specs.Outcome.{Refuses, Ends, Opened, Outcome, IsOverrun, HasCauses}
+use Rattle.mk_session.specs.Outcome.{Adds, Refuses, Ends, Opened, IsTurnedAway, IsOverrun, HasCauses}
 use Rattle.mk_session.specs.Complete.{AreWithin}
 
 -- some bytes hold a line, and the first one is no longer than they are
@@ -55,11 +55,11 @@ ends_well Memory given all rest output ends ok within read written = inr refl
 ends_well ReadFault given all rest output ends ok within read written = absurd (read refl)
 ends_well WriteFault given all rest output ends ok within read written = absurd (written refl)
 ends_well TooMany (Ok market) all rest output ends ok within read written = absurd (not_overrun market all rest output ends within)
-ends_well TooMany (Err fault) all rest output ends ok within read written = absurd ends
+ends_well TooMany (Err fault) all rest output ends ok within read written = absurd ends.0
 ends_well MarketRefused (Ok market) all rest output ends ok within read written = absurd ends
 ends_well MarketRefused (Err fault) all rest output ends ok within read written = absurd (cc)
 ends_well Usage (Ok market) all rest output ends ok within read written = absurd ends
-ends_well Usage (Err fault) all rest output ends ok within read written = absurd ends
+ends_well Usage (Err fault) all rest output ends ok within read written = absurd ends.0
 
 read_cause : (status : Status) (inputs inputs_now sink sink_now : ℕ) → HasCauses status inputs inputs_now sink sink_now → status ≡ ReadFault → Rose inputs inputs_now
 read_cause status inputs inputs_now sink sink_now causes e =
@@ -78,26 +78,25 @@ completes status given all source before written inputs inputs_now sink sink_now
     ends_well status given all opened.rest opened.output.bytes opened.output.holds ok within
     (λ e. steady_inputs (read_cause status inputs inputs_now sink sink_now causes e)) (λ e. steady_sink (write_cause status inputs inputs_now sink sink_now causes e))
 
-refuses_well : (status : Status) (fault : FileFault) (all rest output : List ℕ) → Refuses status fault all rest output → (status ≡ WriteFault → ⊥)
+refuses_well : (status : Status) (fault : FileFault) (output : List ℕ) → Refuses status fault output → (status ≡ WriteFault → ⊥)
     → (status ≡ MarketRefused) ⊎ (status ≡ Memory)
-refuses_well MarketRefused fault all rest output ends written = inl refl
-refuses_well Memory fault all rest output ends written = inr refl
-refuses_well WriteFault fault all rest output ends written = absurd (written refl)
-refuses_well ReadFault fault all rest output ends written = absurd ends
-refuses_well Done fault all rest output ends written = absurd ends
-refuses_well TooMany fault all rest output ends written = absurd ends
-refuses_well Usage fault all rest output ends written = absurd ends
+refuses_well MarketRefused fault output ends written = inl refl
+refuses_well Memory fault output ends written = inr refl
+refuses_well WriteFault fault output ends written = absurd (written refl)
+refuses_well ReadFault fault output ends written = absurd ends
+refuses_well Done fault output ends written = absurd ends
+refuses_well TooMany fault output ends written = absurd ends
+refuses_well Usage fault output ends written = absurd ends
 
 -- a run of a refused file in which nothing failed says so, or is out of memory
-pub refused_so : (status : Status) (file all : List ℕ) (fault : FileFault) (source before written : Option (List ℕ)) (inputs inputs_now sink sink_now : ℕ)
-    → Outcome status file all source before written → file_of file ≡ Err fault → HasCauses status inputs inputs_now sink sink_now
+pub refused_so : (status : Status) (fault : FileFault) (source left before written : Option (List ℕ)) (inputs inputs_now sink sink_now : ℕ)
+    → IsTurnedAway status fault source left before written → HasCauses status inputs inputs_now sink sink_now
     → (Rose inputs inputs_now → ⊥) → (Rose sink sink_now → ⊥) → (status ≡ MarketRefused) ⊎ (status ≡ Memory)
-refused_so status file all fault source before written inputs inputs_now sink sink_now (inl closed) given causes steady_inputs steady_sink =
-    absurd (steady_inputs (read_cause status inputs inputs_now sink sink_now causes closed.failed))
-refused_so status file all fault source before written inputs inputs_now sink sink_now (inr opened) given causes steady_inputs steady_sink =
-    refuses_well status fault all opened.rest opened.output.bytes
-    (subst (λ (g : Result Market FileFault). Ends status g all opened.rest opened.output.bytes) given opened.output.holds)
-    (λ e. steady_sink (write_cause status inputs inputs_now sink sink_now causes e))
+refused_so status fault source left before written inputs inputs_now sink sink_now turned causes steady_inputs steady_sink = at turned.output
+  where
+    at : ((status ≡ ReadFault) × (written ≡ before)) ⊎ Adds before written (Refuses status fault) → (status ≡ MarketRefused) ⊎ (status ≡ Memory)
+    at (inl closed) = absurd (steady_inputs (read_cause status inputs inputs_now sink sink_now causes closed.0))
+    at (inr said) = refuses_well status fault said.bytes said.holds (λ e. steady_sink (write_cause status inputs inputs_now sink sink_now causes e))
 
 -- a count that is never anything but 0 did not rise
 pub none_rose : Rose 0 0 → ⊥

@@ -14,7 +14,7 @@ use Rattle.mk_file.specs.File.{file_of, of_document, document_of}
 use Rattle.mk_session.specs.Texts.{ready_line, fault_line}
 use Rattle.mk_rules.specs.Standings.{IsMarket}
 use Rattle.mk_rules.specs.Transcript.{opening}
-use Rattle.mk_session.specs.Outcome.{Adds, Ends, Serves, NotOpened, Opened}
+use Rattle.mk_session.specs.Outcome.{Adds, Ends, Serves, Refuses, NotOpened, Opened, IsTurnedAway}
 use Rattle.mk_session.specs.inner.Progress.{IsEnded}
 use Rattle.mk_session.specs.inner.Loading.{opened_part}
 use Rattle.mk_session.proofs.Answering.{no_more, none_answered, transcript_of}
@@ -22,7 +22,7 @@ use Rattle.mk_session.proofs.Completing.{none_within_stream}
 
 memory_ends : (given : Result Market FileFault) (all : List ℕ) → Ends Memory given all all []
 memory_ends (Ok market) all = record { nothing = refl; unread = refl }
-memory_ends (Err fault) all = record { nothing = refl; unread = refl }
+memory_ends (Err fault) all = (refl, refl)
 
 -- nothing was written
 pub adds_nothing : (before : Option (List ℕ)) (P : List ℕ → Type 0) → P [] → Adds before before P
@@ -56,6 +56,22 @@ refused_front given fault all before after e front = record {
   holds = subst (λ (r : Result Market FileFault). Ends WriteFault r all all front.front) (sym e)
       (record { rest = front.rest; parts = front.parts }, refl);
 }
+
+-- a refused file: no command is read, whatever is told of them
+pub turned_unread : (fault : FileFault) (source left before : Option (List ℕ)) → left ≡ source → IsTurnedAway ReadFault fault source left before before
+turned_unread fault source left before same = record { unread = same; output = inl (refl, refl) }
+
+pub turned_short : (fault : FileFault) (source left before : Option (List ℕ)) → left ≡ source → IsTurnedAway Memory fault source left before before
+turned_short fault source left before same = record { unread = same; output = inr (adds_nothing before (Refuses Memory fault) refl) }
+
+pub turned_told : (status : Status) (fault : FileFault) (source before after : Option (List ℕ)) → Adds before after (Ends status (Err fault) [] [])
+    → IsTurnedAway status fault source source before after
+turned_told status fault source before after said =
+    record { unread = refl; output = inr (record { bytes = said.bytes; added = said.added; holds = said.holds.0 }) }
+
+pub turned_from : (status : Status) (fault : FileFault) (source mid left before after : Option (List ℕ)) → mid ≡ source
+    → IsTurnedAway status fault mid left before after → IsTurnedAway status fault source left before after
+turned_from status fault source mid left before after same turned = record { unread = turned.unread ∙ same; output = turned.output }
 
 -- a run that ended behind its ready line
 pub served_when_ended : (status : Status) (market file : Market) (all line : List ℕ) (source before ready after : Option (List ℕ)) → market ≡ file

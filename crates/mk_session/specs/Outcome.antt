@@ -76,19 +76,20 @@ Serves Memory market all rest output = IsUnanswered all rest output
 Serves MarketRefused market all rest output = ⊥
 Serves Usage market all rest output = ⊥
 
--- the run of a refused file: its one line, and no command is read
-abbrev pub Refuses : Status → FileFault → List ℕ → List ℕ → List ℕ → Type 0
-Refuses MarketRefused fault all rest output = (output ≡ fault_line fault) × (rest ≡ all)
-Refuses WriteFault fault all rest output = IsFrontOf (fault_line fault) output × (rest ≡ all)
-Refuses Memory fault all rest output = IsUnanswered all rest output
-Refuses ReadFault fault all rest output = ⊥
-Refuses Done fault all rest output = ⊥
-Refuses TooMany fault all rest output = ⊥
-Refuses Usage fault all rest output = ⊥
+-- what is written of a refused file: its one line
+abbrev pub Refuses : Status → FileFault → List ℕ → Type 0
+Refuses MarketRefused fault output = output ≡ fault_line fault
+Refuses WriteFault fault output = IsFrontOf (fault_line fault) output
+Refuses Memory fault output = output ≡ []
+Refuses ReadFault fault output = ⊥
+Refuses Done fault output = ⊥
+Refuses TooMany fault output = ⊥
+Refuses Usage fault output = ⊥
 
+-- the run of an accepted file, or of a refused one, of which no command is read
 abbrev pub Ends : Status → Result Market FileFault → List ℕ → List ℕ → List ℕ → Type 0
 Ends status (Ok market) all rest output = Serves status market all rest output
-Ends status (Err fault) all rest output = Refuses status fault all rest output
+Ends status (Err fault) all rest output = Refuses status fault output × (rest ≡ all)
 
 -- the market file could not be read: nothing was written, and no command was read
 pub record NotOpened (status : Status) (all : List ℕ) (source before written : Option (List ℕ)) : Type 0 where
@@ -101,6 +102,12 @@ pub record Opened (status : Status) (given : Result Market FileFault) (all : Lis
   pub rest : List ℕ
   pub told : source ≡ Some rest
   pub output : Adds before written (Ends status given all rest)
+
+-- the run of a refused file, whatever is told of the commands: none is read; and the file could not be read and nothing was
+-- written, or what was written is of its refusal
+pub record IsTurnedAway (status : Status) (fault : FileFault) (source left before written : Option (List ℕ)) : Type 0 where
+  pub unread : left ≡ source
+  pub output : ((status ≡ ReadFault) × (written ≡ before)) ⊎ Adds before written (Refuses status fault)
 
 -- a whole run over the bytes of a file and all bytes of the commands: what its status says of the commands that are left
 -- and of the output

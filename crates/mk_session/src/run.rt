@@ -10,7 +10,7 @@ ghost use Rattle.mk_exact.specs.Market.{Market};
 ghost use Rattle.mk_rules.specs.Standings.{IsMarket};
 ghost use Rattle.mk_rules.specs.Transcript.{opening};
 ghost use Rattle.mk_file.specs.declared.fault.FileFault.{FileFault};
-ghost use Rattle.mk_session.specs.Outcome.{Adds, Ends, Opened, Outcome, HasCauses};
+ghost use Rattle.mk_session.specs.Outcome.{Adds, Ends, Opened, Outcome, IsTurnedAway, HasCauses};
 ghost use Rattle.mk_session.specs.Texts.{ready_line};
 ghost use Rattle.mk_session.specs.Complete.{AreWithin};
 ghost use Rattle.mk_session.specs.inner.Loading.{opened_part, IsTaken, HasLoadCause};
@@ -39,6 +39,8 @@ pub fn serve<I: Inputs, S: Sink>(alloc: Global, name: &str, inputs: &mut I, out:
     requires { I.admits name.now }
     ensures outcome { (file all : List ℕ) → I.file inputs.old name.now ≡ Some file → I.commands inputs.old ≡ Some all →
         Outcome result file all (I.commands inputs.new) (S.written out.old) (S.written out.new) }
+    ensures refused { (file : List ℕ) (fault : FileFault) → I.file inputs.old name.now ≡ Some file → file_of file ≡ Err fault →
+        IsTurnedAway result fault (I.commands inputs.old) (I.commands inputs.new) (S.written out.old) (S.written out.new) }
     ensures complete { (file all : List ℕ) → I.file inputs.old name.now ≡ Some file → I.commands inputs.old ≡ Some all →
         IsOk (file_of file) → AreWithin all → (Rose (I.faults inputs.old) (I.faults inputs.new) → ⊥) →
         (Rose (S.faults out.old) (S.faults out.new) → ⊥) → (result ≡ Status.Done) ⊎ (result ≡ Status.Memory) }
@@ -61,6 +63,8 @@ fn serve_bytes<I: Inputs, S: Sink>(
 ) -> Status
     ensures outcome { (all : List ℕ) → I.commands inputs.old ≡ Some all →
         Opened result (file_of bytes.items) all (I.commands inputs.new) (S.written out.old) (S.written out.new) }
+    ensures refused { (fault : FileFault) → file_of bytes.items ≡ Err fault →
+        IsTurnedAway result fault (I.commands inputs.old) (I.commands inputs.new) (S.written out.old) (S.written out.new) }
     ensures causes { HasCauses result (I.faults inputs.old) (I.faults inputs.new) (S.faults out.old) (S.faults out.new) }
     ensures not_usage { result ≢ Status.Usage }
 {

@@ -10,6 +10,6 @@ returns-clause-complete c = λ ok within.
 
 pub returns-clause-refused : goal.returns-clause-refused
 returns-clause-refused c = λ fault given.
-    refused_so c.serve.result _ _ fault _ _ _ 0 0 0 0
-    (c.serve.ensures.outcome _ _ (ap (λ (i : QuietIn). Some (file_or_empty i.files c.args.name.now)) c.new-inputs.ensures)
-    (ap (λ (i : QuietIn). Some i.commands) c.new-inputs.ensures)) given c.serve.ensures.causes none_rose none_rose
+    refused_so c.serve.result fault _ _ _ _ 0 0 0 0
+    (c.serve.ensures.refused _ fault (ap (λ (i : QuietIn). Some (file_or_empty i.files c.args.name.now)) c.new-inputs.ensures) given)
+    c.serve.ensures.causes none_rose none_rose
