@@ -1,12 +1,13 @@
 //! The program, over any inputs and any sink.
 
-ghost use Rattle.std.specs.Prelude.{◌≡◌, ◌≢◌, ℕ, ◌≤◌, List, map, codes, None, Some, ◌⊎◌, IsOk};
+ghost use Rattle.std.specs.Prelude.{◌≡◌, ◌≢◌, ℕ, ◌≤◌, List, map, codes, None, Some, Err, ◌⊎◌, IsOk};
 ghost use Rattle.std.specs.Option.{option_copied};
 ghost use Rattle.mk_io.specs.Outside.{Rose};
 ghost use Rattle.mk_net.specs.Texts.{same_text};
 ghost use Rattle.mk_file.specs.File.{file_of};
+ghost use Rattle.mk_file.specs.declared.fault.FileFault.{FileFault};
 ghost use Rattle.mk_session.specs.Complete.{AreWithin};
-ghost use Rattle.mk_session.specs.Outcome.{Adds, Outcome, HasCauses};
+ghost use Rattle.mk_session.specs.Outcome.{Adds, Outcome, IsTurnedAway, HasCauses};
 ghost use Rattle.daggre.specs.Words.{Run, Sample, asked_of, EndsUsage};
 ghost use Rattle.daggre.specs.Sampled.{EndsSample};
 
@@ -32,6 +33,11 @@ pub fn program<I: Inputs, S: Sink>(
     ensures run { (name file all : List ℕ) → asked_of (map (λ w. w.now) words.now) ≡ Some (Run name) →
         I.file inputs.old name ≡ Some file → I.commands inputs.old ≡ Some all →
         Outcome result file all (I.commands inputs.new) (S.written out.old) (S.written out.new) }
+    ensures refused { (name file : List ℕ) (fault : FileFault) →
+        asked_of (map (λ w. w.now) words.now) ≡ Some (Run name) →
+        I.file inputs.old name ≡ Some file → file_of file ≡ Err fault →
+        IsTurnedAway result fault (I.commands inputs.old) (I.commands inputs.new)
+        (S.written out.old) (S.written out.new) }
     ensures complete { (name file all : List ℕ) → asked_of (map (λ w. w.now) words.now) ≡ Some (Run name) →
         I.file inputs.old name ≡ Some file → I.commands inputs.old ≡ Some all → IsOk (file_of file) → AreWithin all →
         (Rose (I.faults inputs.old) (I.faults inputs.new) → ⊥) → (Rose (S.faults out.old) (S.faults out.new) → ⊥) →

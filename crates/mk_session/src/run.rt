@@ -39,8 +39,10 @@ pub fn serve<I: Inputs, S: Sink>(alloc: Global, name: &str, inputs: &mut I, out:
     requires { I.admits name.now }
     ensures outcome { (file all : List ℕ) → I.file inputs.old name.now ≡ Some file → I.commands inputs.old ≡ Some all →
         Outcome result file all (I.commands inputs.new) (S.written out.old) (S.written out.new) }
-    ensures refused { (file : List ℕ) (fault : FileFault) → I.file inputs.old name.now ≡ Some file → file_of file ≡ Err fault →
-        IsTurnedAway result fault (I.commands inputs.old) (I.commands inputs.new) (S.written out.old) (S.written out.new) }
+    ensures refused { (file : List ℕ) (fault : FileFault) →
+        I.file inputs.old name.now ≡ Some file → file_of file ≡ Err fault →
+        IsTurnedAway result fault (I.commands inputs.old) (I.commands inputs.new)
+        (S.written out.old) (S.written out.new) }
     ensures complete { (file all : List ℕ) → I.file inputs.old name.now ≡ Some file → I.commands inputs.old ≡ Some all →
         IsOk (file_of file) → AreWithin all → (Rose (I.faults inputs.old) (I.faults inputs.new) → ⊥) →
         (Rose (S.faults out.old) (S.faults out.new) → ⊥) → (result ≡ Status.Done) ⊎ (result ≡ Status.Memory) }
@@ -64,7 +66,8 @@ fn serve_bytes<I: Inputs, S: Sink>(
     ensures outcome { (all : List ℕ) → I.commands inputs.old ≡ Some all →
         Opened result (file_of bytes.items) all (I.commands inputs.new) (S.written out.old) (S.written out.new) }
     ensures refused { (fault : FileFault) → file_of bytes.items ≡ Err fault →
-        IsTurnedAway result fault (I.commands inputs.old) (I.commands inputs.new) (S.written out.old) (S.written out.new) }
+        IsTurnedAway result fault (I.commands inputs.old) (I.commands inputs.new)
+        (S.written out.old) (S.written out.new) }
     ensures causes { HasCauses result (I.faults inputs.old) (I.faults inputs.new) (S.faults out.old) (S.faults out.new) }
     ensures not_usage { result ≢ Status.Usage }
 {
