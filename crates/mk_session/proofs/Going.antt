@@ -11,6 +11,7 @@ use Rattle.mk_rules.specs.Standings.{IsMarket}
 use Rattle.mk_rules.specs.Transcript.{Standing, opening}
 use Rattle.mk_session.specs.Transcript.{AreAnswered}
 use Rattle.mk_session.specs.inner.Progress.{IsSoFar}
+use Rattle.mk_session.specs.Opening.{IsTakenWithin}
 use Rattle.mk_session.specs.Outcome.{CountsNone, HasCauses}
 use Rattle.mk_session.specs.inner.Loading.{IsTaken}
 use Rattle.mk_session.proofs.Answering.{no_more, none_answered}
@@ -18,8 +19,10 @@ use Rattle.mk_session.proofs.Completing.{none_within_stream}
 
 -- between two lines: the market is the same, the lines go on, no fault was counted, and the run is so far
 pub record IsGoing (start market : Market) (commands : Option (List ℕ)) (lines : Cutting) (source : Option (List ℕ)) (now : Standing)
-    (before written : Option (List ℕ)) (waits : List ℕ) (inputs_before inputs sink_before sink : ℕ) : Type 0 where
+    (before written : Option (List ℕ)) (waits : List ℕ) (opened_before opened : Option (List ℕ))
+    (inputs_before inputs sink_before sink : ℕ) : Type 0 where
   pub same : market ≡ start
+  pub stays : opened ≡ opened_before
   pub goes_on : GoesOn lines.last
   pub counts : CountsNone inputs_before inputs sink_before sink
   pub far : (all : List ℕ) → commands ≡ Some all → IsSoFar start all lines source now before written waits
@@ -90,3 +93,11 @@ pub front_of_file : (most : ℕ) (file bytes : List ℕ) (source : Option (List 
 front_of_file most file bytes source taken short long =
     let size : length bytes ≡ most = omega arith in
     sym (ap (take most) taken.parts ∙ ap (λ n. take n (bytes ++ taken.rest)) (sym size) ∙ take-append_seam bytes taken.rest)
+
+-- as many bytes were taken as are kept, or fewer than so many
+pub within_of : (most : ℕ) (file bytes : List ℕ) (left : Option (List ℕ)) → IsTaken file bytes left → length bytes ≤ most → IsTakenWithin most file left
+within_of most file bytes left taken short = record { taken = bytes; rest = taken.rest; told = taken.told; parts = taken.parts; few = short }
+
+pub within_more : (few most : ℕ) (file : List ℕ) (left : Option (List ℕ)) → IsTakenWithin few file left → few ≤ most → IsTakenWithin most file left
+within_more few most file left within more =
+    record { taken = within.taken; rest = within.rest; told = within.told; parts = within.parts; few = omega (arith, within.few, more) }

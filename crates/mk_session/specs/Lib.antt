@@ -1,6 +1,7 @@
 pub mod Texts
 pub mod Passed
 pub mod Transcript
+pub mod Opening
 pub mod Outcome
 pub mod Complete
 pub mod Tally

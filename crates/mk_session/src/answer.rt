@@ -115,6 +115,7 @@ impl Conversation {
         ensures ended { (all : List ℕ) → I.commands inputs.old ≡ Some all →
             IsEnded result market.old.market all (I.commands inputs.new)
             (S.written out.old) (S.written out.new) }
+        ensures opened { I.market inputs.new ≡ I.market inputs.old }
         ensures causes { HasCauses result (I.faults inputs.old) (I.faults inputs.new)
             (S.faults out.old) (S.faults out.new) }
         ensures not_usage { result ≢ Status.Usage }
@@ -150,6 +151,7 @@ impl Conversation {
             market.old.standing before (S.written out.old) self.old.waiting.bytes →
             IsEnded status market.old.market all (I.commands inputs.new) before
             (S.written out.new)) }
+        ensures opened { I.market inputs.new ≡ I.market inputs.old }
         ensures causes { MatchOption result
             (CountsNone (I.faults inputs.old) (I.faults inputs.new)
             (S.faults out.old) (S.faults out.new))
@@ -188,6 +190,7 @@ impl Conversation {
             market.old.standing before (S.written out.old) self.old.waiting.bytes →
             IsEnded status market.old.market all (I.commands inputs.new) before
             (S.written out.new)) }
+        ensures opened { I.market inputs.new ≡ I.market inputs.old }
         ensures causes { MatchOption result
             (CountsNone (I.faults inputs.old) (I.faults inputs.new)
             (S.faults out.old) (S.faults out.new))

@@ -13,6 +13,7 @@ ghost use Rattle.mk_file.specs.declared.fault.FileFault.{FileFault};
 ghost use Rattle.mk_session.specs.Outcome.{Adds, Ends, Opened, Outcome, IsTurnedAway, HasCauses};
 ghost use Rattle.mk_session.specs.Texts.{ready_line};
 ghost use Rattle.mk_session.specs.Complete.{AreWithin};
+ghost use Rattle.mk_session.specs.Opening.{IsTakenWithin, IsReadWithin};
 ghost use Rattle.mk_session.specs.inner.Loading.{opened_part, IsTaken, HasLoadCause};
 
 use crate::answer::Conversation;
@@ -46,6 +47,8 @@ pub fn serve<I: Inputs, S: Sink>(alloc: Global, name: &str, inputs: &mut I, out:
     ensures complete { (file all : List ℕ) → I.file inputs.old name.now ≡ Some file → I.commands inputs.old ≡ Some all →
         IsOk (file_of file) → AreWithin all → (Rose (I.faults inputs.old) (I.faults inputs.new) → ⊥) →
         (Rose (S.faults out.old) (S.faults out.new) → ⊥) → (result ≡ Status.Done) ⊎ (result ≡ Status.Memory) }
+    ensures opened { (file : List ℕ) → I.file inputs.old name.now ≡ Some file →
+        IsReadWithin file (I.market inputs.old) (I.market inputs.new) }
     ensures causes { HasCauses result (I.faults inputs.old) (I.faults inputs.new) (S.faults out.old) (S.faults out.new) }
     ensures not_usage { result ≢ Status.Usage }
 {
@@ -68,6 +71,7 @@ fn serve_bytes<I: Inputs, S: Sink>(
     ensures refused { (fault : FileFault) → file_of bytes.items ≡ Err fault →
         IsTurnedAway result fault (I.commands inputs.old) (I.commands inputs.new)
         (S.written out.old) (S.written out.new) }
+    ensures opened { I.market inputs.new ≡ I.market inputs.old }
     ensures causes { HasCauses result (I.faults inputs.old) (I.faults inputs.new) (S.faults out.old) (S.faults out.new) }
     ensures not_usage { result ≢ Status.Usage }
 {
@@ -109,6 +113,7 @@ fn answer_file<I: Inputs, S: Sink>(
     requires tree { IsTreeOf file.net file.tree }
     ensures outcome { (all : List ℕ) → I.commands inputs.old ≡ Some all →
         Opened result (Ok (market_of file)) all (I.commands inputs.new) (S.written out.old) (S.written out.new) }
+    ensures opened { I.market inputs.new ≡ I.market inputs.old }
     ensures causes { HasCauses result (I.faults inputs.old) (I.faults inputs.new) (S.faults out.old) (S.faults out.new) }
     ensures not_usage { result ≢ Status.Usage }
 {
@@ -141,6 +146,7 @@ fn answer_opened<I: Inputs, S: Sink>(
     requires none_waits { conversation.old.waiting.bytes ≡ [] }
     ensures outcome { (all : List ℕ) → I.commands inputs.old ≡ Some all →
         Opened result (Ok market.old.market) all (I.commands inputs.new) (S.written out.old) (S.written out.new) }
+    ensures opened { I.market inputs.new ≡ I.market inputs.old }
     ensures causes { HasCauses result (I.faults inputs.old) (I.faults inputs.new) (S.faults out.old) (S.faults out.new) }
     ensures not_usage { result ≢ Status.Usage }
 {
@@ -154,6 +160,8 @@ fn answer_opened<I: Inputs, S: Sink>(
 fn load<I: Inputs>(alloc: Global, name: &str, inputs: &mut I) -> Result<Vec<u8>, LoadFault>
     requires { I.admits name.now }
     ensures bytes { IfOk result (λ bytes. (file : List ℕ) → I.file inputs.old name.now ≡ Some file → bytes.items ≡ opened_part file) }
+    ensures opened { (file : List ℕ) → I.file inputs.old name.now ≡ Some file →
+        IsReadWithin file (I.market inputs.old) (I.market inputs.new) }
     ensures commands { I.commands inputs.new ≡ I.commands inputs.old }
     ensures cause { HasLoadCause result (I.faults inputs.old) (I.faults inputs.new) }
 {
@@ -166,6 +174,8 @@ fn load<I: Inputs>(alloc: Global, name: &str, inputs: &mut I) -> Result<Vec<u8>,
 /// The first bytes of the opened market file.
 fn read_opened<I: Inputs>(alloc: Global, inputs: &mut I) -> Result<Vec<u8>, LoadFault>
     ensures bytes { IfOk result (λ bytes. (file : List ℕ) → I.market inputs.old ≡ Some file → bytes.items ≡ opened_part file) }
+    ensures few { (file : List ℕ) → I.market inputs.old ≡ Some file →
+        IsTakenWithin 1048577 file (I.market inputs.new) }
     ensures commands { I.commands inputs.new ≡ I.commands inputs.old }
     ensures cause { HasLoadCause result (I.faults inputs.old) (I.faults inputs.new) }
 {
@@ -193,6 +203,8 @@ fn read_piece<I: Inputs>(
     ensures grows { IfOk result (λ count. length bytes.new.items ≡ length bytes.old.items + count) }
     ensures taken { IfOk result (λ count. (file : List ℕ) → IsTaken file bytes.old.items (I.market inputs.old) →
         IsTaken file bytes.new.items (I.market inputs.new)) }
+    ensures few { (file : List ℕ) → IsTaken file bytes.old.items (I.market inputs.old) →
+        IsTakenWithin (length bytes.old.items + length piece.old) file (I.market inputs.new) }
     ensures at_end { IfOk result (λ count. count ≡ 0 → IsAtEnd (I.market inputs.new)) }
     ensures commands { I.commands inputs.new ≡ I.commands inputs.old }
     ensures cause { HasLoadCause result (I.faults inputs.old) (I.faults inputs.new) }

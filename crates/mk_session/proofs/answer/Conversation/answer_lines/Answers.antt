@@ -7,6 +7,7 @@ use Rattle.mk_session.proofs.answer.Conversation.answer_lines.Goals as goal
 pub loop-status-init : goal.loop-status-init
 loop-status-init g c = record {
   same = refl;
+  stays = refl;
   goes_on = inl (ap (λ (x : Cutting). x.last) c.requires.unread);
   counts = (refl, refl);
   far = λ all told. subst (λ (lines : Cutting). IsSoFar c.args.market.now.market all lines (g.I.Inputs.commands c.args.inputs.now) c.args.market.now.standing
