@@ -1,5 +1,6 @@
 -- What the arguments of a call ask, and the exit status that the call ends with.
-use Rattle.std.specs.Prelude.{◌≡◌, ℕ, List, [], drop, map, string_bytes, String, Option, Some, None, option_map, Result, Ok, Err}
+use Rattle.std.specs.Prelude.{◌≡◌, ℕ, List, [], drop, map, string_bytes, String, Option, Some, None}
+use Rattle.std.specs.Prelude.{option_map, Result, Ok, Err}
 use Rattle.std.specs.Vec.Iter.{into_iter_items}
 use Rattle.std.specs.IoError.{error_kind}
 use Rattle.std.specs.declared.vec.IntoIter.{IntoIter}
@@ -10,7 +11,8 @@ use Rattle.mk_io.specs.declared.status.Status.{Status}
 use Rattle.mk_io.specs.Status.{code_of}
 use Rattle.daggre.specs.Words.{Asked, asked_of}
 
--- the words where the arguments could not be listed: none where one is no text; else memory was wanting, and they are not known
+-- the words where the arguments could not be listed: none where one is no text; else memory was
+-- wanting, and they are not known
 abbrev pub words_without : ErrorKind → Option (List (List ℕ))
 words_without InvalidData = Some []
 words_without _ = None

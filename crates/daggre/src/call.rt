@@ -20,7 +20,8 @@ use std::alloc::Global;
 use std::env::Args;
 use std::io;
 
-/// Does what the arguments of a call ask, and gives the exit status of the process, that of `program`.
+/// Does what the arguments of a call ask, and gives the exit status of the process, that of
+/// `program`.
 ///
 /// The first argument is the program's own name, and is no word. Where an argument is no text, the
 /// words ask for nothing that the program knows. Where memory was wanting for them, nothing is read
@@ -48,7 +49,8 @@ pub fn call<I: Inputs, S: Sink>(
         (Rose (S.faults out.old) (S.faults out.new) → ⊥) →
         (result ≡ code_of Status.Done) ⊎ (result ≡ code_of Status.Memory) }
     ensures sample { (n : ℕ) → asked_by arguments ≡ Some (Some (Sample n)) →
-        Exits result (λ status. Adds (S.written out.old) (S.written out.new) (EndsSample status n)) }
+        Exits result (λ status.
+        Adds (S.written out.old) (S.written out.new) (EndsSample status n)) }
     ensures other_words { asked_by arguments ≡ Some None →
         Exits result (λ status. Adds (S.written out.old) (S.written out.new) (EndsUsage status)) }
     ensures unread { ((name : List ℕ) → asked_by arguments ≢ Some (Some (Run name))) →

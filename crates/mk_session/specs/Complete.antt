@@ -1,4 +1,5 @@
--- The limits of a stream: the lines that a run answers are within them, and where all of them are it must come to its end.
+-- The limits of a stream: the lines that a run answers are within them, and where all of them are
+-- it must come to its end.
 use Rattle.std.specs.Prelude.{ℕ, ◌≤◌, List, length}
 use Rattle.mk_io.specs.Stream.{stream_lines, max_stream_lines, max_stream_bytes}
 

@@ -10,6 +10,7 @@ pub record IsTakenWithin (most : ℕ) (file : List ℕ) (left : Option (List ℕ
   pub parts : file ≡ taken ++ rest
   pub few : length taken ≤ most
 
--- a file was not opened, or it was and at most one byte more than a market file may have was read of it
+-- a file was not opened, or it was and at most one byte more than a market file may have was read
+-- of it
 abbrev pub IsReadWithin : List ℕ → Option (List ℕ) → Option (List ℕ) → Type 0
 IsReadWithin file before left = (left ≡ before) ⊎ IsTakenWithin (max_file_bytes + 1) file left

@@ -12,9 +12,11 @@ use Rattle.mk_rules.specs.Standings.{Stands}
 abbrev pub standings : Market → Standing → List Line → List Reply → List Standing
 standings market now [] replies = now ∷ []
 standings market now (line ∷ lines) [] = now ∷ []
-standings market now (line ∷ lines) (reply ∷ replies) = now ∷ standings market (after market now line reply) lines replies
+standings market now (line ∷ lines) (reply ∷ replies) =
+    now ∷ standings market (after market now line reply) lines replies
 
--- nobody can be bankrupt there, and in each possible state what all users together have gained is bounded
+-- nobody can be bankrupt there, and in each possible state what all users together have gained is
+-- bounded
 pub record IsSafe (market : Market) (now : Standing) : Type 0 where
   pub stands : Stands market now.history
   pub bounded : All (GainsAreBounded (network_of market now.history) now.history)

@@ -20,21 +20,26 @@ Asks long LongLine = Unit {0}
 Asks long NoCommand = ⊥
 Asks long (OfCommand command) = ⊥
 
--- some lines of a stream are answered by these replies: the rules of the market allow them to what the lines that are not blank ask
-pub record AreReplied (market : Market) (old : Standing) (lines : List StreamLine) (new : Standing) (replies : List Reply) : Type 0 where
+-- some lines of a stream are answered by these replies: the rules of the market allow them to what
+-- the lines that are not blank ask
+pub record AreReplied (market : Market) (old : Standing) (lines : List StreamLine) (new : Standing)
+    (replies : List Reply) : Type 0 where
   pub asked : List Line
   pub asks : AllZip Asks (filter is_not_blank lines) asked
   pub run : Run market old asked replies new
 
 -- some lines are answered, and each reply is one line of the output
-pub record AreAnswered (market : Market) (old : Standing) (lines : List StreamLine) (new : Standing) (output : List ℕ) : Type 0 where
+pub record AreAnswered (market : Market) (old : Standing) (lines : List StreamLine) (new : Standing)
+    (output : List ℕ) : Type 0 where
   pub replies : List Reply
   pub replied : AreReplied market old lines new replies
   pub printed : output ≡ flat_map reply_line replies
 
--- these lines are answered from the opening on; before the first, between any two and behind the last nobody can be bankrupt
--- and what all users together have gained is bounded; and so is what a settlement pays
-pub record IsAllowedRun (market : Market) (lines : List StreamLine) (after : Standing) (replies : List Reply) : Type 0 where
+-- these lines are answered from the opening on; before the first, between any two and behind the
+-- last nobody can be bankrupt and what all users together have gained is bounded; and so is what a
+-- settlement pays
+pub record IsAllowedRun (market : Market) (lines : List StreamLine) (after : Standing)
+    (replies : List Reply) : Type 0 where
   pub replied : AreReplied market opening lines after replies
   pub safe : All (IsSafe market) (standings market opening replied.asked replies)
   pub settled : All (PaysWithin market after.history) replies

@@ -89,7 +89,8 @@ impl Conversation {
         print_ready(file, &mut self.line);
     }
 
-    /// Writes the line that was printed last. Only the ready line is written so, before others wait.
+    /// Writes the line that was printed last. Only the ready line is written so, before others
+    /// wait.
     pub(crate) fn write_ready<S: Sink>(&self, out: &mut S) -> Result<(), SinkFailed>
         ensures cause { HasCause (S.faults out.old) (S.faults out.new) result }
         ensures whole { OnOk result

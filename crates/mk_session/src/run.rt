@@ -1,6 +1,7 @@
 //! A whole run.
 
-ghost use Rattle.std.specs.Prelude.{◌≡◌, ◌≢◌, ◌+◌, ◌<◌, ◌≤◌, ℕ, List, [], Some, Ok, Err, Result, length, ◌⊎◌, IsOk, IfOk, IfErr};
+ghost use Rattle.std.specs.Prelude.{◌≡◌, ◌≢◌, ◌+◌, ◌<◌, ◌≤◌, ℕ, List, [], Some, Ok, Err, Result};
+ghost use Rattle.std.specs.Prelude.{length, ◌⊎◌, IsOk, IfOk, IfErr};
 ghost use Rattle.mk_io.specs.Outside.{Rose, IsAtEnd, CountsFault};
 ghost use Rattle.mk_io.specs.Cutting.{fresh};
 ghost use Rattle.mk_file.specs.File.{file_of};
@@ -34,22 +35,28 @@ pub enum LoadFault {
     Memory,
 }
 
-/// Runs the market of the file `name` over all commands, and writes `ready V B` and one line for each command line
-/// that is not blank, or the one line of a refused file. The process is to end after it: the market's memory is not given back.
+/// Runs the market of the file `name` over all commands, and writes `ready V B` and one line for
+/// each command line that is not blank, or the one line of a refused file. The process is to end
+/// after it: the market's memory is not given back.
 pub fn serve<I: Inputs, S: Sink>(alloc: Global, name: &str, inputs: &mut I, out: &mut S) -> Status
     requires { I.admits name.now }
-    ensures outcome { (file all : List ℕ) → I.file inputs.old name.now ≡ Some file → I.commands inputs.old ≡ Some all →
+    ensures outcome { (file all : List ℕ) →
+        I.file inputs.old name.now ≡ Some file → I.commands inputs.old ≡ Some all →
         Outcome result file all (I.commands inputs.new) (S.written out.old) (S.written out.new) }
     ensures refused { (file : List ℕ) (fault : FileFault) →
         I.file inputs.old name.now ≡ Some file → file_of file ≡ Err fault →
         IsTurnedAway result fault (I.commands inputs.old) (I.commands inputs.new)
         (S.written out.old) (S.written out.new) }
-    ensures complete { (file all : List ℕ) → I.file inputs.old name.now ≡ Some file → I.commands inputs.old ≡ Some all →
-        IsOk (file_of file) → AreWithin all → (Rose (I.faults inputs.old) (I.faults inputs.new) → ⊥) →
-        (Rose (S.faults out.old) (S.faults out.new) → ⊥) → (result ≡ Status.Done) ⊎ (result ≡ Status.Memory) }
+    ensures complete { (file all : List ℕ) →
+        I.file inputs.old name.now ≡ Some file → I.commands inputs.old ≡ Some all →
+        IsOk (file_of file) → AreWithin all →
+        (Rose (I.faults inputs.old) (I.faults inputs.new) → ⊥) →
+        (Rose (S.faults out.old) (S.faults out.new) → ⊥) →
+        (result ≡ Status.Done) ⊎ (result ≡ Status.Memory) }
     ensures opened { (file : List ℕ) → I.file inputs.old name.now ≡ Some file →
         IsReadWithin file (I.market inputs.old) (I.market inputs.new) }
-    ensures causes { HasCauses result (I.faults inputs.old) (I.faults inputs.new) (S.faults out.old) (S.faults out.new) }
+    ensures causes { HasCauses result (I.faults inputs.old) (I.faults inputs.new)
+        (S.faults out.old) (S.faults out.new) }
     ensures not_usage { result ≢ Status.Usage }
 {
     match load(alloc, name, inputs) {
@@ -59,7 +66,8 @@ pub fn serve<I: Inputs, S: Sink>(alloc: Global, name: &str, inputs: &mut I, out:
     }
 }
 
-/// Runs the market of these bytes of a file, and gives their memory back before the first command is read.
+/// Runs the market of these bytes of a file, and gives their memory back before the first command
+/// is read.
 fn serve_bytes<I: Inputs, S: Sink>(
     alloc: Global,
     bytes: Vec<u8>,
@@ -67,12 +75,14 @@ fn serve_bytes<I: Inputs, S: Sink>(
     out: &mut S,
 ) -> Status
     ensures outcome { (all : List ℕ) → I.commands inputs.old ≡ Some all →
-        Opened result (file_of bytes.items) all (I.commands inputs.new) (S.written out.old) (S.written out.new) }
+        Opened result (file_of bytes.items) all (I.commands inputs.new)
+        (S.written out.old) (S.written out.new) }
     ensures refused { (fault : FileFault) → file_of bytes.items ≡ Err fault →
         IsTurnedAway result fault (I.commands inputs.old) (I.commands inputs.new)
         (S.written out.old) (S.written out.new) }
     ensures opened { I.market inputs.new ≡ I.market inputs.old }
-    ensures causes { HasCauses result (I.faults inputs.old) (I.faults inputs.new) (S.faults out.old) (S.faults out.new) }
+    ensures causes { HasCauses result (I.faults inputs.old) (I.faults inputs.new)
+        (S.faults out.old) (S.faults out.new) }
     ensures not_usage { result ≢ Status.Usage }
 {
     let read = read_market(alloc, bytes.as_slice());
@@ -85,9 +95,11 @@ fn serve_bytes<I: Inputs, S: Sink>(
 
 /// Writes the one line of a refused file, unless memory was wanting.
 fn refuse<S: Sink>(fault: FileFault, out: &mut S) -> Status
-    ensures output { (given : Result Market FileFault) (all : List ℕ) → (fault ≢ FileFault.Memory → given ≡ Err fault) →
+    ensures output { (given : Result Market FileFault) (all : List ℕ) →
+        (fault ≢ FileFault.Memory → given ≡ Err fault) →
         Adds (S.written out.old) (S.written out.new) (Ends result given all all) }
-    ensures causes { (inputs : ℕ) → HasCauses result inputs inputs (S.faults out.old) (S.faults out.new) }
+    ensures causes { (inputs : ℕ) → HasCauses result inputs inputs
+        (S.faults out.old) (S.faults out.new) }
     ensures not_usage { result ≢ Status.Usage }
 {
     match fault {
@@ -112,9 +124,11 @@ fn answer_file<I: Inputs, S: Sink>(
 ) -> Status
     requires tree { IsTreeOf file.net file.tree }
     ensures outcome { (all : List ℕ) → I.commands inputs.old ≡ Some all →
-        Opened result (Ok (market_of file)) all (I.commands inputs.new) (S.written out.old) (S.written out.new) }
+        Opened result (Ok (market_of file)) all (I.commands inputs.new)
+        (S.written out.old) (S.written out.new) }
     ensures opened { I.market inputs.new ≡ I.market inputs.old }
-    ensures causes { HasCauses result (I.faults inputs.old) (I.faults inputs.new) (S.faults out.old) (S.faults out.new) }
+    ensures causes { HasCauses result (I.faults inputs.old) (I.faults inputs.new)
+        (S.faults out.old) (S.faults out.new) }
     ensures not_usage { result ≢ Status.Usage }
 {
     let mut conversation = Conversation::new();
@@ -122,8 +136,8 @@ fn answer_file<I: Inputs, S: Sink>(
     match open(alloc, file) {
         Ok(mut market) => {
             let status = answer_opened(alloc, &mut conversation, &mut market, inputs, out);
-            // The process ends next, and gives all memory back at once, also where the ready line could not be written: one by
-            // one, the many small tables of a chain take long.
+            // The process ends next, and gives all memory back at once, also where the ready line
+            // could not be written: one by one, the many small tables of a chain take long.
             mem::forget(market);
             status
         }
@@ -145,9 +159,11 @@ fn answer_opened<I: Inputs, S: Sink>(
     requires unread { conversation.old.lines ≡ fresh }
     requires none_waits { conversation.old.waiting.bytes ≡ [] }
     ensures outcome { (all : List ℕ) → I.commands inputs.old ≡ Some all →
-        Opened result (Ok market.old.market) all (I.commands inputs.new) (S.written out.old) (S.written out.new) }
+        Opened result (Ok market.old.market) all (I.commands inputs.new)
+        (S.written out.old) (S.written out.new) }
     ensures opened { I.market inputs.new ≡ I.market inputs.old }
-    ensures causes { HasCauses result (I.faults inputs.old) (I.faults inputs.new) (S.faults out.old) (S.faults out.new) }
+    ensures causes { HasCauses result (I.faults inputs.old) (I.faults inputs.new)
+        (S.faults out.old) (S.faults out.new) }
     ensures not_usage { result ≢ Status.Usage }
 {
     match conversation.write_ready(out) {
@@ -159,7 +175,8 @@ fn answer_opened<I: Inputs, S: Sink>(
 /// The first bytes of the market file of a name, at most one byte more than a market file may have.
 fn load<I: Inputs>(alloc: Global, name: &str, inputs: &mut I) -> Result<Vec<u8>, LoadFault>
     requires { I.admits name.now }
-    ensures bytes { IfOk result (λ bytes. (file : List ℕ) → I.file inputs.old name.now ≡ Some file → bytes.items ≡ opened_part file) }
+    ensures bytes { IfOk result (λ bytes. (file : List ℕ) → I.file inputs.old name.now ≡ Some file
+        → bytes.items ≡ opened_part file) }
     ensures opened { (file : List ℕ) → I.file inputs.old name.now ≡ Some file →
         IsReadWithin file (I.market inputs.old) (I.market inputs.new) }
     ensures commands { I.commands inputs.new ≡ I.commands inputs.old }
@@ -173,7 +190,8 @@ fn load<I: Inputs>(alloc: Global, name: &str, inputs: &mut I) -> Result<Vec<u8>,
 
 /// The first bytes of the opened market file.
 fn read_opened<I: Inputs>(alloc: Global, inputs: &mut I) -> Result<Vec<u8>, LoadFault>
-    ensures bytes { IfOk result (λ bytes. (file : List ℕ) → I.market inputs.old ≡ Some file → bytes.items ≡ opened_part file) }
+    ensures bytes { IfOk result (λ bytes. (file : List ℕ) → I.market inputs.old ≡ Some file
+        → bytes.items ≡ opened_part file) }
     ensures few { (file : List ℕ) → I.market inputs.old ≡ Some file →
         IsTakenWithin 1048577 file (I.market inputs.new) }
     ensures commands { I.commands inputs.new ≡ I.commands inputs.old }
@@ -201,7 +219,8 @@ fn read_piece<I: Inputs>(
     requires { 0 < length piece.old }
     ensures count { IfOk result (λ count. count ≤ length piece.old) }
     ensures grows { IfOk result (λ count. length bytes.new.items ≡ length bytes.old.items + count) }
-    ensures taken { IfOk result (λ count. (file : List ℕ) → IsTaken file bytes.old.items (I.market inputs.old) →
+    ensures taken { IfOk result (λ count. (file : List ℕ) → IsTaken file bytes.old.items
+        (I.market inputs.old) →
         IsTaken file bytes.new.items (I.market inputs.new)) }
     ensures few { (file : List ℕ) → IsTaken file bytes.old.items (I.market inputs.old) →
         IsTakenWithin (length bytes.old.items + length piece.old) file (I.market inputs.new) }

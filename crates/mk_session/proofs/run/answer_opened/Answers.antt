@@ -6,7 +6,8 @@ pub returns-in-Ok-clause-outcome : goal.returns-in-Ok-clause-outcome
 returns-in-Ok-clause-outcome g c = λ all told.
     let market = c.args.market.now.market in
     served_when_ended c.answer_lines.result market market all c.args.conversation.now.line.bytes
-    (g.I.Inputs.commands c.answer_lines.new.inputs) (g.S.Sink.written c.args.out.now) (g.S.Sink.written c.write_ready.new.out)
+    (g.I.Inputs.commands c.answer_lines.new.inputs) (g.S.Sink.written c.args.out.now)
+    (g.S.Sink.written c.write_ready.new.out)
     (g.S.Sink.written c.answer_lines.new.out) refl c.requires.ready c.in-Ok.ensures.whole
     (c.answer_lines.ensures.ended all told)
 
@@ -14,5 +15,6 @@ pub returns-in-Err-clause-outcome : goal.returns-in-Err-clause-outcome
 returns-in-Err-clause-outcome g c = λ all told.
     let market = c.args.market.now.market in
     broken_at_ready market market c.requires.is_market all c.args.conversation.now.line.bytes
-    (g.I.Inputs.commands c.args.inputs.now) (g.S.Sink.written c.args.out.now) (g.S.Sink.written c.write_ready.new.out)
+    (g.I.Inputs.commands c.args.inputs.now) (g.S.Sink.written c.args.out.now)
+    (g.S.Sink.written c.write_ready.new.out)
     refl c.requires.ready told c.in-Err.ensures.front

@@ -13,8 +13,10 @@ returns-in-Err-clause-outcome g c = λ all told. record {
 
 pub returns-in-Err-clause-refused : goal.returns-in-Err-clause-refused
 returns-in-Err-clause-refused g c = λ fault given.
-    turned_told c.refuse.result fault (g.I.Inputs.commands c.args.inputs.now) (g.S.Sink.written c.args.out.now) (g.S.Sink.written c.refuse.new.out)
-    (c.refuse.ensures.output (Err fault) [] (λ known. sym given ∙ ap file_of (sym (c.as_slice.ensures.value)) ∙ c.in-Err.ensures.refused known))
+    turned_told c.refuse.result fault (g.I.Inputs.commands c.args.inputs.now)
+    (g.S.Sink.written c.args.out.now) (g.S.Sink.written c.refuse.new.out)
+    (c.refuse.ensures.output (Err fault) [] (λ known. sym given
+    ∙ ap file_of (sym (c.as_slice.ensures.value)) ∙ c.in-Err.ensures.refused known))
 
 pub returns-in-Ok-clause-refused : goal.returns-in-Ok-clause-refused
 returns-in-Ok-clause-refused g c = λ fault given.

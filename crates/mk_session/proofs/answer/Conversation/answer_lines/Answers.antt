@@ -10,8 +10,12 @@ loop-status-init g c = record {
   stays = refl;
   goes_on = inl (ap (λ (x : Cutting). x.last) c.requires.unread);
   counts = (refl, refl);
-  far = λ all told. subst (λ (lines : Cutting). IsSoFar c.args.market.now.market all lines (g.I.Inputs.commands c.args.inputs.now) c.args.market.now.standing
-      (g.S.Sink.written c.args.out.now) (g.S.Sink.written c.args.out.now) c.args.self.now.waiting.bytes) (sym c.requires.unread)
-      (far_at_start c.args.market.now.market c.requires.is_market all (g.I.Inputs.commands c.args.inputs.now) c.args.market.now.standing (g.S.Sink.written c.args.out.now)
+  far = λ all told. subst (λ (lines : Cutting). IsSoFar c.args.market.now.market all lines
+      (g.I.Inputs.commands c.args.inputs.now) c.args.market.now.standing
+      (g.S.Sink.written c.args.out.now) (g.S.Sink.written c.args.out.now)
+      c.args.self.now.waiting.bytes) (sym c.requires.unread)
+      (far_at_start c.args.market.now.market c.requires.is_market all
+      (g.I.Inputs.commands c.args.inputs.now) c.args.market.now.standing
+      (g.S.Sink.written c.args.out.now)
       c.args.self.now.waiting.bytes told c.requires.opening c.requires.none_waits);
 }

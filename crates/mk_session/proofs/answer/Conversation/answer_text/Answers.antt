@@ -11,7 +11,8 @@ pub returns-then-is_blank-clause-answered : goal.returns-then-is_blank-clause-an
 returns-then-is_blank-clause-answered g c =
     let m = c.args.market.now in
     let line = c.args.self.now.lines.line in
-    let blank : list_all (λ b. b == 32) line ≡ true = ap (λ (l : List ℕ). list_all (λ b. b == 32) l) (sym c.line.ensures) ∙ sym c.is_blank.ensures ∙ c.if-is_blank.true in
+    let blank : list_all (λ b. b == 32) line ≡ true = ap (λ (l : List ℕ). list_all (λ b. b == 32) l)
+    (sym c.line.ensures) ∙ sym c.is_blank.ensures ∙ c.if-is_blank.true in
     record {
       output = [];
       answered = blank_answered m.market m.standing (text line) (rw blank refl);
@@ -22,7 +23,10 @@ pub returns-clause-answered : goal.returns-clause-answered
 returns-clause-answered g c =
     let m = c.args.market.now in
     let line = c.args.self.now.lines.line in
-    gathered_when_said c.say.result m.market m.standing (text line ∷ []) c.reply_to-reply.new.market.standing (reply_line c.reply_to-reply.result) _ _ _ _
-    (one_answered m.market m.standing (text line ∷ []) c.reply_to-reply.new.market.standing c.reply_to-reply.result
-    (subst (λ (l : List ℕ). AreReplied m.market m.standing (text l ∷ []) c.reply_to-reply.new.market.standing (c.reply_to-reply.result ∷ [])) c.line-2.ensures
+    gathered_when_said c.say.result m.market m.standing (text line ∷ [])
+    c.reply_to-reply.new.market.standing (reply_line c.reply_to-reply.result) _ _ _ _
+    (one_answered m.market m.standing (text line ∷ []) c.reply_to-reply.new.market.standing
+    c.reply_to-reply.result
+    (subst (λ (l : List ℕ). AreReplied m.market m.standing (text l ∷ [])
+    c.reply_to-reply.new.market.standing (c.reply_to-reply.result ∷ [])) c.line-2.ensures
     c.reply_to-reply.ensures.replied)) c.say.ensures.gathers
