@@ -14,7 +14,6 @@ use Rattle.mk_io.specs.Cutting.{first_size}
 use Rattle.mk_exact.specs.Market.{Market}
 use Rattle.mk_file.specs.declared.fault.FileFault.{FileFault}
 use Rattle.mk_io.proofs.WholeLines.{some_part, whole_lines-append}
-use Rattle.mk_file.specs.File.{file_of}
 use Rattle.mk_session.specs.Outcome.{Adds, Refuses, Ends, Opened, IsTurnedAway, IsOverrun}
 use Rattle.mk_session.specs.Outcome.{HasCauses}
 use Rattle.mk_session.specs.Complete.{AreWithin}

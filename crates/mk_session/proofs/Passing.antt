@@ -1,5 +1,5 @@
 -- What holds of each standing on the way of a run.
-use Rattle.std.proofs.Common.{◌≡◌, List, [], ◌∷◌, All, sym, subst}
+use Rattle.std.proofs.Common.{List, [], ◌∷◌, All, sym, subst}
 use Rattle.std.proofs.lemmas.List.Elements.{All-nil, All-cons, All-head, All-tail}
 use Rattle.mk_io.specs.Stream.{StreamLine}
 use Rattle.mk_exact.specs.Market.{Market, network_of}

@@ -1,4 +1,4 @@
-use Rattle.std.proofs.Common.{refl, ◌∙◌}
+use Rattle.std.proofs.Common.{refl}
 use Rattle.mk_session.proofs.Serving.{served_when_ended, broken_at_ready}
 use Rattle.mk_session.proofs.run.answer_opened.Goals as goal
 

@@ -1,4 +1,4 @@
-use Rattle.std.proofs.Common.{◌≡◌, [], Ok, Err, Result, ap, sym, ◌∙◌}
+use Rattle.std.proofs.Common.{[], Err, ap, sym, ◌∙◌}
 use Rattle.mk_file.specs.File.{file_of}
 use Rattle.mk_session.proofs.Serving.{turned_told}
 use Rattle.mk_session.proofs.run.serve_bytes.Goals as goal
