@@ -1,3 +1,4 @@
 pub mod Words
+pub mod Called
 pub mod Sampled
 pub mod inner

@@ -1,7 +1,9 @@
 -- What is written of a sample market and its run.
-use Rattle.std.specs.Prelude.{◌≡◌, ℕ, ◌≤◌, List, [], ◌++◌, codes, decimal, Option, Some, None, Ok, Err, ◌⊎◌}
+use Rattle.std.specs.Prelude.{◌≡◌, ℕ, ◌≤◌, List, [], ◌++◌, codes, decimal, Option, Some, None, Ok}
+use Rattle.std.specs.Prelude.{Err, ◌⊎◌}
 use Rattle.mk_io.specs.declared.status.Status.{Status}
-use Rattle.mk_io.specs.declared.status.Status.TheVariants.{Done, Usage, MarketRefused, ReadFault, WriteFault, Memory, TooMany}
+use Rattle.mk_io.specs.declared.status.Status.TheVariants.{Done, Usage, MarketRefused, ReadFault}
+use Rattle.mk_io.specs.declared.status.Status.TheVariants.{WriteFault, Memory, TooMany}
 use Rattle.mk_file.specs.declared.fault.FileFault.{FileFault}
 use Rattle.mk_file.specs.File.{file_of}
 use Rattle.mk_reply.specs.declared.reply.Reply.{Reply}
@@ -17,7 +19,8 @@ use Rattle.daggre.specs.Words.{max_sample}
 unfoldable pub count_lines : ℕ → Tally → List ℕ
 count_lines n tally =
     as_line (codes "sample " ++ decimal n)
-    ++ as_line (codes "replies " ++ decimal tally.replies ++ codes " trades " ++ decimal tally.trades ++ codes " refused " ++ decimal tally.refused)
+    ++ as_line (codes "replies " ++ decimal tally.replies ++ codes " trades "
+    ++ decimal tally.trades ++ codes " refused " ++ decimal tally.refused)
 
 abbrev pub last_line : Option Reply → List ℕ
 last_line None = []

@@ -7,7 +7,8 @@ ghost use Rattle.mk_file.specs.File.{file_of};
 ghost use Rattle.mk_session.specs.Tally.{TallyEnds};
 ghost use Rattle.mk_session.specs.Outcome.{Adds, HasCauses};
 ghost use Rattle.daggre.specs.Words.{max_sample};
-ghost use Rattle.daggre.specs.Sampled.{count_lines, last_line, sample_text, EndsSample, SamplesAreWithin};
+ghost use Rattle.daggre.specs.Sampled.{count_lines, last_line, sample_text, EndsSample};
+ghost use Rattle.daggre.specs.Sampled.{SamplesAreWithin};
 
 use mk_file::FileFault;
 use mk_io::{Sink, SinkFailed, Status, write_all};
@@ -23,12 +24,14 @@ pub fn samples_are_within()
     ensures { SamplesAreWithin }
 {}
 
-/// Runs the sample market of `n` variables over its commands, and writes the counts of its replies and the last one.
+/// Runs the sample market of `n` variables over its commands, and writes the counts of its replies
+/// and the last one.
 pub fn run_sample<S: Sink>(alloc: Global, n: u32, out: &mut S) -> Status
     requires least { 2 ≤ n }
     requires most { n ≤ max_sample }
     ensures output { Adds (S.written out.old) (S.written out.new) (EndsSample result n) }
-    ensures causes { (inputs : ℕ) → HasCauses result inputs inputs (S.faults out.old) (S.faults out.new) }
+    ensures causes { (inputs : ℕ) → HasCauses result inputs inputs
+        (S.faults out.old) (S.faults out.new) }
     ensures not_usage { result ≢ Status.Usage }
 {
     match count_sample(alloc, n) {
@@ -41,7 +44,8 @@ pub fn run_sample<S: Sink>(alloc: Global, n: u32, out: &mut S) -> Status
 fn count_sample(alloc: Global, n: u32) -> Result<Result<Tally, TallyFault>, NoMemory>
     requires least { 2 ≤ n }
     requires most { n ≤ max_sample }
-    ensures { IfOk result (λ counted. TallyEnds counted (file_of (sample_file n)) (sample_commands n)) }
+    ensures { IfOk result (λ counted. TallyEnds counted (file_of (sample_file n))
+        (sample_commands n)) }
 {
     let sample = sample(alloc, n)?;
     Ok(tally(alloc, sample.file.bytes(), sample.commands.bytes()))
@@ -54,7 +58,8 @@ fn write_sample<S: Sink>(n: u32, counted: Result<Tally, TallyFault>, out: &mut S
     requires most { n ≤ max_sample }
     requires counted { TallyEnds counted (file_of (sample_file n)) (sample_commands n) }
     ensures output { Adds (S.written out.old) (S.written out.new) (EndsSample result n) }
-    ensures causes { (inputs : ℕ) → HasCauses result inputs inputs (S.faults out.old) (S.faults out.new) }
+    ensures causes { (inputs : ℕ) → HasCauses result inputs inputs
+        (S.faults out.old) (S.faults out.new) }
     ensures not_usage { result ≢ Status.Usage }
 {
     match counted {
@@ -69,7 +74,8 @@ fn write_sample<S: Sink>(n: u32, counted: Result<Tally, TallyFault>, out: &mut S
 fn say_tally<S: Sink>(n: u32, tally: &Tally, out: &mut S) -> Status
     requires { TallyEnds (Ok tally.now) (file_of (sample_file n)) (sample_commands n) }
     ensures output { Adds (S.written out.old) (S.written out.new) (EndsSample result n) }
-    ensures causes { (inputs : ℕ) → HasCauses result inputs inputs (S.faults out.old) (S.faults out.new) }
+    ensures causes { (inputs : ℕ) → HasCauses result inputs inputs
+        (S.faults out.old) (S.faults out.new) }
     ensures not_usage { result ≢ Status.Usage }
 {
     let mut line = LineBuffer::new();
@@ -81,9 +87,11 @@ fn say_tally<S: Sink>(n: u32, tally: &Tally, out: &mut S) -> Status
 
 /// Writes the one line of a sample whose file is refused.
 fn say_fault<S: Sink>(n: u32, fault: FileFault, out: &mut S) -> Status
-    requires { TallyEnds (Err (TallyFault.Market fault)) (file_of (sample_file n)) (sample_commands n) }
+    requires { TallyEnds (Err (TallyFault.Market fault)) (file_of (sample_file n))
+        (sample_commands n) }
     ensures output { Adds (S.written out.old) (S.written out.new) (EndsSample result n) }
-    ensures causes { (inputs : ℕ) → HasCauses result inputs inputs (S.faults out.old) (S.faults out.new) }
+    ensures causes { (inputs : ℕ) → HasCauses result inputs inputs
+        (S.faults out.old) (S.faults out.new) }
     ensures not_usage { result ≢ Status.Usage }
 {
     let mut line = LineBuffer::new();
@@ -102,8 +110,10 @@ fn write_tally<S: Sink>(
     out: &mut S,
 ) -> Result<(), SinkFailed>
     ensures cause { HasCause (S.faults out.old) (S.faults out.new) result }
-    ensures whole { OnOk result (S.written out.new ≡ append_known (S.written out.old) (sample_text n tally.now)) }
-    ensures front { OnErr result (AddsFront (S.written out.old) (S.written out.new) (sample_text n tally.now)) }
+    ensures whole { OnOk result (S.written out.new ≡ append_known (S.written out.old)
+        (sample_text n tally.now)) }
+    ensures front { OnErr result (AddsFront (S.written out.old) (S.written out.new)
+        (sample_text n tally.now)) }
 {
     print_counts(n, tally, line);
     match write_all(out, line.as_bytes()) {
@@ -119,8 +129,10 @@ fn write_last<S: Sink>(
     out: &mut S,
 ) -> Result<(), SinkFailed>
     ensures cause { HasCause (S.faults out.old) (S.faults out.new) result }
-    ensures whole { OnOk result (S.written out.new ≡ append_known (S.written out.old) (last_line last.now)) }
-    ensures front { OnErr result (AddsFront (S.written out.old) (S.written out.new) (last_line last.now)) }
+    ensures whole { OnOk result (S.written out.new ≡ append_known (S.written out.old)
+        (last_line last.now)) }
+    ensures front { OnErr result (AddsFront (S.written out.old) (S.written out.new)
+        (last_line last.now)) }
 {
     match last {
         None => Ok(()),

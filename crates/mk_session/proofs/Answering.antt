@@ -1,29 +1,32 @@
 -- Lines that are answered: none, one, and some behind others.
-use Rattle.std.proofs.Common.{◌≡◌, ℕ, List, [], ◌∷◌, ◌++◌, filter, true, false, refl, sym, ap, ap₂, subst, ◌∙◌}
+use Rattle.std.proofs.Common.{◌≡◌, ℕ, List, [], ◌∷◌, ◌++◌, filter, true, false, refl, sym, ap, ap₂}
+use Rattle.std.proofs.Common.{subst, ◌∙◌}
 use Rattle.std.specs.List.{AllZip}
 use Rattle.std.proofs.lemmas.List.Elements.{filter-append}
 use Rattle.std.proofs.lemmas.Grind.{flat_map-append}
 use Rattle.std.proofs.lemmas.List.Concat.{flat_map-cons}
 use Rattle.mk_io.specs.Stream.{StreamLine, is_not_blank}
-use Rattle.mk_exact.specs.Market.{Market, network_of}
-use Rattle.mk_exact.proofs.Gains.{gains_bounded}
+use Rattle.mk_exact.specs.Market.{Market}
 use Rattle.mk_reply.specs.declared.reply.Reply.{Reply}
 use Rattle.mk_rules.specs.Transcript.{Standing, opening, Line, IsAllowedFor, after, Run}
 use Rattle.mk_rules.specs.Standings.{IsMarket, Stands}
-use Rattle.mk_rules.proofs.Keeps.{run_keeps, opening_stands}
+use Rattle.mk_rules.proofs.Keeps.{opening_stands}
 use Rattle.mk_rules.proofs.Settling.{run_settles}
 use Rattle.mk_session.specs.Texts.{ready_line, reply_line}
 use Rattle.mk_session.specs.Transcript.{Asks, AreReplied, AreAnswered, IsAllowedRun, Transcript}
+use Rattle.mk_session.proofs.Passing.{safe_on_way}
 
 pub no_more : {X : Type 0} (xs : List X) → xs ++ [] ≡ xs
 no_more [] = refl
 no_more (x ∷ xs) = ap (λ ys. x ∷ ys) (no_more xs)
 
-pub none_replied : (market : Market) (old new : Standing) → new ≡ old → AreReplied market old [] new []
+pub none_replied : (market : Market) (old new : Standing) → new ≡ old → AreReplied market old [] new
+    []
 none_replied market old new same = record { asked = []; asks = tt; run = same }
 
 -- a blank line is passed over
-pub blank_replied : (market : Market) (now : Standing) (line : StreamLine) → is_not_blank line ≡ false → AreReplied market now (line ∷ []) now []
+pub blank_replied : (market : Market) (now : Standing) (line : StreamLine)
+    → is_not_blank line ≡ false → AreReplied market now (line ∷ []) now []
 blank_replied market now line blank =
     let none : filter is_not_blank (line ∷ []) ≡ [] = rw blank refl in
     record {
@@ -33,8 +36,10 @@ blank_replied market now line blank =
     }
 
 -- another line is answered by one reply
-pub one_replied : (market : Market) (now : Standing) (line : StreamLine) (question : Line) (reply : Reply) → is_not_blank line ≡ true
-    → Asks line question → IsAllowedFor market now question reply → AreReplied market now (line ∷ []) (after market now question reply) (reply ∷ [])
+pub one_replied : (market : Market) (now : Standing) (line : StreamLine) (question : Line)
+    (reply : Reply) → is_not_blank line ≡ true
+    → Asks line question → IsAllowedFor market now question reply → AreReplied market now
+    (line ∷ []) (after market now question reply) (reply ∷ [])
 one_replied market now line question reply busy asks allowed =
     let one : filter is_not_blank (line ∷ []) ≡ line ∷ [] = rw busy refl in
     record {
@@ -43,67 +48,91 @@ one_replied market now line question reply busy asks allowed =
       run = (allowed, refl);
     }
 
-asks_behind : (ls ms : List StreamLine) (xs ys : List Line) → AllZip Asks ls xs → AllZip Asks ms ys → AllZip Asks (ls ++ ms) (xs ++ ys)
+asks_behind : (ls ms : List StreamLine) (xs ys : List Line) → AllZip Asks ls xs → AllZip Asks ms ys
+    → AllZip Asks (ls ++ ms) (xs ++ ys)
 asks_behind [] ms [] ys first second = second
 asks_behind [] ms (x ∷ xs) ys first second = absurd first
 asks_behind (l ∷ ls) ms [] ys first second = absurd first
 asks_behind (l ∷ ls) ms (x ∷ xs) ys first second = (first.0, asks_behind ls ms xs ys first.1 second)
 
-run_behind : (market : Market) (xs ys : List Line) (rs ss : List Reply) (old mid new : Standing) → Run market old xs rs mid → Run market mid ys ss new
+run_behind : (market : Market) (xs ys : List Line) (rs ss : List Reply) (old mid new : Standing)
+    → Run market old xs rs mid → Run market mid ys ss new
     → Run market old (xs ++ ys) (rs ++ ss) new
-run_behind market [] ys [] ss old mid new first second = subst (λ (s : Standing). Run market s ys ss new) first second
+run_behind market [] ys [] ss old mid new first second =
+    subst (λ (s : Standing). Run market s ys ss new) first second
 run_behind market [] ys (r ∷ rs) ss old mid new first second = absurd first
 run_behind market (x ∷ xs) ys [] ss old mid new first second = absurd first
 run_behind market (x ∷ xs) ys (r ∷ rs) ss old mid new first second =
     (first.0, run_behind market xs ys rs ss (after market old x r) mid new first.1 second)
 
 -- lines behind others that are answered
-pub then_replied : (market : Market) (old mid new : Standing) (ls ms : List StreamLine) (rs ss : List Reply) → AreReplied market old ls mid rs
+pub then_replied : (market : Market) (old mid new : Standing) (ls ms : List StreamLine)
+    (rs ss : List Reply) → AreReplied market old ls mid rs
     → AreReplied market mid ms new ss → AreReplied market old (ls ++ ms) new (rs ++ ss)
 then_replied market old mid new ls ms rs ss first second = record {
   asked = first.asked ++ second.asked;
-  asks = subst (λ (qs : List StreamLine). AllZip Asks qs (first.asked ++ second.asked)) (sym (filter-append is_not_blank ls ms))
-      (asks_behind (filter is_not_blank ls) (filter is_not_blank ms) first.asked second.asked first.asks second.asks);
+  asks = subst (λ (qs : List StreamLine). AllZip Asks qs (first.asked ++ second.asked))
+      (sym (filter-append is_not_blank ls ms))
+      (asks_behind (filter is_not_blank ls) (filter is_not_blank ms) first.asked second.asked
+      first.asks second.asks);
   run = run_behind market first.asked second.asked rs ss old mid new first.run second.run;
 }
 
 -- the same of lines whose replies are printed
-pub none_answered : (market : Market) (old new : Standing) → new ≡ old → AreAnswered market old [] new []
-none_answered market old new same = record { replies = []; replied = none_replied market old new same; printed = refl }
+pub none_answered : (market : Market) (old new : Standing) → new ≡ old → AreAnswered market old []
+    new []
+none_answered market old new same = record {
+  replies = [];
+  replied = none_replied market old new
+      same;
+  printed = refl;
+}
 
-pub blank_answered : (market : Market) (now : Standing) (line : StreamLine) → is_not_blank line ≡ false → AreAnswered market now (line ∷ []) now []
-blank_answered market now line blank = record { replies = []; replied = blank_replied market now line blank; printed = refl }
+pub blank_answered : (market : Market) (now : Standing) (line : StreamLine)
+    → is_not_blank line ≡ false → AreAnswered market now (line ∷ []) now []
+blank_answered market now line blank = record {
+  replies = [];
+  replied = blank_replied market now
+      line blank;
+  printed = refl;
+}
 
-pub one_answered : (market : Market) (old : Standing) (lines : List StreamLine) (new : Standing) (reply : Reply)
-    → AreReplied market old lines new (reply ∷ []) → AreAnswered market old lines new (reply_line reply)
+pub one_answered : (market : Market) (old : Standing) (lines : List StreamLine) (new : Standing)
+    (reply : Reply)
+    → AreReplied market old lines new (reply ∷ []) → AreAnswered market old lines new
+    (reply_line reply)
 one_answered market old lines new reply replied = record {
   replies = reply ∷ [];
   replied = replied;
   printed = sym (flat_map-cons reply_line reply [] ∙ no_more (reply_line reply));
 }
 
-pub then_answered : (market : Market) (old mid new : Standing) (ls ms : List StreamLine) (a b : List ℕ) → AreAnswered market old ls mid a
+pub then_answered : (market : Market) (old mid new : Standing) (ls ms : List StreamLine)
+    (a b : List ℕ) → AreAnswered market old ls mid a
     → AreAnswered market mid ms new b → AreAnswered market old (ls ++ ms) new (a ++ b)
 then_answered market old mid new ls ms a b first second = record {
   replies = first.replies ++ second.replies;
-  replied = then_replied market old mid new ls ms first.replies second.replies first.replied second.replied;
-  printed = ap₂ (λ x y. x ++ y) first.printed second.printed ∙ sym (flat_map-append reply_line first.replies second.replies);
+  replied = then_replied market old mid new ls ms first.replies second.replies first.replied
+      second.replied;
+  printed = ap₂ (λ x y. x ++ y) first.printed second.printed
+      ∙ sym (flat_map-append reply_line first.replies second.replies);
 }
 
 -- what lines that are answered from the opening on keep
-pub allowed_run_of : (market : Market) → IsMarket market → (lines : List StreamLine) (end : Standing) (replies : List Reply) → AreReplied market opening lines end replies
+pub allowed_run_of : (market : Market) → IsMarket market → (lines : List StreamLine)
+    (end : Standing) (replies : List Reply) → AreReplied market opening lines end replies
     → IsAllowedRun market lines end replies
 allowed_run_of market is_market lines end replies replied =
-    let stands : Stands market end.history = run_keeps market opening end replied.asked replies (opening_stands market is_market) replied.run in
+    let stands : Stands market opening.history = opening_stands market is_market in
     record {
       replied = replied;
-      stands = stands;
-      bounded = gains_bounded (network_of market end.history) end.history stands.sound stands.proper;
-      settled = run_settles market opening end replied.asked replies (opening_stands market is_market) replied.run;
+      safe = safe_on_way market opening end replied.asked replies stands replied.run;
+      settled = run_settles market opening end replied.asked replies stands replied.run;
     }
 
 -- behind the ready line they are a transcript
-pub transcript_of : (market : Market) → IsMarket market → (lines : List StreamLine) (end : Standing) (answers : List ℕ) → AreAnswered market opening lines end answers
+pub transcript_of : (market : Market) → IsMarket market → (lines : List StreamLine) (end : Standing)
+    (answers : List ℕ) → AreAnswered market opening lines end answers
     → Transcript market lines (ready_line market ++ answers)
 transcript_of market is_market lines end answers answered = record {
   after = end;

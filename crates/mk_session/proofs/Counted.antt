@@ -1,11 +1,15 @@
 -- The count of the replies: none, one more, and all at the end.
-use Rattle.std.proofs.Common.{◌≡◌, ℕ, ◌+◌, ◌≤◌, cond, Bool, true, false, All, List, [], ◌∷◌, ◌++◌, length, Option, Some, None, IfSome, IfNone, Result, Ok, Err, MatchResult, OnOk, inl, refl, sym, ap, subst, ◌∙◌, arith, length-append}
+use Rattle.std.proofs.Common.{◌≡◌, ℕ, ◌+◌, cond, Bool, true, false, All, List, [], ◌∷◌, ◌++◌}
+use Rattle.std.proofs.Common.{length, Option, Some, None, IfSome, IfNone, Result, Ok, Err}
+use Rattle.std.proofs.Common.{MatchResult, OnOk, inl, refl, sym, ap, subst, ◌∙◌, arith}
+use Rattle.std.proofs.Common.{length-append}
 use Rattle.std.specs.Int.{from_bool}
 use Rattle.std.proofs.lemmas.List.Elements.{All-nil, All-cons, All-append}
 use Rattle.std.proofs.lemmas.List.Sums.{sum_by_push}
-use Rattle.mk_io.specs.declared.lines.Next.TheVariants.{End, ReadFault}
+use Rattle.mk_io.specs.declared.lines.Next.TheVariants.{ReadFault}
 use Rattle.mk_io.specs.Stream.{StreamLine, stream_lines, max_stream_lines, max_stream_bytes}
-use Rattle.mk_io.specs.Cutting.{Cutting, fresh, stream_left, first_size, GivesLine, Stays, Overruns, IsTooMuch, HasReadCause}
+use Rattle.mk_io.specs.Cutting.{Cutting, fresh, stream_left, first_size, GivesLine, IsWithinLimits}
+use Rattle.mk_io.specs.Cutting.{Overruns, IsTooMuch, HasReadCause}
 use Rattle.mk_exact.specs.Market.{Market}
 use Rattle.mk_reply.specs.declared.reply.Reply.{Reply}
 use Rattle.mk_rules.specs.Standings.{IsMarket}
@@ -15,12 +19,14 @@ use Rattle.mk_session.specs.declared.counts.TallyFault.{TallyFault}
 use Rattle.mk_session.specs.declared.counts.TallyFault.TheVariants.{Memory}
 use Rattle.mk_session.specs.Transcript.{AreReplied}
 use Rattle.mk_session.specs.Complete.{AreWithin}
-use Rattle.mk_session.specs.Tally.{is_trade, is_refusal, last_reply, IsRemembered, AreCounted, IsTally, TallyEnds}
-use Rattle.mk_session.specs.inner.Counting.{uncounted, is_want, IsWithin, IsCounted, CountsLine, IsCountedSoFar, IsCounting}
+use Rattle.mk_session.specs.Tally.{is_trade, is_refusal, last_reply, IsRemembered, AreCounted}
+use Rattle.mk_session.specs.Tally.{IsTally, TallyEnds}
+use Rattle.mk_session.specs.inner.Counting.{uncounted, is_want, IsWithin, IsCounted, CountsLine}
+use Rattle.mk_session.specs.inner.Counting.{IsCountedSoFar, IsCounting}
 use Rattle.mk_session.proofs.Answering.{no_more, none_replied, then_replied, allowed_run_of}
 use Rattle.mk_session.proofs.Underway.{are_whole, placed_next}
 use Rattle.mk_session.proofs.Endings.{past_of, risen}
-use Rattle.mk_session.proofs.Completing.{past_limits, none_rose}
+use Rattle.mk_session.proofs.Completing.{past_limits, none_rose, none_within_stream}
 
 last_more : (replies : List Reply) (reply : Reply) → last_reply (replies ++ reply ∷ []) ≡ Some reply
 last_more [] reply = refl
@@ -28,28 +34,36 @@ last_more (first ∷ []) reply = refl
 last_more (first ∷ next ∷ replies) reply = last_more (next ∷ replies) reply
 
 -- one reply more
-pub counted_more : (earlier : List Reply) (reply : Reply) (before after : Tally) → after.replies ≡ before.replies + 1
-    → after.trades ≡ before.trades + cond (is_trade reply) 1 0 → after.refused ≡ before.refused + cond (is_refusal reply) 1 0
+pub counted_more : (earlier : List Reply) (reply : Reply) (before after : Tally)
+    → after.replies ≡ before.replies + 1
+    → after.trades ≡ before.trades + cond (is_trade reply) 1 0 → after.refused ≡ before.refused +
+    cond (is_refusal reply) 1 0
     → after.last ≡ Some reply → AreCounted earlier before → AreCounted (earlier ++ reply ∷ []) after
 counted_more earlier reply before after replies trades refused last counts = record {
   counted = replies ∙ ap (λ n. n + 1) counts.counted ∙ sym (length-append earlier (reply ∷ []));
-  trades = trades ∙ ap (λ n. n + cond (is_trade reply) 1 0) counts.trades ∙ sym (sum_by_push (λ r. cond (is_trade r) 1 0) earlier reply);
-  refusals = refused ∙ ap (λ n. n + cond (is_refusal reply) 1 0) counts.refusals ∙ sym (sum_by_push (λ r. cond (is_refusal r) 1 0) earlier reply);
+  trades = trades ∙ ap (λ n. n + cond (is_trade reply) 1 0) counts.trades
+      ∙ sym (sum_by_push (λ r. cond (is_trade r) 1 0) earlier reply);
+  refusals = refused ∙ ap (λ n. n + cond (is_refusal reply) 1 0) counts.refusals
+      ∙ sym (sum_by_push (λ r. cond (is_refusal r) 1 0) earlier reply);
   last = last ∙ sym (last_more earlier reply);
 }
 
 -- a blank line has no reply to be counted
-pub counts_none : (earlier : List Reply) (tally : Tally) → AreCounted earlier tally → AreCounted (earlier ++ []) tally
-counts_none earlier tally counts = subst (λ (replies : List Reply). AreCounted replies tally) (sym (nothing_more earlier)) counts
+pub counts_none : (earlier : List Reply) (tally : Tally) → AreCounted earlier tally
+    → AreCounted (earlier ++ []) tally
+counts_none earlier tally counts = subst (λ (replies : List Reply). AreCounted replies tally)
+    (sym (nothing_more earlier)) counts
   where
     nothing_more : (replies : List Reply) → replies ++ [] ≡ replies
     nothing_more replies = no_more replies
 
 -- a reply that is no want of memory
 pub remembered_one : (reply : Reply) → is_want reply ≡ false → All IsRemembered (reply ∷ [])
-remembered_one reply none = All-cons IsRemembered reply [] (λ e. let want : true ≡ false = sym (ap is_want e) ∙ none in cc) (All-nil IsRemembered)
+remembered_one reply none = All-cons IsRemembered reply [] (λ e. let want : true ≡ false =
+    sym (ap is_want e) ∙ none in cc) (All-nil IsRemembered)
 
-none_counted : (market : Market) → IsMarket market → (now : Standing) → now ≡ opening → IsCounted market [] now uncounted
+none_counted : (market : Market) → IsMarket market → (now : Standing) → now ≡ opening
+    → IsCounted market [] now uncounted
 none_counted market is_market now begins = record {
   is_market = is_market;
   replies = [];
@@ -58,17 +72,22 @@ none_counted market is_market now begins = record {
   counts = record { counted = refl; trades = refl; refusals = refl; last = refl };
 }
 
-counted_next : (market : Market) (lines : List StreamLine) (line : StreamLine) (now then : Standing) (before after : Tally)
-    → CountsLine market now line then before after → IsCounted market lines now before → IsCounted market (lines ++ line ∷ []) then after
+counted_next : (market : Market) (lines : List StreamLine) (line : StreamLine) (now then : Standing)
+    (before after : Tally)
+    → CountsLine market now line then before after → IsCounted market lines now before
+    → IsCounted market (lines ++ line ∷ []) then after
 counted_next market lines line now then before after more counted = record {
   is_market = counted.is_market;
   replies = counted.replies ++ more.replies;
-  replied = then_replied market opening now then lines (line ∷ []) counted.replies more.replies counted.replied more.replied;
-  remembered = All-append IsRemembered counted.replies more.replies counted.remembered more.remembered;
+  replied = then_replied market opening now then lines (line ∷ []) counted.replies more.replies
+      counted.replied more.replied;
+  remembered = All-append IsRemembered counted.replies more.replies counted.remembered
+      more.remembered;
   counts = more.counts counted.replies counted.counts;
 }
 
-counted_at_start : (market : Market) → IsMarket market → (all source : List ℕ) (now : Standing) → source ≡ all → now ≡ opening
+counted_at_start : (market : Market) → IsMarket market → (all source : List ℕ) (now : Standing)
+    → source ≡ all → now ≡ opening
     → IsCountedSoFar market all fresh source now uncounted
 counted_at_start market is_market all source now told begins = record {
   done = [];
@@ -79,12 +98,14 @@ counted_at_start market is_market all source now told begins = record {
   answers = none_counted market is_market now begins;
   given = refl;
   spent = refl;
+  within = none_within_stream;
 }
 
 none_within : IsWithin fresh.given uncounted
 none_within = record { replies = omega arith; trades = omega arith; refused = omega arith }
 
-pub counting_at_start : (market : Market) → IsMarket market → (all : List ℕ) (lines : Cutting) (source : List ℕ) (now : Standing) (tally : Tally) → lines ≡ fresh → tally ≡ uncounted
+pub counting_at_start : (market : Market) → IsMarket market → (all : List ℕ) (lines : Cutting)
+    (source : List ℕ) (now : Standing) (tally : Tally) → lines ≡ fresh → tally ≡ uncounted
     → source ≡ all → now ≡ opening → IsCounting market market all lines source now tally
 counting_at_start market is_market all lines source now tally unread none told begins =
     subst (λ (l : Cutting). IsCounting market market all l source now tally) (sym unread)
@@ -96,57 +117,74 @@ counting_at_start market is_market all lines source now tally unread none told b
     }))
 
 -- a line was given and counted
-pub counted_so_far_next : (market : Market) (all : List ℕ) (line : StreamLine) (old new : Cutting) (source rest : List ℕ) (now then : Standing)
-    (before after : Tally) → old.last ≡ None → GivesLine line old new (stream_left old (Some source)) (stream_left new (Some rest))
-    → CountsLine market now line then before after → IsCountedSoFar market all old source now before → IsCountedSoFar market all new rest then after
-counted_so_far_next market all line old new source rest now then before after none gives more far =
-    placed_next all line old new (Some source) (Some rest) (λ lines. IsCounted market lines now before) (λ lines. IsCounted market lines then after)
-    none gives (λ lines counted. counted_next market lines line now then before after more counted) far
+pub counted_so_far_next : (market : Market) (all : List ℕ) (line : StreamLine) (old new : Cutting)
+    (source rest : List ℕ) (now then : Standing)
+    (before after : Tally) → old.last ≡ None → IsWithinLimits new → GivesLine line old new
+    (stream_left old (Some source)) (stream_left new (Some rest))
+    → CountsLine market now line then before after → IsCountedSoFar market all old source now before
+    → IsCountedSoFar market all new rest then after
+counted_so_far_next market all line old new source rest now then before after none limits gives more
+    far =
+    placed_next all line old new (Some source) (Some rest) (λ lines. IsCounted market lines now
+    before) (λ lines. IsCounted market lines then after)
+    none limits gives (λ lines counted. counted_next market lines line now then before after more
+    counted) far
 
 -- where the stream is at its end, the count is that of all commands
-pub tally_of : (market : Market) (all : List ℕ) (old new : Cutting) (source rest : List ℕ) (now : Standing) (tally : Tally)
-    → (far : IsCountedSoFar market all old source now tally) → far.left ≡ [] → Stays old new (Some source) (Some rest) End
-    → new.given ≤ max_stream_lines → new.spent ≤ max_stream_bytes → IsTally market all tally
-tally_of market all old new source rest now tally far empty stays few_lines few_bytes =
-    let whole : all ≡ far.done = far.bytes ∙ ap (λ (left : List ℕ). far.done ++ left) empty ∙ no_more far.done in
-    let given : new.given ≡ old.given = ap (λ (x : Cutting). x.given) stays.same in
-    let spent : new.spent ≡ old.spent = ap (λ (x : Cutting). x.spent) stays.same in
+pub tally_of : (market : Market) (all : List ℕ) (cutting : Cutting) (source : List ℕ)
+    (now : Standing) (tally : Tally)
+    → (far : IsCountedSoFar market all cutting source now tally) → far.left ≡ []
+    → IsTally market all tally
+tally_of market all cutting source now tally far empty =
+    let whole : all ≡ far.done = far.bytes ∙ ap (λ (left : List ℕ). far.done ++ left) empty
+    ∙ no_more far.done in
     let counted = far.answers in
     record {
       after = now;
       replies = counted.replies;
       run = allowed_run_of market counted.is_market (stream_lines all) now counted.replies
-          (subst (λ (bytes : List ℕ). AreReplied market opening (stream_lines bytes) now counted.replies) (sym whole) counted.replied);
+          (subst (λ (bytes : List ℕ). AreReplied market opening (stream_lines bytes) now
+          counted.replies) (sym whole) counted.replied);
       remembered = counted.remembered;
       counts = counted.counts;
-      within = record {
-        lines = subst (λ (bytes : List ℕ). length (stream_lines bytes) ≤ max_stream_lines) (sym whole) (omega (arith, far.given));
-        bytes = omega (arith, far.spent, ap length whole);
-      };
+      within = subst AreWithin (sym whole) far.within;
     }
 
 -- where the next line is too much, the commands are not within the limits
-pub not_within : (market : Market) (all : List ℕ) (old new : Cutting) (source rest : List ℕ) (now : Standing) (tally : Tally)
-    → IsCountedSoFar market all old source now tally → old.last ≡ None → Overruns old new (stream_left old (Some source)) (Some rest)
+pub not_within : (market : Market) (all : List ℕ) (old new : Cutting) (source rest : List ℕ)
+    (now : Standing) (tally : Tally)
+    → IsCountedSoFar market all old source now tally → old.last ≡ None
+    → Overruns old new (stream_left old (Some source)) (Some rest)
     → AreWithin all → ⊥
 not_within market all old new source rest now tally far none over within =
-    let much : IsTooMuch old far.left = subst (λ (o : Option (List ℕ)). IfSome o (IsTooMuch old)) far.known over.much in
-    past_limits all far.done far.left far.bytes (are_whole old.last far.done far.left none far.between) much.more
-    (past_of old.given (length (stream_lines far.done)) old.spent (length far.done) max_stream_lines max_stream_bytes (first_size far.left)
+    let much : IsTooMuch old far.left = subst (λ (o : Option (List ℕ)). IfSome o (IsTooMuch old))
+    far.known over.much in
+    past_limits all far.done far.left far.bytes (are_whole old.last far.done far.left none
+    far.between) much.more
+    (past_of old.given (length (stream_lines far.done)) old.spent (length far.done) max_stream_lines
+    max_stream_bytes (first_size far.left)
     far.given far.spent much.past) within
 
 -- a line that is not too long: the count goes on where memory was not wanting
-pub counts_on : {T E U : Type 0} (said : Result T E) (ended : Option (Result U TallyFault)) (market : Market) (line : StreamLine) (old new : Cutting)
+pub counts_on : {T E U : Type 0} (said : Result T E) (ended : Option (Result U TallyFault))
+    (market : Market) (line : StreamLine) (old new : Cutting)
     (source rest : List ℕ) (now then : Standing) (before after : Tally)
     → MatchResult said (λ _. ended ≡ None) (λ _. ended ≡ Some (Err Memory))
-    → old.last ≡ None → GivesLine line old new (stream_left old (Some source)) (stream_left new (Some rest))
+    → old.last ≡ None → IsWithinLimits new → GivesLine line old new (stream_left old (Some source))
+    (stream_left new (Some rest))
     → OnOk said (CountsLine market now line then before after)
-    → IfNone ended ((all : List ℕ) → IsCountedSoFar market all old source now before → IsCountedSoFar market all new rest then after)
-counts_on {U = U} (Ok v) ended market line old new source rest now then before after e none gives counted =
-    subst (λ (o : Option (Result U TallyFault)). IfNone o ((all : List ℕ) → IsCountedSoFar market all old source now before → IsCountedSoFar market all new rest then after))
-    (sym e) (λ all far. counted_so_far_next market all line old new source rest now then before after none gives counted far)
-counts_on {U = U} (Err x) ended market line old new source rest now then before after e none gives counted =
-    subst (λ (o : Option (Result U TallyFault)). IfNone o ((all : List ℕ) → IsCountedSoFar market all old source now before → IsCountedSoFar market all new rest then after))
+    → IfNone ended ((all : List ℕ) → IsCountedSoFar market all old source now before
+    → IsCountedSoFar market all new rest then after)
+counts_on {U = U} (Ok v) ended market line old new source rest now then before after e none limits
+    gives counted =
+    subst (λ (o : Option (Result U TallyFault)). IfNone o ((all : List ℕ) → IsCountedSoFar market
+    all old source now before → IsCountedSoFar market all new rest then after))
+    (sym e) (λ all far. counted_so_far_next market all line old new source rest now then before
+    after none limits gives counted far)
+counts_on {U = U} (Err x) ended market line old new source rest now then before after e none limits
+    gives counted =
+    subst (λ (o : Option (Result U TallyFault)). IfNone o ((all : List ℕ) → IsCountedSoFar market
+    all old source now before → IsCountedSoFar market all new rest then after))
     (sym e) tt
 
 -- the inputs count no fault, so no read fails
@@ -154,12 +192,15 @@ pub no_read_fault : (old : Cutting) → old.last ≡ None → HasReadCause ReadF
 no_read_fault old none cause = none_rose (risen old 0 0 none cause).rose
 
 -- the end of the count, whose market is the same all along
-pub ends_count : (start market : Market) (all : List ℕ) (lines : Cutting) (source : List ℕ) (now : Standing) (tally : Tally) (ended result : Result Tally TallyFault)
-    → market ≡ start → result ≡ ended → ((all : List ℕ) → IsCountedSoFar market all lines source now tally → TallyEnds ended (Ok market) all)
+pub ends_count : (start market : Market) (all : List ℕ) (lines : Cutting) (source : List ℕ)
+    (now : Standing) (tally : Tally) (ended result : Result Tally TallyFault)
+    → market ≡ start → result ≡ ended → ((all : List ℕ) → IsCountedSoFar market all lines source now
+    tally → TallyEnds ended (Ok market) all)
     → IsCountedSoFar start all lines source now tally → TallyEnds result (Ok start) all
 ends_count start market all lines source now tally ended result same is ends far =
     subst (λ (r : Result Tally TallyFault). TallyEnds r (Ok start) all) (sym is)
-    (subst (λ (m : Market). (all : List ℕ) → IsCountedSoFar m all lines source now tally → TallyEnds ended (Ok m) all) same ends all far)
+    (subst (λ (m : Market). (all : List ℕ) → IsCountedSoFar m all lines source now tally
+    → TallyEnds ended (Ok m) all) same ends all far)
 
 -- a test as a number
 abbrev pub test_number : Bool → ℕ

@@ -1,44 +1,58 @@
 -- How a run ends, from what it has come to.
-use Rattle.std.proofs.Common.{◌≡◌, ℕ, ◌≤◌, ◌<◌, ◌+◌, List, [], ◌∷◌, ◌++◌, length, Option, Some, None, Result, Ok, Err, MatchResult, MatchOption, OnOk, OnErr, IfSome, IfNone, ◌⊎◌, inl, inr, refl, sym, ap, subst, ◌∙◌, arith, append_assoc}
+use Rattle.std.proofs.Common.{◌≡◌, ℕ, ◌<◌, ◌+◌, List, [], ◌∷◌, ◌++◌, length, Option, Some}
+use Rattle.std.proofs.Common.{None, Result, Ok, Err, MatchResult, MatchOption, OnOk, OnErr, IfSome}
+use Rattle.std.proofs.Common.{IfNone, ◌⊎◌, inl, inr, refl, sym, ap, subst, ◌∙◌, append_assoc}
 use Rattle.mk_io.specs.declared.status.Status.{Status}
 use Rattle.mk_io.specs.declared.status.Status.TheVariants.{Done, ReadFault, WriteFault, TooMany}
 use Rattle.mk_io.specs.declared.lines.Next.{Next}
-use Rattle.mk_io.specs.declared.lines.Next.TheVariants.{Line, Long, End, ReadFault as Unread, TooMany as Overrun}
-use Rattle.mk_io.specs.Outside.{append_known, prepend_known, AddsFront, IsAtEnd, HasCause, CountsFault}
-use Rattle.mk_io.specs.Stream.{StreamLine, stream_lines, AreWholeLines, max_stream_lines, max_stream_bytes}
-use Rattle.mk_io.specs.Cutting.{Cutting, stream_left, first_size, GoesOn, GivesLine, Stays, IsAnswer, IsFreshAnswer, StopsInLine, Overruns, IsTooMuch, CountsReadFault, HasReadCause}
+use Rattle.mk_io.specs.declared.lines.Next.TheVariants.{Line, Long, End, ReadFault as Unread}
+use Rattle.mk_io.specs.declared.lines.Next.TheVariants.{TooMany as Overrun}
+use Rattle.mk_io.specs.Outside.{append_known, prepend_known, AddsFront, IsAtEnd, HasCause}
+use Rattle.mk_io.specs.Outside.{CountsFault}
+use Rattle.mk_io.specs.Stream.{StreamLine, stream_lines, AreWholeLines, max_stream_lines}
+use Rattle.mk_io.specs.Stream.{max_stream_bytes}
+use Rattle.mk_io.specs.Cutting.{Cutting, stream_left, first_size, GoesOn, GivesLine, Stays}
+use Rattle.mk_io.specs.Cutting.{IsAnswer, IsFreshAnswer, StopsInLine, Overruns, IsTooMuch}
+use Rattle.mk_io.specs.Cutting.{IsWithinLimits, CountsReadFault, HasReadCause}
 use Rattle.mk_io.proofs.Told.{append_known_twice, prepend_known_twice}
 use Rattle.mk_exact.specs.Market.{Market}
 use Rattle.mk_rules.specs.Transcript.{Standing, opening}
 use Rattle.mk_session.specs.Texts.{ready_line}
 use Rattle.mk_session.specs.Transcript.{AreAnswered, Transcript}
+use Rattle.mk_session.specs.Complete.{AreWithin}
 use Rattle.mk_session.specs.Outcome.{HasCauses, CountsNone}
 use Rattle.mk_session.specs.inner.Progress.{Gathers, AreGathered, IsBetween, IsSoFar, IsEnded}
 use Rattle.mk_session.proofs.Answering.{no_more, transcript_of}
 use Rattle.mk_session.proofs.Underway.{rest_of, are_whole, so_far_next, still_so_far}
 
 -- the transcript of the lines that are done
-transcript_so_far : (market : Market) (all : List ℕ) (cutting : Cutting) (source : Option (List ℕ)) (now : Standing) (before written : Option (List ℕ))
-    (waits : List ℕ) → waits ≡ [] → (far : IsSoFar market all cutting source now before written waits)
+transcript_so_far : (market : Market) (all : List ℕ) (cutting : Cutting) (source : Option (List ℕ))
+    (now : Standing) (before written : Option (List ℕ))
+    (waits : List ℕ) → waits ≡ [] → (far : IsSoFar market all cutting source now before written
+    waits)
     → Transcript market (stream_lines far.done) (ready_line market ++ far.answers.bytes)
 transcript_so_far market all cutting source now before written waits empty far =
     let bytes = far.answers.bytes in
-    let whole : bytes ++ waits ≡ bytes = ap (λ (rest : List ℕ). bytes ++ rest) empty ∙ no_more bytes in
+    let whole : bytes ++ waits ≡ bytes = ap (λ (rest : List ℕ). bytes ++ rest) empty
+    ∙ no_more bytes in
     transcript_of market far.answers.is_market (stream_lines far.done) now bytes
-    (subst (λ (output : List ℕ). AreAnswered market opening (stream_lines far.done) now output) whole far.answers.holds)
+    (subst (λ (output : List ℕ). AreAnswered market opening (stream_lines far.done) now output)
+    whole far.answers.holds)
 
 pub second_empty : (xs ys : List ℕ) → xs ++ ys ≡ [] → ys ≡ []
 second_empty [] ys e = e
 second_empty (x ∷ xs) ys e = absurd (cc)
 
-pub ended_done : (market : Market) (all : List ℕ) (old new : Cutting) (source rest : Option (List ℕ)) (now : Standing) (before written after : Option (List ℕ))
-    (waits : List ℕ) → waits ≡ [] → (far : IsSoFar market all old source now before written waits) → far.left ≡ [] → Stays old new source rest End → after ≡ written
-    → new.given ≤ max_stream_lines → new.spent ≤ max_stream_bytes → IsEnded Done market all rest before after
-ended_done market all old new source rest now before written after waits none_waits far empty stays still few_lines few_bytes =
+pub ended_done : (market : Market) (all : List ℕ) (old new : Cutting)
+    (source rest : Option (List ℕ)) (now : Standing) (before written after : Option (List ℕ))
+    (waits : List ℕ) → waits ≡ [] → (far : IsSoFar market all old source now before written waits)
+    → far.left ≡ [] → Stays old new source rest End → after ≡ written
+    → IsEnded Done market all rest before after
+ended_done market all old new source rest now before written after waits none_waits far empty stays
+    still =
     let r = rest_of old.left far.left source (sym far.known) in
-    let whole : all ≡ far.done = far.bytes ∙ ap (λ (left : List ℕ). far.done ++ left) empty ∙ no_more far.done in
-    let given : new.given ≡ old.given = ap (λ (x : Cutting). x.given) stays.same in
-    let spent : new.spent ≡ old.spent = ap (λ (x : Cutting). x.spent) stays.same in
+    let whole : all ≡ far.done = far.bytes ∙ ap (λ (left : List ℕ). far.done ++ left) empty
+    ∙ no_more far.done in
     record {
       rest = r.rest;
       told = stays.untouched ∙ r.told;
@@ -46,19 +60,22 @@ ended_done market all old new source rest now before written after waits none_wa
         bytes = far.answers.bytes;
         added = still ∙ far.answers.added;
         holds = record {
-          transcript = subst (λ (bytes : List ℕ). Transcript market (stream_lines bytes) (ready_line market ++ far.answers.bytes)) (sym whole)
+          transcript = subst (λ (bytes : List ℕ). Transcript market (stream_lines bytes)
+              (ready_line market ++ far.answers.bytes)) (sym whole)
               (transcript_so_far market all old source now before written waits none_waits far);
           to_the_end = second_empty old.left r.rest (sym r.parts ∙ empty);
-          within_lines = subst (λ (bytes : List ℕ). length (stream_lines bytes) ≤ max_stream_lines) (sym whole) (omega (arith, far.given));
-          within_bytes = omega (arith, far.spent, ap length whole);
+          within = subst AreWithin (sym whole) far.within;
         };
       };
     }
 
-pub ended_read_fault : (market : Market) (all : List ℕ) (old new : Cutting) (source rest : Option (List ℕ)) (now : Standing) (before written after : Option (List ℕ))
-    (waits : List ℕ) → waits ≡ [] → IsSoFar market all old source now before written waits → old.last ≡ None → StopsInLine new (stream_left old source) rest → after ≡ written
+pub ended_read_fault : (market : Market) (all : List ℕ) (old new : Cutting)
+    (source rest : Option (List ℕ)) (now : Standing) (before written after : Option (List ℕ))
+    (waits : List ℕ) → waits ≡ [] → IsSoFar market all old source now before written waits
+    → old.last ≡ None → StopsInLine new (stream_left old source) rest → after ≡ written
     → IsEnded ReadFault market all rest before after
-ended_read_fault market all old new source rest now before written after waits none_waits far none stops still =
+ended_read_fault market all old new source rest now before written after waits none_waits far none
+    stops still =
     let r = rest_of stops.part far.left rest (sym far.known ∙ stops.taken) in
     record {
       rest = r.rest;
@@ -72,23 +89,32 @@ ended_read_fault market all old new source rest now before written after waits n
           bytes = far.bytes ∙ ap (λ (left : List ℕ). far.done ++ left) r.parts;
           lines = are_whole old.last far.done far.left none far.between;
           no_lf = stops.no_lf;
-          transcript = transcript_so_far market all old source now before written waits none_waits far;
+          within = far.within;
+          transcript = transcript_so_far market all old source now before written waits none_waits
+              far;
         };
       };
     }
 
-pub past_of : (given lines spent bytes most_lines most_bytes size : ℕ) → given ≡ lines → spent ≡ bytes
-    → (given ≡ most_lines) ⊎ (most_bytes < spent + size) → (lines ≡ most_lines) ⊎ (most_bytes < bytes + size)
+pub past_of : (given lines spent bytes most_lines most_bytes size : ℕ) → given ≡ lines
+    → spent ≡ bytes
+    → (given ≡ most_lines) ⊎ (most_bytes < spent + size) → (lines ≡ most_lines)
+    ⊎ (most_bytes < bytes + size)
 past_of given lines spent bytes most_lines most_bytes size e f (inl full) = inl (sym e ∙ full)
-past_of given lines spent bytes most_lines most_bytes size e f (inr past) = inr (subst (λ (n : ℕ). most_bytes < n + size) f past)
+past_of given lines spent bytes most_lines most_bytes size e f (inr past) =
+    inr (subst (λ (n : ℕ). most_bytes < n + size) f past)
 
-pub ended_too_many : (market : Market) (all : List ℕ) (old new : Cutting) (source rest : Option (List ℕ)) (now : Standing) (before written after : Option (List ℕ))
-    (waits : List ℕ) → waits ≡ [] → IsSoFar market all old source now before written waits → old.last ≡ None → Overruns old new (stream_left old source) rest → after ≡ written
+pub ended_too_many : (market : Market) (all : List ℕ) (old new : Cutting)
+    (source rest : Option (List ℕ)) (now : Standing) (before written after : Option (List ℕ))
+    (waits : List ℕ) → waits ≡ [] → IsSoFar market all old source now before written waits
+    → old.last ≡ None → Overruns old new (stream_left old source) rest → after ≡ written
     → IsEnded TooMany market all rest before after
-ended_too_many market all old new source rest now before written after waits none_waits far none over still =
+ended_too_many market all old new source rest now before written after waits none_waits far none
+    over still =
     let r = rest_of over.part far.left rest (sym far.known ∙ over.taken) in
     let much : IsTooMuch old (over.part ++ r.rest) =
-    subst (λ (left : List ℕ). IsTooMuch old left) r.parts (subst (λ (o : Option (List ℕ)). IfSome o (IsTooMuch old)) far.known over.much) in
+    subst (λ (left : List ℕ). IsTooMuch old left) r.parts
+    (subst (λ (o : Option (List ℕ)). IfSome o (IsTooMuch old)) far.known over.much) in
     record {
       rest = r.rest;
       told = r.told;
@@ -101,28 +127,36 @@ ended_too_many market all old new source rest now before written after waits non
           bytes = far.bytes ∙ ap (λ (left : List ℕ). far.done ++ left) r.parts;
           lines = are_whole old.last far.done far.left none far.between;
           more = much.more;
-          past = past_of old.given (length (stream_lines far.done)) old.spent (length far.done) max_stream_lines max_stream_bytes
+          past = past_of old.given (length (stream_lines far.done)) old.spent (length far.done)
+              max_stream_lines max_stream_bytes
               (first_size (over.part ++ r.rest)) far.given far.spent much.past;
-          transcript = transcript_so_far market all old source now before written waits none_waits far;
+          within = far.within;
+          transcript = transcript_so_far market all old source now before written waits none_waits
+              far;
         };
       };
     }
 
 -- the bytes before a place are whole lines, or none is left behind it
-whole_or_none : (last : Option Next) (done left left_parts : List ℕ) → left ≡ left_parts → IsBetween last done left → AreWholeLines done ⊎ (left_parts ≡ [])
+whole_or_none : (last : Option Next) (done left left_parts : List ℕ) → left ≡ left_parts
+    → IsBetween last done left → AreWholeLines done ⊎ (left_parts ≡ [])
 whole_or_none None done left left_parts e whole = inl whole
 whole_or_none (Some last) done left left_parts e none = inr (sym e ∙ none)
 
 front_parts : (ready answers output front rest : List ℕ) → output ≡ front ++ rest
     → ready ++ (answers ++ output) ≡ (ready ++ (answers ++ front)) ++ rest
 front_parts ready answers output front rest e =
-    ap (λ (bytes : List ℕ). ready ++ (answers ++ bytes)) e ∙ ap (λ (bytes : List ℕ). ready ++ bytes) (sym (append_assoc answers front rest))
+    ap (λ (bytes : List ℕ). ready ++ (answers ++ bytes)) e ∙ ap (λ (bytes : List ℕ). ready ++ bytes)
+    (sym (append_assoc answers front rest))
     ∙ sym (append_assoc ready (answers ++ front) rest)
 
 -- of what waited only a front was written
-pub ended_broken : (market : Market) (all part : List ℕ) (cutting : Cutting) (source rest : Option (List ℕ)) (now : Standing)
-    (before written after : Option (List ℕ)) (waited : List ℕ) → stream_left cutting source ≡ prepend_known part rest
-    → AddsFront written after waited → IsSoFar market all cutting source now before written waited → IsEnded WriteFault market all rest before after
+pub ended_broken : (market : Market) (all part : List ℕ) (cutting : Cutting)
+    (source rest : Option (List ℕ)) (now : Standing)
+    (before written after : Option (List ℕ)) (waited : List ℕ) → stream_left cutting source ≡
+    prepend_known part rest
+    → AddsFront written after waited → IsSoFar market all cutting source now before written waited
+    → IsEnded WriteFault market all rest before after
 ended_broken market all part cutting source rest now before written after waited taken cut far =
     let r = rest_of part far.left rest (sym far.known ∙ taken) in
     let bytes = far.answers.bytes in
@@ -131,122 +165,190 @@ ended_broken market all part cutting source rest now before written after waited
       told = r.told;
       output = record {
         bytes = bytes ++ cut.front;
-        added = cut.added ∙ ap (λ (w : Option (List ℕ)). append_known w cut.front) far.answers.added ∙ append_known_twice before bytes cut.front;
+        added = cut.added ∙ ap (λ (w : Option (List ℕ)). append_known w cut.front) far.answers.added
+            ∙ append_known_twice before bytes cut.front;
         holds = record {
           done = far.done;
           part = part;
           bytes = far.bytes ∙ ap (λ (left : List ℕ). far.done ++ left) r.parts;
           lines = whole_or_none cutting.last far.done far.left (part ++ r.rest) r.parts far.between;
+          within = far.within;
           text = ready_line market ++ (bytes ++ waited);
-          transcript = transcript_of market far.answers.is_market (stream_lines far.done) now (bytes ++ waited) far.answers.holds;
-          front = record { rest = cut.rest; parts = front_parts (ready_line market) bytes waited cut.front cut.rest cut.parts };
+          transcript = transcript_of market far.answers.is_market (stream_lines far.done) now
+              (bytes ++ waited) far.answers.holds;
+          front = record {
+            rest = cut.rest;
+            parts = front_parts (ready_line market) bytes waited
+                cut.front cut.rest cut.parts;
+          };
         };
       };
     }
 
 -- the same where a line was given, whose reply had no room behind what waited
-broken_behind : (market : Market) (all : List ℕ) (line : StreamLine) (old new : Cutting) (source rest : Option (List ℕ)) (now : Standing)
-    (before written after : Option (List ℕ)) (waited : List ℕ) → GivesLine line old new (stream_left old source) (stream_left new rest)
-    → AddsFront written after waited → IsSoFar market all old source now before written waited → IsEnded WriteFault market all rest before after
+broken_behind : (market : Market) (all : List ℕ) (line : StreamLine) (old new : Cutting)
+    (source rest : Option (List ℕ)) (now : Standing)
+    (before written after : Option (List ℕ)) (waited : List ℕ) → GivesLine line old new
+    (stream_left old source) (stream_left new rest)
+    → AddsFront written after waited → IsSoFar market all old source now before written waited
+    → IsEnded WriteFault market all rest before after
 broken_behind market all line old new source rest now before written after waited gives cut far =
-    ended_broken market all (gives.piece ++ new.left) old source rest now before written after waited
+    ended_broken market all (gives.piece ++ new.left) old source rest now before written after
+    waited
     (gives.taken ∙ prepend_known_twice gives.piece new.left rest) cut far
 
 -- a line that was answered: the run goes on, one line further
-pub goes_on_after : {T E : Type 0} (said : Result T E) (ended : Option Status) (market : Market) (line : StreamLine) (old new : Cutting)
-    (source rest : Option (List ℕ)) (now then : Standing) (written after : Option (List ℕ)) (waited waits : List ℕ)
-    → MatchResult said (λ _. ended ≡ None) (λ _. ended ≡ Some WriteFault)
-    → old.last ≡ None → GivesLine line old new (stream_left old source) (stream_left new rest)
+pub goes_on_after : {T E : Type 0} (said : Result T E) (ended : Option Status) (market : Market)
+    (line : StreamLine) (old new kept : Cutting) (source rest : Option (List ℕ))
+    (now then : Standing)
+    (written after : Option (List ℕ)) (waited waits : List ℕ)
+    → MatchResult said (λ _. ended ≡ None) (λ _. ended ≡ Some WriteFault) → kept ≡ new
+    → old.last ≡ None → IsWithinLimits new
+    → GivesLine line old new (stream_left old source) (stream_left new rest)
     → OnOk said (AreGathered market now (line ∷ []) then written after waited waits)
-    → IfNone ended ((all : List ℕ) (before : Option (List ℕ)) → IsSoFar market all old source now before written waited → IsSoFar market all new rest then before after waits)
-goes_on_after (Ok v) ended market line old new source rest now then written after waited waits e none gives answered =
-    subst (λ (o : Option Status). IfNone o ((all : List ℕ) (before : Option (List ℕ)) → IsSoFar market all old source now before written waited → IsSoFar market all new rest then before after waits))
-    (sym e) (λ all before far. so_far_next market all line old new source rest now then before written after waited waits none gives answered far)
-goes_on_after (Err x) ended market line old new source rest now then written after waited waits e none gives answered =
-    subst (λ (o : Option Status). IfNone o ((all : List ℕ) (before : Option (List ℕ)) → IsSoFar market all old source now before written waited → IsSoFar market all new rest then before after waits))
-    (sym e) tt
+    → IfNone ended ((all : List ℕ) (before : Option (List ℕ))
+    → IsSoFar market all old source now before written waited
+    → IsSoFar market all kept rest then before after waits)
+goes_on_after (Ok v) ended market line old new kept source rest now then written after waited waits
+    e same none limits gives answered =
+    subst (λ (o : Option Status). IfNone o ((all : List ℕ) (before : Option (List ℕ))
+    → IsSoFar market all old source now before written waited
+    → IsSoFar market all kept rest then before after waits)) (sym e)
+    (λ all before far.
+    subst (λ (cutting : Cutting). IsSoFar market all cutting rest then before after waits)
+    (sym same)
+    (so_far_next market all line old new source rest now then before written after waited waits
+    none limits gives answered far))
+goes_on_after (Err x) ended market line old new kept source rest now then written after waited waits
+    e same none limits gives answered =
+    subst (λ (o : Option Status). IfNone o ((all : List ℕ) (before : Option (List ℕ))
+    → IsSoFar market all old source now before written waited
+    → IsSoFar market all kept rest then before after waits)) (sym e) tt
 
 -- a line whose reply had no room: the run is broken
-pub breaks_after : {T E : Type 0} (said : Result T E) (ended : Option Status) (market : Market) (line : StreamLine) (old new : Cutting)
-    (source rest : Option (List ℕ)) (now : Standing) (written after : Option (List ℕ)) (waited : List ℕ)
+pub breaks_after : {T E : Type 0} (said : Result T E) (ended : Option Status) (market : Market)
+    (line : StreamLine) (old new : Cutting)
+    (source rest : Option (List ℕ)) (now : Standing) (written after : Option (List ℕ))
+    (waited : List ℕ)
     → MatchResult said (λ _. ended ≡ None) (λ _. ended ≡ Some WriteFault)
-    → GivesLine line old new (stream_left old source) (stream_left new rest) → OnErr said (AddsFront written after waited)
-    → IfSome ended (λ status. (all : List ℕ) (before : Option (List ℕ)) → IsSoFar market all old source now before written waited → IsEnded status market all rest before after)
+    → GivesLine line old new (stream_left old source) (stream_left new rest)
+    → OnErr said (AddsFront written after waited)
+    → IfSome ended (λ status. (all : List ℕ) (before : Option (List ℕ)) → IsSoFar market all old
+    source now before written waited → IsEnded status market all rest before after)
 breaks_after (Ok v) ended market line old new source rest now written after waited e gives cut =
-    subst (λ (o : Option Status). IfSome o (λ status. (all : List ℕ) (before : Option (List ℕ)) → IsSoFar market all old source now before written waited → IsEnded status market all rest before after))
+    subst (λ (o : Option Status). IfSome o (λ status. (all : List ℕ) (before : Option (List ℕ))
+    → IsSoFar market all old source now before written waited → IsEnded status market all rest
+    before after))
     (sym e) tt
 breaks_after (Err x) ended market line old new source rest now written after waited e gives cut =
-    subst (λ (o : Option Status). IfSome o (λ status. (all : List ℕ) (before : Option (List ℕ)) → IsSoFar market all old source now before written waited → IsEnded status market all rest before after))
-    (sym e) (λ all before far. broken_behind market all line old new source rest now before written after waited gives cut far)
+    subst (λ (o : Option Status). IfSome o (λ status. (all : List ℕ) (before : Option (List ℕ))
+    → IsSoFar market all old source now before written waited → IsEnded status market all rest
+    before after))
+    (sym e) (λ all before far. broken_behind market all line old new source rest now before written
+    after waited gives cut far)
 
 -- what waits was written before: the run goes on from there
-pub goes_on_from : (ended : Option Status) (market : Market) (old new : Cutting) (source rest : Option (List ℕ)) (now then : Standing)
-    (written mid after : Option (List ℕ)) (waited left waits : List ℕ) → Gathers written mid waited [] left
-    → IfNone ended ((all : List ℕ) (before : Option (List ℕ)) → IsSoFar market all old source now before mid left → IsSoFar market all new rest then before after waits)
-    → IfNone ended ((all : List ℕ) (before : Option (List ℕ)) → IsSoFar market all old source now before written waited → IsSoFar market all new rest then before after waits)
-goes_on_from None market old new source rest now then written mid after waited left waits gathers next =
-    λ all before far. next all before (still_so_far market all old source now before written mid waited left gathers far)
-goes_on_from (Some status) market old new source rest now then written mid after waited left waits gathers next = tt
+pub goes_on_from : (ended : Option Status) (market : Market) (old new : Cutting)
+    (source rest : Option (List ℕ)) (now then : Standing)
+    (written mid after : Option (List ℕ)) (waited left waits : List ℕ) → Gathers written mid waited
+    [] left
+    → IfNone ended ((all : List ℕ) (before : Option (List ℕ)) → IsSoFar market all old source now
+    before mid left → IsSoFar market all new rest then before after waits)
+    → IfNone ended ((all : List ℕ) (before : Option (List ℕ)) → IsSoFar market all old source now
+    before written waited → IsSoFar market all new rest then before after waits)
+goes_on_from None market old new source rest now then written mid after waited left waits gathers
+    next =
+    λ all before far. next all before (still_so_far market all old source now before written mid
+    waited left gathers far)
+goes_on_from (Some status) market old new source rest now then written mid after waited left waits
+    gathers next = tt
 
-pub ends_from : (ended : Option Status) (market : Market) (cutting : Cutting) (source rest : Option (List ℕ)) (now : Standing)
-    (written mid after : Option (List ℕ)) (waited left : List ℕ) → Gathers written mid waited [] left
-    → IfSome ended (λ status. (all : List ℕ) (before : Option (List ℕ)) → IsSoFar market all cutting source now before mid left → IsEnded status market all rest before after)
-    → IfSome ended (λ status. (all : List ℕ) (before : Option (List ℕ)) → IsSoFar market all cutting source now before written waited → IsEnded status market all rest before after)
+pub ends_from : (ended : Option Status) (market : Market) (cutting : Cutting)
+    (source rest : Option (List ℕ)) (now : Standing)
+    (written mid after : Option (List ℕ)) (waited left : List ℕ) → Gathers written mid waited []
+    left
+    → IfSome ended (λ status. (all : List ℕ) (before : Option (List ℕ)) → IsSoFar market all cutting
+    source now before mid left → IsEnded status market all rest before after)
+    → IfSome ended (λ status. (all : List ℕ) (before : Option (List ℕ)) → IsSoFar market all cutting
+    source now before written waited → IsEnded status market all rest before after)
 ends_from None market cutting source rest now written mid after waited left gathers next = tt
 ends_from (Some status) market cutting source rest now written mid after waited left gathers next =
-    λ all before far. next all before (still_so_far market all cutting source now before written mid waited left gathers far)
+    λ all before far. next all before (still_so_far market all cutting source now before written mid
+    waited left gathers far)
 
-pub causes_from : (ended : Option Status) (inputs inputs_now sink sink_mid sink_now : ℕ) → sink_mid ≡ sink
-    → MatchOption ended (CountsNone inputs inputs_now sink_mid sink_now) (λ status. HasCauses status inputs inputs_now sink_mid sink_now)
-    → MatchOption ended (CountsNone inputs inputs_now sink sink_now) (λ status. HasCauses status inputs inputs_now sink sink_now)
+pub causes_from : (ended : Option Status) (inputs inputs_now sink sink_mid sink_now : ℕ)
+    → sink_mid ≡ sink
+    → MatchOption ended (CountsNone inputs inputs_now sink_mid sink_now)
+    (λ status. HasCauses status inputs inputs_now sink_mid sink_now)
+    → MatchOption ended (CountsNone inputs inputs_now sink sink_now)
+    (λ status. HasCauses status inputs inputs_now sink sink_now)
 causes_from ended inputs inputs_now sink sink_mid sink_now same causes =
-    subst (λ (n : ℕ). MatchOption ended (CountsNone inputs inputs_now n sink_now) (λ status. HasCauses status inputs inputs_now n sink_now)) same causes
+    subst (λ (n : ℕ). MatchOption ended (CountsNone inputs inputs_now n sink_now)
+    (λ status. HasCauses status inputs inputs_now n sink_now)) same causes
 
 -- the causes of a turn that read a line and said what it answers
-pub causes_after : {T E : Type 0} (said : Result T E) (ended : Option Status) (inputs inputs_now sink sink_now : ℕ)
-    → MatchResult said (λ _. ended ≡ None) (λ _. ended ≡ Some WriteFault) → inputs_now ≡ inputs → HasCause sink sink_now said
-    → MatchOption ended (CountsNone inputs inputs_now sink sink_now) (λ status. HasCauses status inputs inputs_now sink sink_now)
+pub causes_after : {T E : Type 0} (said : Result T E) (ended : Option Status)
+    (inputs inputs_now sink sink_now : ℕ)
+    → MatchResult said (λ _. ended ≡ None) (λ _. ended ≡ Some WriteFault) → inputs_now ≡ inputs
+    → HasCause sink sink_now said
+    → MatchOption ended (CountsNone inputs inputs_now sink sink_now)
+    (λ status. HasCauses status inputs inputs_now sink sink_now)
 causes_after (Ok v) ended inputs inputs_now sink sink_now e same cause =
-    subst (λ (o : Option Status). MatchOption o (CountsNone inputs inputs_now sink sink_now) (λ status. HasCauses status inputs inputs_now sink sink_now))
+    subst (λ (o : Option Status). MatchOption o (CountsNone inputs inputs_now sink sink_now)
+    (λ status. HasCauses status inputs inputs_now sink sink_now))
     (sym e) (same, cause.kept)
 causes_after (Err x) ended inputs inputs_now sink sink_now e same cause =
-    subst (λ (o : Option Status). MatchOption o (CountsNone inputs inputs_now sink sink_now) (λ status. HasCauses status inputs inputs_now sink sink_now))
+    subst (λ (o : Option Status). MatchOption o (CountsNone inputs inputs_now sink sink_now)
+    (λ status. HasCauses status inputs inputs_now sink sink_now))
     (sym e) (same, record { later = cause.later; rose = cause.failed })
 
 -- an answer is a fresh one where none stays
-pub fresh_answer : (result : Next) (old new : Cutting) (source rest : Option (List ℕ)) → old.last ≡ None
+pub fresh_answer : (result : Next) (old new : Cutting) (source rest : Option (List ℕ))
+    → old.last ≡ None
     → IsAnswer result old new source rest → IsFreshAnswer result old new source rest
 fresh_answer result old new source rest none answer =
-    subst (λ (o : Option Next). MatchOption o (IsFreshAnswer result old new source rest) (λ last. (result ≡ last) × Stays old new source rest last)) none answer
+    subst (λ (o : Option Next). MatchOption o (IsFreshAnswer result old new source rest)
+    (λ last. (result ≡ last) × Stays old new source rest last)) none answer
 
 -- the end that stays
-end_stays : (result : Next) (old new : Cutting) (source rest : Option (List ℕ)) → old.last ≡ Some End → IsAnswer result old new source rest
+end_stays : (result : Next) (old new : Cutting) (source rest : Option (List ℕ))
+    → old.last ≡ Some End → IsAnswer result old new source rest
     → (result ≡ End) × Stays old new source rest End
 end_stays result old new source rest ended answer =
-    subst (λ (o : Option Next). MatchOption o (IsFreshAnswer result old new source rest) (λ last. (result ≡ last) × Stays old new source rest last)) ended answer
+    subst (λ (o : Option Next). MatchOption o (IsFreshAnswer result old new source rest)
+    (λ last. (result ≡ last) × Stays old new source rest last)) ended answer
 
 -- while the lines go on, each answer but the end is a fresh one
-pub none_stays : (result : Next) (old new : Cutting) (source rest : Option (List ℕ)) → (result ≡ End → ⊥) → GoesOn old.last
+pub none_stays : (result : Next) (old new : Cutting) (source rest : Option (List ℕ))
+    → (result ≡ End → ⊥) → GoesOn old.last
     → IsAnswer result old new source rest → old.last ≡ None
 none_stays result old new source rest other (inl none) answer = none
-none_stays result old new source rest other (inr ended) answer = absurd (other (end_stays result old new source rest ended answer).0)
+none_stays result old new source rest other (inr ended) answer =
+    absurd (other (end_stays result old new source rest ended answer).0)
 
-pub stays_at_end : (old new : Cutting) (source rest : Option (List ℕ)) → GoesOn old.last → IsAnswer End old new source rest → Stays old new source rest End
-stays_at_end old new source rest (inl none) answer = (fresh_answer End old new source rest none answer).0
-stays_at_end old new source rest (inr ended) answer = (end_stays End old new source rest ended answer).1
+pub stays_at_end : (old new : Cutting) (source rest : Option (List ℕ)) → GoesOn old.last
+    → IsAnswer End old new source rest → Stays old new source rest End
+stays_at_end old new source rest (inl none) answer =
+    (fresh_answer End old new source rest none answer).0
+stays_at_end old new source rest (inr ended) answer =
+    (end_stays End old new source rest ended answer).1
 
-pub none_left : (old new : Cutting) (source rest : Option (List ℕ)) (done left : List ℕ) → GoesOn old.last → IsAnswer End old new source rest
+pub none_left : (old new : Cutting) (source rest : Option (List ℕ)) (done left : List ℕ)
+    → GoesOn old.last → IsAnswer End old new source rest
     → stream_left old source ≡ Some left → IsBetween old.last done left → left ≡ []
 none_left old new source rest done left (inl none) answer known between =
-    subst (λ (o : Option (List ℕ)). IsAtEnd o) known (fresh_answer End old new source rest none answer).1
+    subst (λ (o : Option (List ℕ)). IsAtEnd o) known (fresh_answer End old new source rest none
+    answer).1
 none_left old new source rest done left (inr ended) answer known between =
     subst (λ (o : Option Next). IsBetween o done left) ended between
 
 -- an answer other than a read fault leaves the count
-pub steady : (result : Next) (old : Cutting) (before now : ℕ) → (result ≡ Unread → ⊥) → HasReadCause result old before now → now ≡ before
+pub steady : (result : Next) (old : Cutting) (before now : ℕ) → (result ≡ Unread → ⊥)
+    → HasReadCause result old before now → now ≡ before
 steady result old before now other cause = at result old.last other cause
   where
-    at : (result : Next) (last : Option Next) → (result ≡ Unread → ⊥) → MatchOption last (CountsReadFault result before now) (λ _. now ≡ before) → now ≡ before
+    at : (result : Next) (last : Option Next) → (result ≡ Unread → ⊥)
+        → MatchOption last (CountsReadFault result before now) (λ _. now ≡ before) → now ≡ before
     at result (Some last) other cause = cause
     at Line None other cause = cause
     at Long None other cause = cause
@@ -254,6 +356,8 @@ steady result old before now other cause = at result old.last other cause
     at Overrun None other cause = cause
     at Unread None other cause = absurd (other refl)
 
-pub risen : (old : Cutting) (before now : ℕ) → old.last ≡ None → HasReadCause Unread old before now → CountsFault before now
+pub risen : (old : Cutting) (before now : ℕ) → old.last ≡ None → HasReadCause Unread old before now
+    → CountsFault before now
 risen old before now none cause =
-    subst (λ (o : Option Next). MatchOption o (CountsReadFault Unread before now) (λ _. now ≡ before)) none cause
+    subst (λ (o : Option Next). MatchOption o (CountsReadFault Unread before now)
+    (λ _. now ≡ before)) none cause

@@ -1,5 +1,6 @@
 -- What the two loops of a run keep.
-use Rattle.std.proofs.Common.{◌≡◌, ℕ, ◌≤◌, List, [], ◌++◌, length, take, Option, Some, None, inl, refl, sym, ap, subst, ◌∙◌, arith, append_assoc}
+use Rattle.std.proofs.Common.{◌≡◌, ℕ, ◌≤◌, List, [], ◌++◌, length, take, Option, Some, None, inl}
+use Rattle.std.proofs.Common.{refl, sym, ap, subst, ◌∙◌, arith, append_assoc}
 use Rattle.std.proofs.lemmas.List.{take_all}
 use Rattle.std.proofs.Math.Seq.{take-append_seam}
 use Rattle.mk_io.specs.Outside.{prepend_known, IsAtEnd}
@@ -11,20 +12,29 @@ use Rattle.mk_rules.specs.Standings.{IsMarket}
 use Rattle.mk_rules.specs.Transcript.{Standing, opening}
 use Rattle.mk_session.specs.Transcript.{AreAnswered}
 use Rattle.mk_session.specs.inner.Progress.{IsSoFar}
+use Rattle.mk_session.specs.Opening.{IsTakenWithin}
 use Rattle.mk_session.specs.Outcome.{CountsNone, HasCauses}
 use Rattle.mk_session.specs.inner.Loading.{IsTaken}
 use Rattle.mk_session.proofs.Answering.{no_more, none_answered}
+use Rattle.mk_session.proofs.Completing.{none_within_stream}
 
--- between two lines: the market is the same, the lines go on, no fault was counted, and the run is so far
-pub record IsGoing (start market : Market) (commands : Option (List ℕ)) (lines : Cutting) (source : Option (List ℕ)) (now : Standing)
-    (before written : Option (List ℕ)) (waits : List ℕ) (inputs_before inputs sink_before sink : ℕ) : Type 0 where
+-- between two lines: the market is the same, the lines go on, no fault was counted, and the run is
+-- so far
+pub record IsGoing (start market : Market) (commands : Option (List ℕ)) (lines : Cutting)
+    (source : Option (List ℕ)) (now : Standing)
+    (before written : Option (List ℕ)) (waits : List ℕ) (opened_before opened : Option (List ℕ))
+    (inputs_before inputs sink_before sink : ℕ) : Type 0 where
   pub same : market ≡ start
+  pub stays : opened ≡ opened_before
   pub goes_on : GoesOn lines.last
   pub counts : CountsNone inputs_before inputs sink_before sink
-  pub far : (all : List ℕ) → commands ≡ Some all → IsSoFar start all lines source now before written waits
+  pub far : (all : List ℕ) → commands ≡ Some all → IsSoFar start all lines source now before written
+      waits
 
-pub far_at_start : (market : Market) → IsMarket market → (all : List ℕ) (source : Option (List ℕ)) (now : Standing) (before : Option (List ℕ)) (waits : List ℕ)
-    → source ≡ Some all → now ≡ opening → waits ≡ [] → IsSoFar market all fresh source now before before waits
+pub far_at_start : (market : Market) → IsMarket market → (all : List ℕ) (source : Option (List ℕ))
+    (now : Standing) (before : Option (List ℕ)) (waits : List ℕ)
+    → source ≡ Some all → now ≡ opening → waits ≡ [] → IsSoFar market all fresh source now before
+    before waits
 far_at_start market is_market all source now before waits told begins empty = record {
   done = [];
   left = all;
@@ -35,56 +45,97 @@ far_at_start market is_market all source now before waits told begins empty = re
     is_market = is_market;
     bytes = [];
     added = append_known_none before;
-    holds = subst (λ (output : List ℕ). AreAnswered market opening [] now output) (sym empty) (none_answered market opening now begins);
+    holds = subst (λ (output : List ℕ). AreAnswered market opening [] now output) (sym empty)
+        (none_answered market opening now begins);
   };
   given = refl;
   spent = refl;
+  within = none_within_stream;
 }
 
 -- what a turn counts is what the run has counted, since no fault was counted before
-pub causes_of_turn : (status : Status) (inputs_before inputs inputs_now sink_before sink sink_now : ℕ) → CountsNone inputs_before inputs sink_before sink
-    → HasCauses status inputs inputs_now sink sink_now → HasCauses status inputs_before inputs_now sink_before sink_now
+pub causes_of_turn : (status : Status) (inputs_before inputs inputs_now sink_before sink
+    sink_now : ℕ) → CountsNone inputs_before inputs sink_before sink
+    → HasCauses status inputs inputs_now sink sink_now → HasCauses status inputs_before inputs_now
+    sink_before sink_now
 causes_of_turn status inputs_before inputs inputs_now sink_before sink sink_now none causes =
     subst (λ (n : ℕ). HasCauses status n inputs_now sink_before sink_now) none.0
     (subst (λ (n : ℕ). HasCauses status inputs inputs_now n sink_now) none.1 causes)
 
 -- between two pieces of a file: what was read so far, at most `most` bytes
-pub record IsLoading (most : ℕ) (opened : Option (List ℕ)) (bytes : List ℕ) (source commands_before commands : Option (List ℕ)) (before now : ℕ) : Type 0 where
+pub record IsLoading (most : ℕ) (opened : Option (List ℕ)) (bytes : List ℕ)
+    (source commands_before commands : Option (List ℕ)) (before now : ℕ) : Type 0 where
   pub short : length bytes ≤ most
   pub taken : (file : List ℕ) → opened ≡ Some file → IsTaken file bytes source
   pub commands_stay : commands ≡ commands_before
   pub kept : now ≡ before
 
-pub taken_at_start : (file : List ℕ) (source : Option (List ℕ)) → source ≡ Some file → IsTaken file [] source
+pub taken_at_start : (file : List ℕ) (source : Option (List ℕ)) → source ≡ Some file
+    → IsTaken file [] source
 taken_at_start file source told = record { rest = file; told = told; parts = refl }
 
 -- a piece more
-taken_of : (file bytes piece left : List ℕ) (rest : Option (List ℕ)) → file ≡ bytes ++ left → Some left ≡ prepend_known piece rest → IsTaken file (bytes ++ piece) rest
+taken_of : (file bytes piece left : List ℕ) (rest : Option (List ℕ)) → file ≡ bytes ++ left
+    → Some left ≡ prepend_known piece rest → IsTaken file (bytes ++ piece) rest
 taken_of file bytes piece left None parts e = absurd (cc)
 taken_of file bytes piece left (Some rest) parts e =
     let next : left ≡ piece ++ rest = cc in
-    record { rest = rest; told = refl; parts = parts ∙ ap (λ (xs : List ℕ). bytes ++ xs) next ∙ sym (append_assoc bytes piece rest) }
+    record {
+      rest = rest;
+      told = refl;
+      parts = parts ∙ ap (λ (xs : List ℕ). bytes ++ xs) next
+          ∙ sym (append_assoc bytes piece rest);
+    }
 
-pub taken_more : (file bytes piece : List ℕ) (source rest : Option (List ℕ)) → IsTaken file bytes source → source ≡ prepend_known piece rest
+pub taken_more : (file bytes piece : List ℕ) (source rest : Option (List ℕ))
+    → IsTaken file bytes source → source ≡ prepend_known piece rest
     → IsTaken file (bytes ++ piece) rest
-taken_more file bytes piece source rest taken e = taken_of file bytes piece taken.rest rest taken.parts (sym taken.told ∙ e)
+taken_more file bytes piece source rest taken e = taken_of file bytes piece taken.rest rest
+    taken.parts (sym taken.told ∙ e)
 
 -- all that could be read was read, or as much as is wanted
 take_short : (most : ℕ) (bytes : List ℕ) → length bytes ≤ most → bytes ≡ take most bytes
 take_short most bytes h = sym (take_all most bytes h)
 
-pub whole_file : (most : ℕ) (file bytes : List ℕ) (source : Option (List ℕ)) → IsTaken file bytes source → length bytes ≤ most → IsAtEnd source
+pub whole_file : (most : ℕ) (file bytes : List ℕ) (source : Option (List ℕ))
+    → IsTaken file bytes source → length bytes ≤ most → IsAtEnd source
     → bytes ≡ take most file
 whole_file most file bytes source taken short at_end =
     let none : taken.rest ≡ [] = subst (λ (o : Option (List ℕ)). IsAtEnd o) taken.told at_end in
-    let whole : file ≡ bytes = taken.parts ∙ ap (λ (xs : List ℕ). bytes ++ xs) none ∙ append_nil bytes in
+    let whole : file ≡ bytes = taken.parts ∙ ap (λ (xs : List ℕ). bytes ++ xs) none
+    ∙ append_nil bytes in
     take_short most bytes short ∙ ap (take most) (sym whole)
   where
     append_nil : (xs : List ℕ) → xs ++ [] ≡ xs
     append_nil xs = no_more xs
 
-pub front_of_file : (most : ℕ) (file bytes : List ℕ) (source : Option (List ℕ)) → IsTaken file bytes source → length bytes ≤ most → most ≤ length bytes
+pub front_of_file : (most : ℕ) (file bytes : List ℕ) (source : Option (List ℕ))
+    → IsTaken file bytes source → length bytes ≤ most → most ≤ length bytes
     → bytes ≡ take most file
 front_of_file most file bytes source taken short long =
     let size : length bytes ≡ most = omega arith in
-    sym (ap (take most) taken.parts ∙ ap (λ n. take n (bytes ++ taken.rest)) (sym size) ∙ take-append_seam bytes taken.rest)
+    sym (ap (take most) taken.parts ∙ ap (λ n. take n (bytes ++ taken.rest)) (sym size)
+    ∙ take-append_seam bytes taken.rest)
+
+-- as many bytes were taken as are kept, or fewer than so many
+pub within_of : (most : ℕ) (file bytes : List ℕ) (left : Option (List ℕ)) → IsTaken file bytes left
+    → length bytes ≤ most → IsTakenWithin most file left
+within_of most file bytes left taken short = record {
+  taken = bytes;
+  rest = taken.rest;
+  told =
+      taken.told;
+  parts = taken.parts;
+  few = short;
+}
+
+pub within_more : (few most : ℕ) (file : List ℕ) (left : Option (List ℕ)) → IsTakenWithin few file
+    left → few ≤ most → IsTakenWithin most file left
+within_more few most file left within more =
+    record {
+      taken = within.taken;
+      rest = within.rest;
+      told = within.told;
+      parts = within.parts;
+      few = omega (arith, within.few, more);
+    }

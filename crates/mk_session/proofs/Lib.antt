@@ -1,3 +1,4 @@
+pub mod Passing
 pub mod Answering
 pub mod Gathering
 pub mod Underway

@@ -1,15 +1,18 @@
 -- What a line that was given and answered leaves of a run.
-use Rattle.std.proofs.Common.{◌≡◌, ℕ, ◌+◌, List, [], ◌∷◌, ◌++◌, length, Option, Some, None, IfSome, ◌⊎◌, inl, inr, refl, sym, ap, subst, ◌∙◌, arith, append_assoc, length-append}
+use Rattle.std.proofs.Common.{◌≡◌, ℕ, ◌+◌, List, [], ◌∷◌, ◌++◌, length, Option, Some, None, IfSome}
+use Rattle.std.proofs.Common.{◌⊎◌, inl, inr, refl, sym, ap, subst, ◌∙◌, arith, append_assoc}
+use Rattle.std.proofs.Common.{length-append}
 use Rattle.mk_io.specs.declared.lines.Next.{Next}
 use Rattle.mk_io.specs.Outside.{append_known, prepend_known, IsAtEnd}
 use Rattle.mk_io.specs.Stream.{StreamLine, stream_lines, EndsInLf, AreWholeLines}
-use Rattle.mk_io.specs.Cutting.{Cutting, stream_left, TakesPiece, GivesLine}
+use Rattle.mk_io.specs.Cutting.{Cutting, stream_left, TakesPiece, GivesLine, IsWithinLimits}
 use Rattle.mk_io.proofs.Told.{append_known_twice}
 use Rattle.mk_io.proofs.WholeLines.{whole_lines-append}
 use Rattle.mk_exact.specs.Market.{Market}
 use Rattle.mk_rules.specs.Transcript.{Standing, opening}
 use Rattle.mk_session.specs.Transcript.{AreAnswered}
-use Rattle.mk_session.specs.inner.Progress.{Gathers, AreGathered, IsBetween, IsPlaced, AreSaid, IsSoFar}
+use Rattle.mk_session.specs.inner.Progress.{Gathers, AreGathered, IsBetween, IsPlaced, AreSaid}
+use Rattle.mk_session.specs.inner.Progress.{IsSoFar}
 use Rattle.mk_session.proofs.Answering.{no_more, then_answered}
 use Rattle.mk_session.proofs.Gathering.{parts_behind}
 
@@ -19,12 +22,14 @@ pub record IsRest (part whole : List ℕ) (source : Option (List ℕ)) : Type 0 
   pub told : source ≡ Some rest
   pub parts : whole ≡ part ++ rest
 
-pub rest_of : (part whole : List ℕ) (source : Option (List ℕ)) → Some whole ≡ prepend_known part source → IsRest part whole source
+pub rest_of : (part whole : List ℕ) (source : Option (List ℕ)) → Some whole ≡ prepend_known part
+    source → IsRest part whole source
 rest_of part whole None e = absurd (cc)
 rest_of part whole (Some rest) e = record { rest = rest; told = refl; parts = cc }
 
 -- the place behind a line that was given
-pub record IsBehind (all done piece : List ℕ) (line : StreamLine) (last : Option Next) (after : Option (List ℕ)) : Type 0 where
+pub record IsBehind (all done piece : List ℕ) (line : StreamLine) (last : Option Next)
+    (after : Option (List ℕ)) : Type 0 where
   pub left : List ℕ
   pub bytes : all ≡ (done ++ piece) ++ left
   pub known : after ≡ Some left
@@ -38,47 +43,68 @@ whole_more done piece lf = inr (record {
   ended = ap (λ (xs : List ℕ). done ++ xs) lf.ended ∙ sym (append_assoc done lf.front (10 ∷ []));
 })
 
-between_of : (done piece left : List ℕ) (last : Option Next) (after : Option (List ℕ)) → after ≡ Some left → TakesPiece piece last after
+between_of : (done piece left : List ℕ) (last : Option Next) (after : Option (List ℕ))
+    → after ≡ Some left → TakesPiece piece last after
     → IsBetween last (done ++ piece) left
 between_of done piece left last after told (inl lf) =
-    subst (λ (o : Option Next). IsBetween o (done ++ piece) left) (sym lf.1) (whole_more done piece lf.0)
+    subst (λ (o : Option Next). IsBetween o (done ++ piece) left) (sym lf.1)
+    (whole_more done piece lf.0)
 between_of done piece left last after told (inr end) =
-    subst (λ (o : Option Next). IsBetween o (done ++ piece) left) (sym end.1) (subst (λ (o : Option (List ℕ)). IsAtEnd o) told end.0)
+    subst (λ (o : Option Next). IsBetween o (done ++ piece) left) (sym end.1)
+    (subst (λ (o : Option (List ℕ)). IsAtEnd o) told end.0)
 
-ends_of : (done piece left : List ℕ) (last : Option Next) (after : Option (List ℕ)) → after ≡ Some left → TakesPiece piece last after
+ends_of : (done piece left : List ℕ) (last : Option Next) (after : Option (List ℕ))
+    → after ≡ Some left → TakesPiece piece last after
     → AreWholeLines (done ++ piece) ⊎ (left ≡ [])
 ends_of done piece left last after told (inl lf) = inl (whole_more done piece lf.0)
-ends_of done piece left last after told (inr end) = inr (subst (λ (o : Option (List ℕ)). IsAtEnd o) told end.0)
+ends_of done piece left last after told (inr end) = inr (subst (λ (o : Option (List ℕ)). IsAtEnd o)
+    told end.0)
 
-pub behind : (all done left : List ℕ) (line : StreamLine) (old new : Cutting) (source rest : Option (List ℕ)) → all ≡ done ++ left
-    → stream_left old source ≡ Some left → AreWholeLines done → (gives : GivesLine line old new (stream_left old source) (stream_left new rest))
+pub behind : (all done left : List ℕ) (line : StreamLine) (old new : Cutting)
+    (source rest : Option (List ℕ)) → all ≡ done ++ left
+    → stream_left old source ≡ Some left → AreWholeLines done
+    → (gives : GivesLine line old new (stream_left old source) (stream_left new rest))
     → IsBehind all done gives.piece line new.last (stream_left new rest)
 behind all done left line old new source rest bytes known whole gives =
     let r = rest_of gives.piece left (stream_left new rest) (sym known ∙ gives.taken) in
     let one : stream_lines gives.piece ≡ line ∷ [] =
-    subst (λ (o : Option (List ℕ)). IfSome o (λ _. stream_lines gives.piece ≡ line ∷ [])) r.told gives.is_line in
+    subst (λ (o : Option (List ℕ)). IfSome o (λ _. stream_lines gives.piece ≡ line ∷ [])) r.told
+    gives.is_line in
     record {
       left = r.rest;
-      bytes = bytes ∙ ap (λ (xs : List ℕ). done ++ xs) r.parts ∙ sym (append_assoc done gives.piece r.rest);
+      bytes = bytes ∙ ap (λ (xs : List ℕ). done ++ xs) r.parts
+          ∙ sym (append_assoc done gives.piece r.rest);
       known = r.told;
-      between = between_of done gives.piece r.rest new.last (stream_left new rest) r.told gives.ends;
+      between = between_of done gives.piece r.rest new.last (stream_left new rest) r.told
+          gives.ends;
       ends = ends_of done gives.piece r.rest new.last (stream_left new rest) r.told gives.ends;
-      lines = whole_lines-append done gives.piece whole ∙ ap (λ (ls : List StreamLine). stream_lines done ++ ls) one;
+      lines = whole_lines-append done gives.piece whole
+          ∙ ap (λ (ls : List StreamLine). stream_lines done ++ ls) one;
     }
 
 -- where no answer stays, the lines that are done are whole
-pub are_whole : (last : Option Next) (done left : List ℕ) → last ≡ None → IsBetween last done left → AreWholeLines done
-are_whole last done left none between = subst (λ (o : Option Next). IsBetween o done left) none between
+pub are_whole : (last : Option Next) (done left : List ℕ) → last ≡ None → IsBetween last done left
+    → AreWholeLines done
+are_whole last done left none between = subst (λ (o : Option Next). IsBetween o done left) none
+    between
 
 -- a line was given: the place is behind it
-pub placed_next : (all : List ℕ) (line : StreamLine) (old new : Cutting) (source rest : Option (List ℕ)) (P Q : List StreamLine → Type 0) → old.last ≡ None
-    → GivesLine line old new (stream_left old source) (stream_left new rest) → ((lines : List StreamLine) → P lines → Q (lines ++ line ∷ []))
+pub placed_next : (all : List ℕ) (line : StreamLine) (old new : Cutting)
+    (source rest : Option (List ℕ)) (P Q : List StreamLine → Type 0) → old.last ≡ None
+    → IsWithinLimits new → GivesLine line old new (stream_left old source) (stream_left new rest)
+    → ((lines : List StreamLine) → P lines → Q (lines ++ line ∷ []))
     → IsPlaced all old source P → IsPlaced all new rest Q
-placed_next all line old new source rest P Q none gives step far =
+placed_next all line old new source rest P Q none limits gives step far =
     let whole = are_whole old.last far.done far.left none far.between in
     let b = behind all far.done far.left line old new source rest far.bytes far.known whole gives in
-    let count : length (stream_lines (far.done ++ gives.piece)) ≡ length (stream_lines far.done) + 1 =
-    ap (λ (ls : List StreamLine). length ls) b.lines ∙ length-append (stream_lines far.done) (line ∷ []) in
+    let count : length (stream_lines (far.done ++ gives.piece)) ≡ length (stream_lines far.done) +
+    1 =
+    ap (λ (ls : List StreamLine). length ls) b.lines ∙ length-append (stream_lines far.done)
+    (line ∷ []) in
+    let given : new.given ≡ length (stream_lines (far.done ++ gives.piece)) =
+    omega (arith, gives.given, far.given, count) in
+    let spent : new.spent ≡ length (far.done ++ gives.piece) =
+    omega (arith, gives.spent, far.spent, length-append far.done gives.piece) in
     record {
       done = far.done ++ gives.piece;
       left = b.left;
@@ -86,32 +112,47 @@ placed_next all line old new source rest P Q none gives step far =
       known = b.known;
       between = b.between;
       answers = subst Q (sym b.lines) (step (stream_lines far.done) far.answers);
-      given = omega (arith, gives.given, far.given, count);
-      spent = omega (arith, gives.spent, far.spent, length-append far.done gives.piece);
+      given = given;
+      spent = spent;
+      within = record {
+        lines = omega (arith, given, limits.given);
+        bytes =
+            omega (arith, spent, limits.spent);
+      };
     }
 
 -- a line was given and answered: the run has come one line further
-pub so_far_next : (market : Market) (all : List ℕ) (line : StreamLine) (old new : Cutting) (source rest : Option (List ℕ)) (now then : Standing)
+pub so_far_next : (market : Market) (all : List ℕ) (line : StreamLine) (old new : Cutting)
+    (source rest : Option (List ℕ)) (now then : Standing)
     (before written after : Option (List ℕ)) (waited waits : List ℕ) → old.last ≡ None
+    → IsWithinLimits new
     → GivesLine line old new (stream_left old source) (stream_left new rest)
-    → AreGathered market now (line ∷ []) then written after waited waits → IsSoFar market all old source now before written waited
+    → AreGathered market now (line ∷ []) then written after waited waits → IsSoFar market all old
+    source now before written waited
     → IsSoFar market all new rest then before after waits
-so_far_next market all line old new source rest now then before written after waited waits none gives said far =
+so_far_next market all line old new source rest now then before written after waited waits none
+    limits gives said far =
     let gone = said.gathers.gone in
-    placed_next all line old new source rest (λ lines. AreSaid market lines now before written waited)
-    (λ lines. AreSaid market lines then before after waits) none gives
+    placed_next all line old new source rest (λ lines. AreSaid market lines now before written
+    waited)
+    (λ lines. AreSaid market lines then before after waits) none limits gives
     (λ lines answers. record {
       is_market = answers.is_market;
       bytes = answers.bytes ++ gone;
-      added = said.gathers.added ∙ ap (λ (w : Option (List ℕ)). append_known w gone) answers.added ∙ append_known_twice before answers.bytes gone;
-      holds = subst (λ (output : List ℕ). AreAnswered market opening (lines ++ line ∷ []) then output)
+      added = said.gathers.added ∙ ap (λ (w : Option (List ℕ)). append_known w gone) answers.added
+          ∙ append_known_twice before answers.bytes gone;
+      holds = subst (λ (output : List ℕ). AreAnswered market opening (lines ++ line ∷ []) then
+          output)
           (parts_behind answers.bytes waited said.output gone waits said.gathers.parts)
-          (then_answered market opening now then lines (line ∷ []) (answers.bytes ++ waited) said.output answers.holds said.answered);
+          (then_answered market opening now then lines (line ∷ []) (answers.bytes ++ waited)
+          said.output answers.holds said.answered);
     }) far
 
 -- some of what waits was written
-pub still_so_far : (market : Market) (all : List ℕ) (cutting : Cutting) (source : Option (List ℕ)) (now : Standing) (before written after : Option (List ℕ))
-    (waited waits : List ℕ) → Gathers written after waited [] waits → IsSoFar market all cutting source now before written waited
+pub still_so_far : (market : Market) (all : List ℕ) (cutting : Cutting) (source : Option (List ℕ))
+    (now : Standing) (before written after : Option (List ℕ))
+    (waited waits : List ℕ) → Gathers written after waited [] waits → IsSoFar market all cutting
+    source now before written waited
     → IsSoFar market all cutting source now before after waits
 still_so_far market all cutting source now before written after waited waits gathers far =
     let bytes = far.answers.bytes in
@@ -124,11 +165,15 @@ still_so_far market all cutting source now before written after waited waits gat
       answers = record {
         is_market = far.answers.is_market;
         bytes = bytes ++ gathers.gone;
-        added = gathers.added ∙ ap (λ (w : Option (List ℕ)). append_known w gathers.gone) far.answers.added
+        added = gathers.added ∙ ap (λ (w : Option (List ℕ)). append_known w gathers.gone)
+            far.answers.added
             ∙ append_known_twice before bytes gathers.gone;
-        holds = subst (λ (output : List ℕ). AreAnswered market opening (stream_lines far.done) now output)
-            (sym (no_more (bytes ++ waited)) ∙ parts_behind bytes waited [] gathers.gone waits gathers.parts) far.answers.holds;
+        holds = subst (λ (output : List ℕ). AreAnswered market opening (stream_lines far.done) now
+            output)
+            (sym (no_more (bytes ++ waited)) ∙ parts_behind bytes waited [] gathers.gone waits
+            gathers.parts) far.answers.holds;
       };
       given = far.given;
       spent = far.spent;
+      within = far.within;
     }

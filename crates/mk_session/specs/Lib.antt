@@ -1,6 +1,9 @@
 pub mod Texts
+pub mod Passed
 pub mod Transcript
+pub mod Opening
 pub mod Outcome
 pub mod Complete
 pub mod Tally
+pub mod Laws
 pub mod inner

@@ -1,7 +1,9 @@
 -- What each status says of a run.
-use Rattle.std.specs.Prelude.{◌≡◌, ◌≢◌, ℕ, ◌+◌, ◌<◌, ◌≤◌, List, [], ◌++◌, length, Option, Some, All, ◌⊎◌, Result, Ok, Err}
+use Rattle.std.specs.Prelude.{◌≡◌, ◌≢◌, ℕ, ◌+◌, ◌<◌, List, [], ◌++◌, length, Option, Some, All, ◌⊎◌}
+use Rattle.std.specs.Prelude.{Result, Ok, Err}
 use Rattle.mk_io.specs.declared.status.Status.{Status}
-use Rattle.mk_io.specs.declared.status.Status.TheVariants.{Done, Usage, MarketRefused, ReadFault, WriteFault, Memory, TooMany}
+use Rattle.mk_io.specs.declared.status.Status.TheVariants.{Done, Usage, MarketRefused, ReadFault}
+use Rattle.mk_io.specs.declared.status.Status.TheVariants.{WriteFault, Memory, TooMany}
 use Rattle.mk_io.specs.Outside.{append_known, CountsFault}
 use Rattle.mk_io.specs.Stream.{stream_lines, AreWholeLines, max_stream_lines, max_stream_bytes}
 use Rattle.mk_io.specs.Cutting.{first_size}
@@ -9,6 +11,7 @@ use Rattle.mk_exact.specs.Market.{Market}
 use Rattle.mk_file.specs.declared.fault.FileFault.{FileFault}
 use Rattle.mk_file.specs.File.{file_of}
 use Rattle.mk_session.specs.Texts.{fault_line}
+use Rattle.mk_session.specs.Complete.{AreWithin}
 use Rattle.mk_session.specs.Transcript.{Transcript}
 
 -- some bytes with a fact about them were added, and no others
@@ -26,16 +29,17 @@ pub record IsFrontOf (whole front : List ℕ) : Type 0 where
 pub record IsWhole (market : Market) (all rest output : List ℕ) : Type 0 where
   pub transcript : Transcript market (stream_lines all) output
   pub to_the_end : rest ≡ []
-  pub within_lines : length (stream_lines all) ≤ max_stream_lines
-  pub within_bytes : length all ≤ max_stream_bytes
+  pub within : AreWithin all
 
--- reading failed: the whole lines that were read are answered, and the part of a line behind them is not
+-- reading failed: the whole lines that were read are answered, and the part of a line behind them
+-- is not
 pub record IsStopped (market : Market) (all rest output : List ℕ) : Type 0 where
   pub whole : List ℕ
   pub part : List ℕ
   pub bytes : all ≡ whole ++ (part ++ rest)
   pub lines : AreWholeLines whole
   pub no_lf : All (λ b. b ≢ 10) part
+  pub within : AreWithin whole
   pub transcript : Transcript market (stream_lines whole) output
 
 -- there are too many lines or bytes: the whole lines before the one that is too much are answered
@@ -45,7 +49,9 @@ pub record IsOverrun (market : Market) (all rest output : List ℕ) : Type 0 whe
   pub bytes : all ≡ whole ++ (part ++ rest)
   pub lines : AreWholeLines whole
   pub more : 0 < length (part ++ rest)
-  pub past : (length (stream_lines whole) ≡ max_stream_lines) ⊎ (max_stream_bytes < length whole + first_size (part ++ rest))
+  pub past : (length (stream_lines whole) ≡ max_stream_lines)
+      ⊎ (max_stream_bytes < length whole + first_size (part ++ rest))
+  pub within : AreWithin whole
   pub transcript : Transcript market (stream_lines whole) output
 
 -- writing failed: a front of the transcript of some first lines was written
@@ -54,6 +60,7 @@ pub record IsBroken (market : Market) (all rest output : List ℕ) : Type 0 wher
   pub part : List ℕ
   pub bytes : all ≡ done ++ (part ++ rest)
   pub lines : AreWholeLines done ⊎ (part ++ rest ≡ [])
+  pub within : AreWithin done
   pub text : List ℕ
   pub transcript : Transcript market (stream_lines done) text
   pub front : IsFrontOf text output
@@ -73,46 +80,62 @@ Serves Memory market all rest output = IsUnanswered all rest output
 Serves MarketRefused market all rest output = ⊥
 Serves Usage market all rest output = ⊥
 
--- the run of a refused file: its one line, and no command is read
-abbrev pub Refuses : Status → FileFault → List ℕ → List ℕ → List ℕ → Type 0
-Refuses MarketRefused fault all rest output = (output ≡ fault_line fault) × (rest ≡ all)
-Refuses WriteFault fault all rest output = IsFrontOf (fault_line fault) output × (rest ≡ all)
-Refuses Memory fault all rest output = IsUnanswered all rest output
-Refuses ReadFault fault all rest output = ⊥
-Refuses Done fault all rest output = ⊥
-Refuses TooMany fault all rest output = ⊥
-Refuses Usage fault all rest output = ⊥
+-- what is written of a refused file: its one line
+abbrev pub Refuses : Status → FileFault → List ℕ → Type 0
+Refuses MarketRefused fault output = output ≡ fault_line fault
+Refuses WriteFault fault output = IsFrontOf (fault_line fault) output
+Refuses Memory fault output = output ≡ []
+Refuses ReadFault fault output = ⊥
+Refuses Done fault output = ⊥
+Refuses TooMany fault output = ⊥
+Refuses Usage fault output = ⊥
 
+-- the run of an accepted file, or of a refused one, of which no command is read
 abbrev pub Ends : Status → Result Market FileFault → List ℕ → List ℕ → List ℕ → Type 0
 Ends status (Ok market) all rest output = Serves status market all rest output
-Ends status (Err fault) all rest output = Refuses status fault all rest output
+Ends status (Err fault) all rest output = Refuses status fault output × (rest ≡ all)
 
 -- the market file could not be read: nothing was written, and no command was read
-pub record NotOpened (status : Status) (all : List ℕ) (source before written : Option (List ℕ)) : Type 0 where
+pub record NotOpened (status : Status) (all : List ℕ)
+    (source before written : Option (List ℕ)) : Type 0 where
   pub failed : status ≡ ReadFault
   pub unread : source ≡ Some all
   pub nothing : written ≡ before
 
 -- the market file was read: the run ends by the market or the fault that it gives
-pub record Opened (status : Status) (given : Result Market FileFault) (all : List ℕ) (source before written : Option (List ℕ)) : Type 0 where
+pub record Opened (status : Status) (given : Result Market FileFault) (all : List ℕ)
+    (source before written : Option (List ℕ)) : Type 0 where
   pub rest : List ℕ
   pub told : source ≡ Some rest
   pub output : Adds before written (Ends status given all rest)
 
--- a whole run over the bytes of a file and all bytes of the commands: what its status says of the commands that are left
--- and of the output
-abbrev pub Outcome : Status → List ℕ → List ℕ → Option (List ℕ) → Option (List ℕ) → Option (List ℕ) → Type 0
+-- the run of a refused file, whatever is told of the commands, of which none is read: the file
+-- could not be read and nothing was written, or what was written is its one line
+pub record IsTurnedAway (status : Status) (fault : FileFault)
+    (source left before written : Option (List ℕ)) : Type 0 where
+  pub unread : left ≡ source
+  pub output : ((status ≡ ReadFault) × (written ≡ before))
+      ⊎ Adds before written (Refuses status fault)
+
+-- a whole run over the bytes of a file and all bytes of the commands: what its status says of the
+-- commands that are left and of the output
+abbrev pub Outcome : Status → List ℕ → List ℕ → Option (List ℕ) → Option (List ℕ) → Option (List ℕ)
+    → Type 0
 Outcome status file all source before written =
-    NotOpened status all source before written ⊎ Opened status (file_of file) all source before written
+    NotOpened status all source before written
+    ⊎ Opened status (file_of file) all source before written
 
 -- no fault was counted
 abbrev pub CountsNone : ℕ → ℕ → ℕ → ℕ → Type 0
 CountsNone inputs inputs_now sink sink_now = (inputs_now ≡ inputs) × (sink_now ≡ sink)
 
--- a fault of the inputs is a read fault and one of the sink a write fault, and there is none under any other status
+-- a fault of the inputs is a read fault and one of the sink a write fault, and there is none under
+-- any other status
 abbrev pub HasCauses : Status → ℕ → ℕ → ℕ → ℕ → Type 0
-HasCauses ReadFault inputs inputs_now sink sink_now = CountsFault inputs inputs_now × (sink_now ≡ sink)
-HasCauses WriteFault inputs inputs_now sink sink_now = (inputs_now ≡ inputs) × CountsFault sink sink_now
+HasCauses ReadFault inputs inputs_now sink sink_now =
+    CountsFault inputs inputs_now × (sink_now ≡ sink)
+HasCauses WriteFault inputs inputs_now sink sink_now =
+    (inputs_now ≡ inputs) × CountsFault sink sink_now
 HasCauses Done inputs inputs_now sink sink_now = CountsNone inputs inputs_now sink sink_now
 HasCauses Usage inputs inputs_now sink sink_now = CountsNone inputs inputs_now sink sink_now
 HasCauses MarketRefused inputs inputs_now sink sink_now = CountsNone inputs inputs_now sink sink_now

@@ -1,5 +1,6 @@
 -- The count of a run's replies.
-use Rattle.std.specs.Prelude.{◌≡◌, ◌≢◌, ℕ, List, [], ◌∷◌, length, Bool, true, false, Option, Some, None, Result, Ok, Err, All, ⊤}
+use Rattle.std.specs.Prelude.{◌≡◌, ◌≢◌, ℕ, List, [], ◌∷◌, length, Bool, true, false, Option, Some}
+use Rattle.std.specs.Prelude.{None, Result, Ok, Err, All, ⊤}
 use Rattle.std.specs.List.{count_by}
 use Rattle.mk_io.specs.Stream.{stream_lines}
 use Rattle.mk_exact.specs.Market.{Market}
@@ -11,7 +12,8 @@ use Rattle.mk_reply.specs.declared.reply.Reply.TheVariants.{Traded, Spreaded, Re
 use Rattle.mk_rules.specs.Transcript.{Standing}
 use Rattle.mk_session.specs.declared.counts.Tally.{Tally}
 use Rattle.mk_session.specs.declared.counts.TallyFault.{TallyFault}
-use Rattle.mk_session.specs.declared.counts.TallyFault.TheVariants.{Market as Refuses, TooMany, Memory}
+use Rattle.mk_session.specs.declared.counts.TallyFault.TheVariants.{Market as Refuses, TooMany}
+use Rattle.mk_session.specs.declared.counts.TallyFault.TheVariants.{Memory}
 use Rattle.mk_session.specs.Transcript.{IsAllowedRun}
 use Rattle.mk_session.specs.Complete.{AreWithin}
 
@@ -50,8 +52,8 @@ pub record IsTally (market : Market) (all : List ℕ) (tally : Tally) : Type 0 w
   pub counts : AreCounted replies tally
   pub within : AreWithin all
 
--- how a tally ends, by what the file gives: with the counts, or with the fault of the file, or since the commands are more than a
--- stream may hold; want of memory says nothing
+-- how a tally ends, by what the file gives: with the counts, or with the fault of the file, or
+-- since the commands are more than a stream may hold; want of memory says nothing
 abbrev pub TallyEnds : Result Tally TallyFault → Result Market FileFault → List ℕ → Type 0
 TallyEnds (Ok tally) (Ok market) all = IsTally market all tally
 TallyEnds (Ok tally) (Err fault) all = ⊥

@@ -15,7 +15,9 @@ reply_line reply = as_line (reply_text reply)
 
 -- the first line of a run: the numbers of variables and of points per bit
 abbrev pub ready_line : Market → List ℕ
-ready_line market = as_line (codes "ready " ++ decimal (length market.network) ++ codes " " ++ decimal market.points_per_bit)
+ready_line market = as_line
+    (codes "ready " ++ decimal (length market.network)
+    ++ codes " " ++ decimal market.points_per_bit)
 
 -- the one line of a refused file
 abbrev pub fault_line : FileFault → List ℕ

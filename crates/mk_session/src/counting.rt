@@ -1,6 +1,7 @@
 //! A run whose replies are counted.
 
-ghost use Rattle.std.specs.Prelude.{◌≡◌, ◌≢◌, ◌+◌, ◌<◌, ◌≤◌, ℕ, List, [], ◌∷◌, ◌++◌, Some, None, Ok, Err, Result, OnOk, IfNone, IfSome, MatchResult};
+ghost use Rattle.std.specs.Prelude.{◌≡◌, ◌≢◌, ◌+◌, ◌<◌, ◌≤◌, ℕ, List, [], ◌∷◌, ◌++◌, Some, None};
+ghost use Rattle.std.specs.Prelude.{Ok, Err, Result, OnOk, IfNone, IfSome, MatchResult};
 ghost use Rattle.mk_io.specs.Stream.{text, long, max_stream_lines};
 ghost use Rattle.mk_io.specs.Cutting.{GoesOn};
 ghost use Rattle.mk_tree.specs.Checked.{IsTreeOf};
@@ -10,7 +11,8 @@ ghost use Rattle.mk_exact.specs.Market.{Market};
 ghost use Rattle.mk_rules.specs.Standings.{IsMarket};
 ghost use Rattle.mk_rules.specs.Transcript.{Standing, opening};
 ghost use Rattle.mk_session.specs.Tally.{TallyEnds};
-ghost use Rattle.mk_session.specs.inner.Counting.{is_want, IsWithin, HasRoom, CountsLine, IsCountedSoFar, counted_as};
+ghost use Rattle.mk_session.specs.inner.Counting.{is_want, IsWithin, HasRoom, CountsLine};
+ghost use Rattle.mk_session.specs.inner.Counting.{IsCountedSoFar, counted_as};
 
 use crate::answer::{is_blank, reply_to};
 use crate::counts::{Tally, TallyFault};
@@ -25,11 +27,11 @@ use std::alloc::Global;
 /// How many bytes of the commands are read at once.
 const PIECE: usize = 4096;
 
-/// Counts the replies of the market of this file to these commands, as `serve` makes them: one for each line that is not
-/// blank.
+/// Counts the replies of the market of this file to these commands, as `serve` makes them: one for
+/// each line that is not blank.
 ///
-/// `TallyFault::Market` and `TallyFault::TooMany` name what the file or the commands have. `TallyFault::Memory` comes where memory
-/// is wanting, also where the market would reply so.
+/// `TallyFault::Market` and `TallyFault::TooMany` name what the file or the commands have.
+/// `TallyFault::Memory` comes where memory is wanting, also where the market would reply so.
 pub fn tally(alloc: Global, file: &[u8], commands: &[u8]) -> Result<Tally, TallyFault>
     ensures { TallyEnds result (file_of file.now) commands.now }
 {
@@ -48,7 +50,8 @@ fn tally_file(alloc: Global, file: MarketFile, commands: &[u8]) -> Result<Tally,
     match open(alloc, file) {
         Ok(mut market) => {
             let counted = count_all(alloc, &mut market, commands);
-            // Let go by a call: the end of its scope would let go of each part, and take far longer to prove.
+            // Let go by a call: the end of its scope would let go of each part, and take far longer
+            // to prove.
             drop(market);
             counted
         }
@@ -98,7 +101,8 @@ fn end_count(ended: Result<(), TallyFault>, tally: Tally) -> Result<Tally, Tally
     }
 }
 
-/// Takes the next line of the commands and counts its reply. None where the run goes on; else how it ends.
+/// Takes the next line of the commands and counts its reply. None where the run goes on; else how
+/// it ends.
 fn take_count(
     alloc: Global,
     market: &mut TreeMarket,
@@ -114,10 +118,13 @@ fn take_count(
     ensures within { lines.new.given ≤ max_stream_lines }
     ensures fits { IfNone result (IsWithin lines.new.given tally.new) }
     ensures so_far { IfNone result ((all : List ℕ) →
-        IsCountedSoFar market.old.market all lines.old inputs.old.commands market.old.standing tally.old →
-        IsCountedSoFar market.old.market all lines.new inputs.new.commands market.new.standing tally.new) }
+        IsCountedSoFar market.old.market all lines.old inputs.old.commands market.old.standing
+        tally.old →
+        IsCountedSoFar market.old.market all lines.new inputs.new.commands market.new.standing
+        tally.new) }
     ensures ended { IfSome result (λ end. (all : List ℕ) →
-        IsCountedSoFar market.old.market all lines.old inputs.old.commands market.old.standing tally.old →
+        IsCountedSoFar market.old.market all lines.old inputs.old.commands market.old.standing
+        tally.old →
         TallyEnds (counted_as end tally.new) (Ok market.old.market) all) }
 {
     match lines.next(inputs) {
@@ -135,7 +142,8 @@ fn take_count(
 
 /// The run goes on where a line was counted, and ends where memory was wanting.
 fn end_where_short(counted: Result<(), NoMemory>) -> Option<Result<(), TallyFault>>
-    ensures { MatchResult counted (λ _. result ≡ None) (λ _. result ≡ Some (Err TallyFault.Memory)) }
+    ensures { MatchResult counted (λ _. result ≡ None)
+        (λ _. result ≡ Some (Err TallyFault.Memory)) }
 {
     match counted {
         Ok(()) => None,
@@ -143,7 +151,8 @@ fn end_where_short(counted: Result<(), NoMemory>) -> Option<Result<(), TallyFaul
     }
 }
 
-/// Counts the reply to a line that is not too long; a blank one has none. Fails where the reply is want of memory.
+/// Counts the reply to a line that is not too long; a blank one has none. Fails where the reply is
+/// want of memory.
 fn count_text(
     alloc: Global,
     market: &mut TreeMarket,
@@ -153,7 +162,8 @@ fn count_text(
     requires room { HasRoom max_stream_lines tally.old }
     ensures market { market.new.market ≡ market.old.market }
     ensures fits { IsWithin (tally.old.replies + 1) tally.new }
-    ensures counted { OnOk result (CountsLine market.old.market market.old.standing (text line.now) market.new.standing tally.old tally.new) }
+    ensures counted { OnOk result (CountsLine market.old.market market.old.standing (text line.now)
+        market.new.standing tally.old tally.new) }
 {
     if is_blank(line) {
         return Ok(());
@@ -171,7 +181,8 @@ fn count_text(
 fn count_long(tally: &mut Tally)
     requires room { HasRoom max_stream_lines tally.old }
     ensures fits { IsWithin (tally.old.replies + 1) tally.new }
-    ensures counted { (market : Market) (now : Standing) → CountsLine market now long now tally.old tally.new }
+    ensures counted { (market : Market) (now : Standing) → CountsLine market now long now tally.old
+        tally.new }
 {
     tally.add(Reply::Refused { why: Refusal::Long });
 }

@@ -8,7 +8,8 @@ ghost use Rattle.mk_session.specs.inner.Counting.{uncounted, IsWithin, HasRoom};
 use mk_file::FileFault;
 use mk_reply::Reply;
 
-/// The counts of a run: its replies, how many of them are trades and how many refusals, and the last one.
+/// The counts of a run: its replies, how many of them are trades and how many refusals, and the
+/// last one.
 #[derive(Drop)]
 pub struct Tally {
     pub replies: u32,
@@ -44,7 +45,8 @@ impl Tally {
     /// Counts a reply.
     pub fn add(&mut self, reply: Reply)
         requires room { HasRoom max_stream_lines self.old }
-        ensures counts { (earlier : List Reply) → AreCounted earlier self.old → AreCounted (earlier ++ reply ∷ []) self.new }
+        ensures counts { (earlier : List Reply) → AreCounted earlier self.old
+            → AreCounted (earlier ++ reply ∷ []) self.new }
         ensures fits { IsWithin (self.old.replies + 1) self.new }
     {
         self.replies += 1;

@@ -4,6 +4,7 @@
 mod answer;
 mod counting;
 mod counts;
+mod laws;
 mod market;
 mod print;
 mod quiet;
@@ -12,6 +13,7 @@ mod waiting;
 
 pub use counting::tally;
 pub use counts::{Tally, TallyFault};
+pub use laws::ends_safely;
 pub use print::{LineBuffer, print_fault_line, print_reply_line};
 pub use quiet::serve_quiet;
 pub use run::serve;

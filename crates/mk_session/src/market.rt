@@ -17,10 +17,15 @@ use std::alloc::Global;
 /// A market whose prices and least factors come by messages along its tree.
 pub type TreeMarket = Market<TreeEngine<SumProd>, TreeEngine<MinProd>>;
 
-/// The market of an accepted file, before any command. Its engines share one plan, since that of a long chain takes long to make.
+/// The market of an accepted file, before any command. Its engines share one plan, since that of a
+/// long chain takes long to make.
 pub(crate) fn open(alloc: Global, file: MarketFile) -> Result<TreeMarket, NoMemory>
     requires { IsTreeOf file.net file.tree }
-    ensures opened { IfOk result (λ market. market ≡ record { market = market_of file; standing = opening }) }
+    ensures opened { IfOk result (λ market. market ≡ record {
+      market = market_of file;
+      standing =
+          opening;
+    }) }
     ensures is_market { IfOk result (λ _. IsMarket (market_of file)) }
 {
     let plan = TreeEngine::<SumProd>::plan(alloc, &file.net, &file.tree)?;

@@ -1,4 +1,5 @@
-//! The lines of the output: the text of each stands in a buffer of fixed size, and its LF is put behind.
+//! The lines of the output: the text of each stands in a buffer of fixed size, and its LF is put
+//! behind.
 
 ghost use Rattle.std.specs.Prelude.{◌≡◌, ◌≢◌};
 ghost use Rattle.mk_file.specs.MarketOf.{market_of};
@@ -33,7 +34,8 @@ pub fn print_reply_line(reply: &Reply, line: &mut ArrayString<32768>)
     line.push_str("\n");
 }
 
-/// Puts the line of a refused market file into `line`, in place of what it held. Want of memory has no line.
+/// Puts the line of a refused market file into `line`, in place of what it held. Want of memory has
+/// no line.
 pub fn print_fault_line(fault: &FileFault, line: &mut ArrayString<32768>)
     requires { fault.now ≢ Memory }
     ensures { line.new.bytes ≡ fault_line fault.now }

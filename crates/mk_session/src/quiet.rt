@@ -11,9 +11,9 @@ use crate::run::serve;
 use mk_io::{NamedFile, QuietInputs, QuietSink, Status};
 use std::alloc::Global;
 
-/// Runs the market of the file `name` over all commands, with both in memory, and keeps nothing of the output. The run is
-/// `Done` where the file is accepted and the commands are within the limits, and `MarketRefused` where the file is refused, unless
-/// memory is wanting.
+/// Runs the market of the file `name` over all commands, with both in memory, and keeps nothing of
+/// the output. The run is `Done` where the file is accepted and the commands are within the limits,
+/// and `MarketRefused` where the file is refused, unless memory is wanting.
 pub fn serve_quiet(
     alloc: Global,
     name: &str,
@@ -22,9 +22,11 @@ pub fn serve_quiet(
     piece: usize,
 ) -> Status
     requires { 1 ≤ piece }
-    ensures complete { IsOk (file_of (file_or_empty (map named files.items) name.now)) → AreWithin commands.items →
+    ensures complete { IsOk (file_of (file_or_empty (map named files.items) name.now))
+        → AreWithin commands.items →
         (result ≡ Status.Done) ⊎ (result ≡ Status.Memory) }
-    ensures refused { (fault : FileFault) → file_of (file_or_empty (map named files.items) name.now) ≡ Err fault →
+    ensures refused { (fault : FileFault)
+        → file_of (file_or_empty (map named files.items) name.now) ≡ Err fault →
         (result ≡ Status.MarketRefused) ⊎ (result ≡ Status.Memory) }
 {
     let mut inputs = QuietInputs::new(files, commands, piece);

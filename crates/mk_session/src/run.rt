@@ -1,7 +1,9 @@
 //! A whole run.
 
-ghost use Rattle.std.specs.Prelude.{◌≡◌, ◌≢◌, ◌+◌, ◌<◌, ◌≤◌, ℕ, List, Some, Ok, Err, Result, length, ◌⊎◌, IsOk, IfOk, IfErr};
+ghost use Rattle.std.specs.Prelude.{◌≡◌, ◌≢◌, ◌+◌, ◌<◌, ◌≤◌, ℕ, List, [], Some, Ok, Err, Result};
+ghost use Rattle.std.specs.Prelude.{length, ◌⊎◌, IsOk, IfOk, IfErr};
 ghost use Rattle.mk_io.specs.Outside.{Rose, IsAtEnd, CountsFault};
+ghost use Rattle.mk_io.specs.Cutting.{fresh};
 ghost use Rattle.mk_file.specs.File.{file_of};
 ghost use Rattle.mk_tree.specs.Checked.{IsTreeOf};
 ghost use Rattle.mk_file.specs.MarketOf.{market_of};
@@ -9,14 +11,15 @@ ghost use Rattle.mk_exact.specs.Market.{Market};
 ghost use Rattle.mk_rules.specs.Standings.{IsMarket};
 ghost use Rattle.mk_rules.specs.Transcript.{opening};
 ghost use Rattle.mk_file.specs.declared.fault.FileFault.{FileFault};
-ghost use Rattle.mk_session.specs.Outcome.{Adds, Ends, Opened, Outcome, HasCauses};
+ghost use Rattle.mk_session.specs.Outcome.{Adds, Ends, Opened, Outcome, IsTurnedAway, HasCauses};
 ghost use Rattle.mk_session.specs.Texts.{ready_line};
 ghost use Rattle.mk_session.specs.Complete.{AreWithin};
+ghost use Rattle.mk_session.specs.Opening.{IsTakenWithin, IsReadWithin};
 ghost use Rattle.mk_session.specs.inner.Loading.{opened_part, IsTaken, HasLoadCause};
 
-use crate::answer::answer_lines;
+use crate::answer::Conversation;
 use crate::market::{TreeMarket, open};
-use crate::print::{LineBuffer, print_fault_line, print_ready};
+use crate::print::{LineBuffer, print_fault_line};
 use mk_file::{FileFault, MarketFile, read_market};
 use mk_io::{InputFailed, Inputs, Sink, Status, write_all};
 use std::alloc::Global;
@@ -32,16 +35,28 @@ pub enum LoadFault {
     Memory,
 }
 
-/// Runs the market of the file `name` over all commands, and writes `ready V B` and one line for each command line
-/// that is not blank, or the one line of a refused file. The process is to end after it: the market's memory is not given back.
+/// Runs the market of the file `name` over all commands, and writes `ready V B` and one line for
+/// each command line that is not blank, or the one line of a refused file. The process is to end
+/// after it: the market's memory is not given back.
 pub fn serve<I: Inputs, S: Sink>(alloc: Global, name: &str, inputs: &mut I, out: &mut S) -> Status
     requires { I.admits name.now }
-    ensures outcome { (file all : List ℕ) → I.file inputs.old name.now ≡ Some file → I.commands inputs.old ≡ Some all →
+    ensures outcome { (file all : List ℕ) →
+        I.file inputs.old name.now ≡ Some file → I.commands inputs.old ≡ Some all →
         Outcome result file all (I.commands inputs.new) (S.written out.old) (S.written out.new) }
-    ensures complete { (file all : List ℕ) → I.file inputs.old name.now ≡ Some file → I.commands inputs.old ≡ Some all →
-        IsOk (file_of file) → AreWithin all → (Rose (I.faults inputs.old) (I.faults inputs.new) → ⊥) →
-        (Rose (S.faults out.old) (S.faults out.new) → ⊥) → (result ≡ Status.Done) ⊎ (result ≡ Status.Memory) }
-    ensures causes { HasCauses result (I.faults inputs.old) (I.faults inputs.new) (S.faults out.old) (S.faults out.new) }
+    ensures refused { (file : List ℕ) (fault : FileFault) →
+        I.file inputs.old name.now ≡ Some file → file_of file ≡ Err fault →
+        IsTurnedAway result fault (I.commands inputs.old) (I.commands inputs.new)
+        (S.written out.old) (S.written out.new) }
+    ensures complete { (file all : List ℕ) →
+        I.file inputs.old name.now ≡ Some file → I.commands inputs.old ≡ Some all →
+        IsOk (file_of file) → AreWithin all →
+        (Rose (I.faults inputs.old) (I.faults inputs.new) → ⊥) →
+        (Rose (S.faults out.old) (S.faults out.new) → ⊥) →
+        (result ≡ Status.Done) ⊎ (result ≡ Status.Memory) }
+    ensures opened { (file : List ℕ) → I.file inputs.old name.now ≡ Some file →
+        IsReadWithin file (I.market inputs.old) (I.market inputs.new) }
+    ensures causes { HasCauses result (I.faults inputs.old) (I.faults inputs.new)
+        (S.faults out.old) (S.faults out.new) }
     ensures not_usage { result ≢ Status.Usage }
 {
     match load(alloc, name, inputs) {
@@ -51,7 +66,8 @@ pub fn serve<I: Inputs, S: Sink>(alloc: Global, name: &str, inputs: &mut I, out:
     }
 }
 
-/// Runs the market of these bytes of a file, and gives their memory back before the first command is read.
+/// Runs the market of these bytes of a file, and gives their memory back before the first command
+/// is read.
 fn serve_bytes<I: Inputs, S: Sink>(
     alloc: Global,
     bytes: Vec<u8>,
@@ -59,30 +75,38 @@ fn serve_bytes<I: Inputs, S: Sink>(
     out: &mut S,
 ) -> Status
     ensures outcome { (all : List ℕ) → I.commands inputs.old ≡ Some all →
-        Opened result (file_of bytes.items) all (I.commands inputs.new) (S.written out.old) (S.written out.new) }
-    ensures causes { HasCauses result (I.faults inputs.old) (I.faults inputs.new) (S.faults out.old) (S.faults out.new) }
+        Opened result (file_of bytes.items) all (I.commands inputs.new)
+        (S.written out.old) (S.written out.new) }
+    ensures refused { (fault : FileFault) → file_of bytes.items ≡ Err fault →
+        IsTurnedAway result fault (I.commands inputs.old) (I.commands inputs.new)
+        (S.written out.old) (S.written out.new) }
+    ensures opened { I.market inputs.new ≡ I.market inputs.old }
+    ensures causes { HasCauses result (I.faults inputs.old) (I.faults inputs.new)
+        (S.faults out.old) (S.faults out.new) }
     ensures not_usage { result ≢ Status.Usage }
 {
     let read = read_market(alloc, bytes.as_slice());
     drop(bytes);
-    let mut line = LineBuffer::new();
     match read {
-        Err(fault) => refuse(fault, &mut line, out),
-        Ok(file) => answer_file(alloc, file, inputs, &mut line, out),
+        Err(fault) => refuse(fault, out),
+        Ok(file) => answer_file(alloc, file, inputs, out),
     }
 }
 
 /// Writes the one line of a refused file, unless memory was wanting.
-fn refuse<S: Sink>(fault: FileFault, line: &mut LineBuffer, out: &mut S) -> Status
-    ensures output { (given : Result Market FileFault) (all : List ℕ) → (fault ≢ FileFault.Memory → given ≡ Err fault) →
+fn refuse<S: Sink>(fault: FileFault, out: &mut S) -> Status
+    ensures output { (given : Result Market FileFault) (all : List ℕ) →
+        (fault ≢ FileFault.Memory → given ≡ Err fault) →
         Adds (S.written out.old) (S.written out.new) (Ends result given all all) }
-    ensures causes { (inputs : ℕ) → HasCauses result inputs inputs (S.faults out.old) (S.faults out.new) }
+    ensures causes { (inputs : ℕ) → HasCauses result inputs inputs
+        (S.faults out.old) (S.faults out.new) }
     ensures not_usage { result ≢ Status.Usage }
 {
     match fault {
         FileFault::Memory => Status::Memory,
         _ => {
-            print_fault_line(&fault, line);
+            let mut line = LineBuffer::new();
+            print_fault_line(&fault, &mut line);
             match write_all(out, line.as_bytes()) {
                 Ok(()) => Status::MarketRefused,
                 Err(_) => Status::WriteFault,
@@ -96,21 +120,24 @@ fn answer_file<I: Inputs, S: Sink>(
     alloc: Global,
     file: MarketFile,
     inputs: &mut I,
-    line: &mut LineBuffer,
     out: &mut S,
 ) -> Status
     requires tree { IsTreeOf file.net file.tree }
     ensures outcome { (all : List ℕ) → I.commands inputs.old ≡ Some all →
-        Opened result (Ok (market_of file)) all (I.commands inputs.new) (S.written out.old) (S.written out.new) }
-    ensures causes { HasCauses result (I.faults inputs.old) (I.faults inputs.new) (S.faults out.old) (S.faults out.new) }
+        Opened result (Ok (market_of file)) all (I.commands inputs.new)
+        (S.written out.old) (S.written out.new) }
+    ensures opened { I.market inputs.new ≡ I.market inputs.old }
+    ensures causes { HasCauses result (I.faults inputs.old) (I.faults inputs.new)
+        (S.faults out.old) (S.faults out.new) }
     ensures not_usage { result ≢ Status.Usage }
 {
-    print_ready(&file, line);
+    let mut conversation = Conversation::new();
+    conversation.print_ready(&file);
     match open(alloc, file) {
         Ok(mut market) => {
-            let status = answer_opened(alloc, &mut market, inputs, line, out);
-            // The process ends next, and gives all memory back at once, also where the ready line could not be written: one by
-            // one, the many small tables of a chain take long.
+            let status = answer_opened(alloc, &mut conversation, &mut market, inputs, out);
+            // The process ends next, and gives all memory back at once, also where the ready line
+            // could not be written: one by one, the many small tables of a chain take long.
             mem::forget(market);
             status
         }
@@ -118,24 +145,29 @@ fn answer_file<I: Inputs, S: Sink>(
     }
 }
 
-/// Writes the ready line of an opened market, which stands in `line`, and answers its commands.
+/// Writes the ready line of an opened market, which was printed last, and answers its commands.
 fn answer_opened<I: Inputs, S: Sink>(
     alloc: Global,
+    conversation: &mut Conversation,
     market: &mut TreeMarket,
     inputs: &mut I,
-    line: &mut LineBuffer,
     out: &mut S,
 ) -> Status
     requires is_market { IsMarket market.old.market }
     requires opening { market.old.standing ≡ opening }
-    requires ready { line.old.bytes ≡ ready_line market.old.market }
+    requires ready { conversation.old.line.bytes ≡ ready_line market.old.market }
+    requires unread { conversation.old.lines ≡ fresh }
+    requires none_waits { conversation.old.waiting.bytes ≡ [] }
     ensures outcome { (all : List ℕ) → I.commands inputs.old ≡ Some all →
-        Opened result (Ok market.old.market) all (I.commands inputs.new) (S.written out.old) (S.written out.new) }
-    ensures causes { HasCauses result (I.faults inputs.old) (I.faults inputs.new) (S.faults out.old) (S.faults out.new) }
+        Opened result (Ok market.old.market) all (I.commands inputs.new)
+        (S.written out.old) (S.written out.new) }
+    ensures opened { I.market inputs.new ≡ I.market inputs.old }
+    ensures causes { HasCauses result (I.faults inputs.old) (I.faults inputs.new)
+        (S.faults out.old) (S.faults out.new) }
     ensures not_usage { result ≢ Status.Usage }
 {
-    match write_all(out, line.as_bytes()) {
-        Ok(()) => answer_lines(alloc, market, inputs, line, out),
+    match conversation.write_ready(out) {
+        Ok(()) => conversation.answer_lines(alloc, market, inputs, out),
         Err(_) => Status::WriteFault,
     }
 }
@@ -143,7 +175,10 @@ fn answer_opened<I: Inputs, S: Sink>(
 /// The first bytes of the market file of a name, at most one byte more than a market file may have.
 fn load<I: Inputs>(alloc: Global, name: &str, inputs: &mut I) -> Result<Vec<u8>, LoadFault>
     requires { I.admits name.now }
-    ensures bytes { IfOk result (λ bytes. (file : List ℕ) → I.file inputs.old name.now ≡ Some file → bytes.items ≡ opened_part file) }
+    ensures bytes { IfOk result (λ bytes. (file : List ℕ) → I.file inputs.old name.now ≡ Some file
+        → bytes.items ≡ opened_part file) }
+    ensures opened { (file : List ℕ) → I.file inputs.old name.now ≡ Some file →
+        IsReadWithin file (I.market inputs.old) (I.market inputs.new) }
     ensures commands { I.commands inputs.new ≡ I.commands inputs.old }
     ensures cause { HasLoadCause result (I.faults inputs.old) (I.faults inputs.new) }
 {
@@ -155,7 +190,10 @@ fn load<I: Inputs>(alloc: Global, name: &str, inputs: &mut I) -> Result<Vec<u8>,
 
 /// The first bytes of the opened market file.
 fn read_opened<I: Inputs>(alloc: Global, inputs: &mut I) -> Result<Vec<u8>, LoadFault>
-    ensures bytes { IfOk result (λ bytes. (file : List ℕ) → I.market inputs.old ≡ Some file → bytes.items ≡ opened_part file) }
+    ensures bytes { IfOk result (λ bytes. (file : List ℕ) → I.market inputs.old ≡ Some file
+        → bytes.items ≡ opened_part file) }
+    ensures few { (file : List ℕ) → I.market inputs.old ≡ Some file →
+        IsTakenWithin 1048577 file (I.market inputs.new) }
     ensures commands { I.commands inputs.new ≡ I.commands inputs.old }
     ensures cause { HasLoadCause result (I.faults inputs.old) (I.faults inputs.new) }
 {
@@ -181,8 +219,11 @@ fn read_piece<I: Inputs>(
     requires { 0 < length piece.old }
     ensures count { IfOk result (λ count. count ≤ length piece.old) }
     ensures grows { IfOk result (λ count. length bytes.new.items ≡ length bytes.old.items + count) }
-    ensures taken { IfOk result (λ count. (file : List ℕ) → IsTaken file bytes.old.items (I.market inputs.old) →
+    ensures taken { IfOk result (λ count. (file : List ℕ) → IsTaken file bytes.old.items
+        (I.market inputs.old) →
         IsTaken file bytes.new.items (I.market inputs.new)) }
+    ensures few { (file : List ℕ) → IsTaken file bytes.old.items (I.market inputs.old) →
+        IsTakenWithin (length bytes.old.items + length piece.old) file (I.market inputs.new) }
     ensures at_end { IfOk result (λ count. count ≡ 0 → IsAtEnd (I.market inputs.new)) }
     ensures commands { I.commands inputs.new ≡ I.commands inputs.old }
     ensures cause { HasLoadCause result (I.faults inputs.old) (I.faults inputs.new) }

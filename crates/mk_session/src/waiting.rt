@@ -1,5 +1,5 @@
-//! The lines of the output that wait, so that one write takes many of them. They are written before more is read: whoever
-//! waits for an answer has it before the run waits for a line.
+//! The lines of the output that wait, so that one write takes many of them. They are written before
+//! more is read: whoever waits for an answer has it before the run waits for a line.
 
 ghost use Rattle.std.specs.Prelude.{◌≡◌, ◌+◌, ◌≤◌, [], length, OnOk, OnErr};
 ghost use Rattle.arrayvec.specs.ArrayString.{array_string_len};
@@ -12,9 +12,11 @@ use mk_io::{Lines, Sink, SinkFailed, write_all};
 /// Writes what waits.
 fn write_waiting<S: Sink>(waiting: &mut LineBuffer, out: &mut S) -> Result<(), SinkFailed>
     ensures cause { HasCause (S.faults out.old) (S.faults out.new) result }
-    ensures whole { OnOk result (S.written out.new ≡ append_known (S.written out.old) waiting.old.bytes) }
+    ensures whole { OnOk result
+        (S.written out.new ≡ append_known (S.written out.old) waiting.old.bytes) }
     ensures none { OnOk result (waiting.new.bytes ≡ []) }
-    ensures front { OnErr result (AddsFront (S.written out.old) (S.written out.new) waiting.old.bytes) }
+    ensures front { OnErr result
+        (AddsFront (S.written out.old) (S.written out.new) waiting.old.bytes) }
 {
     match write_all(out, waiting.as_bytes()) {
         Ok(()) => {
@@ -29,9 +31,11 @@ fn write_waiting<S: Sink>(waiting: &mut LineBuffer, out: &mut S) -> Result<(), S
 fn make_room<S: Sink>(size: usize, waiting: &mut LineBuffer, out: &mut S) -> Result<(), SinkFailed>
     requires { size ≤ 32768 }
     ensures cause { HasCause (S.faults out.old) (S.faults out.new) result }
-    ensures gathers { OnOk result (Gathers (S.written out.old) (S.written out.new) waiting.old.bytes [] waiting.new.bytes) }
+    ensures gathers { OnOk result (Gathers (S.written out.old) (S.written out.new) waiting.old.bytes
+        [] waiting.new.bytes) }
     ensures room { OnOk result (array_string_len waiting.new + size ≤ 32768) }
-    ensures front { OnErr result (AddsFront (S.written out.old) (S.written out.new) waiting.old.bytes) }
+    ensures front { OnErr result
+        (AddsFront (S.written out.old) (S.written out.new) waiting.old.bytes) }
 {
     if size <= waiting.remaining_capacity() {
         Ok(())
@@ -48,8 +52,10 @@ pub fn put_line<S: Sink>(
 ) -> Result<(), SinkFailed>
     requires { length line.now ≤ 32768 }
     ensures cause { HasCause (S.faults out.old) (S.faults out.new) result }
-    ensures gathers { OnOk result (Gathers (S.written out.old) (S.written out.new) waiting.old.bytes line.now waiting.new.bytes) }
-    ensures front { OnErr result (AddsFront (S.written out.old) (S.written out.new) waiting.old.bytes) }
+    ensures gathers { OnOk result (Gathers (S.written out.old) (S.written out.new) waiting.old.bytes
+        line.now waiting.new.bytes) }
+    ensures front { OnErr result
+        (AddsFront (S.written out.old) (S.written out.new) waiting.old.bytes) }
 {
     match make_room(line.len(), waiting, out) {
         Ok(()) => {
@@ -67,9 +73,11 @@ pub fn write_before_read<S: Sink>(
     out: &mut S,
 ) -> Result<(), SinkFailed>
     ensures cause { HasCause (S.faults out.old) (S.faults out.new) result }
-    ensures gathers { OnOk result (Gathers (S.written out.old) (S.written out.new) waiting.old.bytes [] waiting.new.bytes) }
+    ensures gathers { OnOk result (Gathers (S.written out.old) (S.written out.new) waiting.old.bytes
+        [] waiting.new.bytes) }
     ensures ready { OnOk result (IsReady lines.now waiting.new.bytes) }
-    ensures front { OnErr result (AddsFront (S.written out.old) (S.written out.new) waiting.old.bytes) }
+    ensures front { OnErr result
+        (AddsFront (S.written out.old) (S.written out.new) waiting.old.bytes) }
 {
     if lines.holds_line() {
         Ok(())

@@ -1,5 +1,6 @@
 -- How far the count of a run's replies has come.
-use Rattle.std.specs.Prelude.{◌≡◌, ℕ, ◌<◌, ◌≤◌, List, [], ◌∷◌, ◌++◌, Some, None, Result, Ok, Err, All, Bool, true, false}
+use Rattle.std.specs.Prelude.{◌≡◌, ℕ, ◌<◌, ◌≤◌, List, [], ◌∷◌, ◌++◌, Some, None, Result, Ok, Err}
+use Rattle.std.specs.Prelude.{All, Bool, true, false}
 use Rattle.mk_io.specs.Stream.{StreamLine}
 use Rattle.mk_io.specs.Cutting.{Cutting, GoesOn}
 use Rattle.mk_exact.specs.Market.{Market}
@@ -28,8 +29,10 @@ pub record HasRoom (most : ℕ) (tally : Tally) : Type 0 where
   pub within : IsWithin most tally
   pub less : tally.replies < most
 
--- some lines of a market from the opening on are answered, at no reply was memory wanting, and the counts are those of the replies
-pub record IsCounted (market : Market) (lines : List StreamLine) (now : Standing) (tally : Tally) : Type 0 where
+-- some lines of a market from the opening on are answered, at no reply was memory wanting, and the
+-- counts are those of the replies
+pub record IsCounted (market : Market) (lines : List StreamLine) (now : Standing)
+    (tally : Tally) : Type 0 where
   pub is_market : IsMarket market
   pub replies : List Reply
   pub replied : AreReplied market opening lines now replies
@@ -37,15 +40,18 @@ pub record IsCounted (market : Market) (lines : List StreamLine) (now : Standing
   pub counts : AreCounted replies tally
 
 -- one line more is answered and counted
-pub record CountsLine (market : Market) (old : Standing) (line : StreamLine) (new : Standing) (before after : Tally) : Type 0 where
+pub record CountsLine (market : Market) (old : Standing) (line : StreamLine) (new : Standing)
+    (before after : Tally) : Type 0 where
   pub replies : List Reply
   pub replied : AreReplied market old (line ∷ []) new replies
   pub remembered : All IsRemembered replies
-  pub counts : (earlier : List Reply) → AreCounted earlier before → AreCounted (earlier ++ replies) after
+  pub counts : (earlier : List Reply) → AreCounted earlier before → AreCounted (earlier ++ replies)
+      after
 
 -- the lines before the place are answered and counted
 abbrev pub IsCountedSoFar : Market → List ℕ → Cutting → List ℕ → Standing → Tally → Type 0
-IsCountedSoFar market all cutting source now tally = IsPlaced all cutting (Some source) (λ lines. IsCounted market lines now tally)
+IsCountedSoFar market all cutting source now tally = IsPlaced all cutting (Some source)
+    (λ lines. IsCounted market lines now tally)
 
 -- what was counted, unless a fault ends the count
 abbrev pub counted_as : {T : Type 0} → Result T TallyFault → Tally → Result Tally TallyFault
@@ -57,8 +63,10 @@ abbrev pub is_want : Reply → Bool
 is_want (Refused OutOfMemory) = true
 is_want _ = false
 
--- between two lines: the market is the same, the lines go on, the counts are within the lines that were given, and the count is so far
-pub record IsCounting (start market : Market) (all : List ℕ) (lines : Cutting) (source : List ℕ) (now : Standing) (tally : Tally) : Type 0 where
+-- between two lines: the market is the same, the lines go on, the counts are within the lines that
+-- were given, and the count is so far
+pub record IsCounting (start market : Market) (all : List ℕ) (lines : Cutting) (source : List ℕ)
+    (now : Standing) (tally : Tally) : Type 0 where
   pub same : market ≡ start
   pub goes_on : GoesOn lines.last
   pub fits : IsWithin lines.given tally

@@ -10,16 +10,19 @@ use Rattle.mk_rules.specs.Transcript.{Standing, opening}
 use Rattle.mk_rules.specs.Standings.{IsMarket}
 use Rattle.mk_session.specs.Texts.{ready_line}
 use Rattle.mk_session.specs.Transcript.{AreAnswered}
+use Rattle.mk_session.specs.Complete.{AreWithin}
 use Rattle.mk_session.specs.Outcome.{Adds, Serves}
 
--- some bytes came behind those that waited, and a first part of them all was written; the others wait
+-- some bytes came behind those that waited, and a first part of them all was written; the others
+-- wait
 pub record Gathers (before after : Option (List ℕ)) (waited bytes waits : List ℕ) : Type 0 where
   pub gone : List ℕ
   pub added : after ≡ append_known before gone
   pub parts : waited ++ bytes ≡ gone ++ waits
 
 -- some lines are answered, and their answers are written or wait
-pub record AreGathered (market : Market) (old : Standing) (lines : List StreamLine) (new : Standing) (before after : Option (List ℕ))
+pub record AreGathered (market : Market) (old : Standing) (lines : List StreamLine) (new : Standing)
+    (before after : Option (List ℕ))
     (waited waits : List ℕ) : Type 0 where
   pub output : List ℕ
   pub answered : AreAnswered market old lines new output
@@ -29,13 +32,15 @@ pub record AreGathered (market : Market) (old : Standing) (lines : List StreamLi
 abbrev pub IsReady : Cutting → List ℕ → Type 0
 IsReady cutting waits = HoldsLine cutting ⊎ (waits ≡ [])
 
--- where no answer stays, the bytes before the place are whole lines; where one does, nothing is left
+-- where no answer stays, the bytes before the place are whole lines; where one does, nothing is
+-- left
 abbrev pub IsBetween : Option Next → List ℕ → List ℕ → Type 0
 IsBetween None done left = AreWholeLines done
 IsBetween (Some last) done left = left ≡ []
 
 -- between two lines: something holds of the lines of some bytes, and the other bytes are left
-pub record IsPlaced (all : List ℕ) (cutting : Cutting) (source : Option (List ℕ)) (P : List StreamLine → Type 0) : Type 0 where
+pub record IsPlaced (all : List ℕ) (cutting : Cutting) (source : Option (List ℕ))
+    (P : List StreamLine → Type 0) : Type 0 where
   pub done : List ℕ
   pub left : List ℕ
   pub bytes : all ≡ done ++ left
@@ -44,21 +49,28 @@ pub record IsPlaced (all : List ℕ) (cutting : Cutting) (source : Option (List 
   pub answers : P (stream_lines done)
   pub given : cutting.given ≡ length (stream_lines done)
   pub spent : cutting.spent ≡ length done
+  pub within : AreWithin done
 
--- a market's lines from the opening on are answered, and the answers are written but for the last bytes, which wait
-pub record AreSaid (market : Market) (lines : List StreamLine) (now : Standing) (before written : Option (List ℕ)) (waits : List ℕ) : Type 0 where
+-- a market's lines from the opening on are answered, and the answers are written but for the last
+-- bytes, which wait
+pub record AreSaid (market : Market) (lines : List StreamLine) (now : Standing)
+    (before written : Option (List ℕ)) (waits : List ℕ) : Type 0 where
   pub is_market : IsMarket market
   pub bytes : List ℕ
   pub added : written ≡ append_known before bytes
   pub holds : AreAnswered market opening lines now (bytes ++ waits)
 
--- the lines before the place are answered, and the answers are written but for the last bytes, which wait
-abbrev pub IsSoFar : Market → List ℕ → Cutting → Option (List ℕ) → Standing → Option (List ℕ) → Option (List ℕ) → List ℕ → Type 0
+-- the lines before the place are answered, and the answers are written but for the last bytes,
+-- which wait
+abbrev pub IsSoFar : Market → List ℕ → Cutting → Option (List ℕ) → Standing → Option (List ℕ)
+    → Option (List ℕ) → List ℕ → Type 0
 IsSoFar market all cutting source now before written waits =
     IsPlaced all cutting source (λ lines. AreSaid market lines now before written waits)
 
 -- the end of a run whose ready line is written
-pub record IsEnded (status : Status) (market : Market) (all : List ℕ) (source before written : Option (List ℕ)) : Type 0 where
+pub record IsEnded (status : Status) (market : Market) (all : List ℕ)
+    (source before written : Option (List ℕ)) : Type 0 where
   pub rest : List ℕ
   pub told : source ≡ Some rest
-  pub output : Adds before written (λ bytes. Serves status market all rest (ready_line market ++ bytes))
+  pub output : Adds before written (λ bytes. Serves status market all rest
+      (ready_line market ++ bytes))

@@ -11,7 +11,8 @@ returns-then-is_blank-clause-counted c =
     let m = c.args.market.now in
     record {
       replies = [];
-      replied = blank_replied m.market m.standing (text c.args.line.now) (rw (sym c.is_blank.ensures ∙ c.if-is_blank.true) refl);
+      replied = blank_replied m.market m.standing (text c.args.line.now)
+          (rw (sym c.is_blank.ensures ∙ c.if-is_blank.true) refl);
       remembered = All-nil IsRemembered;
       counts = λ earlier counts. counts_none earlier c.args.tally.now counts;
     }
@@ -20,6 +21,7 @@ pub returns-clause-counted : goal.returns-clause-counted
 returns-clause-counted c = record {
   replies = c.reply_to-reply.result ∷ [];
   replied = c.reply_to-reply.ensures.replied;
-  remembered = remembered_one c.reply_to-reply.result (sym c.is_want_of_memory.ensures ∙ c.if-is_want_of_memory.false);
+  remembered = remembered_one c.reply_to-reply.result (sym c.is_want_of_memory.ensures
+      ∙ c.if-is_want_of_memory.false);
   counts = c.add.ensures.counts;
 }

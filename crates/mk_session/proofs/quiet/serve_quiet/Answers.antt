@@ -5,11 +5,14 @@ use Rattle.mk_session.proofs.quiet.serve_quiet.Goals as goal
 
 pub returns-clause-complete : goal.returns-clause-complete
 returns-clause-complete c = λ ok within.
-    c.serve.ensures.complete _ _ (ap (λ (i : QuietIn). Some (file_or_empty i.files c.args.name.now)) c.new-inputs.ensures)
+    c.serve.ensures.complete _ _ (ap (λ (i : QuietIn). Some (file_or_empty i.files c.args.name.now))
+    c.new-inputs.ensures)
     (ap (λ (i : QuietIn). Some i.commands) c.new-inputs.ensures) ok within none_rose none_rose
 
 pub returns-clause-refused : goal.returns-clause-refused
 returns-clause-refused c = λ fault given.
-    refused_so c.serve.result _ _ fault _ _ _ 0 0 0 0
-    (c.serve.ensures.outcome _ _ (ap (λ (i : QuietIn). Some (file_or_empty i.files c.args.name.now)) c.new-inputs.ensures)
-    (ap (λ (i : QuietIn). Some i.commands) c.new-inputs.ensures)) given c.serve.ensures.causes none_rose none_rose
+    refused_so c.serve.result fault _ _ _ _ 0 0 0 0
+    (c.serve.ensures.refused _ fault
+    (ap (λ (i : QuietIn). Some (file_or_empty i.files c.args.name.now)) c.new-inputs.ensures)
+    given)
+    c.serve.ensures.causes none_rose none_rose

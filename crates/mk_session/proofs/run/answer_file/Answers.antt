@@ -6,6 +6,8 @@ use Rattle.mk_session.proofs.run.answer_file.Goals as goal
 
 pub returns-in-Ok-clause-outcome : goal.returns-in-Ok-clause-outcome
 returns-in-Ok-clause-outcome g c = λ all told.
-    subst (λ (m : Market). Opened c.answer_opened-status.result (Ok m) all (g.I.Inputs.commands c.answer_opened-status.new.inputs)
-    (g.S.Sink.written c.args.out.now) (g.S.Sink.written c.answer_opened-status.new.out)) (ap (λ (t : Trading). t.market) c.in-Ok.ensures.opened)
+    subst (λ (m : Market). Opened c.answer_opened-status.result (Ok m) all
+    (g.I.Inputs.commands c.answer_opened-status.new.inputs)
+    (g.S.Sink.written c.args.out.now) (g.S.Sink.written c.answer_opened-status.new.out))
+    (ap (λ (t : Trading). t.market) c.in-Ok.ensures.opened)
     (c.answer_opened-status.ensures.outcome all told)

@@ -3,7 +3,8 @@ use Rattle.mk_session.proofs.Going.{IsLoading}
 use Rattle.mk_session.proofs.run.read_opened.Given as goal
 
 abbrev pub invariant-pieces : goal.invariant-pieces
-invariant-pieces g l = IsLoading 1048577 (g.I.Inputs.market l.fn.inputs) l.bytes.items (g.I.Inputs.market l.inputs) (g.I.Inputs.commands l.fn.inputs)
+invariant-pieces g l = IsLoading 1048577 (g.I.Inputs.market l.fn.inputs) l.bytes.items
+    (g.I.Inputs.market l.inputs) (g.I.Inputs.commands l.fn.inputs)
     (g.I.Inputs.commands l.inputs) (g.I.Inputs.faults l.fn.inputs) (g.I.Inputs.faults l.inputs)
 
 abbrev pub decreases-pieces : goal.decreases-pieces

@@ -1,0 +1,102 @@
+//! A call of the program, from its arguments to its exit status.
+
+ghost use Rattle.std.specs.Vec.Iter.{into_iter_items};
+ghost use Rattle.std.specs.Prelude.{◌≡◌, ◌≢◌, ◌⊎◌, ℕ, List, [], ◌∷◌, drop, map, string_bytes};
+ghost use Rattle.std.specs.Prelude.{None, Some, Err, IsOk, IfOk, IfErr, IfSome, IfNone};
+ghost use Rattle.mk_io.specs.Outside.{Rose};
+ghost use Rattle.mk_io.specs.Status.{code_of};
+ghost use Rattle.mk_file.specs.File.{file_of};
+ghost use Rattle.mk_file.specs.declared.fault.FileFault.{FileFault};
+ghost use Rattle.mk_session.specs.Complete.{AreWithin};
+ghost use Rattle.mk_session.specs.Outcome.{Adds, Outcome, IsTurnedAway, HasCauses};
+ghost use Rattle.daggre.specs.Words.{Run, Sample, asked_of, EndsUsage};
+ghost use Rattle.daggre.specs.Called.{words_in, asked_by, Exits};
+ghost use Rattle.daggre.specs.Sampled.{EndsSample};
+
+use crate::program::program;
+use mk_io::{Inputs, Sink, Status};
+use mk_net::NoMemory;
+use std::alloc::Global;
+use std::env::Args;
+use std::io;
+
+/// Does what the arguments of a call ask, and gives the exit status of the process, that of
+/// `program`.
+///
+/// The first argument is the program's own name, and is no word. Where an argument is no text, the
+/// words ask for nothing that the program knows. Where memory was wanting for them, nothing is read
+/// or written.
+pub fn call<I: Inputs, S: Sink>(
+    alloc: Global,
+    arguments: io::Result<Args>,
+    inputs: &mut I,
+    out: &mut S,
+) -> u8
+    requires { (name : List ℕ) → asked_by arguments ≡ Some (Some (Run name)) → I.admits name }
+    ensures run { (name file all : List ℕ) → asked_by arguments ≡ Some (Some (Run name)) →
+        I.file inputs.old name ≡ Some file → I.commands inputs.old ≡ Some all →
+        Exits result (λ status. Outcome status file all (I.commands inputs.new)
+        (S.written out.old) (S.written out.new)) }
+    ensures refused { (name file : List ℕ) (fault : FileFault) →
+        asked_by arguments ≡ Some (Some (Run name)) →
+        I.file inputs.old name ≡ Some file → file_of file ≡ Err fault →
+        Exits result (λ status. IsTurnedAway status fault (I.commands inputs.old)
+        (I.commands inputs.new) (S.written out.old) (S.written out.new)) }
+    ensures complete { (name file all : List ℕ) → asked_by arguments ≡ Some (Some (Run name)) →
+        I.file inputs.old name ≡ Some file → I.commands inputs.old ≡ Some all →
+        IsOk (file_of file) → AreWithin all →
+        (Rose (I.faults inputs.old) (I.faults inputs.new) → ⊥) →
+        (Rose (S.faults out.old) (S.faults out.new) → ⊥) →
+        (result ≡ code_of Status.Done) ⊎ (result ≡ code_of Status.Memory) }
+    ensures sample { (n : ℕ) → asked_by arguments ≡ Some (Some (Sample n)) →
+        Exits result (λ status.
+        Adds (S.written out.old) (S.written out.new) (EndsSample status n)) }
+    ensures other_words { asked_by arguments ≡ Some None →
+        Exits result (λ status. Adds (S.written out.old) (S.written out.new) (EndsUsage status)) }
+    ensures unread { ((name : List ℕ) → asked_by arguments ≢ Some (Some (Run name))) →
+        inputs.new ≡ inputs.old }
+    ensures usage { result ≡ code_of Status.Usage → asked_by arguments ≡ Some None }
+    ensures causes { Exits result (λ status. HasCauses status
+        (I.faults inputs.old) (I.faults inputs.new) (S.faults out.old) (S.faults out.new)) }
+    ensures no_memory { asked_by arguments ≡ None →
+        (result ≡ code_of Status.Memory) × (S.written out.new ≡ S.written out.old) }
+{
+    match two_words(arguments) {
+        Ok(Some((word, argument))) => {
+            program(alloc, &[word.as_str(), argument.as_str()], inputs, out).code()
+        }
+        Ok(None) => program(alloc, &[], inputs, out).code(),
+        Err(NoMemory) => Status::Memory.code(),
+    }
+}
+
+/// The words of a call, where there are two. Any other number of words asks for nothing.
+fn two_words(arguments: io::Result<Args>) -> Result<Option<(String, String)>, NoMemory>
+    ensures two { IfOk result (λ found. IfSome found (λ words.
+        words_in arguments ≡ Some (string_bytes words.0 ∷ string_bytes words.1 ∷ []))) }
+    ensures others { IfOk result (λ found. IfNone found (asked_by arguments ≡ Some None)) }
+    ensures unknown { IfErr result (λ _. words_in arguments ≡ None) }
+{
+    match arguments {
+        Ok(mut arguments) => Ok(words_behind_name(&mut arguments)),
+        Err(error) => match error.kind() {
+            io::ErrorKind::InvalidData => Ok(None),
+            _ => Err(NoMemory),
+        },
+    }
+}
+
+/// The two words behind the program's own name, where there are just two.
+fn words_behind_name(arguments: &mut Args) -> Option<(String, String)>
+    ensures two { IfSome result (λ words.
+        drop 1 (map string_bytes (into_iter_items arguments.old)) ≡
+        string_bytes words.0 ∷ string_bytes words.1 ∷ []) }
+    ensures others { IfNone result
+        (asked_of (drop 1 (map string_bytes (into_iter_items arguments.old))) ≡ None) }
+{
+    let _name = arguments.next();
+    match (arguments.next(), arguments.next(), arguments.next()) {
+        (Some(word), Some(argument), None) => Some((word, argument)),
+        _ => None,
+    }
+}

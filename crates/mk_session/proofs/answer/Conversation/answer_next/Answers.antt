@@ -1,0 +1,163 @@
+use Rattle.std.proofs.Common.{refl}
+use Rattle.mk_io.specs.Stream.{text, long}
+use Rattle.mk_io.specs.declared.lines.Next.TheVariants.{Line, Long, End, ReadFault, TooMany}
+use Rattle.mk_session.proofs.Endings.{ended_done, ended_read_fault, ended_too_many, goes_on_after}
+use Rattle.mk_session.proofs.Endings.{breaks_after, causes_after, fresh_answer, none_stays}
+use Rattle.mk_session.proofs.Endings.{stays_at_end, none_left, steady, risen}
+use Rattle.mk_session.proofs.Gathering.{none_waits}
+use Rattle.mk_session.proofs.answer.Conversation.answer_next.Goals as goal
+
+pub returns-in-Line-clause-so_far : goal.returns-in-Line-clause-so_far
+returns-in-Line-clause-so_far g c =
+    let none = none_stays Line c.args.self.now.lines c.next.new.self
+    (g.I.Inputs.commands c.args.inputs.now) (g.I.Inputs.commands c.next.new.inputs) (λ e. (cc))
+    c.requires.goes_on c.in-Line.ensures.answer in
+    let gives = fresh_answer Line c.args.self.now.lines c.next.new.self
+    (g.I.Inputs.commands c.args.inputs.now) (g.I.Inputs.commands c.next.new.inputs) none
+    c.in-Line.ensures.answer in
+    goes_on_after c.answer_text.result c.end_after.result c.args.market.now.market
+    (text c.next.new.self.line) c.args.self.now.lines c.next.new.self
+    c.answer_text.new.self.lines
+    (g.I.Inputs.commands c.args.inputs.now) (g.I.Inputs.commands c.next.new.inputs)
+    c.args.market.now.standing c.answer_text.new.market.standing
+    (g.S.Sink.written c.args.out.now) (g.S.Sink.written c.answer_text.new.out)
+    c.args.self.now.waiting.bytes c.answer_text.new.self.waiting.bytes c.end_after.ensures
+    c.answer_text.ensures.lines none c.next.ensures.within gives c.answer_text.ensures.answered
+
+pub returns-in-Line-clause-ended : goal.returns-in-Line-clause-ended
+returns-in-Line-clause-ended g c =
+    let none = none_stays Line c.args.self.now.lines c.next.new.self
+    (g.I.Inputs.commands c.args.inputs.now) (g.I.Inputs.commands c.next.new.inputs) (λ e. (cc))
+    c.requires.goes_on c.in-Line.ensures.answer in
+    let gives = fresh_answer Line c.args.self.now.lines c.next.new.self
+    (g.I.Inputs.commands c.args.inputs.now) (g.I.Inputs.commands c.next.new.inputs) none
+    c.in-Line.ensures.answer in
+    breaks_after c.answer_text.result c.end_after.result c.args.market.now.market
+    (text c.next.new.self.line) c.args.self.now.lines c.next.new.self
+    (g.I.Inputs.commands c.args.inputs.now) (g.I.Inputs.commands c.next.new.inputs)
+    c.args.market.now.standing
+    (g.S.Sink.written c.args.out.now) (g.S.Sink.written c.answer_text.new.out)
+    c.args.self.now.waiting.bytes c.end_after.ensures gives c.answer_text.ensures.front
+
+pub returns-in-Line-clause-causes : goal.returns-in-Line-clause-causes
+returns-in-Line-clause-causes g c =
+    causes_after c.answer_text.result c.end_after.result (g.I.Inputs.faults c.args.inputs.now)
+    (g.I.Inputs.faults c.next.new.inputs)
+    (g.S.Sink.faults c.args.out.now) (g.S.Sink.faults c.answer_text.new.out) c.end_after.ensures
+    (steady Line c.args.self.now.lines (g.I.Inputs.faults c.args.inputs.now)
+    (g.I.Inputs.faults c.next.new.inputs) (λ e. (cc)) c.in-Line.ensures.cause)
+    c.answer_text.ensures.cause
+
+pub returns-in-Long-clause-so_far : goal.returns-in-Long-clause-so_far
+returns-in-Long-clause-so_far g c =
+    let none = none_stays Long c.args.self.now.lines c.next.new.self
+    (g.I.Inputs.commands c.args.inputs.now) (g.I.Inputs.commands c.next.new.inputs) (λ e. (cc))
+    c.requires.goes_on c.in-Long.ensures.answer in
+    let gives = fresh_answer Long c.args.self.now.lines c.next.new.self
+    (g.I.Inputs.commands c.args.inputs.now) (g.I.Inputs.commands c.next.new.inputs) none
+    c.in-Long.ensures.answer in
+    goes_on_after c.answer_long.result c.end_after-in-Long.result c.args.market.now.market long
+    c.args.self.now.lines c.next.new.self c.answer_long.new.self.lines
+    (g.I.Inputs.commands c.args.inputs.now) (g.I.Inputs.commands c.next.new.inputs)
+    c.args.market.now.standing c.args.market.now.standing
+    (g.S.Sink.written c.args.out.now) (g.S.Sink.written c.answer_long.new.out)
+    c.args.self.now.waiting.bytes c.answer_long.new.self.waiting.bytes
+    c.end_after-in-Long.ensures c.answer_long.ensures.lines none c.next.ensures.within gives.0
+    (c.answer_long.ensures.answered c.args.market.now.market c.args.market.now.standing)
+
+pub returns-in-Long-clause-ended : goal.returns-in-Long-clause-ended
+returns-in-Long-clause-ended g c =
+    let none = none_stays Long c.args.self.now.lines c.next.new.self
+    (g.I.Inputs.commands c.args.inputs.now) (g.I.Inputs.commands c.next.new.inputs) (λ e. (cc))
+    c.requires.goes_on c.in-Long.ensures.answer in
+    let gives = fresh_answer Long c.args.self.now.lines c.next.new.self
+    (g.I.Inputs.commands c.args.inputs.now) (g.I.Inputs.commands c.next.new.inputs) none
+    c.in-Long.ensures.answer in
+    breaks_after c.answer_long.result c.end_after-in-Long.result c.args.market.now.market long
+    c.args.self.now.lines c.next.new.self
+    (g.I.Inputs.commands c.args.inputs.now) (g.I.Inputs.commands c.next.new.inputs)
+    c.args.market.now.standing
+    (g.S.Sink.written c.args.out.now) (g.S.Sink.written c.answer_long.new.out)
+    c.args.self.now.waiting.bytes c.end_after-in-Long.ensures gives.0
+    c.answer_long.ensures.front
+
+pub returns-in-Long-clause-causes : goal.returns-in-Long-clause-causes
+returns-in-Long-clause-causes g c =
+    causes_after c.answer_long.result c.end_after-in-Long.result
+    (g.I.Inputs.faults c.args.inputs.now) (g.I.Inputs.faults c.next.new.inputs)
+    (g.S.Sink.faults c.args.out.now) (g.S.Sink.faults c.answer_long.new.out)
+    c.end_after-in-Long.ensures
+    (steady Long c.args.self.now.lines (g.I.Inputs.faults c.args.inputs.now)
+    (g.I.Inputs.faults c.next.new.inputs) (λ e. (cc)) c.in-Long.ensures.cause)
+    c.answer_long.ensures.cause
+
+pub returns-in-End-clause-ended : goal.returns-in-End-clause-ended
+returns-in-End-clause-ended g c = λ all before far.
+    let stays = stays_at_end c.args.self.now.lines c.next.new.self
+    (g.I.Inputs.commands c.args.inputs.now) (g.I.Inputs.commands c.next.new.inputs)
+    c.requires.goes_on c.in-End.ensures.answer in
+    let empty = none_left c.args.self.now.lines c.next.new.self
+    (g.I.Inputs.commands c.args.inputs.now) (g.I.Inputs.commands c.next.new.inputs) far.done
+    far.left c.requires.goes_on c.in-End.ensures.answer far.known far.between in
+    ended_done c.args.market.now.market all c.args.self.now.lines c.next.new.self
+    (g.I.Inputs.commands c.args.inputs.now) (g.I.Inputs.commands c.next.new.inputs)
+    c.args.market.now.standing before (g.S.Sink.written c.args.out.now)
+    (g.S.Sink.written c.args.out.now) c.args.self.now.waiting.bytes
+    (none_waits c.args.self.now.lines c.args.self.now.waiting.bytes c.requires.ready
+    c.in-End.ensures.held) far empty stays refl
+
+pub returns-in-End-clause-causes : goal.returns-in-End-clause-causes
+returns-in-End-clause-causes g c = (
+  steady End c.args.self.now.lines (g.I.Inputs.faults c.args.inputs.now)
+      (g.I.Inputs.faults c.next.new.inputs) (λ e. (cc)) c.in-End.ensures.cause,
+  refl,
+)
+
+pub returns-in-TooMany-clause-ended : goal.returns-in-TooMany-clause-ended
+returns-in-TooMany-clause-ended g c =
+    let none = none_stays TooMany c.args.self.now.lines c.next.new.self
+    (g.I.Inputs.commands c.args.inputs.now) (g.I.Inputs.commands c.next.new.inputs) (λ e. (cc))
+    c.requires.goes_on c.in-TooMany.ensures.answer in
+    let over = fresh_answer TooMany c.args.self.now.lines c.next.new.self
+    (g.I.Inputs.commands c.args.inputs.now) (g.I.Inputs.commands c.next.new.inputs) none
+    c.in-TooMany.ensures.answer in
+    λ all before far. ended_too_many c.args.market.now.market all c.args.self.now.lines
+    c.next.new.self (g.I.Inputs.commands c.args.inputs.now)
+    (g.I.Inputs.commands c.next.new.inputs)
+    c.args.market.now.standing before (g.S.Sink.written c.args.out.now)
+    (g.S.Sink.written c.args.out.now) c.args.self.now.waiting.bytes
+    (none_waits c.args.self.now.lines c.args.self.now.waiting.bytes c.requires.ready
+    c.in-TooMany.ensures.held) far none over refl
+
+pub returns-in-TooMany-clause-causes : goal.returns-in-TooMany-clause-causes
+returns-in-TooMany-clause-causes g c = (
+  steady TooMany c.args.self.now.lines (g.I.Inputs.faults c.args.inputs.now)
+      (g.I.Inputs.faults c.next.new.inputs) (λ e. (cc)) c.in-TooMany.ensures.cause,
+  refl,
+)
+
+pub returns-in-ReadFault-clause-ended : goal.returns-in-ReadFault-clause-ended
+returns-in-ReadFault-clause-ended g c =
+    let none = none_stays ReadFault c.args.self.now.lines c.next.new.self
+    (g.I.Inputs.commands c.args.inputs.now) (g.I.Inputs.commands c.next.new.inputs) (λ e. (cc))
+    c.requires.goes_on c.in-ReadFault.ensures.answer in
+    let stops = fresh_answer ReadFault c.args.self.now.lines c.next.new.self
+    (g.I.Inputs.commands c.args.inputs.now) (g.I.Inputs.commands c.next.new.inputs) none
+    c.in-ReadFault.ensures.answer in
+    λ all before far. ended_read_fault c.args.market.now.market all c.args.self.now.lines
+    c.next.new.self (g.I.Inputs.commands c.args.inputs.now)
+    (g.I.Inputs.commands c.next.new.inputs)
+    c.args.market.now.standing before (g.S.Sink.written c.args.out.now)
+    (g.S.Sink.written c.args.out.now) c.args.self.now.waiting.bytes
+    (none_waits c.args.self.now.lines c.args.self.now.waiting.bytes c.requires.ready
+    c.in-ReadFault.ensures.held) far none stops refl
+
+pub returns-in-ReadFault-clause-causes : goal.returns-in-ReadFault-clause-causes
+returns-in-ReadFault-clause-causes g c =
+    let none = none_stays ReadFault c.args.self.now.lines c.next.new.self
+    (g.I.Inputs.commands c.args.inputs.now) (g.I.Inputs.commands c.next.new.inputs) (λ e. (cc))
+    c.requires.goes_on c.in-ReadFault.ensures.answer in (
+      risen c.args.self.now.lines (g.I.Inputs.faults c.args.inputs.now)
+          (g.I.Inputs.faults c.next.new.inputs) none c.in-ReadFault.ensures.cause,
+      refl,
+    )

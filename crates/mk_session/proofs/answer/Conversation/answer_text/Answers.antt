@@ -1,0 +1,32 @@
+use Rattle.std.proofs.Common.{◌≡◌, ◌==◌, ℕ, List, [], ◌∷◌, true, refl, sym, ap, subst, ◌∙◌}
+use Rattle.std.specs.List.{list_all}
+use Rattle.mk_io.specs.Stream.{text}
+use Rattle.mk_session.specs.Texts.{reply_line}
+use Rattle.mk_session.specs.Transcript.{AreReplied}
+use Rattle.mk_session.proofs.Answering.{blank_answered, one_answered}
+use Rattle.mk_session.proofs.Gathering.{gathers_none, gathered_when_said}
+use Rattle.mk_session.proofs.answer.Conversation.answer_text.Goals as goal
+
+pub returns-then-is_blank-clause-answered : goal.returns-then-is_blank-clause-answered
+returns-then-is_blank-clause-answered g c =
+    let m = c.args.market.now in
+    let line = c.args.self.now.lines.line in
+    let blank : list_all (λ b. b == 32) line ≡ true = ap (λ (l : List ℕ). list_all (λ b. b == 32) l)
+    (sym c.line.ensures) ∙ sym c.is_blank.ensures ∙ c.if-is_blank.true in
+    record {
+      output = [];
+      answered = blank_answered m.market m.standing (text line) (rw blank refl);
+      gathers = gathers_none (g.S.Sink.written c.args.out.now) c.args.self.now.waiting.bytes;
+    }
+
+pub returns-clause-answered : goal.returns-clause-answered
+returns-clause-answered g c =
+    let m = c.args.market.now in
+    let line = c.args.self.now.lines.line in
+    gathered_when_said c.say.result m.market m.standing (text line ∷ [])
+    c.reply_to-reply.new.market.standing (reply_line c.reply_to-reply.result) _ _ _ _
+    (one_answered m.market m.standing (text line ∷ []) c.reply_to-reply.new.market.standing
+    c.reply_to-reply.result
+    (subst (λ (l : List ℕ). AreReplied m.market m.standing (text l ∷ [])
+    c.reply_to-reply.new.market.standing (c.reply_to-reply.result ∷ [])) c.line-2.ensures
+    c.reply_to-reply.ensures.replied)) c.say.ensures.gathers
