@@ -84,6 +84,7 @@ returns-in-Some g c =
           opened found.ensures.question.answered);
       next = same_standing i.journal i.users found.request.user c.assets.result.now c.position_of.new.assets c.assets.ensures.value
           ∙ none_appended (market_of i.file) (standing_of i.journal i.users) command (Sure c.in-Some.intervals) refl refl;
+      paid = λ u. refl;
     })
 
 pub returns-in-None : goal.returns-in-None
@@ -108,4 +109,5 @@ returns-in-None g c =
           c.args.name.now c.refuse_condition.result none (ap (impossible_together i.file.net H) (sym c.as_slice-words.ensures.value) ∙ refused);
       next = same_standing i.journal i.users found.request.user c.assets.result.now c.position_of.new.assets c.assets.ensures.value
           ∙ none_appended (market_of i.file) (standing_of i.journal i.users) command (Refused c.refuse_condition.result) refl refl;
+      paid = λ u. refl;
     })

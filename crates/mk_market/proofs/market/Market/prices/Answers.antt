@@ -63,6 +63,7 @@ returns-in-Some g c =
           c.in-Some.intervals none
           (c.in-Some.ensures.prices i.file.tree H c.self.invariant.prices_stand opened found.ensures.question.answered);
       next = none_appended (market_of i.file) (standing_of i.journal i.users) command (Told c.in-Some.intervals) refl refl;
+      paid = λ u. refl;
     })
 
 pub returns-in-None : goal.returns-in-None
@@ -85,4 +86,5 @@ returns-in-None g c =
       allowed = prices_stopped i.file (standing_of i.journal i.users) c.args.variable.now c.args.condition.now spread question
           c.refuse_condition.result none (ap (impossible_together i.file.net H) (sym c.as_slice-words.ensures.value) ∙ refused);
       next = none_appended (market_of i.file) (standing_of i.journal i.users) command (Refused c.refuse_condition.result) refl refl;
+      paid = λ u. refl;
     })
