@@ -157,9 +157,12 @@ module _ (network : List Variable) (tree : GivenTree) (H : List Entry) (u : ℕ)
       miss_for f is close g e = factor_for network tree H u is_open (exact_others least (gains_of network tree H u) asked values) most result f is least_is close g (miss_gain values sized g e).0
 
     -- what a call for the other values asks of an engine
-    pub can_ask : {E : Type 0} (stands_for : E → Meaning → Type 0) (engine : E) (m : Meaning) (at values : ℕ) → stands_for engine m
-        → m.network ≡ network → m.tree ≡ tree → IsHeldAt tree at (pairs_asked asked) → length m.factors ≤ max_factors
-        → values ≡ slice_index (sizes network) asked.target.variable → CanAskOthers stands_for engine at asked values
+    pub can_ask : {E : Type 0} (stands_for : E → Meaning
+        → Type 0) (engine : E) (m : Meaning) (at values : ℕ) → stands_for engine m
+        → m.network ≡ network → m.tree ≡ tree → IsHeldAt tree at (pairs_asked asked)
+        → length m.factors ≤ max_factors
+        → values ≡ slice_index (sizes network) asked.target.variable
+        → CanAskOthers stands_for engine at asked values
     can_ask stands_for engine m at values stands of_network of_tree held room sized = record {
       meaning = m;
       stands = stands;

@@ -71,7 +71,8 @@ trades_are [] ts = ratios_are ts
 trades_are (k ∷ ks) ts = trades_are ks ts
 
 -- the gain of a user who holds no trade is one, in each state
-none_gained : (ts : List UserTrade) (s : List ℕ) → length ts ≡ 0 → product_by (λ (t : UserTrade). ratio_at t.ratio s) ts ≡ 1
+none_gained : (ts : List UserTrade) (s : List ℕ) → length ts ≡ 0
+    → product_by (λ (t : UserTrade). ratio_at t.ratio s) ts ≡ 1
 none_gained [] s none = refl
 none_gained (t ∷ ts) s none = absurd (omega arith)
 
@@ -138,8 +139,11 @@ module _ (network : List Variable) (tree : GivenTree) (H : List Entry) (u : ℕ)
   always_one : HoldsNoTrade H u → exact_belief least (gains_of network tree H u) [] ≡ 1
   always_one none =
       let has = least_gain_exists network H u is_open.legal is_open.proper is_open.sound in
-      let one : IfSome (least_gain network H u always) (λ g. g ≡ 1) = of_least (gain H u) (λ g. g ≡ 1) (possible_states network H always) (each_one (possible_states network H always)) in
-      always_is has.least has.is_least ∙ subst (λ (o : Option ℕ). IfSome o (λ g. g ≡ 1)) has.is_least one
+      let one : IfSome (least_gain network H u always) (λ g. g ≡ 1) = of_least (gain H u)
+      (λ g. g ≡ 1) (possible_states network H always)
+      (each_one (possible_states network H always)) in
+      always_is has.least has.is_least ∙ subst (λ (o : Option ℕ). IfSome o (λ g. g ≡ 1))
+      has.is_least one
     where
       each_one : (ss : List (List ℕ)) → AllByRecursion (λ s. gain H u s ≡ 1) ss
       each_one [] = tt
@@ -158,7 +162,8 @@ module _ (network : List Variable) (tree : GivenTree) (H : List Entry) (u : ℕ)
       worst_for g e = factor_for (exact_belief least (gains_of network tree H u) []) most result f is over_all close g (always_is g e)
 
       pub worst_idle : HoldsNoTrade H u → Encloses f.gain 1
-      worst_idle none = encloses_least (exact_belief least (gains_of network tree H u) []) most result f is over_all close 1 (always_one none)
+      worst_idle none = encloses_least (exact_belief least (gains_of network tree H u) []) most
+          result f is over_all close 1 (always_one none)
 
       pub worst_in_range : deposited H u ≤ max_bits → withdrawn H u ≤ max_bits → (b : ℕ) → b ≤ max_points_per_bit → HasPowersInRange f b
       worst_in_range few_in few_out = factor_in_range (exact_belief least (gains_of network tree H u) []) most result f is over_all close few_in few_out

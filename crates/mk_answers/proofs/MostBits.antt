@@ -21,11 +21,14 @@ within k n d s p g low same below fit positive =
     le_of_mul-le-mul_right c positive
 
 -- a number below the next power of two, by the ends that are near each other
-nearly : (k n d s p g low high less more : ℕ) → n * s ≡ p * g * d → g ≤ high → high * less ≤ low * more → low * p < k * s → 1 ≤ d → 1 ≤ more
+nearly : (k n d s p g low high less more : ℕ) → n * s ≡ p * g * d → g ≤ high
+    → high * less ≤ low * more → low * p < k * s → 1 ≤ d → 1 ≤ more
     → n * less < k * d * more
 nearly k n d s p g low high less more same above near short positive some =
-    let a : p * d * (g * less) ≤ p * d * (low * more) = mul-le-mul_left (p * d) (le_trans (mul-le-mul_right less above) near) in
-    let b : low * p * (d * more) < k * s * (d * more) = mul-lt-mul_of_pos_right short (one-le-mul positive some) in
+    let a : p * d * (g * less) ≤ p * d * (low * more) = mul-le-mul_left (p * d)
+    (le_trans (mul-le-mul_right less above) near) in
+    let b : low * p * (d * more) < k * s * (d * more) = mul-lt-mul_of_pos_right short
+    (one-le-mul positive some) in
     let e : n * s * less ≡ p * g * d * less = ap (λ z. z * less) same in
     let c : n * less * s < k * d * more * s = omega arith in
     lt_of_mul-lt-mul_right s c
@@ -38,14 +41,17 @@ exactly k n d s p g low same exact short positive =
     lt_of_mul-lt-mul_right s c
 
 -- a grade leaves the ends within one part in 2^43
-thin : (low high c : ℕ) → 2 ^ 60 - 2 ^ 17 ≤ c → high * c ≤ low * 2 ^ 60 → high * (2 ^ 43 - 1) ≤ low * 2 ^ 43
-thin low high c h l = let m : high * (2 ^ 60 - 2 ^ 17) ≤ high * c = mul-le-mul_left high h in omega arith
+thin : (low high c : ℕ) → 2 ^ 60 - 2 ^ 17 ≤ c → high * c ≤ low * 2 ^ 60
+    → high * (2 ^ 43 - 1) ≤ low * 2 ^ 43
+thin low high c h l = let m : high * (2 ^ 60 - 2 ^ 17) ≤ high * c = mul-le-mul_left high h in omega
+    arith
 
 thin_ends : (low high g : ℕ) → g ≤ 2 ^ 17 → IsNear low high g → high * (2 ^ 43 - 1) ≤ low * 2 ^ 43
 thin_ends low high g h l = thin low high (2 ^ 60 - g) (omega arith) (near_width low high g l)
 
 -- where the ends are such and one is between them, both are one
-one_alone : (low high : ℕ) → 1 ≤ low → low ≤ 1 → 1 ≤ high → high * (2 ^ 43 - 1) ≤ low * 2 ^ 43 → low ≡ high
+one_alone : (low high : ℕ) → 1 ≤ low → low ≤ 1 → 1 ≤ high → high * (2 ^ 43 - 1) ≤ low * 2 ^ 43
+    → low ≡ high
 one_alone low high some few most near = omega arith
 
 -- ---- over factors
@@ -103,12 +109,15 @@ module _ (f : Factor) (bits : ℕ) (are : AreBitsOf f bits) (q : Fraction) (stan
       (λ more. absurd (let l = are.greatest (bits + 1) (record { fit = subst (λ n. n ≤ lower_of f.gain * 2 ^ paid_in f.net) (sym (split (bits + 1) f)) more }) in omega arith))
       (cases_lt (lower_of f.gain * 2 ^ paid_in f.net) (2 ^ (bits + 1) * owed f))
 
-  narrow : IsGradedWithin f.gain (2 ^ 17) → upper_of f.gain * (2 ^ 43 - 1) ≤ lower_of f.gain * 2 ^ 43
-  narrow graded = thin_ends (lower_of f.gain) (upper_of f.gain) graded.grade graded.small graded.has.near
+  narrow : IsGradedWithin f.gain (2 ^ 17)
+      → upper_of f.gain * (2 ^ 43 - 1) ≤ lower_of f.gain * 2 ^ 43
+  narrow graded = thin_ends (lower_of f.gain) (upper_of f.gain) graded.grade graded.small
+      graded.has.near
 
   near : IsGradedWithin f.gain (2 ^ 17) → q.num * (2 ^ 43 - 1) < 2 ^ (bits + 1) * 2 ^ 43 * q.den
   near graded =
-      let l = nearly (2 ^ (bits + 1)) q.num q.den (owed f) (2 ^ paid_in f.net) stands.gain (lower_of f.gain) (upper_of f.gain) (2 ^ 43 - 1) (2 ^ 43)
+      let l = nearly (2 ^ (bits + 1)) q.num q.den (owed f) (2 ^ paid_in f.net) stands.gain
+      (lower_of f.gain) (upper_of f.gain) (2 ^ 43 - 1) (2 ^ 43)
       same stands.encloses.upper (narrow graded) short stands.positive (omega arith) in
       omega arith
 
@@ -118,15 +127,20 @@ module _ (f : Factor) (bits : ℕ) (are : AreBitsOf f bits) (q : Fraction) (stan
 
   -- a gain that can be one is one
   one_exact : IsGradedWithin f.gain (2 ^ 17) → Encloses f.gain 1 → IsExact f.gain
-  one_exact graded one = record { same = one_alone (lower_of f.gain) (upper_of f.gain) f.gain.positive one.lower one.upper (narrow graded) }
+  one_exact graded one = record {
+    same = one_alone (lower_of f.gain) (upper_of f.gain)
+        f.gain.positive one.lower one.upper (narrow graded);
+  }
 
-  pub is_most : (small : Type 0) → IsGradedWithin f.gain (2 ^ 17) → (small → IsExact f.gain) → IsMost small (Encloses f.gain 1) q bits
+  pub is_most : (small : Type 0) → IsGradedWithin f.gain (2 ^ 17) → (small → IsExact f.gain)
+      → IsMost small (Encloses f.gain 1) q bits
   is_most small graded exact = record {
     within = covered;
     nearly = near graded;
     exactly = λ either. next (⊎_elim exact (one_exact graded) either);
   }
 
-pub most_for : (f : Factor) (bits : ℕ) → AreBitsOf f bits → (small : Type 0) (q : Fraction) → IsFactorFor f small q → IsAtLeastOne q
+pub most_for : (f : Factor) (bits : ℕ) → AreBitsOf f bits → (small : Type 0) (q : Fraction)
+    → IsFactorFor f small q → IsAtLeastOne q
     → IsMost small (Encloses f.gain 1) q bits
 most_for f bits are small q for least = is_most f bits are q for.stands least small for.graded for.exact

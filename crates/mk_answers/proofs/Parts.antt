@@ -1,8 +1,10 @@
 -- The interval of two enclosures covers the share of the one number in the other.
-use Rattle.std.proofs.Common.{◌≡◌, ℕ, zero, suc, ◌+◌, ◌-◌, ◌*◌, ◌/◌, ◌^◌, ◌<◌, ◌≤◌, min, sym, ap, ap₂, ◌∙◌, arith, le_trans}
+use Rattle.std.proofs.Common.{◌≡◌, ℕ, zero, suc, ◌+◌, ◌-◌, ◌*◌, ◌/◌, ◌^◌, ◌<◌, ◌≤◌, min, sym, ap}
+use Rattle.std.proofs.Common.{ap₂, ◌∙◌, arith, le_trans}
 use Rattle.std.specs.Int.{div_ceil}
 use Rattle.std.proofs.lemmas.Grind.{div_ceil_times}
-use Rattle.std.proofs.Math.Nat.{lt-div-mul-add, mul-le-mul_left, mul-le-mul_right, mul-lt-mul_of_pos_right, one-le-mul, lt_of_mul-lt-mul_right}
+use Rattle.std.proofs.Math.Nat.{lt-div-mul-add, mul-le-mul_left, mul-le-mul_right}
+use Rattle.std.proofs.Math.Nat.{mul-lt-mul_of_pos_right, one-le-mul, lt_of_mul-lt-mul_right}
 use Rattle.mk_scaled.specs.Near.{near_width}
 use Rattle.mk_exact.specs.Prices.{CoversPrice}
 use Rattle.mk_enclose.specs.declared.enclosure.Enclosure.{Enclosure}
@@ -38,58 +40,79 @@ ceiling_near v w high p e =
 
 -- ---- how near a share is by the ends of its two numbers
 
--- u of n are less than l of e, v is not far above n, nor e above w: u of v are less than l of w, or not far above
-near_share : (u n l e v w c t less more : ℕ) → u * n < l * e → v * c ≤ n * t → e * c ≤ w * t → less * (t * t) ≤ c * c * more → 1 ≤ c → 1 ≤ t → 1 ≤ more
+-- u of n are less than l of e, v is not far above n, nor e above w: u of v are less than l of w, or
+-- not far above
+near_share : (u n l e v w c t less more : ℕ) → u * n < l * e → v * c ≤ n * t → e * c ≤ w * t
+    → less * (t * t) ≤ c * c * more → 1 ≤ c → 1 ≤ t → 1 ≤ more
     → u * v * less < l * w * more
-near_share u n l e v w c t less more share over under wide some_c some_t some_more = lt_of_mul-lt-mul_right (t * t) scaled
+near_share u n l e v w c t less more share over under wide some_c some_t some_more =
+    lt_of_mul-lt-mul_right (t * t) scaled
   where
     tops : u * v * (c * c) < l * w * (t * t)
     tops =
         let a : u * c * (v * c) ≤ u * c * (n * t) = mul-le-mul_left (u * c) over in
-        let b : u * n * (c * t) < l * e * (c * t) = mul-lt-mul_of_pos_right share (one-le-mul some_c some_t) in
+        let b : u * n * (c * t) < l * e * (c * t) = mul-lt-mul_of_pos_right share
+        (one-le-mul some_c some_t) in
         let d : l * t * (e * c) ≤ l * t * (w * t) = mul-le-mul_left (l * t) under in
         omega arith
 
     scaled : u * v * less * (t * t) < l * w * more * (t * t)
     scaled =
         let a : u * v * (less * (t * t)) ≤ u * v * (c * c * more) = mul-le-mul_left (u * v) wide in
-        let b : u * v * (c * c) * more < l * w * (t * t) * more = mul-lt-mul_of_pos_right tops some_more in
+        let b : u * v * (c * c) * more < l * w * (t * t) * more = mul-lt-mul_of_pos_right tops
+        some_more in
         omega arith
 
 -- two grades leave one part in 2^42
-graded_share : (u n l e v w : ℕ) → u * n < l * e → v * (2 ^ 60 - 2 ^ 17) ≤ n * 2 ^ 60 → e * (2 ^ 60 - 2 ^ 17) ≤ w * 2 ^ 60 → u * v * (2 ^ 42 - 1) < l * w * 2 ^ 42
+graded_share : (u n l e v w : ℕ) → u * n < l * e → v * (2 ^ 60 - 2 ^ 17) ≤ n * 2 ^ 60
+    → e * (2 ^ 60 - 2 ^ 17) ≤ w * 2 ^ 60 → u * v * (2 ^ 42 - 1) < l * w * 2 ^ 42
 graded_share u n l e v w share over under =
-    near_share u n l e v w (2 ^ 60 - 2 ^ 17) (2 ^ 60) (2 ^ 42 - 1) (2 ^ 42) share over under (omega arith) (omega arith) (omega arith) (omega arith)
+    near_share u n l e v w (2 ^ 60 - 2 ^ 17) (2 ^ 60) (2 ^ 42 - 1) (2 ^ 42) share over under
+    (omega arith) (omega arith) (omega arith) (omega arith)
 
 -- a number that is enclosed, and the ends
 thinner : (low high v c d : ℕ) → c ≤ d → v ≤ high → high * d ≤ low * 2 ^ 60 → v * c ≤ low * 2 ^ 60
-thinner low high v c d h l near = le_trans (mul-le-mul_right c l) (le_trans (mul-le-mul_left high h) near)
+thinner low high v c d h l near = le_trans (mul-le-mul_right c l)
+    (le_trans (mul-le-mul_left high h) near)
 
-near_lower : (e : Enclosure) (v g : ℕ) → g ≤ 2 ^ 17 → HasGrade e g → Encloses e v → v * (2 ^ 60 - 2 ^ 17) ≤ lower_of e * 2 ^ 60
+near_lower : (e : Enclosure) (v g : ℕ) → g ≤ 2 ^ 17 → HasGrade e g → Encloses e v
+    → v * (2 ^ 60 - 2 ^ 17) ≤ lower_of e * 2 ^ 60
 near_lower e v g close has is =
-    thinner (lower_of e) (upper_of e) v (2 ^ 60 - 2 ^ 17) (2 ^ 60 - g) (omega arith) is.upper (near_width (lower_of e) (upper_of e) g has.near)
+    thinner (lower_of e) (upper_of e) v (2 ^ 60 - 2 ^ 17) (2 ^ 60 - g) (omega arith) is.upper
+    (near_width (lower_of e) (upper_of e) g has.near)
 
-near_upper : (e : Enclosure) (v g : ℕ) → g ≤ 2 ^ 17 → HasGrade e g → Encloses e v → upper_of e * (2 ^ 60 - 2 ^ 17) ≤ v * 2 ^ 60
+near_upper : (e : Enclosure) (v g : ℕ) → g ≤ 2 ^ 17 → HasGrade e g → Encloses e v
+    → upper_of e * (2 ^ 60 - 2 ^ 17) ≤ v * 2 ^ 60
 near_upper e v g close has is =
-    let top : upper_of e * (2 ^ 60 - 2 ^ 17) ≤ lower_of e * 2 ^ 60 = thinner (lower_of e) (upper_of e) (upper_of e) (2 ^ 60 - 2 ^ 17) (2 ^ 60 - g) (omega arith) (omega arith)
+    let top : upper_of e * (2 ^ 60 - 2 ^ 17) ≤ lower_of e * 2 ^ 60 = thinner (lower_of e)
+    (upper_of e) (upper_of e) (2 ^ 60 - 2 ^ 17) (2 ^ 60 - g) (omega arith) (omega arith)
     (near_width (lower_of e) (upper_of e) g has.near) in
     le_trans top (mul-le-mul_right (2 ^ 60) is.lower)
 
-low_is_near : (num den : Enclosure) (v w g low : ℕ) → Encloses num v → Encloses den w → g ≤ 2 ^ 17 → HasGrade num g → HasGrade den g
-    → low ≡ lower_of num * 10 ^ 10 / upper_of den → 10 ^ 10 * v * (2 ^ 42 - 1) < (low + 1) * w * 2 ^ 42
+low_is_near : (num den : Enclosure) (v w g low : ℕ) → Encloses num v → Encloses den w → g ≤ 2 ^ 17
+    → HasGrade num g → HasGrade den g
+    → low ≡ lower_of num * 10 ^ 10 / upper_of den
+    → 10 ^ 10 * v * (2 ^ 42 - 1) < (low + 1) * w * 2 ^ 42
 low_is_near num den v w g low num_is den_is close num_grade den_grade e =
-    graded_share (10 ^ 10) (lower_of num) (low + 1) (upper_of den) v w (floor_near (lower_of num) (upper_of den) low (omega (arith, den.positive, den.ordered)) e)
+    graded_share (10 ^ 10) (lower_of num) (low + 1) (upper_of den) v w
+    (floor_near (lower_of num) (upper_of den) low (omega (arith, den.positive, den.ordered)) e)
     (near_lower num v g close num_grade num_is) (near_upper den w g close den_grade den_is)
 
-high_is_near : (num den : Enclosure) (v w g high : ℕ) → Encloses num v → Encloses den w → 1 ≤ w → g ≤ 2 ^ 17 → HasGrade num g → HasGrade den g
-    → high ≡ min (10 ^ 10) (div_ceil (upper_of num * 10 ^ 10) (lower_of den)) → high * w * (2 ^ 42 - 1) < 10 ^ 10 * v * 2 ^ 42 + w * (2 ^ 42 - 1)
-high_is_near num den v w g high num_is den_is some close num_grade den_grade e = one_less high (ceiling_near (upper_of num) (lower_of den) high den.positive e)
+high_is_near : (num den : Enclosure) (v w g high : ℕ) → Encloses num v → Encloses den w → 1 ≤ w
+    → g ≤ 2 ^ 17 → HasGrade num g → HasGrade den g
+    → high ≡ min (10 ^ 10) (div_ceil (upper_of num * 10 ^ 10) (lower_of den))
+    → high * w * (2 ^ 42 - 1) < 10 ^ 10 * v * 2 ^ 42 + w * (2 ^ 42 - 1)
+high_is_near num den v w g high num_is den_is some close num_grade den_grade e = one_less high
+    (ceiling_near (upper_of num) (lower_of den) high den.positive e)
   where
-    one_less : (k : ℕ) → k * lower_of den < 10 ^ 10 * upper_of num + lower_of den → k * w * (2 ^ 42 - 1) < 10 ^ 10 * v * 2 ^ 42 + w * (2 ^ 42 - 1)
+    one_less : (k : ℕ) → k * lower_of den < 10 ^ 10 * upper_of num + lower_of den
+        → k * w * (2 ^ 42 - 1) < 10 ^ 10 * v * 2 ^ 42 + w * (2 ^ 42 - 1)
     one_less zero less = omega (arith, some)
     one_less (suc k) less =
         let short : k * lower_of den < 10 ^ 10 * upper_of num = omega (arith, less) in
-        let near = graded_share k (lower_of den) (10 ^ 10) (upper_of num) w v short (near_lower den w g close den_grade den_is) (near_upper num v g close num_grade num_is) in
+        let near = graded_share k (lower_of den) (10 ^ 10) (upper_of num) w v short
+        (near_lower den w g close den_grade den_is) (near_upper num v g close num_grade num_is)
+        in
         omega (arith, near)
 
 -- where the share is of something, and less than one
@@ -101,7 +124,8 @@ parts_cover num den v w g low high num_is den_is some share less close num_grade
   above = omega (arith, parts.above v w num_is den_is share);
   at_most_one = omega (arith, parts.high_is);
   low_near = low_is_near num den v w g low num_is den_is close num_grade den_grade parts.low_is;
-  high_near = high_is_near num den v w g high num_is den_is some close num_grade den_grade parts.high_is;
+  high_near = high_is_near num den v w g high num_is den_is some close num_grade den_grade
+      parts.high_is;
   never = λ nothing. absurd (omega (arith, num.positive, num_is.lower));
   sure = λ all. absurd (omega arith);
   floor = λ x. floor_near v w low some (parts.low_is ∙ ap₂ (λ n d. n * 10 ^ 10 / d) (exact_low num v num_is x.0) (exact_high den w den_is x.1));

@@ -138,48 +138,56 @@ module _ (network : List Variable) (tree : GivenTree) (H : List Entry) (u : ℕ)
     pub comes : cannot_come network H (holds event) ≡ false
     comes = at (cannot_come network H (holds event)) refl
       where
-        at : (b : Bool) → cannot_come network H (holds event) ≡ b → cannot_come network H (holds event) ≡ false
+        at : (b : Bool) → cannot_come network H (holds event) ≡ b
+            → cannot_come network H (holds event) ≡ false
         at false e = e
-        at true e = absurd (let no = least_none (gain H u) (possible_states network H (holds event)) (cannot_come_is network H (holds event) e) in let yes = is_found in cc)
+        at true e = absurd (let no = least_none (gain H u) (possible_states network H (holds event))
+            (cannot_come_is network H (holds event) e) in let yes = is_found in cc)
 
-    module _ (close : most ≤ length (gains_of network tree H u).factors + max_grade + max_values) where
-      its : IsFactorFor f (IsSmall network H) (factor_with H u found)
-      its = factor_for network tree H u is_open found most result f is least_is close found refl
+    module _ (close : most ≤ length (gains_of network tree H u).factors + max_grade + max_values)
+      where
+        its : IsFactorFor f (IsSmall network H) (factor_with H u found)
+        its = factor_for network tree H u is_open found most result f is least_is close found refl
 
-      pub in_range : deposited H u ≤ max_bits → withdrawn H u ≤ max_bits → (b : ℕ) →
-          b ≤ max_points_per_bit → HasPowersInRange f b
-      in_range = factor_in_range network tree H u is_open found most result f is least_is close
+        pub in_range : deposited H u ≤ max_bits → withdrawn H u ≤ max_bits → (b : ℕ) →
+            b ≤ max_points_per_bit → HasPowersInRange f b
+        in_range = factor_in_range network tree H u is_open found most result f is least_is close
 
-      safe : IsAtLeastOne (factor_with H u found)
-      safe =
-          let least = least_where network H u (holds event) is_open.sound (can_come_is network H (holds event) comes) in
-          let same : found ≡ least.0 = (let e = is_found in let d = least.1 in cc) in
-          subst (λ (g : ℕ). IsAtLeastOne (factor_with H u g)) (sym same) (least.2).at_least_one
+        safe : IsAtLeastOne (factor_with H u found)
+        safe =
+            let least = least_where network H u (holds event) is_open.sound
+            (can_come_is network H (holds event) comes) in
+            let same : found ≡ least.0 = (let e = is_found in let d = least.1 in cc) in
+            subst (λ (g : ℕ). IsAtLeastOne (factor_with H u g)) (sym same) (least.2).at_least_one
 
-      one : HoldsNoTrade H u → Encloses f.gain 1
-      one none =
-          let e : found ≡ 1 = subst (λ (o : Option ℕ). IfSome o (λ g. g ≡ 1)) is_found (idle_least network H u (holds event) none) in
-          encloses_least network tree H u is_open found most result f is least_is close 1 e
+        one : HoldsNoTrade H u → Encloses f.gain 1
+        one none =
+            let e : found ≡ 1 = subst (λ (o : Option ℕ). IfSome o (λ g. g ≡ 1)) is_found
+            (idle_least network H u (holds event) none) in
+            encloses_least network tree H u is_open found most result f is least_is close 1 e
 
-      -- its cash is what the user is sure of
-      pub sure : (b low high : ℕ) →
-          ((q : Fraction) → StandsFor f q.num q.den → IsGradedWithin f.gain (2 ^ 17) → IsAtLeastOne q →
-          CoversCash (IsExact f.gain) (Encloses f.gain 1) q b low high) →
-          CoversLeast network H u b (holds event) (low, high)
-      sure b low high covers =
-          rw is_found
-          (cash_for (IsSmall network H) (HoldsNoTrade H u) (IsExact f.gain) (Encloses f.gain 1)
-          (factor_with H u found) b low high its.exact one
-          (covers (factor_with H u found) its.stands its.graded safe))
+        -- its cash is what the user is sure of
+        pub sure : (b low high : ℕ) →
+            ((q : Fraction) → StandsFor f q.num q.den → IsGradedWithin f.gain (2 ^ 17)
+            → IsAtLeastOne q →
+            CoversCash (IsExact f.gain) (Encloses f.gain 1) q b low high) →
+            CoversLeast network H u b (holds event) (low, high)
+        sure b low high covers =
+            rw is_found
+            (cash_for (IsSmall network H) (HoldsNoTrade H u) (IsExact f.gain) (Encloses f.gain 1)
+            (factor_with H u found) b low high its.exact one
+            (covers (factor_with H u found) its.stands its.graded safe))
 
 -- an event of a question's condition and target is that its target comes
-pub sure_asked : (network : List Variable) (H : List Entry) (u b : ℕ) (asked : Asked) (event : List Pair)
+pub sure_asked : (network : List Variable) (H : List Entry) (u b : ℕ) (asked : Asked)
+    (event : List Pair)
     (ends : ℕ × ℕ) → event ≡ pairs_asked asked → CoversLeast network H u b (holds event) ends →
     CoversLeast network H u b (with_target asked) ends
 sure_asked network H u b asked event ends e h =
     rw (← target_is_least network H u asked) (rw e at h)
 
-pub none_asked : (network : List Variable) (H : List Entry) (u : ℕ) (asked : Asked) (event : List Pair) →
+pub none_asked : (network : List Variable) (H : List Entry) (u : ℕ) (asked : Asked)
+    (event : List Pair) →
     event ≡ pairs_asked asked → least_gain network H u (holds event) ≡ None →
     least_gain network H u (with_target asked) ≡ None
 none_asked network H u asked event e h =

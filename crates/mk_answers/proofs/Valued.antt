@@ -92,7 +92,9 @@ abbrev pub AreFirstFound : List Variable → List Entry → ℕ → SpreadAsked 
 AreFirstFound network H u spread n parts = AllZip (λ value part. IsValueFound network H u (asked_of spread value) part) (numbers_below n) parts
 
 -- one more number of a range
-pub range_more : {X : Type 0} (P : ℕ → X → Type 0) (n a : ℕ) (xs : List X) (x : X) → AllZip P (range_with_len a n) xs → P (a + n) x → AllZip P (range_with_len a (suc n)) (xs ++ x ∷ [])
+pub range_more : {X : Type 0} (P : ℕ → X → Type 0) (n a : ℕ) (xs : List X) (x : X)
+    → AllZip P (range_with_len a n) xs → P (a + n) x
+    → AllZip P (range_with_len a (suc n)) (xs ++ x ∷ [])
 range_more P zero a [] x h p =
     let here : a + 0 ≡ a = omega arith in
     (subst (λ k. P k x) here p, tt)
@@ -134,7 +136,9 @@ module _ (network : List Variable) (tree : GivenTree) (H : List Entry) (is_open 
 
 -- a question about one value is in order where that about all is
 module _ (network : List Variable) (tree : GivenTree) (H : List Entry) (spread : SpreadAsked) (answered : CanBeSpreadHere network tree H spread) where
-  pub valued_at : (at k : ℕ) → IsHeldAt tree at (pairs_asked (asked_of spread k)) → k < slice_index (sizes network) spread.variable → CanBeValuedHere network tree H at (asked_of spread k)
+  pub valued_at : (at k : ℕ) → IsHeldAt tree at (pairs_asked (asked_of spread k))
+      → k < slice_index (sizes network) spread.variable
+      → CanBeValuedHere network tree H at (asked_of spread k)
   valued_at at k held within =
       let ordered = answered.in_order in
       record {

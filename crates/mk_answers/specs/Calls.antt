@@ -16,8 +16,10 @@ use Rattle.mk_assets.specs.Holdings.{Owns}
 use Rattle.mk_spread.specs.Spreads.{SpreadAsked, asked_of}
 use Rattle.mk_answers.specs.Open.{IsOpen, CanBeAnswered, CanBeSpreadHere, holding_of}
 
--- the engine has the weights of a market in use of this network, where the question can be answered, and a clique holds it
-pub record CanPrice {E : Type 0} (stands_for : E → Meaning → Type 0) (prices : E) (network : List Variable) (at : ℕ) (asked : Asked) : Type 0 where
+-- the engine has the weights of a market in use of this network, where the question can be
+-- answered, and a clique holds it
+pub record CanPrice {E : Type 0} (stands_for : E → Meaning
+    → Type 0) (prices : E) (network : List Variable) (at : ℕ) (asked : Asked) : Type 0 where
   pub tree : GivenTree
   pub history : List Entry
   pub stands : stands_for prices (weights_of network tree history)
@@ -25,8 +27,10 @@ pub record CanPrice {E : Type 0} (stands_for : E → Meaning → Type 0) (prices
   pub answered : CanBeAnswered network tree history asked
   pub held : IsHeldAt tree at (pairs_asked asked)
 
--- the engine has the weights of a market in use, whose network has these pairs, and in whose tree a clique holds them together
-pub record CanSearch {E : Type 0} (stands_for : E → Meaning → Type 0) (prices : E) (at : ℕ) (event : List Pair) : Type 0 where
+-- the engine has the weights of a market in use, whose network has these pairs, and in whose tree a
+-- clique holds them together
+pub record CanSearch {E : Type 0} (stands_for : E → Meaning
+    → Type 0) (prices : E) (at : ℕ) (event : List Pair) : Type 0 where
   pub network : List Variable
   pub tree : GivenTree
   pub history : List Entry
@@ -51,7 +55,8 @@ pub record CanFindBound {E : Type 0} (stands_for : E → Meaning → Type 0) (ro
   pub stands : stands_for rows (rows_of network tree history)
   pub is_open : IsOpen network tree history
 
--- the engine has the weights and the assets are a user's of one market in use of this network, where the question can be answered,
+-- the engine has the weights and the assets are a user's of one market in use of this network,
+-- where the question can be answered,
 -- and a clique holds it
 pub record CanBound {E A P : Type 0} (stands_for : E → Meaning → Type 0) (owned_for : A → Meaning → Type 0) (prices : E) (assets : Assets A P)
     (network : List Variable) (at : ℕ) (asked : Asked) : Type 0 where

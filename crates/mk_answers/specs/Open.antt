@@ -43,7 +43,8 @@ pub record CanBeAnswered (network : List Variable) (tree : GivenTree) (H : List 
   pub agrees : AllByRecursion (λ p. AllByRecursion (AgreesWith p) (resolutions H)) asked.condition
   pub home : is_some (home tree (pairs_asked asked)) ≡ true
 
--- a distribution in order whose condition gives no resolved variable another value, and each of whose values has a home with it
+-- a distribution in order whose condition gives no resolved variable another value, and each of
+-- whose values has a home with it
 pub record CanBeSpreadHere (network : List Variable) (tree : GivenTree) (H : List Entry) (spread : SpreadAsked) : Type 0 where
   pub in_order : IsSpreadInOrder network H spread
   pub agrees : AllByRecursion (λ p. AllByRecursion (AgreesWith p) (resolutions H)) spread.condition

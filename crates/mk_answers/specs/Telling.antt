@@ -19,7 +19,8 @@ use Rattle.mk_assets.specs.declared.assets.Assets.{Assets}
 use Rattle.mk_assets.specs.Holdings.{Owns}
 use Rattle.mk_answers.specs.Open.{IsOpen, CanBeSpreadHere, holding_of}
 
--- intervals that cover the price of each value where the condition can come, and none where it cannot
+-- intervals that cover the price of each value where the condition can come, and none where it
+-- cannot
 abbrev pub ArePricesFor :
     List Variable → List Entry → SpreadAsked → Option (ArrayVec (ℕ × ℕ)) → Type 0
 ArePricesFor network H spread None = cannot_come network H (holds spread.condition) ≡ true
@@ -43,7 +44,8 @@ IsSureAt network H u points_per_bit asked interval =
     MatchOption interval (least_gain network H u (with_target asked) ≡ None)
     (CoversLeast network H u points_per_bit (with_target asked))
 
--- the engine has the weights of a market in use of this network, where the question about every value
+-- the engine has the weights of a market in use of this network, where the question about every
+-- value
 -- can be answered, and a clique holds it
 pub record CanTellPrices {E : Type 0} (stands_for : E → Meaning → Type 0) (prices : E)
     (network : List Variable) (at : ℕ) (spread : SpreadAsked) : Type 0 where

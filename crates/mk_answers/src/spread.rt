@@ -33,7 +33,8 @@ pub enum SpreadSides {
     Sure(u32),
 }
 
-/// The sides of a question about every value of a variable, for a user, asked in a clique that holds it: their bounds enclose them,
+/// The sides of a question about every value of a variable, for a user, asked in a clique that
+/// holds it: their bounds enclose them,
 /// and are exact in the small case. It leaves what the engine and the assets stand for as it was.
 pub fn spread_bounds_of<P: Engine<SumProd>, A: Engine<MinProd>>(
     prices: &mut P,
@@ -42,7 +43,8 @@ pub fn spread_bounds_of<P: Engine<SumProd>, A: Engine<MinProd>>(
     at: u32,
     asked: &SpreadQuestion,
 ) -> SpreadSides
-    requires { CanBoundSpread P.stands_for A.stands_for prices.old assets.old net.now at (spread_in asked.now) }
+    requires { CanBoundSpread P.stands_for A.stands_for prices.old assets.old net.now at
+        (spread_in asked.now) }
     ensures kept { (m : Meaning) → P.stands_for prices.old m → P.stands_for prices.new m }
     ensures kept_assets { (h : Holding) → Owns A.stands_for assets.old h → Owns A.stands_for assets.new h }
     ensures sides { (tree : GivenTree) (H : List Entry) (u : ℕ)

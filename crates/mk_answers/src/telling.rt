@@ -22,8 +22,10 @@ use mk_net::{Network, Question};
 use mk_quote::SpreadQuestion;
 use mk_semiring::{MinProd, SumProd};
 
-/// Bounds on the price of each value of a variable under a condition, in units of 10^-10 and in the order of the values, asked in a
-/// clique that holds them: each as `price_of` gives it. None where the condition cannot come. It leaves what the engine stands for as
+/// Bounds on the price of each value of a variable under a condition, in units of 10^-10 and in the
+/// order of the values, asked in a
+/// clique that holds them: each as `price_of` gives it. None where the condition cannot come. It
+/// leaves what the engine stands for as
 /// it was.
 pub fn prices_of<P: Engine<SumProd>>(
     prices: &mut P,
@@ -35,7 +37,8 @@ pub fn prices_of<P: Engine<SumProd>>(
     ensures kept { (m : Meaning) → P.stands_for prices.old m → P.stands_for prices.new m }
     ensures prices { (tree : GivenTree) (H : List Entry)
         → P.stands_for prices.old (weights_of net.now tree H) → IsOpen net.now tree H
-        → CanBeSpreadHere net.now tree H (spread_in asked.now) → ArePricesFor net.now H (spread_in asked.now) result }
+        → CanBeSpreadHere net.now tree H (spread_in asked.now)
+        → ArePricesFor net.now H (spread_in asked.now) result }
 {
     let mut intervals = ArrayVec::new();
     for value in 0..net.values(asked.variable) {
@@ -48,8 +51,10 @@ pub fn prices_of<P: Engine<SumProd>>(
     Some(intervals)
 }
 
-/// For each value of a variable bounds on what a user is sure of where it comes and a condition holds, in points: the cash of the least
-/// factor there, and none for a value that cannot come. None at all where the condition cannot come. All is asked in a clique that
+/// For each value of a variable bounds on what a user is sure of where it comes and a condition
+/// holds, in points: the cash of the least
+/// factor there, and none for a value that cannot come. None at all where the condition cannot
+/// come. All is asked in a clique that
 /// holds the values with the condition. It leaves what the assets stand for as it was.
 pub fn position_of<A: Engine<MinProd>>(
     assets: &mut Assets<A>,
@@ -61,7 +66,8 @@ pub fn position_of<A: Engine<MinProd>>(
     requires some_points { 1 ≤ points_per_bit }
     requires few_points { points_per_bit ≤ max_points_per_bit }
     requires assets { CanTellPosition A.stands_for assets.old net.now at (spread_in asked.now) }
-    ensures kept_assets { (h : Holding) → Owns A.stands_for assets.old h → Owns A.stands_for assets.new h }
+    ensures kept_assets { (h : Holding) → Owns A.stands_for assets.old h
+        → Owns A.stands_for assets.new h }
     ensures position { (tree : GivenTree) (H : List Entry) (u : ℕ)
         → Owns A.stands_for assets.old (holding_of net.now tree H u) → IsOpen net.now tree H
         → CanBeSpreadHere net.now tree H (spread_in asked.now)
@@ -78,7 +84,8 @@ pub fn position_of<A: Engine<MinProd>>(
     Some(intervals)
 }
 
-/// Bounds on the cash of a user's least factor where the target of a question comes. None where it cannot come. It leaves what the assets
+/// Bounds on the cash of a user's least factor where the target of a question comes. None where it
+/// cannot come. It leaves what the assets
 /// stand for as it was.
 fn sure_of<A: Engine<MinProd>>(
     assets: &mut Assets<A>,
@@ -90,7 +97,8 @@ fn sure_of<A: Engine<MinProd>>(
     requires some_points { 1 ≤ points_per_bit }
     requires few_points { points_per_bit ≤ max_points_per_bit }
     requires assets { CanFindSure A.stands_for assets.old net.now at asked.now }
-    ensures kept_assets { (h : Holding) → Owns A.stands_for assets.old h → Owns A.stands_for assets.new h }
+    ensures kept_assets { (h : Holding) → Owns A.stands_for assets.old h
+        → Owns A.stands_for assets.new h }
     ensures sure { (tree : GivenTree) (H : List Entry) (u : ℕ)
         → Owns A.stands_for assets.old (holding_of net.now tree H u) → IsOpen net.now tree H
         → IsSureAt net.now H u points_per_bit asked.now result }

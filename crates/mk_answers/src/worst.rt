@@ -4,7 +4,8 @@ ghost use Rattle.mk_net.specs.Bounds.{max_points_per_bit};
 ghost use Rattle.mk_net.specs.Network.{Variable};
 ghost use Rattle.mk_exact.specs.Accepted.{Covers, IsMost};
 ghost use Rattle.mk_exact.specs.Events.{always};
-ghost use Rattle.mk_exact.specs.Factors.{Fraction, HoldsNoTrade, IsAtLeastOne, factor_with, least_gain};
+ghost use Rattle.mk_exact.specs.Factors.{Fraction, HoldsNoTrade, IsAtLeastOne, factor_with};
+ghost use Rattle.mk_exact.specs.Factors.{least_gain};
 ghost use Rattle.mk_exact.specs.History.{Entry};
 ghost use Rattle.mk_exact.specs.Weight.{IsSmall};
 ghost use Rattle.mk_tree.specs.Given.{GivenTree};
@@ -21,7 +22,8 @@ use mk_engine::Engine;
 use mk_net::Event;
 use mk_semiring::MinProd;
 
-/// The least factor of a user over all possible states: of one who holds no trade the gain is one. It leaves what the assets
+/// The least factor of a user over all possible states: of one who holds no trade the gain is one.
+/// It leaves what the assets
 /// stand for as it was.
 pub fn least_of<A: Engine<MinProd>>(assets: &mut Assets<A>) -> Factor
     requires { CanFindWorst A.stands_for assets.old }
@@ -30,17 +32,21 @@ pub fn least_of<A: Engine<MinProd>>(assets: &mut Assets<A>) -> Factor
         → Owns A.stands_for assets.old (holding_of network tree H u) → IsOpen network tree H → least_gain network H u always ≡ Some g
         → IsFactorFor result (IsSmall network H) (factor_with H u g) }
     ensures idle { (network : List Variable) (tree : GivenTree) (H : List Entry) (u : ℕ)
-        → Owns A.stands_for assets.old (holding_of network tree H u) → IsOpen network tree H → HoldsNoTrade H u → Encloses result.gain 1 }
+        → Owns A.stands_for assets.old (holding_of network tree H u) → IsOpen network tree H
+        → HoldsNoTrade H u → Encloses result.gain 1 }
     ensures range { (b : ℕ) → b ≤ max_points_per_bit → HasPowersInRange result b }
 {
     factor_of(assets.least(ROOT, &Event::empty()))
 }
 
-/// The most bits that can be taken from a factor of at least one: the greatest number in the small case and where the gain is
-/// one. Else it may be one less where the factor is less than a part in 2^43 - 1 above a whole power of two.
+/// The most bits that can be taken from a factor of at least one: the greatest number in the small
+/// case and where the gain is
+/// one. Else it may be one less where the factor is less than a part in 2^43 - 1 above a whole
+/// power of two.
 pub fn most_bits(factor: &Factor) -> u64
     ensures most { (network : List Variable) (H : List Entry) (q : Fraction)
-        → IsFactorFor factor.now (IsSmall network H) q → IsAtLeastOne q → IsMost (IsSmall network H) (Encloses factor.now.gain 1) q result }
+        → IsFactorFor factor.now (IsSmall network H) q → IsAtLeastOne q
+        → IsMost (IsSmall network H) (Encloses factor.now.gain 1) q result }
     ensures covered { (network : List Variable) (H : List Entry) (q : Fraction) (bits : ℕ)
         → IsFactorFor factor.now (IsSmall network H) q → IsAtLeastOne q → bits ≤ result → Covers q bits }
 {

@@ -1,5 +1,6 @@
 -- What one user's assets stand for, and what is asked of them.
-use Rattle.std.specs.Prelude.{◌≡◌, ℕ, ◌+◌, ◌*◌, ◌<◌, ◌≤◌, ℤ, List, map, length, Option, IsNone, IfSome, ◌↔◌}
+use Rattle.std.specs.Prelude.{◌≡◌, ℕ, ◌+◌, ◌*◌, ◌<◌, ◌≤◌, ℤ, List, map, length, Option, IsNone}
+use Rattle.std.specs.Prelude.{IfSome, ◌↔◌}
 use Rattle.std.specs.List.{count_by}
 use Rattle.mk_net.specs.declared.words.Pair.{Pair}
 use Rattle.mk_net.specs.Asked.{Asked, TradeRatio}
@@ -59,13 +60,15 @@ pub record IsNet (net : ℤ) (deposited withdrawn : ℕ) : Type 0 where
   pub same : paid_in net + withdrawn ≡ deposited + taken_out net
 
 -- the plan stands for the network
-pub record IsPlanned {P : Type 0} (plan_for : P → List Variable → GivenTree → Type 0) (plan : P) (network : List Variable) : Type 0 where
+pub record IsPlanned {P : Type 0} (plan_for : P → List Variable → GivenTree
+    → Type 0) (plan : P) (network : List Variable) : Type 0 where
   pub legal : IsNetwork network
   pub tree : GivenTree
   pub planned : plan_for plan network tree
 
 -- the plan stands for the network, whose pairs these are, and this tree of it
-pub record CanStart {P : Type 0} (plan_for : P → List Variable → GivenTree → Type 0) (plan : P) (network : List Variable) (tree : GivenTree)
+pub record CanStart {P : Type 0} (plan_for : P → List Variable → GivenTree
+    → Type 0) (plan : P) (network : List Variable) (tree : GivenTree)
     (known : List Pair) : Type 0 where
   pub legal : IsNetwork network
   pub tree_of_it : IsTreeOf network tree
@@ -114,10 +117,12 @@ module _ {E P : Type 0} (stands_for : E → Meaning → Type 0) where
 
   -- their engine can be asked for the other values of a question's variable, of which there are so many
   abbrev pub CanFindLeastOfOthers : Assets E P → ℕ → Asked → ℕ → Type 0
-  CanFindLeastOfOthers assets at asked values = CanAskOthers stands_for assets.engine at asked values
+  CanFindLeastOfOthers assets at asked values = CanAskOthers stands_for assets.engine at asked
+      values
 
 -- their engine answers an event in this clique, or places there what speaks of its variables
-abbrev pub IsTakenAt : {E P : Type 0} → (E → ℕ → List Pair → Type 0) → Assets E P → ℕ → List Pair → Type 0
+abbrev pub IsTakenAt : {E P : Type 0} → (E → ℕ → List Pair → Type 0) → Assets E P → ℕ → List Pair
+    → Type 0
 IsTakenAt takes assets at event = takes assets.engine at event
 
 -- the least factor of a holding over the states where the known pairs and an event hold: none where there is no such state

@@ -1,6 +1,7 @@
 //! One user's assets.
 
-ghost use Rattle.std.specs.Prelude.{◌≡◌, ℕ, ◌+◌, ◌≤◌, List, [], ◌∷◌, length, slice_index, true, is_some, Some, IfOk};
+ghost use Rattle.std.specs.Prelude.{◌≡◌, ℕ, ◌+◌, ◌≤◌, List, [], ◌∷◌, length, slice_index, true};
+ghost use Rattle.std.specs.Prelude.{is_some, Some, IfOk};
 ghost use Rattle.mk_net.specs.Network.{sizes};
 ghost use Rattle.mk_net.specs.Asked.{ratio_pairs};
 ghost use Rattle.mk_net.specs.Bounds.{max_values};
@@ -8,7 +9,11 @@ ghost use Rattle.mk_net.specs.Trades.{trade_ratio};
 ghost use Rattle.mk_tree.specs.Given.{GivenTree, home};
 ghost use Rattle.mk_engine.specs.Meaning.{exact_belief, max_grade};
 ghost use Rattle.mk_engine.specs.Cases.{exact_others};
-ghost use Rattle.mk_assets.specs.Holdings.{Holding, Owns, IsPlanned, CanStart, CanTrade, CanDeposit, CanWithdraw, CanLearn, CanFindLeast, CanFindLeastOfOthers, IsTakenAt, IsLeastFactor, max_bits, trades_in, opening_holding, with_trade, with_deposit, with_withdrawal, with_known_pair};
+ghost use Rattle.mk_assets.specs.Holdings.{Holding, Owns, IsPlanned, CanStart, CanTrade};
+ghost use Rattle.mk_assets.specs.Holdings.{CanDeposit, CanWithdraw, CanLearn, CanFindLeast};
+ghost use Rattle.mk_assets.specs.Holdings.{CanFindLeastOfOthers, IsTakenAt, IsLeastFactor};
+ghost use Rattle.mk_assets.specs.Holdings.{max_bits, trades_in, opening_holding, with_trade};
+ghost use Rattle.mk_assets.specs.Holdings.{with_deposit, with_withdrawal, with_known_pair};
 ghost use Rattle.mk_assets.specs.inner.Found.{IsFound};
 
 use mk_enclose::Factor;
@@ -29,8 +34,10 @@ pub struct Assets<E: Engine<MinProd>> {
 }
 
 impl<E: Engine<MinProd>> Assets<E> {
-    /// The assets of a user who has not traded, with what is known already, over the tree of the network that the plan was made for.
-    /// They are told in which states each variable of the network that has a share of nothing cannot come.
+    /// The assets of a user who has not traded, with what is known already, over the tree of the
+    /// network that the plan was made for.
+    /// They are told in which states each variable of the network that has a share of nothing
+    /// cannot come.
     pub fn start(
         alloc: Global,
         plan: &E::Plan,
@@ -39,7 +46,8 @@ impl<E: Engine<MinProd>> Assets<E> {
         known: &[Pair],
     ) -> Result<Assets<E>, NoMemory>
         requires { CanStart E.plan_for plan.now net.now tree.now known.now }
-        ensures { IfOk result (λ assets. Owns E.stands_for assets (opening_holding net.now tree.now known.now)) }
+        ensures { IfOk result (λ assets. Owns E.stands_for assets
+            (opening_holding net.now tree.now known.now)) }
     {
         let mut engine = Self::supported(alloc, plan, net)?;
         for pair in known {
@@ -106,7 +114,8 @@ impl<E: Engine<MinProd>> Assets<E> {
         self.engine.know(home, pair);
     }
 
-    /// The least factor over the states where the known pairs and an event hold, asked in a clique that holds the event. None where
+    /// The least factor over the states where the known pairs and an event hold, asked in a clique
+    /// that holds the event. None where
     /// there is no such state.
     pub fn least(&mut self, at: u32, event: &Event) -> Option<Factor>
         requires held { IsTakenAt E.answers_at self.old at event.now }
@@ -120,7 +129,8 @@ impl<E: Engine<MinProd>> Assets<E> {
     }
 
     /// The least factor over the states where the known pairs and the condition of a question hold and its target does
-    /// not, asked in a clique that holds the question: its variable has one of its other values, of which there are `values` with the
+    /// not, asked in a clique that holds the question: its variable has one of its other values, of
+    /// which there are `values` with the
     /// target's.
     pub fn least_of_others(&mut self, at: u32, asked: &Question, values: u32) -> Option<Factor>
         requires { CanFindLeastOfOthers E.stands_for self.old at asked.now values }

@@ -1,15 +1,19 @@
 -- An interval made of the bits of a power covers the cash.
-use Rattle.std.proofs.Common.{◌≡◌, ℕ, zero, suc, ◌+◌, ◌-◌, ◌*◌, ◌^◌, ◌<◌, ◌≤◌, refl, sym, ap, ◌∙◌, inl, inr, arith, le_refl, le_trans, lt_of_le_of_lt}
+use Rattle.std.proofs.Common.{◌≡◌, ℕ, zero, suc, ◌+◌, ◌-◌, ◌*◌, ◌^◌, ◌<◌, ◌≤◌, refl, sym, ap, ◌∙◌}
+use Rattle.std.proofs.Common.{inl, inr, arith, le_refl, le_trans, lt_of_le_of_lt}
 use Rattle.std.proofs.lemmas.Nat.{pow-add, mul-pow, pow_pos}
 use Rattle.std.proofs.lemmas.Bool.{cases_lt}
-use Rattle.std.proofs.Math.Nat.{pow-zero, pow-suc, mul-le-mul_right, mul-lt-mul_of_pos_right, one-le-mul, one-le-pow, pow-le-pow_left, le_of_mul-le-mul_right, lt_of_mul-lt-mul_right}
+use Rattle.std.proofs.Math.Nat.{pow-zero, pow-suc, mul-le-mul_right, mul-lt-mul_of_pos_right}
+use Rattle.std.proofs.Math.Nat.{one-le-mul, one-le-pow, pow-le-pow_left, le_of_mul-le-mul_right}
+use Rattle.std.proofs.Math.Nat.{lt_of_mul-lt-mul_right}
 use Rattle.mk_scaled.specs.Near.{IsNear, near_same, near_between, near_width}
 use Rattle.mk_scaled.specs.Range.{pow_le, pow-lt_reflects}
 use Rattle.mk_exact.specs.Factors.{Fraction}
 use Rattle.mk_exact.specs.Cash.{AreNearCash, CoversCash}
 use Rattle.mk_exact.proofs.ExistNumbers.{greatest_power, exponent_at_most}
 use Rattle.mk_cash.specs.inner.Quotient.{IsLessNear}
-use Rattle.mk_cash.proofs.Nearness.{IsBetween, IsWide, near_above, near_below, exactly, low_near, high_near, wide_power, wide_graded}
+use Rattle.mk_cash.proofs.Nearness.{IsBetween, IsWide, near_above, near_below, exactly, low_near}
+use Rattle.mk_cash.proofs.Nearness.{high_near, wide_power, wide_graded}
 
 -- ---- the powers of both sides
 
@@ -94,13 +98,17 @@ pub record ArePowerBits (lo hi b l h : ℕ) : Type 0 where
   pub low_near : IsLessNear (2 ^ (l + 1)) (lo ^ b) (2 * b)
   pub high_near : IsNear (hi ^ b) (2 ^ h) (2 * b)
 
-pub low_bits : (lo b l down : ℕ) → IsNear down (lo ^ b) (2 * b) → down < 2 ^ (l + 1) → IsLessNear (2 ^ (l + 1)) (lo ^ b) (2 * b)
+pub low_bits : (lo b l down : ℕ) → IsNear down (lo ^ b) (2 * b) → down < 2 ^ (l + 1)
+    → IsLessNear (2 ^ (l + 1)) (lo ^ b) (2 * b)
 low_bits lo b l down near less = record {
-  near = lt_of_le_of_lt near.near (mul-lt-mul_of_pos_right less (one-le-pow (2 * b) (2 ^ 60 + 1) (omega arith)));
+  near = lt_of_le_of_lt near.near (mul-lt-mul_of_pos_right less
+      (one-le-pow (2 * b) (2 ^ 60 + 1) (omega arith)));
 }
 
-pub high_bits : (hi b h up : ℕ) → IsNear (hi ^ b) up (2 * b) → 2 ^ h ≤ up → IsNear (hi ^ b) (2 ^ h) (2 * b)
-high_bits hi b h up near less = near_between (hi ^ b) (hi ^ b) (2 ^ h) up (2 * b) (le_refl (hi ^ b)) less near
+pub high_bits : (hi b h up : ℕ) → IsNear (hi ^ b) up (2 * b) → 2 ^ h ≤ up
+    → IsNear (hi ^ b) (2 ^ h) (2 * b)
+high_bits hi b h up near less = near_between (hi ^ b) (hi ^ b) (2 ^ h) up (2 * b) (le_refl (hi ^ b))
+    less near
 
 -- a factor whose gain lies between two ends, and the power of which it is a b-th root
 pub record IsRaised (q : Fraction) (b g p s lo hi grade : ℕ) : Type 0 where
@@ -110,30 +118,39 @@ pub record IsRaised (q : Fraction) (b g p s lo hi grade : ℕ) : Type 0 where
   pub between : IsBetween g lo hi grade
 
 -- z has the weight w, moved by p in and s out
-moved_less : (z w d n m l low p s : ℕ) → z * 2 ^ s ≡ 2 ^ p * w * d → w * m < 2 ^ (l + 1) * n → l + p ≤ low + s → 1 ≤ d → z * m < 2 ^ (low + 1) * n * d
+moved_less : (z w d n m l low p s : ℕ) → z * 2 ^ s ≡ 2 ^ p * w * d → w * m < 2 ^ (l + 1) * n
+    → l + p ≤ low + s → 1 ≤ d → z * m < 2 ^ (low + 1) * n * d
 moved_less z w d n m l low p s same less fits some = lt_of_mul-lt-mul_right (2 ^ s) scaled
   where
     scaled : z * m * 2 ^ s < 2 ^ (low + 1) * n * d * 2 ^ s
     scaled =
-        let a : w * m * (2 ^ p * d) < 2 ^ (l + 1) * n * (2 ^ p * d) = mul-lt-mul_of_pos_right less (one-le-mul (pow_pos p) some) in
-        let e : 2 ^ (l + 1) * 2 ^ p ≤ 2 ^ (low + 1) * 2 ^ s = rw (← pow-add 2 (l + 1) p, ← pow-add 2 (low + 1) s) (pow_le (l + 1 + p) (low + 1 + s) (omega arith)) in
-        let f : 2 ^ (l + 1) * 2 ^ p * (n * d) ≤ 2 ^ (low + 1) * 2 ^ s * (n * d) = mul-le-mul_right (n * d) e in
+        let a : w * m * (2 ^ p * d) < 2 ^ (l + 1) * n * (2 ^ p * d) = mul-lt-mul_of_pos_right less
+        (one-le-mul (pow_pos p) some) in
+        let e : 2 ^ (l + 1) * 2 ^ p ≤ 2 ^ (low + 1) * 2 ^ s = rw
+        (← pow-add 2 (l + 1) p, ← pow-add 2 (low + 1) s)
+        (pow_le (l + 1 + p) (low + 1 + s) (omega arith)) in
+        let f : 2 ^ (l + 1) * 2 ^ p * (n * d) ≤ 2 ^ (low + 1) * 2 ^ s * (n * d) = mul-le-mul_right
+        (n * d) e in
         let g : z * 2 ^ s * m ≡ 2 ^ p * w * d * m = ap (λ k. k * m) same in
         omega arith
 
-moved_most : (z w d n m h high p s : ℕ) → z * 2 ^ s ≡ 2 ^ p * w * d → 2 ^ h * m ≤ w * n → high + s ≡ h + p → 2 ^ high * m * d ≤ z * n
-moved_most z w d n m h high p s same most fits = le_of_mul-le-mul_right {k = 2 ^ s} scaled (pow_pos s)
+moved_most : (z w d n m h high p s : ℕ) → z * 2 ^ s ≡ 2 ^ p * w * d → 2 ^ h * m ≤ w * n
+    → high + s ≡ h + p → 2 ^ high * m * d ≤ z * n
+moved_most z w d n m h high p s same most fits = le_of_mul-le-mul_right {k = 2 ^ s} scaled
+    (pow_pos s)
   where
     scaled : 2 ^ high * m * d * 2 ^ s ≤ z * n * 2 ^ s
     scaled =
         let a : 2 ^ h * m * (2 ^ p * d) ≤ w * n * (2 ^ p * d) = mul-le-mul_right (2 ^ p * d) most in
-        let e : 2 ^ high * 2 ^ s * (m * d) ≡ 2 ^ h * 2 ^ p * (m * d) = ap (λ k. k * (m * d)) (same_bits high s h p fits) in
+        let e : 2 ^ high * 2 ^ s * (m * d) ≡ 2 ^ h * 2 ^ p * (m * d) = ap (λ k. k * (m * d))
+        (same_bits high s h p fits) in
         let g : z * 2 ^ s * n ≡ 2 ^ p * w * d * n = ap (λ k. k * n) same in
         omega arith
 
 -- a number of at least one has its bits
 has_bits : (g : ℕ) → 1 ≤ g → (m : ℕ) × (2 ^ m ≤ g) × (g < 2 ^ (m + 1))
-has_bits g some = let bits = greatest_power g 1 (omega arith) some in (bits.0, omega (arith, bits.1), omega (arith, bits.2))
+has_bits g some = let bits = greatest_power g 1 (omega arith) some in
+    (bits.0, omega (arith, bits.1), omega (arith, bits.2))
 
 -- ---- where the gain is one
 
@@ -143,7 +160,10 @@ one_power (suc b) = let i = one_power b in pow-suc 1 b ∙ rw i refl
 
 -- no whole number above one is near it
 one_alone : (high steps : ℕ) → steps < 2 ^ 59 → IsNear 1 high steps → high ≤ 1
-one_alone high steps few near = elim (cases_lt 1 high) [ inl more ↦ absurd (two (2 ^ 60 - steps) (omega arith) more (near_width 1 high steps near)) | inr less ↦ less ]
+one_alone high steps few near = elim (cases_lt 1 high) [
+  | inl more ↦ absurd (two (2 ^ 60 - steps) (omega arith) more (near_width 1 high steps near))
+  | inr less ↦ less
+]
   where
     two : (c : ℕ) → 2 ^ 59 < c → 1 < high → high * c ≤ 1 * 2 ^ 60 → ⊥
     two c l more h = let m : 2 * c ≤ high * c = mul-le-mul_right c more in omega arith
@@ -153,59 +173,88 @@ no_bits k h = let l : k ≤ 0 = exponent_at_most k 0 (rw (pow-zero 2) h) in omeg
 
 -- ---- the interval that is printed
 
-module _ (q : Fraction) (b g p s lo hi grade l h : ℕ) (is : IsRaised q b g p s lo hi grade) (bits : ArePowerBits lo hi b l h) (some : 1 ≤ lo) (few : b ≤ 1000000) (graded : grade ≤ 2 ^ 17) where
-  near_by : (near steps low high : ℕ) → IsBetween g lo hi steps → IsWide near (steps + 2) → l + p ≤ low + s → high + s ≡ h + p → AreNearCash near q b low high
-  near_by near steps low high between wide low_is high_is = record {
-    low_near = moved_less (q.num ^ b) (g ^ b) (q.den ^ b) (near ^ b) ((near - 1) ^ b) l low p s is.same below low_is (one-le-pow b q.den is.positive);
-    high_near = moved_most (q.num ^ b) (g ^ b) (q.den ^ b) (near ^ b) ((near - 1) ^ b) h high p s is.same above high_is;
-  }
-    where
-      below : g ^ b * (near - 1) ^ b < 2 ^ (l + 1) * near ^ b
-      below =
-          let one : 2 ^ (l + 1) * 1 ≡ 2 ^ (l + 1) = omega arith in
-          let r : g ^ b * (near - 1) ^ b < 2 ^ (l + 1) * near ^ b * 1
-          = low_near (g ^ b) 1 (lo ^ b) 1 l near (b * steps) (2 * b) 0 (steps + 2) b (near_below b g lo hi steps between) (rw one bits.low_near) (near_same 1) (omega arith) wide in
-          omega arith
+module _ (q : Fraction) (b g p s lo hi grade l h : ℕ) (is : IsRaised q b g p s lo hi grade)
+    (bits : ArePowerBits lo hi b l h) (some : 1 ≤ lo) (few : b ≤ 1000000) (graded : grade ≤ 2 ^ 17)
+  where
+    near_by : (near steps low high : ℕ) → IsBetween g lo hi steps → IsWide near (steps + 2)
+        → l + p ≤ low + s → high + s ≡ h + p → AreNearCash near q b low high
+    near_by near steps low high between wide low_is high_is = record {
+      low_near = moved_less (q.num ^ b) (g ^ b) (q.den ^ b) (near ^ b) ((near - 1) ^ b) l low p s
+          is.same below low_is (one-le-pow b q.den is.positive);
+      high_near = moved_most (q.num ^ b) (g ^ b) (q.den ^ b) (near ^ b) ((near - 1) ^ b) h high p s
+          is.same above high_is;
+    }
+      where
+        below : g ^ b * (near - 1) ^ b < 2 ^ (l + 1) * near ^ b
+        below =
+            let one : 2 ^ (l + 1) * 1 ≡ 2 ^ (l + 1) = omega arith in
+            let r : g ^ b * (near - 1) ^ b < 2 ^ (l + 1) * near ^ b * 1
+            = low_near (g ^ b) 1 (lo ^ b) 1 l near (b * steps) (2 * b) 0 (steps + 2) b
+            (near_below b g lo hi steps between) (rw one bits.low_near) (near_same 1)
+            (omega arith) wide in
+            omega arith
 
-      above : 2 ^ h * (near - 1) ^ b ≤ g ^ b * near ^ b
-      above =
-          let one : 2 ^ h * 1 ≡ 2 ^ h = omega arith in
-          let r : 2 ^ h * (near - 1) ^ b * 1 ≤ g ^ b * near ^ b
-          = high_near (g ^ b) 1 (hi ^ b) 1 h near (b * steps) (2 * b) 0 (steps + 2) b (near_above b g lo hi steps between) (rw one bits.high_near) (near_same 1) (omega arith) wide in
-          omega arith
+        above : 2 ^ h * (near - 1) ^ b ≤ g ^ b * near ^ b
+        above =
+            let one : 2 ^ h * 1 ≡ 2 ^ h = omega arith in
+            let r : 2 ^ h * (near - 1) ^ b * 1 ≤ g ^ b * near ^ b
+            = high_near (g ^ b) 1 (hi ^ b) 1 h near (b * steps) (2 * b) 0 (steps + 2) b
+            (near_above b g lo hi steps between) (rw one bits.high_near) (near_same 1)
+            (omega arith) wide in
+            omega arith
 
-  -- all bits are none where the lower end is at most one
-  none_at_one : (m : ℕ) → 2 ^ m ≤ g ^ b → lo ≤ 1 → (l ≡ 0) × (m ≡ 0) × (h ≡ 0)
-  none_at_one m at_least one =
-      let low : lo ≡ 1 = omega arith in
-      let near : IsNear 1 hi grade = rw low at is.between.near in
-      let above = one_alone hi grade (omega arith) near in
-      let below = is.between.lower in
-      let upper = is.between.upper in
-      let high : hi ≡ 1 = omega arith in
-      let gain : g ≡ 1 = omega arith in
-      let top : IsNear 1 (2 ^ h) (2 * b) = rw (high, one_power b) at bits.high_near in
-      (no_bits l (rw (low, one_power b) at bits.below), no_bits m (rw (gain, one_power b) at at_least), no_bits h (one_alone (2 ^ h) (2 * b) (omega arith) top))
+    -- all bits are none where the lower end is at most one
+    none_at_one : (m : ℕ) → 2 ^ m ≤ g ^ b → lo ≤ 1 → (l ≡ 0) × (m ≡ 0) × (h ≡ 0)
+    none_at_one m at_least one =
+        let low : lo ≡ 1 = omega arith in
+        let near : IsNear 1 hi grade = rw low at is.between.near in
+        let above = one_alone hi grade (omega arith) near in
+        let below = is.between.lower in
+        let upper = is.between.upper in
+        let high : hi ≡ 1 = omega arith in
+        let gain : g ≡ 1 = omega arith in
+        let top : IsNear 1 (2 ^ h) (2 * b) = rw (high, one_power b) at bits.high_near in (
+          no_bits l (rw (low, one_power b) at bits.below),
+          no_bits m
+              (rw (gain, one_power b) at at_least),
+          no_bits h
+              (one_alone (2 ^ h) (2 * b) (omega arith) top),
+        )
 
-  pub covers_cash : (small idle : Type 0) (low high : ℕ) → (small → lo ≡ hi) → (idle → lo ≤ 1) → low ≡ l + p - s → high ≡ h + p - s → CoversCash small idle q b low high
-  covers_cash small idle low high exact one low_is high_is = by_bits (has_bits (g ^ b) (one-le-pow b g (le_trans some is.between.lower)))
-    where
-      by_bits : (m : ℕ) × (2 ^ m ≤ g ^ b) × (g ^ b < 2 ^ (m + 1)) → CoversCash small idle q b low high
-      by_bits m =
-          let w : IsWeighed (q.num ^ b) (q.den ^ b) (g ^ b) p s m.0 = record { same = is.same; positive = one-le-pow b q.den is.positive; at_least_one = pow-le-pow_left is.at_least_one b; below = m.1; above = m.2 } in
-          let r : s ≤ m.0 + p = weighed_owed (q.num ^ b) (q.den ^ b) (g ^ b) p s m.0 w in
-          let x : l < m.0 + 1 = pow-lt_reflects l (m.0 + 1) (lt_of_le_of_lt (le_trans bits.below (pow-le-pow_left is.between.lower b)) m.2) in
-          let y : m.0 < h + 1 = pow-lt_reflects m.0 (h + 1) (lt_of_le_of_lt (le_trans m.1 (pow-le-pow_left is.between.upper b)) bits.above) in
-          let f : m.0 + p - s + s ≡ m.0 + p = omega arith in
-          record {
-            cash = m.0 + p - s;
-            is_cash = record {
-              covered = weighed_covered (q.num ^ b) (q.den ^ b) (g ^ b) p s m.0 (m.0 + p - s) w f;
-              greatest = weighed_greatest (q.num ^ b) (q.den ^ b) (g ^ b) p s m.0 (m.0 + p - s) w f;
-            };
-            above = omega arith;
-            below = omega arith;
-            near = near_by (2 ^ 42) grade low high is.between (wide_graded (grade + 2) (omega arith)) (omega arith) (omega arith);
-            nearer = λ e. near_by (2 ^ 59) 0 low high (exactly g lo hi grade is.between (exact e)) (wide_power 2 (omega arith)) (omega arith) (omega arith);
-            exact = λ e. let none = none_at_one m.0 m.1 (one e) in let a = none.0 in let c = none.1 in let d = none.2 in (omega arith, omega arith);
-          }
+    pub covers_cash : (small idle : Type 0) (low high : ℕ) → (small → lo ≡ hi) → (idle → lo ≤ 1)
+        → low ≡ l + p - s → high ≡ h + p - s → CoversCash small idle q b low high
+    covers_cash small idle low high exact one low_is high_is = by_bits
+        (has_bits (g ^ b) (one-le-pow b g (le_trans some is.between.lower)))
+      where
+        by_bits : (m : ℕ) × (2 ^ m ≤ g ^ b) × (g ^ b < 2 ^ (m + 1))
+            → CoversCash small idle q b low high
+        by_bits m =
+            let w : IsWeighed (q.num ^ b) (q.den ^ b) (g ^ b) p s m.0 = record {
+              same = is.same;
+              positive = one-le-pow b q.den is.positive;
+              at_least_one =
+                  pow-le-pow_left is.at_least_one b;
+              below = m.1;
+              above = m.2;
+            } in
+            let r : s ≤ m.0 + p = weighed_owed (q.num ^ b) (q.den ^ b) (g ^ b) p s m.0 w in
+            let x : l < m.0 + 1 = pow-lt_reflects l (m.0 + 1)
+            (lt_of_le_of_lt (le_trans bits.below (pow-le-pow_left is.between.lower b)) m.2) in
+            let y : m.0 < h + 1 = pow-lt_reflects m.0 (h + 1)
+            (lt_of_le_of_lt (le_trans m.1 (pow-le-pow_left is.between.upper b)) bits.above) in
+            let f : m.0 + p - s + s ≡ m.0 + p = omega arith in
+            record {
+              cash = m.0 + p - s;
+              is_cash = record {
+                covered = weighed_covered (q.num ^ b) (q.den ^ b) (g ^ b) p s m.0 (m.0 + p - s) w f;
+                greatest = weighed_greatest (q.num ^ b) (q.den ^ b) (g ^ b) p s m.0 (m.0 + p - s) w f;
+              };
+              above = omega arith;
+              below = omega arith;
+              near = near_by (2 ^ 42) grade low high is.between
+                  (wide_graded (grade + 2) (omega arith)) (omega arith) (omega arith);
+              nearer = λ e. near_by (2 ^ 59) 0 low high (exactly g lo hi grade is.between (exact e))
+                  (wide_power 2 (omega arith)) (omega arith) (omega arith);
+              exact = λ e. let none = none_at_one m.0 m.1 (one e) in let a = none.0 in let c = none.1
+                  in let d = none.2 in (omega arith, omega arith);
+            }

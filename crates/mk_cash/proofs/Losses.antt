@@ -9,7 +9,8 @@ use Rattle.mk_exact.specs.Cash.{IsCash}
 use Rattle.mk_exact.specs.Risk.{nearness, CoversBound}
 use Rattle.mk_exact.proofs.ExistNumbers.{cash_exists, power_less}
 use Rattle.mk_cash.specs.inner.Quotient.{IsLessNear}
-use Rattle.mk_cash.proofs.Nearness.{at_most_double, IsWide, IsBetween, near_above, near_below, exactly, low_near, high_near, wide_exact, wide_graded}
+use Rattle.mk_cash.proofs.Nearness.{at_most_double, IsWide, IsBetween, near_above, near_below}
+use Rattle.mk_cash.proofs.Nearness.{exactly, low_near, high_near, wide_exact, wide_graded}
 
 -- ---- powers of a million
 

@@ -12,16 +12,20 @@ ghost use Rattle.mk_cash.specs.inner.Quotient.{IsLessNear};
 
 use mk_enclose::{Enclosure, Factor};
 
-/// Bounds on the points that a factor of at least one is worth: `points_per_bit` times the logarithm of the factor to
-/// base 2, rounded down. They are nearer where the gain is exact, and both the points where it is one.
+/// Bounds on the points that a factor of at least one is worth: `points_per_bit` times the
+/// logarithm of the factor to
+/// base 2, rounded down. They are nearer where the gain is exact, and both the points where it is
+/// one.
 ///
 /// Nothing is said of a factor below one but that both numbers are small.
 pub fn cash(factor: &Factor, points_per_bit: u32) -> (u64, u64)
     requires some_points { 1 ≤ points_per_bit }
     requires few_points { points_per_bit ≤ max_points_per_bit }
     requires range { HasPowersInRange factor.now points_per_bit }
-    ensures covers { (q : Fraction) → StandsFor factor.now q.num q.den → IsGradedWithin factor.now.gain (2 ^ 17) → IsAtLeastOne q
-        → CoversCash (IsExact factor.now.gain) (Encloses factor.now.gain 1) q points_per_bit result.0 result.1 }
+    ensures covers { (q : Fraction) → StandsFor factor.now q.num q.den
+        → IsGradedWithin factor.now.gain (2 ^ 17) → IsAtLeastOne q
+        → CoversCash (IsExact factor.now.gain) (Encloses factor.now.gain 1) q points_per_bit
+        result.0 result.1 }
     ensures low_fits { result.0 < number_limit }
     ensures high_fits { result.1 < number_limit }
 {

@@ -77,7 +77,8 @@ before_condition (pair ∷ pairs) rest ends = refl
 variable_reads : Reads (both read_name read_condition)
     (both_text (λ (name : List ℕ). name) condition_text) (BothFit IsName IsCondition) EndsQuestion
 variable_reads =
-    both_reads name_reads condition_reads (λ pairs rest fits ends. before_condition pairs rest (ends.word))
+    both_reads name_reads condition_reads (λ pairs rest fits ends. before_condition pairs rest
+    (ends.word))
 
 values_reads : Reads (both read_name (behind (codes " ") (both read_name read_condition))) values_text ValuesFit EndsQuestion
 values_reads = both_reads name_reads (behind_reads (codes " ") variable_reads)
@@ -228,7 +229,8 @@ unfolding after
 ends_moves = record { follows = record { word = refl; ends = record { stopped = inr refl } }; missing = refl }
 
 form_last : (c : Command) → IsCommand c → read_form (command_text c) ≡ Some (c, [])
-unfolding read_form read_other read_prices read_position read_user read_deposit read_withdraw read_price read_limits read_edit read_bounds read_spread read_worst read_resolve after
+unfolding read_form read_other read_prices read_position read_user read_deposit read_withdraw
+    read_price read_limits read_edit read_bounds read_spread read_worst read_resolve after
 form_last (User user) fits = made_last (λ user. User user) name_reads user fits refl
 form_last (Deposit user bits) fits = made_last (λ parts. Deposit (parts.0) (parts.1)) user_and_bits (user, bits) fits refl
 form_last (Withdraw user bits) fits = made_last (λ parts. Withdraw (parts.0) (parts.1)) user_and_bits (user, bits) fits refl

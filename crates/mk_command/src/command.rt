@@ -33,7 +33,8 @@ pub enum Command {
         user: Name,
         question: QuestionText,
     },
-    /// `edit U Q to X` or `edit U Q to X at R`: U moves it to X millionths, having seen the revision
+    /// `edit U Q to X` or `edit U Q to X at R`: U moves it to X millionths, having seen the
+    /// revision
     /// R.
     Edit {
         user: Name,
@@ -92,7 +93,8 @@ pub struct Words {
     pub(crate) shares: ArrayVec<u32, 16>,
 }
 
-/// A command whose question, or condition and shares, are lent: what `Command` is, passed on without
+/// A command whose question, or condition and shares, are lent: what `Command` is, passed on
+/// without
 /// a copy of these. `command_of` in the definitions says which command it is.
 #[derive(Debug, Drop, PartialEq, Eq)]
 pub enum CommandRef<'a> {

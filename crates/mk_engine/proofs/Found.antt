@@ -1,5 +1,7 @@
 -- What is found after some of the values, and what a call for one value more asks.
-use Rattle.std.proofs.Common.{◌≡◌, ℕ, suc, zero, ◌+◌, ◌^◌, ◌<◌, ◌≤◌, true, cond, not, eqb, List, [], ◌∷◌, ◌++◌, length, filter, slice_index, sym, ap, subst, ◌∙◌, arith, append-nil, add-one, eq-eqb, ne_eqb}
+use Rattle.std.proofs.Common.{◌≡◌, ℕ, suc, zero, ◌+◌, ◌^◌, ◌<◌, ◌≤◌, true, cond, not, eqb, List, []}
+use Rattle.std.proofs.Common.{◌∷◌, ◌++◌, length, filter, slice_index, sym, ap, subst, ◌∙◌, arith}
+use Rattle.std.proofs.Common.{append-nil, add-one, eq-eqb, ne_eqb}
 use Rattle.std.proofs.Math.Nat.{lt_of_le_of_lt}
 use Rattle.std.specs.List.{range_with_len}
 use Rattle.std.proofs.lemmas.List.Elements.{filter-append, All-from_recursion}
@@ -24,13 +26,17 @@ use Rattle.mk_engine.specs.Cases.{pairs_with, other_values, exact_others}
 use Rattle.mk_engine.proofs.Cases.{others_at_most}
 
 -- a clique that holds a question holds each case of it, since the variables are the same
-pub case_is_held : (t : GivenTree) (at : ℕ) (asked : Asked) (v : ℕ) (event : List Pair) → event ≡ pairs_with asked v → IsHeldAt t at (pairs_asked asked) → IsHeldAt t at event
-case_is_held t at asked v event e h = rw e (held_weaker t at (pairs_asked asked) (pairs_with asked v) same h)
+pub case_is_held : (t : GivenTree) (at : ℕ) (asked : Asked) (v : ℕ) (event : List Pair)
+    → event ≡ pairs_with asked v → IsHeldAt t at (pairs_asked asked) → IsHeldAt t at event
+case_is_held t at asked v event e h = rw e
+    (held_weaker t at (pairs_asked asked) (pairs_with asked v) same h)
   where
-    same : (set : VarSet) → holds_event (pairs_asked asked) set ≡ true → holds_event (pairs_with asked v) set ≡ true
+    same : (set : VarSet) → holds_event (pairs_asked asked) set ≡ true
+        → holds_event (pairs_with asked v) set ≡ true
     same set k =
         list_all-append (λ (p : Pair). is_member set p.variable) asked.condition (record { variable = asked.target.variable; value = v } ∷ [])
-        ∙ sym (list_all-append (λ (p : Pair). is_member set p.variable) asked.condition (asked.target ∷ [])) ∙ k
+        ∙ sym (list_all-append (λ (p : Pair). is_member set p.variable) asked.condition
+        (asked.target ∷ [])) ∙ k
 
 -- and each pair is one of the network's
 pub pairs_fit : (network : List Variable) (asked : Asked) (v : ℕ) → IsQuestionOf network asked → v < slice_index (sizes network) asked.target.variable

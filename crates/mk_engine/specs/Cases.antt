@@ -1,5 +1,6 @@
 -- The cases of a question: its condition with each value of its variable.
-use Rattle.std.specs.Prelude.{◌≡◌, ℕ, ◌+◌, ◌<◌, ◌≤◌, List, [], ◌∷◌, ◌++◌, length, slice_index, not, ◌==◌}
+use Rattle.std.specs.Prelude.{◌≡◌, ℕ, ◌+◌, ◌<◌, ◌≤◌, List, [], ◌∷◌, ◌++◌, length, slice_index, not}
+use Rattle.std.specs.Prelude.{◌==◌}
 use Rattle.std.specs.List.{filter}
 use Rattle.mk_net.specs.declared.words.Pair.{Pair}
 use Rattle.mk_net.specs.Asked.{Asked}
@@ -23,9 +24,11 @@ other_values asked values = filter (λ v. not (v == asked.target.value)) (number
 abbrev pub exact_others : (ℕ → ℕ → ℕ) → Meaning → Asked → ℕ → ℕ
 exact_others plus m asked values = plus_over plus 0 (λ v. exact_belief plus m (pairs_with asked v)) (other_values asked values)
 
--- the engine stands for a meaning of whose network this is a question, whose variable has so many values, and in whose tree this
+-- the engine stands for a meaning of whose network this is a question, whose variable has so many
+-- values, and in whose tree this
 -- clique holds it; and there are no more factors than an engine may hold
-pub record CanAskOthers {E : Type 0} (stands_for : E → Meaning → Type 0) (engine : E) (at : ℕ) (asked : Asked) (values : ℕ) : Type 0 where
+pub record CanAskOthers {E : Type 0} (stands_for : E → Meaning
+    → Type 0) (engine : E) (at : ℕ) (asked : Asked) (values : ℕ) : Type 0 where
   pub meaning : Meaning
   pub stands : stands_for engine meaning
   pub question : IsQuestionOf meaning.network asked

@@ -21,8 +21,10 @@ use std::alloc::Global;
 /// An engine stands for meanings: a network, a tree of it, a list of factors and a list of known pairs. Each clause holds
 /// for every meaning that the engine stands for before the call.
 ///
-/// Calls name a clique of the tree, which counts from 1: the home of what is placed, which is the first clique that holds it, and
-/// any clique that holds what is asked. So whoever asks many questions of one event looks for its clique once.
+/// Calls name a clique of the tree, which counts from 1: the home of what is placed, which is the
+/// first clique that holds it, and
+/// any clique that holds what is asked. So whoever asks many questions of one event looks for its
+/// clique once.
 pub trait Engine<R: Semiring>: Sized + Drop {
     /// What is made once for a network and a tree.
     type Plan: Drop;
@@ -74,7 +76,8 @@ pub trait Engine<R: Semiring>: Sized + Drop {
         requires range { CanKnow stands_for self.old pair }
         ensures { (m : Meaning) → stands_for self.old m → stands_for self.new (with_known pair m) };
 
-    /// The plus, over all states where the known pairs and the event hold, of the product of all factors, asked in a clique that
+    /// The plus, over all states where the known pairs and the event hold, of the product of all
+    /// factors, asked in a clique that
     /// holds the event. It leaves what the engine stands for as it was.
     fn belief(&mut self, at: u32, event: &Event) -> R::Value
         requires held { answers_at self.old at event.now }

@@ -95,12 +95,17 @@ module _ (H : List Entry) (bounds : IsWithinBounds H) (u : ℕ) where
       divides : (H : List Entry) → 1 ≤ 2 ^ withdrawn H u * unit ^ trade_count H u
       divides H = one-le-mul (one-le-pow (withdrawn H u) 2 (omega arith)) (one-le-pow (trade_count H u) unit (omega arith))
 
-  cash_below : (small idle : Type 0) (g b low high : ℕ) → g ≤ 2 ^ (63 * trade_count H u) → b ≤ million → CoversCash small idle (factor_with H u g) b low high → high < number_limit
+  cash_below : (small idle : Type 0) (g b low high : ℕ) → g ≤ 2 ^ (63 * trade_count H u)
+      → b ≤ million → CoversCash small idle (factor_with H u g) b low high → high < number_limit
   cash_below small idle g b low high h few covers =
       let cash : covers.cash ≤ (deposited H u + 63 * trade_count H u) * b
       = cash_is_bounded (factor_with H u g) b (deposited H u + 63 * trade_count H u) covers.cash divides (factor_at_most g h) covers.is_cash in
       let most : (deposited H u + 63 * trade_count H u) * b ≤ (1000 * 65536 + 63 * 65536) * 1000000 = mul-le-mul sum few in
-      omega (arith, cash_is_narrow small idle (factor_with H u g) b low high few covers, covers.above)
+      omega (
+        arith,
+        cash_is_narrow small idle (factor_with H u g) b low high few covers,
+        covers.above,
+      )
     where
       divides : 1 ≤ 2 ^ withdrawn H u * unit ^ trade_count H u
       divides = one-le-mul (one-le-pow (withdrawn H u) 2 (omega arith)) (one-le-pow (trade_count H u) unit (omega arith))
@@ -108,13 +113,18 @@ module _ (H : List Entry) (bounds : IsWithinBounds H) (u : ℕ) where
       sum : deposited H u + 63 * trade_count H u ≤ 1000 * 65536 + 63 * 65536
       sum = omega (arith, deposited_at_most, own_trades.1, bounds.few_trades, bounds.few_transfers)
 
-pub cash_fits : (small idle : Type 0) (H : List Entry) (u : ℕ) (s : List ℕ) (b low high : ℕ) → IsWithinBounds H → b ≤ million
+pub cash_fits : (small idle : Type 0) (H : List Entry) (u : ℕ) (s : List ℕ) (b low high : ℕ)
+    → IsWithinBounds H → b ≤ million
     → CoversCash small idle (factor H u s) b low high → high < number_limit
-cash_fits small idle H u s b low high bounds few covers = cash_below H bounds u small idle (gain H u s) b low high (gain_at_most H bounds u s) few covers
+cash_fits small idle H u s b low high bounds few covers = cash_below H bounds u small idle
+    (gain H u s) b low high (gain_at_most H bounds u s) few covers
 
-pub least_cash_fits : (small idle : Type 0) (network : List Variable) (H : List Entry) (u : ℕ) (test : List ℕ → Bool) (least b low high : ℕ) → IsWithinBounds H → b ≤ million
-    → least_gain network H u test ≡ Some least → CoversCash small idle (factor_with H u least) b low high → high < number_limit
-least_cash_fits small idle network H u test least b low high bounds few is_least covers = cash_below H bounds u small idle least b low high at_most few covers
+pub least_cash_fits : (small idle : Type 0) (network : List Variable) (H : List Entry) (u : ℕ)
+    (test : List ℕ → Bool) (least b low high : ℕ) → IsWithinBounds H → b ≤ million
+    → least_gain network H u test ≡ Some least
+    → CoversCash small idle (factor_with H u least) b low high → high < number_limit
+least_cash_fits small idle network H u test least b low high bounds few is_least covers = cash_below
+    H bounds u small idle least b low high at_most few covers
   where
     at_most : least ≤ 2 ^ (63 * trade_count H u)
     at_most = rw is_least at (of_least (gain H u) (λ g. g ≤ 2 ^ (63 * trade_count H u)) (possible_states network H test)

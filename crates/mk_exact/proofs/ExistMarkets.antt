@@ -99,7 +99,8 @@ module _ (network : List Variable) (H : List Entry) where
       omega arith
 
   -- the least gain over the states that pass a test
-  pub least_where : (u : ℕ) (test : List ℕ → Bool) → IsSound network H → 1 ≤ length (possible_states network H test)
+  pub least_where : (u : ℕ) (test : List ℕ → Bool) → IsSound network H
+      → 1 ≤ length (possible_states network H test)
       → (g : ℕ) × (least_gain network H u test ≡ Some g) × IsSafeFactor (factor_with H u g)
   least_where u test sound h = least_exists (gain H u) (λ g. IsSafeFactor (factor_with H u g)) (possible_states network H test) h
       (each_weaker (λ s. IsAtLeastOne (factor H u s)) (λ s. IsSafeFactor (factor H u s)) (λ s. safe_factor H u (gain H u s)) (possible_states network H test)

@@ -1,7 +1,11 @@
 -- Intervals of prices, cash and whole bits exist.
-use Rattle.std.proofs.Common.{◌≡◌, ℕ, zero, suc, ◌+◌, ◌-◌, ◌*◌, ◌/◌, ◌^◌, ◌<◌, ◌≤◌, ◌⊎◌, refl, sym, ap, ◌∙◌, inl, inr, arith, add-one, le_refl, le_trans, lt_of_lt_of_le}
+use Rattle.std.proofs.Common.{◌≡◌, ℕ, zero, suc, ◌+◌, ◌-◌, ◌*◌, ◌/◌, ◌^◌, ◌<◌, ◌≤◌, ◌⊎◌, refl, sym}
+use Rattle.std.proofs.Common.{ap, ◌∙◌, inl, inr, arith, add-one, le_refl, le_trans, lt_of_lt_of_le}
 use Rattle.std.specs.Bool.{⊤}
-use Rattle.std.proofs.Math.Nat.{div-mul-le_self, lt-div-mul-add, mul-le-mul, mul-le-mul_left, mul-le-mul_right, mul-lt-mul_of_pos_right, le-mul_of_pos_right, le_of_mul-le-mul_right, lt_of_mul-lt-mul_right, pow-zero, pow-suc, pow-le-pow_left, pow-le-pow_right, one-le-pow}
+use Rattle.std.proofs.Math.Nat.{div-mul-le_self, lt-div-mul-add, mul-le-mul, mul-le-mul_left}
+use Rattle.std.proofs.Math.Nat.{mul-le-mul_right, mul-lt-mul_of_pos_right, le-mul_of_pos_right}
+use Rattle.std.proofs.Math.Nat.{le_of_mul-le-mul_right, lt_of_mul-lt-mul_right, pow-zero, pow-suc}
+use Rattle.std.proofs.Math.Nat.{pow-le-pow_left, pow-le-pow_right, one-le-pow}
 use Rattle.std.proofs.lemmas.Nat.{mul-pow, pow-add}
 use Rattle.std.proofs.Math.Pow.{pow-lt}
 use Rattle.std.proofs.lemmas.Bool.{cases_lt}
@@ -64,12 +68,25 @@ price_is_covered price p q = (10 ^ 10 * price.num / price.den, (10 ^ 10 * price.
 
 -- what serves the small case serves any
 pub covers_in : (small : Type 0) (price : Fraction) (low high : ℕ) → CoversPrice ⊤ price low high → CoversPrice small price low high
-covers_in small price low high h = record { below = h.below; above = h.above; at_most_one = h.at_most_one; low_near = h.low_near; high_near = h.high_near; never = h.never; sure = h.sure; floor = λ _. h.floor tt; ceiling = λ _. h.ceiling tt }
+covers_in small price low high h = record {
+  below = h.below;
+  above = h.above;
+  at_most_one = h.at_most_one;
+  low_near = h.low_near;
+  high_near = h.high_near;
+  never = h.never;
+  sure = h.sure;
+  floor = λ _. h.floor tt;
+  ceiling = λ _.
+      h.ceiling tt;
+}
 
 -- one part in n + 1 is too little for a third unit
-too_wide : (low d n : ℕ) → low ≤ 10 ^ 10 → 2 ^ 40 ≤ n → (low + 1) * d * (n + 1) * (n + 1) ≤ (low + 2) * d * n * n
+too_wide : (low d n : ℕ) → low ≤ 10 ^ 10 → 2 ^ 40 ≤ n
+    → (low + 1) * d * (n + 1) * (n + 1) ≤ (low + 2) * d * n * n
 too_wide low d n few wide =
-    let a : (low + 1) * (2 * n + 1) ≤ (10 ^ 10 + 1) * (2 * n + 1) = mul-le-mul_right (2 * n + 1) (omega arith) in
+    let a : (low + 1) * (2 * n + 1) ≤ (10 ^ 10 + 1) * (2 * n + 1) = mul-le-mul_right (2 * n + 1)
+    (omega arith) in
     let b : 2 ^ 40 * n ≤ n * n = mul-le-mul_right n wide in
     let c : (low + 1) * (2 * n + 1) ≤ n * n = omega arith in
     let e : (low + 1) * (n + 1) * (n + 1) ≤ (low + 2) * n * n = omega arith in
@@ -77,21 +94,29 @@ too_wide low d n few wide =
     omega arith
 
 -- p / d is less than low + 1 but for one part in n + 1, and more than high - 1 but for it
-two_wide : (p d n low high : ℕ) → 1 ≤ d → 2 ^ 40 ≤ n → p ≤ 10 ^ 10 * d → low * d ≤ p → p * n < (low + 1) * d * (n + 1) → high * d * n < p * (n + 1) + d * n → high ≤ low + 2
-two_wide p d n low high some wide few below low_near high_near = elim (cases_lt (low + 2) high) [ inl h ↦ absurd (three h) | inr h ↦ h ]
+two_wide : (p d n low high : ℕ) → 1 ≤ d → 2 ^ 40 ≤ n → p ≤ 10 ^ 10 * d → low * d ≤ p
+    → p * n < (low + 1) * d * (n + 1) → high * d * n < p * (n + 1) + d * n → high ≤ low + 2
+two_wide p d n low high some wide few below low_near high_near = elim (cases_lt (low + 2) high)
+    [ inl h ↦ absurd (three h) | inr h ↦ h ]
   where
     three : low + 2 < high → ⊥
     three h =
         let a : (low + 3) * (d * n) ≤ high * (d * n) = mul-le-mul_right (d * n) (omega arith) in
         let b : (low + 2) * d * n < p * (n + 1) = omega arith in
         let c : (low + 2) * d * n * n < p * (n + 1) * n = mul-lt-mul_of_pos_right b (omega arith) in
-        let e : p * n * (n + 1) < (low + 1) * d * (n + 1) * (n + 1) = mul-lt-mul_of_pos_right low_near (omega arith) in
+        let e : p * n * (n + 1) < (low + 1) * d * (n + 1) * (n + 1) = mul-lt-mul_of_pos_right
+        low_near (omega arith) in
         let f : low < 10 ^ 10 + 1 = fewer low (10 ^ 10 + 1) d (omega arith) in
         let g = too_wide low d n (omega arith) wide in
         omega arith
 
-pub price_is_narrow : (small : Type 0) (price : Fraction) (low high : ℕ) → CoversPrice small price low high → high ≤ low + 2
-price_is_narrow small price low high h = elim (cases_lt price.den 1) [ inl none ↦ absurd (nothing none) | inr some ↦ two_wide (10 ^ 10 * price.num) price.den (2 ^ 42 - 1) low high some (omega arith) few h.below h.low_near h.high_near ]
+pub price_is_narrow : (small : Type 0) (price : Fraction) (low high : ℕ)
+    → CoversPrice small price low high → high ≤ low + 2
+price_is_narrow small price low high h = elim (cases_lt price.den 1) [
+  | inl none ↦ absurd (nothing none)
+  | inr some ↦ two_wide (10 ^ 10 * price.num) price.den
+      (2 ^ 42 - 1) low high some (omega arith) few h.below h.low_near h.high_near
+]
   where
     nothing : price.den < 1 → ⊥
     nothing none =
@@ -139,16 +164,20 @@ further t p n x l q h =
     omega arith
 
 -- the cash is as near itself as may be
-pub near_itself : (near : ℕ) (q : Fraction) (b cash : ℕ) → 1 ≤ near → IsCash q b cash → AreNearCash near q b cash cash
+pub near_itself : (near : ℕ) (q : Fraction) (b cash : ℕ) → 1 ≤ near → IsCash q b cash
+    → AreNearCash near q b cash cash
 near_itself near q b cash some is = record {
-  low_near = let l : q.num ^ b * (near - 1) ^ b < 2 ^ (cash + 1) * q.den ^ b * near ^ b = further (q.num ^ b) _ _ _ less (one-le-pow b near some) is.greatest in omega arith;
-  high_near = let l : 2 ^ cash * q.den ^ b * (near - 1) ^ b ≤ q.num ^ b * near ^ b = mul-le-mul is.covered less in omega arith;
+  low_near = let l : q.num ^ b * (near - 1) ^ b < 2 ^ (cash + 1) * q.den ^ b * near ^ b = further
+      (q.num ^ b) _ _ _ less (one-le-pow b near some) is.greatest in omega arith;
+  high_near = let l : 2 ^ cash * q.den ^ b * (near - 1) ^ b ≤ q.num ^ b * near ^ b = mul-le-mul
+      is.covered less in omega arith;
 }
   where
     less : (near - 1) ^ b ≤ near ^ b
     less = pow-le-pow_left (omega arith) b
 
-pub cash_is_covered : (q : Fraction) (b : ℕ) → IsSafeFactor q → (low : ℕ) × (high : ℕ) × CoversCash ⊤ ⊤ q b low high
+pub cash_is_covered : (q : Fraction) (b : ℕ) → IsSafeFactor q
+    → (low : ℕ) × (high : ℕ) × CoversCash ⊤ ⊤ q b low high
 cash_is_covered q b safe = covers (cash_exists q b safe)
   where
     covers : (cash : ℕ) × IsCash q b cash → (low : ℕ) × (high : ℕ) × CoversCash ⊤ ⊤ q b low high
@@ -167,11 +196,22 @@ cash_is_covered q b safe = covers (cash_exists q b safe)
     )
 
 -- what serves the small case, and a user without trades, serves any
-pub cash_in : (small idle : Type 0) (q : Fraction) (b low high : ℕ) → CoversCash ⊤ ⊤ q b low high → CoversCash small idle q b low high
-cash_in small idle q b low high h = record { cash = h.cash; is_cash = h.is_cash; above = h.above; below = h.below; near = h.near; nearer = λ _. h.nearer tt; exact = λ _. h.exact tt }
+pub cash_in : (small idle : Type 0) (q : Fraction) (b low high : ℕ) → CoversCash ⊤ ⊤ q b low high
+    → CoversCash small idle q b low high
+cash_in small idle q b low high h = record {
+  cash = h.cash;
+  is_cash = h.is_cash;
+  above = h.above;
+  below = h.below;
+  near = h.near;
+  nearer =
+      λ _. h.nearer tt;
+  exact = λ _. h.exact tt;
+}
 
 -- (1 + 1 / c) ^ b is at most (c + 1) / (c + 1 - b)
-power_step : (c rest x y : ℕ) → rest ≤ c → x * (rest + 1) ≤ y * (c + 1) → x * (c + 1) * rest ≤ y * c * (c + 1)
+power_step : (c rest x y : ℕ) → rest ≤ c → x * (rest + 1) ≤ y * (c + 1)
+    → x * (c + 1) * rest ≤ y * c * (c + 1)
 power_step c rest x y few h =
     let a : (c + 1) * rest ≤ c * (rest + 1) = omega arith in
     let f : x * ((c + 1) * rest) ≤ x * (c * (rest + 1)) = mul-le-mul_left x a in
@@ -181,7 +221,8 @@ power_step c rest x y few h =
 power_within : (c b rest : ℕ) → rest + b ≡ c + 1 → (c + 1) ^ b * rest ≤ c ^ b * (c + 1)
 power_within c zero rest e = rw (pow-zero (c + 1), pow-zero c) (omega arith)
 power_within c (suc b) rest e =
-    rw (pow-suc (c + 1) b, pow-suc c b) (power_step c rest ((c + 1) ^ b) (c ^ b) (omega arith) (power_within c b (rest + 1) (omega arith)))
+    rw (pow-suc (c + 1) b, pow-suc c b) (power_step c rest ((c + 1) ^ b) (c ^ b) (omega arith)
+    (power_within c b (rest + 1) (omega arith)))
 
 -- so its square is at most two, where c is large
 square_within : (c b : ℕ) → 4 * b ≤ c → (c + 1) ^ b * (c + 1) ^ b ≤ 2 * (c ^ b * c ^ b)
@@ -189,30 +230,40 @@ square_within c b few = le_of_mul-le-mul_right {k = c + 1 - 2 * b} scaled (omega
   where
     scaled : (c + 1) ^ b * (c + 1) ^ b * (c + 1 - 2 * b) ≤ 2 * (c ^ b * c ^ b) * (c + 1 - 2 * b)
     scaled =
-        let a : (c + 1) ^ (b + b) * (c + 1 - 2 * b) ≤ c ^ (b + b) * (c + 1) = power_within c (b + b) (c + 1 - 2 * b) (omega arith) in
+        let a : (c + 1) ^ (b + b) * (c + 1 - 2 * b) ≤ c ^ (b + b) * (c + 1) = power_within c (b + b)
+        (c + 1 - 2 * b) (omega arith) in
         let e : (c + 1) ^ (b + b) ≡ (c + 1) ^ b * (c + 1) ^ b = pow-add (c + 1) b b in
         let f : c ^ (b + b) ≡ c ^ b * c ^ b = pow-add c b b in
-        let g : c ^ b * c ^ b * (c + 1) ≤ c ^ b * c ^ b * (2 * (c + 1 - 2 * b)) = mul-le-mul_left (c ^ b * c ^ b) (omega arith) in
-        let h : (c + 1) ^ b * (c + 1) ^ b * (c + 1 - 2 * b) ≤ c ^ b * c ^ b * (c + 1) = rw (← e, ← f) a in
+        let g : c ^ b * c ^ b * (c + 1) ≤ c ^ b * c ^ b * (2 * (c + 1 - 2 * b)) = mul-le-mul_left
+        (c ^ b * c ^ b) (omega arith) in
+        let h : (c + 1) ^ b * (c + 1) ^ b * (c + 1 - 2 * b) ≤ c ^ b * c ^ b * (c + 1) = rw
+        (← e, ← f) a in
         omega arith
 
 -- t / d is less than 2 ^ (low + 1) but for n / m, and at least 2 ^ high but for it
-one_wide : (t d m n low high : ℕ) → 1 ≤ n → n * n ≤ 2 * (m * m) → t * m < 2 ^ (low + 1) * n * d → 2 ^ high * m * d ≤ t * n → high ≤ low + 1
-one_wide t d m n low high some few low_near high_near = elim (cases_lt (low + 1) high) [ inl h ↦ absurd (two h) | inr h ↦ h ]
+one_wide : (t d m n low high : ℕ) → 1 ≤ n → n * n ≤ 2 * (m * m) → t * m < 2 ^ (low + 1) * n * d
+    → 2 ^ high * m * d ≤ t * n → high ≤ low + 1
+one_wide t d m n low high some few low_near high_near = elim (cases_lt (low + 1) high)
+    [ inl h ↦ absurd (two h) | inr h ↦ h ]
   where
     two : low + 1 < high → ⊥
     two h =
-        let a : 2 ^ (low + 1 + 1) * (m * d) ≤ 2 ^ high * (m * d) = mul-le-mul_right (m * d) (pow-le-pow_right {n = 2} (omega arith) (omega arith)) in
+        let a : 2 ^ (low + 1 + 1) * (m * d) ≤ 2 ^ high * (m * d) = mul-le-mul_right (m * d)
+        (pow-le-pow_right {n = 2} (omega arith) (omega arith)) in
         let e : 2 ^ (low + 1 + 1) ≡ 2 ^ (low + 1) * 2 ^ 1 = pow-add 2 (low + 1) 1 in
         let s : 2 ^ (low + 1 + 1) ≡ 2 ^ (low + 1) * 2 = omega arith in
-        let b : 2 ^ (low + 1) * 2 * (m * d) ≤ t * n = (let r : 2 ^ (low + 1) * 2 * (m * d) ≤ 2 ^ high * (m * d) = rw s at a in omega arith) in
+        let b : 2 ^ (low + 1) * 2 * (m * d) ≤ t * n =
+        (let r : 2 ^ (low + 1) * 2 * (m * d) ≤ 2 ^ high * (m * d) = rw s at a in omega arith) in
         let c : 2 ^ (low + 1) * 2 * (m * d) * m ≤ t * n * m = mul-le-mul_right m b in
         let f : t * m * n < 2 ^ (low + 1) * n * d * n = mul-lt-mul_of_pos_right low_near some in
-        let g : 2 ^ (low + 1) * d * (n * n) ≤ 2 ^ (low + 1) * d * (2 * (m * m)) = mul-le-mul_left (2 ^ (low + 1) * d) few in
+        let g : 2 ^ (low + 1) * d * (n * n) ≤ 2 ^ (low + 1) * d * (2 * (m * m)) = mul-le-mul_left
+        (2 ^ (low + 1) * d) few in
         omega arith
 
-narrow_by : (c : ℕ) (q : Fraction) (b low high : ℕ) → 4 * b ≤ c → AreNearCash (c + 1) q b low high → high ≤ low + 1
-narrow_by c q b low high few near = one_wide (q.num ^ b) (q.den ^ b) (c ^ b) ((c + 1) ^ b) low high (one-le-pow b (c + 1) (omega arith)) (square_within c b few) low_near high_near
+narrow_by : (c : ℕ) (q : Fraction) (b low high : ℕ) → 4 * b ≤ c → AreNearCash (c + 1) q b low high
+    → high ≤ low + 1
+narrow_by c q b low high few near = one_wide (q.num ^ b) (q.den ^ b) (c ^ b) ((c + 1) ^ b) low high
+    (one-le-pow b (c + 1) (omega arith)) (square_within c b few) low_near high_near
   where
     same : c + 1 - 1 ≡ c
     same = omega arith
@@ -223,8 +274,10 @@ narrow_by c q b low high few near = one_wide (q.num ^ b) (q.den ^ b) (c ^ b) ((c
     high_near : 2 ^ high * c ^ b * q.den ^ b ≤ q.num ^ b * (c + 1) ^ b
     high_near = rw same at near.high_near
 
-pub cash_is_narrow : (small idle : Type 0) (q : Fraction) (b low high : ℕ) → b ≤ million → CoversCash small idle q b low high → high ≤ low + 1
-cash_is_narrow small idle q b low high few h = narrow_by (2 ^ 42 - 1) q b low high (omega arith) h.near
+pub cash_is_narrow : (small idle : Type 0) (q : Fraction) (b low high : ℕ) → b ≤ million
+    → CoversCash small idle q b low high → high ≤ low + 1
+cash_is_narrow small idle q b low high few h = narrow_by (2 ^ 42 - 1) q b low high (omega arith)
+    h.near
 
 pub power_of_power : (m b : ℕ) → (2 ^ m) ^ b ≡ 2 ^ (m * b)
 power_of_power m zero = let e : 0 ≡ m * 0 = omega arith in pow-zero (2 ^ m) ∙ sym (pow-zero 2) ∙ ap (λ k. 2 ^ k) e
@@ -251,19 +304,35 @@ most_exists q safe = is_most (greatest_power q.num q.den safe.divides safe.at_le
     nearly : (n m : ℕ) → n < m → n * (2 ^ 43 - 1) < m * 2 ^ 43
     nearly n m h = omega arith
 
-    is_most : (k : ℕ) × (2 ^ k * q.den ≤ q.num) × (q.num < 2 ^ (k + 1) * q.den) → (k : ℕ) × IsMost ⊤ ⊤ q k
-    is_most k = (k.0, record { within = k.1; nearly = let l : q.num * (2 ^ 43 - 1) < 2 ^ (k.0 + 1) * q.den * 2 ^ 43 = nearly _ _ (k.2) in omega arith; exactly = λ _. k.2 })
+    is_most : (k : ℕ) × (2 ^ k * q.den ≤ q.num) × (q.num < 2 ^ (k + 1) * q.den)
+        → (k : ℕ) × IsMost ⊤ ⊤ q k
+    is_most k = (
+      k.0,
+      record {
+        within = k.1;
+        nearly = let l : q.num * (2 ^ 43 - 1) < 2 ^ (k.0 + 1) *
+            q.den * 2 ^ 43 = nearly _ _ (k.2) in omega arith;
+        exactly = λ _. k.2;
+      },
+    )
 
 pub covered_is_less : (q : Fraction) (k bits : ℕ) → Covers q k → ¬ Covers q bits → k < bits
 covered_is_less q k bits p h = elim (cases_lt q.num (2 ^ bits * q.den)) [ inl more ↦ power_less k bits q.den q.num p more | inr less ↦ absurd (h less) ]
 
-pub withdrawal_is_judged : (q : Fraction) (bits : ℕ) → IsSafeFactor q → Covers q bits ⊎ ((most : ℕ) × (most < bits) × IsMost ⊤ ⊤ q most)
+pub withdrawal_is_judged : (q : Fraction) (bits : ℕ) → IsSafeFactor q
+    → Covers q bits ⊎ ((most : ℕ) × (most < bits) × IsMost ⊤ ⊤ q most)
 withdrawal_is_judged q bits safe = judge (cases_lt q.num (2 ^ bits * q.den)) (most_exists q safe)
   where
-    judge : (q.num < 2 ^ bits * q.den) ⊎ Covers q bits → (k : ℕ) × IsMost ⊤ ⊤ q k → Covers q bits ⊎ ((most : ℕ) × (most < bits) × IsMost ⊤ ⊤ q most)
+    judge : (q.num < 2 ^ bits * q.den) ⊎ Covers q bits → (k : ℕ) × IsMost ⊤ ⊤ q k
+        → Covers q bits ⊎ ((most : ℕ) × (most < bits) × IsMost ⊤ ⊤ q most)
     judge (inr covered) _ = inl covered
     judge (inl more) k = inr (k.0, power_less (k.0) bits q.den q.num (k.1).within more, k.1)
 
 -- what serves the small case, and a user without trades, serves any
 pub most_in : (small idle : Type 0) (q : Fraction) (k : ℕ) → IsMost ⊤ ⊤ q k → IsMost small idle q k
-most_in small idle q k h = record { within = h.within; nearly = h.nearly; exactly = λ _. h.exactly (inl tt) }
+most_in small idle q k h = record {
+  within = h.within;
+  nearly = h.nearly;
+  exactly = λ _. h.exactly
+      (inl tt);
+}

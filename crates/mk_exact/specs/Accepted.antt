@@ -1,5 +1,6 @@
 -- What each kind of change must meet to be accepted, and histories whose changes all met it.
-use Rattle.std.specs.Prelude.{ℕ, ◌+◌, ◌-◌, ◌*◌, ◌^◌, ◌<◌, ◌≤◌, ◌≡◌, ◌⊎◌, false, ⊤, List, [], ◌∷◌, ◌++◌, length, sum_by, All, IfSome}
+use Rattle.std.specs.Prelude.{ℕ, ◌+◌, ◌-◌, ◌*◌, ◌^◌, ◌<◌, ◌≤◌, ◌≡◌, ◌⊎◌, false, ⊤, List, [], ◌∷◌}
+use Rattle.std.specs.Prelude.{◌++◌, length, sum_by, All, IfSome}
 use Rattle.mk_net.specs.Network.{Variable}
 use Rattle.mk_net.specs.Asked.{TradeRatio}
 use Rattle.mk_net.specs.Events.{speaks_of}
@@ -16,7 +17,8 @@ use Rattle.mk_exact.specs.Proper.{IsPairOf, IsTradeOf}
 abbrev pub Covers : Fraction → ℕ → Type 0
 Covers q bits = 2 ^ bits * q.den ≤ q.num
 
--- k bits are within the factor, and k + 1 are more than it but for a part in 2^43; in the small case, and of a user who holds no
+-- k bits are within the factor, and k + 1 are more than it but for a part in 2^43; in the small
+-- case, and of a user who holds no
 -- trade, more than it
 pub record IsMost (small idle : Type 0) (q : Fraction) (k : ℕ) : Type 0 where
   pub within : Covers q k

@@ -1,6 +1,8 @@
--- What exists: an allowed answer to each line that a market can be asked, in numbers. Where a law says ⊤ for the small case, or for
+-- What exists: an allowed answer to each line that a market can be asked, in numbers. Where a law
+-- says ⊤ for the small case, or for
 -- a user who holds no trade, it gives what this case asks for, and so what any case does.
-use Rattle.std.specs.Prelude.{◌≡◌, ℕ, ◌+◌, ◌*◌, ◌^◌, ◌<◌, ◌≤◌, true, false, ⊤, ◌⊎◌, List, [], ◌∷◌, ◌++◌, length, Bool, Option, Some}
+use Rattle.std.specs.Prelude.{◌≡◌, ℕ, ◌+◌, ◌*◌, ◌^◌, ◌<◌, ◌≤◌, true, false, ⊤, ◌⊎◌, List, [], ◌∷◌}
+use Rattle.std.specs.Prelude.{◌++◌, length, Bool, Option, Some}
 use Rattle.std.specs.List.{AllByRecursion, count_by}
 use Rattle.mk_net.specs.Bounds.{max_market_trades, max_transfers, max_transfer_bits, number_limit, million}
 use Rattle.mk_net.specs.Network.{Variable, IsNetwork}
@@ -10,7 +12,8 @@ use Rattle.mk_exact.specs.InitialWeight.{initial_total}
 use Rattle.mk_exact.specs.Events.{holds, with_target, without_target, always}
 use Rattle.mk_exact.specs.History.{Entry, Deposit, Withdraw, Trade, UserTrade, bits_in, is_transfer, trades, resolutions}
 use Rattle.mk_exact.specs.Weight.{possible_states, IsSmall}
-use Rattle.mk_exact.specs.Factors.{Fraction, HoldsNoTrade, factor, factor_with, least_gain, IsAtLeastOne}
+use Rattle.mk_exact.specs.Factors.{Fraction, HoldsNoTrade, factor, factor_with, least_gain}
+use Rattle.mk_exact.specs.Factors.{IsAtLeastOne}
 use Rattle.mk_exact.specs.Prices.{CoversPrice, exact_price}
 use Rattle.mk_exact.specs.Cash.{IsCash, CoversCash}
 use Rattle.mk_exact.specs.Risk.{least_weight, CoversBound}
@@ -38,7 +41,8 @@ PriceIsCovered = (price : Fraction) → 1 ≤ price.den → price.num ≤ price.
 
 -- and each interval that covers a price is at most two units wide
 abbrev pub PriceIsNarrow : Type 0
-PriceIsNarrow = (network : List Variable) (H : List Entry) (asked : Asked) (low high : ℕ) → CoversPrice (IsSmall network H) (exact_price network H asked) low high → high ≤ low + 2
+PriceIsNarrow = (network : List Variable) (H : List Entry) (asked : Asked) (low high : ℕ)
+    → CoversPrice (IsSmall network H) (exact_price network H asked) low high → high ≤ low + 2
 
 -- a factor of at least one has its cash
 abbrev pub CashExists : Type 0
@@ -46,11 +50,13 @@ CashExists = (q : Fraction) (b : ℕ) → IsSafeFactor q → (cash : ℕ) × IsC
 
 -- and an interval that covers it
 abbrev pub CashIsCovered : Type 0
-CashIsCovered = (q : Fraction) (b : ℕ) → IsSafeFactor q → (low : ℕ) × (high : ℕ) × CoversCash ⊤ ⊤ q b low high
+CashIsCovered = (q : Fraction) (b : ℕ) → IsSafeFactor q
+    → (low : ℕ) × (high : ℕ) × CoversCash ⊤ ⊤ q b low high
 
 -- at up to a million points per bit each such interval is at most one point wide
 abbrev pub CashIsNarrow : Type 0
-CashIsNarrow = (network : List Variable) (H : List Entry) (u : ℕ) (q : Fraction) (b low high : ℕ) → b ≤ million
+CashIsNarrow = (network : List Variable) (H : List Entry) (u : ℕ) (q : Fraction) (b low high : ℕ)
+    → b ≤ million
     → CoversCash (IsSmall network H) (HoldsNoTrade H u) q b low high → high ≤ low + 1
 
 -- the cash of a factor of at most 2^m is at most m times the points per bit
@@ -67,7 +73,8 @@ CoveredIsLess = (q : Fraction) (k bits : ℕ) → Covers q k → ¬ Covers q bit
 
 -- a withdrawal is covered, or more than the most that is
 abbrev pub WithdrawalIsJudged : Type 0
-WithdrawalIsJudged = (q : Fraction) (bits : ℕ) → IsSafeFactor q → Covers q bits ⊎ ((most : ℕ) × (most < bits) × IsMost ⊤ ⊤ q most)
+WithdrawalIsJudged = (q : Fraction) (bits : ℕ) → IsSafeFactor q
+    → Covers q bits ⊎ ((most : ℕ) × (most < bits) × IsMost ⊤ ⊤ q most)
 
 -- two sides have right limits, none or some
 abbrev pub LimitsExist : Type 0
@@ -215,10 +222,14 @@ FairPairFits = (network : List Variable) (H : List Entry) (u : ℕ) (asked : Ask
 
 -- within the bounds the cash in any state fits 63 bits, at up to a million points per bit, and so does each interval that covers it
 abbrev pub CashFits : Type 0
-CashFits = (network : List Variable) (H : List Entry) (u : ℕ) (s : List ℕ) (b low high : ℕ) → IsWithinBounds H → b ≤ million
-    → CoversCash (IsSmall network H) (HoldsNoTrade H u) (factor H u s) b low high → high < number_limit
+CashFits = (network : List Variable) (H : List Entry) (u : ℕ) (s : List ℕ) (b low high : ℕ)
+    → IsWithinBounds H → b ≤ million
+    → CoversCash (IsSmall network H) (HoldsNoTrade H u) (factor H u s) b low high
+    → high < number_limit
 
 -- as does the cash of a least gain
 abbrev pub LeastCashFits : Type 0
 LeastCashFits = (network : List Variable) (H : List Entry) (u : ℕ) (test : List ℕ → Bool) (least b low high : ℕ) → IsWithinBounds H → b ≤ million
-    → least_gain network H u test ≡ Some least → CoversCash (IsSmall network H) (HoldsNoTrade H u) (factor_with H u least) b low high → high < number_limit
+    → least_gain network H u test ≡ Some least
+    → CoversCash (IsSmall network H) (HoldsNoTrade H u) (factor_with H u least) b low high
+    → high < number_limit

@@ -1,5 +1,7 @@
 //! The numbers of five small markets.
-ghost use Rattle.mk_exact.specs.Examples.{AreNetworks, HaveWeights, HavePrices, HasTraded, WasSafe, IsWorth, HasLimits, HasConditioned, HasTwoTraders, AreSharp, HasZeros};
+ghost use Rattle.mk_exact.specs.Examples.{AreNetworks, HaveWeights, HavePrices, HasTraded, WasSafe};
+ghost use Rattle.mk_exact.specs.Examples.{IsWorth, HasLimits, HasConditioned, HasTwoTraders};
+ghost use Rattle.mk_exact.specs.Examples.{AreSharp, HasZeros};
 
 /// The four are networks, and the weights of their states together a power of a million.
 pub fn example_networks()

@@ -1,5 +1,11 @@
 //! What exists: an answer to each line that a market can be asked.
-ghost use Rattle.mk_exact.specs.Existing.{PriceIsCovered, PriceIsNarrow, CashExists, CashIsCovered, CashIsNarrow, CashIsBounded, MostExists, CoveredIsLess, WithdrawalIsJudged, LimitsExist, InsideIsDecided, LimitsJudge, StateExists, PriceExists, LeastExists, SidesExist, RightLimitsExist, OutcomeExists, BoundsKept, FairPairFits, CashFits, LeastCashFits, BoundExists, BoundFits};
+ghost use Rattle.mk_exact.specs.Existing.{PriceIsCovered, PriceIsNarrow, CashExists, CashIsCovered};
+ghost use Rattle.mk_exact.specs.Existing.{CashIsNarrow, CashIsBounded, MostExists, CoveredIsLess};
+ghost use Rattle.mk_exact.specs.Existing.{WithdrawalIsJudged, LimitsExist, InsideIsDecided};
+ghost use Rattle.mk_exact.specs.Existing.{LimitsJudge, StateExists, PriceExists, LeastExists};
+ghost use Rattle.mk_exact.specs.Existing.{SidesExist, RightLimitsExist, OutcomeExists, BoundsKept};
+ghost use Rattle.mk_exact.specs.Existing.{FairPairFits, CashFits, LeastCashFits, BoundExists};
+ghost use Rattle.mk_exact.specs.Existing.{BoundFits};
 
 /// A price of at most one has an interval: its floor and its ceiling.
 pub fn price_is_covered()

@@ -1,5 +1,6 @@
 -- The accounts of a market's users after one more entry.
-use Rattle.std.specs.Prelude.{◌≡◌, ℕ, ◌+◌, ◌*◌, ◌<◌, zero, suc, List, [], ◌∷◌, ◌++◌, length, true, false, None, slice_set, ◌⊎◌}
+use Rattle.std.specs.Prelude.{◌≡◌, ℕ, ◌+◌, ◌*◌, ◌<◌, zero, suc, List, [], ◌∷◌, ◌++◌, length, true}
+use Rattle.std.specs.Prelude.{false, None, slice_set, ◌⊎◌}
 use Rattle.std.specs.List.{AllByRecursion}
 use Rattle.std.proofs.Common.{inl, inr, refl, sym, ap, ◌∙◌, subst, arith, eq-eqb, ne_eqb}
 use Rattle.std.proofs.lemmas.Bool.{cases_eq}
@@ -14,18 +15,25 @@ use Rattle.mk_market.specs.Points.{IsAccount, AreAccounts}
 use Rattle.mk_market.proofs.Appends.{not_there}
 use Rattle.mk_market.proofs.Owned.{none_moved}
 
--- an account that is set to one that was paid the same leaves what was paid, and so does one that is opened
-pub paid_set : (accounts : List Account) (user : ℕ) (new : Account) → user < length accounts → new.paid ≡ (account_of accounts user).paid
+-- an account that is set to one that was paid the same leaves what was paid, and so does one that
+-- is opened
+pub paid_set : (accounts : List Account) (user : ℕ) (new : Account) → user < length accounts
+    → new.paid ≡ (account_of accounts user).paid
     → (u : ℕ) → (account_of (slice_set accounts user new) u).paid ≡ (account_of accounts u).paid
 paid_set accounts user new within same u = at (cases_eq u user)
   where
-    at : (u ≡ user) ⊎ (u ≡ user → ⊥) → (account_of (slice_set accounts user new) u).paid ≡ (account_of accounts u).paid
+    at : (u ≡ user) ⊎ (u ≡ user → ⊥)
+        → (account_of (slice_set accounts user new) u).paid ≡ (account_of accounts u).paid
     at (inl e) =
-        ap (λ (k : ℕ). (account_of (slice_set accounts user new) k).paid) e ∙ ap (λ (a : Account). a.paid) (get_or-set_same accounts user new empty_account within) ∙ same
+        ap (λ (k : ℕ). (account_of (slice_set accounts user new) k).paid) e ∙ ap
+        (λ (a : Account). a.paid) (get_or-set_same accounts user new empty_account within) ∙
+        same
         ∙ ap (λ (k : ℕ). (account_of accounts k).paid) (sym e)
-    at (inr other) = ap (λ (a : Account). a.paid) (get_or-set_other accounts user u new empty_account other)
+    at (inr other) = ap (λ (a : Account). a.paid)
+        (get_or-set_other accounts user u new empty_account other)
 
-pub paid_opened : (accounts : List Account) (u : ℕ) → (account_of (accounts ++ empty_account ∷ []) u).paid ≡ (account_of accounts u).paid
+pub paid_opened : (accounts : List Account) (u : ℕ)
+    → (account_of (accounts ++ empty_account ∷ []) u).paid ≡ (account_of accounts u).paid
 paid_opened [] zero = refl
 paid_opened [] (suc u) = refl
 paid_opened (a ∷ accounts) zero = refl

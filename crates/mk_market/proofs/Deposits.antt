@@ -51,11 +51,13 @@ module _ {P A Plan : Type 0} (weights_stand : P → Meaning → Type 0) (gains_s
       omega (arith, account.paid_in, most)
 
   pub deposit_paid : (new_accounts : List Account)
-      → new_accounts ≡ slice_set accounts user (let account = account_of accounts user in record account { deposited = account.deposited + file.points_per_bit * bits })
+      → new_accounts ≡ slice_set accounts user (let account = account_of accounts user in record
+      account { deposited = account.deposited + file.points_per_bit * bits })
       → (at : ℕ) → ArePaidBy (Deposited name bits at) accounts new_accounts
   deposit_paid new_accounts entered at u =
       ap (λ (xs : List Account). (account_of xs u).paid) entered
-      ∙ paid_set accounts user (let account = account_of accounts user in record account { deposited = account.deposited + file.points_per_bit * bits })
+      ∙ paid_set accounts user (let account = account_of accounts user in record account
+      { deposited = account.deposited + file.points_per_bit * bits })
       (omega (arith, is_user.within, kept.accounts_kept.one_each)) refl u
 
   module _ (before now : Assets A Plan) (there : slice_get (assets_of members) user ≡ Some before) (new_accounts : List Account) (new_journal : JournalOf)

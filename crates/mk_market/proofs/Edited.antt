@@ -221,11 +221,13 @@ module _ {P A Plan : Type 0} (weights_stand : P → Meaning → Type 0) (gains_s
   -- the limits of a question
   pub limits_answered : (limits : Option (ℕ × ℕ)) (at : ℕ) → None ≡ first_refusal (market_of file) journal.history (Limits name q)
       → limits ≡ limits_of quote → AreRightFor (bounds_of quote) limits → at ≡ revision journal.history
-      → IsAnswered (trading file accounts journal members) (trading file accounts journal new_members) (Limits name q) (Limited limits at)
+      → IsAnswered (trading file accounts journal members)
+      (trading file accounts journal new_members) (Limits name q) (Limited limits at)
   limits_answered limits at none its right now =
       let reply = Limited (limits_of quote) (revision journal.history) in
       let printed : Limited limits at ≡ reply = ap₂ (λ (l : Option (ℕ × ℕ)) (n : ℕ). Limited l n) its now in
-      subst (IsAnswered (trading file accounts journal members) (trading file accounts journal new_members) (Limits name q)) (sym printed)
+      subst (IsAnswered (trading file accounts journal members)
+      (trading file accounts journal new_members) (Limits name q)) (sym printed)
       (record {
         same_market = refl;
         allowed = answer_allowed (market_of file) (standing_of journal members) (Limits name q) reply none
@@ -239,12 +241,14 @@ module _ {P A Plan : Type 0} (weights_stand : P → Meaning → Type 0) (gains_s
   pub beyond_answered : (X : ℕ) (seen : Option ℕ) (limits : Option (ℕ × ℕ)) → None ≡ first_refusal (market_of file) journal.history (Edit name q X seen)
       → limits ≡ limits_of quote → AreRightFor (bounds_of quote) limits → ¬ Inside (limits_of quote) X
       → ((held : Quote) → slice_get (quotes_of members) user ≡ Some (Some (LastLimits held)) → IsFor held asked (revision journal.history) → quote ≡ held)
-      → IsAnswered (trading file accounts journal members) (trading file accounts journal new_members) (Edit name q X seen) (Refused (Beyond limits))
+      → IsAnswered (trading file accounts journal members)
+      (trading file accounts journal new_members) (Edit name q X seen) (Refused (Beyond limits))
   beyond_answered X seen limits none its right outside last =
       let reply = Refused (Beyond (limits_of quote)) in
       let printed : Refused (Beyond limits) ≡ reply = ap (λ (l : Option (ℕ × ℕ)). Refused (Beyond l)) its in
       let beyond : IsBeyond (limits_of quote) X reply = record { outside = outside; printed = refl } in
-      subst (IsAnswered (trading file accounts journal members) (trading file accounts journal new_members) (Edit name q X seen)) (sym printed)
+      subst (IsAnswered (trading file accounts journal members)
+      (trading file accounts journal new_members) (Edit name q X seen)) (sym printed)
       (record {
         same_market = refl;
         allowed = edit_allowed file journal members name user is_user q asked is_question quote last X seen reply none
@@ -294,5 +298,13 @@ module _ (file : MarketFile) (journal : JournalOf) (open_for : IsOpen file.net f
         ∙ ap (λ (n : ℕ). journal.history ++ option_to_list (option_map (λ (a : Asked). Trade n (ratio_in file.net a hit miss)) (question_named file.net q))) is_user.number)
         same_quotes
 
-    pub trade_answered : (accounts : List Account) → IsAnswered (trading file accounts journal members) (trading file accounts new_journal new_members) (Edit name q X seen) (Traded hit miss at)
-    trade_answered accounts = record { same_market = refl; allowed = trade_allowed; next = trade_next; paid = λ u. refl }
+    pub trade_answered : (accounts : List Account)
+        → IsAnswered (trading file accounts journal members)
+        (trading file accounts new_journal new_members) (Edit name q X seen) (Traded hit miss at)
+    trade_answered accounts = record {
+      same_market = refl;
+      allowed = trade_allowed;
+      next =
+          trade_next;
+      paid = λ u. refl;
+    }

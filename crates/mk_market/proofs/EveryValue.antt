@@ -1,5 +1,6 @@
 -- What a market tells of every value of a variable, and of itself.
-use Rattle.std.specs.Prelude.{◌≡◌, ℕ, ◌+◌, ◌<◌, ◌≤◌, List, [], ◌∷◌, ◌++◌, length, map, Bool, true, false, not, Option, Some, None, option_map, slice_get, IsSomeAnd}
+use Rattle.std.specs.Prelude.{◌≡◌, ℕ, ◌+◌, ◌<◌, ◌≤◌, List, [], ◌∷◌, ◌++◌, length, map, Bool, true}
+use Rattle.std.specs.Prelude.{false, not, Option, Some, None, option_map, slice_get, IsSomeAnd}
 use Rattle.std.specs.List.{count_by, range_with_len}
 use Rattle.std.proofs.Common.{zero, suc, cond, refl, sym, ap, ◌∙◌, subst, arith}
 use Rattle.std.proofs.lemmas.List.Sums.{sum_by-cons}
@@ -28,7 +29,8 @@ use Rattle.mk_command.specs.declared.command.Command.{Command}
 use Rattle.mk_command.specs.declared.command.Command.TheVariants.{Prices, Position}
 use Rattle.mk_reply.specs.declared.refusal.Refusal.{Refusal}
 use Rattle.mk_reply.specs.declared.reply.Reply.{Reply}
-use Rattle.mk_reply.specs.declared.reply.Reply.TheVariants.{Refused, Prices as Told, Position as Sure}
+use Rattle.mk_reply.specs.declared.reply.Reply.TheVariants.{Refused, Prices as Told}
+use Rattle.mk_reply.specs.declared.reply.Reply.TheVariants.{Position as Sure}
 use Rattle.mk_rules.specs.Refusals.{spread_named, unknown, user_number, is_resolved}
 use Rattle.mk_rules.specs.Refusals.{refusals_by_record, impossible_together}
 use Rattle.mk_rules.specs.Told.{ArePrices, IsPosition}
@@ -73,7 +75,8 @@ module _ (p : ℕ → Bool) where
       let here : 0 + n ≡ n = omega arith in
       let more = rw here at (counted_ranges n 0) in
       let one = ap {B = ℕ} (λ (b : Bool). cond b 1 0) is in
-      subst (λ (k : ℕ). count + 1 ≡ count_by p (range_with_len 0 k)) on (omega (arith, more, one, e))
+      subst (λ (k : ℕ). count + 1 ≡ count_by p (range_with_len 0 k)) on
+      (omega (arith, more, one, e))
 
   pub none_counted : (n count : ℕ) → count ≡ count_by p (range_with_len 0 n) → p n ≡ false →
       count ≡ count_by p (range_with_len 0 (n + 1))
@@ -95,17 +98,19 @@ pub can_refuse_told : {E : Type 0} (stands_for : E → Meaning → Type 0) (pric
     (at : ℕ) → home tree (pairs_asked (asked_of spread 0)) ≡ Some at →
     cannot_come network H (holds spread.condition) ≡ true →
     CanRefuseCondition stands_for prices at spread.condition words
-can_refuse_told stands_for prices network tree H stands open_for v words spread named known answered at at_home cannot = record {
-  network = network;
-  tree = tree;
-  history = H;
-  stands = stands;
-  is_open = open_for;
-  condition_by = record { known = known; named = (spread_parts network v words spread named).2 };
-  in_range = answered.in_order.in_range.condition;
-  held = condition_is_held tree at (asked_of spread 0) spread.condition refl (home_is_held tree at _ at_home);
-  cannot = cannot;
-}
+can_refuse_told stands_for prices network tree H stands open_for v words spread named known answered
+    at at_home cannot = record {
+      network = network;
+      tree = tree;
+      history = H;
+      stands = stands;
+      is_open = open_for;
+      condition_by = record { known = known; named = (spread_parts network v words spread named).2 };
+      in_range = answered.in_order.in_range.condition;
+      held = condition_is_held tree at (asked_of spread 0) spread.condition refl
+          (home_is_held tree at _ at_home);
+      cannot = cannot;
+    }
 
 -- the words of a condition in a list of their own
 pub known_of : (network : List Variable) (words items : List PairText) → words ≡ items →
@@ -116,79 +121,97 @@ known_of network words items same known = ap (unknown network) same ∙ known
 
 module _ (file : MarketFile) (now : Standing) (v : List ℕ) (condition : ArrayVec PairText)
     (spread : SpreadAsked)
-    (question : IsSpreadQuestionFor (market_of file) file.tree now.history v condition.items spread) where
-  together : cannot_come file.net now.history (holds spread.condition) ≡ false →
-      impossible_together file.net now.history condition.items ≡ None
-  together comes =
-      none_together file.net now.history condition.items spread.condition
-      (spread_parts file.net v condition.items spread question.named).2 comes
+    (question : IsSpreadQuestionFor (market_of file) file.tree now.history v condition.items spread)
+  where
+    together : cannot_come file.net now.history (holds spread.condition) ≡ false →
+        impossible_together file.net now.history condition.items ≡ None
+    together comes =
+        none_together file.net now.history condition.items spread.condition
+        (spread_parts file.net v condition.items spread question.named).2 comes
 
-  pub prices_allowed : (intervals : ArrayVec (ℕ × ℕ)) →
-      None ≡ first_of (refusals_by_record (market_of file) now.history (Prices v condition)) →
-      (cannot_come file.net now.history (holds spread.condition) ≡ false)
-      × ArePricesOf file.net now.history spread intervals.items →
-      IsAllowedFor (market_of file) now (OfCommand (Prices v condition)) (Told intervals)
-  prices_allowed intervals none found =
-      let told : ArePrices file.net now.history spread (Told intervals) =
-      record { intervals = intervals; printed = refl; covers = found.1 } in
-      answer_allowed (market_of file) now (Prices v condition) (Told intervals)
-      (unrefused (market_of file) now.history (Prices v condition) none
-      (ap (λ (o : Option Refusal). first_of (o ∷ [])) (together found.0)))
-      (subst (λ (o : Option SpreadAsked). IsSomeAnd o (λ spread. ArePrices file.net now.history spread (Told intervals))) (sym question.named) told)
+    pub prices_allowed : (intervals : ArrayVec (ℕ × ℕ)) →
+        None ≡ first_of (refusals_by_record (market_of file) now.history (Prices v condition)) →
+        (cannot_come file.net now.history (holds spread.condition) ≡ false)
+        × ArePricesOf file.net now.history spread intervals.items →
+        IsAllowedFor (market_of file) now (OfCommand (Prices v condition)) (Told intervals)
+    prices_allowed intervals none found =
+        let told : ArePrices file.net now.history spread (Told intervals) =
+        record { intervals = intervals; printed = refl; covers = found.1 } in
+        answer_allowed (market_of file) now (Prices v condition) (Told intervals)
+        (unrefused (market_of file) now.history (Prices v condition) none
+        (ap (λ (o : Option Refusal). first_of (o ∷ [])) (together found.0)))
+        (subst (λ (o : Option SpreadAsked). IsSomeAnd o
+        (λ spread. ArePrices file.net now.history spread (Told intervals))) (sym question.named)
+        told)
 
-  pub position_allowed : (name : List ℕ) (user : ℕ) → IsUser now.history name user →
-      (intervals : ArrayVec (Option (ℕ × ℕ))) →
-      None ≡ first_of (refusals_by_record (market_of file) now.history (Position name v condition)) →
-      (cannot_come file.net now.history (holds spread.condition) ≡ false)
-      × IsPositionOf file.net now.history user file.points_per_bit spread intervals.items →
-      IsAllowedFor (market_of file) now (OfCommand (Position name v condition)) (Sure intervals)
-  position_allowed name user is_user intervals none found =
-      let sure : IsPosition file.net now.history user file.points_per_bit spread (Sure intervals) =
-      record { intervals = intervals; printed = refl; covers = found.1 } in
-      answer_allowed (market_of file) now (Position name v condition) (Sure intervals)
-      (unrefused (market_of file) now.history (Position name v condition) none
-      (ap (λ (o : Option Refusal). first_of (o ∷ [])) (together found.0)))
-      (subst (λ (o : Option SpreadAsked). IsSomeAnd o (λ spread. IsPosition file.net now.history (user_number now.history name) file.points_per_bit spread (Sure intervals))) (sym question.named)
-      (subst (λ (n : ℕ). IsPosition file.net now.history n file.points_per_bit spread (Sure intervals)) is_user.number sure))
+    pub position_allowed : (name : List ℕ) (user : ℕ) → IsUser now.history name user →
+        (intervals : ArrayVec (Option (ℕ × ℕ))) →
+        None ≡ first_of (refusals_by_record (market_of file) now.history (Position name v condition))
+        →
+        (cannot_come file.net now.history (holds spread.condition) ≡ false)
+        × IsPositionOf file.net now.history user file.points_per_bit spread intervals.items →
+        IsAllowedFor (market_of file) now (OfCommand (Position name v condition)) (Sure intervals)
+    position_allowed name user is_user intervals none found =
+        let sure : IsPosition file.net now.history user file.points_per_bit spread (Sure intervals) =
+        record { intervals = intervals; printed = refl; covers = found.1 } in
+        answer_allowed (market_of file) now (Position name v condition) (Sure intervals)
+        (unrefused (market_of file) now.history (Position name v condition) none
+        (ap (λ (o : Option Refusal). first_of (o ∷ [])) (together found.0)))
+        (subst (λ (o : Option SpreadAsked). IsSomeAnd o
+        (λ spread. IsPosition file.net now.history (user_number now.history name)
+        file.points_per_bit spread (Sure intervals))) (sym question.named)
+        (subst (λ (n : ℕ). IsPosition file.net now.history n file.points_per_bit spread
+        (Sure intervals)) is_user.number sure))
 
-  only : (o : Option Refusal) (why : Refusal) → o ≡ Some why → first_of (o ∷ []) ≡ Some why
-  only o why e = ap (λ (p : Option Refusal). first_of (p ∷ [])) e
+    only : (o : Option Refusal) (why : Refusal) → o ≡ Some why → first_of (o ∷ []) ≡ Some why
+    only o why e = ap (λ (p : Option Refusal). first_of (p ∷ [])) e
 
-  pub prices_stopped : (why : Refusal) →
-      None ≡ first_of (refusals_by_record (market_of file) now.history (Prices v condition)) →
-      impossible_together file.net now.history condition.items ≡ Some why →
-      IsAllowedFor (market_of file) now (OfCommand (Prices v condition)) (Refused why)
-  prices_stopped why none e =
-      refusal_allowed (market_of file) now (Prices v condition) why
-      (stopped_by_states (market_of file) now.history (Prices v condition) why none (only _ why e))
+    pub prices_stopped : (why : Refusal) →
+        None ≡ first_of (refusals_by_record (market_of file) now.history (Prices v condition)) →
+        impossible_together file.net now.history condition.items ≡ Some why →
+        IsAllowedFor (market_of file) now (OfCommand (Prices v condition)) (Refused why)
+    prices_stopped why none e =
+        refusal_allowed (market_of file) now (Prices v condition) why
+        (stopped_by_states (market_of file) now.history (Prices v condition) why none (only _ why e))
 
-  pub position_stopped : (name : List ℕ) (why : Refusal) →
-      None ≡ first_of (refusals_by_record (market_of file) now.history (Position name v condition)) →
-      impossible_together file.net now.history condition.items ≡ Some why →
-      IsAllowedFor (market_of file) now (OfCommand (Position name v condition)) (Refused why)
-  position_stopped name why none e =
-      refusal_allowed (market_of file) now (Position name v condition) why
-      (stopped_by_states (market_of file) now.history (Position name v condition) why none (only _ why e))
+    pub position_stopped : (name : List ℕ) (why : Refusal) →
+        None ≡ first_of (refusals_by_record (market_of file) now.history (Position name v condition))
+        →
+        impossible_together file.net now.history condition.items ≡ Some why →
+        IsAllowedFor (market_of file) now (OfCommand (Position name v condition)) (Refused why)
+    position_stopped name why none e =
+        refusal_allowed (market_of file) now (Position name v condition) why
+        (stopped_by_states (market_of file) now.history (Position name v condition) why none
+        (only _ why e))
 
 -- ---- a user's assets were asked
 
-pub same_standing : {A Plan : Type 0} (journal : JournalOf) (members : List (Member A Plan)) (user : ℕ)
+pub same_standing : {A Plan : Type 0} (journal : JournalOf) (members : List (Member A Plan))
+    (user : ℕ)
     (before now : Assets A Plan) → slice_get (assets_of members) user ≡ Some before →
     standing_of journal (with_assets members user now) ≡ standing_of journal members
 same_standing journal members user before now there =
-    ap (λ (qs : List (Option LastQuote)). record { history = journal.history; quotes = map (option_map quoted) qs })
+    ap (λ (qs : List (Option LastQuote)). record
+    { history = journal.history; quotes = map (option_map quoted) qs })
     (quotes_same members user before now there)
 
-module _ {P A Plan : Type 0} (weights_stand : P → Meaning → Type 0) (gains_stand : A → Meaning → Type 0)
-    (plan_for : Plan → List Variable → GivenTree → Type 0) (file : MarketFile) (prices : P) (rows : A) (plan : Plan)
-    (members : List (Member A Plan)) (accounts : List Account) (journal : JournalOf) (payments : Option (List Payment))
-    (kept : IsKept weights_stand gains_stand plan_for file prices rows plan members accounts journal payments) where
-  pub position_kept : (new_prices : P) → ((m : Meaning) → weights_stand prices m → weights_stand new_prices m) →
+module _ {P A Plan : Type 0} (weights_stand : P → Meaning → Type 0) (gains_stand : A → Meaning
+    → Type 0)
+    (plan_for : Plan → List Variable → GivenTree
+    → Type 0) (file : MarketFile) (prices : P) (rows : A) (plan : Plan)
+    (members : List (Member A Plan)) (accounts : List Account) (journal : JournalOf)
+    (payments : Option (List Payment))
+    (kept : IsKept weights_stand gains_stand plan_for file prices rows plan members accounts journal
+    payments) where
+  pub position_kept : (new_prices : P) → ((m : Meaning) → weights_stand prices m
+      → weights_stand new_prices m) →
       (user : ℕ) (before now : Assets A Plan) → slice_get (assets_of members) user ≡ Some before →
       ((h : Holding) → Owns gains_stand before h → Owns gains_stand now h) →
-      IsKept weights_stand gains_stand plan_for file new_prices rows plan (with_assets members user now) accounts journal payments
+      IsKept weights_stand gains_stand plan_for file new_prices rows plan
+      (with_assets members user now) accounts journal payments
   position_kept new_prices stands_still user before now there still =
-      kept_still weights_stand gains_stand plan_for file prices new_prices rows plan members (with_assets members user now) accounts journal payments kept
+      kept_still weights_stand gains_stand plan_for file prices new_prices rows plan members
+      (with_assets members user now) accounts journal payments kept
       (record {
         prices_still = stands_still;
         names_still = names_same members user before now there;

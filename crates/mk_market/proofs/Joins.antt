@@ -64,8 +64,10 @@ module _ {P A Plan : Type 0} (weights_stand : P → Meaning → Type 0) (gains_s
     join_allowed at e = answer_allowed (market_of file) (standing_of journal members) (User name) (Joined name at) none
         (Rattle.std.proofs.Common.inl (ap (λ (n : ℕ). Joined name n) (e ∙ ap (λ (H : List Entry). length H) history ∙ length_push journal.history (Join name))))
 
-    pub join_paid : (at : ℕ) → new_accounts ≡ accounts ++ empty_account ∷ [] → ArePaidBy (Joined name at) accounts new_accounts
-    join_paid at opened u = ap (λ (xs : List Account). (account_of xs u).paid) opened ∙ paid_opened accounts u
+    pub join_paid : (at : ℕ) → new_accounts ≡ accounts ++ empty_account ∷ []
+        → ArePaidBy (Joined name at) accounts new_accounts
+    join_paid at opened u = ap (λ (xs : List Account). (account_of xs u).paid) opened ∙ paid_opened
+        accounts u
 
     names_more : names_of new_members ≡ users (journal.history ++ Join name ∷ [])
     names_more =

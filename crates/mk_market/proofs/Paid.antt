@@ -12,7 +12,8 @@ use Rattle.mk_net.specs.Network.{Variable}
 use Rattle.mk_exact.specs.Cash.{CoversCash}
 use Rattle.mk_exact.specs.Events.{always}
 use Rattle.mk_exact.specs.Existing.{HasLeast}
-use Rattle.mk_exact.specs.Factors.{Fraction, HoldsNoTrade, IsAtLeastOne, factor, factor_with, gain, least_gain}
+use Rattle.mk_exact.specs.Factors.{Fraction, HoldsNoTrade, IsAtLeastOne, factor, factor_with, gain}
+use Rattle.mk_exact.specs.Factors.{least_gain}
 use Rattle.mk_exact.specs.History.{Entry}
 use Rattle.mk_exact.specs.Weight.{IsSmall, possible_states}
 use Rattle.mk_exact.proofs.ExistMarkets.{least_gain_exists}
@@ -52,11 +53,13 @@ module _ (network : List Variable) (tree : GivenTree) (H : List Entry) (open_for
   pub covers_factor : (f : Factor) (points low high : ℕ)
       → ((g : ℕ) → least_gain network H user always ≡ Some g → IsFactorFor f (IsSmall network H) (factor_with H user g))
       → (HoldsNoTrade H user → Encloses f.gain 1)
-      → ((q : Fraction) → StandsFor f q.num q.den → IsGradedWithin f.gain (2 ^ 17) → IsAtLeastOne q → CoversCash (IsExact f.gain) (Encloses f.gain 1) q points low high)
+      → ((q : Fraction) → StandsFor f q.num q.den → IsGradedWithin f.gain (2 ^ 17) → IsAtLeastOne q
+      → CoversCash (IsExact f.gain) (Encloses f.gain 1) q points low high)
       → CoversCash (IsSmall network H) (HoldsNoTrade H user) (factor H user state) points low high
   covers_factor f points low high found one_gain covers =
       let is = found (gain H user state) only_gain in
-      cash_when (IsSmall network H) (IsExact f.gain) (HoldsNoTrade H user) (Encloses f.gain 1) is.exact one_gain (factor H user state) points low high
+      cash_when (IsSmall network H) (IsExact f.gain) (HoldsNoTrade H user) (Encloses f.gain 1)
+      is.exact one_gain (factor H user state) points low high
       (covers (factor H user state) is.stands is.graded safe)
 
 -- ---- all
@@ -87,12 +90,16 @@ module _ {A Plan : Type 0} (gains_stand : A → Meaning → Type 0) (network : L
     pub entered : ArePaid accounts ledger payments
     pub unpaid : (u : ℕ) → n ≤ u → (account_of ledger u).paid ≡ (account_of accounts u).paid
     pub made : length payments ≡ n
-    pub paid : (state : List ℕ) → possible_states network H always ≡ state ∷ [] → AllZip (IsPayment network H points state) (enumerate_from 0 (take n (names_of old))) payments
+    pub paid : (state : List ℕ) → possible_states network H always ≡ state ∷ []
+        → AllZip (IsPayment network H points state) (enumerate_from 0 (take n (names_of old)))
+        payments
 
   pub one_paid : (n : ℕ) (before now : List (Member A Plan)) (ledger new_ledger : List Account) (payments new_payments : List Payment) (payment : Payment) → n < length old
       → length accounts ≡ length old → ArePaidBefore n before ledger payments
       → ((u : ℕ) (h : Holding) → OwnsAt gains_stand before u h → OwnsAt gains_stand now u h) → names_of now ≡ names_of before → quotes_of now ≡ quotes_of before
-      → ((state name : List ℕ) → possible_states network H always ≡ state ∷ [] → slice_get (names_of before) n ≡ Some name → IsPayment network H points state (n, name) payment)
+      → ((state name : List ℕ) → possible_states network H always ≡ state ∷ []
+      → slice_get (names_of before) n ≡ Some name
+      → IsPayment network H points state (n, name) payment)
       → new_ledger ≡ slice_set ledger n (let account = account_of ledger n in record account { paid = account.paid + payment.paid })
       → new_payments ≡ payments ++ payment ∷ [] → ArePaidBefore (n + 1) now new_ledger new_payments
   one_paid n before now ledger new_ledger payments new_payments payment within one_each so_far still same_names same_quotes is_paid entered pushed = record {
@@ -138,14 +145,20 @@ module _ {A Plan : Type 0} (gains_stand : A → Meaning → Type 0) (network : L
           ap (λ (xs : List Account). (account_of xs u).paid) entered
           ∙ ap (λ (a : Account). a.paid) (get_or-set_other ledger n u entry empty_account (λ same. absurd (omega (arith, same, before, so_far.made)))) ∙ so_far.entered.paid u given at
 
-      now_paid : (state : List ℕ) → possible_states network H always ≡ state ∷ [] → AllZip (IsPayment network H points state) (enumerate_from 0 (take (n + 1) (names_of old))) new_payments
+      now_paid : (state : List ℕ) → possible_states network H always ≡ state ∷ []
+          → AllZip (IsPayment network H points state)
+          (enumerate_from 0 (take (n + 1) (names_of old))) new_payments
       now_paid state one =
           let count = length-map old (λ (m : Member A Plan). m.name) in
           let found = there (names_of old) n (omega (arith, within, count)) in
-          let last : IsPayment network H points state (n, found.0) payment = is_paid state (found.0) one (ap (λ (names : List (List ℕ)). slice_get names n) so_far.names ∙ found.1) in
+          let last : IsPayment network H points state (n, found.0) payment = is_paid state (found.0)
+          one (ap (λ (names : List (List ℕ)). slice_get names n) so_far.names ∙ found.1) in
           let zero_n : 0 + n ≡ n = omega arith in
-          subst (λ (ps : List Payment). AllZip (IsPayment network H points state) (enumerate_from 0 (take (n + 1) (names_of old))) ps) (sym pushed)
-          (subst (λ (xs : List (ℕ × List ℕ)). AllZip (IsPayment network H points state) xs (payments ++ payment ∷ []))
+          subst (λ (ps : List Payment). AllZip (IsPayment network H points state)
+          (enumerate_from 0 (take (n + 1) (names_of old))) ps) (sym pushed)
+          (subst (λ (xs : List (ℕ × List ℕ)). AllZip (IsPayment network H points state) xs
+          (payments ++ payment ∷ []))
           (sym (next_of (names_of old) 0 n (found.0) (found.1)
           ∙ ap (λ (k : ℕ). enumerate_from 0 (take n (names_of old)) ++ (k, found.0) ∷ []) zero_n))
-          (zip_push (IsPayment network H points state) (enumerate_from 0 (take n (names_of old))) payments (n, found.0) payment (so_far.paid state one) last))
+          (zip_push (IsPayment network H points state) (enumerate_from 0 (take n (names_of old)))
+          payments (n, found.0) payment (so_far.paid state one) last))

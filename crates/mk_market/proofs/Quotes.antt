@@ -32,8 +32,10 @@ use Rattle.mk_market.specs.inner.Quoting.{OwnsAt}
 use Rattle.mk_market.proofs.Lent.{in_range, read_set, names_beside, assets_beside, quotes_set}
 
 -- a market as its callers see it
-abbrev pub trading : {A Plan : Type 0} → MarketFile → List Account → JournalOf → List (Member A Plan) → Trading
-trading file accounts journal members = record { market = market_of file; standing = standing_of journal members; accounts = accounts }
+abbrev pub trading : {A Plan : Type 0} → MarketFile → List Account → JournalOf
+    → List (Member A Plan) → Trading
+trading file accounts journal members = record
+    { market = market_of file; standing = standing_of journal members; accounts = accounts }
 
 some_is : {X : Type 0} (x y : X) → Some x ≡ Some y → x ≡ y
 some_is x y e = cc
@@ -94,13 +96,18 @@ module _ {P A Plan : Type 0} (weights_stand : P → Meaning → Type 0) (gains_s
       subst (AreKeptQuotes file.net file.tree journal.history) (sym are.quotes)
       (each_set (IsKeptQuote file.net file.tree journal.history) user quote (quotes_of members) is kept.quotes_kept)
 
-  ready_then : (command : Command) (reply : Reply) → IsAnswered (trading file accounts journal members) (trading file accounts journal new_members) command reply → IsReady (market_of file) (standing_of journal new_members)
+  ready_then : (command : Command) (reply : Reply)
+      → IsAnswered (trading file accounts journal members)
+      (trading file accounts journal new_members) command reply
+      → IsReady (market_of file) (standing_of journal new_members)
   ready_then command reply answered =
       subst (IsReady (market_of file)) (sym answered.next) (ready_keeps (market_of file) (standing_of journal members) (OfCommand command) reply kept.ready answered.allowed)
 
   -- a market that was kept is kept beside a new quote, where its answer is allowed
   pub kept_quoted : ((m : Meaning) → weights_stand prices m → weights_stand new_prices m)
-      → (command : Command) (reply : Reply) → IsAnswered (trading file accounts journal members) (trading file accounts journal new_members) command reply
+      → (command : Command) (reply : Reply)
+      → IsAnswered (trading file accounts journal members)
+      (trading file accounts journal new_members) command reply
       → IsKept weights_stand gains_stand plan_for file new_prices rows plan new_members accounts journal payments
   kept_quoted still_prices command reply answered = record {
     legal = kept.legal;

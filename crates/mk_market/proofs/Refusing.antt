@@ -1,6 +1,7 @@
 -- What is refused, and what is known where nothing is.
 use Rattle.std.proofs.Common.{◌≡◌, ℕ, suc, zero, ◌+◌, ◌<◌, ◌≤◌, Bool, true, false, cond, not, ltb, ◌&&◌, ◌||◌, List, [], ◌∷◌, ◌++◌, length, drop, map, filter, slice_index_or, ◌⊎◌, inl, inr, Option, Some, None, is_none, refl, sym, ap, ap₂, subst, ◌∙◌, arith}
-use Rattle.std.specs.Prelude.{◌==◌, ◌-◌, find, option_map, is_some, position, slice_get, Result, Ok, Err, IfOk, IsErrAnd}
+use Rattle.std.specs.Prelude.{◌==◌, ◌-◌, find, option_map, is_some, position, slice_get, Result, Ok}
+use Rattle.std.specs.Prelude.{Err, IfOk, IsErrAnd}
 use Rattle.std.specs.List.{list_any, list_all, cons_option, position_or_len, enumerate_from, range_with_len, AllByRecursion}
 use Rattle.std.proofs.lemmas.Bool.{eqb-true, eq-eqb, cases_eq, cases_lt, lt-ltb, le-ltb, ltb-true, ltb-false}
 use Rattle.std.proofs.lemmas.List.Folds.{find_at}

@@ -5,7 +5,10 @@ use Rattle.mk_net.specs.Firsts.{fault_if, or_else, first_of}
 use Rattle.mk_exact.specs.History.{Entry, is_settled}
 use Rattle.mk_exact.specs.Market.{Market}
 use Rattle.mk_command.specs.declared.command.Command.{Command}
-use Rattle.mk_command.specs.declared.command.Command.TheVariants.{User, Deposit, Withdraw, Price, Limits, Edit, Bounds, Spread, Worst, Resolve, Settle, Bound, Prices, Position, Status}
+use Rattle.mk_command.specs.declared.command.Command.TheVariants.{User, Deposit, Withdraw, Price}
+use Rattle.mk_command.specs.declared.command.Command.TheVariants.{Limits, Edit, Bounds, Spread}
+use Rattle.mk_command.specs.declared.command.Command.TheVariants.{Worst, Resolve, Settle, Bound}
+use Rattle.mk_command.specs.declared.command.Command.TheVariants.{Prices, Position, Status}
 use Rattle.mk_reply.specs.declared.refusal.Refusal.{Refusal}
 use Rattle.mk_reply.specs.declared.reply.Reply.{Reply}
 use Rattle.mk_reply.specs.declared.reply.Reply.TheVariants.{Refused}
@@ -82,8 +85,10 @@ refused_stays market now (Worst user) why h = none_appended market now (Worst us
 refused_stays market now (Resolve pair) why h = none_appended market now (Resolve pair) (Refused why) refl refl
 refused_stays market now Settle why h = none_appended market now Settle (Refused why) refl refl
 refused_stays market now Bound why h = none_appended market now Bound (Refused why) refl refl
-refused_stays market now (Prices variable condition) why h = none_appended market now (Prices variable condition) (Refused why) refl refl
-refused_stays market now (Position user variable condition) why h = none_appended market now (Position user variable condition) (Refused why) refl refl
+refused_stays market now (Prices variable condition) why h = none_appended market now
+    (Prices variable condition) (Refused why) refl refl
+refused_stays market now (Position user variable condition) why h = none_appended market now
+    (Position user variable condition) (Refused why) refl refl
 refused_stays market now Status why h = none_appended market now Status (Refused why) refl refl
 
 refused_answered : (old : Trading) (command : Command) (why : Refusal) → IsNoTrade command → Some why ≡ first_refusal old.market old.standing.history command

@@ -1,5 +1,6 @@
 -- A pair of a variable that is not resolved can be asked about, and where no share is nothing it can come.
-use Rattle.std.proofs.Common.{◌≡◌, ℕ, ◌+◌, Bool, true, false, cond, not, ◌&&◌, eqb, List, [], ◌∷◌, ◌++◌, Option, Some, None, is_none, refl, sym, ap, ◌∙◌, eq-eqb}
+use Rattle.std.proofs.Common.{◌≡◌, ℕ, ◌+◌, Bool, true, false, cond, not, ◌&&◌, eqb, List, [], ◌∷◌}
+use Rattle.std.proofs.Common.{◌++◌, Option, Some, None, is_none, refl, sym, ap, ◌∙◌, eq-eqb}
 use Rattle.std.proofs.Math.Path.{fun_ext}
 use Rattle.std.specs.Prelude.{option_map, is_some}
 use Rattle.std.specs.List.{AllByRecursion}
@@ -73,7 +74,9 @@ module _ (network : List Variable) (H : List Entry) (pair : Pair) (can : CanBeRe
       (state_remains network H (pair ∷ []) is_open.legal (no_zeros network none) is_open.proper (can.in_range, tt) (refl, tt) (silent (resolutions H) can.unresolved, tt))
 
 -- it can be searched for
-pub can_search : {E : Type 0} (stands_for : E → Meaning → Type 0) (prices : E) (network : List Variable) (at : ℕ) (pair : Pair) (event : List Pair) → event ≡ pair ∷ []
+pub can_search : {E : Type 0} (stands_for : E → Meaning
+    → Type 0) (prices : E) (network : List Variable) (at : ℕ) (pair : Pair) (event : List Pair)
+    → event ≡ pair ∷ []
     → CanAskOfPair stands_for prices network at pair → CanSearch stands_for prices at event
 can_search stands_for prices network at pair event is can = rw is (record {
   network = network;

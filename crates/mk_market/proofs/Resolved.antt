@@ -1,5 +1,6 @@
 -- A variable is resolved.
-use Rattle.std.specs.Prelude.{◌≡◌, ℕ, ◌+◌, ◌<◌, List, [], ◌∷◌, ◌++◌, map, length, Option, Some, None, option_map, option_to_list, slice_get, is_some}
+use Rattle.std.specs.Prelude.{◌≡◌, ℕ, ◌+◌, ◌<◌, List, [], ◌∷◌, ◌++◌, map, length, Option, Some}
+use Rattle.std.specs.Prelude.{None, option_map, option_to_list, slice_get, is_some}
 use Rattle.std.proofs.Common.{Bool, true, false, not, cond, refl, sym, ap, ap₂, ◌∙◌, subst, arith, add-zero}
 use Rattle.std.specs.List.{cons_option}
 use Rattle.std.proofs.lemmas.List.{length_push}
@@ -66,18 +67,31 @@ module _ {P A Plan : Type 0} (weights_stand : P → Meaning → Type 0) (gains_s
   opened = is_open weights_stand gains_stand plan_for file prices rows plan members accounts journal payments kept
 
   pub has_home : is_some (home file.tree (pair ∷ [])) ≡ true
-  has_home = pair_has_home file.net file.tree pair (kept.tree.covers pair.variable can.in_range.variable)
+  has_home = pair_has_home file.net file.tree pair
+      (kept.tree.covers pair.variable can.in_range.variable)
 
   module _ (place : ℕ) (at_home : home file.tree (pair ∷ []) ≡ Some place) where
     pub can_be_told : CanBeTold gains_stand members place pair
     can_be_told = λ u assets at. record {
-      can_learn = record { holding = holding_of file.net file.tree journal.history u; owns = kept.owns u assets at; in_range = can.in_range };
+      can_learn = record {
+        holding = holding_of file.net file.tree journal.history u;
+        owns =
+            kept.owns u assets at;
+        in_range = can.in_range;
+      };
       at_home = at_home;
     }
 
     -- it can be asked whether the pair can come
     pub can_ask : CanAskOfPair weights_stand prices file.net place pair
-    can_ask = record { tree = file.tree; history = journal.history; stands = kept.prices_stand; is_open = opened; at_home = at_home; resolvable = can }
+    can_ask = record {
+      tree = file.tree;
+      history = journal.history;
+      stands = kept.prices_stand;
+      is_open = opened;
+      at_home = at_home;
+      resolvable = can;
+    }
 
   -- what it is refused for where nothing in the record refuses it
   by_one_pair : (b : Bool) → cannot_come file.net journal.history (has pair) ≡ b

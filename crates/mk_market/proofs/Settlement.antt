@@ -1,5 +1,7 @@
 -- The market is settled.
-use Rattle.std.specs.Prelude.{◌≡◌, ℕ, ◌+◌, ◌*◌, ◌^◌, ◌<◌, zero, suc, ◌&&◌, List, [], ◌∷◌, ◌++◌, map, filter, sum_by, length, true, false, Option, Some, None, option_map, slice_get}
+use Rattle.std.specs.Prelude.{◌≡◌, ℕ, ◌+◌, ◌*◌, ◌^◌, ◌<◌, zero, suc, ◌&&◌, List, [], ◌∷◌, ◌++◌, map}
+use Rattle.std.specs.Prelude.{filter, sum_by, length, true, false, Option, Some, None, option_map}
+use Rattle.std.specs.Prelude.{slice_get}
 use Rattle.std.specs.List.{AllZip, enumerate_from}
 use Rattle.std.proofs.Common.{refl, sym, ap, ap₂, ◌∙◌, subst, arith, add-zero}
 use Rattle.std.proofs.lemmas.List.{length_push}
@@ -14,9 +16,11 @@ use Rattle.mk_exact.specs.InitialWeight.{all_states, initial_weight}
 use Rattle.mk_exact.specs.Ratios.{ratio_at}
 use Rattle.mk_exact.specs.States.{product_by}
 use Rattle.mk_exact.specs.Market.{Market, network_of}
-use Rattle.mk_exact.specs.History.{Entry, UserTrade, Settle as Settles, join_in, users, revision, is_settlement, is_settled}
+use Rattle.mk_exact.specs.History.{Entry, UserTrade, Settle as Settles, join_in, users, revision}
+use Rattle.mk_exact.specs.History.{is_settlement, is_settled}
 use Rattle.mk_exact.specs.Weight.{IsSmall, possible_states}
-use Rattle.mk_exact.proofs.After.{deposited_kept, withdrawn_kept, users_kept, resolutions_kept, trades_kept, trades_of_kept, factor_kept}
+use Rattle.mk_exact.proofs.After.{deposited_kept, withdrawn_kept, users_kept, resolutions_kept}
+use Rattle.mk_exact.proofs.After.{trades_kept, trades_of_kept, factor_kept}
 use Rattle.mk_exact.proofs.ExistOutcome.{outcome_exists}
 use Rattle.mk_tree.specs.Given.{GivenTree}
 use Rattle.mk_file.specs.declared.market_file.MarketFile.{MarketFile}
@@ -61,36 +65,49 @@ payment_at R (x ∷ xs) (p ∷ ps) m (suc u) h l =
     let same : m + 1 + u ≡ m + suc u = omega arith in
     (later.0, later.1, later.2, subst (λ (k : ℕ). R (k, later.0) (later.1)) same (later.3))
 
-one_for_each : {A B : Type 0} (R : ℕ × A → B → Type 0) (names : List A) (pays : List B) (m : ℕ) → AllZip R (enumerate_from m names) pays → length pays ≡ length names
+one_for_each : {A B : Type 0} (R : ℕ × A → B → Type 0) (names : List A) (pays : List B) (m : ℕ)
+    → AllZip R (enumerate_from m names) pays → length pays ≡ length names
 one_for_each R [] [] m h = refl
 one_for_each R [] (p ∷ ps) m h = absurd h
 one_for_each R (x ∷ xs) [] m h = absurd h
-one_for_each R (x ∷ xs) (p ∷ ps) m h = let later = one_for_each R xs ps (m + 1) (h.1) in omega (arith, later)
+one_for_each R (x ∷ xs) (p ∷ ps) m h = let later = one_for_each R xs ps (m + 1) (h.1) in omega
+    (arith, later)
 
 -- the small case, and a user without trades, are what they were before the settlement
-small_before : (network : List Variable) (H : List Entry) → IsSmall network (H ++ Settles ∷ []) → IsSmall network H
+small_before : (network : List Variable) (H : List Entry) → IsSmall network (H ++ Settles ∷ [])
+    → IsSmall network H
 small_before network H small =
-    subst (λ (ts : List UserTrade). sum_by (λ s. initial_weight network s * product_by (λ (t : UserTrade). ratio_at t.ratio s) ts) (all_states network) < 2 ^ 63)
+    subst (λ (ts : List UserTrade). sum_by (λ s. initial_weight network s * product_by
+    (λ (t : UserTrade). ratio_at t.ratio s) ts) (all_states network) < 2 ^ 63)
     (trades_kept H Settles refl) small
 
 idle_before : (H : List Entry) (u : ℕ) → HoldsNoTrade (H ++ Settles ∷ []) u → HoldsNoTrade H u
-idle_before H u none = subst (λ (ts : List UserTrade). length ts ≡ 0) (trades_of_kept H Settles u refl) none
+idle_before H u none = subst (λ (ts : List UserTrade). length ts ≡ 0)
+    (trades_of_kept H Settles u refl) none
 
 module _ (market : Market) (H : List Entry) (state : List ℕ) (one : possible_states (network_of market H) H always ≡ state ∷ []) (pays : List Payment)
-    (paid : AllZip (IsPayment (network_of market H) H market.points_per_bit state) (enumerate_from 0 (users H)) pays) where
+    (paid : AllZip (IsPayment (network_of market H) H market.points_per_bit state)
+    (enumerate_from 0 (users H)) pays) where
   -- a user who was paid as it is printed is paid off
-  is_paid_off : (u : ℕ) (name : List ℕ) (payment : Payment) (points : ℕ) → points ≡ payment.paid → IsPayment (network_of market H) H market.points_per_bit state (u, name) payment
+  is_paid_off : (u : ℕ) (name : List ℕ) (payment : Payment) (points : ℕ) → points ≡ payment.paid
+      → IsPayment (network_of market H) H market.points_per_bit state (u, name) payment
       → IsPaidOff market (H ++ Settles ∷ []) u points
   is_paid_off u name payment points printed is = record {
     state = state;
     one_state = ap (λ (ps : List Pair). filter (λ s. holds ps s && always s) (all_states (network_of market H))) (resolutions_kept H Settles refl) ∙ one;
     high = payment.high;
-    covers = subst (λ (low : ℕ). CoversCash (IsSmall (network_of market H) (H ++ Settles ∷ [])) (HoldsNoTrade (H ++ Settles ∷ []) u) (factor (H ++ Settles ∷ []) u state) market.points_per_bit low payment.high)
+    covers = subst (λ (low : ℕ). CoversCash (IsSmall (network_of market H) (H ++ Settles ∷ []))
+        (HoldsNoTrade (H ++ Settles ∷ []) u) (factor (H ++ Settles ∷ []) u state)
+        market.points_per_bit low payment.high)
         (sym (printed ∙ is.low_end))
-        (subst (λ (q : Fraction). CoversCash (IsSmall (network_of market H) (H ++ Settles ∷ [])) (HoldsNoTrade (H ++ Settles ∷ []) u) q market.points_per_bit payment.low payment.high)
+        (subst (λ (q : Fraction). CoversCash (IsSmall (network_of market H) (H ++ Settles ∷ []))
+        (HoldsNoTrade (H ++ Settles ∷ []) u) q market.points_per_bit payment.low payment.high)
         (sym (factor_kept H Settles u state (trades_of_kept H Settles u refl) refl refl))
-        (cash_when (IsSmall (network_of market H) (H ++ Settles ∷ [])) (IsSmall (network_of market H) H) (HoldsNoTrade (H ++ Settles ∷ []) u) (HoldsNoTrade H u)
-        (small_before (network_of market H) H) (idle_before H u) (factor H u state) market.points_per_bit payment.low payment.high is.covers));
+        (cash_when (IsSmall (network_of market H) (H ++ Settles ∷ []))
+        (IsSmall (network_of market H) H) (HoldsNoTrade (H ++ Settles ∷ []) u)
+        (HoldsNoTrade H u)
+        (small_before (network_of market H) H) (idle_before H u) (factor H u state)
+        market.points_per_bit payment.low payment.high is.covers));
   }
 
   -- payments that are entered leave what went in and out
@@ -99,7 +116,8 @@ module _ (market : Market) (H : List Entry) (state : List ℕ) (one : possible_s
     one_each = entered.count ∙ are.one_each ∙ sym (ap (λ (names : List (List ℕ)). length names) (users_kept H Settles refl));
     each = λ u within.
         let before = are.each u (omega (arith, within, entered.count)) in
-        let found = payment_at (IsPayment (network_of market H) H market.points_per_bit state) (users H) pays 0 u paid (omega (arith, within, entered.count, are.one_each)) in
+        let found = payment_at (IsPayment (network_of market H) H market.points_per_bit state)
+        (users H) pays 0 u paid (omega (arith, within, entered.count, are.one_each)) in
         let same : 0 + u ≡ u = omega arith in
         let printed : (account_of new u).paid ≡ (found.1).paid = omega (arith, entered.paid u (found.1) (found.2), before.unpaid unsettled) in
         record {
@@ -107,7 +125,8 @@ module _ (market : Market) (H : List Entry) (state : List ℕ) (one : possible_s
           taken_out = entered.taken_out u ∙ before.taken_out ∙ ap (λ (n : ℕ). market.points_per_bit * n) (sym (withdrawn_kept H Settles u refl));
           unpaid = λ still. absurd (settled_now H still);
           paid_off = λ _. is_paid_off u (found.0) (found.1) (account_of new u).paid printed
-              (subst (λ (k : ℕ). IsPayment (network_of market H) H market.points_per_bit state (k, found.0) (found.1)) same (found.3));
+              (subst (λ (k : ℕ). IsPayment (network_of market H) H market.points_per_bit state
+              (k, found.0) (found.1)) same (found.3));
         };
   }
 
@@ -118,15 +137,19 @@ module _ {P A Plan : Type 0} (weights_stand : P → Meaning → Type 0) (gains_s
     (new_members : List (Member A Plan)) (new_journal : JournalOf) (history : new_journal.history ≡ journal.history ++ Settles ∷ []) (same_quotes : quotes_of new_members ≡ quotes_of members)
     (pays : List Payment)
     (paid : (state : List ℕ) → possible_states file.net journal.history always ≡ state ∷ []
-    → AllZip (IsPayment file.net journal.history file.points_per_bit state) (enumerate_from 0 (names_of members)) pays)
+    → AllZip (IsPayment file.net journal.history file.points_per_bit state)
+    (enumerate_from 0 (names_of members)) pays)
     (at : ℕ) (now : at ≡ revision new_journal.history) where
   -- one state is left, and the payments are what the factors there are worth
   outcome : HasOutcome file.net journal.history
   outcome = outcome_exists file.net journal.history kept.legal kept.ready.stands.proper kept.ready.stands.sound can.resolved
 
-  paid_there : AllZip (IsPayment file.net journal.history file.points_per_bit outcome.state) (enumerate_from 0 (users journal.history)) pays
+  paid_there : AllZip (IsPayment file.net journal.history file.points_per_bit outcome.state)
+      (enumerate_from 0 (users journal.history)) pays
   paid_there =
-      subst (λ (names : List (List ℕ)). AllZip (IsPayment file.net journal.history file.points_per_bit outcome.state) (enumerate_from 0 names) pays) kept.named (paid outcome.state outcome.one_state)
+      subst (λ (names : List (List ℕ)). AllZip (IsPayment file.net journal.history
+      file.points_per_bit outcome.state) (enumerate_from 0 names) pays) kept.named
+      (paid outcome.state outcome.one_state)
 
   settlement : IsSettlement file.net journal.history file.points_per_bit (Settled at pays)
   settlement = record {
@@ -144,11 +167,14 @@ module _ {P A Plan : Type 0} (weights_stand : P → Meaning → Type 0) (gains_s
   settlement_next = ap₂ (λ (H : List Entry) (qs : List (Option LastQuote)). record { history = H; quotes = map (option_map quoted) qs }) history same_quotes
 
   -- there is one payment for each account, and each account was paid nothing before
-  pub settlement_paid : (new_accounts : List Account) → ArePaid accounts new_accounts pays → ArePaidBy (Settled at pays) accounts new_accounts
+  pub settlement_paid : (new_accounts : List Account) → ArePaid accounts new_accounts pays
+      → ArePaidBy (Settled at pays) accounts new_accounts
   settlement_paid new_accounts entered u payment there =
       let few = slice_get_within pays u payment there in
-      let one_each = one_for_each (IsPayment file.net journal.history file.points_per_bit outcome.state) (users journal.history) pays 0 paid_there in
-      let before = kept.accounts_kept.each u (omega (arith, few, one_each, kept.accounts_kept.one_each)) in
+      let one_each = one_for_each (IsPayment file.net journal.history file.points_per_bit
+      outcome.state) (users journal.history) pays 0 paid_there in
+      let before = kept.accounts_kept.each u (omega
+      (arith, few, one_each, kept.accounts_kept.one_each)) in
       omega (arith, entered.paid u payment there, before.unpaid can.unsettled)
 
   -- the market is kept

@@ -100,9 +100,11 @@ each_home : (tree : GivenTree) (condition : List Pair) (a b : Pair) → a.variab
 each_home tree condition a b same = ap (λ (test : VarSet → Bool). option_map (λ (k : ℕ). k + 1) (position test tree.cliques)) (fun_ext (λ set. same_holds set condition a b same))
 
 -- the home of the first value holds each
-pub value_is_held : (tree : GivenTree) (at : ℕ) (spread : SpreadAsked) (value : ℕ) → home tree (pairs_asked (asked_of spread 0)) ≡ Some at
+pub value_is_held : (tree : GivenTree) (at : ℕ) (spread : SpreadAsked) (value : ℕ)
+    → home tree (pairs_asked (asked_of spread 0)) ≡ Some at
     → IsHeldAt tree at (pairs_asked (asked_of spread value))
-value_is_held tree at spread value at_home = home_is_held tree at _ (each_home tree spread.condition _ _ refl ∙ at_home)
+value_is_held tree at spread value at_home = home_is_held tree at _
+    (each_home tree spread.condition _ _ refl ∙ at_home)
 
 -- a distribution is wide exactly where its variable's first value has no home
 pub spread_is_homeless : (file : MarketFile) (H : List Entry) (v : List ℕ) (ps : List PairText) (spread : SpreadAsked) → spread_named file.net v ps ≡ Some spread
@@ -114,7 +116,8 @@ spread_is_homeless file H v ps spread named =
 
 -- a distribution that none of its refusals meets can be answered
 pub can_answer_spread : (file : MarketFile) (H : List Entry) (v : List ℕ) (ps : List PairText) (spread : SpreadAsked) → spread_named file.net v ps ≡ Some spread → AreApart spread.condition
-    → speaks_of spread.condition spread.variable ≡ false → resolved file.net H v ≡ None → impossible file.net H ps ≡ None
+    → speaks_of spread.condition spread.variable ≡ false → resolved file.net H v ≡ None
+    → impossible file.net H ps ≡ None
     → fault_if (is_none (home file.tree (pairs_asked (asked_of spread 0)))) Wide ≡ None → IsSpreadQuestionFor (market_of file) file.tree H v ps spread
 can_answer_spread file H v ps spread named apart variable_apart free agreed held =
     let parts = spread_parts file.net v ps spread named in
@@ -216,7 +219,8 @@ module _ (file : MarketFile) (H : List Entry) (v : List ℕ) (ps : List PairText
 
   module _ (pairs : ArrayVec PairText) (given : pairs.items ≡ ps) where
     abbrev IsFirstOfPrices : Option Refusal → Type 0
-    IsFirstOfPrices found = found ≡ first_of (refusals_by_record (market_of file) H (Prices v pairs))
+    IsFirstOfPrices found = found ≡ first_of (refusals_by_record (market_of file) H
+        (Prices v pairs))
 
     prices_are : first_of (settled H ∷ (asking ++ answering))
         ≡ first_of (refusals_by_record (market_of file) H (Prices v pairs))

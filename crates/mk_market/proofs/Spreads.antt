@@ -1,5 +1,8 @@
 -- A user is quoted bounds, or a spread is judged by them.
-use Rattle.std.specs.Prelude.{◌≡◌, ℕ, ◌+◌, ◌≤◌, ◌==◌, List, [], ◌∷◌, ◌++◌, Bool, true, false, if◌then◌else◌, length, map, All, Option, Some, None, option_map, option_and_then, option_to_list, MatchOption, IsSomeAnd, Result, Ok, Err, IsErrAnd, ⊤, slice_get, slice_set, slice_index, suc}
+use Rattle.std.specs.Prelude.{◌≡◌, ℕ, ◌+◌, ◌≤◌, ◌==◌, List, [], ◌∷◌, ◌++◌, Bool, true, false}
+use Rattle.std.specs.Prelude.{if◌then◌else◌, length, map, All, Option, Some, None, option_map}
+use Rattle.std.specs.Prelude.{option_and_then, option_to_list, MatchOption, IsSomeAnd, Result, Ok}
+use Rattle.std.specs.Prelude.{Err, IsErrAnd, ⊤, slice_get, slice_set, slice_index, suc}
 use Rattle.std.proofs.Common.{refl, sym, ap, ap₂, ◌∙◌, subst, inl, inr, arith}
 use Rattle.std.proofs.lemmas.Bool.{eqb-true}
 use Rattle.std.proofs.lemmas.List.{length_push}
@@ -247,7 +250,8 @@ module _ {P A Plan : Type 0} (weights_stand : P → Meaning → Type 0) (gains_s
   -- the bounds of a spread
   pub bounds_answered : (box : Option (ArrayVec (ℕ × ℕ))) (at : ℕ) → None ≡ first_refusal (market_of file) journal.history (Bounds name v condition)
       → given_in box ≡ intervals_of quote → AreRightForEach (sides_of quote) (given_in box) → at ≡ revision journal.history
-      → IsAnswered (trading file accounts journal members) (trading file accounts journal new_members) (Bounds name v condition) (Bounded box at)
+      → IsAnswered (trading file accounts journal members)
+      (trading file accounts journal new_members) (Bounds name v condition) (Bounded box at)
   bounds_answered box at none given right now = record {
     same_market = refl;
     allowed = answer_allowed (market_of file) (standing_of journal members) (Bounds name v condition) (Bounded box at) none
@@ -265,7 +269,9 @@ module _ {P A Plan : Type 0} (weights_stand : P → Meaning → Type 0) (gains_s
   pub outside_answered : (to : ArrayVec ℕ) (seen : Option ℕ) (box : Option (ArrayVec (ℕ × ℕ))) → None ≡ first_refusal (market_of file) journal.history (Spread name v condition to seen)
       → IsOutside quote to.items box
       → ((held : SpreadQuote) → slice_get (quotes_of members) user ≡ Some (Some (LastBounds held)) → IsSpreadFor held spread (revision journal.history) → quote ≡ held)
-      → IsAnswered (trading file accounts journal members) (trading file accounts journal new_members) (Spread name v condition to seen) (Refused (Outside box))
+      → IsAnswered (trading file accounts journal members)
+      (trading file accounts journal new_members) (Spread name v condition to seen)
+      (Refused (Outside box))
   outside_answered to seen box none out last =
       let reply = Refused (Outside box) in
       let outside : PrintsOutside (intervals_of quote) to.items reply = record { outside = out.outside; box = box; given = out.given; printed = refl } in
@@ -321,5 +327,12 @@ module _ (file : MarketFile) (journal : JournalOf) (open_for : IsOpen file.net f
         same_quotes
 
     pub spread_trade_answered : (accounts : List Account)
-        → IsAnswered (trading file accounts journal members) (trading file accounts new_journal new_members) (Spread name v condition to seen) (Spreaded factors at)
-    spread_trade_answered accounts = record { same_market = refl; allowed = spread_trade_allowed; next = spread_trade_next; paid = λ u. refl }
+        → IsAnswered (trading file accounts journal members)
+        (trading file accounts new_journal new_members) (Spread name v condition to seen)
+        (Spreaded factors at)
+    spread_trade_answered accounts = record {
+      same_market = refl;
+      allowed = spread_trade_allowed;
+      next = spread_trade_next;
+      paid = λ u. refl;
+    }

@@ -131,9 +131,16 @@ module _ {P A Plan : Type 0} (weights_stand : P → Meaning → Type 0) (gains_s
     (payments : Option (List Payment)) (kept : IsKept weights_stand gains_stand plan_for file prices rows plan members accounts journal payments)
     (new_prices : P) (new_members : List (Member A Plan)) where
   -- users who were quoted the same are the same to its callers
-  same_trading : quotes_of new_members ≡ quotes_of members → trading file accounts journal members ≡ trading file accounts journal new_members
+  same_trading : quotes_of new_members ≡ quotes_of members
+      → trading file accounts journal members ≡ trading file accounts journal new_members
   same_trading same =
-      ap (λ (qs : List (Option LastQuote)). record { market = market_of file; standing = record { history = journal.history; quotes = map (option_map quoted) qs }; accounts = accounts }) (sym same)
+      ap (λ (qs : List (Option LastQuote)). record {
+        market = market_of file;
+        standing = record
+            { history = journal.history; quotes = map (option_map quoted) qs };
+        accounts = accounts;
+      })
+      (sym same)
 
   -- and the market is kept beside them
   pub record AreBeside : Type 0 where
@@ -164,12 +171,15 @@ module _ {P A Plan : Type 0} (weights_stand : P → Meaning → Type 0) (gains_s
     open_for = is_open weights_stand gains_stand plan_for file prices rows plan members accounts journal payments kept
 
     -- the engine can find the words of what stops it
-    pub can_refuse : (request : SpreadRequest) → spread_in request.question ≡ spread → home file.tree (pairs_asked (asked_of (spread_in request.question) 0)) ≡ Some request.home
-        → (words : List PairText) → words ≡ condition.items → unknown file.net condition.items ≡ None
+    pub can_refuse : (request : SpreadRequest) → spread_in request.question ≡ spread
+        → home file.tree (pairs_asked (asked_of (spread_in request.question) 0)) ≡ Some request.home
+        → (words : List PairText) → words ≡ condition.items
+        → unknown file.net condition.items ≡ None
         → ((m : Meaning) → weights_stand prices m → weights_stand new_prices m) → (why : Stopped) → MayStop file.net journal.history spread why
         → CanRefuseSpread weights_stand new_prices file.net v words request why
     can_refuse request its at_home words same known still why may =
-        subst (λ (ps : List PairText). CanRefuseSpread weights_stand new_prices file.net v ps request why) (sym same) (record {
+        subst (λ (ps : List PairText). CanRefuseSpread weights_stand new_prices file.net v ps
+        request why) (sym same) (record {
           tree = file.tree;
           history = journal.history;
           stands = still (weights_of file.net file.tree journal.history) kept.prices_stand;
@@ -189,10 +199,14 @@ module _ {P A Plan : Type 0} (weights_stand : P → Meaning → Type 0) (gains_s
     pub decided_answered : (why : SpreadDecided) (found : Refusal) → None ≡ first_of (refusals_by_record (market_of file) journal.history (Bounds name v condition))
         → IsSpreadDecidedBy file.net journal.history spread why → IsRefusedFor file.net journal.history v condition.items spread (stopped.Decided why) found
         → quotes_of new_members ≡ quotes_of members
-        → IsAnswered (trading file accounts journal members) (trading file accounts journal new_members) (Bounds name v condition) (Refused found)
+        → IsAnswered (trading file accounts journal members)
+        (trading file accounts journal new_members) (Bounds name v condition) (Refused found)
     decided_answered why found none by is same =
-        subst (λ (t : Trading). IsAnswered (trading file accounts journal members) t (Bounds name v condition) (Refused found)) (same_trading same)
-        (answered_refused (trading file accounts journal members) (trading file accounts journal members) refl (Bounds name v condition) tt found (Err found) refl
+        subst (λ (t : Trading). IsAnswered (trading file accounts journal members) t
+        (Bounds name v condition) (Refused found)) (same_trading same)
+        (answered_refused (trading file accounts journal members)
+        (trading file accounts journal members) refl (Bounds name v condition) tt found
+        (Err found) refl
         (stopped_by_states (market_of file) journal.history (Bounds name v condition) found none
         (decided_first file.net file.tree journal.history v condition.items spread is_question.named why found [] by is)))
 
@@ -222,14 +236,19 @@ module _ {P A Plan : Type 0} (weights_stand : P → Meaning → Type 0) (gains_s
           (inside_first file.net file.tree journal.history v condition.items spread is_question.named open_for user quote its to.items inside)
 
       abbrev IsReply : Refusal → Type 0
-      IsReply found = IsAnswered (trading file accounts journal members) (trading file accounts journal new_members) (Spread name v condition to seen) (Refused found)
+      IsReply found = IsAnswered (trading file accounts journal members)
+          (trading file accounts journal new_members) (Spread name v condition to seen)
+          (Refused found)
 
       refused_same : (found : Refusal) → quotes_of new_members ≡ quotes_of members
           → first_of (impossible_together file.net journal.history condition.items ∷ sure_value file.net journal.history v condition.items
           ∷ impossible_share file.net journal.history v condition.items to.items ∷ missing_share file.net journal.history v condition.items to.items ∷ []) ≡ Some found → IsReply found
       refused_same found same first =
-          subst (λ (t : Trading). IsAnswered (trading file accounts journal members) t (Spread name v condition to seen) (Refused found)) (same_trading same)
-          (spread_refused_answered (trading file accounts journal members) (trading file accounts journal members) refl name v condition to seen found (Err found) refl
+          subst (λ (t : Trading). IsAnswered (trading file accounts journal members) t
+          (Spread name v condition to seen) (Refused found)) (same_trading same)
+          (spread_refused_answered (trading file accounts journal members)
+          (trading file accounts journal members) refl name v condition to seen found
+          (Err found) refl
           (stopped_by_states (market_of file) journal.history (Spread name v condition to seen) found none first))
 
       abbrev IsTurned : Stopped → Type 0

@@ -57,7 +57,9 @@ edit_known file H name q X seen none = (none_applies (refusals_by_record (market
 module _ {E : Type 0} (stands_for : E → Meaning → Type 0) (prices : E) (network : List Variable) (tree : GivenTree) (H : List Entry)
     (stands : stands_for prices (weights_of network tree H)) (is_open : IsOpen network tree H) (q : QuestionText) (asked : Asked)
     (named : question_named network q ≡ Some asked) (known : unknown network (pairs_of q) ≡ None) (answered : CanBeAnswered network tree H asked) where
-  pub can_refuse_condition : (at : ℕ) → home tree (pairs_asked asked) ≡ Some at → (condition : List Pair) (words : List PairText) → condition ≡ asked.condition → words ≡ q.condition.items → cannot_come network H (holds asked.condition) ≡ true
+  pub can_refuse_condition : (at : ℕ) → home tree (pairs_asked asked) ≡ Some at
+      → (condition : List Pair) (words : List PairText) → condition ≡ asked.condition
+      → words ≡ q.condition.items → cannot_come network H (holds asked.condition) ≡ true
       → CanRefuseCondition stands_for prices at condition words
   can_refuse_condition at at_home condition words e f cannot = record {
     network = network;
@@ -126,12 +128,16 @@ edit_unrefused file H name q X seen asked named left none =
     unrefused (market_of file) H (Edit name q X seen) none (none_stops file.net H q asked (record { named = named; known = edit_known file H name q X seen none }) left)
 
 -- the market answers with the refusal
-module _ {A Plan : Type 0} (file : MarketFile) (accounts : List Account) (journal : JournalOf) (members new_members : List (Member A Plan)) (same_quotes : quotes_of new_members ≡ quotes_of members) where
+module _ {A Plan : Type 0} (file : MarketFile) (accounts : List Account) (journal : JournalOf)
+    (members new_members : List (Member A Plan))
+    (same_quotes : quotes_of new_members ≡ quotes_of members) where
   same_standing : standing_of journal new_members ≡ standing_of journal members
   same_standing = ap (λ (qs : List (Option LastQuote)). record { history = journal.history; quotes = map (option_map quoted) qs }) same_quotes
 
   pub price_stopped : (q : QuestionText) (why : Refusal) → None ≡ first_of (refusals_by_record (market_of file) journal.history (Price q))
-      → impossible_together file.net journal.history q.condition.items ≡ Some why → IsAnswered (trading file accounts journal members) (trading file accounts journal new_members) (Price q) (Refused why)
+      → impossible_together file.net journal.history q.condition.items ≡ Some why
+      → IsAnswered (trading file accounts journal members)
+      (trading file accounts journal new_members) (Price q) (Refused why)
   price_stopped q why none e = record {
     same_market = refl;
     allowed = refusal_allowed (market_of file) (standing_of journal members) (Price q) why
@@ -142,7 +148,8 @@ module _ {A Plan : Type 0} (file : MarketFile) (accounts : List Account) (journa
 
   pub limits_stopped : (name : List ℕ) (q : QuestionText) (why : Refusal) → None ≡ first_of (refusals_by_record (market_of file) journal.history (Limits name q))
       → first_of (refusals_by_states (market_of file) journal.history (Limits name q)) ≡ Some why
-      → IsAnswered (trading file accounts journal members) (trading file accounts journal new_members) (Limits name q) (Refused why)
+      → IsAnswered (trading file accounts journal members)
+      (trading file accounts journal new_members) (Limits name q) (Refused why)
   limits_stopped name q why none e = record {
     same_market = refl;
     allowed = refusal_allowed (market_of file) (standing_of journal members) (Limits name q) why (stopped_by_states (market_of file) journal.history (Limits name q) why none e);
@@ -152,7 +159,8 @@ module _ {A Plan : Type 0} (file : MarketFile) (accounts : List Account) (journa
 
   pub edit_stopped : (name : List ℕ) (q : QuestionText) (X : ℕ) (seen : Option ℕ) (why : Refusal) → None ≡ first_of (refusals_by_record (market_of file) journal.history (Edit name q X seen))
       → first_of (refusals_by_states (market_of file) journal.history (Edit name q X seen)) ≡ Some why
-      → IsAnswered (trading file accounts journal members) (trading file accounts journal new_members) (Edit name q X seen) (Refused why)
+      → IsAnswered (trading file accounts journal members)
+      (trading file accounts journal new_members) (Edit name q X seen) (Refused why)
   edit_stopped name q X seen why none e =
       let first = stopped_by_states (market_of file) journal.history (Edit name q X seen) why none e in
       record {

@@ -54,9 +54,12 @@ module _ {A Plan : Type 0} (gains_stand : A → Meaning → Type 0) (pair : Pair
       now_rest u assets from (inr p) = so_far.rest u assets (omega (arith, from)) (p.1)
 
   -- a user who was not told yet can be
-  pub can_be_told : (at n : ℕ) (new : List (Member A Plan)) (before : Assets A Plan) → AreToldBefore n new → CanBeTold gains_stand old at pair → slice_get (assets_of new) n ≡ Some before
+  pub can_be_told : (at n : ℕ) (new : List (Member A Plan)) (before : Assets A Plan)
+      → AreToldBefore n new → CanBeTold gains_stand old at pair
+      → slice_get (assets_of new) n ≡ Some before
       → CanLearnAt gains_stand before at pair
-  can_be_told at n new before so_far can there = can n before (so_far.rest n before (omega arith) there)
+  can_be_told at n new before so_far can there = can n before
+      (so_far.rest n before (omega arith) there)
 
   none_past : (u : ℕ) (new : List (Member A Plan)) (assets : Assets A Plan) → length new ≤ u → slice_get (assets_of new) u ≡ Some assets → ⊥
   none_past u new assets past at =

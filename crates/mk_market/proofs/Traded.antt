@@ -1,5 +1,6 @@
 -- A user trades.
-use Rattle.std.specs.Prelude.{◌≡◌, ℕ, ◌+◌, ◌<◌, ◌≤◌, List, [], ◌∷◌, ◌++◌, length, Bool, true, cond, not, ◌&&◌, ltb, Some, None, option_map, position, slice_index}
+use Rattle.std.specs.Prelude.{◌≡◌, ℕ, ◌+◌, ◌<◌, ◌≤◌, List, [], ◌∷◌, ◌++◌, length, Bool, true, cond}
+use Rattle.std.specs.Prelude.{not, ◌&&◌, ltb, Some, None, option_map, position, slice_index}
 use Rattle.std.specs.List.{position_or_len, list_all}
 use Rattle.std.proofs.Common.{refl, sym, ap, ap₂, add-zero, ◌∙◌, arith, eq-eqb, ne_eqb}
 use Rattle.std.proofs.lemmas.List.{length_push}
@@ -57,10 +58,12 @@ module _ (network : List Variable) (legal : IsNetwork network) (asked : Asked) (
   few_values = omega (arith, sized, few_values_at network legal asked.target.variable fits.target.variable)
 
 -- the ratio of an edit has the home of its question
-pub home_of_ratio : (network : List Variable) (tree : GivenTree) (asked : Asked) (at : ℕ) → home tree (pairs_asked asked) ≡ Some at → (hit miss : ℕ)
+pub home_of_ratio : (network : List Variable) (tree : GivenTree) (asked : Asked) (at : ℕ)
+    → home tree (pairs_asked asked) ≡ Some at → (hit miss : ℕ)
     → home tree (ratio_pairs (ratio_in network asked hit miss)) ≡ Some at
 home_of_ratio network tree asked at at_home hit miss =
-    same_home tree asked.condition (record { variable = asked.target.variable; value = 0 }) asked.target refl ∙ at_home
+    same_home tree asked.condition (record { variable = asked.target.variable; value = 0 })
+    asked.target refl ∙ at_home
 
 -- what users hold after a trade
 module _ (network : List Variable) (tree : GivenTree) (H : List Entry) (user : ℕ) (ratio : TradeRatio) where

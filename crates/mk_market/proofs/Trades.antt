@@ -1,5 +1,6 @@
 -- A market in which a user trades.
-use Rattle.std.specs.Prelude.{◌≡◌, ℕ, ◌<◌, List, [], ◌∷◌, ◌++◌, length, Option, Some, None, slice_get}
+use Rattle.std.specs.Prelude.{◌≡◌, ℕ, ◌<◌, List, [], ◌∷◌, ◌++◌, length, Option, Some, None}
+use Rattle.std.specs.Prelude.{slice_get}
 use Rattle.std.proofs.Common.{refl, sym, ◌∙◌, subst, arith}
 use Rattle.mk_net.specs.Network.{Variable}
 use Rattle.mk_net.specs.Asked.{TradeRatio, ratio_pairs}
@@ -47,18 +48,20 @@ module _ {P A Plan : Type 0} (weights_stand : P → Meaning → Type 0) (gains_s
     -- a trade of a ratio of the network that has a home can be made there
     pub can_be_made : (new_prices : P) (new_members : List (Member A Plan)) → ((m : Meaning) → weights_stand prices m → weights_stand new_prices m)
         → ((u : ℕ) (h : Holding) → OwnsAt gains_stand members u h → OwnsAt gains_stand new_members u h) → names_of new_members ≡ names_of members
-        → IsRatioOf file.net ratio → (at : ℕ) → home file.tree (ratio_pairs ratio) ≡ Some at → length (trades journal.history) < journal.max_trades
+        → IsRatioOf file.net ratio → (at : ℕ) → home file.tree (ratio_pairs ratio) ≡ Some at
+        → length (trades journal.history) < journal.max_trades
         → CanBeMade weights_stand gains_stand new_prices new_members journal user at ratio
-    can_be_made new_prices new_members still_prices still_assets same_names fits at at_home room = record {
-      network = file.net;
-      tree = file.tree;
-      in_use = in_use new_prices new_members still_prices still_assets;
-      within = in_range new_members (users journal.history) user (same_names ∙ kept.named) within;
-      in_range = fits;
-      at_home = at_home;
-      room = room;
-      few = omega (arith, kept.max_trades, file.trades_most);
-    }
+    can_be_made new_prices new_members still_prices still_assets same_names fits at at_home room =
+        record {
+          network = file.net;
+          tree = file.tree;
+          in_use = in_use new_prices new_members still_prices still_assets;
+          within = in_range new_members (users journal.history) user (same_names ∙ kept.named) within;
+          in_range = fits;
+          at_home = at_home;
+          room = room;
+          few = omega (arith, kept.max_trades, file.trades_most);
+        }
 
     -- and where the reply to it is allowed the market is kept
     pub trade_kept : (command : Command) (reply : Reply) → JoinsByName (OfCommand command) → None ≡ first_refusal (market_of file) journal.history command

@@ -1,12 +1,15 @@
--- What holds of a gain of which nothing was rounded, and of a gain of one, holds in the small case and of a user without trades.
+-- What holds of a gain of which nothing was rounded, and of a gain of one, holds in the small case
+-- and of a user without trades.
 use Rattle.std.specs.Prelude.{ℕ}
 use Rattle.std.proofs.Common.{inl, inr, ⊎_elim}
 use Rattle.mk_exact.specs.Accepted.{IsMost}
 use Rattle.mk_exact.specs.Cash.{CoversCash}
 use Rattle.mk_exact.specs.Factors.{Fraction}
 
-module _ (small exact idle one : Type 0) (small_is : small → exact) (idle_is : idle → one) (q : Fraction) where
-  pub cash_when : (points low high : ℕ) → CoversCash exact one q points low high → CoversCash small idle q points low high
+module _ (small exact idle one : Type 0) (small_is : small → exact) (idle_is : idle
+    → one) (q : Fraction) where
+  pub cash_when : (points low high : ℕ) → CoversCash exact one q points low high
+      → CoversCash small idle q points low high
   cash_when points low high covers = record {
     cash = covers.cash;
     is_cash = covers.is_cash;

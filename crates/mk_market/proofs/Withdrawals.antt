@@ -59,11 +59,13 @@ module _ {P A Plan : Type 0} (weights_stand : P → Meaning → Type 0) (gains_s
       omega (arith, account.taken_out, most)
 
   pub withdrawal_paid : (new_accounts : List Account)
-      → new_accounts ≡ slice_set accounts user (let account = account_of accounts user in record account { withdrawn = account.withdrawn + file.points_per_bit * bits })
+      → new_accounts ≡ slice_set accounts user (let account = account_of accounts user in record
+      account { withdrawn = account.withdrawn + file.points_per_bit * bits })
       → (at : ℕ) → ArePaidBy (Withdrawn name bits at) accounts new_accounts
   withdrawal_paid new_accounts entered at u =
       ap (λ (xs : List Account). (account_of xs u).paid) entered
-      ∙ paid_set accounts user (let account = account_of accounts user in record account { withdrawn = account.withdrawn + file.points_per_bit * bits })
+      ∙ paid_set accounts user (let account = account_of accounts user in record account
+      { withdrawn = account.withdrawn + file.points_per_bit * bits })
       (omega (arith, is_user.within, kept.accounts_kept.one_each)) refl u
 
   module _ (before mid : Assets A Plan) (there : slice_get (assets_of members) user ≡ Some before) (still : (h : Holding) → Owns gains_stand before h → Owns gains_stand mid h) where
@@ -85,30 +87,42 @@ module _ {P A Plan : Type 0} (weights_stand : P → Meaning → Type 0) (gains_s
       worth_for = found file.net file.tree journal.history user has_least.least (kept.owns user before there)
           (is_open weights_stand gains_stand plan_for file prices rows plan members accounts journal payments kept) has_least.is_least
 
-      answered : (reply : Reply) → IsWithdrawal (IsSmall file.net journal.history) (HoldsNoTrade journal.history user) worth name bits (revision journal.history + 1) reply
+      answered : (reply : Reply)
+          → IsWithdrawal (IsSmall file.net journal.history) (HoldsNoTrade journal.history user)
+          worth name bits (revision journal.history + 1) reply
           → IsAllowedFor (market_of file) (standing_of journal members) (OfCommand (Withdraw name bits)) reply
       unfolding worth
       answered reply withdrawal =
           let H = journal.history in
           answer_allowed (market_of file) (standing_of journal members) (Withdraw name bits) reply none
-          (subst (λ (n : ℕ). IsSomeAnd (least_gain file.net H n always) (λ g. IsWithdrawal (IsSmall file.net H) (HoldsNoTrade H n) (factor_with H n g) name bits (revision H + 1) reply)) is_user.number
-          (subst (λ (o : Option ℕ). IsSomeAnd o (λ g. IsWithdrawal (IsSmall file.net H) (HoldsNoTrade H user) (factor_with H user g) name bits (revision H + 1) reply)) (sym has_least.is_least) withdrawal))
+          (subst (λ (n : ℕ). IsSomeAnd (least_gain file.net H n always)
+          (λ g. IsWithdrawal (IsSmall file.net H) (HoldsNoTrade H n) (factor_with H n g) name
+          bits (revision H + 1) reply)) is_user.number
+          (subst (λ (o : Option ℕ). IsSomeAnd o (λ g. IsWithdrawal (IsSmall file.net H)
+          (HoldsNoTrade H user) (factor_with H user g) name bits (revision H + 1) reply))
+          (sym has_least.is_least) withdrawal))
 
       -- bits beyond the most are refused
-      pub short_allowed : ((network : List Variable) (tree : GivenTree) (H : List Entry) (u : ℕ) → Owns gains_stand before (holding_of network tree H u) → IsOpen network tree H
+      pub short_allowed : ((network : List Variable) (tree : GivenTree) (H : List Entry) (u : ℕ)
+          → Owns gains_stand before (holding_of network tree H u) → IsOpen network tree H
           → HoldsNoTrade H u → Encloses factor.gain 1) → most < bits
-          → ((network : List Variable) (H : List Entry) (q : Fraction) → IsFactorFor factor (IsSmall network H) q → IsAtLeastOne q
+          → ((network : List Variable) (H : List Entry) (q : Fraction)
+          → IsFactorFor factor (IsSmall network H) q → IsAtLeastOne q
           → IsMost (IsSmall network H) (Encloses factor.gain 1) q most)
           → IsAllowedFor (market_of file) (standing_of journal members) (OfCommand (Withdraw name bits)) (Refused (Short most))
       unfolding worth
       short_allowed one_gain less is_most =
-          let small = IsSmall file.net journal.history in let idle = HoldsNoTrade journal.history user in
-          let opened = is_open weights_stand gains_stand plan_for file prices rows plan members accounts journal payments kept in
+          let small = IsSmall file.net journal.history in let idle = HoldsNoTrade journal.history
+          user in
+          let opened = is_open weights_stand gains_stand plan_for file prices rows plan members
+          accounts journal payments kept in
           let short : IsShort small idle worth bits (Refused (Short most))
           = record {
             most = most;
             less = less;
-            is_most = most_when small small idle (Encloses factor.gain 1) (λ s. s) (one_gain file.net file.tree journal.history user (kept.owns user before there) opened) worth most
+            is_most = most_when small small idle (Encloses factor.gain 1) (λ s. s)
+                (one_gain file.net file.tree journal.history user (kept.owns user before there)
+                opened) worth most
                 (is_most file.net journal.history worth worth_for has_least.safe.at_least_one);
             printed = refl;
           } in

@@ -62,26 +62,36 @@ module _ {P A Plan : Type 0} (weights_stand : P → Meaning → Type 0) (gains_s
     pub worst_allowed : (factor : Factor) (low high : ℕ) → None ≡ first_refusal (market_of file) journal.history (Worst name)
         → ((network : List Variable) (tree : GivenTree) (H : List Entry) (u g : ℕ) → Owns gains_stand before (holding_of network tree H u) → IsOpen network tree H
         → least_gain network H u always ≡ Some g → IsFactorFor factor (IsSmall network H) (factor_with H u g))
-        → ((network : List Variable) (tree : GivenTree) (H : List Entry) (u : ℕ) → Owns gains_stand before (holding_of network tree H u) → IsOpen network tree H
+        → ((network : List Variable) (tree : GivenTree) (H : List Entry) (u : ℕ)
+        → Owns gains_stand before (holding_of network tree H u) → IsOpen network tree H
         → HoldsNoTrade H u → Encloses factor.gain 1)
-        → ((q : Fraction) → StandsFor factor q.num q.den → IsGradedWithin factor.gain (2 ^ 17) → IsAtLeastOne q
+        → ((q : Fraction) → StandsFor factor q.num q.den → IsGradedWithin factor.gain (2 ^ 17)
+        → IsAtLeastOne q
         → CoversCash (IsExact factor.gain) (Encloses factor.gain 1) q file.points_per_bit low high)
         → IsAllowedFor (market_of file) (standing_of journal members) (OfCommand (Worst name)) (Worsted low high)
     worst_allowed factor low high none found one_gain covers =
         let least = has_least in let H = journal.history in
         let is = found file.net file.tree H user least.least (kept.owns user before there) opened least.is_least in
         let q = factor_with H user least.least in
-        let worst : IsWorst (IsSmall file.net H) (HoldsNoTrade H user) q file.points_per_bit (Worsted low high)
+        let worst : IsWorst (IsSmall file.net H) (HoldsNoTrade H user) q file.points_per_bit
+        (Worsted low high)
         = record {
           low = low;
           high = high;
           printed = refl;
-          covers = cash_when (IsSmall file.net H) (IsExact factor.gain) (HoldsNoTrade H user) (Encloses factor.gain 1) is.exact
-              (one_gain file.net file.tree H user (kept.owns user before there) opened) q file.points_per_bit low high (covers q is.stands is.graded least.safe.at_least_one);
+          covers = cash_when (IsSmall file.net H) (IsExact factor.gain) (HoldsNoTrade H user)
+              (Encloses factor.gain 1) is.exact
+              (one_gain file.net file.tree H user (kept.owns user before there) opened) q
+              file.points_per_bit low high (covers q is.stands is.graded
+              least.safe.at_least_one);
         } in
         answer_allowed (market_of file) (standing_of journal members) (Worst name) (Worsted low high) none
-        (subst (λ (n : ℕ). IsSomeAnd (least_gain file.net H n always) (λ g. IsWorst (IsSmall file.net H) (HoldsNoTrade H n) (factor_with H n g) file.points_per_bit (Worsted low high))) is_user.number
-        (subst (λ (o : Option ℕ). IsSomeAnd o (λ g. IsWorst (IsSmall file.net H) (HoldsNoTrade H user) (factor_with H user g) file.points_per_bit (Worsted low high))) (sym least.is_least) worst))
+        (subst (λ (n : ℕ). IsSomeAnd (least_gain file.net H n always)
+        (λ g. IsWorst (IsSmall file.net H) (HoldsNoTrade H n) (factor_with H n g)
+        file.points_per_bit (Worsted low high))) is_user.number
+        (subst (λ (o : Option ℕ). IsSomeAnd o (λ g. IsWorst (IsSmall file.net H)
+        (HoldsNoTrade H user) (factor_with H user g) file.points_per_bit (Worsted low high)))
+        (sym least.is_least) worst))
 
     pub worst_next : (low high : ℕ) → standing_of journal (with_assets members user now) ≡ after (market_of file) (standing_of journal members) (OfCommand (Worst name)) (Worsted low high)
     worst_next low high =

@@ -17,7 +17,8 @@ pub record IsPaidOff (market : Market) (H : List Entry) (u points : ℕ) : Type 
   pub state : List ℕ
   pub one_state : possible_states (network_of market H) H always ≡ state ∷ []
   pub high : ℕ
-  pub covers : CoversCash (IsSmall (network_of market H) H) (HoldsNoTrade H u) (factor H u state) market.points_per_bit points high
+  pub covers : CoversCash (IsSmall (network_of market H) H) (HoldsNoTrade H u) (factor H u state)
+      market.points_per_bit points high
 
 -- a user's account: the points of the bits that went in and out, and nothing paid before the settlement, which pays the user off
 pub record IsAccount (market : Market) (H : List Entry) (u : ℕ) (account : Account) : Type 0 where
@@ -31,7 +32,9 @@ pub record AreAccounts (market : Market) (H : List Entry) (accounts : List Accou
   pub one_each : length accounts ≡ length (users H)
   pub each : (u : ℕ) → u < length accounts → IsAccount market H u (account_of accounts u)
 
--- after a settlement each user was paid what its payment prints, and every other reply leaves what users were paid
+-- after a settlement each user was paid what its payment prints, and every other reply leaves what
+-- users were paid
 abbrev pub ArePaidBy : Reply → List Account → List Account → Type 0
-ArePaidBy (Settled at payments) old new = (u : ℕ) (payment : Payment) → slice_get payments u ≡ Some payment → (account_of new u).paid ≡ payment.paid
+ArePaidBy (Settled at payments) old new = (u : ℕ) (payment : Payment)
+    → slice_get payments u ≡ Some payment → (account_of new u).paid ≡ payment.paid
 ArePaidBy _ old new = (u : ℕ) → (account_of new u).paid ≡ (account_of old u).paid

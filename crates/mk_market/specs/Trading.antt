@@ -20,7 +20,8 @@ abbrev pub reply_of : Result Reply Refusal → Reply
 reply_of (Ok reply) = reply
 reply_of (Err why) = Refused why
 
--- a command is answered by an allowed reply, the standing moves on by it, and so does what users were paid
+-- a command is answered by an allowed reply, the standing moves on by it, and so does what users
+-- were paid
 pub record IsAnswered (old new : Trading) (command : Command) (reply : Reply) : Type 0 where
   pub same_market : new.market ≡ old.market
   pub allowed : IsAllowedFor old.market old.standing (OfCommand command) reply

@@ -23,7 +23,8 @@ impl<P: Engine<SumProd>, A: Engine<MinProd>> Market<P, A> {
         requires tree { IsTreeOf file.net file.tree }
         requires prices { P.suits file.net file.tree }
         requires assets { A.suits file.net file.tree }
-        ensures opened { IfOk result (λ market. market ≡ record { market = market_of file; standing = opening; accounts = [] }) }
+        ensures opened { IfOk result (λ market. market ≡ record
+            { market = market_of file; standing = opening; accounts = [] }) }
         ensures is_market { IfOk result (λ _. IsMarket (market_of file)) }
     {
         let prices = P::plan(alloc, &file.net, &file.tree)?;
@@ -42,7 +43,8 @@ impl<P: Engine<SumProd>, A: Engine<MinProd>> Market<P, A> {
         requires tree { IsTreeOf file.net file.tree }
         requires prices { P.plan_for prices.now file.net file.tree }
         requires assets { A.plan_for assets file.net file.tree }
-        ensures opened { IfOk result (λ market. market ≡ record { market = market_of file; standing = opening; accounts = [] }) }
+        ensures opened { IfOk result (λ market. market ≡ record
+            { market = market_of file; standing = opening; accounts = [] }) }
         ensures is_market { IfOk result (λ _. IsMarket (market_of file)) }
     {
         let prices = weighed::<SumProd, P>(alloc, &file, prices)?;

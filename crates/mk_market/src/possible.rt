@@ -81,7 +81,8 @@ pub(crate) fn refuse_decided<P: Engine<SumProd>>(
     requires { CanRefuse P.stands_for prices.old question.now request.now why }
     ensures kept { (m : Meaning) → P.stands_for prices.old m → P.stands_for prices.new m }
     ensures refusal { (network : List Variable) (tree : GivenTree) (H : List Entry) → P.stands_for prices.old (weights_of network tree H)
-        → IsOpen network tree H → IsAskedBy network question.now request.now.question → IsDecidedBy network H request.now.question why
+        → IsOpen network tree H → IsAskedBy network question.now request.now.question
+        → IsDecidedBy network H request.now.question why
         → first_of (rules.impossible_together network H question.now.condition.items ∷ rules.decided network H question.now ∷ []) ≡ Some result }
 {
     match why {
@@ -103,7 +104,8 @@ pub(crate) fn refuse_decided<P: Engine<SumProd>>(
     }
 }
 
-/// The refusal of a condition that cannot come, in its words: its first pair with which no possible state is left. It is asked in a
+/// The refusal of a condition that cannot come, in its words: its first pair with which no possible
+/// state is left. It is asked in a
 /// clique that holds the condition, and leaves what the engine stands for as it was.
 pub(crate) fn refuse_condition<P: Engine<SumProd>>(
     prices: &mut P,
@@ -132,10 +134,13 @@ pub(crate) fn refuse_stopped<P: Engine<SumProd>>(
     request: &SpreadRequest,
     why: Stopped,
 ) -> Refusal
-    requires { CanRefuseSpread P.stands_for prices.old net.now variable.now condition.now request.now why }
+    requires { CanRefuseSpread P.stands_for prices.old net.now variable.now condition.now
+        request.now why }
     ensures kept { (m : Meaning) → P.stands_for prices.old m → P.stands_for prices.new m }
     ensures refusal { (tree : GivenTree) (H : List Entry) → P.stands_for prices.old (weights_of net.now tree H) → IsOpen net.now tree H
-        → MayStop net.now H (spread_in request.now.question) why → IsRefusedFor net.now H variable.now condition.now (spread_in request.now.question) why result }
+        → MayStop net.now H (spread_in request.now.question) why
+        → IsRefusedFor net.now H variable.now condition.now (spread_in request.now.question) why
+        result }
 {
     match why {
         Stopped::Decided(why) => match why {
@@ -167,7 +172,8 @@ fn pair_with(net: &Network, variable: &Name, asked: &SpreadQuestion, value: u32)
 }
 
 /// Whether some possible state has a pair of a variable that is not resolved. Where the network has no shares of nothing one has, and
-/// no belief is asked. It is asked in the pair's home, and leaves what the engine stands for as it was.
+/// no belief is asked. It is asked in the pair's home, and leaves what the engine stands for as it
+/// was.
 pub(crate) fn can_come<P: Engine<SumProd>>(
     prices: &mut P,
     net: &Network,

@@ -37,13 +37,15 @@ pub(crate) fn fresh_quote<P: Engine<SumProd>, A: Engine<MinProd>>(
 ) -> Result<Quote, Decided>
     requires in_use { AreInUse P.stands_for A.stands_for file.now.net file.now.tree journal.now.history prices.old users.old }
     requires user { request.now.user < length users.old }
-    requires answered { CanBeAnswered file.now.net file.now.tree journal.now.history request.now.question }
+    requires answered { CanBeAnswered file.now.net file.now.tree journal.now.history
+        request.now.question }
     requires home { home file.now.tree (pairs_asked request.now.question) ≡ Some request.now.home }
     ensures prices { (m : Meaning) → P.stands_for prices.old m → P.stands_for prices.new m }
     ensures assets { (u : ℕ) (h : Holding) → OwnsAt A.stands_for users.old u h → OwnsAt A.stands_for users.new u h }
     ensures names { names_of users.new ≡ names_of users.old }
     ensures quotes { quotes_of users.new ≡ quotes_of users.old }
-    ensures quote { MatchResult result (λ quote. IsQuoteOf file.now.net file.now.tree journal.now.history request.now.user request.now.question quote)
+    ensures quote { MatchResult result (λ quote. IsQuoteOf file.now.net file.now.tree
+        journal.now.history request.now.user request.now.question quote)
         (λ why. IsDecidedBy file.now.net journal.now.history request.now.question why) }
 {
     let Request {
@@ -89,15 +91,18 @@ pub(crate) fn present_quote<P: Engine<SumProd>, A: Engine<MinProd>>(
     requires in_use { AreInUse P.stands_for A.stands_for file.now.net file.now.tree journal.now.history prices.old users.old }
     requires quotes { AreKeptQuotes file.now.net file.now.tree journal.now.history (quotes_of users.old) }
     requires user { request.now.user < length users.old }
-    requires answered { CanBeAnswered file.now.net file.now.tree journal.now.history request.now.question }
+    requires answered { CanBeAnswered file.now.net file.now.tree journal.now.history
+        request.now.question }
     requires home { home file.now.tree (pairs_asked request.now.question) ≡ Some request.now.home }
     ensures prices { (m : Meaning) → P.stands_for prices.old m → P.stands_for prices.new m }
     ensures assets { (u : ℕ) (h : Holding) → OwnsAt A.stands_for users.old u h → OwnsAt A.stands_for users.new u h }
     ensures names { names_of users.new ≡ names_of users.old }
     ensures quotes { quotes_of users.new ≡ quotes_of users.old }
-    ensures quote { MatchResult result (λ quote. IsQuoteOf file.now.net file.now.tree journal.now.history request.now.user request.now.question quote)
+    ensures quote { MatchResult result (λ quote. IsQuoteOf file.now.net file.now.tree
+        journal.now.history request.now.user request.now.question quote)
         (λ why. IsDecidedBy file.now.net journal.now.history request.now.question why) }
-    ensures last { (quote : Held) → slice_get (quotes_of users.old) request.now.user ≡ Some (Some (LastQuote.Limits quote))
+    ensures last { (quote : Held)
+        → slice_get (quotes_of users.old) request.now.user ≡ Some (Some (LastQuote.Limits quote))
         → IsFor quote request.now.question (revision journal.now.history) → result ≡ Ok quote }
 {
     match last_quote(users, request.user, &request.question, journal.revision()) {

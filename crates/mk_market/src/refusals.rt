@@ -75,14 +75,16 @@ pub(crate) fn refuse_transfer<A: Engine<MinProd>>(
 }
 
 /// What `price` is refused for by the record: a settlement, a pair that is unknown, a variable that occurs twice, a target that is
-/// resolved, a condition that a resolution contradicts, and a question that no clique holds. Else the question has a home.
+/// resolved, a condition that a resolution contradicts, and a question that no clique holds. Else
+/// the question has a home.
 pub(crate) fn refuse_price(
     file: &MarketFile,
     journal: &Journal,
     question: &QuestionText,
 ) -> Result<(Question, u32), Refusal>
     ensures refusal { refusal_in result ≡ first_of (rules.refusals_by_record (market_of file.now) journal.now.history (command.Price question.now)) }
-    ensures question { IfOk result (λ found. IsQuestionFor (market_of file.now) file.now.tree journal.now.history question.now found.0) }
+    ensures question { IfOk result (λ found. IsQuestionFor (market_of file.now) file.now.tree
+        journal.now.history question.now found.0) }
     ensures home { IfOk result (λ found. home file.now.tree (pairs_asked found.0) ≡ Some found.1) }
 {
     not_settled(journal)?;
@@ -91,15 +93,19 @@ pub(crate) fn refuse_price(
     Ok((asked, home))
 }
 
-/// The question of a price without a condition that the record does not refuse, and its home. None says nothing: no step to it can hold
+/// The question of a price without a condition that the record does not refuse, and its home. None
+/// says nothing: no step to it can hold
 /// a refusal, which would cost more than the step.
 pub(crate) fn plain_price(
     file: &MarketFile,
     journal: &Journal,
     question: &QuestionText,
 ) -> Option<(Question, u32)>
-    ensures refusal { IfSome result (λ found. first_of (rules.refusals_by_record (market_of file.now) journal.now.history (command.Price question.now)) ≡ None) }
-    ensures question { IfSome result (λ found. IsQuestionFor (market_of file.now) file.now.tree journal.now.history question.now found.0) }
+    ensures refusal { IfSome result (λ found. first_of
+        (rules.refusals_by_record (market_of file.now) journal.now.history
+        (command.Price question.now)) ≡ None) }
+    ensures question { IfSome result (λ found. IsQuestionFor (market_of file.now) file.now.tree
+        journal.now.history question.now found.0) }
     ensures home { IfSome result (λ found. home file.now.tree (pairs_asked found.0) ≡ Some found.1) }
 {
     if journal.is_settled() || !question.condition.is_empty() {
@@ -124,8 +130,10 @@ pub(crate) fn refuse_limits<A: Engine<MinProd>>(
     requires named { names_of users.now ≡ history.users journal.now.history }
     ensures refusal { refusal_in result ≡ first_of (rules.refusals_by_record (market_of file.now) journal.now.history (command.Limits name.now question.now)) }
     ensures user { IfOk result (λ found. IsUser journal.now.history name.now found.user) }
-    ensures question { IfOk result (λ found. IsQuestionFor (market_of file.now) file.now.tree journal.now.history question.now found.question) }
-    ensures home { IfOk result (λ found. home file.now.tree (pairs_asked found.question) ≡ Some found.home) }
+    ensures question { IfOk result (λ found. IsQuestionFor (market_of file.now) file.now.tree
+        journal.now.history question.now found.question) }
+    ensures home { IfOk result (λ found. home file.now.tree (pairs_asked found.question) ≡ Some
+        found.home) }
 {
     not_settled(journal)?;
     let user = find_user(users, name)?;
@@ -150,10 +158,14 @@ pub(crate) fn refuse_edit<A: Engine<MinProd>>(
 ) -> Result<Request, Refusal>
     requires named { names_of users.now ≡ history.users journal.now.history }
     requires max_trades { journal.now.max_trades ≡ file.now.max_trades }
-    ensures refusal { refusal_in result ≡ first_of (rules.refusals_by_record (market_of file.now) journal.now.history (command.Edit name.now wish.now.question.now wish.now.to wish.now.at)) }
+    ensures refusal { refusal_in result ≡ first_of
+        (rules.refusals_by_record (market_of file.now) journal.now.history
+        (command.Edit name.now wish.now.question.now wish.now.to wish.now.at)) }
     ensures user { IfOk result (λ found. IsUser journal.now.history name.now found.user) }
-    ensures question { IfOk result (λ found. IsQuestionFor (market_of file.now) file.now.tree journal.now.history wish.now.question.now found.question) }
-    ensures home { IfOk result (λ found. home file.now.tree (pairs_asked found.question) ≡ Some found.home) }
+    ensures question { IfOk result (λ found. IsQuestionFor (market_of file.now) file.now.tree
+        journal.now.history wish.now.question.now found.question) }
+    ensures home { IfOk result (λ found. home file.now.tree (pairs_asked found.question) ≡ Some
+        found.home) }
     ensures room { IfOk result (λ _. CanBeTraded journal.now wish.now.to) }
 {
     not_settled(journal)?;
@@ -209,7 +221,8 @@ pub(crate) fn refuse_settle(file: &MarketFile, journal: &Journal) -> Result<(), 
     all_resolved(&file.net, journal)
 }
 
-/// The home of a question. It is refused by its target, its condition and its cliques, in this order.
+/// The home of a question. It is refused by its target, its condition and its cliques, in this
+/// order.
 fn can_be_answered(
     file: &MarketFile,
     journal: &Journal,

@@ -36,7 +36,8 @@ use mk_semiring::MinProd;
 /// The sum of the shares of a whole distribution.
 const MILLION: u32 = 1_000_000;
 
-/// What `bounds` and `position` are refused for by the record: a settlement, an unknown user, a variable that is unknown, a pair of the condition that
+/// What `bounds` and `position` are refused for by the record: a settlement, an unknown user, a
+/// variable that is unknown, a pair of the condition that
 /// is, a variable that occurs twice, one that is asked about and resolved, a condition that a resolution contradicts, and
 /// a question that no clique holds.
 pub(crate) fn refuse_bounds<A: Engine<MinProd>>(
@@ -52,8 +53,10 @@ pub(crate) fn refuse_bounds<A: Engine<MinProd>>(
     ensures refusal { (pairs : ArrayVec PairText) → pairs.items ≡ condition.now
         → refusal_in result ≡ first_of (rules.refusals_by_record (market_of file.now) journal.now.history (command.Bounds name.now variable.now pairs)) }
     ensures user { IfOk result (λ found. IsUser journal.now.history name.now found.user) }
-    ensures question { IfOk result (λ found. IsSpreadQuestionFor (market_of file.now) file.now.tree journal.now.history variable.now condition.now (spread_in found.question)) }
-    ensures home { IfOk result (λ found. home file.now.tree (pairs_asked (asked_of (spread_in found.question) 0)) ≡ Some found.home) }
+    ensures question { IfOk result (λ found. IsSpreadQuestionFor (market_of file.now) file.now.tree
+        journal.now.history variable.now condition.now (spread_in found.question)) }
+    ensures home { IfOk result (λ found. home file.now.tree
+        (pairs_asked (asked_of (spread_in found.question) 0)) ≡ Some found.home) }
 {
     not_settled(journal)?;
     let user = find_user(users, name)?;
@@ -66,7 +69,8 @@ pub(crate) fn refuse_bounds<A: Engine<MinProd>>(
     })
 }
 
-/// What `prices` is refused for by the record: as `bounds`, but for the user. Else the question has a home.
+/// What `prices` is refused for by the record: as `bounds`, but for the user. Else the question has
+/// a home.
 pub(crate) fn refuse_prices(
     file: &MarketFile,
     journal: &Journal,
@@ -75,9 +79,12 @@ pub(crate) fn refuse_prices(
 ) -> Result<(SpreadQuestion, u32), Refusal>
     requires few { length condition.now ≤ max_condition }
     ensures refusal { (pairs : ArrayVec PairText) → pairs.items ≡ condition.now
-        → refusal_in result ≡ first_of (rules.refusals_by_record (market_of file.now) journal.now.history (command.Prices variable.now pairs)) }
-    ensures question { IfOk result (λ found. IsSpreadQuestionFor (market_of file.now) file.now.tree journal.now.history variable.now condition.now (spread_in found.0)) }
-    ensures home { IfOk result (λ found. home file.now.tree (pairs_asked (asked_of (spread_in found.0) 0)) ≡ Some found.1) }
+        → refusal_in result ≡ first_of (rules.refusals_by_record (market_of file.now)
+        journal.now.history (command.Prices variable.now pairs)) }
+    ensures question { IfOk result (λ found. IsSpreadQuestionFor (market_of file.now) file.now.tree
+        journal.now.history variable.now condition.now (spread_in found.0)) }
+    ensures home { IfOk result (λ found. home file.now.tree
+        (pairs_asked (asked_of (spread_in found.0) 0)) ≡ Some found.1) }
 {
     not_settled(journal)?;
     let asked = ask_spread(&file.net, variable, condition)?;
@@ -99,11 +106,16 @@ pub(crate) fn refuse_spread<A: Engine<MinProd>>(
     requires few_shares { length wish.now.to.now ≤ max_values }
     requires named { names_of users.now ≡ history.users journal.now.history }
     requires max_trades { journal.now.max_trades ≡ file.now.max_trades }
-    ensures refusal { (pairs : ArrayVec PairText) (shares : ArrayVec ℕ) → pairs.items ≡ wish.now.condition.now → shares.items ≡ wish.now.to.now
-        → refusal_in result ≡ first_of (rules.refusals_by_record (market_of file.now) journal.now.history (command.Spread name.now wish.now.variable.now pairs shares wish.now.at)) }
+    ensures refusal { (pairs : ArrayVec PairText) (shares : ArrayVec ℕ)
+        → pairs.items ≡ wish.now.condition.now → shares.items ≡ wish.now.to.now
+        → refusal_in result ≡ first_of (rules.refusals_by_record (market_of file.now)
+        journal.now.history (command.Spread name.now wish.now.variable.now pairs shares
+        wish.now.at)) }
     ensures user { IfOk result (λ found. IsUser journal.now.history name.now found.user) }
-    ensures question { IfOk result (λ found. IsSpreadQuestionFor (market_of file.now) file.now.tree journal.now.history wish.now.variable.now wish.now.condition.now (spread_in found.question)) }
-    ensures home { IfOk result (λ found. home file.now.tree (pairs_asked (asked_of (spread_in found.question) 0)) ≡ Some found.home) }
+    ensures question { IfOk result (λ found. IsSpreadQuestionFor (market_of file.now) file.now.tree
+        journal.now.history wish.now.variable.now wish.now.condition.now (spread_in found.question)) }
+    ensures home { IfOk result (λ found. home file.now.tree
+        (pairs_asked (asked_of (spread_in found.question) 0)) ≡ Some found.home) }
     ensures room { IfOk result (λ _. length (history.trades journal.now.history) < journal.now.max_trades) }
 {
     not_settled(journal)?;
@@ -120,7 +132,8 @@ pub(crate) fn refuse_spread<A: Engine<MinProd>>(
     })
 }
 
-/// The home of a spread. It is refused by its variable, its condition and its cliques, in this order.
+/// The home of a spread. It is refused by its variable, its condition and its cliques, in this
+/// order.
 fn can_be_spread(
     file: &MarketFile,
     journal: &Journal,
@@ -134,7 +147,8 @@ fn can_be_spread(
         ∷ rules.impossible file.now.net journal.now.history condition.now
         ∷ rules.wide_spread (market_of file.now) journal.now.history variable.now condition.now ∷ []) }
     ensures question { IfOk result (λ _. IsSpreadQuestionFor (market_of file.now) file.now.tree journal.now.history variable.now condition.now (spread_in asked.now)) }
-    ensures home { IfOk result (λ found. home file.now.tree (pairs_asked (asked_of (spread_in asked.now) 0)) ≡ Some found) }
+    ensures home { IfOk result (λ found. home file.now.tree
+        (pairs_asked (asked_of (spread_in asked.now) 0)) ≡ Some found) }
 {
     not_resolved(journal, variable, asked.variable)?;
     agrees(journal, &asked.condition, condition)?;

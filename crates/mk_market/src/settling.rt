@@ -72,7 +72,8 @@ fn pay<A: Engine<MinProd>>(
     ensures quotes { quotes_of users.new ≡ quotes_of users.old }
     ensures ledger { ArePaid ledger.old ledger.new payments.new }
     ensures payments { (state : List ℕ) → possible_states file.now.net journal.now.history always ≡ state ∷ []
-        → AllZip (IsPayment file.now.net journal.now.history file.now.points_per_bit state) (enumerate_from 0 (names_of users.old)) payments.new }
+        → AllZip (IsPayment file.now.net journal.now.history file.now.points_per_bit state)
+        (enumerate_from 0 (names_of users.old)) payments.new }
 {
     for user in 0..users.count() {
         let payment = payment_of(file, journal, users, user);
@@ -95,7 +96,9 @@ fn payment_of<A: Engine<MinProd>>(
     ensures names { names_of users.new ≡ names_of users.old }
     ensures quotes { quotes_of users.new ≡ quotes_of users.old }
     ensures payment { (state name : List ℕ) → possible_states file.now.net journal.now.history always ≡ state ∷ []
-        → slice_get (names_of users.old) user ≡ Some name → IsPayment file.now.net journal.now.history file.now.points_per_bit state (user, name) result }
+        → slice_get (names_of users.old) user ≡ Some name
+        → IsPayment file.now.net journal.now.history file.now.points_per_bit state (user, name)
+        result }
     ensures fits { result.paid < number_limit }
 {
     let factor = least_of(users.assets(user));

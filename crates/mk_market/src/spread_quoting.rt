@@ -40,13 +40,16 @@ pub(crate) fn fresh_spread_quote<P: Engine<SumProd>, A: Engine<MinProd>>(
 ) -> Result<SpreadQuote, SpreadDecided>
     requires in_use { AreInUse P.stands_for A.stands_for file.now.net file.now.tree journal.now.history prices.old users.old }
     requires user { request.now.user < length users.old }
-    requires answered { CanBeSpreadHere file.now.net file.now.tree journal.now.history (spread_in request.now.question) }
-    requires home { home file.now.tree (pairs_asked (asked_of (spread_in request.now.question) 0)) ≡ Some request.now.home }
+    requires answered { CanBeSpreadHere file.now.net file.now.tree journal.now.history
+        (spread_in request.now.question) }
+    requires home { home file.now.tree (pairs_asked (asked_of (spread_in request.now.question) 0)) ≡
+        Some request.now.home }
     ensures prices { (m : Meaning) → P.stands_for prices.old m → P.stands_for prices.new m }
     ensures assets { (u : ℕ) (h : Holding) → OwnsAt A.stands_for users.old u h → OwnsAt A.stands_for users.new u h }
     ensures names { names_of users.new ≡ names_of users.old }
     ensures quotes { quotes_of users.new ≡ quotes_of users.old }
-    ensures quote { MatchResult result (λ quote. IsSpreadQuoteOf file.now.net file.now.tree journal.now.history request.now.user (spread_in request.now.question) quote)
+    ensures quote { MatchResult result (λ quote. IsSpreadQuoteOf file.now.net file.now.tree
+        journal.now.history request.now.user (spread_in request.now.question) quote)
         (λ why. IsSpreadDecidedBy file.now.net journal.now.history (spread_in request.now.question) why) }
 {
     let SpreadRequest {
@@ -117,9 +120,12 @@ pub(crate) fn judge_spread<P: Engine<SumProd>, A: Engine<MinProd>>(
     requires in_use { AreInUse P.stands_for A.stands_for file.now.net file.now.tree journal.now.history prices.old users.old }
     requires quotes { AreKeptQuotes file.now.net file.now.tree journal.now.history (quotes_of users.old) }
     requires user { request.now.user < length users.old }
-    requires answered { CanBeSpreadHere file.now.net file.now.tree journal.now.history (spread_in request.now.question) }
-    requires home { home file.now.tree (pairs_asked (asked_of (spread_in request.now.question) 0)) ≡ Some request.now.home }
-    requires one_each { length shares.now ≡ slice_index (sizes file.now.net) request.now.question.variable }
+    requires answered { CanBeSpreadHere file.now.net file.now.tree journal.now.history
+        (spread_in request.now.question) }
+    requires home { home file.now.tree (pairs_asked (asked_of (spread_in request.now.question) 0)) ≡
+        Some request.now.home }
+    requires one_each { length shares.now ≡ slice_index (sizes file.now.net)
+        request.now.question.variable }
     ensures prices { (m : Meaning) → P.stands_for prices.old m → P.stands_for prices.new m }
     ensures assets { (u : ℕ) (h : Holding) → OwnsAt A.stands_for users.old u h → OwnsAt A.stands_for users.new u h }
     ensures names { names_of users.new ≡ names_of users.old }

@@ -13,7 +13,8 @@ use mk_reply::{Refusal, Reply};
 use mk_semiring::{MinProd, SumProd};
 
 impl<P: Engine<SumProd>, A: Engine<MinProd>> Market<P, A> {
-    ghost use Rattle.mk_command.specs.declared.command.Command.TheVariants.{Prices, Position, Status};
+    ghost use Rattle.mk_command.specs.declared.command.Command.TheVariants.{Prices, Position};
+    ghost use Rattle.mk_command.specs.declared.command.Command.TheVariants.{Status};
     ghost use Rattle.mk_market.specs.Trading.{IsAnswered, reply_of};
 
     /// The prices of all values of a variable.
@@ -39,7 +40,8 @@ impl<P: Engine<SumProd>, A: Engine<MinProd>> Market<P, A> {
         variable: &Name,
         condition: &ArrayVec<PairText, 8>,
     ) -> Result<Reply, Refusal>
-        ensures { IsAnswered self.old self.new (Position name.now variable.now condition.now) (reply_of result) }
+        ensures { IsAnswered self.old self.new (Position name.now variable.now condition.now)
+            (reply_of result) }
     {
         let words = condition.as_slice();
         let request = refuse_bounds(
@@ -93,7 +95,8 @@ ghost use Rattle.mk_rules.specs.Refusals as rules;
 
 /// How many of so many variables no resolution gave a value.
 fn open_questions(journal: &Journal, variables: u32) -> u32
-    ensures { result ≡ count_by (λ v. not (rules.is_resolved journal.now.history v)) (numbers_below variables) }
+    ensures { result ≡ count_by (λ v. not (rules.is_resolved journal.now.history v))
+        (numbers_below variables) }
 {
     let mut open = 0;
     for variable in 0..variables {

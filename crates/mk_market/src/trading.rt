@@ -53,7 +53,8 @@ pub(crate) fn ratio_of_spread(asked: &SpreadQuestion, units: &[u64]) -> Ratio
     }
 }
 
-/// A user trades by a ratio, whose home this is. The engine of prices and the user's assets take it, and the journal an entry.
+/// A user trades by a ratio, whose home this is. The engine of prices and the user's assets take
+/// it, and the journal an entry.
 pub(crate) fn trade<P: Engine<SumProd>, A: Engine<MinProd>>(
     prices: &mut P,
     users: &mut Users<A>,
@@ -62,7 +63,8 @@ pub(crate) fn trade<P: Engine<SumProd>, A: Engine<MinProd>>(
     home: u32,
     ratio: Ratio,
 )
-    requires { CanBeMade P.stands_for A.stands_for prices.old users.old journal.old user home (trade_ratio ratio) }
+    requires { CanBeMade P.stands_for A.stands_for prices.old users.old journal.old user home
+        (trade_ratio ratio) }
     ensures history { journal.new.history ≡ journal.old.history ++ Trade user (trade_ratio ratio) ∷ [] }
     ensures limit { journal.new.max_trades ≡ journal.old.max_trades }
     ensures prices { (m : Meaning) → P.stands_for prices.old m → P.stands_for prices.new (with_factor (RatioOf (trade_ratio ratio)) m) }

@@ -102,7 +102,8 @@ prices_length : (prices : ℕ × ℕ) → ArePrices prices → length (prices_te
 prices_length prices fits =
     let low = price_text (prices.0) in
     let high = price_text (prices.1) in
-    let behind = two_lengths (codes "..") high 2 30 (omega arith) (price_length (prices.1) fits.1) in
+    let behind = two_lengths (codes "..") high 2 30 (omega arith) (price_length (prices.1) fits.1)
+    in
     two_lengths low (codes ".." ++ high) 30 32 (price_length (prices.0) fits.0) behind
 
 ends_length : (ends : Option (ℕ × ℕ)) → AreEnds ends → length (ends_text ends) ≤ 40

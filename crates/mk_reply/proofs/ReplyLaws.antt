@@ -206,7 +206,16 @@ other_takes = choose_takes reply_text IsReply other_forms read_later (
     spelled_by (codes "deposit ") (λ parts. Deposited (parts.0) (parts.1.0) (parts.1.1)) moved_reads (λ parts fits. (refl, (fits.0, fits.1.0, fits.1.1))),
     (
       spelled_by (codes "withdraw ") (λ parts. Withdrawn (parts.0) (parts.1.0) (parts.1.1)) moved_reads (λ parts fits. (refl, (fits.0, fits.1.0, fits.1.1))),
-      (prices_form, (limited_form, (traded_form, (bounded_form, (spreaded_form, (worst_form, (resolved_form, (refused_form, tt)))))))),
+      (
+        prices_form,
+        (
+          limited_form,
+          (
+            traded_form,
+            (bounded_form, (spreaded_form, (worst_form, (resolved_form, (refused_form, tt))))),
+          ),
+        ),
+      ),
     ),
   ),
 )
@@ -221,7 +230,9 @@ unfolding after
 ends_payments = record { follows = refl; missing = refl }
 
 form_last : (r : Reply) → IsReply r → read_form (reply_text r) ≡ Some (r, [])
-unfolding read_form read_other read_later read_all_prices read_position read_status read_joined read_prices read_limited read_traded read_bounded read_spreaded read_worst read_bound read_resolved read_settled after
+unfolding read_form read_other read_later read_all_prices read_position read_status read_joined
+    read_prices read_limited read_traded read_bounded read_spreaded read_worst read_bound
+    read_resolved read_settled after
 form_last (Joined user at) fits = made_last (λ parts. Joined (parts.0) (parts.1)) (dated_reads name_reads) (user, at) fits refl
 form_last (Deposited user bits at) fits =
     made_last (λ parts. Deposited (parts.0) (parts.1.0) (parts.1.1)) moved_reads (user, (bits, at)) (fits.0, (fits.1, fits.2)) refl

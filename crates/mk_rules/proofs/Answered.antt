@@ -47,7 +47,8 @@ use Rattle.mk_rules.specs.Answers.{IsTrade, IsJudged, IsJudgedAfresh, IsSpreadTr
 use Rattle.mk_rules.specs.Transcript.{Standing, Line, OfCommand, NoCommand, LongLine, after}
 use Rattle.mk_rules.specs.Standings.{IsMarket, IsReady}
 use Rattle.mk_rules.specs.Laws.{HasReply, HasRun}
-use Rattle.mk_rules.proofs.Unrefused.{none_applies, question_exists, question_known, target_named, not_resolved, all_resolved}
+use Rattle.mk_rules.proofs.Unrefused.{none_applies, question_exists, question_known, target_named}
+use Rattle.mk_rules.proofs.Unrefused.{not_resolved, all_resolved}
 use Rattle.mk_rules.proofs.Coming.{some_where, both_sides}
 use Rattle.mk_rules.proofs.Apart.{condition_apart, target_apart}
 use Rattle.mk_rules.proofs.Spreadable.{spread_exists, can_be_spread, can_be_told}
@@ -88,12 +89,24 @@ module _ (market : Market) (now : Standing) (is_market : IsMarket market) (ready
   of_named : {X : Type 0} (o : Option X) (P : X → Reply → Type 0) (x : X) → o ≡ Some x → (reply : Reply) × P x reply → (reply : Reply) × IsSomeAnd o (λ x. P x reply)
   of_named o P x named (reply, h) = (reply, subst (λ (o : Option _). IsSomeAnd o (λ x. P x reply)) (sym named) h)
 
-  withdrawal : (idle : Type 0) (u : List ℕ) (bits : ℕ) (q : Fraction) → IsSafeFactor q → (reply : Reply) × IsWithdrawal (IsSmall network H) idle q u bits (revision H + 1) reply
+  withdrawal : (idle : Type 0) (u : List ℕ) (bits : ℕ) (q : Fraction) → IsSafeFactor q
+      → (reply : Reply) × IsWithdrawal (IsSmall network H) idle q u bits (revision H + 1) reply
   withdrawal idle u bits q safe = at (withdrawal_is_judged q bits safe)
     where
-      at : (Covers q bits ⊎ ((most : ℕ) × (most < bits) × IsMost ⊤ ⊤ q most)) → (reply : Reply) × IsWithdrawal (IsSmall network H) idle q u bits (revision H + 1) reply
+      at : (Covers q bits ⊎ ((most : ℕ) × (most < bits) × IsMost ⊤ ⊤ q most))
+          → (reply : Reply) × IsWithdrawal (IsSmall network H) idle q u bits (revision H + 1) reply
       at (inl covers) = (Withdrawn u bits (revision H + 1), inl (covers, refl))
-      at (inr short) = (Refused (Short short.0), inr (record { most = short.0; less = short.1; is_most = most_in (IsSmall network H) idle q short.0 short.2; printed = refl }))
+      at (inr short) = (
+        Refused (Short short.0),
+        inr
+            (record {
+              most = short.0;
+              less = short.1;
+              is_most = most_in (IsSmall network H) idle q
+                  short.0 short.2;
+              printed = refl;
+            }),
+      )
 
   of_least : (u : ℕ) (P : Fraction → Reply → Type 0) → ((q : Fraction) → IsSafeFactor q → (reply : Reply) × P q reply)
       → (reply : Reply) × IsSomeAnd (least_gain network H u always) (λ g. P (factor_with H u g) reply)
@@ -181,13 +194,17 @@ module _ (market : Market) (now : Standing) (is_market : IsMarket market) (ready
 
   -- a payment for each user who is counted from n on
   payments_from : (s : List ℕ) → ((u : ℕ) → IsSafeFactor (factor H u s)) → (n : ℕ) (names : List (List ℕ))
-      → (payments : List Payment) × AllZip (IsPayment network H market.points_per_bit s) (enumerate_from n names) payments
+      → (payments : List Payment) × AllZip (IsPayment network H market.points_per_bit s)
+      (enumerate_from n names) payments
   payments_from s safe n [] = ([], tt)
   payments_from s safe n (name ∷ names) =
       let cash = cash_is_covered (factor H n s) market.points_per_bit (safe n) in
       let later = payments_from s safe (n + 1) names in
-      let covers = cash_in (IsSmall network H) (HoldsNoTrade H n) (factor H n s) market.points_per_bit cash.0 cash.1 cash.2 in
-      (record { user = name; low = cash.0; high = cash.1; paid = cash.0 } ∷ later.0, (record { name = refl; covers = covers; low_end = refl }, later.1))
+      let covers = cash_in (IsSmall network H) (HoldsNoTrade H n) (factor H n s)
+      market.points_per_bit cash.0 cash.1 cash.2 in (
+        record { user = name; low = cash.0; high = cash.1; paid = cash.0 } ∷ later.0,
+        (record { name = refl; covers = covers; low_end = refl }, later.1),
+      )
 
   settlement : ((v : ℕ) → v < length network → speaks_of (resolutions H) v ≡ true) → (reply : Reply) × IsSettlement network H market.points_per_bit reply
   settlement each =
@@ -198,7 +215,9 @@ module _ (market : Market) (now : Standing) (is_market : IsMarket market) (ready
   answered : (command : Command) → first_refusal market H command ≡ None → HasAnswer command
   answered (User u) none = (Joined u (revision H + 1), inl refl)
   answered (Deposit u bits) none = (Deposited u bits (revision H + 1), refl)
-  answered (Withdraw u bits) none = of_least (user_number H u) (λ q reply. IsWithdrawal (IsSmall network H) (HoldsNoTrade H (user_number H u)) q u bits (revision H + 1) reply)
+  answered (Withdraw u bits) none = of_least (user_number H u)
+      (λ q reply. IsWithdrawal (IsSmall network H) (HoldsNoTrade H (user_number H u)) q u bits
+      (revision H + 1) reply)
       (withdrawal (HoldsNoTrade H (user_number H u)) u bits)
   answered (Price q) none =
       let refused = none_applies (refusals market H (Price q)) none in
@@ -233,10 +252,20 @@ module _ (market : Market) (now : Standing) (is_market : IsMarket market) (ready
       (spread_answer (user_number H u) spread.0 to.items
       (can_be_spread network H v condition.items spread.0 ready.stands.proper spread.1 refused.1.1.1.1.0 refused.1.1.1.1.1.1.0 refused.1.1.1.1.1.1.1.1.1.1.1.1.1.0 refused.1.1.1.1.1.1.1.1.1.1.1.1.1.1.0)
       (current_bounds (last_quote now.quotes (user_number H u)) spread.0 (revision H)) refl)
-  answered (Worst u) none = of_least (user_number H u) (λ q reply. IsWorst (IsSmall network H) (HoldsNoTrade H (user_number H u)) q market.points_per_bit reply) (λ q safe.
+  answered (Worst u) none = of_least (user_number H u)
+      (λ q reply. IsWorst (IsSmall network H) (HoldsNoTrade H (user_number H u)) q
+      market.points_per_bit reply) (λ q safe.
       let cash = cash_is_covered q market.points_per_bit safe in
-      let covers = cash_in (IsSmall network H) (HoldsNoTrade H (user_number H u)) q market.points_per_bit cash.0 cash.1 cash.2 in
-      (Worsted cash.0 cash.1, record { low = cash.0; high = cash.1; printed = refl; covers = covers }))
+      let covers = cash_in (IsSmall network H) (HoldsNoTrade H (user_number H u)) q
+      market.points_per_bit cash.0 cash.1 cash.2 in (
+        Worsted cash.0 cash.1,
+        record {
+          low = cash.0;
+          high = cash.1;
+          printed = refl;
+          covers = covers;
+        },
+      ))
   answered (Resolve p) none = (Resolved p (revision H + 1), refl)
   answered Settle none = settlement (all_resolved network H (none_applies (refusals market H Settle) none).1.0)
   answered Bound none =

@@ -1,7 +1,11 @@
 -- What no refusal by what can come leaves.
-use Rattle.std.proofs.Common.{◌≡◌, ℕ, zero, suc, ◌+◌, ◌<◌, ◌≤◌, Bool, true, false, cond, List, [], ◌∷◌, ◌++◌, Option, None, Some, IfSome, length, slice_index, slice_index_or, ◌||◌, eqb, refl, sym, ap, subst, ◌∙◌, arith, append-nil, append_assoc}
+use Rattle.std.proofs.Common.{◌≡◌, ℕ, zero, suc, ◌+◌, ◌<◌, ◌≤◌, Bool, true, false, cond, List, []}
+use Rattle.std.proofs.Common.{◌∷◌, ◌++◌, Option, None, Some, IfSome, length, slice_index}
+use Rattle.std.proofs.Common.{slice_index_or, ◌||◌, eqb, refl, sym, ap, subst, ◌∙◌, arith}
+use Rattle.std.proofs.Common.{append-nil, append_assoc}
 use Rattle.std.specs.Prelude.{find, filter, option_map, option_and_then, nat_le, not, ◌==◌, ◌&&◌}
-use Rattle.std.specs.List.{AllByRecursion, AllZip, cons_option, range_with_len, enumerate_from, list_any}
+use Rattle.std.specs.List.{AllByRecursion, AllZip, cons_option, range_with_len, enumerate_from}
+use Rattle.std.specs.List.{list_any}
 use Rattle.std.proofs.lemmas.Bool.{and_parts, le-leb}
 use Rattle.std.proofs.lemmas.List.Elements.{filter_map-append}
 use Rattle.mk_net.specs.declared.words.Pair.{Pair}

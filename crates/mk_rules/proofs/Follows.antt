@@ -58,7 +58,9 @@ module _ (market : Market) (H : List Entry) where
   user_follows u reply named none (inr e) = reply_appends (MayFollow market H) market H (User u) reply _ e tt
 
   withdrawal_follows : (u : List ℕ) (bits g : ℕ) (reply : Reply) → first_refusal market H (Withdraw u bits) ≡ None
-      → IsWithdrawal (IsSmall (network_of market H) H) (HoldsNoTrade H (user_number H u)) (factor_with H (user_number H u) g) u bits (revision H + 1) reply → Follows (Withdraw u bits) reply
+      → IsWithdrawal (IsSmall (network_of market H) H) (HoldsNoTrade H (user_number H u))
+      (factor_with H (user_number H u) g) u bits (revision H + 1) reply
+      → Follows (Withdraw u bits) reply
   withdrawal_follows u bits g reply none (inl taken) =
       let refused = none_applies (refusals market H (Withdraw u bits)) none in
       reply_appends (MayFollow market H) market H (Withdraw u bits) reply _ taken.1 (transfer_of H u bits refused.1.0 refused.1.1.0, has_room max_transfers (count_by is_transfer H) refused.1.1.1.0)

@@ -73,7 +73,9 @@ user_fits market H u reply (inl e) = reply_appends (Fits market H) market H (Use
 user_fits market H u reply (inr e) = reply_appends (Fits market H) market H (User u) reply _ e tt
 
 withdrawal_fits : (market : Market) (H : List Entry) (u : List ℕ) (bits g : ℕ) (reply : Reply) → least_gain (network_of market H) H (user_number H u) always ≡ Some g
-    → IsWithdrawal (IsSmall (network_of market H) H) (HoldsNoTrade H (user_number H u)) (factor_with H (user_number H u) g) u bits (revision H + 1) reply → AppendsFit market H (Withdraw u bits) reply
+    → IsWithdrawal (IsSmall (network_of market H) H) (HoldsNoTrade H (user_number H u))
+    (factor_with H (user_number H u) g) u bits (revision H + 1) reply
+    → AppendsFit market H (Withdraw u bits) reply
 withdrawal_fits market H u bits g reply e (inl taken) = reply_appends (Fits market H) market H (Withdraw u bits) reply _ taken.1
     (record { acceptable = subst (λ (o : Option ℕ). IfSome o (λ g. Covers (factor_with H (user_number H u) g) bits)) (sym e) taken.0; in_range = tt; narrow = tt })
 withdrawal_fits market H u bits g reply e (inr short) = reply_appends (Fits market H) market H (Withdraw u bits) reply _ short.printed tt

@@ -32,22 +32,37 @@ use Rattle.mk_rules.specs.Standings.{Stands}
 use Rattle.mk_rules.specs.Laws.{paid_by, CostsAtMost}
 use Rattle.mk_rules.proofs.Options.{value_of}
 
-one_paid : (network : List Variable) (H : List Entry) (b : ℕ) (s : List ℕ) (user : ℕ × List ℕ) (payment : Payment) → IsPayment network H b s user payment → IsWithinCash (factor H (user.0) s) b payment.paid
-one_paid network H b s user payment h = record { cash = h.covers.cash; is_cash = h.covers.is_cash; at_most = subst (λ (n : ℕ). n ≤ h.covers.cash) (sym h.low_end) h.covers.above }
+one_paid : (network : List Variable) (H : List Entry) (b : ℕ) (s : List ℕ) (user : ℕ × List ℕ)
+    (payment : Payment) → IsPayment network H b s user payment
+    → IsWithinCash (factor H (user.0) s) b payment.paid
+one_paid network H b s user payment h = record {
+  cash = h.covers.cash;
+  is_cash = h.covers.is_cash;
+  at_most = subst
+      (λ (n : ℕ). n ≤ h.covers.cash) (sym h.low_end) h.covers.above;
+}
 
 -- the payments to users that are counted from n on
-each_paid : (network : List Variable) (H : List Entry) (b : ℕ) (s : List ℕ) (n : ℕ) (names : List (List ℕ)) (payments : List Payment) → AllZip (IsPayment network H b s) (enumerate_from n names) payments
+each_paid : (network : List Variable) (H : List Entry) (b : ℕ) (s : List ℕ) (n : ℕ)
+    (names : List (List ℕ)) (payments : List Payment)
+    → AllZip (IsPayment network H b s) (enumerate_from n names) payments
     → (k u : ℕ) → n + k ≡ u → k < length names → IsWithinCash (factor H u s) b (slice_index (paid_by payments) k)
 each_paid network H b s n [] payments h k u e inside = absurd (omega arith)
 each_paid network H b s n (name ∷ names) [] h k u e inside = absurd h
 each_paid network H b s n (name ∷ names) (payment ∷ payments) h zero u e inside =
     let same : n ≡ u = omega arith in
-    subst (λ (v : ℕ). IsWithinCash (factor H v s) b payment.paid) same (one_paid network H b s (n, name) payment h.0)
-each_paid network H b s n (name ∷ names) (payment ∷ payments) h (suc k) u e inside = each_paid network H b s (n + 1) names payments h.1 k u (omega arith) (omega arith)
+    subst (λ (v : ℕ). IsWithinCash (factor H v s) b payment.paid) same
+    (one_paid network H b s (n, name) payment h.0)
+each_paid network H b s n (name ∷ names) (payment ∷ payments) h (suc k) u e inside = each_paid
+    network H b s (n + 1) names payments h.1 k u (omega arith) (omega arith)
 
-are_payments : (network : List Variable) (H : List Entry) (b : ℕ) (s : List ℕ) (payments : List Payment) → AllZip (IsPayment network H b s) (enumerate_from 0 (users H)) payments → ArePayments H b s (paid_by payments)
+are_payments : (network : List Variable) (H : List Entry) (b : ℕ) (s : List ℕ)
+    (payments : List Payment)
+    → AllZip (IsPayment network H b s) (enumerate_from 0 (users H)) payments
+    → ArePayments H b s (paid_by payments)
 are_payments network H b s payments h = record {
-  one_each = length-map payments (λ (p : Payment). p.paid) ∙ AllZip-long (IsPayment network H b s) (enumerate_from 0 (users H)) payments h ∙ length-enumerate_from 0 (users H);
+  one_each = length-map payments (λ (p : Payment). p.paid) ∙ AllZip-long (IsPayment network H b s)
+      (enumerate_from 0 (users H)) payments h ∙ length-enumerate_from 0 (users H);
   within = λ u inside. each_paid network H b s 0 (users H) payments h u u (omega arith) inside;
 }
 
@@ -63,7 +78,8 @@ settlement_costs market H at payments stands settlement = record {
   one_state = settlement.one_state;
   bounded = subst (λ (ps : List Payment). LossIsBounded (network_of market H) H market.points_per_bit settlement.state (paid_by ps)) (sym (ap payments_in settlement.printed))
       (All-head Bounded settlement.state [] (subst (All Bounded) settlement.one_state (settlement_bounded (network_of market H) H market.points_per_bit stands.sound stands.proper))
-      (paid_by settlement.payments) (are_payments (network_of market H) H market.points_per_bit settlement.state settlement.payments settlement.paid));
+      (paid_by settlement.payments) (are_payments (network_of market H) H market.points_per_bit
+      settlement.state settlement.payments settlement.paid));
 }
   where
     Bounded : List ℕ → Type 0
@@ -73,7 +89,8 @@ abbrev settling : ℕ → List Payment → Reply
 settling at payments = Settled at payments
 
 -- no other command is answered by a settlement
-withdrawal_settles_not : (small idle : Type 0) (q : Fraction) (u : List ℕ) (bits n at : ℕ) (payments : List Payment) → IsWithdrawal small idle q u bits n (settling at payments) → ⊥
+withdrawal_settles_not : (small idle : Type 0) (q : Fraction) (u : List ℕ) (bits n at : ℕ)
+    (payments : List Payment) → IsWithdrawal small idle q u bits n (settling at payments) → ⊥
 withdrawal_settles_not small idle q u bits n at payments (inl taken) = let e = taken.1 in cc
 withdrawal_settles_not small idle q u bits n at payments (inr short) = let e = short.printed in cc
 
@@ -98,7 +115,9 @@ module _ (market : Market) (H : List Entry) (quotes : Quotes) (at : ℕ) (paymen
   settles_alone (Deposit u bits) h = absurd (cc)
   settles_alone (Withdraw u bits) h =
       let least = value_of _ (least_gain (network_of market H) H (user_number H u) always) h in
-      absurd (withdrawal_settles_not (IsSmall (network_of market H) H) (HoldsNoTrade H (user_number H u)) (factor_with H (user_number H u) least.0) u bits (revision H + 1) at payments least.2)
+      absurd (withdrawal_settles_not (IsSmall (network_of market H) H)
+      (HoldsNoTrade H (user_number H u)) (factor_with H (user_number H u) least.0) u bits
+      (revision H + 1) at payments least.2)
   settles_alone (Price q) h = let e = (value_of _ (question_named (network_of market H) q) h).2.printed in absurd (cc)
   settles_alone (Limits u q) h = let e = (value_of _ (question_named (network_of market H) q) h).2.printed in absurd (cc)
   settles_alone (Edit u q X seen) h =

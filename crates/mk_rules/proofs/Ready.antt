@@ -256,7 +256,11 @@ module _ (market : Market) (now : Standing) (kept : AreKept market now.history n
       → IfSome (option_map (λ (spread : SpreadAsked). SpreadBounds spread intervals) o) (IsRight market now.history n)
   bounds_right n spread intervals o named right = rw named right
 
-  withdrawal_kept : (u : List ℕ) (bits g : ℕ) (reply : Reply) → IsWithdrawal (IsSmall (network_of market now.history) now.history) (HoldsNoTrade now.history (user_number now.history u)) (factor_with now.history (user_number now.history u) g) u bits (revision now.history + 1) reply
+  withdrawal_kept : (u : List ℕ) (bits g : ℕ) (reply : Reply)
+      → IsWithdrawal (IsSmall (network_of market now.history) now.history)
+      (HoldsNoTrade now.history (user_number now.history u))
+      (factor_with now.history (user_number now.history u) g) u bits (revision now.history + 1)
+      reply
       → KeptAfter market now (Withdraw u bits) reply
   unfolding KeptAfter
   withdrawal_kept u bits g reply (inl taken) = reply_kept market now (Withdraw u bits) reply _ taken.1 (after_some (Some (Withdraws (user_number now.history u) bits)) refl)

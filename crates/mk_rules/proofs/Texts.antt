@@ -1,5 +1,8 @@
 -- In a ready standing an allowed reply to a line that is a text has a text.
-use Rattle.std.proofs.Common.{◌≡◌, ℕ, ◌+◌, ◌*◌, ◌^◌, ◌<◌, ◌≤◌, ◌⊎◌, inl, inr, Bool, true, false, cond, List, [], ◌∷◌, ◌++◌, length, sum, Option, Some, None, IfSome, MatchOption, slice_index, slice_index_or, refl, sym, ◌∙◌, subst, arith}
+use Rattle.std.proofs.Common.{◌≡◌, ℕ, ◌+◌, ◌*◌, ◌^◌, ◌<◌, ◌≤◌, ◌⊎◌, inl, inr, Bool, true, false}
+use Rattle.std.proofs.Common.{cond, List, [], ◌∷◌, ◌++◌, length, sum, Option, Some, None, IfSome}
+use Rattle.std.proofs.Common.{MatchOption, slice_index, slice_index_or, refl, sym, ◌∙◌, subst}
+use Rattle.std.proofs.Common.{arith}
 use Rattle.std.specs.Prelude.{option_map, option_and_then, find, All}
 use Rattle.std.specs.List.{AllByRecursion, AllZip, enumerate_from, list_any}
 use Rattle.std.proofs.lemmas.Bool.{cases_lt}
@@ -214,8 +217,11 @@ counted_at_most test a n =
 
 -- payments of a bounded history have texts
 payments_have : (network : List Variable) (H : List Entry) (b : ℕ) (s : List ℕ)
-    → ((u low high : ℕ) (covers : CoversCash (IsSmall network H) (HoldsNoTrade H u) (factor H u s) b low high) → high < 2 ^ 63)
-    → (n : ℕ) (names : List (List ℕ)) (payments : List Payment) → AllByRecursion IsName names → AllZip (IsPayment network H b s) (enumerate_from n names) payments → AllByRecursion HasText payments
+    → ((u low high : ℕ) (covers : CoversCash (IsSmall network H) (HoldsNoTrade H u) (factor H u s) b
+    low high) → high < 2 ^ 63)
+    → (n : ℕ) (names : List (List ℕ)) (payments : List Payment) → AllByRecursion IsName names
+    → AllZip (IsPayment network H b s) (enumerate_from n names) payments
+    → AllByRecursion HasText payments
 payments_have network H b s fits n [] [] named paid = tt
 payments_have network H b s fits n [] (payment ∷ payments) named paid = absurd paid
 payments_have network H b s fits n (name ∷ names) [] named paid = absurd paid
@@ -430,15 +436,22 @@ module _ (market : Market) (now : Standing) (is_market : IsMarket market) (ready
   spread_judged_has u spread Xs reply within (Some intervals) e (inr outside) = outside_has u spread intervals Xs reply within
       (current_bounds_right market H u spread intervals (last_quote now.quotes u) (ready.quotes_right u) e) outside
 
-  withdrawal_has : (u : List ℕ) (bits g : ℕ) (reply : Reply) → IsName u → IsShort bits → IsWithdrawal (IsSmall network H) (HoldsNoTrade H (user_number H u)) (factor_with H (user_number H u) g) u bits (revision H + 1) reply → IsReply reply
+  withdrawal_has : (u : List ℕ) (bits g : ℕ) (reply : Reply) → IsName u → IsShort bits
+      → IsWithdrawal (IsSmall network H) (HoldsNoTrade H (user_number H u))
+      (factor_with H (user_number H u) g) u bits (revision H + 1) reply → IsReply reply
   withdrawal_has u bits g reply named short (inl taken) = reply_has reply _ taken.1 (named, omega (arith, short), next)
   withdrawal_has u bits g reply named short (inr less) = reply_has reply _ less.printed (omega (arith, short, less.less))
 
   settlement_has : (reply : Reply) → IsSettlement network H market.points_per_bit reply → IsReply reply
   settlement_has reply settlement =
-      let each : AllByRecursion HasText settlement.payments = payments_have network H market.points_per_bit settlement.state
-      (λ u low high covers. cash_fits (IsSmall network H) (HoldsNoTrade H u) H u settlement.state market.points_per_bit low high bounded.within is_market.few_points covers) 0 (users H) settlement.payments bounded.users_named settlement.paid in
-      let many : length settlement.payments ≡ length (users H) = AllZip-long (IsPayment network H market.points_per_bit settlement.state) (enumerate_from 0 (users H)) settlement.payments settlement.paid ∙ length-enumerate_from 0 (users H) in
+      let each : AllByRecursion HasText settlement.payments = payments_have network H
+      market.points_per_bit settlement.state
+      (λ u low high covers. cash_fits (IsSmall network H) (HoldsNoTrade H u) H u settlement.state
+      market.points_per_bit low high bounded.within is_market.few_points covers) 0 (users H)
+      settlement.payments bounded.users_named settlement.paid in
+      let many : length settlement.payments ≡ length (users H) = AllZip-long
+      (IsPayment network H market.points_per_bit settlement.state) (enumerate_from 0 (users H))
+      settlement.payments settlement.paid ∙ length-enumerate_from 0 (users H) in
       reply_has reply _ settlement.printed (next, record { few = omega (arith, bounded.few_users); each = All-from_recursion HasText settlement.payments each })
 
   answer_has : (command : Command) (reply : Reply) → IsCommand command → first_refusal market H command ≡ None → IsAnswer market H now.quotes command reply → IsReply reply
@@ -453,7 +466,11 @@ module _ (market : Market) (now : Standing) (is_market : IsMarket market) (ready
       let price = value_of _ (question_named network q) h in
       let exact = price_exists network H price.0 is_market.network ready.stands.proper
       (can_be_asked network H q price.0 ready.stands.proper price.1 refused.1.0 refused.1.1.0 refused.1.1.1.0 refused.1.1.1.1.1.1.0) in
-      reply_has reply _ price.2.printed (low_at_most_one (exact_price network H price.0) price.2.low exact.exact price.2.covers.below, price.2.covers.at_most_one)
+      reply_has reply _ price.2.printed (
+        low_at_most_one (exact_price network H price.0) price.2.low
+            exact.exact price.2.covers.below,
+        price.2.covers.at_most_one,
+      )
   answer_has (Limits u q) reply text none h =
       let limits = value_of _ (question_named network q) h in
       reply_has reply _ limits.2.printed (right_limits_have network H (user_number H u) limits.0 limits.2.limits limits.2.right, omega (arith, next))
@@ -470,7 +487,9 @@ module _ (market : Market) (now : Standing) (is_market : IsMarket market) (ready
       spread_judged_has (user_number H u) judged.0 to.items reply within (current_bounds (last_quote now.quotes (user_number H u)) judged.0 (revision H)) refl judged.2
   answer_has (Worst u) reply text none h =
       let least = value_of _ (least_gain network H (user_number H u) always) h in
-      let high = least_cash_fits (IsSmall network H) (HoldsNoTrade H (user_number H u)) network H (user_number H u) always least.0 market.points_per_bit least.2.low least.2.high bounded.within is_market.few_points least.1 least.2.covers in
+      let high = least_cash_fits (IsSmall network H) (HoldsNoTrade H (user_number H u)) network H
+      (user_number H u) always least.0 market.points_per_bit least.2.low least.2.high
+      bounded.within is_market.few_points least.1 least.2.covers in
       reply_has reply _ least.2.printed (omega (arith, high, least.2.covers.above, least.2.covers.below), high)
   answer_has (Resolve p) reply text none h = reply_has reply _ h (text, next)
   answer_has Settle reply text none h = settlement_has reply h

@@ -97,7 +97,8 @@ pub record IsShort (small idle : Type 0) (q : Fraction) (bits : ℕ) (reply : Re
 
 -- a withdrawal that the factor covers, or one that is too much
 abbrev pub IsWithdrawal : Type 0 → Type 0 → Fraction → List ℕ → ℕ → ℕ → Reply → Type 0
-IsWithdrawal small idle q u bits at reply = (Covers q bits × (reply ≡ Withdrawn u bits at)) ⊎ IsShort small idle q bits reply
+IsWithdrawal small idle q u bits at reply = (Covers q bits × (reply ≡ Withdrawn u bits at)) ⊎
+    IsShort small idle q bits reply
 
 -- an interval that covers the exact price
 pub record IsPrice (network : List Variable) (H : List Entry) (asked : Asked) (reply : Reply) : Type 0 where
@@ -119,16 +120,19 @@ pub record IsBounds (network : List Variable) (H : List Entry) (u : ℕ) (spread
   pub right : AreRightBoundsOf network H u spread (given_in box)
 
 -- an interval that covers the cash of a factor
-pub record IsWorst (small idle : Type 0) (q : Fraction) (points_per_bit : ℕ) (reply : Reply) : Type 0 where
+pub record IsWorst (small idle : Type 0) (q : Fraction) (points_per_bit : ℕ) (reply : Reply) : Type
+    0 where
   pub low : ℕ
   pub high : ℕ
   pub printed : reply ≡ Worsted low high
   pub covers : CoversCash small idle q points_per_bit low high
 
 -- a user's payment in the one possible state: the low end of an interval that covers the cash
-pub record IsPayment (network : List Variable) (H : List Entry) (points_per_bit : ℕ) (s : List ℕ) (user : ℕ × List ℕ) (payment : Payment) : Type 0 where
+pub record IsPayment (network : List Variable) (H : List Entry) (points_per_bit : ℕ) (s : List ℕ)
+    (user : ℕ × List ℕ) (payment : Payment) : Type 0 where
   pub name : payment.user ≡ user.1
-  pub covers : CoversCash (IsSmall network H) (HoldsNoTrade H (user.0)) (factor H (user.0) s) points_per_bit payment.low payment.high
+  pub covers : CoversCash (IsSmall network H) (HoldsNoTrade H (user.0)) (factor H (user.0) s)
+      points_per_bit payment.low payment.high
   pub low_end : payment.paid ≡ payment.low
 
 -- one payment for each user, in the order of joining
@@ -153,7 +157,9 @@ IsAnswer market H quotes (Deposit u bits) reply = reply ≡ Deposited u bits (re
 IsAnswer market H quotes (Withdraw u bits) reply =
     let network = network_of market H in
     let n = user_number H u in
-    IsSomeAnd (least_gain network H n always) (λ g. IsWithdrawal (IsSmall network H) (HoldsNoTrade H n) (factor_with H n g) u bits (revision H + 1) reply)
+    IsSomeAnd (least_gain network H n always)
+    (λ g. IsWithdrawal (IsSmall network H) (HoldsNoTrade H n) (factor_with H n g) u bits
+    (revision H + 1) reply)
 IsAnswer market H quotes (Price q) reply =
     let network = network_of market H in
     IsSomeAnd (question_named network q) (λ asked. IsPrice network H asked reply)
@@ -176,7 +182,9 @@ IsAnswer market H quotes (Spread u v condition to seen) reply =
 IsAnswer market H quotes (Worst u) reply =
     let network = network_of market H in
     let n = user_number H u in
-    IsSomeAnd (least_gain network H n always) (λ g. IsWorst (IsSmall network H) (HoldsNoTrade H n) (factor_with H n g) market.points_per_bit reply)
+    IsSomeAnd (least_gain network H n always)
+    (λ g. IsWorst (IsSmall network H) (HoldsNoTrade H n) (factor_with H n g)
+    market.points_per_bit reply)
 IsAnswer market H quotes (Resolve p) reply = reply ≡ Resolved p (revision H + 1)
 IsAnswer market H quotes Settle reply = IsSettlement (network_of market H) H market.points_per_bit reply
 IsAnswer market H quotes Bound reply = IsBound (network_of market H) H market.points_per_bit reply

@@ -236,13 +236,17 @@ paying user low high paid = record { user = user; low = low; high = high; paid =
 abbrev pub settled_with : List Payment → Reply
 settled_with payments = Settled 6 payments
 
--- heads came up: alice is paid 126 points and bob, who holds no trade, none, in this order; no wider interval will do, and no point
+-- heads came up: alice is paid 126 points and bob, who holds no trade, none, in this order; no
+-- wider interval will do, and no point
 -- less
 pub record IsPaid : Type 0 where
   pub allowed : IsAllowed coin_market heads_up [] Settle (settled_with (paying alice 126 126 126 ∷ paying bob 0 0 0 ∷ []))
-  pub not_wide : IsAllowed coin_market heads_up [] Settle (settled_with (paying alice 126 127 126 ∷ paying bob 0 0 0 ∷ [])) → ⊥
-  pub not_less : IsAllowed coin_market heads_up [] Settle (settled_with (paying alice 125 126 125 ∷ paying bob 0 0 0 ∷ [])) → ⊥
-  pub not_idle : IsAllowed coin_market heads_up [] Settle (settled_with (paying alice 126 126 126 ∷ paying bob 0 1 0 ∷ [])) → ⊥
+  pub not_wide : IsAllowed coin_market heads_up [] Settle
+      (settled_with (paying alice 126 127 126 ∷ paying bob 0 0 0 ∷ [])) → ⊥
+  pub not_less : IsAllowed coin_market heads_up [] Settle
+      (settled_with (paying alice 125 126 125 ∷ paying bob 0 0 0 ∷ [])) → ⊥
+  pub not_idle : IsAllowed coin_market heads_up [] Settle
+      (settled_with (paying alice 126 126 126 ∷ paying bob 0 1 0 ∷ [])) → ⊥
   pub not_high : IsAllowed coin_market heads_up [] Settle (settled_with (paying alice 126 127 127 ∷ paying bob 0 0 0 ∷ [])) → ⊥
   pub not_above : IsAllowed coin_market heads_up [] Settle (settled_with (paying alice 127 128 127 ∷ paying bob 0 0 0 ∷ [])) → ⊥
   pub not_one : IsAllowed coin_market heads_up [] Settle (settled_with (paying alice 126 126 126 ∷ [])) → ⊥

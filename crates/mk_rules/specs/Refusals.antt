@@ -1,5 +1,7 @@
 -- The refusals that come in every history, and their order. Each answers a refusal or none.
-use Rattle.std.specs.Prelude.{ℕ, ◌-◌, List, [], ◌∷◌, length, map, sum, Bool, false, ◌&&◌, not, ◌++◌, slice_index_or, ◌==◌, nat_le, if◌then◌else◌, is_none, Option, Some, None, option_map, option_and_then, find}
+use Rattle.std.specs.Prelude.{ℕ, ◌-◌, List, [], ◌∷◌, length, map, sum, Bool, false, ◌&&◌, not, ◌++◌}
+use Rattle.std.specs.Prelude.{slice_index_or, ◌==◌, nat_le, if◌then◌else◌, is_none, Option, Some}
+use Rattle.std.specs.Prelude.{None, option_map, option_and_then, find}
 use Rattle.std.specs.List.{list_all, list_any, position_or_len, enumerate_from, filter_map, count_by}
 use Rattle.mk_net.specs.declared.words.Pair.{Pair}
 use Rattle.mk_net.specs.declared.words.PairText.{PairText}

@@ -208,8 +208,12 @@ module _ (network : List Variable) (H : List Entry) (u b : ℕ) (spread : Spread
       covered : (g : ℕ) → least_gain network H u (comes k) ≡ Some g →
           IsSafeFactor (factor_with H u g) → HasSure k
       covered g e safe =
-          let cash = cash_is_covered (factor_with H u g) b safe in
-          (Some (cash.0, cash.1), rw e (cash_in (IsSmall network H) (HoldsNoTrade H u) (factor_with H u g) b cash.0 cash.1 cash.2), tt)
+          let cash = cash_is_covered (factor_with H u g) b safe in (
+            Some (cash.0, cash.1),
+            rw e (cash_in (IsSmall network H) (HoldsNoTrade H u)
+                (factor_with H u g) b cash.0 cash.1 cash.2),
+            tt,
+          )
 
       at : (gone : Bool) → value_cannot_come network H spread k ≡ gone → HasSure k
       at true e = (None, no_side network H spread u k e, tt)
@@ -241,7 +245,8 @@ module _ (network : List Variable) (H : List Entry) (u b : ℕ) (spread : Spread
       fits k low high None e covers = absurd (rw e at covers)
       fits k low high (Some g) e covers =
           let cash = rw e at covers in
-          let most = least_cash_fits (IsSmall network H) (HoldsNoTrade H u) network H u (comes k) g b low high bounds few e cash in
+          let most = least_cash_fits (IsSmall network H) (HoldsNoTrade H u) network H u (comes k) g
+          b low high bounds few e cash in
           (omega (arith, most, cash.above, cash.below), most)
 
       numbers : (k : ℕ) (interval : Option (ℕ × ℕ)) → IsSure k interval → AreNumbers interval

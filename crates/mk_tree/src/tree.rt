@@ -1,6 +1,7 @@
 //! A checked tree.
 
-ghost use Rattle.std.specs.Prelude.{◌≡◌, ◌≢◌, ℕ, ◌<◌, ◌≤◌, [], ◌∷◌, length, None, Some, IfOk, IfErr, IfSome, position};
+ghost use Rattle.std.specs.Prelude.{◌≡◌, ◌≢◌, ℕ, ◌<◌, ◌≤◌, [], ◌∷◌, length, None, Some, IfOk};
+ghost use Rattle.std.specs.Prelude.{IfErr, IfSome, position};
 ghost use Rattle.mk_tree.specs.Given.{AreLinked, AreOfNetwork, clique_at, link_of, home, holds_event};
 ghost use Rattle.mk_tree.specs.Tests.{tree_fault};
 ghost use Rattle.mk_tree.specs.Checked.{IsTreeOf};

@@ -1,5 +1,7 @@
 -- The first clique that holds something.
-use Rattle.std.proofs.Common.{◌≡◌, ℕ, suc, ◌+◌, ◌<◌, ◌≤◌, Bool, true, false, List, [], ◌∷◌, length, get_or, Option, Some, unwrap_or, option_map, position, refl, sym, ap, ◌∙◌, arith}
+use Rattle.std.proofs.Common.{◌≡◌, ℕ, suc, ◌+◌, ◌<◌, ◌≤◌, Bool, true, false, List, [], ◌∷◌, length}
+use Rattle.std.proofs.Common.{get_or, Option, Some, unwrap_or, option_map, position, refl, sym, ap}
+use Rattle.std.proofs.Common.{◌∙◌, arith}
 use Rattle.std.specs.List.{list_any}
 use Rattle.std.proofs.lemmas.Bool.{both_ways, or_from}
 use Rattle.mk_net.specs.declared.words.Pair.{Pair}
@@ -37,12 +39,15 @@ module _ (tree : GivenTree) where
       (none_passes (holds_family network x) tree.cliques no_variables (λ i q. ap (holds_family network x) (sym (at_place tree i)) ∙ none i (omega arith))) covered
 
 -- a clique that holds an event is one of the tree's
-pub clique_of : (tree : GivenTree) (k : ℕ) (event : List Pair) → IsHeldAt tree k event → IsClique tree k
+pub clique_of : (tree : GivenTree) (k : ℕ) (event : List Pair) → IsHeldAt tree k event
+    → IsClique tree k
 clique_of tree k event h = record { first = h.first; last = h.last }
 
 -- what has a home is placed there
-pub ratio_place : (network : List Variable) (tree : GivenTree) (k : ℕ) (ratio : TradeRatio) → home tree (ratio_pairs ratio) ≡ Some k → k ≡ factor_home network tree (RatioOf ratio)
+pub ratio_place : (network : List Variable) (tree : GivenTree) (k : ℕ) (ratio : TradeRatio)
+    → home tree (ratio_pairs ratio) ≡ Some k → k ≡ factor_home network tree (RatioOf ratio)
 ratio_place network tree k ratio e = sym (ap (λ (o : Option ℕ). unwrap_or o 0) e)
 
-pub pair_place : (tree : GivenTree) (k : ℕ) (pair : Pair) → home tree (pair ∷ []) ≡ Some k → k ≡ pair_home tree pair
+pub pair_place : (tree : GivenTree) (k : ℕ) (pair : Pair) → home tree (pair ∷ []) ≡ Some k
+    → k ≡ pair_home tree pair
 pair_place tree k pair e = sym (ap (λ (o : Option ℕ). unwrap_or o 0) e)

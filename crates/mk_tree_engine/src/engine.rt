@@ -11,7 +11,8 @@ ghost use Rattle.mk_engine.specs.Meaning.{Meaning, RowsOf, SupportOf, RatioOf, w
 ghost use Rattle.mk_engine.specs.Beliefs.{CanWeigh, CanMultiply, CanKnow, CanBelieve, IsBelief};
 ghost use Rattle.mk_propagate.specs.Shapes.{IsClique};
 ghost use Rattle.mk_propagate.specs.Flows.{counted_on, reading_grade};
-ghost use Rattle.mk_tree_engine.specs.Engines.{HasTree, IsPlanFor, MarksAway, ClearsTowards, KeepsCount, factor_home, placing_of, stale_number};
+ghost use Rattle.mk_tree_engine.specs.Engines.{HasTree, IsPlanFor, MarksAway, ClearsTowards};
+ghost use Rattle.mk_tree_engine.specs.Engines.{KeepsCount, factor_home, placing_of, stale_number};
 
 use crate::homes::family_home;
 use crate::marks::Marks;
@@ -26,7 +27,8 @@ use std::marker::Model;
 use std::rc::Rc;
 
 /// An engine over a tree of cliques: each factor and each known pair is placed in the first clique that holds its variables, and a
-/// belief is read in the clique that it is asked in, once the stale messages that lead towards that clique were made. It suits every
+/// belief is read in the clique that it is asked in, once the stale messages that lead towards that
+/// clique were made. It suits every
 /// network with a tree of it.
 #[derive(Drop)]
 pub struct TreeEngine<R: Semiring> {
@@ -114,7 +116,8 @@ impl<R: Semiring> Engine<R> for TreeEngine<R> {
     }
 
     fn multiply(&mut self, clique: u32, ratio: &Ratio)
-        requires home { home self.old.flow.shape.tree (ratio_pairs (trade_ratio ratio.now)) ≡ Some clique }
+        requires home { home self.old.flow.shape.tree (ratio_pairs (trade_ratio ratio.now)) ≡ Some
+            clique }
         requires range { CanMultiply ⟦<TreeEngine<R> as Engine<R>>⟧.stands_for self.old (trade_ratio ratio.now) }
         ensures stands { (m : Meaning) → ⟦<TreeEngine<R> as Engine<R>>⟧.stands_for self.old m
             → ⟦<TreeEngine<R> as Engine<R>>⟧.stands_for self.new (with_factor (RatioOf (trade_ratio ratio.now)) m) }
@@ -144,7 +147,8 @@ impl<R: Semiring> Engine<R> for TreeEngine<R> {
         ensures belief { (m : Meaning) → ⟦<TreeEngine<R> as Engine<R>>⟧.stands_for self.old m
             → IsBelief R.encloses R.has_grade R.is_exact R.plus_of m event.now result }
         ensures shape { self.new.flow.shape ≡ self.old.flow.shape }
-        ensures counted { self.new.flow.computed ≡ counted_on self.old.flow.computed (stale_number self.old at) }
+        ensures counted { self.new.flow.computed ≡ counted_on self.old.flow.computed
+            (stale_number self.old at) }
         ensures marks { ClearsTowards self.old self.new at }
         ensures sharp { (m : Meaning) → ⟦<TreeEngine<R> as Engine<R>>⟧.stands_for self.old m
             → R.has_grade result (reading_grade m.tree (placing_of m) at) }

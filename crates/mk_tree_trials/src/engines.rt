@@ -219,8 +219,10 @@ fn expect_made(
     belief: u64,
     computed: u64,
 )
-    requires { IsInUse ⟦<TreeEngine<SumProd> as Engine<SumProd>>⟧.stands_for engine.old file.now before }
-    ensures { IsInUse ⟦<TreeEngine<SumProd> as Engine<SumProd>>⟧.stands_for engine.new file.now before }
+    requires { IsInUse ⟦<TreeEngine<SumProd> as Engine<SumProd>>⟧.stands_for engine.old file.now
+        before }
+    ensures { IsInUse ⟦<TreeEngine<SumProd> as Engine<SumProd>>⟧.stands_for engine.new file.now
+        before }
 {
     let event = event(rt, &file.net, &About(pair, None));
     expect(rt, engine, file, &event, before, Exact(belief, 0));

@@ -1,5 +1,6 @@
 -- Beliefs in what is possible.
-use Rattle.std.specs.Prelude.{◌≡◌, ℕ, ◌+◌, ◌^◌, ◌≤◌, List, slice_index, true, Option, Some, IsNone, IfSome, ◌↔◌}
+use Rattle.std.specs.Prelude.{◌≡◌, ℕ, ◌+◌, ◌^◌, ◌≤◌, List, slice_index, true, Option, Some, IsNone}
+use Rattle.std.specs.Prelude.{IfSome, ◌↔◌}
 use Rattle.mk_net.specs.Bounds.{max_values}
 use Rattle.mk_net.specs.Network.{Variable, sizes}
 use Rattle.mk_net.specs.Asked.{Asked}
@@ -70,7 +71,9 @@ pub record HasSides (part rest : Held) : Type 0 where
 
 -- the assets are a user's of a market in use, where the question can be answered, its variable has so many values, and both of its
 -- sides have these weights
-pub record CanOpen {E P : Type 0} (stands_for : E → Meaning → Type 0) (assets : Assets E P) (at : ℕ) (asked : Asked) (values : ℕ) (hit miss : Enclosure) : Type 0 where
+pub record CanOpen {E P : Type 0} (stands_for : E → Meaning
+    → Type 0) (assets : Assets E P) (at : ℕ) (asked : Asked) (values : ℕ) (hit miss : Enclosure) :
+    Type 0 where
   pub network : List Variable
   pub tree : GivenTree
   pub history : List Entry
@@ -95,7 +98,8 @@ pub record IsValueFound (network : List Variable) (H : List Entry) (u : ℕ) (as
   pub bounds : IfSome found (AreValueBoundsOf network H u asked)
 
 -- a question in order that a clique holds
-pub record CanBeValuedHere (network : List Variable) (tree : GivenTree) (H : List Entry) (at : ℕ) (asked : Asked) : Type 0 where
+pub record CanBeValuedHere (network : List Variable) (tree : GivenTree) (H : List Entry) (at : ℕ)
+    (asked : Asked) : Type 0 where
   pub in_order : IsInOrder network H asked
   pub held : IsHeldAt tree at (pairs_asked asked)
 
@@ -111,10 +115,12 @@ pub record CanFindValue {E A P : Type 0} (stands_for : E → Meaning → Type 0)
   pub valued : CanBeValuedHere network tree history at asked
 
 -- the assets are a user's of a market in use of this network, where the question is such
-pub record CanFindSure {A P : Type 0} (owned_for : A → Meaning → Type 0) (assets : Assets A P) (network : List Variable) (at : ℕ) (asked : Asked) : Type 0 where
-  pub tree : GivenTree
-  pub history : List Entry
-  pub user : ℕ
-  pub owns : Owns owned_for assets (holding_of network tree history user)
-  pub is_open : IsOpen network tree history
-  pub valued : CanBeValuedHere network tree history at asked
+pub record CanFindSure {A P : Type 0} (owned_for : A → Meaning
+    → Type 0) (assets : Assets A P) (network : List Variable) (at : ℕ) (asked : Asked) : Type 0
+  where
+    pub tree : GivenTree
+    pub history : List Entry
+    pub user : ℕ
+    pub owns : Owns owned_for assets (holding_of network tree history user)
+    pub is_open : IsOpen network tree history
+    pub valued : CanBeValuedHere network tree history at asked

@@ -1,5 +1,6 @@
 -- What a quote, and a trade by it, leave of the parts of a market.
-use Rattle.std.specs.Prelude.{◌≡◌, ℕ, ◌<◌, ◌≤◌, List, [], ◌∷◌, length, true, false, Option, Some, None, slice_get, slice_set}
+use Rattle.std.specs.Prelude.{◌≡◌, ℕ, ◌<◌, ◌≤◌, List, [], ◌∷◌, length, true, false, Option, Some}
+use Rattle.std.specs.Prelude.{None, slice_get, slice_set}
 use Rattle.arrayvec.specs.ArrayVec.{ArrayVec}
 use Rattle.mk_net.specs.Network.{Variable}
 use Rattle.mk_net.specs.Asked.{Asked, TradeRatio, ratio_pairs}
@@ -114,7 +115,8 @@ abbrev pub IsTurnedDown : List Variable → GivenTree → List Entry → ℕ →
 IsTurnedDown network tree H u spread quotes new_quotes Xs (Decided why) = IsDecidedSpread network H spread quotes new_quotes why
 IsTurnedDown network tree H u spread quotes new_quotes Xs why = IsStoppedByJudge network tree H u spread quotes new_quotes Xs why
 
--- a trade that can be made: some market is in use, its user has assets there, its ratio is of the network and has this home, and there
+-- a trade that can be made: some market is in use, its user has assets there, its ratio is of the
+-- network and has this home, and there
 -- is room for one more
 pub record CanBeMade {P A Plan : Type 0} (weights_stand : P → Meaning → Type 0) (gains_stand : A → Meaning → Type 0) (prices : P) (members : List (Member A Plan))
     (journal : JournalOf) (user at : ℕ) (ratio : TradeRatio) : Type 0 where
@@ -128,10 +130,13 @@ pub record CanBeMade {P A Plan : Type 0} (weights_stand : P → Meaning → Type
   pub few : journal.max_trades ≤ max_market_trades
 
 -- assets can learn a pair, which has this home
-pub record CanLearnAt {A Plan : Type 0} (gains_stand : A → Meaning → Type 0) (assets : Assets A Plan) (at : ℕ) (pair : Pair) : Type 0 where
+pub record CanLearnAt {A Plan : Type 0} (gains_stand : A → Meaning
+    → Type 0) (assets : Assets A Plan) (at : ℕ) (pair : Pair) : Type 0 where
   pub can_learn : CanLearn gains_stand assets pair
   pub at_home : home can_learn.holding.meaning.tree (pair ∷ []) ≡ Some at
 
 -- so can each user's
-abbrev pub CanBeTold : {A Plan : Type 0} → (A → Meaning → Type 0) → List (Member A Plan) → ℕ → Pair → Type 0
-CanBeTold {A} {Plan} gains_stand members at pair = (u : ℕ) (assets : Assets A Plan) → slice_get (assets_of members) u ≡ Some assets → CanLearnAt gains_stand assets at pair
+abbrev pub CanBeTold : {A Plan : Type 0} → (A → Meaning → Type 0) → List (Member A Plan) → ℕ → Pair
+    → Type 0
+CanBeTold {A} {Plan} gains_stand members at pair = (u : ℕ) (assets : Assets A Plan)
+    → slice_get (assets_of members) u ≡ Some assets → CanLearnAt gains_stand assets at pair

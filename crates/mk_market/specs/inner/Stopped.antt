@@ -1,5 +1,6 @@
 -- Why a question has no quote, or a spread is no trade, and the refusal that says so.
-use Rattle.std.specs.Prelude.{◌≡◌, ℕ, ◌<◌, List, [], ◌∷◌, Bool, true, false, slice_index, ⊤, Some, None}
+use Rattle.std.specs.Prelude.{◌≡◌, ℕ, ◌<◌, List, [], ◌∷◌, Bool, true, false, slice_index, ⊤, Some}
+use Rattle.std.specs.Prelude.{None}
 use Rattle.std.specs.List.{AllByRecursion}
 use Rattle.mk_net.specs.declared.words.Pair.{Pair}
 use Rattle.mk_net.specs.declared.words.PairText.{PairText}
@@ -73,8 +74,10 @@ MayStop network H asked (stopped.ImpossibleShare value) = value < slice_index (s
 MayStop network H asked stopped.MissingShare = ⊤
 MayStop network H asked (stopped.Outside box) = ⊤
 
--- the engine has the weights of a market in use, where the question can be answered in its home, and is decided
-pub record CanRefuse {E : Type 0} (stands_for : E → Meaning → Type 0) (prices : E) (q : QuestionText) (request : Request) (why : Decided) : Type 0 where
+-- the engine has the weights of a market in use, where the question can be answered in its home,
+-- and is decided
+pub record CanRefuse {E : Type 0} (stands_for : E → Meaning
+    → Type 0) (prices : E) (q : QuestionText) (request : Request) (why : Decided) : Type 0 where
   pub network : List Variable
   pub tree : GivenTree
   pub history : List Entry
@@ -85,8 +88,10 @@ pub record CanRefuse {E : Type 0} (stands_for : E → Meaning → Type 0) (price
   pub at_home : home tree (pairs_asked request.question) ≡ Some request.home
   pub decided : IsDecidedBy network history request.question why
 
--- the engine has the weights of a market in use, where a clique holds the condition, which cannot come
-pub record CanRefuseCondition {E : Type 0} (stands_for : E → Meaning → Type 0) (prices : E) (at : ℕ) (condition : List Pair) (words : List PairText) : Type 0 where
+-- the engine has the weights of a market in use, where a clique holds the condition, which cannot
+-- come
+pub record CanRefuseCondition {E : Type 0} (stands_for : E → Meaning
+    → Type 0) (prices : E) (at : ℕ) (condition : List Pair) (words : List PairText) : Type 0 where
   pub network : List Variable
   pub tree : GivenTree
   pub history : List Entry
@@ -97,7 +102,8 @@ pub record CanRefuseCondition {E : Type 0} (stands_for : E → Meaning → Type 
   pub held : IsHeldAt tree at condition
   pub cannot : cannot_come network history (holds condition) ≡ true
 
--- the engine has the weights of a market in use of this network, where the spread can be answered in its home, and this may stop it
+-- the engine has the weights of a market in use of this network, where the spread can be answered
+-- in its home, and this may stop it
 pub record CanRefuseSpread {E : Type 0} (stands_for : E → Meaning → Type 0) (prices : E) (network : List Variable) (v : List ℕ) (words : List PairText)
     (request : SpreadRequest) (why : Stopped) : Type 0 where
   pub tree : GivenTree
@@ -107,11 +113,14 @@ pub record CanRefuseSpread {E : Type 0} (stands_for : E → Meaning → Type 0) 
   pub named : spread_named network v words ≡ Some (spread_in request.question)
   pub known : unknown network words ≡ None
   pub answered : CanBeSpreadHere network tree history (spread_in request.question)
-  pub at_home : home tree (pairs_asked (asked_of (spread_in request.question) 0)) ≡ Some request.home
+  pub at_home : home tree (pairs_asked (asked_of (spread_in request.question) 0)) ≡ Some
+      request.home
   pub may_stop : MayStop network history (spread_in request.question) why
 
--- the engine has the weights of a market in use of this network, where the pair has this home, and its variable is not resolved
-pub record CanAskOfPair {E : Type 0} (stands_for : E → Meaning → Type 0) (prices : E) (network : List Variable) (at : ℕ) (pair : Pair) : Type 0 where
+-- the engine has the weights of a market in use of this network, where the pair has this home, and
+-- its variable is not resolved
+pub record CanAskOfPair {E : Type 0} (stands_for : E → Meaning
+    → Type 0) (prices : E) (network : List Variable) (at : ℕ) (pair : Pair) : Type 0 where
   pub tree : GivenTree
   pub history : List Entry
   pub stands : stands_for prices (weights_of network tree history)

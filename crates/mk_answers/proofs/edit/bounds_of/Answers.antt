@@ -34,8 +34,10 @@ found_in network tree H is_open asked answered event part rest values its_pairs 
 pub belief_of_others-miss-requires : goal.belief_of_others-miss-requires
 belief_of_others-miss-requires g c =
     let a = c.requires in let network = c.args.net.now in let asked = c.args.asked.now in let m = weights_of network a.tree a.history in
-    can_ask network a.tree a.history a.user a.is_open asked a.answered g.P.Engine.stands_for c.belief-hit.new.self m c.args.at c.values-values.result
-    (c.belief-hit.ensures.kept m a.stands) refl refl a.held (room_of_weights network a.tree a.history a.user a.is_open asked a.answered)
+    can_ask network a.tree a.history a.user a.is_open asked a.answered g.P.Engine.stands_for
+    c.belief-hit.new.self m c.args.at c.values-values.result
+    (c.belief-hit.ensures.kept m a.stands) refl refl a.held
+    (room_of_weights network a.tree a.history a.user a.is_open asked a.answered)
     (sized_as network asked c.target.result c.values-values.result c.target.ensures c.values-values.ensures)
 
 pub open_bounds-requires : goal.open_bounds-requires

@@ -12,7 +12,8 @@ use Rattle.mk_answers.proofs.edit.open_bounds.Goals as goal
 pub least-hit_factor-requires-clause-held : goal.least-hit_factor-requires-clause-held
 least-hit_factor-requires-clause-held g c =
     let a = c.requires in
-    g.met.A.Engine.held_is_answered c.args.assets.now.engine (gains_of a.network a.tree a.history a.user) c.args.at c.event.result a.owns.stands
+    g.met.A.Engine.held_is_answered c.args.assets.now.engine
+    (gains_of a.network a.tree a.history a.user) c.args.at c.event.result a.owns.stands
     (question_is_held a.tree c.args.at c.args.asked.now c.event.result c.event.ensures.pairs a.held)
 
 pub least-hit_factor-requires-clause-range : goal.least-hit_factor-requires-clause-range
@@ -27,8 +28,10 @@ least-hit_factor-requires-clause-range g c =
 pub least_of_others-miss_factor-requires : goal.least_of_others-miss_factor-requires
 least_of_others-miss_factor-requires g c =
     let a = c.requires in let asked = c.args.asked.now in let h = holding_of a.network a.tree a.history a.user in
-    can_ask a.network a.tree a.history a.user a.is_open asked a.answered g.A.Engine.stands_for c.least-hit_factor.new.self.engine h.meaning c.args.at c.args.values
-    (c.least-hit_factor.ensures.kept h a.owns).stands refl refl a.held (room_of_gains a.network a.tree a.history a.user a.is_open asked a.answered) a.sized
+    can_ask a.network a.tree a.history a.user a.is_open asked a.answered g.A.Engine.stands_for
+    c.least-hit_factor.new.self.engine h.meaning c.args.at c.args.values
+    (c.least-hit_factor.ensures.kept h a.owns).stands refl refl a.held
+    (room_of_gains a.network a.tree a.history a.user a.is_open asked a.answered) a.sized
 
 pub add-requires : goal.add-requires
 add-requires g c =

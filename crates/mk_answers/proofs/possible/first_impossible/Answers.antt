@@ -22,8 +22,11 @@ belief-requires-clause-held g c =
     let a = c.requires in let event = c.args.event.now in let place = c.loop-place.place in
     let within : place < length event = rw c.pairs-pair-items.ensures.pairs at c.loop-place-test.true in
     let more : c.in-Some.longer ≡ c.loop-place.held ++ slice_index_or event place blank ∷ [] = rw c.pairs-pair-items.ensures.pairs at c.in-Some.ensures.some in
-    g.met.P.Engine.held_is_answered c.loop-place.prices (weights_of a.network a.tree a.history) c.args.at c.in-Some.longer (c.loop-place.invariant.kept _ a.stands)
-    (held_take a.tree c.args.at (place + 1) event c.in-Some.longer (take_more event place blank c.loop-place.held c.in-Some.longer within c.loop-place.invariant.front more) a.held)
+    g.met.P.Engine.held_is_answered c.loop-place.prices (weights_of a.network a.tree a.history)
+    c.args.at c.in-Some.longer (c.loop-place.invariant.kept _ a.stands)
+    (held_take a.tree c.args.at (place + 1) event c.in-Some.longer
+    (take_more event place blank c.loop-place.held c.in-Some.longer within
+    c.loop-place.invariant.front more) a.held)
 
 pub belief-requires-clause-range : goal.belief-requires-clause-range
 belief-requires-clause-range g c =

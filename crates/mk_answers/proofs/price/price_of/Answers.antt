@@ -18,8 +18,10 @@ pub belief_of_others-rest-requires : goal.belief_of_others-rest-requires
 belief_of_others-rest-requires g c =
     let a = c.requires in let network = c.args.net.now in let asked = c.args.asked.now in let m = weights_of network a.tree a.history in
     let sized : c.values-values.result ≡ slice_index (sizes network) asked.target.variable = rw c.target.ensures at c.values-values.ensures in
-    can_ask network a.tree a.history 0 a.is_open asked a.answered g.P.Engine.stands_for c.belief-part.new.self m c.args.at c.values-values.result
-    (c.belief-part.ensures.kept m a.stands) refl refl a.held (room_of_weights network a.tree a.history 0 a.is_open asked a.answered) sized
+    can_ask network a.tree a.history 0 a.is_open asked a.answered g.P.Engine.stands_for
+    c.belief-part.new.self m c.args.at c.values-values.result
+    (c.belief-part.ensures.kept m a.stands) refl refl a.held
+    (room_of_weights network a.tree a.history 0 a.is_open asked a.answered) sized
 
 pub price_of_sides-requires : goal.price_of_sides-requires
 price_of_sides-requires g c =
@@ -51,8 +53,10 @@ returns-then-not-is_empty-clause-price g c = λ tree H stands is_open answered.
 pub belief-whole-requires-clause-held : goal.belief-whole-requires-clause-held
 belief-whole-requires-clause-held g c =
     let a = c.requires in let m = weights_of c.args.net.now a.tree a.history in
-    g.met.P.Engine.held_is_answered c.belief-part.new.self m c.args.at c.condition-condition.result (c.belief-part.ensures.kept m a.stands)
-    (condition_is_held a.tree c.args.at c.args.asked.now c.condition-condition.result c.condition-condition.ensures.condition a.held)
+    g.met.P.Engine.held_is_answered c.belief-part.new.self m c.args.at c.condition-condition.result
+    (c.belief-part.ensures.kept m a.stands)
+    (condition_is_held a.tree c.args.at c.args.asked.now c.condition-condition.result
+    c.condition-condition.ensures.condition a.held)
 
 pub enclosure_of-requires : goal.enclosure_of-requires
 enclosure_of-requires g c =
@@ -91,4 +95,10 @@ returns-clause-price g c = λ tree H stands is_open answered.
     (condition_in network tree H is_open asked c.condition-condition.result c.belief-whole.result c.condition-condition.ensures.condition
     (c.belief-whole.ensures.belief m (c.belief-part.ensures.kept m stands)))))
     (miss_some network tree H is_open asked answered no_shares) c.parts.result.0 c.parts.result.1
-    (record { low_is = c.parts.ensures.low; high_is = c.parts.ensures.high; below = c.parts.ensures.below; above = c.parts.ensures.above }))
+    (record {
+      low_is = c.parts.ensures.low;
+      high_is = c.parts.ensures.high;
+      below =
+          c.parts.ensures.below;
+      above = c.parts.ensures.above;
+    }))

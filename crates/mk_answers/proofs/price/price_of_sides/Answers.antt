@@ -48,4 +48,10 @@ returns-in-Present-Present c = λ network H asked net proper sides.
     (record { encloses = c.add.ensures.encloses; grade = c.add.ensures.grade; exact = c.add.ensures.exact }) in
     priced network H asked (some_weight c.add.result _ whole.encloses) c.parts.result
     (interval_covers network H asked w.part c.add.result hit whole (some_weight w.rest _ miss.encloses) c.parts.result.0 c.parts.result.1
-    (record { low_is = c.parts.ensures.low; high_is = c.parts.ensures.high; below = c.parts.ensures.below; above = c.parts.ensures.above }))
+    (record {
+      low_is = c.parts.ensures.low;
+      high_is = c.parts.ensures.high;
+      below =
+          c.parts.ensures.below;
+      above = c.parts.ensures.above;
+    }))

@@ -6,7 +6,8 @@ use Rattle.mk_answers.proofs.risk.bound_of.Goals as goal
 pub belief-requires-clause-held : goal.belief-requires-clause-held
 belief-requires-clause-held g c =
     let a = c.requires.rows in
-    g.met.A.Engine.held_is_answered c.args.rows.now (rows_of c.args.net.now a.tree a.history) 1 c.empty.result a.stands
+    g.met.A.Engine.held_is_answered c.args.rows.now (rows_of c.args.net.now a.tree a.history) 1
+    c.empty.result a.stands
     (nothing_at_root a.tree c.empty.result c.empty.ensures a.is_open.tree_of_it.linked.some)
 
 pub enclosure_of-least-requires : goal.enclosure_of-least-requires

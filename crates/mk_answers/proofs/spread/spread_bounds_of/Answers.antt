@@ -14,8 +14,10 @@ use Rattle.mk_answers.proofs.spread.spread_bounds_of.Goals as goal
 pub belief-requires-clause-held : goal.belief-requires-clause-held
 belief-requires-clause-held g c =
     let a = c.requires in let condition = c.args.asked.now.condition in
-    g.met.P.Engine.held_is_answered c.args.prices.now (weights_of c.args.net.now a.tree a.history) c.args.at condition a.stands
-    (condition_is_held a.tree c.args.at (asked_of (spread_in c.args.asked.now) 0) condition refl (a.held 0))
+    g.met.P.Engine.held_is_answered c.args.prices.now (weights_of c.args.net.now a.tree a.history)
+    c.args.at condition a.stands
+    (condition_is_held a.tree c.args.at (asked_of (spread_in c.args.asked.now) 0) condition refl
+    (a.held 0))
 
 pub returns-in_default-clause-sides : goal.returns-in_default-clause-sides
 returns-in_default-clause-sides g c = λ tree H u stands owns is_open answered.
@@ -32,7 +34,9 @@ value_bounds_of-requires g c =
       stands = so_far.kept (weights_of c.args.net.now a.tree a.history) a.stands;
       owns = so_far.kept_assets (holding_of c.args.net.now a.tree a.history a.user) a.owns;
       is_open = a.is_open;
-      valued = valued_at c.args.net.now a.tree a.history spread a.answered c.args.at c.loop-value.value (a.held c.loop-value.value) (omega (arith, c.values-value-end.ensures, c.loop-value-test.true));
+      valued = valued_at c.args.net.now a.tree a.history spread a.answered c.args.at
+          c.loop-value.value (a.held c.loop-value.value)
+          (omega (arith, c.values-value-end.ensures, c.loop-value-test.true));
     })
 
 pub push-requires : goal.push-requires

@@ -45,9 +45,16 @@ sure_of-requires-clause-assets g c =
 pub push-requires : goal.push-requires
 push-requires g c =
     let a = c.requires.assets in
-    let few = few_values_at c.args.net.now a.is_open.legal c.args.asked.now.variable a.answered.in_order.in_range.variable in (
+    let few = few_values_at c.args.net.now a.is_open.legal c.args.asked.now.variable
+    a.answered.in_order.in_range.variable in (
       omega arith,
-      omega (arith, c.values-value-end.ensures, c.loop-value-test.true, c.loop-value.invariant.long, few),
+      omega (
+        arith,
+        c.values-value-end.ensures,
+        c.loop-value-test.true,
+        c.loop-value.invariant.long,
+        few,
+      ),
     )
 
 pub loop-value-preserved : goal.loop-value-preserved
@@ -69,10 +76,12 @@ pub returns-clause-position : goal.returns-clause-position
 returns-clause-position g c = λ tree H u owns is_open answered.
     let net = c.args.net.now in let spread = spread_in c.args.asked.now in
     let all : c.loop-value.value ≡ slice_index (sizes net) spread.variable =
-    omega (arith, c.values-value-end.ensures, c.loop-value-test.false, c.loop-value.auto.value-end) in
+    omega (arith, c.values-value-end.ensures, c.loop-value-test.false, c.loop-value.auto.value-end)
+    in
     let sures = c.loop-value.invariant.sure tree H u owns is_open in
     let items = c.loop-value.intervals.items in (
       comes net tree H u is_open c.args.asked.now.condition _ c.least.result
           (c.least.ensures.least (holding_of net tree H u) owns) c.in-Some.field-0 c.in-Some.is,
-      subst (λ (n : ℕ). AllZip (IsSureOf net H u c.args.points_per_bit spread) (range_with_len 0 n) items) all sures,
+      subst (λ (n : ℕ). AllZip (IsSureOf net H u c.args.points_per_bit spread) (range_with_len 0 n)
+          items) all sures,
     )

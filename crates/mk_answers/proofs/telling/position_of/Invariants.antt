@@ -10,9 +10,11 @@ use Rattle.mk_answers.proofs.telling.position_of.Given as goal
 
 abbrev pub invariant-loop-value : goal.invariant-loop-value
 invariant-loop-value g l = record {
-  kept_assets : (h : Holding) → Owns g.A.Engine.stands_for l.fn.assets h → Owns g.A.Engine.stands_for l.assets h;
+  kept_assets : (h : Holding) → Owns g.A.Engine.stands_for l.fn.assets h
+      → Owns g.A.Engine.stands_for l.assets h;
   long : length (l.intervals).items ≡ l.value;
   sure : (tree : GivenTree) (H : List Entry) (u : ℕ)
       → Owns g.A.Engine.stands_for l.fn.assets (holding_of l.net tree H u) → IsOpen l.net tree H
-      → AllZip (IsSureOf l.net H u l.points_per_bit (spread_in l.asked)) (range_with_len 0 l.value) (l.intervals).items;
+      → AllZip (IsSureOf l.net H u l.points_per_bit (spread_in l.asked)) (range_with_len 0 l.value)
+      (l.intervals).items;
 }

@@ -28,9 +28,16 @@ price_of-requires g c =
 pub push-requires : goal.push-requires
 push-requires g c =
     let a = c.requires in
-    let few = few_values_at c.args.net.now a.is_open.legal c.args.asked.now.variable a.answered.in_order.in_range.variable in (
+    let few = few_values_at c.args.net.now a.is_open.legal c.args.asked.now.variable
+    a.answered.in_order.in_range.variable in (
       omega arith,
-      omega (arith, c.values-value-end.ensures, c.loop-value-test.true, c.loop-value.invariant.long, few),
+      omega (
+        arith,
+        c.values-value-end.ensures,
+        c.loop-value-test.true,
+        c.loop-value.invariant.long,
+        few,
+      ),
     )
 
 pub loop-value-preserved : goal.loop-value-preserved
@@ -43,14 +50,18 @@ loop-value-preserved g c =
       kept = λ m h. c.price_of.ensures.kept m (so_far.kept m h);
       long = omega (arith, so_far.long, c.push.ensures.len);
       priced = λ tree H stands is_open answered.
-          let price = rw c.question_at-question.ensures at (c.in-Some.ensures.price tree H (so_far.kept _ stands) is_open) in
+          let price = rw c.question_at-question.ensures at
+          (c.in-Some.ensures.price tree H (so_far.kept _ stands) is_open) in
           rw c.push.ensures.items
           (zip_more (CoversValue net H spread) value c.loop-value.intervals.items c.in-Some.ends
           (so_far.priced tree H stands is_open answered)
           (price (answered_at net tree H spread answered value within)).covers);
       comes = λ tree H stands is_open answered some.
-          let price = rw c.question_at-question.ensures at (c.in-Some.ensures.price tree H (so_far.kept _ stands) is_open) in
-          not_never {X = ℕ × ℕ} c.in-Some.ends (cannot_come net H (holds c.args.asked.now.condition)) (price (answered_at net tree H spread answered value within)).none;
+          let price = rw c.question_at-question.ensures at
+          (c.in-Some.ensures.price tree H (so_far.kept _ stands) is_open) in
+          not_never {X = ℕ × ℕ} c.in-Some.ends (cannot_come net H
+          (holds c.args.asked.now.condition)) (price
+          (answered_at net tree H spread answered value within)).none;
     }
 
 pub returns-in-None-clause-prices : goal.returns-in-None-clause-prices
@@ -59,7 +70,8 @@ returns-in-None-clause-prices g c = λ tree H stands is_open answered.
     let spread = spread_in c.args.asked.now in let value = c.loop-value.value in
     let within : value < slice_index (sizes net) spread.variable =
     omega (arith, c.values-value-end.ensures, c.loop-value-test.true) in
-    let price = rw c.question_at-question.ensures at (c.in-None.ensures.price tree H (so_far.kept _ stands) is_open) in
+    let price = rw c.question_at-question.ensures at
+    (c.in-None.ensures.price tree H (so_far.kept _ stands) is_open) in
     (price (answered_at net tree H spread answered value within)).none.0 refl
 
 pub returns-clause-prices : goal.returns-clause-prices
@@ -67,10 +79,12 @@ returns-clause-prices g c = λ tree H stands is_open answered.
     let net = c.args.net.now in let spread = spread_in c.args.asked.now in
     let v = spread.variable in
     let all : c.loop-value.value ≡ slice_index (sizes net) v =
-    omega (arith, c.values-value-end.ensures, c.loop-value-test.false, c.loop-value.auto.value-end) in
+    omega (arith, c.values-value-end.ensures, c.loop-value-test.false, c.loop-value.auto.value-end)
+    in
     let within = answered.in_order.in_range.variable in
     let two = (is_open.legal.each v nobody within).two_values in
-    let some : 0 < c.loop-value.value = omega (arith, all, size_at net is_open.legal v within, two) in
+    let some : 0 < c.loop-value.value = omega (arith, all, size_at net is_open.legal v within, two)
+    in
     let priced = c.loop-value.invariant.priced tree H stands is_open answered in
     let items = c.loop-value.intervals.items in (
       c.loop-value.invariant.comes tree H stands is_open answered some,

@@ -15,10 +15,13 @@ abbrev pub invariant-loop-value : goal.invariant-loop-value
 invariant-loop-value g l = record {
   kept : (m : Meaning) → g.P.Engine.stands_for l.fn.prices m → g.P.Engine.stands_for l.prices m;
   long : length (l.intervals).items ≡ l.value;
-  priced : (tree : GivenTree) (H : List Entry) → g.P.Engine.stands_for l.fn.prices (weights_of l.net tree H)
+  priced : (tree : GivenTree) (H : List Entry)
+      → g.P.Engine.stands_for l.fn.prices (weights_of l.net tree H)
       → IsOpen l.net tree H → CanBeSpreadHere l.net tree H (spread_in l.asked)
-      → AllZip (CoversValue l.net H (spread_in l.asked)) (range_with_len 0 l.value) (l.intervals).items;
-  comes : (tree : GivenTree) (H : List Entry) → g.P.Engine.stands_for l.fn.prices (weights_of l.net tree H)
+      → AllZip (CoversValue l.net H (spread_in l.asked)) (range_with_len 0 l.value)
+      (l.intervals).items;
+  comes : (tree : GivenTree) (H : List Entry)
+      → g.P.Engine.stands_for l.fn.prices (weights_of l.net tree H)
       → IsOpen l.net tree H → CanBeSpreadHere l.net tree H (spread_in l.asked) → 0 < l.value
       → cannot_come l.net H (holds (spread_in l.asked).condition) ≡ false;
 }

@@ -8,7 +8,8 @@ use Rattle.mk_answers.proofs.worst.least_of.Goals as goal
 pub least-requires-clause-held : goal.least-requires-clause-held
 least-requires-clause-held g c =
     let a = c.requires in
-    g.met.A.Engine.held_is_answered c.args.assets.now.engine (gains_of a.network a.tree a.history a.user) 1 c.empty.result a.owns.stands
+    g.met.A.Engine.held_is_answered c.args.assets.now.engine
+    (gains_of a.network a.tree a.history a.user) 1 c.empty.result a.owns.stands
     (nothing_at_root a.tree c.empty.result c.empty.ensures a.is_open.tree_of_it.linked.some)
 
 pub factor_of-requires : goal.factor_of-requires
@@ -23,7 +24,8 @@ returns-clause-least g c = λ network tree H u gain owns is_open is_least.
 
 pub returns-clause-idle : goal.returns-clause-idle
 returns-clause-idle g c = λ network tree H u owns is_open none.
-    worst_idle network tree H u is_open c.empty.result c.empty.ensures _ c.least.result (c.least.ensures.least (holding_of network tree H u) owns)
+    worst_idle network tree H u is_open c.empty.result c.empty.ensures _ c.least.result
+    (c.least.ensures.least (holding_of network tree H u) owns)
     c.factor_of.result c.factor_of.ensures (omega arith) none
 
 pub returns-clause-range : goal.returns-clause-range

@@ -7,12 +7,26 @@ returns-clause-covers c = λ q stands graded one.
     let b = c.args.points_per_bit in
     let f = c.args.factor.now in
     let told = c.power_bits-low.ensures in
-    covers_cash q b stands.gain c.bits_gained-gained.result c.bits_owed-owed.result f.gain.lo f.gain.hi graded.grade _ _
+    covers_cash q b stands.gain c.bits_gained-gained.result c.bits_owed-owed.result f.gain.lo
+    f.gain.hi graded.grade _ _
     (record {
-      same = rw (c.bits_gained-gained.ensures.value, c.bits_owed-owed.ensures) (raised_factor q.num q.den f.trades _ _ stands.gain b stands.same);
+      same = rw (c.bits_gained-gained.ensures.value, c.bits_owed-owed.ensures)
+          (raised_factor q.num q.den f.trades _ _ stands.gain b stands.same);
       positive = stands.positive;
       at_least_one = one;
-      between = record { lower = stands.encloses.lower; upper = stands.encloses.upper; near = graded.has.near };
+      between = record {
+        lower = stands.encloses.lower;
+        upper = stands.encloses.upper;
+        near =
+            graded.has.near;
+      };
     })
-    (record { below = told.below; above = told.above; low_near = told.low_near; high_near = told.high_near }) f.gain.positive c.requires.few_points graded.small
-    (IsExact f.gain) (Encloses f.gain 1) _ _ (λ exact. exact.same) (λ holds. holds.lower) c.saturating_sub.ensures c.saturating_sub-2.ensures
+    (record {
+      below = told.below;
+      above = told.above;
+      low_near = told.low_near;
+      high_near =
+          told.high_near;
+    }) f.gain.positive c.requires.few_points graded.small
+    (IsExact f.gain) (Encloses f.gain 1) _ _ (λ exact. exact.same) (λ holds. holds.lower)
+    c.saturating_sub.ensures c.saturating_sub-2.ensures

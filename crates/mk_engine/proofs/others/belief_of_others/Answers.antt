@@ -7,8 +7,10 @@ use Rattle.mk_engine.proofs.others.belief_of_others.Goals.{then-value-target, el
 pub belief-belief-requires-clause-held : goal.belief-belief-requires-clause-held
 belief-belief-requires-clause-held g c =
     let a = c.requires in
-    g.met.E.Engine.held_is_answered c.loop-value.engine a.meaning c.args.at c.with_value.result (c.loop-value.invariant.kept a.meaning a.stands)
-    (case_is_held a.meaning.tree c.args.at c.args.asked.now c.loop-value.value c.with_value.result c.with_value.ensures a.held)
+    g.met.E.Engine.held_is_answered c.loop-value.engine a.meaning c.args.at c.with_value.result
+    (c.loop-value.invariant.kept a.meaning a.stands)
+    (case_is_held a.meaning.tree c.args.at c.args.asked.now c.loop-value.value c.with_value.result
+    c.with_value.ensures a.held)
 
 pub loop-value-preserved : goal.loop-value-preserved
 loop-value-preserved g c =

@@ -11,7 +11,9 @@ returns-then-is_empty-clause-found g c = λ tree H stands is_open can.
     sym (ap not (pair_comes network H c.args.pair can tree is_open no_shares))
 
 pub first_impossible-requires : goal.first_impossible-requires
-first_impossible-requires g c = can_search g.P.Engine.stands_for c.args.prices.now c.args.net.now c.args.home c.args.pair c.in-Some.event (only_one c.empty.result c.in-Some.event c.args.pair c.empty.ensures c.in-Some.ensures.some) c.requires
+first_impossible-requires g c = can_search g.P.Engine.stands_for c.args.prices.now c.args.net.now
+    c.args.home c.args.pair c.in-Some.event (only_one c.empty.result c.in-Some.event c.args.pair
+    c.empty.ensures c.in-Some.ensures.some) c.requires
 
 pub returns-clause-found : goal.returns-clause-found
 returns-clause-found g c = λ tree H stands is_open can.

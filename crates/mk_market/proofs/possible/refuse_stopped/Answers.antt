@@ -14,7 +14,8 @@ use Rattle.mk_market.proofs.possible.refuse_stopped.Goals as goal
 
 pub refuse_condition-requires : goal.refuse_condition-requires
 refuse_condition-requires g c =
-    let net = c.args.net.now in let asked = spread_in c.args.request.now.question in let r = c.requires in
+    let net = c.args.net.now in let asked = spread_in c.args.request.now.question in let r =
+    c.requires in
     let why : c.args.why ≡ stopped.Decided spread.Impossible
     = c.in-Decided.is ∙ ap (λ (d : SpreadDecided). stopped.Decided d) c.in-Impossible.is in
     record {
@@ -25,20 +26,23 @@ refuse_condition-requires g c =
       is_open = r.is_open;
       condition_by = record { known = r.known; named = (spread_parts net c.args.variable.now c.args.condition.now asked r.named).2 };
       in_range = r.answered.in_order.in_range.condition;
-      held = condition_is_held r.tree c.args.request.now.home (asked_of asked 0) asked.condition refl (home_is_held r.tree c.args.request.now.home _ r.at_home);
+      held = condition_is_held r.tree c.args.request.now.home (asked_of asked 0) asked.condition
+          refl (home_is_held r.tree c.args.request.now.home _ r.at_home);
       cannot = subst (MayStop net r.history asked) why r.may_stop;
     }
 
 pub pair_with-requires-clause-value : goal.pair_with-requires-clause-value
 pair_with-requires-clause-value g c =
-    let net = c.args.net.now in let asked = spread_in c.args.request.now.question in let r = c.requires in let value = c.in-Sure.value in
+    let net = c.args.net.now in let asked = spread_in c.args.request.now.question in let r =
+    c.requires in let value = c.in-Sure.value in
     let why : c.args.why ≡ stopped.Decided (spread.Sure value)
     = c.in-Decided.is ∙ ap (λ (d : SpreadDecided). stopped.Decided d) c.in-Sure.is in
     (alone_left net r.history asked value (subst (MayStop net r.history asked) why r.may_stop)).0
 
 pub returns-in-Impossible-clause-refusal : goal.returns-in-Impossible-clause-refusal
 returns-in-Impossible-clause-refusal g c tree H stands opened may =
-    let net = c.args.net.now in let asked = spread_in c.args.request.now.question in let r = c.requires in
+    let net = c.args.net.now in let asked = spread_in c.args.request.now.question in let r =
+    c.requires in
     let why : c.args.why ≡ stopped.Decided spread.Impossible
     = c.in-Decided.is ∙ ap (λ (d : SpreadDecided). stopped.Decided d) c.in-Impossible.is in
     let named = (spread_parts net c.args.variable.now c.args.condition.now asked r.named).2 in

@@ -25,20 +25,26 @@ bounds_of-requires g c =
 
 pub returns-in-Open-clause-assets : goal.returns-in-Open-clause-assets
 returns-in-Open-clause-assets g c =
-    owned_still c.args.users.now c.args.request.now.user g.A.Engine.stands_for c.requires.user c.assets.result.now c.bounds_of.new.assets c.assets.ensures.value c.bounds_of.ensures.kept_assets
+    owned_still c.args.users.now c.args.request.now.user g.A.Engine.stands_for c.requires.user
+    c.assets.result.now c.bounds_of.new.assets c.assets.ensures.value
+    c.bounds_of.ensures.kept_assets
 
 pub returns-in-Open-clause-names : goal.returns-in-Open-clause-names
-returns-in-Open-clause-names g c = names_stay c.args.users.now c.args.request.now.user c.bounds_of.new.assets
+returns-in-Open-clause-names g c = names_stay c.args.users.now c.args.request.now.user
+    c.bounds_of.new.assets
 
 pub returns-in-Open-clause-quotes : goal.returns-in-Open-clause-quotes
-returns-in-Open-clause-quotes g c = quotes_stay c.args.users.now c.args.request.now.user c.bounds_of.new.assets
+returns-in-Open-clause-quotes g c = quotes_stay c.args.users.now c.args.request.now.user
+    c.bounds_of.new.assets
 
 pub returns-in-Open-clause-quote : goal.returns-in-Open-clause-quote
 returns-in-Open-clause-quote g c =
     let a = c.requires in
     let net = c.args.file.now.net in
     let H = c.args.journal.now.history in
-    let sides = c.in-Open.ensures.sides c.args.file.now.tree H c.args.request.now.user a.in_use.weights (a.in_use.owns c.args.request.now.user c.assets.result.now c.assets.ensures.value) a.in_use.is_open a.answered in
+    let sides = c.in-Open.ensures.sides c.args.file.now.tree H c.args.request.now.user
+    a.in_use.weights (a.in_use.owns c.args.request.now.user c.assets.result.now
+    c.assets.ensures.value) a.in_use.is_open a.answered in
     record {
       same_user = c.make.ensures.user;
       question = c.make.ensures.question;
@@ -48,51 +54,70 @@ returns-in-Open-clause-quote g c =
         left = subst (λ (asked : Asked). AreBothLeft net H asked) (sym c.make.ensures.question) sides.0;
         bounds = λ hit miss are.
             subst (λ (bounds : Bounds). AreBoundsFor bounds (IsSmall net H) hit miss) (sym c.make.ensures.bounds)
-            (sides.1 hit miss (subst (λ (asked : Asked). AreSides net H c.args.request.now.user asked hit miss) c.make.ensures.question are));
+            (sides.1 hit miss (subst (λ (asked : Asked). AreSides net H c.args.request.now.user
+            asked hit miss) c.make.ensures.question are));
       };
     }
 
 pub returns-in-Impossible-clause-assets : goal.returns-in-Impossible-clause-assets
 returns-in-Impossible-clause-assets g c =
-    owned_still c.args.users.now c.args.request.now.user g.A.Engine.stands_for c.requires.user c.assets.result.now c.bounds_of.new.assets c.assets.ensures.value c.bounds_of.ensures.kept_assets
+    owned_still c.args.users.now c.args.request.now.user g.A.Engine.stands_for c.requires.user
+    c.assets.result.now c.bounds_of.new.assets c.assets.ensures.value
+    c.bounds_of.ensures.kept_assets
 
 pub returns-in-Impossible-clause-names : goal.returns-in-Impossible-clause-names
-returns-in-Impossible-clause-names g c = names_stay c.args.users.now c.args.request.now.user c.bounds_of.new.assets
+returns-in-Impossible-clause-names g c = names_stay c.args.users.now c.args.request.now.user
+    c.bounds_of.new.assets
 
 pub returns-in-Impossible-clause-quotes : goal.returns-in-Impossible-clause-quotes
-returns-in-Impossible-clause-quotes g c = quotes_stay c.args.users.now c.args.request.now.user c.bounds_of.new.assets
+returns-in-Impossible-clause-quotes g c = quotes_stay c.args.users.now c.args.request.now.user
+    c.bounds_of.new.assets
 
 pub returns-in-Impossible-clause-quote : goal.returns-in-Impossible-clause-quote
 returns-in-Impossible-clause-quote g c =
     let a = c.requires in
-    c.in-Impossible.ensures.sides c.args.file.now.tree c.args.journal.now.history c.args.request.now.user a.in_use.weights (a.in_use.owns c.args.request.now.user c.assets.result.now c.assets.ensures.value) a.in_use.is_open a.answered
+    c.in-Impossible.ensures.sides c.args.file.now.tree c.args.journal.now.history
+    c.args.request.now.user a.in_use.weights (a.in_use.owns c.args.request.now.user
+    c.assets.result.now c.assets.ensures.value) a.in_use.is_open a.answered
 
 pub returns-in-Never-clause-assets : goal.returns-in-Never-clause-assets
 returns-in-Never-clause-assets g c =
-    owned_still c.args.users.now c.args.request.now.user g.A.Engine.stands_for c.requires.user c.assets.result.now c.bounds_of.new.assets c.assets.ensures.value c.bounds_of.ensures.kept_assets
+    owned_still c.args.users.now c.args.request.now.user g.A.Engine.stands_for c.requires.user
+    c.assets.result.now c.bounds_of.new.assets c.assets.ensures.value
+    c.bounds_of.ensures.kept_assets
 
 pub returns-in-Never-clause-names : goal.returns-in-Never-clause-names
-returns-in-Never-clause-names g c = names_stay c.args.users.now c.args.request.now.user c.bounds_of.new.assets
+returns-in-Never-clause-names g c = names_stay c.args.users.now c.args.request.now.user
+    c.bounds_of.new.assets
 
 pub returns-in-Never-clause-quotes : goal.returns-in-Never-clause-quotes
-returns-in-Never-clause-quotes g c = quotes_stay c.args.users.now c.args.request.now.user c.bounds_of.new.assets
+returns-in-Never-clause-quotes g c = quotes_stay c.args.users.now c.args.request.now.user
+    c.bounds_of.new.assets
 
 pub returns-in-Never-clause-quote : goal.returns-in-Never-clause-quote
 returns-in-Never-clause-quote g c =
     let a = c.requires in
-    c.in-Never.ensures.sides c.args.file.now.tree c.args.journal.now.history c.args.request.now.user a.in_use.weights (a.in_use.owns c.args.request.now.user c.assets.result.now c.assets.ensures.value) a.in_use.is_open a.answered
+    c.in-Never.ensures.sides c.args.file.now.tree c.args.journal.now.history c.args.request.now.user
+    a.in_use.weights (a.in_use.owns c.args.request.now.user c.assets.result.now
+    c.assets.ensures.value) a.in_use.is_open a.answered
 
 pub returns-in-Sure-clause-assets : goal.returns-in-Sure-clause-assets
 returns-in-Sure-clause-assets g c =
-    owned_still c.args.users.now c.args.request.now.user g.A.Engine.stands_for c.requires.user c.assets.result.now c.bounds_of.new.assets c.assets.ensures.value c.bounds_of.ensures.kept_assets
+    owned_still c.args.users.now c.args.request.now.user g.A.Engine.stands_for c.requires.user
+    c.assets.result.now c.bounds_of.new.assets c.assets.ensures.value
+    c.bounds_of.ensures.kept_assets
 
 pub returns-in-Sure-clause-names : goal.returns-in-Sure-clause-names
-returns-in-Sure-clause-names g c = names_stay c.args.users.now c.args.request.now.user c.bounds_of.new.assets
+returns-in-Sure-clause-names g c = names_stay c.args.users.now c.args.request.now.user
+    c.bounds_of.new.assets
 
 pub returns-in-Sure-clause-quotes : goal.returns-in-Sure-clause-quotes
-returns-in-Sure-clause-quotes g c = quotes_stay c.args.users.now c.args.request.now.user c.bounds_of.new.assets
+returns-in-Sure-clause-quotes g c = quotes_stay c.args.users.now c.args.request.now.user
+    c.bounds_of.new.assets
 
 pub returns-in-Sure-clause-quote : goal.returns-in-Sure-clause-quote
 returns-in-Sure-clause-quote g c =
     let a = c.requires in
-    c.in-Sure.ensures.sides c.args.file.now.tree c.args.journal.now.history c.args.request.now.user a.in_use.weights (a.in_use.owns c.args.request.now.user c.assets.result.now c.assets.ensures.value) a.in_use.is_open a.answered
+    c.in-Sure.ensures.sides c.args.file.now.tree c.args.journal.now.history c.args.request.now.user
+    a.in_use.weights (a.in_use.owns c.args.request.now.user c.assets.result.now
+    c.assets.ensures.value) a.in_use.is_open a.answered

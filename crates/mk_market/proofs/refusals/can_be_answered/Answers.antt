@@ -37,7 +37,8 @@ returns-clause-refusal c =
     let free = c.in_ok-not_resolved.ensures net number.0 number.1 in
     let agreed = c.in_ok-agrees.ensures net (slice_known net q _ c.as_slice.ensures.value c.requires.known) (pairs_are net q asked c.condition.result _ c.requires.named c.condition.ensures.condition c.as_slice.ensures.value) in
     last_refusal _ _ _ _ _ (sym free) (sym (agreed ∙ ap (impossible net H) c.as_slice.ensures.value)) (wide_is_homeless c.args.file.now H q asked c.requires.named c.requires.known)
-    (c.home_in.ensures.refusal ∙ ap (λ (ps : List Pair). fault_if (is_none (home c.args.file.now.tree ps)) Wide) c.event.ensures.pairs)
+    (c.home_in.ensures.refusal ∙ ap (λ (ps : List Pair). fault_if
+    (is_none (home c.args.file.now.tree ps)) Wide) c.event.ensures.pairs)
 
 pub returns-clause-question : goal.returns-clause-question
 returns-clause-question c =
@@ -45,9 +46,14 @@ returns-clause-question c =
     let number = variable_known net q.target c.target.result (pair_is net q asked c.target.result c.requires.named c.target.ensures) in
     let free = c.in_ok-not_resolved.ensures net number.0 number.1 in
     let agreed = c.in_ok-agrees.ensures net (slice_known net q _ c.as_slice.ensures.value c.requires.known) (pairs_are net q asked c.condition.result _ c.requires.named c.condition.ensures.condition c.as_slice.ensures.value) in
-    where_ok c.home_in.result (λ held. can_answer c.args.file.now H q asked c.requires.named c.requires.known c.condition.ensures.question
-    (sym free) (sym (agreed ∙ ap (impossible net H) c.as_slice.ensures.value)) (sym (c.home_in.ensures.refusal ∙ ap (λ (ps : List Pair). fault_if (is_none (home c.args.file.now.tree ps)) Wide) c.event.ensures.pairs) ∙ held))
+    where_ok c.home_in.result (λ held. can_answer c.args.file.now H q asked c.requires.named
+    c.requires.known c.condition.ensures.question
+    (sym free) (sym (agreed ∙ ap (impossible net H) c.as_slice.ensures.value))
+    (sym (c.home_in.ensures.refusal ∙ ap (λ (ps : List Pair). fault_if
+    (is_none (home c.args.file.now.tree ps)) Wide) c.event.ensures.pairs) ∙ held))
 
 pub returns-clause-home : goal.returns-clause-home
 returns-clause-home c =
-    subst (λ (ps : List Pair). IfOk c.home_in.result (λ found. home c.args.file.now.tree ps ≡ Some found)) c.event.ensures.pairs c.home_in.ensures.home
+    subst (λ (ps : List Pair). IfOk c.home_in.result
+    (λ found. home c.args.file.now.tree ps ≡ Some found)) c.event.ensures.pairs
+    c.home_in.ensures.home

@@ -39,18 +39,23 @@ returns-clause-refusal c =
     let parts = spread_parts net c.args.variable.now ps (spread_in c.args.asked.now) c.requires.named in
     last_refusal _ _ _ _ _ (sym (c.in_ok-not_resolved.ensures net parts.0 parts.1)) (sym (c.in_ok-agrees.ensures net c.requires.known parts.2))
     (spread_is_homeless c.args.file.now H c.args.variable.now ps (spread_in c.args.asked.now) c.requires.named)
-    (c.home_in.ensures.refusal ∙ ap (λ (event : List Pair). fault_if (is_none (home c.args.file.now.tree event)) Wide) c.event_of.ensures.pairs)
+    (c.home_in.ensures.refusal ∙ ap (λ (event : List Pair). fault_if
+    (is_none (home c.args.file.now.tree event)) Wide) c.event_of.ensures.pairs)
 
 pub returns-clause-question : goal.returns-clause-question
 returns-clause-question c =
     let net = c.args.file.now.net in let H = c.args.journal.now.history in let ps = c.args.condition.now in let asked = c.args.asked.now in
     let parts = spread_parts net c.args.variable.now ps (spread_in asked) c.requires.named in
-    where_ok c.home_in.result (λ held. can_answer_spread c.args.file.now H c.args.variable.now ps (spread_in asked) c.requires.named
+    where_ok c.home_in.result (λ held. can_answer_spread c.args.file.now H c.args.variable.now ps
+    (spread_in asked) c.requires.named
     (front_apart asked.condition _ c.event_of.ensures.event.apart) asked.apart
     (sym (c.in_ok-not_resolved.ensures net parts.0 parts.1))
     (sym (c.in_ok-agrees.ensures net c.requires.known parts.2))
-    (sym (c.home_in.ensures.refusal ∙ ap (λ (event : List Pair). fault_if (is_none (home c.args.file.now.tree event)) Wide) c.event_of.ensures.pairs) ∙ held))
+    (sym (c.home_in.ensures.refusal ∙ ap (λ (event : List Pair). fault_if
+    (is_none (home c.args.file.now.tree event)) Wide) c.event_of.ensures.pairs) ∙ held))
 
 pub returns-clause-home : goal.returns-clause-home
 returns-clause-home c =
-    subst (λ (event : List Pair). IfOk c.home_in.result (λ found. home c.args.file.now.tree event ≡ Some found)) c.event_of.ensures.pairs c.home_in.ensures.home
+    subst (λ (event : List Pair). IfOk c.home_in.result
+    (λ found. home c.args.file.now.tree event ≡ Some found)) c.event_of.ensures.pairs
+    c.home_in.ensures.home

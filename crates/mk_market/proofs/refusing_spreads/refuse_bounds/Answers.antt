@@ -22,11 +22,16 @@ returns-in_err-asked-clause-refusal g c pairs given =
 
 pub returns-in_err-home-clause-refusal : goal.returns-in_err-home-clause-refusal
 returns-in_err-home-clause-refusal g c pairs given =
-    error_kept c.from_residual-in_err-home.result c.in_err-home.field-0.0 c.from_residual-in_err-home.ensures.1
-    ∙ bounds_answered c.args.file.now c.args.journal.now.history c.args.variable.now c.args.condition.now c.args.name.now pairs given (Some c.in_err-home.field-0.0) c.in_ok-not_settled.ensures
-    (c.in_ok-user.ensures.refusal c.args.journal.now.history c.requires.named) c.in_ok-asked.ensures.refusal c.in_err-home.ensures.refusal
+    error_kept c.from_residual-in_err-home.result c.in_err-home.field-0.0
+    c.from_residual-in_err-home.ensures.1
+    ∙ bounds_answered c.args.file.now c.args.journal.now.history c.args.variable.now
+    c.args.condition.now c.args.name.now pairs given (Some c.in_err-home.field-0.0)
+    c.in_ok-not_settled.ensures
+    (c.in_ok-user.ensures.refusal c.args.journal.now.history c.requires.named)
+    c.in_ok-asked.ensures.refusal c.in_err-home.ensures.refusal
 
 pub returns-clause-refusal : goal.returns-clause-refusal
 returns-clause-refusal g c pairs given =
     bounds_answered c.args.file.now c.args.journal.now.history c.args.variable.now c.args.condition.now c.args.name.now pairs given None c.in_ok-not_settled.ensures
-    (c.in_ok-user.ensures.refusal c.args.journal.now.history c.requires.named) c.in_ok-asked.ensures.refusal c.in_ok-home.ensures.refusal
+    (c.in_ok-user.ensures.refusal c.args.journal.now.history c.requires.named)
+    c.in_ok-asked.ensures.refusal c.in_ok-home.ensures.refusal

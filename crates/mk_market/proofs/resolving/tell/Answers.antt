@@ -4,12 +4,17 @@ use Rattle.mk_market.proofs.resolving.tell.Goals as goal
 
 pub know-requires-clause-home : goal.know-requires-clause-home
 know-requires-clause-home g c =
-    let can = can_be_told g.A.Engine.stands_for c.args.pair c.args.users.now c.args.home c.loop-user.user c.loop-user.users c.assets.result.now c.loop-user.invariant c.requires c.assets.ensures.value in
-    g.met.A.Engine.home_is_place c.assets.result.now.engine can.can_learn.holding.meaning c.args.home (c.args.pair ∷ []) can.can_learn.owns.stands can.at_home
+    let can = can_be_told g.A.Engine.stands_for c.args.pair c.args.users.now c.args.home
+    c.loop-user.user c.loop-user.users c.assets.result.now c.loop-user.invariant c.requires
+    c.assets.ensures.value in
+    g.met.A.Engine.home_is_place c.assets.result.now.engine can.can_learn.holding.meaning
+    c.args.home (c.args.pair ∷ []) can.can_learn.owns.stands can.at_home
 
 pub know-requires-clause-range : goal.know-requires-clause-range
 know-requires-clause-range g c =
-    let can = can_be_told g.A.Engine.stands_for c.args.pair c.args.users.now c.args.home c.loop-user.user c.loop-user.users c.assets.result.now c.loop-user.invariant c.requires c.assets.ensures.value in
+    let can = can_be_told g.A.Engine.stands_for c.args.pair c.args.users.now c.args.home
+    c.loop-user.user c.loop-user.users c.assets.result.now c.loop-user.invariant c.requires
+    c.assets.ensures.value in
     can.can_learn
 
 pub loop-user-preserved : goal.loop-user-preserved

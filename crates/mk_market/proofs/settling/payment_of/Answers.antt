@@ -31,7 +31,9 @@ returns-clause-payment g c = λ state name one at.
           (sym c.name.ensures ∙ ap (λ (names : List (List ℕ)). slice_get names c.args.user) (names_stay c.args.users.now c.args.user c.least_of-factor.new.assets) ∙ at);
       covers = covers_factor net tree H c.requires.is_open c.args.user state one c.least_of-factor.result c.args.file.now.points_per_bit (c.cash-low.result.0) (c.cash-low.result.1)
           (λ gain is_least. c.least_of-factor.ensures.least net tree H c.args.user gain (c.requires.owns c.args.user c.assets.result.now c.assets.ensures.value) c.requires.is_open is_least)
-          (c.least_of-factor.ensures.idle net tree H c.args.user (c.requires.owns c.args.user c.assets.result.now c.assets.ensures.value) c.requires.is_open)
+          (c.least_of-factor.ensures.idle net tree H c.args.user
+          (c.requires.owns c.args.user c.assets.result.now c.assets.ensures.value)
+          c.requires.is_open)
           c.cash-low.ensures.covers;
       low_end = refl;
     }

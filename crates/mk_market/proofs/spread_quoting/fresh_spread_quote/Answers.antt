@@ -20,52 +20,66 @@ spread_bounds_of-requires g c =
       owns = a.in_use.owns c.args.request.now.user c.assets.result.now c.assets.ensures.value;
       is_open = a.in_use.is_open;
       answered = a.answered;
-      held = λ value. value_is_held c.args.file.now.tree c.args.request.now.home (spread_in c.args.request.now.question) value a.home;
+      held = λ value. value_is_held c.args.file.now.tree c.args.request.now.home
+          (spread_in c.args.request.now.question) value a.home;
     }
 
 pub returns-in-Open-clause-assets : goal.returns-in-Open-clause-assets
 returns-in-Open-clause-assets g c =
-    owned_still c.args.users.now c.args.request.now.user g.A.Engine.stands_for c.requires.user c.assets.result.now c.spread_bounds_of.new.assets c.assets.ensures.value
+    owned_still c.args.users.now c.args.request.now.user g.A.Engine.stands_for c.requires.user
+    c.assets.result.now c.spread_bounds_of.new.assets c.assets.ensures.value
     c.spread_bounds_of.ensures.kept_assets
 
 pub returns-in-Open-clause-names : goal.returns-in-Open-clause-names
-returns-in-Open-clause-names g c = names_stay c.args.users.now c.args.request.now.user c.spread_bounds_of.new.assets
+returns-in-Open-clause-names g c = names_stay c.args.users.now c.args.request.now.user
+    c.spread_bounds_of.new.assets
 
 pub returns-in-Open-clause-quotes : goal.returns-in-Open-clause-quotes
-returns-in-Open-clause-quotes g c = quotes_stay c.args.users.now c.args.request.now.user c.spread_bounds_of.new.assets
+returns-in-Open-clause-quotes g c = quotes_stay c.args.users.now c.args.request.now.user
+    c.spread_bounds_of.new.assets
 
 pub returns-in-Impossible-clause-assets : goal.returns-in-Impossible-clause-assets
 returns-in-Impossible-clause-assets g c =
-    owned_still c.args.users.now c.args.request.now.user g.A.Engine.stands_for c.requires.user c.assets.result.now c.spread_bounds_of.new.assets c.assets.ensures.value
+    owned_still c.args.users.now c.args.request.now.user g.A.Engine.stands_for c.requires.user
+    c.assets.result.now c.spread_bounds_of.new.assets c.assets.ensures.value
     c.spread_bounds_of.ensures.kept_assets
 
 pub returns-in-Impossible-clause-names : goal.returns-in-Impossible-clause-names
-returns-in-Impossible-clause-names g c = names_stay c.args.users.now c.args.request.now.user c.spread_bounds_of.new.assets
+returns-in-Impossible-clause-names g c = names_stay c.args.users.now c.args.request.now.user
+    c.spread_bounds_of.new.assets
 
 pub returns-in-Impossible-clause-quotes : goal.returns-in-Impossible-clause-quotes
-returns-in-Impossible-clause-quotes g c = quotes_stay c.args.users.now c.args.request.now.user c.spread_bounds_of.new.assets
+returns-in-Impossible-clause-quotes g c = quotes_stay c.args.users.now c.args.request.now.user
+    c.spread_bounds_of.new.assets
 
 pub returns-in-Sure-clause-assets : goal.returns-in-Sure-clause-assets
 returns-in-Sure-clause-assets g c =
-    owned_still c.args.users.now c.args.request.now.user g.A.Engine.stands_for c.requires.user c.assets.result.now c.spread_bounds_of.new.assets c.assets.ensures.value
+    owned_still c.args.users.now c.args.request.now.user g.A.Engine.stands_for c.requires.user
+    c.assets.result.now c.spread_bounds_of.new.assets c.assets.ensures.value
     c.spread_bounds_of.ensures.kept_assets
 
 pub returns-in-Sure-clause-names : goal.returns-in-Sure-clause-names
-returns-in-Sure-clause-names g c = names_stay c.args.users.now c.args.request.now.user c.spread_bounds_of.new.assets
+returns-in-Sure-clause-names g c = names_stay c.args.users.now c.args.request.now.user
+    c.spread_bounds_of.new.assets
 
 pub returns-in-Sure-clause-quotes : goal.returns-in-Sure-clause-quotes
-returns-in-Sure-clause-quotes g c = quotes_stay c.args.users.now c.args.request.now.user c.spread_bounds_of.new.assets
+returns-in-Sure-clause-quotes g c = quotes_stay c.args.users.now c.args.request.now.user
+    c.spread_bounds_of.new.assets
 
 pub returns-in-Impossible-clause-quote : goal.returns-in-Impossible-clause-quote
 returns-in-Impossible-clause-quote g c =
     let a = c.requires in
-    c.in-Impossible.ensures.sides c.args.file.now.tree c.args.journal.now.history c.args.request.now.user a.in_use.weights (a.in_use.owns c.args.request.now.user c.assets.result.now c.assets.ensures.value)
+    c.in-Impossible.ensures.sides c.args.file.now.tree c.args.journal.now.history
+    c.args.request.now.user a.in_use.weights (a.in_use.owns c.args.request.now.user
+    c.assets.result.now c.assets.ensures.value)
     a.in_use.is_open a.answered
 
 pub returns-in-Sure-clause-quote : goal.returns-in-Sure-clause-quote
 returns-in-Sure-clause-quote g c =
     let a = c.requires in
-    c.in-Sure.ensures.sides c.args.file.now.tree c.args.journal.now.history c.args.request.now.user a.in_use.weights (a.in_use.owns c.args.request.now.user c.assets.result.now c.assets.ensures.value)
+    c.in-Sure.ensures.sides c.args.file.now.tree c.args.journal.now.history c.args.request.now.user
+    a.in_use.weights (a.in_use.owns c.args.request.now.user c.assets.result.now
+    c.assets.ensures.value)
     a.in_use.is_open a.answered
 
 pub returns-in-Open-clause-quote : goal.returns-in-Open-clause-quote
@@ -74,7 +88,9 @@ returns-in-Open-clause-quote g c =
     let net = c.args.file.now.net in
     let tree = c.args.file.now.tree in
     let H = c.args.journal.now.history in
-    let found = c.in-Open.ensures.sides tree H c.args.request.now.user a.in_use.weights (a.in_use.owns c.args.request.now.user c.assets.result.now c.assets.ensures.value) a.in_use.is_open a.answered in
+    let found = c.in-Open.ensures.sides tree H c.args.request.now.user a.in_use.weights
+    (a.in_use.owns c.args.request.now.user c.assets.result.now c.assets.ensures.value)
+    a.in_use.is_open a.answered in
     record {
       same_user = c.make.ensures.user;
       question = c.make.ensures.question;
@@ -84,6 +100,7 @@ returns-in-Open-clause-quote g c =
         two_left = subst (λ (spread : SpreadAsked). 2 ≤ length (values_left net H spread)) (sym c.make.ensures.question) (found.0);
         bounds = λ sides are_sides.
             subst (λ (values : List (Option SideBounds)). AreSideBoundsFor values (IsSmall net H) sides) (sym c.make.ensures.sides)
-            (found.1 sides (subst (λ (spread : SpreadAsked). AreValueSides net H c.args.request.now.user spread sides) c.make.ensures.question are_sides));
+            (found.1 sides (subst (λ (spread : SpreadAsked). AreValueSides net H
+            c.args.request.now.user spread sides) c.make.ensures.question are_sides));
       };
     }

@@ -2,7 +2,8 @@ use Rattle.std.proofs.Common.{not, sym, ap, ◌∙◌, arith}
 use Rattle.mk_rules.specs.Refusals.{is_resolved}
 use Rattle.mk_market.proofs.EveryValue.{one_counted, none_counted}
 use Rattle.mk_market.proofs.telling.open_questions.Goals as goal
-use Rattle.mk_market.proofs.telling.open_questions.Goals.{then-not-is_resolved, else-not-is_resolved}
+use Rattle.mk_market.proofs.telling.open_questions.Goals.{then-not-is_resolved}
+use Rattle.mk_market.proofs.telling.open_questions.Goals.{else-not-is_resolved}
 
 pub loop-variable-preserved : goal.loop-variable-preserved
 loop-variable-preserved c =

@@ -6,6 +6,7 @@ use Rattle.mk_market.proofs.telling.open_questions.Given as goal
 
 abbrev pub invariant-loop-variable : goal.invariant-loop-variable
 invariant-loop-variable l = record {
-  counted : l.open ≡ count_by (λ v. not (is_resolved l.journal.history v)) (numbers_below l.variable);
+  counted : l.open ≡ count_by (λ v. not (is_resolved l.journal.history v))
+      (numbers_below l.variable);
   few : l.open ≤ l.variable;
 }

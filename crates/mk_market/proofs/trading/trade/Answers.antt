@@ -13,7 +13,9 @@ use Rattle.mk_market.proofs.trading.trade.Goals as goal
 pub multiply-requires-clause-home : goal.multiply-requires-clause-home
 multiply-requires-clause-home g c =
     let a = c.requires in
-    g.met.P.Engine.home_is_place c.args.prices.now (weights_of a.network a.tree c.args.journal.now.history) c.args.home (ratio_pairs (trade_ratio c.args.ratio)) a.in_use.weights a.at_home
+    g.met.P.Engine.home_is_place c.args.prices.now
+    (weights_of a.network a.tree c.args.journal.now.history) c.args.home
+    (ratio_pairs (trade_ratio c.args.ratio)) a.in_use.weights a.at_home
 
 pub multiply-requires-clause-range : goal.multiply-requires-clause-range
 multiply-requires-clause-range g c =
@@ -27,7 +29,9 @@ assets-requires g c = c.requires.within
 pub trade-requires-clause-home : goal.trade-requires-clause-home
 trade-requires-clause-home g c =
     let a = c.requires in
-    g.met.A.Engine.home_is_place c.assets.result.now.engine (gains_of a.network a.tree c.args.journal.now.history c.args.user) c.args.home (ratio_pairs (trade_ratio c.args.ratio))
+    g.met.A.Engine.home_is_place c.assets.result.now.engine
+    (gains_of a.network a.tree c.args.journal.now.history c.args.user) c.args.home
+    (ratio_pairs (trade_ratio c.args.ratio))
     (a.in_use.owns c.args.user c.assets.result.now c.assets.ensures.value).stands a.at_home
 
 pub trade-requires-clause-range : goal.trade-requires-clause-range

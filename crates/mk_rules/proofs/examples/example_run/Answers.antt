@@ -45,7 +45,8 @@ price = record { low = 6000000000; high = 6000000001; printed = refl; covers = c
 least : Fraction
 least = factor_with heads_taken 0 879609302220
 
-short : IsMost (IsSmall coin heads_taken) (HoldsNoTrade heads_taken 0) least 0 → IsShort (IsSmall coin heads_taken) (HoldsNoTrade heads_taken 0) least 1 (Refused (Short 0))
+short : IsMost (IsSmall coin heads_taken) (HoldsNoTrade heads_taken 0) least 0
+    → IsShort (IsSmall coin heads_taken) (HoldsNoTrade heads_taken 0) least 1 (Refused (Short 0))
 short most = record { most = 0; less = omega arith; is_most = most; printed = refl }
 
 pub returns : goal.returns

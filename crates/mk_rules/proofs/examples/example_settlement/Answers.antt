@@ -16,7 +16,8 @@ use Rattle.mk_rules.proofs.examples.example_settlement.Goals as goal
 abbrev Small : Type 0
 Small = IsSmall coin heads_up
 
-alice_covers : IsCash (factor heads_taken 0 (0 ∷ [])) 100 126 → CoversCash Small (HoldsNoTrade heads_up 0) (factor heads_up 0 (0 ∷ [])) 100 126 126
+alice_covers : IsCash (factor heads_taken 0 (0 ∷ [])) 100 126
+    → CoversCash Small (HoldsNoTrade heads_up 0) (factor heads_up 0 (0 ∷ [])) 100 126 126
 alice_covers h = record {
   cash = 126;
   is_cash = h;
@@ -38,13 +39,18 @@ bob_covers = record {
   exact = λ e. (refl, refl);
 }
 
-settlement : IsCash (factor heads_taken 0 (0 ∷ [])) 100 126 → IsSettlement coin heads_up 100 (settled_with (paying alice 126 126 126 ∷ paying bob 0 0 0 ∷ []))
+settlement : IsCash (factor heads_taken 0 (0 ∷ [])) 100 126
+    → IsSettlement coin heads_up 100 (settled_with
+    (paying alice 126 126 126 ∷ paying bob 0 0 0 ∷ []))
 settlement h = record {
   state = 0 ∷ [];
   one_state = refl;
   payments = paying alice 126 126 126 ∷ paying bob 0 0 0 ∷ [];
   printed = refl;
-  paid = (record { name = refl; covers = alice_covers h; low_end = refl }, (record { name = refl; covers = bob_covers; low_end = refl }, tt));
+  paid = (
+    record { name = refl; covers = alice_covers h; low_end = refl },
+    (record { name = refl; covers = bob_covers; low_end = refl }, tt),
+  );
 }
 
 payments_in : Reply → List Payment
@@ -52,12 +58,15 @@ payments_in (Settled at payments) = payments
 payments_in _ = []
 
 -- what the payments of an allowed settlement are
-are_paid : (payments : List Payment) → IsSettlement coin heads_up 100 (settled_with payments) → AllZip (IsPayment coin heads_up 100 (0 ∷ [])) (enumerate_from 0 (users heads_up)) payments
+are_paid : (payments : List Payment) → IsSettlement coin heads_up 100 (settled_with payments)
+    → AllZip (IsPayment coin heads_up 100 (0 ∷ [])) (enumerate_from 0 (users heads_up)) payments
 unfolding payments_in
 are_paid payments h =
     let state : h.state ≡ 0 ∷ [] = ap (λ (states : List (List ℕ)). get_or states 0 []) (sym h.one_state) in
-    subst (λ (s : List ℕ). AllZip (IsPayment coin heads_up 100 s) (enumerate_from 0 (users heads_up)) payments) state
-    (subst (λ (ps : List Payment). AllZip (IsPayment coin heads_up 100 h.state) (enumerate_from 0 (users heads_up)) ps) (sym (ap payments_in h.printed)) h.paid)
+    subst (λ (s : List ℕ). AllZip (IsPayment coin heads_up 100 s)
+    (enumerate_from 0 (users heads_up)) payments) state
+    (subst (λ (ps : List Payment). AllZip (IsPayment coin heads_up 100 h.state)
+    (enumerate_from 0 (users heads_up)) ps) (sym (ap payments_in h.printed)) h.paid)
 
 pub returns : goal.returns
 returns c = record {

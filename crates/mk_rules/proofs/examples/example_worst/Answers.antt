@@ -26,7 +26,15 @@ unfolding least
 nearer = record { low_near = omega arith; high_near = omega arith }
 
 covers : IsCash least 100 67 → CoversCash Small Idle least 100 67 67
-covers h = record { cash = 67; is_cash = h; above = omega arith; below = omega arith; near = near; nearer = λ s. nearer; exact = λ e. (refl, refl) }
+covers h = record {
+  cash = 67;
+  is_cash = h;
+  above = omega arith;
+  below = omega arith;
+  near = near;
+  nearer = λ s. nearer;
+  exact = λ e. (refl, refl);
+}
 
 low_far : (high : ℕ) → AreNearCash (2 ^ 42) least 100 66 high → ⊥
 unfolding least
@@ -48,10 +56,13 @@ high_in (Worsted low high) = high
 high_in _ = 0
 
 -- the interval that a reply prints is the one that covers
-covered : (low high : ℕ) → (h : IsWorst Small Idle least 100 (Worsted low high)) → CoversCash Small Idle least 100 low high
+covered : (low high : ℕ) → (h : IsWorst Small Idle least 100 (Worsted low high))
+    → CoversCash Small Idle least 100 low high
 unfolding low_in high_in
-covered low high h = subst (λ (n : ℕ). CoversCash Small Idle least 100 low n) (sym (ap high_in h.printed))
-    (subst (λ (n : ℕ). CoversCash Small Idle least 100 n h.high) (sym (ap low_in h.printed)) h.covers)
+covered low high h = subst (λ (n : ℕ). CoversCash Small Idle least 100 low n)
+    (sym (ap high_in h.printed))
+    (subst (λ (n : ℕ). CoversCash Small Idle least 100 n h.high) (sym (ap low_in h.printed))
+    h.covers)
 
 pub returns : goal.returns
 unfolding least

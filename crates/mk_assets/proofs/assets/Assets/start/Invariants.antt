@@ -5,4 +5,10 @@ use Rattle.mk_assets.proofs.assets.Assets.start.Given as goal
 
 abbrev pub invariant-loop-pair : goal.invariant-loop-pair
 invariant-loop-pair g l = g.E.Engine.stands_for l.engine
-    (record { network = l.net; tree = l.tree; factors = map SupportOf (with_zeros l.net); known = take l.pair-index l.known })
+    (record {
+      network = l.net;
+      tree = l.tree;
+      factors = map SupportOf (with_zeros l.net);
+      known =
+          take l.pair-index l.known;
+    })

@@ -9,7 +9,8 @@ use Rattle.mk_joint.proofs.joint.JointEngineEngine.know.Goals as goal
 pub restrict-requires : goal.restrict-requires
 restrict-requires g c =
     let a = c.requires.range in let x = c.args.pair.variable in
-    subst (λ (s : ScopeOf). has_variable s x ≡ true) (sym a.stands.scope) (has_all a.meaning.network x a.in_range.variable)
+    subst (λ (s : ScopeOf). has_variable s x ≡ true) (sym a.stands.scope)
+    (has_all a.meaning.network x a.in_range.variable)
 
 pub returns : goal.returns
 returns g c = λ m h.

@@ -19,8 +19,11 @@ use Rattle.mk_market.proofs.market.Market.bounds.Goals as goal
 pub returns-in_err-request : goal.returns-in_err-request
 returns-in_err-request g c =
     let command = BoundsCommand c.args.name.now c.args.variable.now c.args.condition.now in
-    answered_refused c.args.self.now _ c.self.view_is command tt c.in_err-request.field-0.0 c.from_residual.result
-    c.from_residual.ensures.1 (by_record (market_of c.self.inside.file) c.self.inside.journal.history command c.in_err-request.field-0.0 (c.in_err-request.ensures.refusal c.args.condition.now (sym c.as_slice.ensures.value)))
+    answered_refused c.args.self.now _ c.self.view_is command tt c.in_err-request.field-0.0
+    c.from_residual.result
+    c.from_residual.ensures.1 (by_record (market_of c.self.inside.file)
+    c.self.inside.journal.history command c.in_err-request.field-0.0
+    (c.in_err-request.ensures.refusal c.args.condition.now (sym c.as_slice.ensures.value)))
 
 pub refuse_stopped-requires : goal.refuse_stopped-requires
 refuse_stopped-requires g c =
@@ -30,10 +33,15 @@ refuse_stopped-requires g c =
     let question = question_for i.file i.journal.history c.args.variable.now c.as_slice.result.now c.args.condition.now spread c.as_slice.ensures.value found.ensures.question in
     let none = found.ensures.refusal c.args.condition.now (sym c.as_slice.ensures.value) in
     can_refuse g.P.Engine.stands_for g.A.Engine.stands_for g.A.Engine.plan_for i.file i.prices i.rows i.plan i.users i.ledger i.journal i.payments c.self.invariant
-    c.fresh_spread_quote.new.prices c.fresh_spread_quote.new.users c.args.name.now found.request.user found.ensures.user c.args.variable.now c.args.condition.now spread question
-    found.request refl found.ensures.home c.as_slice-in-Err.result.now c.as_slice-in-Err.ensures.value
+    c.fresh_spread_quote.new.prices c.fresh_spread_quote.new.users c.args.name.now
+    found.request.user found.ensures.user c.args.variable.now c.args.condition.now spread
+    question
+    found.request refl found.ensures.home c.as_slice-in-Err.result.now
+    c.as_slice-in-Err.ensures.value
     (bounds_known g.P.Engine.stands_for g.A.Engine.stands_for g.A.Engine.plan_for i.file i.prices i.rows i.plan i.users i.ledger i.journal i.payments c.self.invariant
-    c.fresh_spread_quote.new.prices c.fresh_spread_quote.new.users c.args.name.now found.request.user found.ensures.user c.args.variable.now c.args.condition.now spread question none)
+    c.fresh_spread_quote.new.prices c.fresh_spread_quote.new.users c.args.name.now
+    found.request.user found.ensures.user c.args.variable.now c.args.condition.now spread
+    question none)
     c.in-Err.ensures.prices (Decided c.in-Err.why) c.in-Err.ensures.quote
 
 pub invariant_of-self : goal.invariant_of-self
@@ -58,7 +66,8 @@ returns-in-Err g c =
     (c.refuse_stopped.ensures.refusal i.file.tree H (c.in-Err.ensures.prices _ c.self.invariant.prices_stand) opened c.in-Err.ensures.quote) in
     rw (← c.self.view_is)
     (decided_answered g.P.Engine.stands_for g.A.Engine.stands_for g.A.Engine.plan_for i.file i.prices i.rows i.plan i.users i.ledger i.journal i.payments c.self.invariant
-    c.refuse_stopped.new.prices c.fresh_spread_quote.new.users c.args.name.now found.request.user found.ensures.user c.args.variable.now c.args.condition.now spread question
+    c.refuse_stopped.new.prices c.fresh_spread_quote.new.users c.args.name.now found.request.user
+    found.ensures.user c.args.variable.now c.args.condition.now spread question
     c.in-Err.why c.refuse_stopped.result none c.in-Err.ensures.quote refused c.in-Err.ensures.quotes)
 
 pub invariant_of-self-2 : goal.invariant_of-self-2
@@ -70,14 +79,20 @@ invariant_of-self-2 g c =
     let its = c.in-Ok.ensures.quote in
     let question = question_for i.file i.journal.history c.args.variable.now c.as_slice.result.now c.args.condition.now _ c.as_slice.ensures.value found.ensures.question in
     let none = bounds_unrefused g.P.Engine.stands_for g.A.Engine.stands_for g.A.Engine.plan_for i.file i.prices i.rows i.plan i.users i.ledger i.journal i.payments c.self.invariant
-    made.new.prices made.new.users c.args.name.now found.request.user found.ensures.user c.args.variable.now c.args.condition.now _ question quote its
+    made.new.prices made.new.users c.args.name.now found.request.user found.ensures.user
+    c.args.variable.now c.args.condition.now _ question quote its
     (found.ensures.refusal c.args.condition.now (sym c.as_slice.ensures.value)) in
-    let are = quote_was_set g.A.Engine.stands_for i.users made.new.users c.set_quote.new.self found.request.user (Bounds quote) c.in-Ok.ensures.names c.in-Ok.ensures.quotes
-    c.in-Ok.ensures.assets (in_range i.users (users i.journal.history) found.request.user c.self.invariant.named found.ensures.user.within) c.set_quote.ensures in
+    let are = quote_was_set g.A.Engine.stands_for i.users made.new.users c.set_quote.new.self
+    found.request.user (Bounds quote) c.in-Ok.ensures.names c.in-Ok.ensures.quotes
+    c.in-Ok.ensures.assets (in_range i.users (users i.journal.history) found.request.user
+    c.self.invariant.named found.ensures.user.within) c.set_quote.ensures in
     kept_quoted g.P.Engine.stands_for g.A.Engine.stands_for g.A.Engine.plan_for i.file i.prices made.new.prices i.rows i.plan i.users c.set_quote.new.self i.ledger i.journal i.payments
-    c.self.invariant found.request.user (Bounds quote) (kept_quote i.file.net i.file.tree i.journal.history found.request.user _ quote its) are c.in-Ok.ensures.prices _ _
+    c.self.invariant found.request.user (Bounds quote)
+    (kept_quote i.file.net i.file.tree i.journal.history found.request.user _ quote its) are
+    c.in-Ok.ensures.prices _ _
     (bounds_answered g.P.Engine.stands_for g.A.Engine.stands_for g.A.Engine.plan_for i.file i.prices i.rows i.plan i.users c.set_quote.new.self i.ledger i.journal i.payments
-    c.self.invariant c.args.name.now found.request.user found.ensures.user c.args.variable.now c.args.condition.now _ question quote its are.quotes
+    c.self.invariant c.args.name.now found.request.user found.ensures.user c.args.variable.now
+    c.args.condition.now _ question quote its are.quotes
     c.intervals-intervals.result c.revision.result none c.intervals-intervals.ensures.value
     c.intervals-intervals.ensures.right c.revision.ensures)
 
@@ -90,12 +105,16 @@ returns g c =
     let its = c.in-Ok.ensures.quote in
     let question = question_for i.file i.journal.history c.args.variable.now c.as_slice.result.now c.args.condition.now _ c.as_slice.ensures.value found.ensures.question in
     let none = bounds_unrefused g.P.Engine.stands_for g.A.Engine.stands_for g.A.Engine.plan_for i.file i.prices i.rows i.plan i.users i.ledger i.journal i.payments c.self.invariant
-    made.new.prices made.new.users c.args.name.now found.request.user found.ensures.user c.args.variable.now c.args.condition.now _ question quote its
+    made.new.prices made.new.users c.args.name.now found.request.user found.ensures.user
+    c.args.variable.now c.args.condition.now _ question quote its
     (found.ensures.refusal c.args.condition.now (sym c.as_slice.ensures.value)) in
-    let are = quote_was_set g.A.Engine.stands_for i.users made.new.users c.set_quote.new.self found.request.user (Bounds quote) c.in-Ok.ensures.names c.in-Ok.ensures.quotes
-    c.in-Ok.ensures.assets (in_range i.users (users i.journal.history) found.request.user c.self.invariant.named found.ensures.user.within) c.set_quote.ensures in
+    let are = quote_was_set g.A.Engine.stands_for i.users made.new.users c.set_quote.new.self
+    found.request.user (Bounds quote) c.in-Ok.ensures.names c.in-Ok.ensures.quotes
+    c.in-Ok.ensures.assets (in_range i.users (users i.journal.history) found.request.user
+    c.self.invariant.named found.ensures.user.within) c.set_quote.ensures in
     rw (← c.self.view_is)
     (bounds_answered g.P.Engine.stands_for g.A.Engine.stands_for g.A.Engine.plan_for i.file i.prices i.rows i.plan i.users c.set_quote.new.self i.ledger i.journal i.payments
-    c.self.invariant c.args.name.now found.request.user found.ensures.user c.args.variable.now c.args.condition.now _ question quote its are.quotes
+    c.self.invariant c.args.name.now found.request.user found.ensures.user c.args.variable.now
+    c.args.condition.now _ question quote its are.quotes
     c.intervals-intervals.result c.revision.result none c.intervals-intervals.ensures.value
     c.intervals-intervals.ensures.right c.revision.ensures)

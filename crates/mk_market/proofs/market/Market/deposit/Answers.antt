@@ -2,7 +2,8 @@ use Rattle.std.proofs.Common.{refl}
 use Rattle.mk_command.specs.declared.command.Command.TheVariants.{Deposit}
 use Rattle.mk_file.specs.MarketOf.{market_of}
 use Rattle.mk_market.proofs.Replies.{answered_refused}
-use Rattle.mk_market.proofs.Deposits.{can_deposit, points_fit, deposit_kept, deposit_allowed, deposit_next, deposit_paid}
+use Rattle.mk_market.proofs.Deposits.{can_deposit, points_fit, deposit_kept, deposit_allowed}
+use Rattle.mk_market.proofs.Deposits.{deposit_next, deposit_paid}
 use Rattle.mk_market.proofs.market.Market.deposit.Goals as goal
 
 pub returns-in_err-user : goal.returns-in_err-user
@@ -36,6 +37,8 @@ returns g c =
       next = deposit_next g.P.Engine.stands_for g.A.Engine.stands_for g.A.Engine.plan_for _ _ _ _ _ _ _ _ c.self.invariant c.args.name.now c.in_ok-user.user c.args.bits
           c.in_ok-user.ensures.user c.in_ok-user.ensures.room c.assets.result.now c.deposit.new.self c.assets.ensures.value c.deposit-2.new.self c.deposit-3.new.self
           c.deposit-3.ensures.history (c.in_ok-user.ensures.deposit (market_of c.self.inside.file)) c.revision.result;
-      paid = deposit_paid g.P.Engine.stands_for g.A.Engine.stands_for g.A.Engine.plan_for _ _ _ _ _ _ _ _ c.self.invariant c.args.name.now c.in_ok-user.user c.args.bits
-          c.in_ok-user.ensures.user c.in_ok-user.ensures.room c.deposit-2.new.self c.deposit-2.ensures c.revision.result;
+      paid = deposit_paid g.P.Engine.stands_for g.A.Engine.stands_for g.A.Engine.plan_for _ _ _ _ _
+          _ _ _ c.self.invariant c.args.name.now c.in_ok-user.user c.args.bits
+          c.in_ok-user.ensures.user c.in_ok-user.ensures.room c.deposit-2.new.self
+          c.deposit-2.ensures c.revision.result;
     })

@@ -23,8 +23,11 @@ use Rattle.mk_market.proofs.market.Market.edit.Goals as goal
 
 pub returns-in_err-request : goal.returns-in_err-request
 returns-in_err-request g c =
-    edit_refused_answered c.args.self.now _ c.self.view_is c.args.name.now c.args.question.now c.args.to c.args.at c.in_err-request.field-0.0 c.from_residual.result
-    c.from_residual.ensures.1 (by_record (market_of c.self.inside.file) c.self.inside.journal.history (Edit c.args.name.now c.args.question.now c.args.to c.args.at) c.in_err-request.field-0.0 c.in_err-request.ensures.refusal)
+    edit_refused_answered c.args.self.now _ c.self.view_is c.args.name.now c.args.question.now
+    c.args.to c.args.at c.in_err-request.field-0.0 c.from_residual.result
+    c.from_residual.ensures.1 (by_record (market_of c.self.inside.file)
+    c.self.inside.journal.history (Edit c.args.name.now c.args.question.now c.args.to c.args.at)
+    c.in_err-request.field-0.0 c.in_err-request.ensures.refusal)
 
 pub invariant_of-self : goal.invariant_of-self
 invariant_of-self g c =
@@ -39,7 +42,9 @@ returns-in-Err g c =
     let found = c.in_ok-request in
     let made = c.present_quote in
     rw (← c.self.view_is)
-    (edit_stopped i.file i.ledger i.journal i.users made.new.users made.ensures.quotes c.args.name.now c.args.question.now c.args.to c.args.at c.refuse_decided.result found.ensures.refusal
+    (edit_stopped i.file i.ledger i.journal i.users made.new.users made.ensures.quotes
+    c.args.name.now c.args.question.now c.args.to c.args.at c.refuse_decided.result
+    found.ensures.refusal
     (c.refuse_decided.ensures.refusal i.file.net i.file.tree i.journal.history (made.ensures.prices (weights_of i.file.net i.file.tree i.journal.history) c.self.invariant.prices_stand)
     (is_open g.P.Engine.stands_for g.A.Engine.stands_for g.A.Engine.plan_for i.file i.prices i.rows i.plan i.users i.ledger i.journal i.payments c.self.invariant)
     (record { named = found.ensures.question.named; known = edit_known i.file i.journal.history c.args.name.now c.args.question.now c.args.to c.args.at found.ensures.refusal }) c.in-Err.ensures.quote))
@@ -50,15 +55,23 @@ invariant_of-self-in_default g c =
     let found = c.in_ok-request in
     let made = c.present_quote in
     let ok = c.in-Ok in
-    let none = edit_unrefused i.file i.journal.history c.args.name.now c.args.question.now c.args.to c.args.at found.request.question found.ensures.question.named
-    (left_by_quote i.file.net i.file.tree i.journal.history found.request.user found.request.question ok.quote ok.ensures.quote) found.ensures.refusal in
-    let last = last_is i.users found.request.user found.request.question (revision i.journal.history) made.result ok.quote ok.is made.ensures.last in
-    let are = quote_was_set g.A.Engine.stands_for i.users made.new.users c.set_quote.new.self found.request.user (Limits ok.quote) made.ensures.names made.ensures.quotes
-    made.ensures.assets (in_range i.users (users i.journal.history) found.request.user c.self.invariant.named found.ensures.user.within) c.set_quote.ensures in
+    let none = edit_unrefused i.file i.journal.history c.args.name.now c.args.question.now c.args.to
+    c.args.at found.request.question found.ensures.question.named
+    (left_by_quote i.file.net i.file.tree i.journal.history found.request.user
+    found.request.question ok.quote ok.ensures.quote) found.ensures.refusal in
+    let last = last_is i.users found.request.user found.request.question
+    (revision i.journal.history) made.result ok.quote ok.is made.ensures.last in
+    let are = quote_was_set g.A.Engine.stands_for i.users made.new.users c.set_quote.new.self
+    found.request.user (Limits ok.quote) made.ensures.names made.ensures.quotes
+    made.ensures.assets (in_range i.users (users i.journal.history) found.request.user
+    c.self.invariant.named found.ensures.user.within) c.set_quote.ensures in
     kept_quoted g.P.Engine.stands_for g.A.Engine.stands_for g.A.Engine.plan_for i.file i.prices made.new.prices i.rows i.plan i.users c.set_quote.new.self i.ledger i.journal i.payments
-    c.self.invariant found.request.user (Limits ok.quote) (kept_quote i.file.net i.file.tree i.journal.history found.request.user found.request.question ok.quote ok.ensures.quote) are made.ensures.prices _ _
+    c.self.invariant found.request.user (Limits ok.quote)
+    (kept_quote i.file.net i.file.tree i.journal.history found.request.user
+    found.request.question ok.quote ok.ensures.quote) are made.ensures.prices _ _
     (beyond_answered g.P.Engine.stands_for g.A.Engine.stands_for g.A.Engine.plan_for i.file i.prices i.rows i.plan i.users c.set_quote.new.self i.ledger i.journal i.payments
-    c.self.invariant c.args.name.now found.request.user found.ensures.user c.args.question.now found.request.question found.ensures.question ok.quote ok.ensures.quote are
+    c.self.invariant c.args.name.now found.request.user found.ensures.user c.args.question.now
+    found.request.question found.ensures.question ok.quote ok.ensures.quote are
     c.args.to c.args.at c.limits.result none c.limits.ensures.value c.limits.ensures.right c.in_default.ensures.inside last)
 
 pub returns-in_default : goal.returns-in_default
@@ -67,14 +80,20 @@ returns-in_default g c =
     let found = c.in_ok-request in
     let made = c.present_quote in
     let ok = c.in-Ok in
-    let none = edit_unrefused i.file i.journal.history c.args.name.now c.args.question.now c.args.to c.args.at found.request.question found.ensures.question.named
-    (left_by_quote i.file.net i.file.tree i.journal.history found.request.user found.request.question ok.quote ok.ensures.quote) found.ensures.refusal in
-    let last = last_is i.users found.request.user found.request.question (revision i.journal.history) made.result ok.quote ok.is made.ensures.last in
-    let are = quote_was_set g.A.Engine.stands_for i.users made.new.users c.set_quote.new.self found.request.user (Limits ok.quote) made.ensures.names made.ensures.quotes
-    made.ensures.assets (in_range i.users (users i.journal.history) found.request.user c.self.invariant.named found.ensures.user.within) c.set_quote.ensures in
+    let none = edit_unrefused i.file i.journal.history c.args.name.now c.args.question.now c.args.to
+    c.args.at found.request.question found.ensures.question.named
+    (left_by_quote i.file.net i.file.tree i.journal.history found.request.user
+    found.request.question ok.quote ok.ensures.quote) found.ensures.refusal in
+    let last = last_is i.users found.request.user found.request.question
+    (revision i.journal.history) made.result ok.quote ok.is made.ensures.last in
+    let are = quote_was_set g.A.Engine.stands_for i.users made.new.users c.set_quote.new.self
+    found.request.user (Limits ok.quote) made.ensures.names made.ensures.quotes
+    made.ensures.assets (in_range i.users (users i.journal.history) found.request.user
+    c.self.invariant.named found.ensures.user.within) c.set_quote.ensures in
     rw (← c.self.view_is)
     (beyond_answered g.P.Engine.stands_for g.A.Engine.stands_for g.A.Engine.plan_for i.file i.prices i.rows i.plan i.users c.set_quote.new.self i.ledger i.journal i.payments
-    c.self.invariant c.args.name.now found.request.user found.ensures.user c.args.question.now found.request.question found.ensures.question ok.quote ok.ensures.quote are
+    c.self.invariant c.args.name.now found.request.user found.ensures.user c.args.question.now
+    found.request.question found.ensures.question ok.quote ok.ensures.quote are
     c.args.to c.args.at c.limits.result none c.limits.ensures.value c.limits.ensures.right c.in_default.ensures.inside last)
 
 pub ratio_of_edit-ratio-requires-clause-hit : goal.ratio_of_edit-ratio-requires-clause-hit
@@ -83,11 +102,16 @@ ratio_of_edit-ratio-requires-clause-hit g c =
     let found = c.in_ok-request in
     let made = c.present_quote in
     let ok = c.in-Ok in
-    let none = edit_unrefused i.file i.journal.history c.args.name.now c.args.question.now c.args.to c.args.at found.request.question found.ensures.question.named
-    (left_by_quote i.file.net i.file.tree i.journal.history found.request.user found.request.question ok.quote ok.ensures.quote) found.ensures.refusal in
-    let last = last_is i.users found.request.user found.request.question (revision i.journal.history) made.result ok.quote ok.is made.ensures.last in
+    let none = edit_unrefused i.file i.journal.history c.args.name.now c.args.question.now c.args.to
+    c.args.at found.request.question found.ensures.question.named
+    (left_by_quote i.file.net i.file.tree i.journal.history found.request.user
+    found.request.question ok.quote ok.ensures.quote) found.ensures.refusal in
+    let last = last_is i.users found.request.user found.request.question
+    (revision i.journal.history) made.result ok.quote ok.is made.ensures.last in
     hit_units i.file i.journal (is_open g.P.Engine.stands_for g.A.Engine.stands_for g.A.Engine.plan_for i.file i.prices i.rows i.plan i.users i.ledger i.journal i.payments c.self.invariant)
-    c.args.name.now found.request.user found.ensures.user c.args.question.now found.request.question found.ensures.question ok.quote ok.ensures.quote c.args.to (c.in-Some.units.0) (c.in-Some.units.1)
+    c.args.name.now found.request.user found.ensures.user c.args.question.now found.request.question
+    found.ensures.question ok.quote ok.ensures.quote c.args.to (c.in-Some.units.0)
+    (c.in-Some.units.1)
     c.in-Some.ensures.fair
 
 pub ratio_of_edit-ratio-requires-clause-miss : goal.ratio_of_edit-ratio-requires-clause-miss
@@ -96,11 +120,16 @@ ratio_of_edit-ratio-requires-clause-miss g c =
     let found = c.in_ok-request in
     let made = c.present_quote in
     let ok = c.in-Ok in
-    let none = edit_unrefused i.file i.journal.history c.args.name.now c.args.question.now c.args.to c.args.at found.request.question found.ensures.question.named
-    (left_by_quote i.file.net i.file.tree i.journal.history found.request.user found.request.question ok.quote ok.ensures.quote) found.ensures.refusal in
-    let last = last_is i.users found.request.user found.request.question (revision i.journal.history) made.result ok.quote ok.is made.ensures.last in
+    let none = edit_unrefused i.file i.journal.history c.args.name.now c.args.question.now c.args.to
+    c.args.at found.request.question found.ensures.question.named
+    (left_by_quote i.file.net i.file.tree i.journal.history found.request.user
+    found.request.question ok.quote ok.ensures.quote) found.ensures.refusal in
+    let last = last_is i.users found.request.user found.request.question
+    (revision i.journal.history) made.result ok.quote ok.is made.ensures.last in
     miss_units i.file i.journal (is_open g.P.Engine.stands_for g.A.Engine.stands_for g.A.Engine.plan_for i.file i.prices i.rows i.plan i.users i.ledger i.journal i.payments c.self.invariant)
-    c.args.name.now found.request.user found.ensures.user c.args.question.now found.request.question found.ensures.question ok.quote ok.ensures.quote c.args.to (c.in-Some.units.0) (c.in-Some.units.1)
+    c.args.name.now found.request.user found.ensures.user c.args.question.now found.request.question
+    found.ensures.question ok.quote ok.ensures.quote c.args.to (c.in-Some.units.0)
+    (c.in-Some.units.1)
     c.in-Some.ensures.fair
 
 pub trade-requires : goal.trade-requires
@@ -109,20 +138,34 @@ trade-requires g c =
     let found = c.in_ok-request in
     let made = c.present_quote in
     let ok = c.in-Ok in
-    let none = edit_unrefused i.file i.journal.history c.args.name.now c.args.question.now c.args.to c.args.at found.request.question found.ensures.question.named
-    (left_by_quote i.file.net i.file.tree i.journal.history found.request.user found.request.question ok.quote ok.ensures.quote) found.ensures.refusal in
-    let last = last_is i.users found.request.user found.request.question (revision i.journal.history) made.result ok.quote ok.is made.ensures.last in
+    let none = edit_unrefused i.file i.journal.history c.args.name.now c.args.question.now c.args.to
+    c.args.at found.request.question found.ensures.question.named
+    (left_by_quote i.file.net i.file.tree i.journal.history found.request.user
+    found.request.question ok.quote ok.ensures.quote) found.ensures.refusal in
+    let last = last_is i.users found.request.user found.request.question
+    (revision i.journal.history) made.result ok.quote ok.is made.ensures.last in
     let units = c.in-Some.units in
     let opened = is_open g.P.Engine.stands_for g.A.Engine.stands_for g.A.Engine.plan_for i.file i.prices i.rows i.plan i.users i.ledger i.journal i.payments c.self.invariant in
-    let hit = hit_units i.file i.journal opened c.args.name.now found.request.user found.ensures.user c.args.question.now found.request.question found.ensures.question ok.quote ok.ensures.quote
+    let hit = hit_units i.file i.journal opened c.args.name.now found.request.user
+    found.ensures.user c.args.question.now found.request.question found.ensures.question
+    ok.quote ok.ensures.quote
     c.args.to (units.0) (units.1) c.in-Some.ensures.fair in
-    let miss = miss_units i.file i.journal opened c.args.name.now found.request.user found.ensures.user c.args.question.now found.request.question found.ensures.question ok.quote ok.ensures.quote
+    let miss = miss_units i.file i.journal opened c.args.name.now found.request.user
+    found.ensures.user c.args.question.now found.request.question found.ensures.question
+    ok.quote ok.ensures.quote
     c.args.to (units.0) (units.1) c.in-Some.ensures.fair in
-    subst (λ (r : TradeRatio). CanBeMade g.P.Engine.stands_for g.A.Engine.stands_for made.new.prices made.new.users i.journal found.request.user found.request.home r) (sym c.ratio_of_edit-ratio.ensures)
-    (can_be_made g.P.Engine.stands_for g.A.Engine.stands_for g.A.Engine.plan_for i.file i.prices i.rows i.plan i.users i.ledger i.journal i.payments c.self.invariant found.request.user found.ensures.user.within
-    (ratio_in i.file.net found.request.question (units.0) (units.1)) made.new.prices made.new.users made.ensures.prices made.ensures.assets made.ensures.names
-    (ratio_fits i.file.net found.request.question (units.0) (units.1) found.ensures.question.answered.in_order.in_range hit.positive miss.positive)
-    found.request.home (home_of_ratio i.file.net i.file.tree found.request.question found.request.home found.ensures.home (units.0) (units.1)) found.ensures.room.few)
+    subst (λ (r : TradeRatio). CanBeMade g.P.Engine.stands_for g.A.Engine.stands_for made.new.prices
+    made.new.users i.journal found.request.user found.request.home r)
+    (sym c.ratio_of_edit-ratio.ensures)
+    (can_be_made g.P.Engine.stands_for g.A.Engine.stands_for g.A.Engine.plan_for i.file i.prices
+    i.rows i.plan i.users i.ledger i.journal i.payments c.self.invariant found.request.user
+    found.ensures.user.within
+    (ratio_in i.file.net found.request.question (units.0) (units.1)) made.new.prices made.new.users
+    made.ensures.prices made.ensures.assets made.ensures.names
+    (ratio_fits i.file.net found.request.question (units.0) (units.1)
+    found.ensures.question.answered.in_order.in_range hit.positive miss.positive)
+    found.request.home (home_of_ratio i.file.net i.file.tree found.request.question
+    found.request.home found.ensures.home (units.0) (units.1)) found.ensures.room.few)
 
 pub invariant_of-self-2 : goal.invariant_of-self-2
 invariant_of-self-2 g c =
@@ -130,18 +173,26 @@ invariant_of-self-2 g c =
     let found = c.in_ok-request in
     let made = c.present_quote in
     let ok = c.in-Ok in
-    let none = edit_unrefused i.file i.journal.history c.args.name.now c.args.question.now c.args.to c.args.at found.request.question found.ensures.question.named
-    (left_by_quote i.file.net i.file.tree i.journal.history found.request.user found.request.question ok.quote ok.ensures.quote) found.ensures.refusal in
-    let last = last_is i.users found.request.user found.request.question (revision i.journal.history) made.result ok.quote ok.is made.ensures.last in
+    let none = edit_unrefused i.file i.journal.history c.args.name.now c.args.question.now c.args.to
+    c.args.at found.request.question found.ensures.question.named
+    (left_by_quote i.file.net i.file.tree i.journal.history found.request.user
+    found.request.question ok.quote ok.ensures.quote) found.ensures.refusal in
+    let last = last_is i.users found.request.user found.request.question
+    (revision i.journal.history) made.result ok.quote ok.is made.ensures.last in
     let ratio = c.ratio_of_edit-ratio in
     let opened = is_open g.P.Engine.stands_for g.A.Engine.stands_for g.A.Engine.plan_for i.file i.prices i.rows i.plan i.users i.ledger i.journal i.payments c.self.invariant in
-    let history = c.trade.ensures.history ∙ ap (λ (r : TradeRatio). i.journal.history ++ Trade found.request.user r ∷ []) ratio.ensures in
-    trade_kept g.P.Engine.stands_for g.A.Engine.stands_for g.A.Engine.plan_for i.file i.prices i.rows i.plan i.users i.ledger i.journal i.payments c.self.invariant found.request.user found.ensures.user.within
+    let history = c.trade.ensures.history ∙ ap
+    (λ (r : TradeRatio). i.journal.history ++ Trade found.request.user r ∷ []) ratio.ensures in
+    trade_kept g.P.Engine.stands_for g.A.Engine.stands_for g.A.Engine.plan_for i.file i.prices
+    i.rows i.plan i.users i.ledger i.journal i.payments c.self.invariant found.request.user
+    found.ensures.user.within
     (trade_ratio ratio.result) (Edit c.args.name.now c.args.question.now c.args.to c.args.at) (Traded (c.in-Some.units.0) (c.in-Some.units.1) c.revision.result) tt none c.trade.new.users c.trade.new.journal
-    (trade_allowed i.file i.journal opened c.args.name.now found.request.user found.ensures.user c.args.question.now found.request.question found.ensures.question ok.quote ok.ensures.quote
+    (trade_allowed i.file i.journal opened c.args.name.now found.request.user found.ensures.user
+    c.args.question.now found.request.question found.ensures.question ok.quote ok.ensures.quote
     c.args.to (c.in-Some.units.0) (c.in-Some.units.1) c.in-Some.ensures.fair i.users c.trade.new.users c.trade.new.journal c.args.at none c.in-Some.ensures.inside last
     history (c.trade.ensures.quotes ∙ made.ensures.quotes) c.revision.result c.revision.ensures)
-    (trade_next i.file i.journal opened c.args.name.now found.request.user found.ensures.user c.args.question.now found.request.question found.ensures.question ok.quote ok.ensures.quote
+    (trade_next i.file i.journal opened c.args.name.now found.request.user found.ensures.user
+    c.args.question.now found.request.question found.ensures.question ok.quote ok.ensures.quote
     c.args.to (c.in-Some.units.0) (c.in-Some.units.1) c.in-Some.ensures.fair i.users c.trade.new.users c.trade.new.journal c.args.at none c.in-Some.ensures.inside last
     history (c.trade.ensures.quotes ∙ made.ensures.quotes) c.revision.result c.revision.ensures)
     c.trade.ensures.history (c.trade.ensures.quotes ∙ made.ensures.quotes)
@@ -154,12 +205,17 @@ returns g c =
     let found = c.in_ok-request in
     let made = c.present_quote in
     let ok = c.in-Ok in
-    let none = edit_unrefused i.file i.journal.history c.args.name.now c.args.question.now c.args.to c.args.at found.request.question found.ensures.question.named
-    (left_by_quote i.file.net i.file.tree i.journal.history found.request.user found.request.question ok.quote ok.ensures.quote) found.ensures.refusal in
-    let last = last_is i.users found.request.user found.request.question (revision i.journal.history) made.result ok.quote ok.is made.ensures.last in
+    let none = edit_unrefused i.file i.journal.history c.args.name.now c.args.question.now c.args.to
+    c.args.at found.request.question found.ensures.question.named
+    (left_by_quote i.file.net i.file.tree i.journal.history found.request.user
+    found.request.question ok.quote ok.ensures.quote) found.ensures.refusal in
+    let last = last_is i.users found.request.user found.request.question
+    (revision i.journal.history) made.result ok.quote ok.is made.ensures.last in
     let opened = is_open g.P.Engine.stands_for g.A.Engine.stands_for g.A.Engine.plan_for i.file i.prices i.rows i.plan i.users i.ledger i.journal i.payments c.self.invariant in
     rw (← c.self.view_is)
-    (trade_answered i.file i.journal opened c.args.name.now found.request.user found.ensures.user c.args.question.now found.request.question found.ensures.question ok.quote ok.ensures.quote
+    (trade_answered i.file i.journal opened c.args.name.now found.request.user found.ensures.user
+    c.args.question.now found.request.question found.ensures.question ok.quote ok.ensures.quote
     c.args.to (c.in-Some.units.0) (c.in-Some.units.1) c.in-Some.ensures.fair i.users c.trade.new.users c.trade.new.journal c.args.at none c.in-Some.ensures.inside last
-    (c.trade.ensures.history ∙ ap (λ (r : TradeRatio). i.journal.history ++ Trade found.request.user r ∷ []) c.ratio_of_edit-ratio.ensures)
+    (c.trade.ensures.history ∙ ap (λ (r : TradeRatio). i.journal.history ++ Trade found.request.user
+    r ∷ []) c.ratio_of_edit-ratio.ensures)
     (c.trade.ensures.quotes ∙ made.ensures.quotes) c.revision.result c.revision.ensures i.ledger)

@@ -14,8 +14,11 @@ use Rattle.mk_market.proofs.market.Market.limits.Goals as goal
 pub returns-in_err-request : goal.returns-in_err-request
 returns-in_err-request g c =
     let i = c.self.inside in
-    answered_refused c.args.self.now _ c.self.view_is (Ask c.args.name.now c.args.question.now) tt c.in_err-request.field-0.0 c.from_residual.result
-    c.from_residual.ensures.1 (by_record (market_of i.file) i.journal.history (Ask c.args.name.now c.args.question.now) c.in_err-request.field-0.0 c.in_err-request.ensures.refusal)
+    answered_refused c.args.self.now _ c.self.view_is (Ask c.args.name.now c.args.question.now) tt
+    c.in_err-request.field-0.0 c.from_residual.result
+    c.from_residual.ensures.1 (by_record (market_of i.file) i.journal.history
+    (Ask c.args.name.now c.args.question.now) c.in_err-request.field-0.0
+    c.in_err-request.ensures.refusal)
 
 pub invariant_of-self : goal.invariant_of-self
 invariant_of-self g c =
@@ -30,7 +33,8 @@ returns-in-Err g c =
     let found = c.in_ok-request in
     let made = c.fresh_quote in
     rw (← c.self.view_is)
-    (limits_stopped i.file i.ledger i.journal i.users made.new.users made.ensures.quotes c.args.name.now c.args.question.now c.refuse_decided.result found.ensures.refusal
+    (limits_stopped i.file i.ledger i.journal i.users made.new.users made.ensures.quotes
+    c.args.name.now c.args.question.now c.refuse_decided.result found.ensures.refusal
     (c.refuse_decided.ensures.refusal i.file.net i.file.tree i.journal.history (made.ensures.prices (weights_of i.file.net i.file.tree i.journal.history) c.self.invariant.prices_stand)
     (is_open g.P.Engine.stands_for g.A.Engine.stands_for g.A.Engine.plan_for i.file i.prices i.rows i.plan i.users i.ledger i.journal i.payments c.self.invariant)
     (record { named = found.ensures.question.named; known = limits_known i.file i.journal.history c.args.name.now c.args.question.now found.ensures.refusal }) c.in-Err.ensures.quote))
@@ -41,14 +45,21 @@ invariant_of-self-2 g c =
     let found = c.in_ok-request in
     let made = c.fresh_quote in
     let ok = c.in-Ok in
-    let none = limits_unrefused i.file i.journal.history c.args.name.now c.args.question.now found.request.question found.ensures.question.named
-    (left_by_quote i.file.net i.file.tree i.journal.history found.request.user found.request.question ok.quote ok.ensures.quote) found.ensures.refusal in
-    let are = quote_was_set g.A.Engine.stands_for i.users made.new.users c.set_quote.new.self found.request.user (Limits ok.quote) made.ensures.names made.ensures.quotes
-    made.ensures.assets (in_range i.users (users i.journal.history) found.request.user c.self.invariant.named found.ensures.user.within) c.set_quote.ensures in
+    let none = limits_unrefused i.file i.journal.history c.args.name.now c.args.question.now
+    found.request.question found.ensures.question.named
+    (left_by_quote i.file.net i.file.tree i.journal.history found.request.user
+    found.request.question ok.quote ok.ensures.quote) found.ensures.refusal in
+    let are = quote_was_set g.A.Engine.stands_for i.users made.new.users c.set_quote.new.self
+    found.request.user (Limits ok.quote) made.ensures.names made.ensures.quotes
+    made.ensures.assets (in_range i.users (users i.journal.history) found.request.user
+    c.self.invariant.named found.ensures.user.within) c.set_quote.ensures in
     kept_quoted g.P.Engine.stands_for g.A.Engine.stands_for g.A.Engine.plan_for i.file i.prices made.new.prices i.rows i.plan i.users c.set_quote.new.self i.ledger i.journal i.payments
-    c.self.invariant found.request.user (Limits ok.quote) (kept_quote i.file.net i.file.tree i.journal.history found.request.user found.request.question ok.quote ok.ensures.quote) are made.ensures.prices _ _
+    c.self.invariant found.request.user (Limits ok.quote)
+    (kept_quote i.file.net i.file.tree i.journal.history found.request.user
+    found.request.question ok.quote ok.ensures.quote) are made.ensures.prices _ _
     (limits_answered g.P.Engine.stands_for g.A.Engine.stands_for g.A.Engine.plan_for i.file i.prices i.rows i.plan i.users c.set_quote.new.self i.ledger i.journal i.payments
-    c.self.invariant c.args.name.now found.request.user found.ensures.user c.args.question.now found.request.question found.ensures.question ok.quote ok.ensures.quote are
+    c.self.invariant c.args.name.now found.request.user found.ensures.user c.args.question.now
+    found.request.question found.ensures.question ok.quote ok.ensures.quote are
     c.limits.result c.revision.result none c.limits.ensures.value c.limits.ensures.right c.revision.ensures)
 
 pub returns : goal.returns
@@ -57,11 +68,16 @@ returns g c =
     let found = c.in_ok-request in
     let made = c.fresh_quote in
     let ok = c.in-Ok in
-    let none = limits_unrefused i.file i.journal.history c.args.name.now c.args.question.now found.request.question found.ensures.question.named
-    (left_by_quote i.file.net i.file.tree i.journal.history found.request.user found.request.question ok.quote ok.ensures.quote) found.ensures.refusal in
-    let are = quote_was_set g.A.Engine.stands_for i.users made.new.users c.set_quote.new.self found.request.user (Limits ok.quote) made.ensures.names made.ensures.quotes
-    made.ensures.assets (in_range i.users (users i.journal.history) found.request.user c.self.invariant.named found.ensures.user.within) c.set_quote.ensures in
+    let none = limits_unrefused i.file i.journal.history c.args.name.now c.args.question.now
+    found.request.question found.ensures.question.named
+    (left_by_quote i.file.net i.file.tree i.journal.history found.request.user
+    found.request.question ok.quote ok.ensures.quote) found.ensures.refusal in
+    let are = quote_was_set g.A.Engine.stands_for i.users made.new.users c.set_quote.new.self
+    found.request.user (Limits ok.quote) made.ensures.names made.ensures.quotes
+    made.ensures.assets (in_range i.users (users i.journal.history) found.request.user
+    c.self.invariant.named found.ensures.user.within) c.set_quote.ensures in
     rw (← c.self.view_is)
     (limits_answered g.P.Engine.stands_for g.A.Engine.stands_for g.A.Engine.plan_for i.file i.prices i.rows i.plan i.users c.set_quote.new.self i.ledger i.journal i.payments
-    c.self.invariant c.args.name.now found.request.user found.ensures.user c.args.question.now found.request.question found.ensures.question ok.quote ok.ensures.quote are
+    c.self.invariant c.args.name.now found.request.user found.ensures.user c.args.question.now
+    found.request.question found.ensures.question ok.quote ok.ensures.quote are
     c.limits.result c.revision.result none c.limits.ensures.value c.limits.ensures.right c.revision.ensures)

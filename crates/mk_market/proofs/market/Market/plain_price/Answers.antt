@@ -15,7 +15,8 @@ price_of-requires g c =
       tree = i.file.tree;
       history = i.journal.history;
       stands = c.self.invariant.prices_stand;
-      is_open = is_open g.P.Engine.stands_for g.A.Engine.stands_for g.A.Engine.plan_for i.file i.prices i.rows i.plan i.users i.ledger i.journal i.payments c.self.invariant;
+      is_open = is_open g.P.Engine.stands_for g.A.Engine.stands_for g.A.Engine.plan_for i.file
+          i.prices i.rows i.plan i.users i.ledger i.journal i.payments c.self.invariant;
       answered = found.ensures.question.answered;
       held = home_is_held i.file.tree found.home (pairs_asked found.asked) found.ensures.home;
     }

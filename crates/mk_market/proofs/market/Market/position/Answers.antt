@@ -34,80 +34,114 @@ position_of-requires-clause-assets g c =
       history = i.journal.history;
       user = found.request.user;
       owns = c.self.invariant.owns found.request.user c.assets.result.now c.assets.ensures.value;
-      is_open = is_open g.P.Engine.stands_for g.A.Engine.stands_for g.A.Engine.plan_for i.file i.prices i.rows i.plan i.users i.ledger i.journal i.payments c.self.invariant;
+      is_open = is_open g.P.Engine.stands_for g.A.Engine.stands_for g.A.Engine.plan_for i.file
+          i.prices i.rows i.plan i.users i.ledger i.journal i.payments c.self.invariant;
       answered = found.ensures.question.answered;
-      held = λ value. value_is_held i.file.tree found.request.home (spread_in found.request.question) value found.ensures.home;
+      held = λ value. value_is_held i.file.tree found.request.home
+          (spread_in found.request.question) value found.ensures.home;
     }
 
 pub invariant_of-self : goal.invariant_of-self
 invariant_of-self g c =
     let i = c.self.inside in let found = c.in_ok-request in
-    refiled _ _ _ _ _ _ _ _ g.P.Engine.stands_for g.A.Engine.stands_for g.A.Engine.plan_for _ _ _ _ _ _ _
-    (position_kept g.P.Engine.stands_for g.A.Engine.stands_for g.A.Engine.plan_for i.file i.prices i.rows i.plan i.users i.ledger i.journal i.payments c.self.invariant i.prices (λ m stands. stands) found.request.user
-    c.assets.result.now c.position_of.new.assets c.assets.ensures.value c.position_of.ensures.kept_assets)
+    refiled _ _ _ _ _ _ _ _ g.P.Engine.stands_for g.A.Engine.stands_for g.A.Engine.plan_for _ _ _ _
+    _ _ _
+    (position_kept g.P.Engine.stands_for g.A.Engine.stands_for g.A.Engine.plan_for i.file i.prices
+    i.rows i.plan i.users i.ledger i.journal i.payments c.self.invariant i.prices
+    (λ m stands. stands) found.request.user
+    c.assets.result.now c.position_of.new.assets c.assets.ensures.value
+    c.position_of.ensures.kept_assets)
 
 pub refuse_condition-requires : goal.refuse_condition-requires
 refuse_condition-requires g c =
     let i = c.self.inside in let found = c.in_ok-request in let H = i.journal.history in
-    let opened = is_open g.P.Engine.stands_for g.A.Engine.stands_for g.A.Engine.plan_for i.file i.prices i.rows i.plan i.users i.ledger i.journal i.payments c.self.invariant in
+    let opened = is_open g.P.Engine.stands_for g.A.Engine.stands_for g.A.Engine.plan_for i.file
+    i.prices i.rows i.plan i.users i.ledger i.journal i.payments c.self.invariant in
     let command = Position c.args.name.now c.args.variable.now c.args.condition.now in
     let none = found.ensures.refusal c.args.condition.now (sym c.as_slice-words.ensures.value) in
-    let known = (none_applies (refusals_by_record (market_of i.file) H command) (sym none)).1.1.1.0 in
+    let known = (none_applies (refusals_by_record (market_of i.file) H command) (sym none)).1.1.1.0
+    in
     can_refuse_told g.P.Engine.stands_for i.prices i.file.net i.file.tree H
     c.self.invariant.prices_stand opened
-    c.args.variable.now c.as_slice-words.result.now (spread_in found.request.question) found.ensures.question.named
-    (known_of i.file.net c.as_slice-words.result.now c.args.condition.now.items c.as_slice-words.ensures.value known)
+    c.args.variable.now c.as_slice-words.result.now (spread_in found.request.question)
+    found.ensures.question.named
+    (known_of i.file.net c.as_slice-words.result.now c.args.condition.now.items
+    c.as_slice-words.ensures.value known)
     found.ensures.question.answered found.request.home found.ensures.home
-    (c.in-None.ensures.position i.file.tree H found.request.user (c.self.invariant.owns found.request.user c.assets.result.now c.assets.ensures.value)
+    (c.in-None.ensures.position i.file.tree H found.request.user
+    (c.self.invariant.owns found.request.user c.assets.result.now c.assets.ensures.value)
     opened found.ensures.question.answered)
 
 pub invariant_of-self-in-None : goal.invariant_of-self-in-None
 invariant_of-self-in-None g c =
     let i = c.self.inside in let found = c.in_ok-request in
-    refiled _ _ _ _ _ _ _ _ g.P.Engine.stands_for g.A.Engine.stands_for g.A.Engine.plan_for _ _ _ _ _ _ _
-    (position_kept g.P.Engine.stands_for g.A.Engine.stands_for g.A.Engine.plan_for i.file i.prices i.rows i.plan i.users i.ledger i.journal i.payments c.self.invariant c.refuse_condition.new.prices c.refuse_condition.ensures.kept found.request.user
-    c.assets.result.now c.position_of.new.assets c.assets.ensures.value c.position_of.ensures.kept_assets)
+    refiled _ _ _ _ _ _ _ _ g.P.Engine.stands_for g.A.Engine.stands_for g.A.Engine.plan_for _ _ _ _
+    _ _ _
+    (position_kept g.P.Engine.stands_for g.A.Engine.stands_for g.A.Engine.plan_for i.file i.prices
+    i.rows i.plan i.users i.ledger i.journal i.payments c.self.invariant
+    c.refuse_condition.new.prices c.refuse_condition.ensures.kept found.request.user
+    c.assets.result.now c.position_of.new.assets c.assets.ensures.value
+    c.position_of.ensures.kept_assets)
 
 pub returns-in-Some : goal.returns-in-Some
 returns-in-Some g c =
     let i = c.self.inside in let found = c.in_ok-request in let H = i.journal.history in
-    let opened = is_open g.P.Engine.stands_for g.A.Engine.stands_for g.A.Engine.plan_for i.file i.prices i.rows i.plan i.users i.ledger i.journal i.payments c.self.invariant in
+    let opened = is_open g.P.Engine.stands_for g.A.Engine.stands_for g.A.Engine.plan_for i.file
+    i.prices i.rows i.plan i.users i.ledger i.journal i.payments c.self.invariant in
     let spread = spread_in found.request.question in
     let command = Position c.args.name.now c.args.variable.now c.args.condition.now in
-    let question = question_for i.file H c.args.variable.now c.as_slice-words.result.now c.args.condition.now spread c.as_slice-words.ensures.value found.ensures.question in
+    let question = question_for i.file H c.args.variable.now c.as_slice-words.result.now
+    c.args.condition.now spread c.as_slice-words.ensures.value found.ensures.question in
     let none = found.ensures.refusal c.args.condition.now (sym c.as_slice-words.ensures.value) in
     rw (← c.self.view_is) (record {
       same_market = refl;
-      allowed = position_allowed i.file (standing_of i.journal i.users) c.args.variable.now c.args.condition.now spread question
+      allowed = position_allowed i.file (standing_of i.journal i.users) c.args.variable.now
+          c.args.condition.now spread question
           c.args.name.now found.request.user found.ensures.user c.in-Some.intervals none
-          (c.in-Some.ensures.position i.file.tree H found.request.user (c.self.invariant.owns found.request.user c.assets.result.now c.assets.ensures.value)
+          (c.in-Some.ensures.position i.file.tree H found.request.user
+          (c.self.invariant.owns found.request.user c.assets.result.now c.assets.ensures.value)
           opened found.ensures.question.answered);
-      next = same_standing i.journal i.users found.request.user c.assets.result.now c.position_of.new.assets c.assets.ensures.value
-          ∙ none_appended (market_of i.file) (standing_of i.journal i.users) command (Sure c.in-Some.intervals) refl refl;
+      next = same_standing i.journal i.users found.request.user c.assets.result.now
+          c.position_of.new.assets c.assets.ensures.value
+          ∙ none_appended (market_of i.file) (standing_of i.journal i.users) command
+          (Sure c.in-Some.intervals) refl refl;
       paid = λ u. refl;
     })
 
 pub returns-in-None : goal.returns-in-None
 returns-in-None g c =
     let i = c.self.inside in let found = c.in_ok-request in let H = i.journal.history in
-    let opened = is_open g.P.Engine.stands_for g.A.Engine.stands_for g.A.Engine.plan_for i.file i.prices i.rows i.plan i.users i.ledger i.journal i.payments c.self.invariant in
+    let opened = is_open g.P.Engine.stands_for g.A.Engine.stands_for g.A.Engine.plan_for i.file
+    i.prices i.rows i.plan i.users i.ledger i.journal i.payments c.self.invariant in
     let spread = spread_in found.request.question in
     let command = Position c.args.name.now c.args.variable.now c.args.condition.now in
-    let question = question_for i.file H c.args.variable.now c.as_slice-words.result.now c.args.condition.now spread c.as_slice-words.ensures.value found.ensures.question in
+    let question = question_for i.file H c.args.variable.now c.as_slice-words.result.now
+    c.args.condition.now spread c.as_slice-words.ensures.value found.ensures.question in
     let none = found.ensures.refusal c.args.condition.now (sym c.as_slice-words.ensures.value) in
-    let known = (none_applies (refusals_by_record (market_of i.file) H command) (sym none)).1.1.1.0 in
+    let known = (none_applies (refusals_by_record (market_of i.file) H command) (sym none)).1.1.1.0
+    in
     let words = c.as_slice-words.result.now in
     let by : IsConditionBy i.file.net words spread.condition = record {
-      known = known_of i.file.net words c.args.condition.now.items c.as_slice-words.ensures.value known;
-      named = (spread_parts i.file.net c.args.variable.now words spread found.ensures.question.named).2;
+      known = known_of i.file.net words c.args.condition.now.items c.as_slice-words.ensures.value
+          known;
+      named = (spread_parts i.file.net c.args.variable.now words spread
+          found.ensures.question.named).2;
     } in
-    let refused = c.refuse_condition.ensures.refusal i.file.net i.file.tree H c.self.invariant.prices_stand opened by
-    (c.in-None.ensures.position i.file.tree H found.request.user (c.self.invariant.owns found.request.user c.assets.result.now c.assets.ensures.value) opened found.ensures.question.answered) in
+    let refused = c.refuse_condition.ensures.refusal i.file.net i.file.tree H
+    c.self.invariant.prices_stand opened by
+    (c.in-None.ensures.position i.file.tree H found.request.user
+    (c.self.invariant.owns found.request.user c.assets.result.now c.assets.ensures.value) opened
+    found.ensures.question.answered) in
     rw (← c.self.view_is) (record {
       same_market = refl;
-      allowed = position_stopped i.file (standing_of i.journal i.users) c.args.variable.now c.args.condition.now spread question
-          c.args.name.now c.refuse_condition.result none (ap (impossible_together i.file.net H) (sym c.as_slice-words.ensures.value) ∙ refused);
-      next = same_standing i.journal i.users found.request.user c.assets.result.now c.position_of.new.assets c.assets.ensures.value
-          ∙ none_appended (market_of i.file) (standing_of i.journal i.users) command (Refused c.refuse_condition.result) refl refl;
+      allowed = position_stopped i.file (standing_of i.journal i.users) c.args.variable.now
+          c.args.condition.now spread question
+          c.args.name.now c.refuse_condition.result none
+          (ap (impossible_together i.file.net H) (sym c.as_slice-words.ensures.value) ∙
+          refused);
+      next = same_standing i.journal i.users found.request.user c.assets.result.now
+          c.position_of.new.assets c.assets.ensures.value
+          ∙ none_appended (market_of i.file) (standing_of i.journal i.users) command
+          (Refused c.refuse_condition.result) refl refl;
       paid = λ u. refl;
     })

@@ -24,7 +24,8 @@ price_of-requires g c =
       tree = i.file.tree;
       history = i.journal.history;
       stands = c.self.invariant.prices_stand;
-      is_open = is_open g.P.Engine.stands_for g.A.Engine.stands_for g.A.Engine.plan_for i.file i.prices i.rows i.plan i.users i.ledger i.journal i.payments c.self.invariant;
+      is_open = is_open g.P.Engine.stands_for g.A.Engine.stands_for g.A.Engine.plan_for i.file
+          i.prices i.rows i.plan i.users i.ledger i.journal i.payments c.self.invariant;
       answered = found.ensures.question.answered;
       held = home_is_held i.file.tree found.home (pairs_asked found.asked) found.ensures.home;
     }
@@ -38,7 +39,8 @@ refuse_condition-requires g c =
     can_refuse_condition g.P.Engine.stands_for c.price_of.new.prices i.file.net i.file.tree i.journal.history
     (c.price_of.ensures.kept (weights_of i.file.net i.file.tree i.journal.history) c.self.invariant.prices_stand) opened c.args.question.now found.asked
     found.ensures.question.named (price_known i.file i.journal.history c.args.question.now found.ensures.refusal) found.ensures.question.answered
-    found.home found.ensures.home c.condition.result c.as_slice.result.now c.condition.ensures.condition c.as_slice.ensures.value (price.none.0 refl)
+    found.home found.ensures.home c.condition.result c.as_slice.result.now
+    c.condition.ensures.condition c.as_slice.ensures.value (price.none.0 refl)
 
 pub returns-in-Some : goal.returns-in-Some
 returns-in-Some g c =
@@ -56,7 +58,8 @@ returns-in-None g c =
     let found = c.in_ok-asked in
     let opened = is_open g.P.Engine.stands_for g.A.Engine.stands_for g.A.Engine.plan_for i.file i.prices i.rows i.plan i.users i.ledger i.journal i.payments c.self.invariant in
     let price = c.in-None.ensures.price i.file.tree i.journal.history c.self.invariant.prices_stand opened found.ensures.question.answered in
-    rw (← c.self.view_is) (price_stopped i.file i.ledger i.journal i.users i.users refl c.args.question.now c.refuse_condition.result found.ensures.refusal
+    rw (← c.self.view_is) (price_stopped i.file i.ledger i.journal i.users i.users refl
+    c.args.question.now c.refuse_condition.result found.ensures.refusal
     (impossible_by i.file.net i.journal.history c.args.question.now found.asked
     (record { named = found.ensures.question.named; known = price_known i.file i.journal.history c.args.question.now found.ensures.refusal })
     c.condition.result c.as_slice.result.now c.refuse_condition.result c.condition.ensures.condition c.as_slice.ensures.value (price.none.0 refl)

@@ -31,60 +31,84 @@ prices_of-requires g c =
       tree = i.file.tree;
       history = i.journal.history;
       stands = c.self.invariant.prices_stand;
-      is_open = is_open g.P.Engine.stands_for g.A.Engine.stands_for g.A.Engine.plan_for i.file i.prices i.rows i.plan i.users i.ledger i.journal i.payments c.self.invariant;
+      is_open = is_open g.P.Engine.stands_for g.A.Engine.stands_for g.A.Engine.plan_for i.file
+          i.prices i.rows i.plan i.users i.ledger i.journal i.payments c.self.invariant;
       answered = found.ensures.question.answered;
-      held = λ value. value_is_held i.file.tree found.home (spread_in found.asked) value found.ensures.home;
+      held = λ value. value_is_held i.file.tree found.home (spread_in found.asked) value
+          found.ensures.home;
     }
 
 pub refuse_condition-requires : goal.refuse_condition-requires
 refuse_condition-requires g c =
     let i = c.self.inside in let found = c.in_ok-asked in let H = i.journal.history in
-    let opened = is_open g.P.Engine.stands_for g.A.Engine.stands_for g.A.Engine.plan_for i.file i.prices i.rows i.plan i.users i.ledger i.journal i.payments c.self.invariant in
+    let opened = is_open g.P.Engine.stands_for g.A.Engine.stands_for g.A.Engine.plan_for i.file
+    i.prices i.rows i.plan i.users i.ledger i.journal i.payments c.self.invariant in
     let command = Prices c.args.variable.now c.args.condition.now in
     let none = found.ensures.refusal c.args.condition.now (sym c.as_slice-words.ensures.value) in
     let known = (none_applies (refusals_by_record (market_of i.file) H command) (sym none)).1.1.0 in
     can_refuse_told g.P.Engine.stands_for c.prices_of.new.prices i.file.net i.file.tree H
-    (c.prices_of.ensures.kept (weights_of i.file.net i.file.tree H) c.self.invariant.prices_stand) opened
-    c.args.variable.now c.as_slice-words.result.now (spread_in found.asked) found.ensures.question.named
-    (known_of i.file.net c.as_slice-words.result.now c.args.condition.now.items c.as_slice-words.ensures.value known)
+    (c.prices_of.ensures.kept (weights_of i.file.net i.file.tree H) c.self.invariant.prices_stand)
+    opened
+    c.args.variable.now c.as_slice-words.result.now (spread_in found.asked)
+    found.ensures.question.named
+    (known_of i.file.net c.as_slice-words.result.now c.args.condition.now.items
+    c.as_slice-words.ensures.value known)
     found.ensures.question.answered found.home found.ensures.home
-    (c.in-None.ensures.prices i.file.tree H c.self.invariant.prices_stand opened found.ensures.question.answered)
+    (c.in-None.ensures.prices i.file.tree H c.self.invariant.prices_stand opened
+    found.ensures.question.answered)
 
 pub returns-in-Some : goal.returns-in-Some
 returns-in-Some g c =
     let i = c.self.inside in let found = c.in_ok-asked in let H = i.journal.history in
-    let opened = is_open g.P.Engine.stands_for g.A.Engine.stands_for g.A.Engine.plan_for i.file i.prices i.rows i.plan i.users i.ledger i.journal i.payments c.self.invariant in
-    let spread = spread_in found.asked in let command = Prices c.args.variable.now c.args.condition.now in
-    let question = question_for i.file H c.args.variable.now c.as_slice-words.result.now c.args.condition.now spread c.as_slice-words.ensures.value found.ensures.question in
+    let opened = is_open g.P.Engine.stands_for g.A.Engine.stands_for g.A.Engine.plan_for i.file
+    i.prices i.rows i.plan i.users i.ledger i.journal i.payments c.self.invariant in
+    let spread = spread_in found.asked in let command = Prices c.args.variable.now
+    c.args.condition.now in
+    let question = question_for i.file H c.args.variable.now c.as_slice-words.result.now
+    c.args.condition.now spread c.as_slice-words.ensures.value found.ensures.question in
     let none = found.ensures.refusal c.args.condition.now (sym c.as_slice-words.ensures.value) in
     rw (← c.self.view_is) (record {
       same_market = refl;
-      allowed = prices_allowed i.file (standing_of i.journal i.users) c.args.variable.now c.args.condition.now spread question
+      allowed = prices_allowed i.file (standing_of i.journal i.users) c.args.variable.now
+          c.args.condition.now spread question
           c.in-Some.intervals none
-          (c.in-Some.ensures.prices i.file.tree H c.self.invariant.prices_stand opened found.ensures.question.answered);
-      next = none_appended (market_of i.file) (standing_of i.journal i.users) command (Told c.in-Some.intervals) refl refl;
+          (c.in-Some.ensures.prices i.file.tree H c.self.invariant.prices_stand opened
+          found.ensures.question.answered);
+      next = none_appended (market_of i.file) (standing_of i.journal i.users) command
+          (Told c.in-Some.intervals) refl refl;
       paid = λ u. refl;
     })
 
 pub returns-in-None : goal.returns-in-None
 returns-in-None g c =
     let i = c.self.inside in let found = c.in_ok-asked in let H = i.journal.history in
-    let opened = is_open g.P.Engine.stands_for g.A.Engine.stands_for g.A.Engine.plan_for i.file i.prices i.rows i.plan i.users i.ledger i.journal i.payments c.self.invariant in
-    let spread = spread_in found.asked in let command = Prices c.args.variable.now c.args.condition.now in
-    let question = question_for i.file H c.args.variable.now c.as_slice-words.result.now c.args.condition.now spread c.as_slice-words.ensures.value found.ensures.question in
+    let opened = is_open g.P.Engine.stands_for g.A.Engine.stands_for g.A.Engine.plan_for i.file
+    i.prices i.rows i.plan i.users i.ledger i.journal i.payments c.self.invariant in
+    let spread = spread_in found.asked in let command = Prices c.args.variable.now
+    c.args.condition.now in
+    let question = question_for i.file H c.args.variable.now c.as_slice-words.result.now
+    c.args.condition.now spread c.as_slice-words.ensures.value found.ensures.question in
     let none = found.ensures.refusal c.args.condition.now (sym c.as_slice-words.ensures.value) in
     let known = (none_applies (refusals_by_record (market_of i.file) H command) (sym none)).1.1.0 in
     let words = c.as_slice-words.result.now in
     let by : IsConditionBy i.file.net words spread.condition = record {
-      known = known_of i.file.net words c.args.condition.now.items c.as_slice-words.ensures.value known;
-      named = (spread_parts i.file.net c.args.variable.now words spread found.ensures.question.named).2;
+      known = known_of i.file.net words c.args.condition.now.items c.as_slice-words.ensures.value
+          known;
+      named = (spread_parts i.file.net c.args.variable.now words spread
+          found.ensures.question.named).2;
     } in
-    let refused = c.refuse_condition.ensures.refusal i.file.net i.file.tree H (c.prices_of.ensures.kept (weights_of i.file.net i.file.tree H) c.self.invariant.prices_stand) opened by
-    (c.in-None.ensures.prices i.file.tree H c.self.invariant.prices_stand opened found.ensures.question.answered) in
+    let refused = c.refuse_condition.ensures.refusal i.file.net i.file.tree H
+    (c.prices_of.ensures.kept (weights_of i.file.net i.file.tree H)
+    c.self.invariant.prices_stand) opened by
+    (c.in-None.ensures.prices i.file.tree H c.self.invariant.prices_stand opened
+    found.ensures.question.answered) in
     rw (← c.self.view_is) (record {
       same_market = refl;
-      allowed = prices_stopped i.file (standing_of i.journal i.users) c.args.variable.now c.args.condition.now spread question
-          c.refuse_condition.result none (ap (impossible_together i.file.net H) (sym c.as_slice-words.ensures.value) ∙ refused);
-      next = none_appended (market_of i.file) (standing_of i.journal i.users) command (Refused c.refuse_condition.result) refl refl;
+      allowed = prices_stopped i.file (standing_of i.journal i.users) c.args.variable.now
+          c.args.condition.now spread question
+          c.refuse_condition.result none (ap (impossible_together i.file.net H)
+          (sym c.as_slice-words.ensures.value) ∙ refused);
+      next = none_appended (market_of i.file) (standing_of i.journal i.users) command
+          (Refused c.refuse_condition.result) refl refl;
       paid = λ u. refl;
     })

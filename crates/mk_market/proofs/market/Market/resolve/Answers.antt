@@ -6,33 +6,41 @@ use Rattle.mk_command.specs.declared.command.Command.TheVariants.{Resolve}
 use Rattle.mk_reply.specs.declared.refusal.Refusal.TheVariants.{Impossible}
 use Rattle.mk_market.specs.inner.Keeping.{standing_of}
 use Rattle.mk_market.proofs.Replies.{refused_stays}
-use Rattle.mk_market.proofs.Resolved.{has_home, can_be_told, can_ask, few_known, unrefused_where, never_answered, asked_kept, resolution_allowed, resolution_next, resolution_kept}
+use Rattle.mk_market.proofs.Resolved.{has_home, can_be_told, can_ask, few_known, unrefused_where}
+use Rattle.mk_market.proofs.Resolved.{never_answered, asked_kept, resolution_allowed}
+use Rattle.mk_market.proofs.Resolved.{resolution_next, resolution_kept}
 use Rattle.mk_market.proofs.Refiled.{refiled}
 use Rattle.mk_market.proofs.market.Market.resolve.Goals as goal
 
 pub home_of-home-requires : goal.home_of-home-requires
-home_of-home-requires g c = has_home g.P.Engine.stands_for g.A.Engine.stands_for g.A.Engine.plan_for _ _ _ _ _ _ _ _ c.self.invariant c.args.words.now c.in_ok-pair.pair
+home_of-home-requires g c = has_home g.P.Engine.stands_for g.A.Engine.stands_for g.A.Engine.plan_for
+    _ _ _ _ _ _ _ _ c.self.invariant c.args.words.now c.in_ok-pair.pair
     c.in_ok-pair.ensures.named c.in_ok-pair.ensures.pair
 
 pub can_come-requires : goal.can_come-requires
 can_come-requires g c = can_ask g.P.Engine.stands_for g.A.Engine.stands_for g.A.Engine.plan_for _ _ _ _ _ _ _ _ c.self.invariant c.args.words.now c.in_ok-pair.pair
-    c.in_ok-pair.ensures.named c.in_ok-pair.ensures.pair c.home_of-home.result c.home_of-home.ensures
+    c.in_ok-pair.ensures.named c.in_ok-pair.ensures.pair c.home_of-home.result
+    c.home_of-home.ensures
 
 pub know-requires-clause-home : goal.know-requires-clause-home
 know-requires-clause-home g c =
     let i = c.self.inside in
-    g.met.P.Engine.home_is_place c.can_come.new.prices (weights_of i.file.net i.file.tree i.journal.history) c.home_of-home.result (c.in_ok-pair.pair ∷ [])
+    g.met.P.Engine.home_is_place c.can_come.new.prices
+    (weights_of i.file.net i.file.tree i.journal.history) c.home_of-home.result
+    (c.in_ok-pair.pair ∷ [])
     (c.can_come.ensures.kept _ c.self.invariant.prices_stand) c.home_of-home.ensures
 
 pub know-requires-2-clause-home : goal.know-requires-2-clause-home
 know-requires-2-clause-home g c =
     let i = c.self.inside in
-    g.met.A.Engine.home_is_place i.rows (rows_of i.file.net i.file.tree i.journal.history) c.home_of-home.result (c.in_ok-pair.pair ∷ [])
+    g.met.A.Engine.home_is_place i.rows (rows_of i.file.net i.file.tree i.journal.history)
+    c.home_of-home.result (c.in_ok-pair.pair ∷ [])
     c.self.invariant.rows_stand c.home_of-home.ensures
 
 pub tell-requires : goal.tell-requires
 tell-requires g c = can_be_told g.P.Engine.stands_for g.A.Engine.stands_for g.A.Engine.plan_for _ _ _ _ _ _ _ _ c.self.invariant c.args.words.now c.in_ok-pair.pair
-    c.in_ok-pair.ensures.named c.in_ok-pair.ensures.pair c.home_of-home.result c.home_of-home.ensures
+    c.in_ok-pair.ensures.named c.in_ok-pair.ensures.pair c.home_of-home.result
+    c.home_of-home.ensures
 
 pub resolve-requires : goal.resolve-requires
 resolve-requires g c = few_known g.P.Engine.stands_for g.A.Engine.stands_for g.A.Engine.plan_for _ _ _ _ _ _ _ _ c.self.invariant c.args.words.now c.in_ok-pair.pair

@@ -1,5 +1,6 @@
 use Rattle.std.proofs.Common.{refl}
-use Rattle.mk_market.proofs.Settlement.{settlement_allowed, settlement_next, settlement_paid, settlement_kept}
+use Rattle.mk_market.proofs.Settlement.{settlement_allowed, settlement_next, settlement_paid}
+use Rattle.mk_market.proofs.Settlement.{settlement_kept}
 use Rattle.mk_market.proofs.market.Market.settle.Goals as goal
 
 pub invariant_of-self : goal.invariant_of-self
@@ -16,7 +17,10 @@ returns g c =
           c.pay.new.users c.settle.new.self c.settle.ensures.history c.pay.ensures.quotes c.pay.new.payments c.pay.ensures.payments c.revision.result c.revision.ensures;
       next = settlement_next g.P.Engine.stands_for g.A.Engine.stands_for g.A.Engine.plan_for _ _ _ _ _ _ _ _ c.self.invariant c.in_ok-refuse_settle.ensures.resolved c.in_ok-refuse_settle.ensures.refusal
           c.pay.new.users c.settle.new.self c.settle.ensures.history c.pay.ensures.quotes c.pay.new.payments c.pay.ensures.payments c.revision.result c.revision.ensures;
-      paid = settlement_paid g.P.Engine.stands_for g.A.Engine.stands_for g.A.Engine.plan_for _ _ _ _ _ _ _ _ c.self.invariant c.in_ok-refuse_settle.ensures.resolved c.in_ok-refuse_settle.ensures.refusal
-          c.pay.new.users c.settle.new.self c.settle.ensures.history c.pay.ensures.quotes c.pay.new.payments c.pay.ensures.payments c.revision.result c.revision.ensures
+      paid = settlement_paid g.P.Engine.stands_for g.A.Engine.stands_for g.A.Engine.plan_for _ _ _ _
+          _ _ _ _ c.self.invariant c.in_ok-refuse_settle.ensures.resolved
+          c.in_ok-refuse_settle.ensures.refusal
+          c.pay.new.users c.settle.new.self c.settle.ensures.history c.pay.ensures.quotes
+          c.pay.new.payments c.pay.ensures.payments c.revision.result c.revision.ensures
           c.pay.new.ledger c.pay.ensures.ledger;
     })

@@ -17,7 +17,8 @@ use Rattle.mk_market.specs.inner.Stopped.{IsRefusedFor}
 use Rattle.mk_market.proofs.Growing.{is_open}
 use Rattle.mk_market.proofs.Refiled.{refiled}
 use Rattle.mk_market.proofs.Replies.{by_record}
-use Rattle.mk_market.proofs.Spreads.{spread_refused_answered, question_for, of_values, ratio_is, spread_trade_allowed, spread_trade_next, spread_trade_answered}
+use Rattle.mk_market.proofs.Spreads.{spread_refused_answered, question_for, of_values, ratio_is}
+use Rattle.mk_market.proofs.Spreads.{spread_trade_allowed, spread_trade_next, spread_trade_answered}
 use Rattle.mk_market.proofs.StoppedSpreads.{can_refuse, spread_known, one_share_each, spread_unrefused, turned_may_stop, stopped_answered, stopped_kept}
 use Rattle.mk_market.proofs.Trades.{in_use, can_be_made, trade_kept}
 use Rattle.mk_market.proofs.market.Market.spread.Goals as goal
@@ -25,9 +26,13 @@ use Rattle.mk_market.proofs.market.Market.spread.Goals as goal
 pub returns-in_err-request : goal.returns-in_err-request
 returns-in_err-request g c =
     let command = Spread c.args.name.now c.args.variable.now c.args.condition.now c.args.to.now c.args.at in
-    spread_refused_answered c.args.self.now _ c.self.view_is c.args.name.now c.args.variable.now c.args.condition.now c.args.to.now c.args.at c.in_err-request.field-0.0 c.from_residual.result
+    spread_refused_answered c.args.self.now _ c.self.view_is c.args.name.now c.args.variable.now
+    c.args.condition.now c.args.to.now c.args.at c.in_err-request.field-0.0
+    c.from_residual.result
     c.from_residual.ensures.1
-    (by_record (market_of c.self.inside.file) c.self.inside.journal.history command c.in_err-request.field-0.0 (c.in_err-request.ensures.refusal c.args.condition.now c.args.to.now (sym c.as_slice.ensures.value) (sym c.as_slice-2.ensures.value)))
+    (by_record (market_of c.self.inside.file) c.self.inside.journal.history command
+    c.in_err-request.field-0.0 (c.in_err-request.ensures.refusal c.args.condition.now
+    c.args.to.now (sym c.as_slice.ensures.value) (sym c.as_slice-2.ensures.value)))
 
 pub judge_spread-requires-clause-in_use : goal.judge_spread-requires-clause-in_use
 judge_spread-requires-clause-in_use g c =
@@ -44,7 +49,8 @@ judge_spread-requires-clause-one_each g c =
     let none = found.ensures.refusal c.args.condition.now c.args.to.now (sym c.as_slice.ensures.value) (sym c.as_slice-2.ensures.value) in
     subst (λ (Xs : List ℕ). length Xs ≡ slice_index (sizes i.file.net) spread.variable) (sym c.as_slice-3.ensures.value)
     (one_share_each g.P.Engine.stands_for g.A.Engine.stands_for g.A.Engine.plan_for i.file i.prices i.rows i.plan i.users i.ledger i.journal i.payments c.self.invariant
-    i.prices i.users c.args.name.now found.request.user found.ensures.user c.args.variable.now c.args.condition.now spread question c.args.to.now c.args.at none)
+    i.prices i.users c.args.name.now found.request.user found.ensures.user c.args.variable.now
+    c.args.condition.now spread question c.args.to.now c.args.at none)
 
 pub refuse_stopped-requires : goal.refuse_stopped-requires
 refuse_stopped-requires g c =
@@ -54,16 +60,23 @@ refuse_stopped-requires g c =
     let spread = spread_in found.request.question in
     let question = question_for i.file i.journal.history c.args.variable.now c.as_slice.result.now c.args.condition.now spread c.as_slice.ensures.value found.ensures.question in
     let none = found.ensures.refusal c.args.condition.now c.args.to.now (sym c.as_slice.ensures.value) (sym c.as_slice-2.ensures.value) in
-    let down = subst (λ (Xs : List ℕ). IsTurnedDown i.file.net i.file.tree i.journal.history found.request.user spread (quotes_of i.users) (quotes_of made.new.users) Xs c.in-Err.why)
+    let down = subst (λ (Xs : List ℕ). IsTurnedDown i.file.net i.file.tree i.journal.history
+    found.request.user spread (quotes_of i.users) (quotes_of made.new.users) Xs c.in-Err.why)
     c.as_slice-3.ensures.value c.in-Err.ensures.judged in
     let one_each = one_share_each g.P.Engine.stands_for g.A.Engine.stands_for g.A.Engine.plan_for i.file i.prices i.rows i.plan i.users i.ledger i.journal i.payments c.self.invariant
-    made.new.prices made.new.users c.args.name.now found.request.user found.ensures.user c.args.variable.now c.args.condition.now spread question c.args.to.now c.args.at none in
-    let may = turned_may_stop i.file.net i.file.tree i.journal.history found.request.user spread (quotes_of i.users) (quotes_of made.new.users) c.args.to.now.items one_each c.in-Err.why down in
+    made.new.prices made.new.users c.args.name.now found.request.user found.ensures.user
+    c.args.variable.now c.args.condition.now spread question c.args.to.now c.args.at none in
+    let may = turned_may_stop i.file.net i.file.tree i.journal.history found.request.user spread
+    (quotes_of i.users) (quotes_of made.new.users) c.args.to.now.items one_each c.in-Err.why
+    down in
     can_refuse g.P.Engine.stands_for g.A.Engine.stands_for g.A.Engine.plan_for i.file i.prices i.rows i.plan i.users i.ledger i.journal i.payments c.self.invariant
-    made.new.prices made.new.users c.args.name.now found.request.user found.ensures.user c.args.variable.now c.args.condition.now spread question
-    found.request refl found.ensures.home c.as_slice-in-Err.result.now c.as_slice-in-Err.ensures.value
+    made.new.prices made.new.users c.args.name.now found.request.user found.ensures.user
+    c.args.variable.now c.args.condition.now spread question
+    found.request refl found.ensures.home c.as_slice-in-Err.result.now
+    c.as_slice-in-Err.ensures.value
     (spread_known g.P.Engine.stands_for g.A.Engine.stands_for g.A.Engine.plan_for i.file i.prices i.rows i.plan i.users i.ledger i.journal i.payments c.self.invariant
-    made.new.prices made.new.users c.args.name.now found.request.user found.ensures.user c.args.variable.now c.args.condition.now spread question c.args.to.now c.args.at none)
+    made.new.prices made.new.users c.args.name.now found.request.user found.ensures.user
+    c.args.variable.now c.args.condition.now spread question c.args.to.now c.args.at none)
     c.in-Err.ensures.prices c.in-Err.why may
 
 pub invariant_of-self : goal.invariant_of-self
@@ -74,17 +87,22 @@ invariant_of-self g c =
     let spread = spread_in found.request.question in
     let question = question_for i.file i.journal.history c.args.variable.now c.as_slice.result.now c.args.condition.now spread c.as_slice.ensures.value found.ensures.question in
     let none = found.ensures.refusal c.args.condition.now c.args.to.now (sym c.as_slice.ensures.value) (sym c.as_slice-2.ensures.value) in
-    let down = subst (λ (Xs : List ℕ). IsTurnedDown i.file.net i.file.tree i.journal.history found.request.user spread (quotes_of i.users) (quotes_of made.new.users) Xs c.in-Err.why)
+    let down = subst (λ (Xs : List ℕ). IsTurnedDown i.file.net i.file.tree i.journal.history
+    found.request.user spread (quotes_of i.users) (quotes_of made.new.users) Xs c.in-Err.why)
     c.as_slice-3.ensures.value c.in-Err.ensures.judged in
     let one_each = one_share_each g.P.Engine.stands_for g.A.Engine.stands_for g.A.Engine.plan_for i.file i.prices i.rows i.plan i.users i.ledger i.journal i.payments c.self.invariant
-    made.new.prices made.new.users c.args.name.now found.request.user found.ensures.user c.args.variable.now c.args.condition.now spread question c.args.to.now c.args.at none in
-    let may = turned_may_stop i.file.net i.file.tree i.journal.history found.request.user spread (quotes_of i.users) (quotes_of made.new.users) c.args.to.now.items one_each c.in-Err.why down in
+    made.new.prices made.new.users c.args.name.now found.request.user found.ensures.user
+    c.args.variable.now c.args.condition.now spread question c.args.to.now c.args.at none in
+    let may = turned_may_stop i.file.net i.file.tree i.journal.history found.request.user spread
+    (quotes_of i.users) (quotes_of made.new.users) c.args.to.now.items one_each c.in-Err.why
+    down in
     let opened = is_open g.P.Engine.stands_for g.A.Engine.stands_for g.A.Engine.plan_for i.file i.prices i.rows i.plan i.users i.ledger i.journal i.payments c.self.invariant in
     let refused = subst (λ (words : List PairText). IsRefusedFor i.file.net i.journal.history c.args.variable.now words spread c.in-Err.why c.refuse_stopped.result) c.as_slice-in-Err.ensures.value
     (c.refuse_stopped.ensures.refusal i.file.tree i.journal.history (c.in-Err.ensures.prices _ c.self.invariant.prices_stand) opened may) in
     refiled _ _ _ _ _ _ _ _ g.P.Engine.stands_for g.A.Engine.stands_for g.A.Engine.plan_for _ _ _ _ _ _ _
     (stopped_kept g.P.Engine.stands_for g.A.Engine.stands_for g.A.Engine.plan_for i.file i.prices i.rows i.plan i.users i.ledger i.journal i.payments c.self.invariant
-    c.refuse_stopped.new.prices made.new.users c.args.name.now found.request.user found.ensures.user c.args.variable.now c.args.condition.now spread question c.args.to.now c.args.at none
+    c.refuse_stopped.new.prices made.new.users c.args.name.now found.request.user found.ensures.user
+    c.args.variable.now c.args.condition.now spread question c.args.to.now c.args.at none
     c.in-Err.why c.refuse_stopped.result down refused
     (record { prices_beside = λ m stands. c.refuse_stopped.ensures.kept m (c.in-Err.ensures.prices m stands); names_beside = c.in-Err.ensures.names; assets_beside = c.in-Err.ensures.assets }))
 
@@ -96,17 +114,22 @@ returns-in-Err g c =
     let spread = spread_in found.request.question in
     let question = question_for i.file i.journal.history c.args.variable.now c.as_slice.result.now c.args.condition.now spread c.as_slice.ensures.value found.ensures.question in
     let none = found.ensures.refusal c.args.condition.now c.args.to.now (sym c.as_slice.ensures.value) (sym c.as_slice-2.ensures.value) in
-    let down = subst (λ (Xs : List ℕ). IsTurnedDown i.file.net i.file.tree i.journal.history found.request.user spread (quotes_of i.users) (quotes_of made.new.users) Xs c.in-Err.why)
+    let down = subst (λ (Xs : List ℕ). IsTurnedDown i.file.net i.file.tree i.journal.history
+    found.request.user spread (quotes_of i.users) (quotes_of made.new.users) Xs c.in-Err.why)
     c.as_slice-3.ensures.value c.in-Err.ensures.judged in
     let one_each = one_share_each g.P.Engine.stands_for g.A.Engine.stands_for g.A.Engine.plan_for i.file i.prices i.rows i.plan i.users i.ledger i.journal i.payments c.self.invariant
-    made.new.prices made.new.users c.args.name.now found.request.user found.ensures.user c.args.variable.now c.args.condition.now spread question c.args.to.now c.args.at none in
-    let may = turned_may_stop i.file.net i.file.tree i.journal.history found.request.user spread (quotes_of i.users) (quotes_of made.new.users) c.args.to.now.items one_each c.in-Err.why down in
+    made.new.prices made.new.users c.args.name.now found.request.user found.ensures.user
+    c.args.variable.now c.args.condition.now spread question c.args.to.now c.args.at none in
+    let may = turned_may_stop i.file.net i.file.tree i.journal.history found.request.user spread
+    (quotes_of i.users) (quotes_of made.new.users) c.args.to.now.items one_each c.in-Err.why
+    down in
     let opened = is_open g.P.Engine.stands_for g.A.Engine.stands_for g.A.Engine.plan_for i.file i.prices i.rows i.plan i.users i.ledger i.journal i.payments c.self.invariant in
     let refused = subst (λ (words : List PairText). IsRefusedFor i.file.net i.journal.history c.args.variable.now words spread c.in-Err.why c.refuse_stopped.result) c.as_slice-in-Err.ensures.value
     (c.refuse_stopped.ensures.refusal i.file.tree i.journal.history (c.in-Err.ensures.prices _ c.self.invariant.prices_stand) opened may) in
     rw (← c.self.view_is)
     (stopped_answered g.P.Engine.stands_for g.A.Engine.stands_for g.A.Engine.plan_for i.file i.prices i.rows i.plan i.users i.ledger i.journal i.payments c.self.invariant
-    c.refuse_stopped.new.prices made.new.users c.args.name.now found.request.user found.ensures.user c.args.variable.now c.args.condition.now spread question c.args.to.now c.args.at none
+    c.refuse_stopped.new.prices made.new.users c.args.name.now found.request.user found.ensures.user
+    c.args.variable.now c.args.condition.now spread question c.args.to.now c.args.at none
     c.in-Err.why c.refuse_stopped.result down refused)
 
 pub ratio_of_spread-ratio-requires-clause-of_values : goal.ratio_of_spread-ratio-requires-clause-of_values
@@ -118,10 +141,12 @@ ratio_of_spread-ratio-requires-clause-of_values g c =
     let question = question_for i.file i.journal.history c.args.variable.now c.as_slice.result.now c.args.condition.now spread c.as_slice.ensures.value found.ensures.question in
     let opened = is_open g.P.Engine.stands_for g.A.Engine.stands_for g.A.Engine.plan_for i.file i.prices i.rows i.plan i.users i.ledger i.journal i.payments c.self.invariant in
     let factors = c.in-Ok.factors in
-    let judged = subst (λ (Xs : List ℕ). IsTaken i.file.net i.file.tree i.journal.history found.request.user spread (quotes_of i.users) (quotes_of made.new.users) Xs factors.items)
+    let judged = subst (λ (Xs : List ℕ). IsTaken i.file.net i.file.tree i.journal.history
+    found.request.user spread (quotes_of i.users) (quotes_of made.new.users) Xs factors.items)
     c.as_slice-3.ensures.value c.in-Ok.ensures.judged in
     subst (λ (Fs : List ℕ). AreOfValues Fs) (sym c.as_slice-4.ensures.value)
-    ((of_values i.file i.journal opened c.args.name.now found.request.user found.ensures.user c.args.variable.now c.args.condition.now spread question judged.quote judged.judge.its
+    ((of_values i.file i.journal opened c.args.name.now found.request.user found.ensures.user
+    c.args.variable.now c.args.condition.now spread question judged.quote judged.judge.its
     c.args.to.now factors judged.is_inside.fair).0)
 
 pub ratio_of_spread-ratio-requires-clause-units : goal.ratio_of_spread-ratio-requires-clause-units
@@ -133,10 +158,12 @@ ratio_of_spread-ratio-requires-clause-units g c =
     let question = question_for i.file i.journal.history c.args.variable.now c.as_slice.result.now c.args.condition.now spread c.as_slice.ensures.value found.ensures.question in
     let opened = is_open g.P.Engine.stands_for g.A.Engine.stands_for g.A.Engine.plan_for i.file i.prices i.rows i.plan i.users i.ledger i.journal i.payments c.self.invariant in
     let factors = c.in-Ok.factors in
-    let judged = subst (λ (Xs : List ℕ). IsTaken i.file.net i.file.tree i.journal.history found.request.user spread (quotes_of i.users) (quotes_of made.new.users) Xs factors.items)
+    let judged = subst (λ (Xs : List ℕ). IsTaken i.file.net i.file.tree i.journal.history
+    found.request.user spread (quotes_of i.users) (quotes_of made.new.users) Xs factors.items)
     c.as_slice-3.ensures.value c.in-Ok.ensures.judged in
     subst (λ (Fs : List ℕ). All IsUnits Fs) (sym c.as_slice-4.ensures.value)
-    ((of_values i.file i.journal opened c.args.name.now found.request.user found.ensures.user c.args.variable.now c.args.condition.now spread question judged.quote judged.judge.its
+    ((of_values i.file i.journal opened c.args.name.now found.request.user found.ensures.user
+    c.args.variable.now c.args.condition.now spread question judged.quote judged.judge.its
     c.args.to.now factors judged.is_inside.fair).1)
 
 pub trade-requires : goal.trade-requires
@@ -148,13 +175,18 @@ trade-requires g c =
     let question = question_for i.file i.journal.history c.args.variable.now c.as_slice.result.now c.args.condition.now spread c.as_slice.ensures.value found.ensures.question in
     let opened = is_open g.P.Engine.stands_for g.A.Engine.stands_for g.A.Engine.plan_for i.file i.prices i.rows i.plan i.users i.ledger i.journal i.payments c.self.invariant in
     let factors = c.in-Ok.factors in
-    let judged = subst (λ (Xs : List ℕ). IsTaken i.file.net i.file.tree i.journal.history found.request.user spread (quotes_of i.users) (quotes_of made.new.users) Xs factors.items)
+    let judged = subst (λ (Xs : List ℕ). IsTaken i.file.net i.file.tree i.journal.history
+    found.request.user spread (quotes_of i.users) (quotes_of made.new.users) Xs factors.items)
     c.as_slice-3.ensures.value c.in-Ok.ensures.judged in
     let same = c.ratio_of_spread-ratio.ensures ∙ ap (λ (Fs : List ℕ). spread_ratio spread Fs) c.as_slice-4.ensures.value in
-    subst (λ (r : TradeRatio). CanBeMade g.P.Engine.stands_for g.A.Engine.stands_for made.new.prices made.new.users i.journal found.request.user found.request.home r) (sym same)
-    (can_be_made g.P.Engine.stands_for g.A.Engine.stands_for g.A.Engine.plan_for i.file i.prices i.rows i.plan i.users i.ledger i.journal i.payments c.self.invariant found.request.user found.ensures.user.within
+    subst (λ (r : TradeRatio). CanBeMade g.P.Engine.stands_for g.A.Engine.stands_for made.new.prices
+    made.new.users i.journal found.request.user found.request.home r) (sym same)
+    (can_be_made g.P.Engine.stands_for g.A.Engine.stands_for g.A.Engine.plan_for i.file i.prices
+    i.rows i.plan i.users i.ledger i.journal i.payments c.self.invariant found.request.user
+    found.ensures.user.within
     (spread_ratio spread factors.items) made.new.prices made.new.users c.in-Ok.ensures.prices c.in-Ok.ensures.assets c.in-Ok.ensures.names
-    (ratio_is i.file i.journal opened c.args.name.now found.request.user found.ensures.user c.args.variable.now c.args.condition.now spread question judged.quote judged.judge.its
+    (ratio_is i.file i.journal opened c.args.name.now found.request.user found.ensures.user
+    c.args.variable.now c.args.condition.now spread question judged.quote judged.judge.its
     c.args.to.now factors judged.is_inside.fair)
     found.request.home found.ensures.home found.ensures.room)
 
@@ -167,21 +199,29 @@ invariant_of-self-2 g c =
     let question = question_for i.file i.journal.history c.args.variable.now c.as_slice.result.now c.args.condition.now spread c.as_slice.ensures.value found.ensures.question in
     let opened = is_open g.P.Engine.stands_for g.A.Engine.stands_for g.A.Engine.plan_for i.file i.prices i.rows i.plan i.users i.ledger i.journal i.payments c.self.invariant in
     let factors = c.in-Ok.factors in
-    let judged = subst (λ (Xs : List ℕ). IsTaken i.file.net i.file.tree i.journal.history found.request.user spread (quotes_of i.users) (quotes_of made.new.users) Xs factors.items)
+    let judged = subst (λ (Xs : List ℕ). IsTaken i.file.net i.file.tree i.journal.history
+    found.request.user spread (quotes_of i.users) (quotes_of made.new.users) Xs factors.items)
     c.as_slice-3.ensures.value c.in-Ok.ensures.judged in
     let none = spread_unrefused g.P.Engine.stands_for g.A.Engine.stands_for g.A.Engine.plan_for i.file i.prices i.rows i.plan i.users i.ledger i.journal i.payments c.self.invariant
-    made.new.prices made.new.users c.args.name.now found.request.user found.ensures.user c.args.variable.now c.args.condition.now spread question c.args.to.now c.args.at
+    made.new.prices made.new.users c.args.name.now found.request.user found.ensures.user
+    c.args.variable.now c.args.condition.now spread question c.args.to.now c.args.at
     (found.ensures.refusal c.args.condition.now c.args.to.now (sym c.as_slice.ensures.value) (sym c.as_slice-2.ensures.value)) judged.quote judged.judge.its judged.is_inside.inside in
     let same = c.ratio_of_spread-ratio.ensures ∙ ap (λ (Fs : List ℕ). spread_ratio spread Fs) c.as_slice-4.ensures.value in
-    let history = c.trade.ensures.history ∙ ap (λ (r : TradeRatio). i.journal.history ++ Trade found.request.user r ∷ []) same in
+    let history = c.trade.ensures.history ∙ ap
+    (λ (r : TradeRatio). i.journal.history ++ Trade found.request.user r ∷ []) same in
     let quotes = c.trade.ensures.quotes ∙ judged.same_quotes in
-    trade_kept g.P.Engine.stands_for g.A.Engine.stands_for g.A.Engine.plan_for i.file i.prices i.rows i.plan i.users i.ledger i.journal i.payments c.self.invariant found.request.user found.ensures.user.within
+    trade_kept g.P.Engine.stands_for g.A.Engine.stands_for g.A.Engine.plan_for i.file i.prices
+    i.rows i.plan i.users i.ledger i.journal i.payments c.self.invariant found.request.user
+    found.ensures.user.within
     (trade_ratio c.ratio_of_spread-ratio.result) (Spread c.args.name.now c.args.variable.now c.args.condition.now c.args.to.now c.args.at) (Spreaded factors c.revision.result) tt none
     c.trade.new.users c.trade.new.journal
-    (spread_trade_allowed i.file i.journal opened c.args.name.now found.request.user found.ensures.user c.args.variable.now c.args.condition.now spread question judged.quote judged.judge.its
+    (spread_trade_allowed i.file i.journal opened c.args.name.now found.request.user
+    found.ensures.user c.args.variable.now c.args.condition.now spread question judged.quote
+    judged.judge.its
     c.args.to.now factors judged.is_inside.fair i.users c.trade.new.users c.trade.new.journal c.args.at none judged.is_inside.inside judged.judge.last history quotes
     c.revision.result c.revision.ensures)
-    (spread_trade_next i.file i.journal opened c.args.name.now found.request.user found.ensures.user c.args.variable.now c.args.condition.now spread question judged.quote judged.judge.its
+    (spread_trade_next i.file i.journal opened c.args.name.now found.request.user found.ensures.user
+    c.args.variable.now c.args.condition.now spread question judged.quote judged.judge.its
     c.args.to.now factors judged.is_inside.fair i.users c.trade.new.users c.trade.new.journal c.args.at none judged.is_inside.inside judged.judge.last history quotes
     c.revision.result c.revision.ensures)
     c.trade.ensures.history quotes c.trade.new.prices c.trade.ensures.limit (λ m stands. c.trade.ensures.prices m (c.in-Ok.ensures.prices m stands))
@@ -196,15 +236,20 @@ returns g c =
     let question = question_for i.file i.journal.history c.args.variable.now c.as_slice.result.now c.args.condition.now spread c.as_slice.ensures.value found.ensures.question in
     let opened = is_open g.P.Engine.stands_for g.A.Engine.stands_for g.A.Engine.plan_for i.file i.prices i.rows i.plan i.users i.ledger i.journal i.payments c.self.invariant in
     let factors = c.in-Ok.factors in
-    let judged = subst (λ (Xs : List ℕ). IsTaken i.file.net i.file.tree i.journal.history found.request.user spread (quotes_of i.users) (quotes_of made.new.users) Xs factors.items)
+    let judged = subst (λ (Xs : List ℕ). IsTaken i.file.net i.file.tree i.journal.history
+    found.request.user spread (quotes_of i.users) (quotes_of made.new.users) Xs factors.items)
     c.as_slice-3.ensures.value c.in-Ok.ensures.judged in
     let none = spread_unrefused g.P.Engine.stands_for g.A.Engine.stands_for g.A.Engine.plan_for i.file i.prices i.rows i.plan i.users i.ledger i.journal i.payments c.self.invariant
-    made.new.prices made.new.users c.args.name.now found.request.user found.ensures.user c.args.variable.now c.args.condition.now spread question c.args.to.now c.args.at
+    made.new.prices made.new.users c.args.name.now found.request.user found.ensures.user
+    c.args.variable.now c.args.condition.now spread question c.args.to.now c.args.at
     (found.ensures.refusal c.args.condition.now c.args.to.now (sym c.as_slice.ensures.value) (sym c.as_slice-2.ensures.value)) judged.quote judged.judge.its judged.is_inside.inside in
     let same = c.ratio_of_spread-ratio.ensures ∙ ap (λ (Fs : List ℕ). spread_ratio spread Fs) c.as_slice-4.ensures.value in
-    let history = c.trade.ensures.history ∙ ap (λ (r : TradeRatio). i.journal.history ++ Trade found.request.user r ∷ []) same in
+    let history = c.trade.ensures.history ∙ ap
+    (λ (r : TradeRatio). i.journal.history ++ Trade found.request.user r ∷ []) same in
     let quotes = c.trade.ensures.quotes ∙ judged.same_quotes in
     rw (← c.self.view_is)
-    (spread_trade_answered i.file i.journal opened c.args.name.now found.request.user found.ensures.user c.args.variable.now c.args.condition.now spread question judged.quote judged.judge.its
+    (spread_trade_answered i.file i.journal opened c.args.name.now found.request.user
+    found.ensures.user c.args.variable.now c.args.condition.now spread question judged.quote
+    judged.judge.its
     c.args.to.now factors judged.is_inside.fair i.users c.trade.new.users c.trade.new.journal c.args.at none judged.is_inside.inside judged.judge.last history quotes
     c.revision.result c.revision.ensures i.ledger)

@@ -28,7 +28,8 @@ pub invariant_of-self-2 : goal.invariant_of-self-2
 invariant_of-self-2 g c =
     refiled _ _ _ _ _ _ _ _ g.P.Engine.stands_for g.A.Engine.stands_for g.A.Engine.plan_for _ _ _ _ _ _ _
     (join_kept g.P.Engine.stands_for g.A.Engine.stands_for g.A.Engine.plan_for _ _ _ _ _ _ _ _ c.self.invariant c.args.name.now c.in-Ok.assets c.known-known.result.now c.known-known.ensures.same
-    c.in-Ok.ensures c.join.new.self c.in-Ok-join.ensures.ok c.join-2.new.self c.join-3.new.self c.join-3.ensures.history
+    c.in-Ok.ensures c.join.new.self c.in-Ok-join.ensures.ok c.join-2.new.self c.join-3.new.self
+    c.join-3.ensures.history
     (c.in_ok-refuse_user.ensures.refusal (market_of c.self.inside.file))
     c.bytes.ensures.name c.join-3.ensures.limit c.join-2.ensures)
 
@@ -37,12 +38,18 @@ returns g c =
     rw (← c.self.view_is) (record {
       same_market = refl;
       allowed = join_allowed g.P.Engine.stands_for g.A.Engine.stands_for g.A.Engine.plan_for _ _ _ _ _ _ _ _ c.self.invariant c.args.name.now c.in-Ok.assets c.known-known.result.now c.known-known.ensures.same
-          c.in-Ok.ensures c.join.new.self c.in-Ok-join.ensures.ok c.join-2.new.self c.join-3.new.self c.join-3.ensures.history
+          c.in-Ok.ensures c.join.new.self c.in-Ok-join.ensures.ok c.join-2.new.self
+          c.join-3.new.self c.join-3.ensures.history
           (c.in_ok-refuse_user.ensures.refusal (market_of c.self.inside.file)) c.revision.result c.revision.ensures;
       next = join_next g.P.Engine.stands_for g.A.Engine.stands_for g.A.Engine.plan_for _ _ _ _ _ _ _ _ c.self.invariant c.args.name.now c.in-Ok.assets c.known-known.result.now c.known-known.ensures.same
-          c.in-Ok.ensures c.join.new.self c.in-Ok-join.ensures.ok c.join-2.new.self c.join-3.new.self c.join-3.ensures.history
+          c.in-Ok.ensures c.join.new.self c.in-Ok-join.ensures.ok c.join-2.new.self
+          c.join-3.new.self c.join-3.ensures.history
           (c.in_ok-refuse_user.ensures.refusal (market_of c.self.inside.file)) c.revision.result;
-      paid = join_paid g.P.Engine.stands_for g.A.Engine.stands_for g.A.Engine.plan_for _ _ _ _ _ _ _ _ c.self.invariant c.args.name.now c.in-Ok.assets c.known-known.result.now c.known-known.ensures.same
-          c.in-Ok.ensures c.join.new.self c.in-Ok-join.ensures.ok c.join-2.new.self c.join-3.new.self c.join-3.ensures.history
-          (c.in_ok-refuse_user.ensures.refusal (market_of c.self.inside.file)) c.revision.result c.join-2.ensures;
+      paid = join_paid g.P.Engine.stands_for g.A.Engine.stands_for g.A.Engine.plan_for _ _ _ _ _ _ _
+          _ c.self.invariant c.args.name.now c.in-Ok.assets c.known-known.result.now
+          c.known-known.ensures.same
+          c.in-Ok.ensures c.join.new.self c.in-Ok-join.ensures.ok c.join-2.new.self
+          c.join-3.new.self c.join-3.ensures.history
+          (c.in_ok-refuse_user.ensures.refusal (market_of c.self.inside.file)) c.revision.result
+          c.join-2.ensures;
     })

@@ -3,7 +3,9 @@ use Rattle.mk_command.specs.declared.command.Command.TheVariants.{Withdraw}
 use Rattle.mk_file.specs.MarketOf.{market_of}
 use Rattle.mk_market.proofs.Replies.{answered_refused}
 use Rattle.mk_market.proofs.Worsts.{can_find, worst_kept}
-use Rattle.mk_market.proofs.Withdrawals.{points_fit, can_withdraw, short_allowed, short_next, withdrawal_kept, withdrawal_allowed, withdrawal_next, withdrawal_paid}
+use Rattle.mk_market.proofs.Withdrawals.{points_fit, can_withdraw, short_allowed, short_next}
+use Rattle.mk_market.proofs.Withdrawals.{withdrawal_kept, withdrawal_allowed, withdrawal_next}
+use Rattle.mk_market.proofs.Withdrawals.{withdrawal_paid}
 use Rattle.mk_market.proofs.market.Market.withdraw.Goals as goal
 
 pub returns-in_err-user : goal.returns-in_err-user
@@ -61,6 +63,8 @@ returns g c =
           c.assets-assets.result.now c.least_of.new.assets c.assets-assets.ensures.value c.least_of.ensures.kept
           c.least_of.result c.most_bits-most.result (c.in_ok-user.ensures.withdrawal (market_of c.self.inside.file)) c.least_of.ensures.least
           c.withdraw.new.self c.withdraw-2.new.self c.withdraw-3.new.self c.withdraw-3.ensures.history c.if-bits-most.false c.most_bits-most.ensures.covered c.revision.result;
-      paid = withdrawal_paid g.P.Engine.stands_for g.A.Engine.stands_for g.A.Engine.plan_for _ _ _ _ _ _ _ _ c.self.invariant c.args.name.now c.in_ok-user.user c.args.bits c.in_ok-user.ensures.user c.in_ok-user.ensures.room
+      paid = withdrawal_paid g.P.Engine.stands_for g.A.Engine.stands_for g.A.Engine.plan_for _ _ _ _
+          _ _ _ _ c.self.invariant c.args.name.now c.in_ok-user.user c.args.bits
+          c.in_ok-user.ensures.user c.in_ok-user.ensures.room
           c.withdraw-2.new.self c.withdraw-2.ensures c.revision.result;
     })

@@ -12,28 +12,34 @@ use Rattle.mk_tree_engine.proofs.engine.TreeEngineEngine.belief.Goals as goal
 
 pub collect-requires-clause-could : goal.collect-requires-clause-could
 collect-requires-clause-could g c =
-    let plus = g.R.Semiring.plus_of in let a = c.requires.range in let k = c.args.at in let event = c.args.event.now in
+    let plus = g.R.Semiring.plus_of in let a = c.requires.range in let k = c.args.at in let event =
+    c.args.event.now in
     let inside = c.self.inside in let old = marked inside.flow inside.marks.up.items inside.marks.down.items in
-    let held = subst (λ (e : MarkedFlow). IsHeldAt e.flow.shape.tree k event) (sym c.self.view_is) c.requires.held in
+    let held = subst (λ (e : MarkedFlow). IsHeldAt e.flow.shape.tree k event) (sym c.self.view_is)
+    c.requires.held in
     let at_k = clique_of inside.flow.shape.tree k event held in
     can_collect plus old c.self.invariant.marks_of a.meaning (stands_old plus old c.args.self.now a.meaning c.self.view_is a.stands) k at_k
 
 pub read-requires : goal.read-requires
 read-requires g c =
-    let plus = g.R.Semiring.plus_of in let a = c.requires.range in let k = c.args.at in let event = c.args.event.now in
+    let plus = g.R.Semiring.plus_of in let a = c.requires.range in let k = c.args.at in let event =
+    c.args.event.now in
     let inside = c.self.inside in let old = marked inside.flow inside.marks.up.items inside.marks.down.items in
     let last = marked c.collect.new.flow c.collect.new.marks.up.items c.collect.new.marks.down.items in
-    let held = subst (λ (e : MarkedFlow). IsHeldAt e.flow.shape.tree k event) (sym c.self.view_is) c.requires.held in
+    let held = subst (λ (e : MarkedFlow). IsHeldAt e.flow.shape.tree k event) (sym c.self.view_is)
+    c.requires.held in
     let at_k = clique_of inside.flow.shape.tree k event held in
     let h = stands_old plus old c.args.self.now a.meaning c.self.view_is a.stands in
-    can_read plus old c.self.invariant.marks_of k at_k last c.collect.ensures.made a.meaning h event held.held
+    can_read plus old c.self.invariant.marks_of k at_k last c.collect.ensures.made a.meaning h event
+    held.held
 
 pub invariant_of-self : goal.invariant_of-self
 invariant_of-self g c =
     let plus = g.R.Semiring.plus_of in let k = c.args.at in let event = c.args.event.now in
     let inside = c.self.inside in let old = marked inside.flow inside.marks.up.items inside.marks.down.items in
     let last = marked c.collect.new.flow c.collect.new.marks.up.items c.collect.new.marks.down.items in
-    let held = subst (λ (e : MarkedFlow). IsHeldAt e.flow.shape.tree k event) (sym c.self.view_is) c.requires.held in
+    let held = subst (λ (e : MarkedFlow). IsHeldAt e.flow.shape.tree k event) (sym c.self.view_is)
+    c.requires.held in
     let at_k = clique_of inside.flow.shape.tree k event held in
     subst (λ (s : ShapeOf). IsMarked s.tree c.collect.new.marks.up.items c.collect.new.marks.down.items c.collect.new.marks.collected) (sym c.read.ensures.kept.same_shape)
     (is_marked plus old c.self.invariant.marks_of k at_k last c.collect.ensures.made c.collect.new.marks.collected c.collect.ensures.collected)
@@ -43,7 +49,8 @@ returns-clause-kept g c = λ m stands.
     let plus = g.R.Semiring.plus_of in let k = c.args.at in let event = c.args.event.now in
     let inside = c.self.inside in let old = marked inside.flow inside.marks.up.items inside.marks.down.items in
     let last = marked c.collect.new.flow c.collect.new.marks.up.items c.collect.new.marks.down.items in
-    let held = subst (λ (e : MarkedFlow). IsHeldAt e.flow.shape.tree k event) (sym c.self.view_is) c.requires.held in
+    let held = subst (λ (e : MarkedFlow). IsHeldAt e.flow.shape.tree k event) (sym c.self.view_is)
+    c.requires.held in
     let at_k = clique_of inside.flow.shape.tree k event held in
     let h = stands_old plus old c.args.self.now m c.self.view_is stands in
     still_stands plus c.collect.new.flow c.read.new.self c.collect.new.marks.up.items c.collect.new.marks.down.items m c.read.ensures.kept c.read.ensures.still
@@ -51,10 +58,12 @@ returns-clause-kept g c = λ m stands.
 
 pub returns-clause-belief : goal.returns-clause-belief
 returns-clause-belief g c = λ m stands.
-    let R = g.R.Semiring in let plus = R.plus_of in let law = g.met.R.Semiring in let k = c.args.at in let event = c.args.event.now in
+    let R = g.R.Semiring in let plus = R.plus_of in let law = g.met.R.Semiring in let k = c.args.at
+    in let event = c.args.event.now in
     let inside = c.self.inside in let old = marked inside.flow inside.marks.up.items inside.marks.down.items in
     let last = marked c.collect.new.flow c.collect.new.marks.up.items c.collect.new.marks.down.items in
-    let held = subst (λ (e : MarkedFlow). IsHeldAt e.flow.shape.tree k event) (sym c.self.view_is) c.requires.held in
+    let held = subst (λ (e : MarkedFlow). IsHeldAt e.flow.shape.tree k event) (sym c.self.view_is)
+    c.requires.held in
     let at_k = clique_of inside.flow.shape.tree k event held in
     let h = stands_old plus old c.args.self.now m c.self.view_is stands in
     belief_of plus old c.self.invariant.marks_of k at_k last c.collect.ensures.made
@@ -68,28 +77,34 @@ returns-clause-counted g c =
     let plus = g.R.Semiring.plus_of in let k = c.args.at in let event = c.args.event.now in
     let inside = c.self.inside in let old = marked inside.flow inside.marks.up.items inside.marks.down.items in
     let last = marked c.collect.new.flow c.collect.new.marks.up.items c.collect.new.marks.down.items in
-    let held = subst (λ (e : MarkedFlow). IsHeldAt e.flow.shape.tree k event) (sym c.self.view_is) c.requires.held in
+    let held = subst (λ (e : MarkedFlow). IsHeldAt e.flow.shape.tree k event) (sym c.self.view_is)
+    c.requires.held in
     let at_k = clique_of inside.flow.shape.tree k event held in
     let few : IsCount inside.flow.computed = omega (arith, c.computed.ensures, c.computed.type_inv) in
     let counted = counts plus old c.self.invariant.marks_of k at_k last c.collect.ensures.made few in
-    subst (λ (o : MarkedFlow). c.read.new.self.computed ≡ counted_on o.flow.computed (stale_number o k)) c.self.view_is (c.read.ensures.kept.same_count ∙ counted)
+    subst (λ (o : MarkedFlow). c.read.new.self.computed ≡ counted_on o.flow.computed
+    (stale_number o k)) c.self.view_is (c.read.ensures.kept.same_count ∙ counted)
 
 pub returns-clause-marks : goal.returns-clause-marks
 returns-clause-marks g c =
     let plus = g.R.Semiring.plus_of in let k = c.args.at in let event = c.args.event.now in
     let inside = c.self.inside in let old = marked inside.flow inside.marks.up.items inside.marks.down.items in
     let last = marked c.collect.new.flow c.collect.new.marks.up.items c.collect.new.marks.down.items in
-    let held = subst (λ (e : MarkedFlow). IsHeldAt e.flow.shape.tree k event) (sym c.self.view_is) c.requires.held in
+    let held = subst (λ (e : MarkedFlow). IsHeldAt e.flow.shape.tree k event) (sym c.self.view_is)
+    c.requires.held in
     let at_k = clique_of inside.flow.shape.tree k event held in
     let read = marked c.read.new.self c.collect.new.marks.up.items c.collect.new.marks.down.items in
-    subst (λ (o : MarkedFlow). ClearsTowards o read k) c.self.view_is (clears plus old c.self.invariant.marks_of k at_k last c.collect.ensures.made)
+    subst (λ (o : MarkedFlow). ClearsTowards o read k) c.self.view_is
+    (clears plus old c.self.invariant.marks_of k at_k last c.collect.ensures.made)
 
 pub returns-clause-sharp : goal.returns-clause-sharp
 returns-clause-sharp g c = λ m stands.
-    let R = g.R.Semiring in let plus = R.plus_of in let law = g.met.R.Semiring in let k = c.args.at in let event = c.args.event.now in
+    let R = g.R.Semiring in let plus = R.plus_of in let law = g.met.R.Semiring in let k = c.args.at
+    in let event = c.args.event.now in
     let inside = c.self.inside in let old = marked inside.flow inside.marks.up.items inside.marks.down.items in
     let last = marked c.collect.new.flow c.collect.new.marks.up.items c.collect.new.marks.down.items in
-    let held = subst (λ (e : MarkedFlow). IsHeldAt e.flow.shape.tree k event) (sym c.self.view_is) c.requires.held in
+    let held = subst (λ (e : MarkedFlow). IsHeldAt e.flow.shape.tree k event) (sym c.self.view_is)
+    c.requires.held in
     let at_k = clique_of inside.flow.shape.tree k event held in
     let h = stands_old plus old c.args.self.now m c.self.view_is stands in
     sharp plus old c.self.invariant.marks_of k at_k last c.collect.ensures.made

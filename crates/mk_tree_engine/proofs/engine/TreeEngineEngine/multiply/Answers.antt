@@ -16,11 +16,16 @@ times_ratio-requires g c =
     let inside = c.self.inside in let old = marked inside.flow inside.marks.up.items inside.marks.down.items in let a = c.requires.range in
     let ratio = trade_ratio c.args.ratio.now in let tree = inside.flow.shape.tree in
     let h = stands_old g.R.Semiring.plus_of old c.args.self.now a.meaning c.self.view_is a.stands in
-    let at_home = subst (λ (e : MarkedFlow). home e.flow.shape.tree (ratio_pairs ratio) ≡ Some c.args.clique) (sym c.self.view_is) c.requires.home in
+    let at_home = subst (λ (e : MarkedFlow). home e.flow.shape.tree (ratio_pairs ratio) ≡ Some
+    c.args.clique) (sym c.self.view_is) c.requires.home in
     let holds = home_is_held tree c.args.clique (ratio_pairs ratio) at_home in (
       placing_of a.meaning,
       can_place g.R.Semiring.plus_of old a.meaning h a.room,
-      record { clique_is = clique_of tree c.args.clique (ratio_pairs ratio) holds; fits = (a.in_range, holds.held) },
+      record {
+        clique_is = clique_of tree c.args.clique (ratio_pairs ratio) holds;
+        fits =
+            (a.in_range, holds.held);
+      },
     )
 
 pub invariant_of-self : goal.invariant_of-self
@@ -28,7 +33,9 @@ invariant_of-self g c =
     let inside = c.self.inside in
     let said = c.mark_away.ensures in
     is_marked_after inside.flow c.times_ratio.new.self inside.marks.up.items inside.marks.down.items c.mark_away.new.self.up.items c.mark_away.new.self.down.items
-    c.args.clique c.shape.result.now c.self.invariant.marks_of (c.shape.ensures ∙ c.times_ratio.ensures.kept.same_shape) said.up said.down c.times_ratio.ensures.kept.same_shape
+    c.args.clique c.shape.result.now c.self.invariant.marks_of
+    (c.shape.ensures ∙ c.times_ratio.ensures.kept.same_shape) said.up said.down
+    c.times_ratio.ensures.kept.same_shape
     inside.marks.collected c.mark_away.new.self.collected c.self.invariant.current said.collected
 
 pub returns-clause-stands : goal.returns-clause-stands
@@ -38,9 +45,13 @@ returns-clause-stands g c = λ m stands.
     let new = marked c.times_ratio.new.self c.mark_away.new.self.up.items c.mark_away.new.self.down.items in
     let clique = c.args.clique in
     let h = stands_old plus old c.args.self.now m c.self.view_is stands in
-    let at_home = ratio_place m.network m.tree clique ratio (subst (λ (t : GivenTree). home t (ratio_pairs ratio) ≡ Some clique) stands.tree_is c.requires.home) in
+    let at_home = ratio_place m.network m.tree clique ratio
+    (subst (λ (t : GivenTree). home t (ratio_pairs ratio) ≡ Some clique) stands.tree_is
+    c.requires.home) in
     let moved = away inside.flow c.times_ratio.new.self inside.marks.up.items inside.marks.down.items c.mark_away.new.self.up.items c.mark_away.new.self.down.items
-    clique c.shape.result.now c.self.invariant.marks_of (c.shape.ensures ∙ c.times_ratio.ensures.kept.same_shape) c.mark_away.ensures.up c.mark_away.ensures.down in
+    clique c.shape.result.now c.self.invariant.marks_of
+    (c.shape.ensures ∙ c.times_ratio.ensures.kept.same_shape) c.mark_away.ensures.up
+    c.mark_away.ensures.down in
     stands_after plus old m h new (with_factor (RatioOf ratio) m) clique (with_factor_in clique (RatioOf ratio) (placing_of m))
     (factor_placed m (RatioOf ratio) clique at_home) refl c.times_ratio.ensures.kept.same_shape (c.times_ratio.ensures.places (placing_of m) h.placed) moved
 
@@ -49,5 +60,7 @@ returns-clause-marks g c =
     let inside = c.self.inside in let old = marked inside.flow inside.marks.up.items inside.marks.down.items in
     let new = marked c.times_ratio.new.self c.mark_away.new.self.up.items c.mark_away.new.self.down.items in
     let moved = away inside.flow c.times_ratio.new.self inside.marks.up.items inside.marks.down.items c.mark_away.new.self.up.items c.mark_away.new.self.down.items
-    c.args.clique c.shape.result.now c.self.invariant.marks_of (c.shape.ensures ∙ c.times_ratio.ensures.kept.same_shape) c.mark_away.ensures.up c.mark_away.ensures.down in
+    c.args.clique c.shape.result.now c.self.invariant.marks_of
+    (c.shape.ensures ∙ c.times_ratio.ensures.kept.same_shape) c.mark_away.ensures.up
+    c.mark_away.ensures.down in
     away_now old c.args.self.now new c.args.clique c.args.clique c.self.view_is refl moved
