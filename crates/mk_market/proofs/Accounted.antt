@@ -12,7 +12,7 @@ use Rattle.mk_rules.specs.Bounded.{FitsTransfer}
 use Rattle.mk_cash.specs.declared.ledger.Account.{Account}
 use Rattle.mk_cash.specs.Accounts.{account_of, empty_account}
 use Rattle.mk_market.specs.Points.{IsAccount, AreAccounts}
-use Rattle.mk_market.proofs.Appends.{not_there}
+use Rattle.mk_record.proofs.Appends.{not_there}
 use Rattle.mk_market.proofs.Owned.{none_moved}
 
 -- an account that is set to one that was paid the same leaves what was paid, and so does one that

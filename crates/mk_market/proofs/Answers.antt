@@ -23,9 +23,9 @@ use Rattle.mk_rules.specs.Transcript.{OfCommand, IsAllowedFor, after}
 use Rattle.mk_answers.specs.Open.{IsOpen, CanBeAnswered}
 use Rattle.mk_answers.specs.Results.{IsPriceFor}
 use Rattle.mk_rules.proofs.Unrefused.{target_named}
-use Rattle.mk_market.specs.declared.users.Member.{Member}
-use Rattle.mk_market.specs.Journals.{JournalOf}
-use Rattle.mk_market.specs.Refused.{IsQuestionFor}
+use Rattle.mk_record.specs.declared.users.Member.{Member}
+use Rattle.mk_record.specs.Journals.{JournalOf}
+use Rattle.mk_record.specs.Refused.{IsQuestionFor}
 use Rattle.mk_market.specs.inner.Keeping.{standing_of, IsKept}
 use Rattle.mk_market.proofs.Growing.{is_open}
 use Rattle.mk_market.proofs.Replies.{answer_allowed, none_appended, unrefused}

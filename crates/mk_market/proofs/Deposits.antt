@@ -14,7 +14,7 @@ use Rattle.mk_assets.specs.declared.assets.Assets.{Assets}
 use Rattle.mk_assets.specs.Holdings.{Holding, Owns, CanDeposit, max_bits, with_deposit}
 use Rattle.mk_cash.specs.declared.ledger.Account.{Account}
 use Rattle.mk_cash.specs.Accounts.{account_of}
-use Rattle.mk_market.specs.declared.last_quote.LastQuote.{LastQuote}
+use Rattle.mk_record.specs.declared.last_quote.LastQuote.{LastQuote}
 use Rattle.mk_command.specs.declared.command.Command.TheVariants.{Deposit}
 use Rattle.mk_reply.specs.declared.payments.Payment.{Payment}
 use Rattle.mk_reply.specs.declared.reply.Reply.{Reply}
@@ -22,13 +22,13 @@ use Rattle.mk_reply.specs.declared.reply.Reply.TheVariants.{Deposited}
 use Rattle.mk_rules.specs.Refusals.{first_refusal}
 use Rattle.mk_rules.specs.Transcript.{OfCommand, IsAllowedFor, after}
 use Rattle.mk_answers.specs.Open.{holding_of}
-use Rattle.mk_market.specs.declared.users.Member.{Member}
-use Rattle.mk_market.specs.Journals.{JournalOf}
-use Rattle.mk_market.specs.Members.{assets_of, quotes_of, with_assets}
+use Rattle.mk_record.specs.declared.users.Member.{Member}
+use Rattle.mk_record.specs.Journals.{JournalOf}
+use Rattle.mk_record.specs.Members.{assets_of, quotes_of, with_assets}
 use Rattle.mk_market.specs.Points.{IsAccount, ArePaidBy}
-use Rattle.mk_market.specs.Refused.{IsUser, HasRoomForTransfer}
+use Rattle.mk_record.specs.Refused.{IsUser, HasRoomForTransfer}
 use Rattle.mk_market.specs.inner.Keeping.{quoted, standing_of, IsKept}
-use Rattle.mk_market.proofs.Appends.{not_there, not_found}
+use Rattle.mk_record.proofs.Appends.{not_there, not_found}
 use Rattle.mk_market.proofs.Growing.{kept_grown}
 use Rattle.mk_market.proofs.Owned.{names_same, quotes_same, owned_one, deposit_holding, deposit_others, few_moved}
 use Rattle.mk_market.proofs.Accounted.{paid_set, accounts_deposited}

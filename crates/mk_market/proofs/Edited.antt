@@ -37,12 +37,12 @@ use Rattle.mk_rules.proofs.Quoted.{same_question_is}
 use Rattle.mk_answers.specs.Open.{IsOpen}
 use Rattle.mk_answers.specs.Results.{AreBothLeft}
 use Rattle.mk_answers.proofs.Weaker.{right_by_bounds, fair_by_bounds}
-use Rattle.mk_market.specs.declared.last_quote.LastQuote.{LastQuote}
-use Rattle.mk_market.specs.declared.last_quote.LastQuote.TheVariants.{Limits as LastLimits, Bounds as LastBounds}
-use Rattle.mk_market.specs.declared.users.Member.{Member}
-use Rattle.mk_market.specs.Journals.{JournalOf}
-use Rattle.mk_market.specs.Members.{quotes_of}
-use Rattle.mk_market.specs.Refused.{IsUser, IsQuestionFor}
+use Rattle.mk_record.specs.declared.last_quote.LastQuote.{LastQuote}
+use Rattle.mk_record.specs.declared.last_quote.LastQuote.TheVariants.{Limits as LastLimits, Bounds as LastBounds}
+use Rattle.mk_record.specs.declared.users.Member.{Member}
+use Rattle.mk_record.specs.Journals.{JournalOf}
+use Rattle.mk_record.specs.Members.{quotes_of}
+use Rattle.mk_record.specs.Refused.{IsUser, IsQuestionFor}
 use Rattle.mk_market.specs.Trading.{Trading, IsAnswered, reply_of}
 use Rattle.mk_market.specs.inner.Keeping.{quoted, standing_of, IsKeptQuote, IsKept}
 use Rattle.mk_market.specs.inner.Quoting.{IsQuoteOf}

@@ -40,11 +40,11 @@ use Rattle.mk_assets.specs.declared.assets.Assets.{Assets}
 use Rattle.mk_assets.specs.Holdings.{Holding, Owns}
 use Rattle.mk_cash.specs.declared.ledger.Account.{Account}
 use Rattle.mk_reply.specs.declared.payments.Payment.{Payment}
-use Rattle.mk_market.specs.declared.last_quote.LastQuote.{LastQuote}
-use Rattle.mk_market.specs.declared.users.Member.{Member}
-use Rattle.mk_market.specs.Journals.{JournalOf}
-use Rattle.mk_market.specs.Members.{assets_of, with_assets}
-use Rattle.mk_market.specs.Refused.{IsUser, IsSpreadQuestionFor}
+use Rattle.mk_record.specs.declared.last_quote.LastQuote.{LastQuote}
+use Rattle.mk_record.specs.declared.users.Member.{Member}
+use Rattle.mk_record.specs.Journals.{JournalOf}
+use Rattle.mk_record.specs.Members.{assets_of, with_assets}
+use Rattle.mk_record.specs.Refused.{IsUser, IsSpreadQuestionFor}
 use Rattle.mk_market.specs.inner.Keeping.{IsKept, quoted, standing_of}
 use Rattle.mk_market.proofs.Growing.{kept_still}
 use Rattle.mk_market.proofs.Owned.{names_same, quotes_same, all_still}

@@ -14,7 +14,7 @@ use Rattle.mk_beliefs.proofs.Initials.{rows_grow}
 use Rattle.mk_assets.specs.declared.assets.Assets.{Assets}
 use Rattle.mk_assets.specs.Holdings.{Holding, Owns}
 use Rattle.mk_cash.specs.declared.ledger.Account.{Account}
-use Rattle.mk_market.specs.declared.last_quote.LastQuote.{LastQuote}
+use Rattle.mk_record.specs.declared.last_quote.LastQuote.{LastQuote}
 use Rattle.mk_command.specs.declared.command.Command.{Command}
 use Rattle.mk_reply.specs.declared.payments.Payment.{Payment}
 use Rattle.mk_reply.specs.declared.reply.Reply.{Reply}
@@ -24,9 +24,9 @@ use Rattle.mk_rules.specs.Bounded.{JoinsByName, IsBounded}
 use Rattle.mk_rules.proofs.Ready.{ready_keeps}
 use Rattle.mk_rules.proofs.Follows.{names_keep_bounds}
 use Rattle.mk_answers.specs.Open.{IsOpen, holding_of}
-use Rattle.mk_market.specs.declared.users.Member.{Member}
-use Rattle.mk_market.specs.Journals.{JournalOf}
-use Rattle.mk_market.specs.Members.{names_of, assets_of, quotes_of}
+use Rattle.mk_record.specs.declared.users.Member.{Member}
+use Rattle.mk_record.specs.Journals.{JournalOf}
+use Rattle.mk_record.specs.Members.{names_of, assets_of, quotes_of}
 use Rattle.mk_market.specs.Points.{AreAccounts}
 use Rattle.mk_market.specs.inner.Keeping.{quoted, standing_of, IsKeptQuote, IsKept}
 

@@ -22,13 +22,13 @@ use Rattle.mk_reply.specs.declared.reply.Reply.TheVariants.{Joined, Refused}
 use Rattle.mk_rules.specs.Refusals.{first_refusal}
 use Rattle.mk_rules.specs.Quotes.{Quotes}
 use Rattle.mk_rules.specs.Transcript.{OfCommand, IsAllowedFor, after}
-use Rattle.mk_market.specs.declared.users.Member.{Member}
-use Rattle.mk_market.specs.Journals.{JournalOf}
-use Rattle.mk_market.specs.Members.{new_member, names_of, quotes_of}
+use Rattle.mk_record.specs.declared.users.Member.{Member}
+use Rattle.mk_record.specs.Journals.{JournalOf}
+use Rattle.mk_record.specs.Members.{new_member, names_of, quotes_of}
 use Rattle.mk_market.specs.Points.{ArePaidBy}
 use Rattle.mk_market.specs.Trading.{Trading, IsAnswered}
 use Rattle.mk_market.specs.inner.Keeping.{quoted, standing_of, IsKept}
-use Rattle.mk_market.proofs.Appends.{not_there}
+use Rattle.mk_record.proofs.Appends.{not_there}
 use Rattle.mk_market.proofs.Growing.{kept_grown}
 use Rattle.mk_market.proofs.Owned.{owned_joined, none_quoted_joined}
 use Rattle.mk_market.proofs.Accounted.{paid_opened, accounts_joined}

@@ -8,8 +8,8 @@ use Rattle.mk_spread.specs.Spreads.{SpreadAsked}
 use Rattle.mk_tree.specs.Given.{GivenTree}
 use Rattle.mk_quote.specs.declared.spread_quote.SpreadQuote.{SpreadQuote}
 use Rattle.mk_quote.specs.Spreads.{IsSpreadFor}
-use Rattle.mk_market.specs.declared.last_quote.LastQuote.{LastQuote}
-use Rattle.mk_market.specs.declared.last_quote.LastQuote.TheVariants.{Bounds}
+use Rattle.mk_record.specs.declared.last_quote.LastQuote.{LastQuote}
+use Rattle.mk_record.specs.declared.last_quote.LastQuote.TheVariants.{Bounds}
 use Rattle.mk_market.specs.declared.possible.Stopped.{Stopped}
 use Rattle.mk_market.specs.declared.possible.Stopped.TheVariants.{Decided, ImpossibleShare, MissingShare, Outside}
 use Rattle.mk_market.specs.inner.Keeping.{AreKeptQuotes}

@@ -7,9 +7,9 @@ use Rattle.std.proofs.Math.Seq.{map-set_same}
 use Rattle.mk_engine.specs.Meaning.{Meaning}
 use Rattle.mk_assets.specs.declared.assets.Assets.{Assets}
 use Rattle.mk_assets.specs.Holdings.{Holding, Owns}
-use Rattle.mk_market.specs.declared.last_quote.LastQuote.{LastQuote}
-use Rattle.mk_market.specs.declared.users.Member.{Member}
-use Rattle.mk_market.specs.Members.{names_of, assets_of, quotes_of, with_member, with_assets, with_quote}
+use Rattle.mk_record.specs.declared.last_quote.LastQuote.{LastQuote}
+use Rattle.mk_record.specs.declared.users.Member.{Member}
+use Rattle.mk_record.specs.Members.{names_of, assets_of, quotes_of, with_member, with_assets, with_quote}
 use Rattle.mk_market.specs.inner.Quoting.{OwnsAt}
 
 -- what is read of a list of which one item was set is that item, or was there

@@ -1,12 +1,5 @@
-pub mod Changed
-pub mod Appends
-pub mod Counts
-pub mod KnownVariables
-pub mod Gathering
-pub mod Refusing
 pub mod Together
 pub mod EveryValue
-pub mod SpreadRefusals
 pub mod NamesKept
 pub mod Growing
 pub mod Refiled

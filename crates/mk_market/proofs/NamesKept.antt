@@ -3,10 +3,10 @@ use Rattle.std.proofs.Common.{◌≡◌, ℕ, List, [], ◌∷◌, ◌++◌, Non
 use Rattle.std.proofs.lemmas.List.{map-append}
 use Rattle.mk_exact.specs.History.{Entry, Join, users, join_in}
 use Rattle.mk_assets.specs.declared.assets.Assets.{Assets}
-use Rattle.mk_market.specs.declared.users.Member.{Member}
-use Rattle.mk_market.specs.Journals.{JournalOf}
-use Rattle.mk_market.specs.Members.{names_of, new_member}
-use Rattle.mk_market.proofs.Appends.{not_found, found}
+use Rattle.mk_record.specs.declared.users.Member.{Member}
+use Rattle.mk_record.specs.Journals.{JournalOf}
+use Rattle.mk_record.specs.Members.{names_of, new_member}
+use Rattle.mk_record.proofs.Appends.{not_found, found}
 
 pub names_stay : (names : List (List ℕ)) (old new last : JournalOf) (e : Entry) → names ≡ users old.history → new.history ≡ old.history ++ e ∷ [] → join_in e ≡ None
     → last ≡ new → names ≡ users last.history

@@ -16,8 +16,8 @@ use Rattle.mk_cash.specs.declared.ledger.Account.{Account}
 use Rattle.mk_reply.specs.declared.payments.Payment.{Payment}
 use Rattle.mk_rules.proofs.Ready.{opening_is_ready}
 use Rattle.mk_rules.proofs.Follows.{opening_is_bounded}
-use Rattle.mk_market.specs.declared.users.Member.{Member}
-use Rattle.mk_market.specs.Journals.{JournalOf}
+use Rattle.mk_record.specs.declared.users.Member.{Member}
+use Rattle.mk_record.specs.Journals.{JournalOf}
 use Rattle.mk_market.specs.inner.Keeping.{IsKept}
 use Rattle.mk_market.proofs.Growing.{market_is}
 

@@ -16,12 +16,12 @@ use Rattle.mk_beliefs.specs.Meanings.{gains_of, grown_for}
 use Rattle.mk_beliefs.proofs.Grown.{gains_grow, newcomer_has_none}
 use Rattle.mk_assets.specs.declared.assets.Assets.{Assets}
 use Rattle.mk_assets.specs.Holdings.{Holding, Owns, opening_holding, with_deposit, with_withdrawal}
-use Rattle.mk_market.specs.declared.last_quote.LastQuote.{LastQuote}
+use Rattle.mk_record.specs.declared.last_quote.LastQuote.{LastQuote}
 use Rattle.mk_rules.specs.Bounded.{FitsTransfer}
 use Rattle.mk_rules.proofs.Bounds.{count_first}
 use Rattle.mk_answers.specs.Open.{holding_of}
-use Rattle.mk_market.specs.declared.users.Member.{Member}
-use Rattle.mk_market.specs.Members.{new_member, names_of, assets_of, quotes_of, with_assets}
+use Rattle.mk_record.specs.declared.users.Member.{Member}
+use Rattle.mk_record.specs.Members.{new_member, names_of, assets_of, quotes_of, with_assets}
 
 -- a value that was mapped
 mapped : {X Y : Type 0} (f : X → Y) (o : Option X) (y : Y) → option_map f o ≡ Some y → (x : X) × (o ≡ Some x) × (f x ≡ y)

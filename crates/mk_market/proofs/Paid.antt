@@ -25,8 +25,8 @@ use Rattle.mk_assets.specs.Holdings.{Holding}
 use Rattle.mk_reply.specs.declared.payments.Payment.{Payment}
 use Rattle.mk_rules.specs.Answers.{IsPayment}
 use Rattle.mk_answers.specs.Open.{IsOpen, IsFactorFor}
-use Rattle.mk_market.specs.declared.users.Member.{Member}
-use Rattle.mk_market.specs.Members.{names_of, quotes_of}
+use Rattle.mk_record.specs.declared.users.Member.{Member}
+use Rattle.mk_record.specs.Members.{names_of, quotes_of}
 use Rattle.mk_market.specs.inner.Paying.{ArePaid}
 use Rattle.mk_market.specs.inner.Quoting.{OwnsAt}
 use Rattle.mk_market.proofs.Lent.{there}

@@ -22,10 +22,10 @@ use Rattle.mk_rules.specs.Transcript.{OfCommand}
 use Rattle.mk_rules.specs.Standings.{IsReady}
 use Rattle.mk_rules.proofs.Ready.{ready_keeps}
 use Rattle.mk_answers.specs.Open.{holding_of}
-use Rattle.mk_market.specs.declared.last_quote.LastQuote.{LastQuote}
-use Rattle.mk_market.specs.declared.users.Member.{Member}
-use Rattle.mk_market.specs.Journals.{JournalOf}
-use Rattle.mk_market.specs.Members.{names_of, assets_of, quotes_of, with_quote}
+use Rattle.mk_record.specs.declared.last_quote.LastQuote.{LastQuote}
+use Rattle.mk_record.specs.declared.users.Member.{Member}
+use Rattle.mk_record.specs.Journals.{JournalOf}
+use Rattle.mk_record.specs.Members.{names_of, assets_of, quotes_of, with_quote}
 use Rattle.mk_market.specs.Trading.{Trading, IsAnswered}
 use Rattle.mk_market.specs.inner.Keeping.{quoted, standing_of, IsKeptQuote, AreKeptQuotes, IsKept}
 use Rattle.mk_market.specs.inner.Quoting.{OwnsAt}

@@ -14,8 +14,8 @@ use Rattle.mk_engine.specs.Meaning.{Meaning}
 use Rattle.mk_cash.specs.declared.ledger.Account.{Account}
 use Rattle.mk_reply.specs.declared.payments.Payment.{Payment}
 use Rattle.mk_market.specs.declared.market.Market.TheInside.{Inside}
-use Rattle.mk_market.specs.declared.users.Member.{Member}
-use Rattle.mk_market.specs.Journals.{JournalOf}
+use Rattle.mk_record.specs.declared.users.Member.{Member}
+use Rattle.mk_record.specs.Journals.{JournalOf}
 use Rattle.mk_market.specs.inner.Keeping.{IsKept}
 
 -- two proofs that there is none are one

@@ -22,7 +22,7 @@ use Rattle.mk_engine.specs.Meaning.{Meaning}
 use Rattle.mk_answers.specs.Calls.{CanSearch}
 use Rattle.mk_answers.specs.Open.{IsOpen}
 use Rattle.mk_answers.specs.Results.{first_impossible}
-use Rattle.mk_market.specs.Refused.{CanBeResolved}
+use Rattle.mk_record.specs.Refused.{CanBeResolved}
 use Rattle.mk_market.specs.inner.Stopped.{CanAskOfPair}
 
 -- ---- one pair as an event

@@ -23,7 +23,7 @@ use Rattle.mk_engine.specs.Meaning.{Meaning, with_known}
 use Rattle.mk_beliefs.specs.Meanings.{weights_of, gains_of}
 use Rattle.mk_assets.specs.Holdings.{Holding, Owns, with_known_pair}
 use Rattle.mk_cash.specs.declared.ledger.Account.{Account}
-use Rattle.mk_market.specs.declared.last_quote.LastQuote.{LastQuote}
+use Rattle.mk_record.specs.declared.last_quote.LastQuote.{LastQuote}
 use Rattle.mk_command.specs.declared.command.Command.TheVariants.{Resolve}
 use Rattle.mk_reply.specs.declared.payments.Payment.{Payment}
 use Rattle.mk_reply.specs.declared.refusal.Refusal.TheVariants.{Impossible}
@@ -34,15 +34,15 @@ use Rattle.mk_rules.specs.Transcript.{OfCommand, IsAllowedFor, after}
 use Rattle.mk_rules.proofs.Keeps.{allowed_keeps}
 use Rattle.mk_rules.proofs.Revisions.{few_resolutions}
 use Rattle.mk_answers.specs.Open.{IsOpen, holding_of}
-use Rattle.mk_market.specs.declared.users.Member.{Member}
-use Rattle.mk_market.specs.Journals.{JournalOf}
-use Rattle.mk_market.specs.Members.{names_of, quotes_of}
-use Rattle.mk_market.specs.Refused.{CanBeResolved}
+use Rattle.mk_record.specs.declared.users.Member.{Member}
+use Rattle.mk_record.specs.Journals.{JournalOf}
+use Rattle.mk_record.specs.Members.{names_of, quotes_of}
+use Rattle.mk_record.specs.Refused.{CanBeResolved}
 use Rattle.mk_market.specs.inner.Keeping.{quoted, standing_of, IsKept}
 use Rattle.mk_market.specs.inner.Quoting.{OwnsAt, CanBeTold}
 use Rattle.mk_market.specs.inner.Stopped.{CanAskOfPair}
 use Rattle.mk_market.proofs.Accounted.{accounts_kept}
-use Rattle.mk_market.proofs.Appends.{not_there, not_found}
+use Rattle.mk_record.proofs.Appends.{not_there, not_found}
 use Rattle.mk_market.proofs.Growing.{is_open, kept_grown, kept_still}
 use Rattle.mk_market.proofs.Owned.{holding_grows}
 use Rattle.mk_market.proofs.Replies.{stopped_by_states, unrefused, refusal_allowed, answer_allowed, unsettled}

@@ -29,7 +29,7 @@ use Rattle.mk_engine.specs.Meaning.{Meaning}
 use Rattle.mk_assets.specs.Holdings.{Holding, Owns}
 use Rattle.mk_cash.specs.declared.ledger.Account.{Account}
 use Rattle.mk_cash.specs.Accounts.{account_of}
-use Rattle.mk_market.specs.declared.last_quote.LastQuote.{LastQuote}
+use Rattle.mk_record.specs.declared.last_quote.LastQuote.{LastQuote}
 use Rattle.mk_command.specs.declared.command.Command.TheVariants.{Settle}
 use Rattle.mk_reply.specs.declared.payments.Payment.{Payment}
 use Rattle.mk_reply.specs.declared.reply.Reply.TheVariants.{Settled}
@@ -37,15 +37,15 @@ use Rattle.mk_rules.specs.Answers.{IsPayment, IsSettlement}
 use Rattle.mk_rules.specs.Refusals.{first_refusal}
 use Rattle.mk_rules.specs.Transcript.{OfCommand, IsAllowedFor, after}
 use Rattle.mk_answers.specs.Open.{holding_of}
-use Rattle.mk_market.specs.declared.users.Member.{Member}
-use Rattle.mk_market.specs.Journals.{JournalOf}
-use Rattle.mk_market.specs.Members.{names_of, quotes_of}
+use Rattle.mk_record.specs.declared.users.Member.{Member}
+use Rattle.mk_record.specs.Journals.{JournalOf}
+use Rattle.mk_record.specs.Members.{names_of, quotes_of}
 use Rattle.mk_market.specs.Points.{IsPaidOff, AreAccounts, ArePaidBy}
-use Rattle.mk_market.specs.Refused.{CanBeSettled}
+use Rattle.mk_record.specs.Refused.{CanBeSettled}
 use Rattle.mk_market.specs.inner.Keeping.{quoted, standing_of, IsKept}
 use Rattle.mk_market.specs.inner.Paying.{ArePaid}
 use Rattle.mk_market.specs.inner.Quoting.{OwnsAt}
-use Rattle.mk_market.proofs.Appends.{there, not_found}
+use Rattle.mk_record.proofs.Appends.{there, not_found}
 use Rattle.mk_market.proofs.Growing.{kept_grown}
 use Rattle.mk_market.proofs.Owned.{holding_same}
 use Rattle.mk_market.proofs.Replies.{answer_allowed}

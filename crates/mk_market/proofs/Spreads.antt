@@ -49,12 +49,12 @@ use Rattle.mk_rules.specs.Transcript.{OfCommand, IsAllowedFor, after}
 use Rattle.mk_rules.proofs.Ready.{spread_refused}
 use Rattle.mk_rules.proofs.Quoted.{same_spread_is}
 use Rattle.mk_answers.specs.Open.{IsOpen, AreSideBoundsFor}
-use Rattle.mk_market.specs.declared.last_quote.LastQuote.{LastQuote}
-use Rattle.mk_market.specs.declared.last_quote.LastQuote.TheVariants.{Limits as LastLimits, Bounds as LastBounds}
-use Rattle.mk_market.specs.declared.users.Member.{Member}
-use Rattle.mk_market.specs.Journals.{JournalOf}
-use Rattle.mk_market.specs.Members.{quotes_of}
-use Rattle.mk_market.specs.Refused.{IsUser, IsSpreadQuestionFor}
+use Rattle.mk_record.specs.declared.last_quote.LastQuote.{LastQuote}
+use Rattle.mk_record.specs.declared.last_quote.LastQuote.TheVariants.{Limits as LastLimits, Bounds as LastBounds}
+use Rattle.mk_record.specs.declared.users.Member.{Member}
+use Rattle.mk_record.specs.Journals.{JournalOf}
+use Rattle.mk_record.specs.Members.{quotes_of}
+use Rattle.mk_record.specs.Refused.{IsUser, IsSpreadQuestionFor}
 use Rattle.mk_market.specs.Trading.{Trading, IsAnswered, reply_of}
 use Rattle.mk_market.specs.inner.Keeping.{quoted, standing_of, IsKeptQuote, IsKept}
 use Rattle.mk_market.specs.inner.Quoting.{IsSpreadQuoteOf, IsOutside}

@@ -12,7 +12,7 @@ use Rattle.mk_spread.specs.Markets.{values_left}
 use Rattle.mk_spread.specs.Spreads.{SpreadAsked, asked_of}
 use Rattle.mk_quote.specs.Questions.{spread_in}
 use Rattle.mk_net.specs.Events.{pairs_asked}
-use Rattle.mk_market.specs.declared.requests.SpreadRequest.{SpreadRequest}
+use Rattle.mk_record.specs.declared.requests.SpreadRequest.{SpreadRequest}
 use Rattle.mk_spread.proofs.Suits.{is_impossible}
 use Rattle.mk_tree.specs.Given.{GivenTree, home}
 use Rattle.mk_file.specs.declared.market_file.MarketFile.{MarketFile}
@@ -34,16 +34,16 @@ use Rattle.mk_rules.specs.Standings.{IsReady}
 use Rattle.mk_rules.proofs.Spreadable.{as_many_shares}
 use Rattle.mk_rules.proofs.Unrefused.{none_applies}
 use Rattle.mk_answers.specs.Open.{IsOpen, holding_of}
-use Rattle.mk_market.specs.declared.last_quote.LastQuote.{LastQuote}
-use Rattle.mk_market.specs.declared.last_quote.LastQuote.TheVariants.{Bounds as LastBounds}
+use Rattle.mk_record.specs.declared.last_quote.LastQuote.{LastQuote}
+use Rattle.mk_record.specs.declared.last_quote.LastQuote.TheVariants.{Bounds as LastBounds}
 use Rattle.mk_market.specs.declared.possible.SpreadDecided.{SpreadDecided}
 use Rattle.mk_market.specs.declared.possible.SpreadDecided.TheVariants as decided
 use Rattle.mk_market.specs.declared.possible.Stopped.{Stopped}
 use Rattle.mk_market.specs.declared.possible.Stopped.TheVariants as stopped
-use Rattle.mk_market.specs.declared.users.Member.{Member}
-use Rattle.mk_market.specs.Journals.{JournalOf}
-use Rattle.mk_market.specs.Members.{names_of, quotes_of}
-use Rattle.mk_market.specs.Refused.{IsUser, IsSpreadQuestionFor}
+use Rattle.mk_record.specs.declared.users.Member.{Member}
+use Rattle.mk_record.specs.Journals.{JournalOf}
+use Rattle.mk_record.specs.Members.{names_of, quotes_of}
+use Rattle.mk_record.specs.Refused.{IsUser, IsSpreadQuestionFor}
 use Rattle.mk_market.specs.Trading.{Trading, IsAnswered}
 use Rattle.mk_market.specs.inner.Keeping.{quoted, AreKeptQuotes, IsKept}
 use Rattle.mk_market.specs.inner.Quoting.{OwnsAt, IsSpreadQuoteOf, IsTurnedDown}

@@ -30,15 +30,15 @@ use Rattle.mk_rules.proofs.Unrefused.{none_applies}
 use Rattle.mk_answers.specs.Open.{IsOpen, CanBeAnswered}
 use Rattle.mk_answers.specs.Results.{AreBothLeft}
 use Rattle.mk_answers.proofs.Homes.{condition_is_held}
-use Rattle.mk_market.specs.declared.last_quote.LastQuote.{LastQuote}
-use Rattle.mk_market.specs.declared.users.Member.{Member}
-use Rattle.mk_market.specs.Journals.{JournalOf}
-use Rattle.mk_market.specs.Members.{quotes_of}
+use Rattle.mk_record.specs.declared.last_quote.LastQuote.{LastQuote}
+use Rattle.mk_record.specs.declared.users.Member.{Member}
+use Rattle.mk_record.specs.Journals.{JournalOf}
+use Rattle.mk_record.specs.Members.{quotes_of}
 use Rattle.mk_market.specs.Trading.{IsAnswered}
 use Rattle.mk_market.specs.inner.Keeping.{quoted, standing_of}
 use Rattle.mk_market.specs.inner.Stopped.{IsAskedBy, IsConditionBy, CanRefuseCondition}
 use Rattle.mk_market.proofs.Quotes.{trading}
-use Rattle.mk_market.proofs.Refusing.{pairs_are, slice_known}
+use Rattle.mk_record.proofs.Refusing.{pairs_are, slice_known}
 use Rattle.mk_market.proofs.Replies.{refusal_allowed, none_appended, stopped_by_states, unrefused}
 use Rattle.mk_market.proofs.Together.{none_together, condition_comes}
 

@@ -20,7 +20,7 @@ use Rattle.mk_reply.specs.declared.refusal.Refusal.TheVariants.{Impossible}
 use Rattle.mk_rules.specs.Refusals.{known_pairs, unknown, impossible_after, impossible_together}
 use Rattle.mk_rules.proofs.Coming.{some_where}
 use Rattle.mk_answers.specs.Results.{first_impossible}
-use Rattle.mk_market.proofs.Refusing.{AllKnown, all_known_of}
+use Rattle.mk_record.proofs.Refusing.{AllKnown, all_known_of}
 
 -- what holds all of some pairs holds those in front
 front_holds : (xs ys : List Pair) (s : List ℕ) → holds (xs ++ ys) s ≡ true → holds xs s ≡ true

@@ -8,8 +8,8 @@ use Rattle.mk_net.specs.declared.words.Pair.{Pair}
 use Rattle.mk_engine.specs.Meaning.{Meaning}
 use Rattle.mk_assets.specs.declared.assets.Assets.{Assets}
 use Rattle.mk_assets.specs.Holdings.{Holding, Owns, with_known_pair}
-use Rattle.mk_market.specs.declared.users.Member.{Member}
-use Rattle.mk_market.specs.Members.{names_of, quotes_of, assets_of, with_assets}
+use Rattle.mk_record.specs.declared.users.Member.{Member}
+use Rattle.mk_record.specs.Members.{names_of, quotes_of, assets_of, with_assets}
 use Rattle.mk_market.specs.inner.Quoting.{OwnsAt, CanBeTold, CanLearnAt}
 use Rattle.mk_market.proofs.Owned.{names_same, quotes_same, whose}
 

@@ -19,14 +19,14 @@ use Rattle.mk_rules.specs.Refusals.{first_refusal}
 use Rattle.mk_rules.specs.Transcript.{OfCommand, IsAllowedFor, after}
 use Rattle.mk_rules.specs.Bounded.{JoinsByName}
 use Rattle.mk_answers.specs.Open.{holding_of}
-use Rattle.mk_market.specs.declared.last_quote.LastQuote.{LastQuote}
-use Rattle.mk_market.specs.declared.users.Member.{Member}
-use Rattle.mk_market.specs.Journals.{JournalOf}
-use Rattle.mk_market.specs.Members.{names_of, quotes_of}
+use Rattle.mk_record.specs.declared.last_quote.LastQuote.{LastQuote}
+use Rattle.mk_record.specs.declared.users.Member.{Member}
+use Rattle.mk_record.specs.Journals.{JournalOf}
+use Rattle.mk_record.specs.Members.{names_of, quotes_of}
 use Rattle.mk_market.specs.inner.Keeping.{standing_of, IsKept}
 use Rattle.mk_market.specs.inner.Quoting.{OwnsAt, AreInUse, CanBeMade}
 use Rattle.mk_market.proofs.Accounted.{accounts_kept}
-use Rattle.mk_market.proofs.Appends.{not_there, not_found}
+use Rattle.mk_record.proofs.Appends.{not_there, not_found}
 use Rattle.mk_market.proofs.Growing.{is_open, kept_grown}
 use Rattle.mk_market.proofs.Lent.{in_range}
 use Rattle.mk_market.proofs.Replies.{unsettled}

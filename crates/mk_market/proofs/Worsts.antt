@@ -19,7 +19,7 @@ use Rattle.mk_enclose.specs.Factor.{StandsFor}
 use Rattle.mk_assets.specs.declared.assets.Assets.{Assets}
 use Rattle.mk_assets.specs.Holdings.{Holding, Owns}
 use Rattle.mk_cash.specs.declared.ledger.Account.{Account}
-use Rattle.mk_market.specs.declared.last_quote.LastQuote.{LastQuote}
+use Rattle.mk_record.specs.declared.last_quote.LastQuote.{LastQuote}
 use Rattle.mk_command.specs.declared.command.Command.TheVariants.{Worst}
 use Rattle.mk_reply.specs.declared.payments.Payment.{Payment}
 use Rattle.mk_reply.specs.declared.reply.Reply.TheVariants.{Worst as Worsted}
@@ -28,10 +28,10 @@ use Rattle.mk_rules.specs.Answers.{IsWorst}
 use Rattle.mk_rules.specs.Transcript.{OfCommand, IsAllowedFor, after}
 use Rattle.mk_answers.specs.Open.{IsOpen, IsFactorFor, holding_of}
 use Rattle.mk_answers.specs.Calls.{CanFindWorst}
-use Rattle.mk_market.specs.declared.users.Member.{Member}
-use Rattle.mk_market.specs.Journals.{JournalOf}
-use Rattle.mk_market.specs.Members.{assets_of, with_assets}
-use Rattle.mk_market.specs.Refused.{IsUser}
+use Rattle.mk_record.specs.declared.users.Member.{Member}
+use Rattle.mk_record.specs.Journals.{JournalOf}
+use Rattle.mk_record.specs.Members.{assets_of, with_assets}
+use Rattle.mk_record.specs.Refused.{IsUser}
 use Rattle.mk_market.specs.inner.Keeping.{quoted, standing_of, IsKept}
 use Rattle.mk_market.proofs.Growing.{is_open, kept_still}
 use Rattle.mk_market.proofs.Owned.{names_same, quotes_same, all_still}

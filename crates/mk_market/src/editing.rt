@@ -1,14 +1,12 @@
 //! Edits of questions, and their limits.
 
-use crate::last_quote::LastQuote;
 use crate::market::Market;
 use crate::possible::refuse_decided;
 use crate::quoting::{fresh_quote, present_quote};
-use crate::refusals::{refuse_edit, refuse_limits};
-use crate::requests::EditWish;
 use crate::trading::{ratio_of_edit, trade};
 use mk_engine::Engine;
 use mk_net::{Name, QuestionText};
+use mk_record::{EditWish, LastQuote, refuse_edit, refuse_limits};
 use mk_reply::{Refusal, Reply};
 use mk_semiring::{MinProd, SumProd};
 

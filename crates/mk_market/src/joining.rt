@@ -1,10 +1,10 @@
 //! Joining.
 
 use crate::market::Market;
-use crate::refusals::refuse_user;
 use mk_assets::Assets;
 use mk_engine::Engine;
 use mk_net::Name;
+use mk_record::refuse_user;
 use mk_reply::{Refusal, Reply};
 use mk_semiring::{MinProd, SumProd};
 use std::alloc::Global;

@@ -1,21 +1,14 @@
-//! A market in use: its accepted changes, its users, what its commands are refused for, and how they are answered.
+//! A market in use: how its commands are answered, from its record, its engines and its ledger.
 #![tactic(auto)]
 
 mod answering;
-mod asking;
 mod editing;
-mod entry;
 mod joining;
-mod journal;
-mod last_quote;
 mod market;
 mod opening;
 mod possible;
 mod pricing;
 mod quoting;
-mod refusals;
-mod refusing_spreads;
-mod requests;
 mod resolving;
 mod settling;
 mod spread_quoting;
@@ -23,12 +16,7 @@ mod spreading;
 mod telling;
 mod trading;
 mod transfers;
-mod users;
 mod withdrawing;
 
-pub use asking::{ask, ask_spread, known};
-pub use entry::Entry;
-pub use journal::Journal;
-pub use last_quote::LastQuote;
 pub use market::Market;
-pub use users::{Member, Users};
+pub use mk_record::Entry;

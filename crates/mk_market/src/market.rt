@@ -1,12 +1,10 @@
 //! The market in use.
 
-use crate::entry::Entry;
-use crate::journal::Journal;
-use crate::users::Users;
 use mk_cash::Ledger;
 use mk_engine::Engine;
 use mk_file::MarketFile;
 use mk_net::NoMemory;
+use mk_record::{Entry, Journal, Users};
 use mk_reply::Payments;
 use mk_semiring::{MinProd, SumProd};
 use std::alloc::Global;
@@ -42,7 +40,7 @@ impl<P: Engine<SumProd>, A: Engine<MinProd>> Model for Market<P, A> {
 impl<P: Engine<SumProd>, A: Engine<MinProd>> Market<P, A> {
     ghost use Rattle.std.specs.Prelude.{◌≡◌, length};
     ghost use Rattle.mk_file.specs.MarketOf.{market_of};
-    ghost use Rattle.mk_market.specs.Entries.{changes};
+    ghost use Rattle.mk_record.specs.Entries.{changes};
     ghost use Rattle.mk_market.specs.Points.{AreAccounts};
 
     /// How many variables the market has.

@@ -1,12 +1,11 @@
 //! The opening of a market.
 
-use crate::journal::Journal;
 use crate::market::Market;
-use crate::users::Users;
 use mk_cash::Ledger;
 use mk_engine::Engine;
 use mk_file::MarketFile;
 use mk_net::NoMemory;
+use mk_record::{Journal, Users};
 use mk_reply::Payments;
 use mk_semiring::{MinProd, Semiring, SumProd};
 use std::alloc::Global;

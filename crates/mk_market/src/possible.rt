@@ -12,14 +12,14 @@ ghost use Rattle.mk_beliefs.specs.Meanings.{weights_of};
 ghost use Rattle.mk_quote.specs.Questions.{spread_in};
 ghost use Rattle.mk_rules.specs.Refusals as rules;
 ghost use Rattle.mk_answers.specs.Open.{IsOpen};
-ghost use Rattle.mk_market.specs.Refused.{CanBeResolved};
+ghost use Rattle.mk_record.specs.Refused.{CanBeResolved};
 ghost use Rattle.mk_market.specs.inner.Stopped.{IsAskedBy, IsConditionBy, IsDecidedBy, IsRefusedFor, MayStop, CanRefuse, CanRefuseCondition, CanRefuseSpread, CanAskOfPair};
 
-use crate::requests::{Request, SpreadRequest};
 use mk_answers::first_impossible;
 use mk_engine::Engine;
 use mk_net::{Event, Name, Network, Pair, PairText, QuestionText};
 use mk_quote::SpreadQuestion;
+use mk_record::{Request, SpreadRequest};
 use mk_reply::{Intervals, Refusal};
 use mk_semiring::SumProd;
 

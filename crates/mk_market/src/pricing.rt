@@ -2,11 +2,11 @@
 
 use crate::market::Market;
 use crate::possible::refuse_condition;
-use crate::refusals::{not_settled, plain_price, refuse_price, refuse_worst};
 use mk_answers::{bound_of, least_of, price_of};
 use mk_cash::cash;
 use mk_engine::Engine;
 use mk_net::{Name, QuestionText};
+use mk_record::{not_settled, plain_price, refuse_price, refuse_worst};
 use mk_reply::{Refusal, Reply};
 use mk_semiring::{MinProd, SumProd};
 

@@ -9,21 +9,18 @@ ghost use Rattle.mk_assets.specs.Holdings.{Holding};
 ghost use Rattle.mk_quote.specs.declared.quote.Quote.{Quote as Held};
 ghost use Rattle.mk_quote.specs.Quotes.{IsFor};
 ghost use Rattle.mk_answers.specs.Open.{CanBeAnswered};
-ghost use Rattle.mk_market.specs.Members.{names_of, quotes_of};
+ghost use Rattle.mk_record.specs.Members.{names_of, quotes_of};
 ghost use Rattle.mk_market.specs.inner.Keeping.{AreKeptQuotes};
 ghost use Rattle.mk_market.specs.inner.Quoting.{OwnsAt, AreInUse, IsQuoteOf};
 ghost use Rattle.mk_market.specs.inner.Stopped.{IsDecidedBy};
 
-use crate::journal::Journal;
-use crate::last_quote::LastQuote;
 use crate::possible::Decided;
-use crate::requests::Request;
-use crate::users::Users;
 use mk_answers::{Sides, bounds_of};
 use mk_engine::Engine;
 use mk_file::MarketFile;
 use mk_net::Question;
 use mk_quote::Quote;
+use mk_record::{Journal, LastQuote, Request, Users};
 use mk_semiring::{MinProd, SumProd};
 
 /// A quote of a question for a user at the present revision, made anew, or what decides the question. The engine and the assets

@@ -2,11 +2,10 @@
 
 use crate::market::Market;
 use crate::possible::can_come;
-use crate::refusals::refuse_resolve;
-use crate::users::Users;
 use mk_engine::Engine;
 use mk_file::MarketFile;
 use mk_net::{Pair, PairText};
+use mk_record::{Users, refuse_resolve};
 use mk_reply::{Refusal, Reply};
 use mk_semiring::{MinProd, SumProd};
 
@@ -37,7 +36,7 @@ impl<P: Engine<SumProd>, A: Engine<MinProd>> Market<P, A> {
 ghost use Rattle.std.specs.Prelude.{◌≡◌, ℕ, [], ◌∷◌, true, is_some, Some};
 ghost use Rattle.mk_tree.specs.Given.{home};
 ghost use Rattle.mk_assets.specs.Holdings.{Holding, with_known_pair};
-ghost use Rattle.mk_market.specs.Members.{names_of, quotes_of};
+ghost use Rattle.mk_record.specs.Members.{names_of, quotes_of};
 ghost use Rattle.mk_market.specs.inner.Quoting.{OwnsAt, CanBeTold};
 
 /// The home of a pair of the network.

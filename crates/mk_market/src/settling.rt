@@ -1,13 +1,11 @@
 //! The settlement.
 
-use crate::journal::Journal;
 use crate::market::Market;
-use crate::refusals::refuse_settle;
-use crate::users::Users;
 use mk_answers::least_of;
 use mk_cash::{Ledger, cash};
 use mk_engine::Engine;
 use mk_file::MarketFile;
+use mk_record::{Journal, Users, refuse_settle};
 use mk_reply::{Payment, Payments, Refusal, Reply};
 use mk_semiring::{MinProd, SumProd};
 
@@ -48,7 +46,7 @@ ghost use Rattle.mk_assets.specs.Holdings.{Holding};
 ghost use Rattle.mk_file.specs.MarketOf.{market_of};
 ghost use Rattle.mk_rules.specs.Answers.{IsPayment};
 ghost use Rattle.mk_answers.specs.Open.{IsOpen, holding_of};
-ghost use Rattle.mk_market.specs.Members.{names_of, quotes_of};
+ghost use Rattle.mk_record.specs.Members.{names_of, quotes_of};
 ghost use Rattle.mk_market.specs.Points.{AreAccounts};
 ghost use Rattle.mk_market.specs.inner.Quoting.{OwnsAt};
 ghost use Rattle.mk_market.specs.inner.Paying.{ArePaid};

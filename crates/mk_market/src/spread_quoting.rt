@@ -12,21 +12,18 @@ ghost use Rattle.mk_quote.specs.declared.spread_quote.SpreadQuote.{SpreadQuote a
 ghost use Rattle.mk_quote.specs.Questions.{spread_in};
 ghost use Rattle.mk_quote.specs.Spreads.{sides_of, IsSpreadFor};
 ghost use Rattle.mk_answers.specs.Open.{CanBeSpreadHere};
-ghost use Rattle.mk_market.specs.Members.{names_of, quotes_of};
+ghost use Rattle.mk_record.specs.Members.{names_of, quotes_of};
 ghost use Rattle.mk_market.specs.inner.Keeping.{AreKeptQuotes};
 ghost use Rattle.mk_market.specs.inner.Quoting.{OwnsAt, AreInUse, IsSpreadQuoteOf, IsInside, IsStopped, IsTaken, IsTurnedDown};
 ghost use Rattle.mk_market.specs.inner.Stopped.{IsSpreadDecidedBy};
 
-use crate::journal::Journal;
-use crate::last_quote::LastQuote;
 use crate::possible::{SpreadDecided, Stopped};
-use crate::requests::SpreadRequest;
-use crate::users::Users;
 use arrayvec::ArrayVec;
 use mk_answers::{SpreadSides, spread_bounds_of};
 use mk_engine::Engine;
 use mk_file::MarketFile;
 use mk_quote::{SpreadQuestion, SpreadQuote};
+use mk_record::{Journal, LastQuote, SpreadRequest, Users};
 use mk_semiring::{MinProd, SumProd};
 
 /// A quote of a spread for a user at the present revision, made anew, or what decides the spread. The engine and the assets stand

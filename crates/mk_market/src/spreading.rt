@@ -1,15 +1,13 @@
 //! Spreads over the values of a variable, and their bounds.
 
-use crate::last_quote::LastQuote;
 use crate::market::Market;
 use crate::possible::{Stopped, refuse_stopped};
-use crate::refusing_spreads::{refuse_bounds, refuse_spread};
-use crate::requests::SpreadWish;
 use crate::spread_quoting::{fresh_spread_quote, judge_spread};
 use crate::trading::{ratio_of_spread, trade};
 use arrayvec::ArrayVec;
 use mk_engine::Engine;
 use mk_net::{Name, PairText};
+use mk_record::{LastQuote, SpreadWish, refuse_bounds, refuse_spread};
 use mk_reply::{Refusal, Reply};
 use mk_semiring::{MinProd, SumProd};
 

@@ -1,14 +1,12 @@
 //! What a market tells of every value of a variable, and of itself.
 
-use crate::journal::Journal;
 use crate::market::Market;
 use crate::possible::refuse_condition;
-use crate::refusals::{MAX_TRANSFERS, not_settled};
-use crate::refusing_spreads::{refuse_bounds, refuse_prices};
 use arrayvec::ArrayVec;
 use mk_answers::{position_of, prices_of};
 use mk_engine::Engine;
 use mk_net::{Name, PairText};
+use mk_record::{Journal, MAX_TRANSFERS, not_settled, refuse_bounds, refuse_prices};
 use mk_reply::{Refusal, Reply};
 use mk_semiring::{MinProd, SumProd};
 

@@ -13,15 +13,14 @@ ghost use Rattle.mk_tree.specs.Given.{GivenTree};
 ghost use Rattle.mk_engine.specs.Meaning.{Meaning, RatioOf, with_factor};
 ghost use Rattle.mk_quote.specs.Questions.{spread_in};
 ghost use Rattle.mk_answers.specs.Open.{holding_of};
-ghost use Rattle.mk_market.specs.Members.{names_of, quotes_of};
+ghost use Rattle.mk_record.specs.Members.{names_of, quotes_of};
 ghost use Rattle.mk_market.specs.inner.Quoting.{OwnsAt, CanBeMade};
 
-use crate::journal::Journal;
-use crate::users::Users;
 use arrayvec::ArrayVec;
 use mk_engine::Engine;
 use mk_net::{Network, Question, Ratio};
 use mk_quote::SpreadQuestion;
+use mk_record::{Journal, Users};
 use mk_semiring::{MinProd, SumProd};
 
 /// The ratio of an edit: so many units for the target of its question, and so many for each other value.

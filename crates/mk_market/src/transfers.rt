@@ -1,9 +1,9 @@
 //! Deposits.
 
 use crate::market::Market;
-use crate::refusals::refuse_transfer;
 use mk_engine::Engine;
 use mk_net::Name;
+use mk_record::refuse_transfer;
 use mk_reply::{Refusal, Reply};
 use mk_semiring::{MinProd, SumProd};
 

@@ -1,10 +1,10 @@
 //! Withdrawals.
 
 use crate::market::Market;
-use crate::refusals::refuse_transfer;
 use mk_answers::{least_of, most_bits};
 use mk_engine::Engine;
 use mk_net::Name;
+use mk_record::refuse_transfer;
 use mk_reply::{Refusal, Reply};
 use mk_semiring::{MinProd, SumProd};
 

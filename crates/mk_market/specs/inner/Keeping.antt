@@ -26,11 +26,11 @@ use Rattle.mk_rules.specs.Standings.{IsReady}
 use Rattle.mk_rules.specs.Bounded.{IsBounded}
 use Rattle.mk_answers.specs.Results.{AreBothLeft}
 use Rattle.mk_answers.specs.Open.{CanBeAnswered, CanBeSpreadHere, AreBoundsFor, AreSideBoundsFor, holding_of}
-use Rattle.mk_market.specs.declared.last_quote.LastQuote.{LastQuote}
-use Rattle.mk_market.specs.declared.last_quote.LastQuote.TheVariants.{Limits, Bounds}
-use Rattle.mk_market.specs.declared.users.Member.{Member}
-use Rattle.mk_market.specs.Journals.{JournalOf}
-use Rattle.mk_market.specs.Members.{names_of, quotes_of, assets_of}
+use Rattle.mk_record.specs.declared.last_quote.LastQuote.{LastQuote}
+use Rattle.mk_record.specs.declared.last_quote.LastQuote.TheVariants.{Limits, Bounds}
+use Rattle.mk_record.specs.declared.users.Member.{Member}
+use Rattle.mk_record.specs.Journals.{JournalOf}
+use Rattle.mk_record.specs.Members.{names_of, quotes_of, assets_of}
 use Rattle.mk_market.specs.Points.{AreAccounts}
 
 -- the user and the revision of a quote

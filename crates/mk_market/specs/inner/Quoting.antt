@@ -22,11 +22,11 @@ use Rattle.mk_quote.specs.Spreads as spreads
 use Rattle.mk_quote.specs.Values.{AreFairForEach, AreRightForEach, impossible_share_in, misses_share_in}
 use Rattle.mk_reply.specs.Refusals.{given_in}
 use Rattle.mk_answers.specs.Open.{IsOpen, holding_of}
-use Rattle.mk_market.specs.declared.last_quote.LastQuote.{LastQuote}
-use Rattle.mk_market.specs.declared.last_quote.LastQuote.TheVariants.{Bounds}
-use Rattle.mk_market.specs.declared.users.Member.{Member}
-use Rattle.mk_market.specs.Journals.{JournalOf}
-use Rattle.mk_market.specs.Members.{assets_of}
+use Rattle.mk_record.specs.declared.last_quote.LastQuote.{LastQuote}
+use Rattle.mk_record.specs.declared.last_quote.LastQuote.TheVariants.{Bounds}
+use Rattle.mk_record.specs.declared.users.Member.{Member}
+use Rattle.mk_record.specs.Journals.{JournalOf}
+use Rattle.mk_record.specs.Members.{assets_of}
 use Rattle.mk_market.specs.declared.possible.SpreadDecided.{SpreadDecided}
 use Rattle.mk_market.specs.declared.possible.Stopped.{Stopped}
 use Rattle.mk_market.specs.declared.possible.Stopped.TheVariants.{Decided, ImpossibleShare, MissingShare, Outside}

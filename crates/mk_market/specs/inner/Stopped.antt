@@ -29,9 +29,9 @@ use Rattle.mk_market.specs.declared.possible.SpreadDecided.TheVariants as spread
 use Rattle.mk_market.specs.declared.possible.Stopped.{Stopped}
 use Rattle.mk_market.specs.declared.possible.Stopped.TheVariants as stopped
 use Rattle.mk_quote.specs.Questions.{spread_in}
-use Rattle.mk_market.specs.declared.requests.Request.{Request}
-use Rattle.mk_market.specs.declared.requests.SpreadRequest.{SpreadRequest}
-use Rattle.mk_market.specs.Refused.{CanBeResolved}
+use Rattle.mk_record.specs.declared.requests.Request.{Request}
+use Rattle.mk_record.specs.declared.requests.SpreadRequest.{SpreadRequest}
+use Rattle.mk_record.specs.Refused.{CanBeResolved}
 
 -- a question in words, all of them known, in numbers
 pub record IsAskedBy (network : List Variable) (q : QuestionText) (asked : Asked) : Type 0 where

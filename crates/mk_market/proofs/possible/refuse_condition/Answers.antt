@@ -1,7 +1,7 @@
 use Rattle.std.proofs.Common.{rules, ℕ, ◌<◌, Some, refl, sym, ap, ◌∙◌, subst}
 use Rattle.mk_net.specs.declared.words.PairText.{PairText}
 use Rattle.mk_reply.specs.declared.refusal.Refusal.TheVariants.{Impossible}
-use Rattle.mk_market.proofs.Refusing.{one_each}
+use Rattle.mk_record.proofs.Refusing.{one_each}
 use Rattle.mk_market.proofs.Together.{refused_at, together_is, found_together}
 use Rattle.mk_market.proofs.possible.refuse_condition.Goals as goal
 

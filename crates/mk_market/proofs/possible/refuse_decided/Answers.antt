@@ -5,7 +5,7 @@ use Rattle.mk_exact.specs.Weight.{cannot_come}
 use Rattle.mk_market.specs.declared.possible.Decided.{Decided}
 use Rattle.mk_market.specs.declared.possible.Decided.TheVariants.{Impossible, Never, Sure}
 use Rattle.mk_market.specs.inner.Stopped.{IsDecidedBy}
-use Rattle.mk_market.proofs.Refusing.{pairs_are, slice_known}
+use Rattle.mk_record.proofs.Refusing.{pairs_are, slice_known}
 use Rattle.mk_market.proofs.Stopping.{can_refuse_condition, never_at_all, never_refused, sure_refused}
 use Rattle.mk_market.proofs.possible.refuse_decided.Goals as goal
 

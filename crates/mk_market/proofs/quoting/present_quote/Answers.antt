@@ -1,5 +1,5 @@
 use Rattle.std.proofs.Common.{◌∙◌}
-use Rattle.mk_market.specs.declared.last_quote.LastQuote.TheVariants.{Limits}
+use Rattle.mk_record.specs.declared.last_quote.LastQuote.TheVariants.{Limits}
 use Rattle.mk_market.proofs.quoting.present_quote.Goals as goal
 
 pub returns-in-Some-clause-quote : goal.returns-in-Some-clause-quote

@@ -5,7 +5,7 @@ use Rattle.mk_spread.specs.Spreads.{SpreadAsked}
 use Rattle.mk_quote.specs.declared.side.SideBounds.{SideBounds}
 use Rattle.mk_answers.specs.Open.{CanBeSpreadHere, AreSideBoundsFor}
 use Rattle.mk_quote.specs.Questions.{spread_in}
-use Rattle.mk_market.proofs.SpreadRefusals.{value_is_held}
+use Rattle.mk_record.proofs.SpreadRefusals.{value_is_held}
 use Rattle.mk_market.proofs.Lent.{names_stay, quotes_stay, owned_still}
 use Rattle.mk_market.proofs.spread_quoting.fresh_spread_quote.Goals as goal
 

@@ -5,9 +5,9 @@ use Rattle.mk_exact.proofs.Positive.{few_values_at}
 use Rattle.mk_quote.specs.Questions.{spread_in}
 use Rattle.mk_quote.specs.Spreads.{IsSpreadFor}
 use Rattle.mk_assets.specs.Holdings.{Holding}
-use Rattle.mk_market.specs.declared.last_quote.LastQuote.TheVariants.{Bounds}
-use Rattle.mk_market.specs.declared.users.Member.{Member}
-use Rattle.mk_market.specs.Members.{names_of, quotes_of}
+use Rattle.mk_record.specs.declared.last_quote.LastQuote.TheVariants.{Bounds}
+use Rattle.mk_record.specs.declared.users.Member.{Member}
+use Rattle.mk_record.specs.Members.{names_of, quotes_of}
 use Rattle.mk_market.specs.inner.Quoting.{OwnsAt, quotes_behind}
 use Rattle.mk_market.proofs.Judging.{last_judges, fresh_judges, judged_by_last, taken, turned_down, behind_set, behind_left, none_held}
 use Rattle.mk_market.proofs.Quotes.{quote_was_set}

@@ -4,7 +4,7 @@ use Rattle.mk_net.specs.declared.words.PairText.{PairText}
 use Rattle.mk_file.specs.MarketOf.{market_of}
 use Rattle.mk_command.specs.declared.command.Command.TheVariants.{Bounds as BoundsCommand}
 use Rattle.mk_quote.specs.Questions.{spread_in}
-use Rattle.mk_market.specs.declared.last_quote.LastQuote.TheVariants.{Bounds}
+use Rattle.mk_record.specs.declared.last_quote.LastQuote.TheVariants.{Bounds}
 use Rattle.mk_market.specs.declared.possible.Stopped.TheVariants.{Decided}
 use Rattle.mk_market.specs.inner.Stopped.{IsRefusedFor}
 use Rattle.mk_market.proofs.Growing.{is_open}

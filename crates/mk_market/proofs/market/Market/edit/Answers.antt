@@ -7,7 +7,7 @@ use Rattle.mk_exact.specs.Sides.{ratio_in}
 use Rattle.mk_command.specs.declared.command.Command.TheVariants.{Edit}
 use Rattle.mk_reply.specs.declared.reply.Reply.TheVariants.{Traded}
 use Rattle.mk_rules.proofs.Traded.{ratio_fits}
-use Rattle.mk_market.specs.declared.last_quote.LastQuote.TheVariants.{Limits}
+use Rattle.mk_record.specs.declared.last_quote.LastQuote.TheVariants.{Limits}
 use Rattle.mk_market.specs.inner.Quoting.{CanBeMade}
 use Rattle.mk_market.proofs.Replies.{by_record}
 use Rattle.mk_market.proofs.Stopping.{edit_known, edit_unrefused, edit_stopped}

@@ -1,6 +1,6 @@
 use Rattle.mk_command.specs.declared.command.Command.TheVariants.{Limits as Ask}
 use Rattle.mk_exact.specs.History.{users}
-use Rattle.mk_market.specs.declared.last_quote.LastQuote.TheVariants.{Limits}
+use Rattle.mk_record.specs.declared.last_quote.LastQuote.TheVariants.{Limits}
 use Rattle.mk_market.proofs.Replies.{answered_refused, by_record}
 use Rattle.mk_market.proofs.Stopping.{limits_known, limits_unrefused, limits_stopped}
 use Rattle.mk_market.proofs.Growing.{is_open}

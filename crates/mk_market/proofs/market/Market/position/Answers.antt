@@ -13,7 +13,7 @@ use Rattle.mk_market.proofs.EveryValue.{position_allowed, position_stopped, posi
 use Rattle.mk_market.proofs.Growing.{is_open}
 use Rattle.mk_market.proofs.Refiled.{refiled}
 use Rattle.mk_market.proofs.Replies.{answered_refused, by_record, none_appended}
-use Rattle.mk_market.proofs.SpreadRefusals.{value_is_held}
+use Rattle.mk_record.proofs.SpreadRefusals.{value_is_held}
 use Rattle.mk_market.proofs.Spreads.{question_for}
 use Rattle.mk_market.proofs.market.Market.position.Goals as goal
 

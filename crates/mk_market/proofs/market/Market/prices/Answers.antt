@@ -12,7 +12,7 @@ use Rattle.mk_market.specs.inner.Stopped.{IsConditionBy}
 use Rattle.mk_market.proofs.EveryValue.{can_refuse_told, known_of, prices_allowed, prices_stopped}
 use Rattle.mk_market.proofs.Growing.{is_open}
 use Rattle.mk_market.proofs.Replies.{answered_refused, by_record, none_appended}
-use Rattle.mk_market.proofs.SpreadRefusals.{value_is_held}
+use Rattle.mk_record.proofs.SpreadRefusals.{value_is_held}
 use Rattle.mk_market.proofs.Spreads.{question_for}
 use Rattle.mk_market.proofs.market.Market.prices.Goals as goal
 

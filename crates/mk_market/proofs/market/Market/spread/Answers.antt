@@ -11,7 +11,7 @@ use Rattle.mk_file.specs.MarketOf.{market_of}
 use Rattle.mk_command.specs.declared.command.Command.TheVariants.{Spread}
 use Rattle.mk_quote.specs.Questions.{spread_in}
 use Rattle.mk_reply.specs.declared.reply.Reply.TheVariants.{Spreaded}
-use Rattle.mk_market.specs.Members.{quotes_of}
+use Rattle.mk_record.specs.Members.{quotes_of}
 use Rattle.mk_market.specs.inner.Quoting.{IsTaken, IsTurnedDown, CanBeMade}
 use Rattle.mk_market.specs.inner.Stopped.{IsRefusedFor}
 use Rattle.mk_market.proofs.Growing.{is_open}

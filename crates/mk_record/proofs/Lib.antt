@@ -1,0 +1,7 @@
+pub mod Changed
+pub mod Appends
+pub mod Counts
+pub mod KnownVariables
+pub mod Gathering
+pub mod Refusing
+pub mod SpreadRefusals

@@ -1,0 +1,10 @@
+use Rattle.std.proofs.lemmas.List.{map-append}
+use Rattle.mk_net.specs.Trades.{trade_ratio}
+use Rattle.mk_record.specs.Entries.{change_of, changes}
+use Rattle.mk_record.proofs.Counts.{after_trade}
+use Rattle.mk_record.proofs.journal.Journal.trade.Goals as goal
+
+pub invariant_of-self : goal.invariant_of-self
+invariant_of-self c =
+    rw (c.push_reserved.ensures.items, c.push_reserved.ensures.capacity, map-append change_of c.self.inside.entries.items)
+    (after_trade (changes c.self.inside.entries.items) _ _ _ _ _ c.self.inside.settled c.args.user (trade_ratio c.args.ratio) c.self.invariant.0 (rw (← c.self.view_is) at c.requires), c.self.invariant.1)

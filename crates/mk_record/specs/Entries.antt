@@ -1,0 +1,19 @@
+-- The entries of a journal as the accepted changes of a history.
+use Rattle.std.specs.Prelude.{List, map}
+use Rattle.mk_net.specs.Trades.{trade_ratio}
+use Rattle.mk_exact.specs.History as history
+use Rattle.mk_record.specs.declared.entry.Entry.{Entry}
+use Rattle.mk_record.specs.declared.entry.Entry.TheVariants.{Join, Deposit, Withdraw, Trade, Resolve, Settle}
+
+-- an entry as a change
+abbrev pub change_of : Entry → history.Entry
+change_of (Join user) = history.Join user
+change_of (Deposit user bits) = history.Deposit user bits
+change_of (Withdraw user bits) = history.Withdraw user bits
+change_of (Trade user ratio) = history.Trade user (trade_ratio ratio)
+change_of (Resolve pair) = history.Resolve pair
+change_of Settle = history.Settle
+
+-- entries as changes, in the same order
+abbrev pub changes : List Entry → List history.Entry
+changes entries = map change_of entries

@@ -1,0 +1,6 @@
+pub mod Entries
+pub mod Journals
+pub mod Lending
+pub mod Members
+pub mod Refused
+pub mod inner

@@ -1,0 +1,205 @@
+//! The accepted changes of a market.
+
+ghost use Rattle.std.specs.Prelude.{◌≡◌, ◌<◌, ◌≤◌, [], ◌∷◌, ◌++◌, false, length, IfOk};
+ghost use Rattle.std.specs.List.{count_by};
+ghost use Rattle.mk_net.specs.Bounds.{max_users, max_variables, max_transfers, max_market_trades};
+ghost use Rattle.mk_net.specs.Trades.{trade_ratio};
+ghost use Rattle.mk_exact.specs.History.{Join, Deposit, Withdraw, Trade, Resolve, Settle, users, trades as trades_in, resolutions, is_transfer, revision, is_settled};
+ghost use Rattle.mk_rules.specs.Refusals as rules;
+ghost use Rattle.mk_record.specs.Entries.{changes};
+
+use crate::entry::Entry;
+use mk_net::{Name, NoMemory, Pair, Ratio};
+use std::alloc::Global;
+use std::marker::Model;
+
+/// The most users of a market, and the most variables of one, each of which is resolved once.
+const MAX_USERS: usize = 256;
+
+const MAX_VARIABLES: usize = 256;
+
+/// The most deposits and withdrawals of a market.
+const MAX_TRANSFERS: usize = 65_536;
+
+/// The accepted changes in order, with what is counted of them. All memory is taken at the start.
+#[derive(Drop)]
+pub struct Journal {
+    entries: Vec<Entry>,
+    known: Vec<Pair>,
+    max_trades: u32,
+    joined: u32,
+    trades: u32,
+    transfers: u32,
+    settled: bool,
+}
+
+impl Model for Journal {
+    ghost use Rattle.std.specs.Prelude.{vec_capacity};
+    ghost use Rattle.mk_record.specs.Journals.{JournalOf};
+    ghost use Rattle.mk_record.specs.inner.Counted.{IsCounted, HasRoom};
+
+    ghost Value = { JournalOf };
+
+    ghost use Rattle.mk_record.specs.Entries.{changes};
+
+    ghost view = { λ j. record { history = changes j.entries.items; max_trades = j.max_trades } };
+
+    ghost invariant = { λ j. IsCounted (changes j.entries.items) j.max_trades j.known.items j.joined j.trades j.transfers j.settled
+        × HasRoom j.max_trades (vec_capacity j.entries) (vec_capacity j.known) };
+}
+
+impl Journal {
+    /// The journal of a market that takes so many trades, without an entry.
+    pub fn start(alloc: Global, max_trades: u32) -> Result<Journal, NoMemory>
+        requires { max_trades ≤ max_market_trades }
+        ensures { IfOk result (λ journal. journal ≡ record { history = []; max_trades = max_trades }) }
+    {
+        let most = max_trades as usize + MAX_TRANSFERS + MAX_USERS + MAX_VARIABLES + 1;
+        let entries = Vec::with_capacity(alloc, most)?;
+        let known = Vec::with_capacity(alloc, MAX_VARIABLES)?;
+        Ok(Journal {
+            entries,
+            known,
+            max_trades,
+            joined: 0,
+            trades: 0,
+            transfers: 0,
+            settled: false,
+        })
+    }
+
+    /// The entries in their order.
+    pub fn entries(&self) -> &[Entry]
+        ensures { changes result.now ≡ self.now.history }
+    {
+        self.entries.as_slice()
+    }
+
+    /// How many changes were accepted.
+    pub fn revision(&self) -> u64
+        ensures { result ≡ revision self.now.history }
+    {
+        self.entries.len() as u64
+    }
+
+    /// The most trades that the market takes.
+    pub fn max_trades(&self) -> u32
+        ensures same { result ≡ self.now.max_trades }
+        ensures few { result ≤ max_market_trades }
+    {
+        self.max_trades
+    }
+
+    /// How many users joined.
+    pub fn joined(&self) -> u32
+        ensures count { result ≡ length (users self.now.history) }
+        ensures few { result ≤ max_users }
+    {
+        self.joined
+    }
+
+    /// How many trades there were.
+    pub fn trades(&self) -> u32
+        ensures count { result ≡ length (trades_in self.now.history) }
+        ensures few { result ≤ self.now.max_trades }
+    {
+        self.trades
+    }
+
+    /// How many deposits and withdrawals there were.
+    pub fn transfers(&self) -> u32
+        ensures count { result ≡ count_by is_transfer self.now.history }
+        ensures few { result ≤ max_transfers }
+    {
+        self.transfers
+    }
+
+    /// Whether the market was settled.
+    pub fn is_settled(&self) -> bool
+        ensures { result ≡ is_settled self.now.history }
+    {
+        self.settled
+    }
+
+    /// The pairs that are known, in the order of their resolution.
+    pub fn known(&self) -> &[Pair]
+        ensures same { result.now ≡ resolutions self.now.history }
+        ensures few { length result.now ≤ max_variables }
+    {
+        self.known.as_slice()
+    }
+
+    /// Whether a variable is resolved.
+    pub fn is_resolved(&self, variable: u32) -> bool
+        ensures { result ≡ rules.is_resolved self.now.history variable }
+    {
+        self.known.iter().any(|pair| variable == pair.variable)
+    }
+
+    /// Whether a resolution gave the pair's variable another value.
+    pub fn contradicts(&self, pair: Pair) -> bool
+        ensures { result ≡ rules.contradicts self.now.history pair }
+    {
+        self.known.iter().any(|known| known.variable == pair.variable && known.value != pair.value)
+    }
+
+    /// Adds a user who joined.
+    pub fn join(&mut self, user: Name)
+        requires { length (users self.old.history) < max_users }
+        ensures history { self.new.history ≡ self.old.history ++ Join user ∷ [] }
+        ensures limit { self.new.max_trades ≡ self.old.max_trades }
+    {
+        self.entries.push_reserved(Entry::Join { user });
+        self.joined += 1;
+    }
+
+    /// Adds a deposit.
+    pub fn deposit(&mut self, user: u32, bits: u32)
+        requires { count_by is_transfer self.old.history < max_transfers }
+        ensures history { self.new.history ≡ self.old.history ++ Deposit user bits ∷ [] }
+        ensures limit { self.new.max_trades ≡ self.old.max_trades }
+    {
+        self.entries.push_reserved(Entry::Deposit { user, bits });
+        self.transfers += 1;
+    }
+
+    /// Adds a withdrawal.
+    pub fn withdraw(&mut self, user: u32, bits: u32)
+        requires { count_by is_transfer self.old.history < max_transfers }
+        ensures history { self.new.history ≡ self.old.history ++ Withdraw user bits ∷ [] }
+        ensures limit { self.new.max_trades ≡ self.old.max_trades }
+    {
+        self.entries.push_reserved(Entry::Withdraw { user, bits });
+        self.transfers += 1;
+    }
+
+    /// Adds a trade.
+    pub fn trade(&mut self, user: u32, ratio: Ratio)
+        requires { length (trades_in self.old.history) < self.old.max_trades }
+        ensures history { self.new.history ≡ self.old.history ++ Trade user (trade_ratio ratio) ∷ [] }
+        ensures limit { self.new.max_trades ≡ self.old.max_trades }
+    {
+        self.entries.push_reserved(Entry::Trade { user, ratio });
+        self.trades += 1;
+    }
+
+    /// Adds a resolution.
+    pub fn resolve(&mut self, pair: Pair)
+        requires { length (resolutions self.old.history) < max_variables }
+        ensures history { self.new.history ≡ self.old.history ++ Resolve pair ∷ [] }
+        ensures limit { self.new.max_trades ≡ self.old.max_trades }
+    {
+        self.entries.push_reserved(Entry::Resolve { pair });
+        self.known.push_reserved(pair);
+    }
+
+    /// Adds the settlement.
+    pub fn settle(&mut self)
+        requires { is_settled self.old.history ≡ false }
+        ensures history { self.new.history ≡ self.old.history ++ Settle ∷ [] }
+        ensures limit { self.new.max_trades ≡ self.old.max_trades }
+    {
+        self.entries.push_reserved(Entry::Settle);
+        self.settled = true;
+    }
+}

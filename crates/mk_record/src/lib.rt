@@ -1,0 +1,24 @@
+//! What a market remembers, and what it refuses by that: its accepted changes, its users with their assets and last quotes, and
+//! the refusals of each command that the record alone decides, first to last.
+#![tactic(auto)]
+
+mod asking;
+mod entry;
+mod journal;
+mod last_quote;
+mod refusals;
+mod refusing_spreads;
+mod requests;
+mod users;
+
+pub use asking::{ask, ask_spread, known};
+pub use entry::Entry;
+pub use journal::Journal;
+pub use last_quote::LastQuote;
+pub use refusals::{
+    MAX_TRANSFERS, not_settled, plain_price, refuse_edit, refuse_limits, refuse_price,
+    refuse_resolve, refuse_settle, refuse_transfer, refuse_user, refuse_worst,
+};
+pub use refusing_spreads::{refuse_bounds, refuse_prices, refuse_spread};
+pub use requests::{EditWish, Request, SpreadRequest, SpreadWish};
+pub use users::{Member, Users};
