@@ -7,7 +7,7 @@ use mk_assets::Assets;
 use mk_enclose::{Enclosure, Factor};
 use mk_engine::Engine;
 use mk_joint::JointEngine;
-use mk_market::{Entry, Journal, LastQuote, Users};
+use mk_record::{Entry, Journal, LastQuote, Users};
 use mk_net::{Event, Name, Pair, Question, Ratio};
 use mk_quote::{Bounds, Quote};
 use mk_semiring::MinProd;

@@ -1,6 +1,6 @@
 //! The market of a run.
 
-ghost use Rattle.std.specs.Prelude.{◌≡◌, IfOk};
+ghost use Rattle.std.specs.Prelude.{◌≡◌, [], IfOk};
 ghost use Rattle.mk_tree.specs.Checked.{IsTreeOf};
 ghost use Rattle.mk_file.specs.MarketOf.{market_of};
 ghost use Rattle.mk_rules.specs.Standings.{IsMarket};
@@ -23,8 +23,8 @@ pub(crate) fn open(alloc: Global, file: MarketFile) -> Result<TreeMarket, NoMemo
     requires { IsTreeOf file.net file.tree }
     ensures opened { IfOk result (λ market. market ≡ record {
       market = market_of file;
-      standing =
-          opening;
+      standing = opening;
+      accounts = [];
     }) }
     ensures is_market { IfOk result (λ _. IsMarket (market_of file)) }
 {
