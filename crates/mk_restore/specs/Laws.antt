@@ -1,0 +1,56 @@
+-- The laws of what is taken back. Each is the contract of a function of this crate, and so proved.
+use Rattle.std.specs.Prelude.{◌≡◌, List, ◌++◌, Some}
+use Rattle.std.specs.List.{AllByRecursion}
+use Rattle.mk_exact.specs.History.{Entry, trades}
+use Rattle.mk_exact.specs.Market.{Market, network_of, cliques_of}
+use Rattle.mk_exact.specs.Proper.{IsProper}
+use Rattle.mk_command.specs.declared.command.Command.{Command}
+use Rattle.mk_reply.specs.declared.reply.Reply.{Reply}
+use Rattle.mk_rules.specs.Quotes.{Quotes}
+use Rattle.mk_rules.specs.Answers.{IsAllowed, entry_of, next_history}
+use Rattle.mk_rules.specs.Standings.{IsMarket, IsInClique}
+use Rattle.mk_rules.specs.Bounded.{IsBounded}
+use Rattle.mk_rules.specs.Transcript.{Standing, Line, Run}
+use Rattle.mk_restore.specs.Restoring.{IsFit, Changes, Restores, changes_of, IsChange}
+
+-- an allowed reply that appends an entry is taken back
+abbrev pub AllowedFits : Type 0
+AllowedFits = (market : Market) (H : List Entry) (quotes : Quotes) (command : Command) (reply : Reply) (e : Entry)
+    → IsAllowed market H quotes command reply → entry_of market H command reply ≡ Some e → IsFit market H command reply
+
+-- the changes of a run give its history back
+abbrev pub RunIsRestored : Type 0
+RunIsRestored = (market : Market) (old new : Standing) (lines : List Line) (replies : List Reply)
+    → Run market old lines replies new → Restores market old.history (changes_of market old lines replies) new.history
+
+-- what a market's safety rests on, sound or not: users, pairs and units are in range, some state is
+-- possible, no trade is wide, and the history is bounded
+pub record IsSafe (market : Market) (H : List Entry) : Type 0 where
+  pub proper : IsProper (network_of market H) H
+  pub none_wide : AllByRecursion (IsInClique (cliques_of market H)) (trades H)
+  pub bounded : IsBounded market H
+
+-- a change that is taken back keeps that, whatever its units are
+abbrev pub FitIsSafe : Type 0
+FitIsSafe = (market : Market) (H : List Entry) (command : Command) (reply : Reply) → IsMarket market
+    → IsChange (command, reply) → IsSafe market H → IsFit market H command reply → IsSafe market (next_history market H command reply)
+
+-- and so do many
+abbrev pub RestoredIsSafe : Type 0
+RestoredIsSafe = (market : Market) (old new : List Entry) (changes : Changes) → IsMarket market
+    → AllByRecursion IsChange changes → IsSafe market old → Restores market old changes new → IsSafe market new
+
+-- changes give one history
+abbrev pub RestoresOne : Type 0
+RestoresOne = (market : Market) (old new other : List Entry) (changes : Changes)
+    → Restores market old changes new → Restores market old changes other → new ≡ other
+
+-- changes that are taken back behind others are taken back with them
+abbrev pub RestoresJoin : Type 0
+RestoresJoin = (market : Market) (old middle new : List Entry) (first second : Changes)
+    → Restores market old first middle → Restores market middle second new → Restores market old (first ++ second) new
+
+-- so is each front of changes that are taken back
+abbrev pub FrontIsRestored : Type 0
+FrontIsRestored = (market : Market) (old new : List Entry) (first second : Changes) → Restores market old (first ++ second) new
+    → (middle : List Entry) × Restores market old first middle × Restores market middle second new

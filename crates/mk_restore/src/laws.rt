@@ -1,0 +1,37 @@
+//! Laws of what is taken back.
+ghost use Rattle.mk_restore.specs.Laws.{AllowedFits, RunIsRestored, FitIsSafe, RestoredIsSafe, RestoresOne, RestoresJoin, FrontIsRestored};
+
+/// An allowed reply that appends an entry is taken back: what this market wrote fits.
+pub fn allowed_fits()
+    ensures { AllowedFits }
+{}
+
+/// The changes of a run give its history back.
+pub fn run_is_restored()
+    ensures { RunIsRestored }
+{}
+
+/// A change that is taken back keeps all that safety rests on, whatever its units are.
+pub fn fit_is_safe()
+    ensures { FitIsSafe }
+{}
+
+/// So do many.
+pub fn restored_is_safe()
+    ensures { RestoredIsSafe }
+{}
+
+/// Changes give one history.
+pub fn restores_one()
+    ensures { RestoresOne }
+{}
+
+/// Changes that are taken back behind others are taken back with them.
+pub fn restores_join()
+    ensures { RestoresJoin }
+{}
+
+/// Each front of changes that are taken back is taken back.
+pub fn front_is_restored()
+    ensures { FrontIsRestored }
+{}

@@ -1,0 +1,11 @@
+//! What a market takes back after a restart: the changes that fit a history, and what they leave.
+//! Nothing here runs; the definitions in `specs/` are what a restore is measured against, and the
+//! functions below state laws of them.
+#![tactic(auto)]
+
+mod laws;
+
+pub use laws::{
+    allowed_fits, fit_is_safe, front_is_restored, restored_is_safe, restores_join, restores_one,
+    run_is_restored,
+};
