@@ -1,17 +1,19 @@
 -- The laws of what is taken back. Each is the contract of a function of this crate, and so proved.
-use Rattle.std.specs.Prelude.{◌≡◌, List, ◌++◌, Some}
+use Rattle.std.specs.Prelude.{◌≡◌, ◌≢◌, ℕ, ◌+◌, List, [], ◌∷◌, ◌++◌, length, All, Some}
 use Rattle.std.specs.List.{AllByRecursion}
-use Rattle.mk_exact.specs.History.{Entry, trades}
+use Rattle.mk_exact.specs.History.{Entry, trades, revision}
 use Rattle.mk_exact.specs.Market.{Market, network_of, cliques_of}
 use Rattle.mk_exact.specs.Proper.{IsProper}
 use Rattle.mk_command.specs.declared.command.Command.{Command}
+use Rattle.mk_command.specs.Commands.{IsCommand, command_text}
 use Rattle.mk_reply.specs.declared.reply.Reply.{Reply}
+use Rattle.mk_reply.specs.Replies.{reply_text}
 use Rattle.mk_rules.specs.Quotes.{Quotes}
 use Rattle.mk_rules.specs.Answers.{IsAllowed, entry_of, next_history}
-use Rattle.mk_rules.specs.Standings.{IsMarket, IsInClique}
+use Rattle.mk_rules.specs.Standings.{IsMarket, IsInClique, Stands}
 use Rattle.mk_rules.specs.Bounded.{IsBounded}
 use Rattle.mk_rules.specs.Transcript.{Standing, Line, Run}
-use Rattle.mk_restore.specs.Restoring.{IsFit, Changes, Restores, changes_of, IsChange}
+use Rattle.mk_restore.specs.Restoring.{IsFit, Changes, Restores, changes_of, IsChange, IsRecord}
 
 -- an allowed reply that appends an entry is taken back
 abbrev pub AllowedFits : Type 0
@@ -54,3 +56,17 @@ RestoresJoin = (market : Market) (old middle new : List Entry) (first second : C
 abbrev pub FrontIsRestored : Type 0
 FrontIsRestored = (market : Market) (old new : List Entry) (first second : Changes) → Restores market old (first ++ second) new
     → (middle : List Entry) × Restores market old first middle × Restores market middle second new
+
+-- no command's text has an LF
+abbrev pub CommandIsOneLine : Type 0
+CommandIsOneLine = (command : Command) → IsCommand command → All (λ b. b ≢ 10) (command_text command)
+
+-- so the first LF of a record stands between its command and its reply
+abbrev pub RecordSplits : Type 0
+RecordSplits = (bytes : List ℕ) (command : Command) (reply : Reply) (front rest : List ℕ) → IsRecord bytes command reply
+    → All (λ b. b ≢ 10) front → bytes ≡ front ++ 10 ∷ rest → (front ≡ command_text command) × (rest ≡ reply_text reply)
+
+-- and a record holds one change
+abbrev pub RecordHoldsOne : Type 0
+RecordHoldsOne = (bytes : List ℕ) (command other : Command) (reply another : Reply)
+    → IsRecord bytes command reply → IsRecord bytes other another → (command ≡ other) × (reply ≡ another)

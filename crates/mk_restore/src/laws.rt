@@ -1,5 +1,5 @@
 //! Laws of what is taken back.
-ghost use Rattle.mk_restore.specs.Laws.{AllowedFits, RunIsRestored, FitIsSafe, RestoredIsSafe, RestoresOne, RestoresJoin, FrontIsRestored};
+ghost use Rattle.mk_restore.specs.Laws.{AllowedFits, RunIsRestored, FitIsSafe, RestoredIsSafe, RestoresOne, RestoresJoin, FrontIsRestored, CommandIsOneLine, RecordSplits, RecordHoldsOne};
 
 /// An allowed reply that appends an entry is taken back: what this market wrote fits.
 pub fn allowed_fits()
@@ -34,4 +34,19 @@ pub fn restores_join()
 /// Each front of changes that are taken back is taken back.
 pub fn front_is_restored()
     ensures { FrontIsRestored }
+{}
+
+/// No command's text has an LF.
+pub fn command_is_one_line()
+    ensures { CommandIsOneLine }
+{}
+
+/// The first LF of a record stands between its command and its reply.
+pub fn record_splits()
+    ensures { RecordSplits }
+{}
+
+/// A record holds one change.
+pub fn record_holds_one()
+    ensures { RecordHoldsOne }
 {}
