@@ -2,3 +2,4 @@ pub mod Joined
 pub mod Taken
 pub mod Safe
 pub mod Records
+pub mod Counted

@@ -1,5 +1,5 @@
 -- The first LF of a record ends its command.
-use Rattle.std.proofs.Common.{◌≡◌, ◌≢◌, ℕ, ◌+◌, ◌<◌, ◌^◌, Bool, true, false, not, ◌&&◌, List, [], ◌∷◌, ◌++◌, Option, Some, None, IfSome, refl, sym, ap, ap₂, ◌∙◌, arith}
+use Rattle.std.proofs.Common.{◌≡◌, ◌≢◌, ℕ, ◌+◌, ◌<◌, ◌^◌, Bool, true, false, not, ◌&&◌, List, [], ◌∷◌, ◌++◌, Option, Some, None, IfSome, refl, sym, ap, ap₂, ◌∙◌, arith, length, length-append}
 use Rattle.std.specs.Prelude.{◌==◌, codes, decimal}
 use Rattle.std.specs.List.{All, AllByRecursion, list_all}
 use Rattle.std.proofs.lemmas.Bool.{eq-eqb, and_parts}
@@ -19,10 +19,12 @@ use Rattle.mk_command.specs.declared.command.Command.{Command}
 use Rattle.mk_command.specs.declared.command.Command.TheVariants.{User, Deposit, Withdraw, Price, Limits, Edit, Bounds, Spread, Worst, Resolve, Settle, Bound}
 use Rattle.mk_command.specs.declared.command.Command.TheVariants.{Prices, Position, Status}
 use Rattle.mk_command.specs.Commands.{IsCommand, command_text, at_text}
+use Rattle.mk_command.proofs.LengthLaws.{command_length}
 use Rattle.mk_command.proofs.CommandLaws.{form_tells as commands_tell}
 use Rattle.mk_reply.specs.Replies.{reply_text}
+use Rattle.mk_reply.proofs.LengthLaws.{reply_length}
 use Rattle.mk_reply.proofs.ReplyLaws.{form_tells as replies_tell}
-use Rattle.mk_restore.specs.Laws.{CommandIsOneLine, RecordSplits, RecordHoldsOne}
+use Rattle.mk_restore.specs.Laws.{CommandIsOneLine, RecordSplits, RecordHoldsOne, RecordIsShort}
 
 abbrev is_within : ℕ → Bool
 is_within b = not (b == 10)
@@ -187,3 +189,11 @@ record_holds_one bytes command other reply another is also =
       whole_one commands_tell command other is.has_texts.0 also.has_texts.0 same.0,
       whole_one replies_tell reply another is.has_texts.1 also.has_texts.1 same.1,
     )
+
+pub record_is_short : RecordIsShort
+record_is_short bytes command reply is = omega (
+  arith,
+  ap length is.text ∙ length-append (command_text command) (10 ∷ reply_text reply),
+  command_length command is.has_texts.0,
+  reply_length reply is.has_texts.1,
+)

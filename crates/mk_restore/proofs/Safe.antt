@@ -15,7 +15,7 @@ use Rattle.mk_exact.specs.History.{Entry, UserTrade, Join, Deposit as Deposits, 
 use Rattle.mk_exact.specs.Accepted.{IsInRange}
 use Rattle.mk_exact.specs.Market.{Market, network_of, cliques_of}
 use Rattle.mk_exact.specs.Proper.{IsProper}
-use Rattle.mk_exact.proofs.Range.{proper_next}
+use Rattle.mk_exact.proofs.Range.{empty_proper, proper_next}
 use Rattle.mk_exact.proofs.After.{trades_kept, trades_more}
 use Rattle.mk_exact.proofs.Sums.{each-append, each_weaker}
 use Rattle.mk_command.specs.declared.command.Command.{Command}
@@ -31,13 +31,14 @@ use Rattle.mk_rules.specs.Standings.{IsMarket, IsInClique}
 use Rattle.mk_rules.specs.Bounded.{IsTransferOf}
 use Rattle.mk_rules.proofs.Appended.{Appends, reply_appends}
 use Rattle.mk_rules.proofs.Bounds.{MayFollow, entry_bounded}
+use Rattle.mk_rules.proofs.Follows.{opening_is_bounded}
 use Rattle.mk_rules.proofs.Coming.{some_with_pair}
 use Rattle.mk_rules.proofs.Spreads.{spread_is, spread_not_wide}
 use Rattle.mk_rules.proofs.Spreadable.{spread_exists, as_many_shares}
 use Rattle.mk_rules.proofs.Traded.{ratio_fits, each_factor}
 use Rattle.mk_rules.proofs.Unrefused.{none_applies, not_faulted, user_in_range, number_in_range, question_exists, question_known, not_wide, pair_known, not_resolved}
 use Rattle.mk_restore.specs.Restoring.{Agrees, refusals_again, IsFit, Changes, Restores, IsChange}
-use Rattle.mk_restore.specs.Laws.{IsSafe, FitIsSafe, RestoredIsSafe}
+use Rattle.mk_restore.specs.Laws.{IsSafe, FitIsSafe, OpeningIsSafe, RestoredIsSafe}
 
 each_of : (P Q : ℕ → Type 0) → ((n : ℕ) → P n → Q n) → (xs : List ℕ) → All P xs → AllByRecursion Q xs
 each_of P Q f xs h = each_weaker P Q f xs (recursion_from_All P xs h)
@@ -184,6 +185,10 @@ unfolding IsUnrefused
 fit_is_safe market H command reply is_market text safe fit =
     next_is_safe market H (entry_of market H command reply) is_market safe
     (fit_follows market H command reply safe.proper text.0 text.1 fit.unrefused fit.agrees)
+
+pub opening_is_safe : OpeningIsSafe
+opening_is_safe market is_market =
+    record { proper = empty_proper (network_of market []) is_market.network; none_wide = tt; bounded = opening_is_bounded market }
 
 pub restored_is_safe : RestoredIsSafe
 restored_is_safe market old new [] is_market text safe h = subst (IsSafe market) (sym h) safe

@@ -21,10 +21,12 @@ use Rattle.mk_rules.specs.Refusals.{question_named, spread_named, user_number, r
 use Rattle.mk_rules.specs.Quotes.{Quotes, last_quote, current_limits, current_bounds}
 use Rattle.mk_rules.specs.Answers.{IsWithdrawal, IsAnswer, IsAllowed, entry_of, next_history}
 use Rattle.mk_rules.specs.Transcript.{Standing, OfCommand, NoCommand, LongLine, after}
+use Rattle.mk_rules.specs.Standings.{Stands}
+use Rattle.mk_rules.proofs.Keeps.{allowed_keeps}
 use Rattle.mk_rules.proofs.Options.{value_of}
 use Rattle.mk_rules.proofs.Appended.{Appends, refused_appends, reply_appends, judged_appends, spread_appends}
 use Rattle.mk_restore.specs.Restoring.{IsTradeAt, IsSpreadAt, Agrees, refusals_again, IsFit, Changes, Restores, change_of}
-use Rattle.mk_restore.specs.Laws.{AllowedFits, RunIsRestored}
+use Rattle.mk_restore.specs.Laws.{AllowedFits, RunIsRestored, FrontStands}
 
 -- where none of several applies, none of the first ones does
 front_is_none : {F : Type 0} (first second : List (Option F)) → first_of (first ++ second) ≡ None → first_of first ≡ None
@@ -167,3 +169,41 @@ run_is_restored market old new (OfCommand command ∷ lines) (reply ∷ replies)
     (run_is_restored market (after market old (OfCommand command) reply) new lines replies h.1)
 run_is_restored market old new (NoCommand ∷ lines) (reply ∷ replies) h = run_is_restored market old new lines replies h.1
 run_is_restored market old new (LongLine ∷ lines) (reply ∷ replies) h = run_is_restored market old new lines replies h.1
+
+-- from a history that stands each front of a run's changes gives one that stands
+line_front : (market : Market) (H : List Entry) (quotes : Quotes) (command : Command) (reply : Reply) (rest first second : Changes)
+    → Stands market H → IsAllowed market H quotes command reply
+    → ((first : Changes) → rest ≡ first ++ second
+    → (middle : List Entry) × Restores market (next_history market H command reply) first middle × Stands market middle)
+    → change_of market H (OfCommand command) reply ++ rest ≡ first ++ second
+    → (middle : List Entry) × Restores market H first middle × Stands market middle
+line_front market H quotes command reply rest [] second stands allowed later e = (H, refl, stands)
+line_front market H quotes command reply rest (change ∷ first) second stands allowed later e = at (entry_of market H command reply) refl e
+  where
+    parts : (a b : Command × Reply) (xs ys : Changes) → a ∷ xs ≡ b ∷ ys → (a ≡ b) × (xs ≡ ys)
+    parts a b xs ys same = (cc, cc)
+
+    at : (o : Option Entry) → entry_of market H command reply ≡ o
+        → (elim o [ None ↦ [] | Some e ↦ (command, reply) ∷ [] ]) ++ rest ≡ change ∷ (first ++ second)
+        → (middle : List Entry) × Restores market H (change ∷ first) middle × Stands market middle
+    at None none e =
+        let found = later (change ∷ first) e in
+        let same : next_history market H command reply ≡ H = ap (λ (o : Option Entry). H ++ option_to_list o) none ∙ append-nil H in
+        (found.0, subst (λ (l : List Entry). Restores market l (change ∷ first) found.0) same found.1, found.2)
+    at (Some entry) some e =
+        let same = parts (command, reply) change rest (first ++ second) e in
+        let found = later first same.1 in
+        let fit = allowed_fits market H quotes command reply entry allowed some in
+        (found.0, subst (λ (c : Command × Reply). Restores market H (c ∷ first) found.0) same.0 (fit, found.1), found.2)
+
+pub front_stands : FrontStands
+front_stands market old new [] [] [] second stands h e = (old.history, refl, stands)
+front_stands market old new [] [] (change ∷ first) second stands h e = cc
+front_stands market old new [] (reply ∷ replies) first second stands h e = absurd h
+front_stands market old new (line ∷ lines) [] first second stands h e = absurd h
+front_stands market old new (OfCommand command ∷ lines) (reply ∷ replies) first second stands h e =
+    line_front market old.history old.quotes command reply _ first second stands h.0
+    (λ first e. front_stands market (after market old (OfCommand command) reply) new lines replies first second
+    (allowed_keeps market old (OfCommand command) reply stands h.0) h.1 e) e
+front_stands market old new (NoCommand ∷ lines) (reply ∷ replies) first second stands h e = front_stands market old new lines replies first second stands h.1 e
+front_stands market old new (LongLine ∷ lines) (reply ∷ replies) first second stands h e = front_stands market old new lines replies first second stands h.1 e

@@ -1,5 +1,5 @@
 -- The laws of what is taken back. Each is the contract of a function of this crate, and so proved.
-use Rattle.std.specs.Prelude.{◌≡◌, ◌≢◌, ℕ, ◌+◌, List, [], ◌∷◌, ◌++◌, length, All, Some}
+use Rattle.std.specs.Prelude.{◌≡◌, ◌≢◌, ℕ, ◌+◌, ◌≤◌, List, [], ◌∷◌, ◌++◌, length, All, Some}
 use Rattle.std.specs.List.{AllByRecursion}
 use Rattle.mk_exact.specs.History.{Entry, trades, revision}
 use Rattle.mk_exact.specs.Market.{Market, network_of, cliques_of}
@@ -25,6 +25,12 @@ abbrev pub RunIsRestored : Type 0
 RunIsRestored = (market : Market) (old new : Standing) (lines : List Line) (replies : List Reply)
     → Run market old lines replies new → Restores market old.history (changes_of market old lines replies) new.history
 
+-- each front of them gives back a history that stands, as each that an honest store is left with
+abbrev pub FrontStands : Type 0
+FrontStands = (market : Market) (old new : Standing) (lines : List Line) (replies : List Reply) (first second : Changes)
+    → Stands market old.history → Run market old lines replies new → changes_of market old lines replies ≡ first ++ second
+    → (middle : List Entry) × Restores market old.history first middle × Stands market middle
+
 -- what a market's safety rests on, sound or not: users, pairs and units are in range, some state is
 -- possible, no trade is wide, and the history is bounded
 pub record IsSafe (market : Market) (H : List Entry) : Type 0 where
@@ -37,10 +43,24 @@ abbrev pub FitIsSafe : Type 0
 FitIsSafe = (market : Market) (H : List Entry) (command : Command) (reply : Reply) → IsMarket market
     → IsChange (command, reply) → IsSafe market H → IsFit market H command reply → IsSafe market (next_history market H command reply)
 
+-- the opening has it
+abbrev pub OpeningIsSafe : Type 0
+OpeningIsSafe = (market : Market) → IsMarket market → IsSafe market []
+
 -- and so do many
 abbrev pub RestoredIsSafe : Type 0
 RestoredIsSafe = (market : Market) (old new : List Entry) (changes : Changes) → IsMarket market
     → AllByRecursion IsChange changes → IsSafe market old → Restores market old changes new → IsSafe market new
+
+-- a change that is taken back appends an entry
+abbrev pub FitAppends : Type 0
+FitAppends = (market : Market) (H : List Entry) (command : Command) (reply : Reply) → IsFit market H command reply
+    → (e : Entry) × (entry_of market H command reply ≡ Some e)
+
+-- so a market is at the revision of as many changes as it took back
+abbrev pub EachCounts : Type 0
+EachCounts = (market : Market) (old new : List Entry) (changes : Changes) → Restores market old changes new
+    → revision new ≡ revision old + length changes
 
 -- changes give one history
 abbrev pub RestoresOne : Type 0
@@ -70,3 +90,7 @@ RecordSplits = (bytes : List ℕ) (command : Command) (reply : Reply) (front res
 abbrev pub RecordHoldsOne : Type 0
 RecordHoldsOne = (bytes : List ℕ) (command other : Command) (reply another : Reply)
     → IsRecord bytes command reply → IsRecord bytes other another → (command ≡ other) × (reply ≡ another)
+
+-- it is as long as a store's record may be
+abbrev pub RecordIsShort : Type 0
+RecordIsShort = (bytes : List ℕ) (command : Command) (reply : Reply) → IsRecord bytes command reply → (1 ≤ length bytes) × (length bytes ≤ 34000)

@@ -1,5 +1,8 @@
 //! Laws of what is taken back.
-ghost use Rattle.mk_restore.specs.Laws.{AllowedFits, RunIsRestored, FitIsSafe, RestoredIsSafe, RestoresOne, RestoresJoin, FrontIsRestored, CommandIsOneLine, RecordSplits, RecordHoldsOne};
+ghost use Rattle.mk_restore.specs.Laws.{AllowedFits, RunIsRestored, FrontStands};
+ghost use Rattle.mk_restore.specs.Laws.{FitIsSafe, OpeningIsSafe, RestoredIsSafe};
+ghost use Rattle.mk_restore.specs.Laws.{FitAppends, EachCounts, RestoresOne, RestoresJoin, FrontIsRestored};
+ghost use Rattle.mk_restore.specs.Laws.{CommandIsOneLine, RecordSplits, RecordHoldsOne, RecordIsShort};
 
 /// An allowed reply that appends an entry is taken back: what this market wrote fits.
 pub fn allowed_fits()
@@ -11,14 +14,34 @@ pub fn run_is_restored()
     ensures { RunIsRestored }
 {}
 
+/// From a history that stands, each front of a run's changes gives one that stands.
+pub fn front_stands()
+    ensures { FrontStands }
+{}
+
 /// A change that is taken back keeps all that safety rests on, whatever its units are.
 pub fn fit_is_safe()
     ensures { FitIsSafe }
 {}
 
+/// The opening has it.
+pub fn opening_is_safe()
+    ensures { OpeningIsSafe }
+{}
+
 /// So do many.
 pub fn restored_is_safe()
     ensures { RestoredIsSafe }
+{}
+
+/// A change that is taken back appends an entry.
+pub fn fit_appends()
+    ensures { FitAppends }
+{}
+
+/// The revision grows by the number of changes.
+pub fn each_counts()
+    ensures { EachCounts }
 {}
 
 /// Changes give one history.
@@ -49,4 +72,9 @@ pub fn record_splits()
 /// A record holds one change.
 pub fn record_holds_one()
     ensures { RecordHoldsOne }
+{}
+
+/// A record has 1 to 34,000 bytes.
+pub fn record_is_short()
+    ensures { RecordIsShort }
 {}
