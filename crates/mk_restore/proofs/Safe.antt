@@ -1,5 +1,6 @@
 -- A change that is taken back harms nothing, whatever its units are.
-use Rattle.std.proofs.Common.{◌≡◌, ℕ, ◌+◌, ◌<◌, ◌≤◌, List, [], ◌∷◌, ◌++◌, length, Option, Some, None, IfSome, refl, sym, ◌∙◌, subst, arith, append-nil}
+use Rattle.std.proofs.Common.{◌≡◌, ℕ, ◌+◌, ◌<◌, ◌≤◌, List, [], ◌∷◌, ◌++◌, length, Option, Some}
+use Rattle.std.proofs.Common.{None, IfSome, refl, sym, ◌∙◌, subst, arith, append-nil}
 use Rattle.std.specs.Prelude.{option_to_list}
 use Rattle.std.specs.List.{AllByRecursion, All, count_by}
 use Rattle.std.proofs.lemmas.Bool.{leb-false}
@@ -11,7 +12,10 @@ use Rattle.mk_net.specs.Bounds.{max_users, max_transfers, max_transfer_bits, num
 use Rattle.mk_net.specs.Network.{sizes}
 use Rattle.mk_net.specs.Firsts.{first_of}
 use Rattle.std.specs.Prelude.{slice_index}
-use Rattle.mk_exact.specs.History.{Entry, UserTrade, Join, Deposit as Deposits, Withdraw as Withdraws, Trade, Resolve as Resolves, Settle as Settles, trade_in, users, trades, is_transfer, revision}
+use Rattle.mk_exact.specs.History.{Entry, UserTrade, Join, Deposit as Deposits}
+use Rattle.mk_exact.specs.History.{Withdraw as Withdraws, Trade, Resolve as Resolves}
+use Rattle.mk_exact.specs.History.{Settle as Settles, trade_in, users, trades, is_transfer}
+use Rattle.mk_exact.specs.History.{revision}
 use Rattle.mk_exact.specs.Accepted.{IsInRange}
 use Rattle.mk_exact.specs.Market.{Market, network_of, cliques_of}
 use Rattle.mk_exact.specs.Proper.{IsProper}
@@ -19,7 +23,9 @@ use Rattle.mk_exact.proofs.Range.{empty_proper, proper_next}
 use Rattle.mk_exact.proofs.After.{trades_kept, trades_more}
 use Rattle.mk_exact.proofs.Sums.{each-append, each_weaker}
 use Rattle.mk_command.specs.declared.command.Command.{Command}
-use Rattle.mk_command.specs.declared.command.Command.TheVariants.{User, Deposit, Withdraw, Price, Limits, Edit, Bounds, Spread, Worst, Resolve, Settle, Bound}
+use Rattle.mk_command.specs.declared.command.Command.TheVariants.{User, Deposit, Withdraw, Price}
+use Rattle.mk_command.specs.declared.command.Command.TheVariants.{Limits, Edit, Bounds, Spread}
+use Rattle.mk_command.specs.declared.command.Command.TheVariants.{Worst, Resolve, Settle, Bound}
 use Rattle.mk_command.specs.declared.command.Command.TheVariants.{Prices, Position, Status}
 use Rattle.mk_command.specs.Commands.{IsCommand}
 use Rattle.mk_reply.specs.declared.reply.Reply.{Reply}
@@ -36,11 +42,14 @@ use Rattle.mk_rules.proofs.Coming.{some_with_pair}
 use Rattle.mk_rules.proofs.Spreads.{spread_is, spread_not_wide}
 use Rattle.mk_rules.proofs.Spreadable.{spread_exists, as_many_shares}
 use Rattle.mk_rules.proofs.Traded.{ratio_fits, each_factor}
-use Rattle.mk_rules.proofs.Unrefused.{none_applies, not_faulted, user_in_range, number_in_range, question_exists, question_known, not_wide, pair_known, not_resolved}
+use Rattle.mk_rules.proofs.Unrefused.{none_applies, not_faulted, user_in_range, number_in_range}
+use Rattle.mk_rules.proofs.Unrefused.{question_exists, question_known, not_wide, pair_known}
+use Rattle.mk_rules.proofs.Unrefused.{not_resolved}
 use Rattle.mk_restore.specs.Restoring.{Agrees, refusals_again, IsFit, Changes, Restores, IsChange}
 use Rattle.mk_restore.specs.Laws.{IsSafe, FitIsSafe, OpeningIsSafe, RestoredIsSafe}
 
-each_of : (P Q : ℕ → Type 0) → ((n : ℕ) → P n → Q n) → (xs : List ℕ) → All P xs → AllByRecursion Q xs
+each_of : (P Q : ℕ → Type 0) → ((n : ℕ) → P n → Q n) → (xs : List ℕ) → All P xs
+    → AllByRecursion Q xs
 each_of P Q f xs h = each_weaker P Q f xs (recursion_from_All P xs h)
 
 -- an entry after which all that safety rests on stands
@@ -50,15 +59,21 @@ record MayBeNext (market : Market) (H : List Entry) (e : Entry) : Type 0 where
   follows : MayFollow market H e
 
 -- what holds of each trade before an entry and of its own holds of each trade after it
-each_trade : (P : UserTrade → Type 0) (H : List Entry) (e : Entry) → AllByRecursion P (trades H) → IfSome (trade_in e) P → AllByRecursion P (trades (H ++ e ∷ []))
+each_trade : (P : UserTrade → Type 0) (H : List Entry) (e : Entry) → AllByRecursion P (trades H)
+    → IfSome (trade_in e) P → AllByRecursion P (trades (H ++ e ∷ []))
 each_trade P H (Join name) h k = subst (AllByRecursion P) (sym (trades_kept H (Join name) refl)) h
-each_trade P H (Deposits u bits) h k = subst (AllByRecursion P) (sym (trades_kept H (Deposits u bits) refl)) h
-each_trade P H (Withdraws u bits) h k = subst (AllByRecursion P) (sym (trades_kept H (Withdraws u bits) refl)) h
-each_trade P H (Trade u r) h k = subst (AllByRecursion P) (sym (trades_more H u r)) (each-append P (trades H) (record { user = u; ratio = r } ∷ []) h (k, tt))
+each_trade P H (Deposits u bits) h k =
+    subst (AllByRecursion P) (sym (trades_kept H (Deposits u bits) refl)) h
+each_trade P H (Withdraws u bits) h k =
+    subst (AllByRecursion P) (sym (trades_kept H (Withdraws u bits) refl)) h
+each_trade P H (Trade u r) h k =
+    subst (AllByRecursion P) (sym (trades_more H u r))
+    (each-append P (trades H) (record { user = u; ratio = r } ∷ []) h (k, tt))
 each_trade P H (Resolves p) h k = subst (AllByRecursion P) (sym (trades_kept H (Resolves p) refl)) h
 each_trade P H Settles h k = subst (AllByRecursion P) (sym (trades_kept H Settles refl)) h
 
-next_is_safe : (market : Market) (H : List Entry) (o : Option Entry) → IsMarket market → IsSafe market H → IfSome o (MayBeNext market H) → IsSafe market (H ++ option_to_list o)
+next_is_safe : (market : Market) (H : List Entry) (o : Option Entry) → IsMarket market
+    → IsSafe market H → IfSome o (MayBeNext market H) → IsSafe market (H ++ option_to_list o)
 next_is_safe market H None is_market safe h = rw (append-nil H) safe
 next_is_safe market H (Some e) is_market safe h = record {
   proper = proper_next (network_of market H) H e safe.proper h.in_range;
@@ -74,13 +89,18 @@ module _ (market : Market) (H : List Entry) where
   abbrev Follows : Command → Reply → Type 0
   Follows command reply = Appends (MayBeNext market H) market H command reply
 
-  transfer_of : (u : List ℕ) (bits : ℕ) → no_user H u ≡ None → range max_transfer_bits bits ≡ None → transfers_full H ≡ None
-      → IsTransferOf (length (users H)) (user_number H u) bits × (count_by is_transfer H < max_transfers)
+  transfer_of : (u : List ℕ) (bits : ℕ) → no_user H u ≡ None → range max_transfer_bits bits ≡ None
+      → transfers_full H ≡ None
+      → IsTransferOf (length (users H)) (user_number H u) bits ×
+      (count_by is_transfer H < max_transfers)
   transfer_of u bits joined within room =
-      let numbers = number_in_range max_transfer_bits bits within in
-      (record { user = user_in_range H u joined; some = numbers.0; few = numbers.1 }, leb-false max_transfers (count_by is_transfer H) (not_faulted _ _ room))
+      let numbers = number_in_range max_transfer_bits bits within in (
+        record { user = user_in_range H u joined; some = numbers.0; few = numbers.1 },
+        leb-false max_transfers (count_by is_transfer H) (not_faulted _ _ room),
+      )
 
-  edit_follows : (u : List ℕ) (q : QuestionText) (X : ℕ) (seen : Option ℕ) (hit miss at : ℕ) → IsRatio hit → IsRatio miss
+  edit_follows : (u : List ℕ) (q : QuestionText) (X : ℕ) (seen : Option ℕ) (hit miss at : ℕ)
+      → IsRatio hit → IsRatio miss
       → IsUnrefused (Edit u q X seen) → Follows (Edit u q X seen) (Traded hit miss at)
   unfolding IsUnrefused
   edit_follows u q X seen hit miss at of_hit of_miss none =
@@ -89,16 +109,24 @@ module _ (market : Market) (H : List Entry) where
       let asked = question_exists network q refused.1.1.0 in
       let fits = question_known network q asked.0 refused.1.1.0 asked.1 in
       rw asked.1 (record {
-        in_range = record { user = user_in_range H u refused.1.0; ratio = ratio_fits network asked.0 hit miss fits of_hit.positive of_miss.positive };
+        in_range =
+            record {
+              user = user_in_range H u refused.1.0;
+              ratio = ratio_fits network asked.0 hit miss fits of_hit.positive of_miss.positive;
+            };
         narrow = not_wide market H q asked.0 asked.1 refused.1.1.1.1.1.1.1.0;
         follows = (
-          each_factor (λ n. n < number_limit) asked.0.target.value (slice_index (sizes network) asked.0.target.variable) hit miss of_hit.below of_miss.below,
-          leb-false market.max_trades (length (trades H)) (not_faulted _ _ refused.1.1.1.1.1.1.1.1.1.0),
+          each_factor (λ n. n < number_limit) asked.0.target.value
+              (slice_index (sizes network) asked.0.target.variable) hit miss of_hit.below of_miss.below,
+          leb-false market.max_trades (length (trades H))
+              (not_faulted _ _ refused.1.1.1.1.1.1.1.1.1.0),
         );
       })
 
-  spread_follows : (u v : List ℕ) (condition : ArrayVec PairText) (to : ArrayVec ℕ) (seen : Option ℕ) (factors : ArrayVec ℕ) (at : ℕ)
-      → All IsRatio factors.items → length factors.items ≡ length to.items → IsUnrefused (Spread u v condition to seen)
+  spread_follows : (u v : List ℕ) (condition : ArrayVec PairText) (to : ArrayVec ℕ)
+      (seen : Option ℕ) (factors : ArrayVec ℕ) (at : ℕ)
+      → All IsRatio factors.items → length factors.items ≡ length to.items
+      → IsUnrefused (Spread u v condition to seen)
       → Follows (Spread u v condition to seen) (Spreaded factors at)
   unfolding IsUnrefused
   spread_follows u v condition to seen factors at units as_many none =
@@ -112,18 +140,24 @@ module _ (market : Market) (H : List Entry) where
           ratio = record {
             variable = fits.variable;
             condition = fits.condition;
-            one_each = as_many ∙ as_many_shares network v condition.items spread.0 to.items spread.1 refused.1.1.1.1.1.1.1.1.1.0;
+            one_each =
+                as_many
+                ∙ as_many_shares network v condition.items spread.0 to.items spread.1
+                refused.1.1.1.1.1.1.1.1.1.0;
             positive = each_of IsRatio (λ n. 1 ≤ n) (λ n is. is.positive) factors.items units;
           };
         };
-        narrow = spread_not_wide market H v condition.items spread.0 spread.1 refused.1.1.1.1.1.1.1.1.0;
+        narrow =
+            spread_not_wide market H v condition.items spread.0 spread.1 refused.1.1.1.1.1.1.1.1.0;
         follows = (
           each_of IsRatio (λ n. n < number_limit) (λ n is. is.below) factors.items units,
-          leb-false market.max_trades (length (trades H)) (not_faulted _ _ refused.1.1.1.1.1.1.1.1.1.1.1.1.0),
+          leb-false market.max_trades (length (trades H))
+              (not_faulted _ _ refused.1.1.1.1.1.1.1.1.1.1.1.1.0),
         );
       })
 
-  resolve_follows : (p : PairText) (at : ℕ) → IsProper (network_of market H) H → IsUnrefused (Resolve p) → Follows (Resolve p) (Resolved p at)
+  resolve_follows : (p : PairText) (at : ℕ) → IsProper (network_of market H) H
+      → IsUnrefused (Resolve p) → Follows (Resolve p) (Resolved p at)
   unfolding IsUnrefused
   resolve_follows p at proper none =
       let network = network_of market H in
@@ -139,7 +173,8 @@ module _ (market : Market) (H : List Entry) where
         follows = tt;
       })
 
-  fit_follows : (command : Command) (reply : Reply) → IsProper (network_of market H) H → IsCommand command → IsReply reply
+  fit_follows : (command : Command) (reply : Reply) → IsProper (network_of market H) H
+      → IsCommand command → IsReply reply
       → IsUnrefused command → Agrees H command reply → Follows command reply
   unfolding IsUnrefused
   fit_follows (User u) reply proper text is_reply none e =
@@ -147,16 +182,29 @@ module _ (market : Market) (H : List Entry) where
       reply_appends (MayBeNext market H) market H (User u) reply _ e (record {
         in_range = tt;
         narrow = tt;
-        follows = (text, leb-false max_users (length (users H)) (not_faulted _ _ refused.1.1.0), not_faulted _ _ refused.1.0);
+        follows = (
+          text,
+          leb-false max_users (length (users H))
+              (not_faulted _ _ refused.1.1.0),
+          not_faulted _ _ refused.1.0,
+        );
       })
   fit_follows (Deposit u bits) reply proper text is_reply none e =
       let refused = none_applies (refusals_again market H (Deposit u bits)) none in
       reply_appends (MayBeNext market H) market H (Deposit u bits) reply _ e
-      (record { in_range = tt; narrow = tt; follows = transfer_of u bits refused.1.0 refused.1.1.0 refused.1.1.1.0 })
+      (record {
+        in_range = tt;
+        narrow = tt;
+        follows = transfer_of u bits refused.1.0 refused.1.1.0 refused.1.1.1.0;
+      })
   fit_follows (Withdraw u bits) reply proper text is_reply none e =
       let refused = none_applies (refusals_again market H (Withdraw u bits)) none in
       reply_appends (MayBeNext market H) market H (Withdraw u bits) reply _ e
-      (record { in_range = tt; narrow = tt; follows = transfer_of u bits refused.1.0 refused.1.1.0 refused.1.1.1.0 })
+      (record {
+        in_range = tt;
+        narrow = tt;
+        follows = transfer_of u bits refused.1.0 refused.1.1.0 refused.1.1.1.0;
+      })
   fit_follows (Price q) reply proper text is_reply none h = absurd h
   fit_follows (Limits u q) reply proper text is_reply none h = absurd h
   fit_follows (Edit u q X seen) reply proper text is_reply none trade =
@@ -166,11 +214,14 @@ module _ (market : Market) (H : List Entry) where
   fit_follows (Bounds u v condition) reply proper text is_reply none h = absurd h
   fit_follows (Spread u v condition to seen) reply proper text is_reply none trade =
       let units = subst IsReply trade.printed is_reply in
-      reply_appends (MayBeNext market H) market H (Spread u v condition to seen) reply _ trade.printed
-      (spread_follows u v condition to seen trade.factors (revision H + 1) units.0.each trade.one_each none)
+      reply_appends (MayBeNext market H) market H
+      (Spread u v condition to seen) reply _ trade.printed
+      (spread_follows u v condition to seen trade.factors
+      (revision H + 1) units.0.each trade.one_each none)
   fit_follows (Worst u) reply proper text is_reply none h = absurd h
   fit_follows (Resolve p) reply proper text is_reply none e =
-      reply_appends (MayBeNext market H) market H (Resolve p) reply _ e (resolve_follows p (revision H + 1) proper none)
+      reply_appends (MayBeNext market H) market H (Resolve p) reply _ e
+      (resolve_follows p (revision H + 1) proper none)
   fit_follows Settle reply proper text is_reply none settlement =
       let refused = none_applies (refusals_again market H Settle) none in
       reply_appends (MayBeNext market H) market H Settle reply _ settlement.printed
@@ -188,10 +239,16 @@ fit_is_safe market H command reply is_market text safe fit =
 
 pub opening_is_safe : OpeningIsSafe
 opening_is_safe market is_market =
-    record { proper = empty_proper (network_of market []) is_market.network; none_wide = tt; bounded = opening_is_bounded market }
+    record {
+      proper = empty_proper
+          (network_of market []) is_market.network;
+      none_wide = tt;
+      bounded = opening_is_bounded market;
+    }
 
 pub restored_is_safe : RestoredIsSafe
 restored_is_safe market old new [] is_market text safe h = subst (IsSafe market) (sym h) safe
 restored_is_safe market old new (change ∷ changes) is_market text safe h =
-    restored_is_safe market (next_history market old (change.0) (change.1)) new changes is_market text.1
+    restored_is_safe market
+    (next_history market old (change.0) (change.1)) new changes is_market text.1
     (fit_is_safe market old (change.0) (change.1) is_market text.0 safe h.0) h.1

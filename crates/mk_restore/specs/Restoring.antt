@@ -5,12 +5,14 @@ use Rattle.mk_net.specs.Firsts.{first_of}
 use Rattle.mk_exact.specs.History.{Entry, users, revision}
 use Rattle.mk_exact.specs.Market.{Market}
 use Rattle.mk_command.specs.declared.command.Command.{Command}
-use Rattle.mk_command.specs.declared.command.Command.TheVariants.{User, Deposit, Withdraw, Edit, Spread, Resolve, Settle}
+use Rattle.mk_command.specs.declared.command.Command.TheVariants.{User, Deposit, Withdraw, Edit}
+use Rattle.mk_command.specs.declared.command.Command.TheVariants.{Spread, Resolve, Settle}
 use Rattle.mk_command.specs.Commands.{IsCommand, command_text}
 use Rattle.mk_reply.specs.declared.payments.Payment.{Payment}
 use Rattle.mk_reply.specs.declared.refusal.Refusal.{Refusal}
 use Rattle.mk_reply.specs.declared.reply.Reply.{Reply}
-use Rattle.mk_reply.specs.declared.reply.Reply.TheVariants.{Joined, Deposited, Withdrawn, Traded, Spreaded, Resolved, Settled}
+use Rattle.mk_reply.specs.declared.reply.Reply.TheVariants.{Joined, Deposited, Withdrawn, Traded}
+use Rattle.mk_reply.specs.declared.reply.Reply.TheVariants.{Spreaded, Resolved, Settled}
 use Rattle.mk_reply.specs.Replies.{IsReply, reply_text}
 use Rattle.mk_rules.specs.Refusals.{refusals_by_record, refusals}
 use Rattle.mk_rules.specs.Answers.{entry_of, next_history}
@@ -52,7 +54,8 @@ refusals_again market H (Resolve p) = refusals market H (Resolve p)
 refusals_again market H command = refusals_by_record market H command
 
 -- a command and a reply that are taken back
-pub record IsFit (market : Market) (H : List Entry) (command : Command) (reply : Reply) : Type 0 where
+pub record IsFit (market : Market) (H : List Entry) (command : Command)
+    (reply : Reply) : Type 0 where
   pub unrefused : first_of (refusals_again market H command) ≡ None
   pub agrees : Agrees H command reply
 

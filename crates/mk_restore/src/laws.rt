@@ -1,8 +1,10 @@
 //! Laws of what is taken back.
 ghost use Rattle.mk_restore.specs.Laws.{AllowedFits, RunIsRestored, FrontStands};
 ghost use Rattle.mk_restore.specs.Laws.{FitIsSafe, OpeningIsSafe, RestoredIsSafe};
-ghost use Rattle.mk_restore.specs.Laws.{FitAppends, EachCounts, RestoresOne, RestoresJoin, FrontIsRestored};
-ghost use Rattle.mk_restore.specs.Laws.{CommandIsOneLine, RecordSplits, RecordHoldsOne, RecordIsShort};
+ghost use Rattle.mk_restore.specs.Laws.{FitAppends, EachCounts, RestoresOne, RestoresJoin};
+ghost use Rattle.mk_restore.specs.Laws.{FrontIsRestored};
+ghost use Rattle.mk_restore.specs.Laws.{CommandIsOneLine, RecordSplits, RecordHoldsOne};
+ghost use Rattle.mk_restore.specs.Laws.{RecordIsShort};
 
 /// An allowed reply that appends an entry is taken back: what this market wrote fits.
 pub fn allowed_fits()
