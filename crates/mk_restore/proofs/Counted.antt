@@ -1,5 +1,5 @@
 -- Each change that is taken back appends an entry.
-use Rattle.std.proofs.Common.{◌≡◌, ℕ, ◌+◌, List, [], ◌∷◌, ◌++◌, length, Option, Some, None, refl}
+use Rattle.std.proofs.Common.{◌≡◌, ◌+◌, [], ◌∷◌, ◌++◌, length, Option, Some, None}
 use Rattle.std.proofs.Common.{ap, ◌∙◌, arith, length-append}
 use Rattle.std.specs.Prelude.{option_to_list, option_map}
 use Rattle.mk_net.specs.Firsts.{first_of}
@@ -7,19 +7,18 @@ use Rattle.mk_net.specs.Asked.{Asked}
 use Rattle.mk_exact.specs.History.{Entry, Join, Deposit as Deposits, Withdraw as Withdraws, Trade}
 use Rattle.mk_exact.specs.History.{Resolve as Resolves, Settle as Settles}
 use Rattle.mk_exact.specs.Sides.{ratio_in}
-use Rattle.mk_exact.specs.Market.{Market, network_of}
+use Rattle.mk_exact.specs.Market.{network_of}
 use Rattle.mk_spread.specs.Spreads.{SpreadAsked, spread_ratio}
 use Rattle.mk_command.specs.declared.command.Command.{Command}
 use Rattle.mk_command.specs.declared.command.Command.TheVariants.{User, Deposit, Withdraw, Price}
 use Rattle.mk_command.specs.declared.command.Command.TheVariants.{Limits, Edit, Bounds, Spread}
 use Rattle.mk_command.specs.declared.command.Command.TheVariants.{Worst, Resolve, Settle, Bound}
 use Rattle.mk_command.specs.declared.command.Command.TheVariants.{Prices, Position, Status}
-use Rattle.mk_reply.specs.declared.reply.Reply.{Reply}
 use Rattle.mk_rules.specs.Refusals.{user_number}
 use Rattle.mk_rules.specs.Answers.{entry_of, next_history}
 use Rattle.mk_rules.proofs.Spreadable.{spread_exists}
 use Rattle.mk_rules.proofs.Unrefused.{none_applies, question_exists, pair_known}
-use Rattle.mk_restore.specs.Restoring.{Agrees, refusals_again, Restores}
+use Rattle.mk_restore.specs.Restoring.{Agrees, refusals_again}
 use Rattle.mk_restore.specs.Laws.{FitAppends, EachCounts}
 
 pub fit_appends : FitAppends

@@ -1,9 +1,8 @@
 -- Lists of changes, one behind another.
-use Rattle.std.proofs.Common.{◌≡◌, List, [], ◌∷◌, ◌++◌, refl, sym, ◌∙◌, subst}
+use Rattle.std.proofs.Common.{List, [], ◌∷◌, refl, sym, ◌∙◌, subst}
 use Rattle.mk_exact.specs.History.{Entry}
-use Rattle.mk_exact.specs.Market.{Market}
 use Rattle.mk_rules.specs.Answers.{next_history}
-use Rattle.mk_restore.specs.Restoring.{Changes, Restores}
+use Rattle.mk_restore.specs.Restoring.{Restores}
 use Rattle.mk_restore.specs.Laws.{RestoresOne, RestoresJoin, FrontIsRestored}
 
 pub restores_one : RestoresOne

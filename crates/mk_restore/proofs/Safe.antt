@@ -1,6 +1,6 @@
 -- A change that is taken back harms nothing, whatever its units are.
 use Rattle.std.proofs.Common.{◌≡◌, ℕ, ◌+◌, ◌<◌, ◌≤◌, List, [], ◌∷◌, ◌++◌, length, Option, Some}
-use Rattle.std.proofs.Common.{None, IfSome, refl, sym, ◌∙◌, subst, arith, append-nil}
+use Rattle.std.proofs.Common.{None, IfSome, refl, sym, ◌∙◌, subst, append-nil}
 use Rattle.std.specs.Prelude.{option_to_list}
 use Rattle.std.specs.List.{AllByRecursion, All, count_by}
 use Rattle.std.proofs.lemmas.Bool.{leb-false}
@@ -45,7 +45,7 @@ use Rattle.mk_rules.proofs.Traded.{ratio_fits, each_factor}
 use Rattle.mk_rules.proofs.Unrefused.{none_applies, not_faulted, user_in_range, number_in_range}
 use Rattle.mk_rules.proofs.Unrefused.{question_exists, question_known, not_wide, pair_known}
 use Rattle.mk_rules.proofs.Unrefused.{not_resolved}
-use Rattle.mk_restore.specs.Restoring.{Agrees, refusals_again, IsFit, Changes, Restores, IsChange}
+use Rattle.mk_restore.specs.Restoring.{Agrees, refusals_again}
 use Rattle.mk_restore.specs.Laws.{IsSafe, FitIsSafe, OpeningIsSafe, RestoredIsSafe}
 
 each_of : (P Q : ℕ → Type 0) → ((n : ℕ) → P n → Q n) → (xs : List ℕ) → All P xs
@@ -117,7 +117,8 @@ module _ (market : Market) (H : List Entry) where
         narrow = not_wide market H q asked.0 asked.1 refused.1.1.1.1.1.1.1.0;
         follows = (
           each_factor (λ n. n < number_limit) asked.0.target.value
-              (slice_index (sizes network) asked.0.target.variable) hit miss of_hit.below of_miss.below,
+              (slice_index (sizes network) asked.0.target.variable) hit miss
+              of_hit.below of_miss.below,
           leb-false market.max_trades (length (trades H))
               (not_faulted _ _ refused.1.1.1.1.1.1.1.1.1.0),
         );

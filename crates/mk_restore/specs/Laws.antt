@@ -38,22 +38,22 @@ FrontStands =
     → changes_of market old lines replies ≡ first ++ second
     → (middle : List Entry) × Restores market old.history first middle × Stands market middle
 
--- what a market's safety rests on, sound or not: users, pairs and units are in range, some state is
--- possible, no trade is wide, and the history is bounded
+-- what a market's safety rests on, sound or not: users, pairs and units are in range, some state
+-- is possible, no trade is wide, and the history is bounded
 pub record IsSafe (market : Market) (H : List Entry) : Type 0 where
   pub proper : IsProper (network_of market H) H
   pub none_wide : AllByRecursion (IsInClique (cliques_of market H)) (trades H)
   pub bounded : IsBounded market H
 
--- a change that is taken back keeps that, whatever its units are
+-- the opening has it
+abbrev pub OpeningIsSafe : Type 0
+OpeningIsSafe = (market : Market) → IsMarket market → IsSafe market []
+
+-- a change that is taken back keeps it, whatever its units are
 abbrev pub FitIsSafe : Type 0
 FitIsSafe = (market : Market) (H : List Entry) (command : Command) (reply : Reply) → IsMarket market
     → IsChange (command, reply) → IsSafe market H → IsFit market H command reply
     → IsSafe market (next_history market H command reply)
-
--- the opening has it
-abbrev pub OpeningIsSafe : Type 0
-OpeningIsSafe = (market : Market) → IsMarket market → IsSafe market []
 
 -- and so do many
 abbrev pub RestoredIsSafe : Type 0

@@ -21,14 +21,14 @@ pub fn front_stands()
     ensures { FrontStands }
 {}
 
-/// A change that is taken back keeps all that safety rests on, whatever its units are.
-pub fn fit_is_safe()
-    ensures { FitIsSafe }
-{}
-
-/// The opening has it.
+/// The opening has all that a market's safety rests on.
 pub fn opening_is_safe()
     ensures { OpeningIsSafe }
+{}
+
+/// A change that is taken back keeps it, whatever its units are: no store can do harm.
+pub fn fit_is_safe()
+    ensures { FitIsSafe }
 {}
 
 /// So do many.
