@@ -3,7 +3,7 @@ use Rattle.std.proofs.Common.{◌≡◌, ◌+◌, [], ◌∷◌, ◌++◌, lengt
 use Rattle.std.proofs.Common.{ap, ◌∙◌, arith, length-append}
 use Rattle.std.specs.Prelude.{option_to_list, option_map}
 use Rattle.mk_net.specs.Firsts.{first_of}
-use Rattle.mk_net.specs.Asked.{Asked}
+use Rattle.mk_net.specs.Asked.{Asked, TradeRatio}
 use Rattle.mk_exact.specs.History.{Entry, Join, Deposit as Deposits, Withdraw as Withdraws, Trade}
 use Rattle.mk_exact.specs.History.{Resolve as Resolves, Settle as Settles}
 use Rattle.mk_exact.specs.Sides.{ratio_in}
@@ -37,23 +37,18 @@ fit_appends market H command reply fit = at command fit.unrefused fit.agrees
         let network = network_of market H in
         let asked = question_exists network q
         (none_applies (refusals_again market H (Edit u q X seen)) none).1.1.0 in
-        let entry : Asked
-        → Entry =
-        λ asked. Trade (user_number H u) (ratio_in network asked trade.hit trade.miss) in (
-          entry asked.0,
-          ap (entry_of market H (Edit u q X seen)) trade.printed ∙ ap
-              (option_map entry) asked.1,
-        )
+        let ratio : Asked → TradeRatio = λ asked. ratio_in network asked trade.hit trade.miss in
+        let entry : Asked → Entry = λ asked. Trade (user_number H u) (ratio asked) in
+        let known = ap (entry_of market H (Edit u q X seen)) trade.printed in
+        (entry asked.0, known ∙ ap (option_map entry) asked.1)
     at (Bounds u v condition) none h = absurd h
     at (Spread u v condition to seen) none trade =
         let spread = spread_exists (network_of market H) v condition.items
         (none_applies (refusals_again market H (Spread u v condition to seen)) none).1.1.0 in
-        let entry : SpreadAsked
-        → Entry = λ spread. Trade (user_number H u) (spread_ratio spread trade.factors.items) in (
-          entry spread.0,
-          ap (entry_of market H (Spread u v condition to seen)) trade.printed ∙ ap
-              (option_map entry) spread.1,
-        )
+        let ratio : SpreadAsked → TradeRatio = λ spread. spread_ratio spread trade.factors.items in
+        let entry : SpreadAsked → Entry = λ spread. Trade (user_number H u) (ratio spread) in
+        let known = ap (entry_of market H (Spread u v condition to seen)) trade.printed in
+        (entry spread.0, known ∙ ap (option_map entry) spread.1)
     at (Worst u) none h = absurd h
     at (Resolve p) none e =
         let named = pair_known (network_of market H) p

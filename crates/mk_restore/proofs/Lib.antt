@@ -3,3 +3,4 @@ pub mod Taken
 pub mod Safe
 pub mod Records
 pub mod Counted
+pub mod Unquoted

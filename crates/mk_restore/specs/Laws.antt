@@ -8,8 +8,8 @@ use Rattle.mk_command.specs.declared.command.Command.{Command}
 use Rattle.mk_command.specs.Commands.{IsCommand, command_text}
 use Rattle.mk_reply.specs.declared.reply.Reply.{Reply}
 use Rattle.mk_reply.specs.Replies.{reply_text}
-use Rattle.mk_rules.specs.Quotes.{Quotes}
-use Rattle.mk_rules.specs.Answers.{IsAllowed, entry_of, next_history}
+use Rattle.mk_rules.specs.Quotes.{Quotes, no_quotes}
+use Rattle.mk_rules.specs.Answers.{IsAllowed, entry_of, next_history, next_quotes}
 use Rattle.mk_rules.specs.Standings.{IsMarket, IsInClique, Stands}
 use Rattle.mk_rules.specs.Bounded.{IsBounded}
 use Rattle.mk_rules.specs.Transcript.{Standing, Line, Run}
@@ -73,6 +73,14 @@ abbrev pub EachCounts : Type 0
 EachCounts =
     (market : Market) (old new : List Entry) (changes : Changes) → Restores market old changes new
     → revision new ≡ revision old + length changes
+
+-- where nobody was quoted anything, a change that is taken back leaves nobody quoted
+abbrev pub FitQuotesNobody : Type 0
+FitQuotesNobody =
+    (market : Market) (H : List Entry) (command : Command) (reply : Reply)
+    → IsFit market H command reply
+    → next_quotes market H (no_quotes H) command reply
+    ≡ no_quotes (next_history market H command reply)
 
 -- changes give one history
 abbrev pub RestoresOne : Type 0

@@ -2,7 +2,7 @@
 ghost use Rattle.mk_restore.specs.Laws.{AllowedFits, RunIsRestored, FrontStands};
 ghost use Rattle.mk_restore.specs.Laws.{FitIsSafe, OpeningIsSafe, RestoredIsSafe};
 ghost use Rattle.mk_restore.specs.Laws.{FitAppends, EachCounts, RestoresOne, RestoresJoin};
-ghost use Rattle.mk_restore.specs.Laws.{FrontIsRestored};
+ghost use Rattle.mk_restore.specs.Laws.{FitQuotesNobody, FrontIsRestored};
 ghost use Rattle.mk_restore.specs.Laws.{CommandIsOneLine, RecordSplits, RecordHoldsOne};
 ghost use Rattle.mk_restore.specs.Laws.{RecordIsShort};
 
@@ -26,7 +26,7 @@ pub fn opening_is_safe()
     ensures { OpeningIsSafe }
 {}
 
-/// A change that is taken back keeps it, whatever its units are: no store can do harm.
+/// A change that is taken back keeps it, whatever its units are.
 pub fn fit_is_safe()
     ensures { FitIsSafe }
 {}
@@ -44,6 +44,11 @@ pub fn fit_appends()
 /// The revision grows by the number of changes.
 pub fn each_counts()
     ensures { EachCounts }
+{}
+
+/// Where nobody was quoted anything, a change that is taken back leaves nobody quoted.
+pub fn fit_quotes_nobody()
+    ensures { FitQuotesNobody }
 {}
 
 /// Changes give one history.

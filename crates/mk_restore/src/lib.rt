@@ -6,7 +6,7 @@
 mod laws;
 
 pub use laws::{
-    allowed_fits, command_is_one_line, each_counts, fit_appends, fit_is_safe, front_is_restored,
-    front_stands, opening_is_safe, record_holds_one, record_is_short, record_splits,
-    restored_is_safe, restores_join, restores_one, run_is_restored,
+    allowed_fits, command_is_one_line, each_counts, fit_appends, fit_is_safe, fit_quotes_nobody,
+    front_is_restored, front_stands, opening_is_safe, record_holds_one, record_is_short,
+    record_splits, restored_is_safe, restores_join, restores_one, run_is_restored,
 };
