@@ -40,11 +40,14 @@ module _ (market : Market) (H : List Entry) where
       → Unquoted command reply
   known_reply command reply known e h = subst (λ (r : Reply). Unquoted command r) (sym e) h
 
-  agreed_unquoted : (command : Command) (reply : Reply) → Agrees H command reply → Unquoted command reply
+  agreed_unquoted : (command : Command) (reply : Reply) → Agrees H command reply
+      → Unquoted command reply
   agreed_unquoted (User u) reply e = known_reply (User u) reply _ e (sym (
       ap (map (λ name. None)) (users_more H u) ∙ map-append (λ name. None) (users H) (u ∷ [])))
-  agreed_unquoted (Deposit u bits) reply e = known_reply (Deposit u bits) reply _ e (same_places H (Some _) refl)
-  agreed_unquoted (Withdraw u bits) reply e = known_reply (Withdraw u bits) reply _ e (same_places H (Some _) refl)
+  agreed_unquoted (Deposit u bits) reply e =
+      known_reply (Deposit u bits) reply _ e (same_places H (Some _) refl)
+  agreed_unquoted (Withdraw u bits) reply e =
+      known_reply (Withdraw u bits) reply _ e (same_places H (Some _) refl)
   agreed_unquoted (Price q) reply h = absurd h
   agreed_unquoted (Limits u q) reply h = absurd h
   agreed_unquoted (Edit u q X seen) reply trade =
@@ -59,7 +62,8 @@ module _ (market : Market) (H : List Entry) where
   agreed_unquoted (Resolve p) reply e =
       known_reply (Resolve p) reply _ e
       (same_places H _ (made _ (λ pair. refl) (pair_named (network_of market H) p)))
-  agreed_unquoted Settle reply settlement = known_reply Settle reply _ settlement.printed (same_places H (Some _) refl)
+  agreed_unquoted Settle reply settlement =
+      known_reply Settle reply _ settlement.printed (same_places H (Some _) refl)
   agreed_unquoted Bound reply h = absurd h
   agreed_unquoted (Prices v condition) reply h = absurd h
   agreed_unquoted (Position u v condition) reply h = absurd h
