@@ -1,0 +1,6 @@
+pub mod Joined
+pub mod Taken
+pub mod Safe
+pub mod Records
+pub mod Counted
+pub mod Unquoted

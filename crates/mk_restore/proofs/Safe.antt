@@ -1,0 +1,255 @@
+-- A change that is taken back harms nothing, whatever its units are.
+use Rattle.std.proofs.Common.{◌≡◌, ℕ, ◌+◌, ◌<◌, ◌≤◌, List, [], ◌∷◌, ◌++◌, length, Option, Some}
+use Rattle.std.proofs.Common.{None, IfSome, refl, sym, ◌∙◌, subst, append-nil}
+use Rattle.std.specs.Prelude.{option_to_list}
+use Rattle.std.specs.List.{AllByRecursion, All, count_by}
+use Rattle.std.proofs.lemmas.Bool.{leb-false}
+use Rattle.std.proofs.lemmas.List.Elements.{recursion_from_All}
+use Rattle.arrayvec.specs.ArrayVec.{ArrayVec}
+use Rattle.mk_net.specs.declared.words.PairText.{PairText}
+use Rattle.mk_net.specs.declared.words.QuestionText.{QuestionText}
+use Rattle.mk_net.specs.Bounds.{max_users, max_transfers, max_transfer_bits, number_limit}
+use Rattle.mk_net.specs.Network.{sizes}
+use Rattle.mk_net.specs.Firsts.{first_of}
+use Rattle.std.specs.Prelude.{slice_index}
+use Rattle.mk_exact.specs.History.{Entry, UserTrade, Join, Deposit as Deposits}
+use Rattle.mk_exact.specs.History.{Withdraw as Withdraws, Trade, Resolve as Resolves}
+use Rattle.mk_exact.specs.History.{Settle as Settles, trade_in, users, trades, is_transfer}
+use Rattle.mk_exact.specs.History.{revision}
+use Rattle.mk_exact.specs.Accepted.{IsInRange}
+use Rattle.mk_exact.specs.Market.{Market, network_of, cliques_of}
+use Rattle.mk_exact.specs.Proper.{IsProper}
+use Rattle.mk_exact.proofs.Range.{empty_proper, proper_next}
+use Rattle.mk_exact.proofs.After.{trades_kept, trades_more}
+use Rattle.mk_exact.proofs.Sums.{each-append, each_weaker}
+use Rattle.mk_command.specs.declared.command.Command.{Command}
+use Rattle.mk_command.specs.declared.command.Command.TheVariants.{User, Deposit, Withdraw, Price}
+use Rattle.mk_command.specs.declared.command.Command.TheVariants.{Limits, Edit, Bounds, Spread}
+use Rattle.mk_command.specs.declared.command.Command.TheVariants.{Worst, Resolve, Settle, Bound}
+use Rattle.mk_command.specs.declared.command.Command.TheVariants.{Prices, Position, Status}
+use Rattle.mk_command.specs.Commands.{IsCommand}
+use Rattle.mk_reply.specs.declared.reply.Reply.{Reply}
+use Rattle.mk_reply.specs.declared.reply.Reply.TheVariants.{Traded, Spreaded, Resolved}
+use Rattle.mk_reply.specs.Replies.{IsReply, IsRatio}
+use Rattle.mk_rules.specs.Refusals.{user_number, no_user, range, transfers_full}
+use Rattle.mk_rules.specs.Answers.{entry_of, next_history}
+use Rattle.mk_rules.specs.Standings.{IsMarket, IsInClique}
+use Rattle.mk_rules.specs.Bounded.{IsTransferOf}
+use Rattle.mk_rules.proofs.Appended.{Appends, reply_appends}
+use Rattle.mk_rules.proofs.Bounds.{MayFollow, entry_bounded}
+use Rattle.mk_rules.proofs.Follows.{opening_is_bounded}
+use Rattle.mk_rules.proofs.Coming.{some_with_pair}
+use Rattle.mk_rules.proofs.Spreads.{spread_is, spread_not_wide}
+use Rattle.mk_rules.proofs.Spreadable.{spread_exists, as_many_shares}
+use Rattle.mk_rules.proofs.Traded.{ratio_fits, each_factor}
+use Rattle.mk_rules.proofs.Unrefused.{none_applies, not_faulted, user_in_range, number_in_range}
+use Rattle.mk_rules.proofs.Unrefused.{question_exists, question_known, not_wide, pair_known}
+use Rattle.mk_rules.proofs.Unrefused.{not_resolved}
+use Rattle.mk_restore.specs.Restoring.{Agrees, refusals_again}
+use Rattle.mk_restore.specs.Laws.{IsSafe, FitIsSafe, OpeningIsSafe, RestoredIsSafe}
+
+each_of : (P Q : ℕ → Type 0) → ((n : ℕ) → P n → Q n) → (xs : List ℕ) → All P xs
+    → AllByRecursion Q xs
+each_of P Q f xs h = each_weaker P Q f xs (recursion_from_All P xs h)
+
+-- an entry after which all that safety rests on stands
+record MayBeNext (market : Market) (H : List Entry) (e : Entry) : Type 0 where
+  in_range : IsInRange (network_of market H) H e
+  narrow : IfSome (trade_in e) (IsInClique (cliques_of market H))
+  follows : MayFollow market H e
+
+-- what holds of each trade before an entry and of its own holds of each trade after it
+each_trade : (P : UserTrade → Type 0) (H : List Entry) (e : Entry) → AllByRecursion P (trades H)
+    → IfSome (trade_in e) P → AllByRecursion P (trades (H ++ e ∷ []))
+each_trade P H (Join name) h k = subst (AllByRecursion P) (sym (trades_kept H (Join name) refl)) h
+each_trade P H (Deposits u bits) h k =
+    subst (AllByRecursion P) (sym (trades_kept H (Deposits u bits) refl)) h
+each_trade P H (Withdraws u bits) h k =
+    subst (AllByRecursion P) (sym (trades_kept H (Withdraws u bits) refl)) h
+each_trade P H (Trade u r) h k =
+    subst (AllByRecursion P) (sym (trades_more H u r))
+    (each-append P (trades H) (record { user = u; ratio = r } ∷ []) h (k, tt))
+each_trade P H (Resolves p) h k = subst (AllByRecursion P) (sym (trades_kept H (Resolves p) refl)) h
+each_trade P H Settles h k = subst (AllByRecursion P) (sym (trades_kept H Settles refl)) h
+
+next_is_safe : (market : Market) (H : List Entry) (o : Option Entry) → IsMarket market
+    → IsSafe market H → IfSome o (MayBeNext market H) → IsSafe market (H ++ option_to_list o)
+next_is_safe market H None is_market safe h = rw (append-nil H) safe
+next_is_safe market H (Some e) is_market safe h = record {
+  proper = proper_next (network_of market H) H e safe.proper h.in_range;
+  none_wide = each_trade (IsInClique (cliques_of market H)) H e safe.none_wide h.narrow;
+  bounded = entry_bounded market H is_market.few_trades safe.bounded e h.follows;
+}
+
+module _ (market : Market) (H : List Entry) where
+  -- no refusal that is tried again applies
+  IsUnrefused : Command → Type 0
+  IsUnrefused command = first_of (refusals_again market H command) ≡ None
+
+  abbrev Follows : Command → Reply → Type 0
+  Follows command reply = Appends (MayBeNext market H) market H command reply
+
+  transfer_of : (u : List ℕ) (bits : ℕ) → no_user H u ≡ None → range max_transfer_bits bits ≡ None
+      → transfers_full H ≡ None
+      → IsTransferOf (length (users H)) (user_number H u) bits ×
+      (count_by is_transfer H < max_transfers)
+  transfer_of u bits joined within room =
+      let numbers = number_in_range max_transfer_bits bits within in (
+        record { user = user_in_range H u joined; some = numbers.0; few = numbers.1 },
+        leb-false max_transfers (count_by is_transfer H) (not_faulted _ _ room),
+      )
+
+  edit_follows : (u : List ℕ) (q : QuestionText) (X : ℕ) (seen : Option ℕ) (hit miss at : ℕ)
+      → IsRatio hit → IsRatio miss
+      → IsUnrefused (Edit u q X seen) → Follows (Edit u q X seen) (Traded hit miss at)
+  unfolding IsUnrefused
+  edit_follows u q X seen hit miss at of_hit of_miss none =
+      let network = network_of market H in
+      let refused = none_applies (refusals_again market H (Edit u q X seen)) none in
+      let asked = question_exists network q refused.1.1.0 in
+      let fits = question_known network q asked.0 refused.1.1.0 asked.1 in
+      rw asked.1 (record {
+        in_range =
+            record {
+              user = user_in_range H u refused.1.0;
+              ratio = ratio_fits network asked.0 hit miss fits of_hit.positive of_miss.positive;
+            };
+        narrow = not_wide market H q asked.0 asked.1 refused.1.1.1.1.1.1.1.0;
+        follows = (
+          each_factor (λ n. n < number_limit) asked.0.target.value
+              (slice_index (sizes network) asked.0.target.variable) hit miss
+              of_hit.below of_miss.below,
+          leb-false market.max_trades (length (trades H))
+              (not_faulted _ _ refused.1.1.1.1.1.1.1.1.1.0),
+        );
+      })
+
+  spread_follows : (u v : List ℕ) (condition : ArrayVec PairText) (to : ArrayVec ℕ)
+      (seen : Option ℕ) (factors : ArrayVec ℕ) (at : ℕ)
+      → All IsRatio factors.items → length factors.items ≡ length to.items
+      → IsUnrefused (Spread u v condition to seen)
+      → Follows (Spread u v condition to seen) (Spreaded factors at)
+  unfolding IsUnrefused
+  spread_follows u v condition to seen factors at units as_many none =
+      let network = network_of market H in
+      let refused = none_applies (refusals_again market H (Spread u v condition to seen)) none in
+      let spread = spread_exists network v condition.items refused.1.1.0 in
+      let fits = spread_is network v condition.items spread.0 spread.1 in
+      rw spread.1 (record {
+        in_range = record {
+          user = user_in_range H u refused.1.0;
+          ratio = record {
+            variable = fits.variable;
+            condition = fits.condition;
+            one_each =
+                as_many
+                ∙ as_many_shares network v condition.items spread.0 to.items spread.1
+                refused.1.1.1.1.1.1.1.1.1.0;
+            positive = each_of IsRatio (λ n. 1 ≤ n) (λ n is. is.positive) factors.items units;
+          };
+        };
+        narrow =
+            spread_not_wide market H v condition.items spread.0 spread.1 refused.1.1.1.1.1.1.1.1.0;
+        follows = (
+          each_of IsRatio (λ n. n < number_limit) (λ n is. is.below) factors.items units,
+          leb-false market.max_trades (length (trades H))
+              (not_faulted _ _ refused.1.1.1.1.1.1.1.1.1.1.1.1.0),
+        );
+      })
+
+  resolve_follows : (p : PairText) (at : ℕ) → IsProper (network_of market H) H
+      → IsUnrefused (Resolve p) → Follows (Resolve p) (Resolved p at)
+  unfolding IsUnrefused
+  resolve_follows p at proper none =
+      let network = network_of market H in
+      let refused = none_applies (refusals_again market H (Resolve p)) none in
+      let named = pair_known network p refused.1.0 in
+      rw named.1 (record {
+        in_range = (
+          named.2,
+          not_resolved network H p named.0 named.1 refused.1.1.0,
+          some_with_pair network H proper p named.0 named.1 refused.1.1.1.0,
+        );
+        narrow = tt;
+        follows = tt;
+      })
+
+  fit_follows : (command : Command) (reply : Reply) → IsProper (network_of market H) H
+      → IsCommand command → IsReply reply
+      → IsUnrefused command → Agrees H command reply → Follows command reply
+  unfolding IsUnrefused
+  fit_follows (User u) reply proper text is_reply none e =
+      let refused = none_applies (refusals_again market H (User u)) none in
+      reply_appends (MayBeNext market H) market H (User u) reply _ e (record {
+        in_range = tt;
+        narrow = tt;
+        follows = (
+          text,
+          leb-false max_users (length (users H))
+              (not_faulted _ _ refused.1.1.0),
+          not_faulted _ _ refused.1.0,
+        );
+      })
+  fit_follows (Deposit u bits) reply proper text is_reply none e =
+      let refused = none_applies (refusals_again market H (Deposit u bits)) none in
+      reply_appends (MayBeNext market H) market H (Deposit u bits) reply _ e
+      (record {
+        in_range = tt;
+        narrow = tt;
+        follows = transfer_of u bits refused.1.0 refused.1.1.0 refused.1.1.1.0;
+      })
+  fit_follows (Withdraw u bits) reply proper text is_reply none e =
+      let refused = none_applies (refusals_again market H (Withdraw u bits)) none in
+      reply_appends (MayBeNext market H) market H (Withdraw u bits) reply _ e
+      (record {
+        in_range = tt;
+        narrow = tt;
+        follows = transfer_of u bits refused.1.0 refused.1.1.0 refused.1.1.1.0;
+      })
+  fit_follows (Price q) reply proper text is_reply none h = absurd h
+  fit_follows (Limits u q) reply proper text is_reply none h = absurd h
+  fit_follows (Edit u q X seen) reply proper text is_reply none trade =
+      let units = subst IsReply trade.printed is_reply in
+      reply_appends (MayBeNext market H) market H (Edit u q X seen) reply _ trade.printed
+      (edit_follows u q X seen trade.hit trade.miss (revision H + 1) units.0 units.1 none)
+  fit_follows (Bounds u v condition) reply proper text is_reply none h = absurd h
+  fit_follows (Spread u v condition to seen) reply proper text is_reply none trade =
+      let units = subst IsReply trade.printed is_reply in
+      reply_appends (MayBeNext market H) market H
+      (Spread u v condition to seen) reply _ trade.printed
+      (spread_follows u v condition to seen trade.factors
+      (revision H + 1) units.0.each trade.one_each none)
+  fit_follows (Worst u) reply proper text is_reply none h = absurd h
+  fit_follows (Resolve p) reply proper text is_reply none e =
+      reply_appends (MayBeNext market H) market H (Resolve p) reply _ e
+      (resolve_follows p (revision H + 1) proper none)
+  fit_follows Settle reply proper text is_reply none settlement =
+      let refused = none_applies (refusals_again market H Settle) none in
+      reply_appends (MayBeNext market H) market H Settle reply _ settlement.printed
+      (record { in_range = tt; narrow = tt; follows = not_faulted _ _ refused.0 })
+  fit_follows Bound reply proper text is_reply none h = absurd h
+  fit_follows (Prices v condition) reply proper text is_reply none h = absurd h
+  fit_follows (Position u v condition) reply proper text is_reply none h = absurd h
+  fit_follows Status reply proper text is_reply none h = absurd h
+
+pub fit_is_safe : FitIsSafe
+unfolding IsUnrefused
+fit_is_safe market H command reply is_market text safe fit =
+    next_is_safe market H (entry_of market H command reply) is_market safe
+    (fit_follows market H command reply safe.proper text.0 text.1 fit.unrefused fit.agrees)
+
+pub opening_is_safe : OpeningIsSafe
+opening_is_safe market is_market =
+    record {
+      proper = empty_proper
+          (network_of market []) is_market.network;
+      none_wide = tt;
+      bounded = opening_is_bounded market;
+    }
+
+pub restored_is_safe : RestoredIsSafe
+restored_is_safe market old new [] is_market text safe h = subst (IsSafe market) (sym h) safe
+restored_is_safe market old new (change ∷ changes) is_market text safe h =
+    restored_is_safe market
+    (next_history market old (change.0) (change.1)) new changes is_market text.1
+    (fit_is_safe market old (change.0) (change.1) is_market text.0 safe h.0) h.1
