@@ -133,19 +133,14 @@ class Module:
         return heads
 
     def words(self, name):
-        """The words of a definition that may name others: no names of fields, and none that it binds itself."""
+        """The words of a definition that may name others: no names of fields. What it binds itself counts, rather than being missed."""
         text = "\n".join(self.texts[name])
         operators = [it for it in {**self.texts, **self.imports} if "◌" in it and it != name and stands_in(it, text)]
-        bound = set()
-        for names in re.findall(r"λ ([^.]*)\.", text):
-            bound.update(WORD.findall(re.sub(r":[^)]*", "", names)))
-        for names in re.findall(r"[({]([A-Za-z0-9_' -]+) :", text):
-            bound.update(WORD.findall(names))
         text = re.sub(r"(?m)^(\s+pub )[A-Za-z0-9_'-]+ :", r"\1 :", text)
         text = re.sub(r"\.[A-Za-z_][A-Za-z0-9_'-]*", " ", text)
         text = re.sub(r"([{;]\s*)[A-Za-z0-9_'-]+ =", r"\1 =", text)
         symbols = [it for it in ("[]", "ℕ", "ℤ", "⊤") if it in self.imports and it in text]
-        return [word for word in WORD.findall(text) if word not in bound] + operators + symbols
+        return WORD.findall(text) + operators + symbols
 
 
 class Code:
@@ -264,6 +259,8 @@ class Sources:
 
     def visit(self, module, name, by):
         item = module.items[name]
+        if "⟦" in "".join(item.text):
+            raise Fault(f"{item.path}:{item.line}: `{name}` cites what an implementation of a trait tells, which is not followed")
         if self.first(item, by):
             for word in dict.fromkeys(module.words(name)):
                 self.follow(module, word, item)

@@ -41,18 +41,19 @@ SECTIONS = [
 
 HEAD = """# Statement
 
-What has to be believed for the program's contract to mean anything, whole, and in reading order: the contract of `program`
-and of `call`, which `main` calls, and each definition that their clauses rest on, as the sources have it. No other file is needed
-to read it. [DEFINITIONS](DEFINITIONS.md) says the same in words, and which laws hold over it.
+What has to be believed for the program's contract to mean anything, whole and in reading order: the contracts of `program` and of
+`call`, which `main` calls, and each definition that their clauses rest on, as the sources have it. No other file is needed to read it.
+[DEFINITIONS](DEFINITIONS.md) says the same in words, and which laws hold over it.
 
-`tools/believe --text` wrote this page from the sources: from the clauses it goes to each name that they cite, and from there on. The gate
-compares the page with the sources by `tools/believe --check`, so neither changes without the other. That the program meets the contract is
-proved, and nobody has to believe it; that these definitions say what you mean, no proof can tell. Trusted beside them are the prover, the compilers and the
-libraries that [ASSURANCE](ASSURANCE.md) lists, the libraries' words among them, whose meaning stands below. Where inputs and sinks tell no bytes, clauses on bytes say
-nothing; the real ones, at the end of the page, tell none.
+`tools/believe --text` wrote this page from the sources: from the clauses it goes to each name that they cite, and on from there. The
+gate compares both by `tools/believe --check`, so neither changes without the other. That the program meets the contracts is proved,
+and nobody has to believe it. That these definitions say what you mean, no proof can tell. Trusted beside them is what
+[ASSURANCE](ASSURANCE.md) lists: the prover, the compilers, and the libraries, whose words are explained below. Where inputs and sinks
+tell no bytes, clauses on bytes say nothing; the real ones, at the end of the page, tell none.
 
-There are {definitions} definitions and types here, from {files} files, of {lines} lines with their comments. A name means the definition of the same file; else the one
-that stands at the file's first heading, where such a line is given; else the only one of that name on this page.
+There are {definitions} definitions and types, from {files} files, of {lines} lines with their comments. The sections are: {sections}.
+A name means the definition of its own file; else the one that stands beside the file's name, where its section comes to it; else the
+only one of that name on this page.
 
 ## How to read it
 
@@ -76,6 +77,7 @@ NOTATION = [
     ("ghost", "only for statements: nothing of it is run. A trait's ghost members are what an implementation tells of itself"),
     ("Model, Value, view", "a type of the code is seen in statements as a value of the type `Value`, which `view` reads off it"),
     ("abbrev, unfoldable", "a definition that stands for its right side. The word concerns the prover alone, and so does `opaque`"),
+    ("struct, enum, type", "a type of the code, seen as a `record`, as `data`, and as another name of a type. Its `u8` to `u128` are seen as numbers, `&str` as its bytes"),
     ("pub", "other files may cite it"),
     ("f : A → B → C", "`f` takes an `A` and a `B` and gives a `C`. It is defined by the equations below: the first whose left side fits"),
     ("f x y", "`f` of `x` and `y`"),
@@ -294,8 +296,9 @@ def page(sources):
     faults += word_faults(sources)
     definitions, number, lines = count(sources)
     notation = "\n".join(f"| `{cell(sign)}` | {cell(text)} |" for sign, text in NOTATION)
+    titles = [title[0].lower() + title[1:] for title, _ in SECTIONS]
     words = "\n".join(f"| `{cell(shown_name(word))}` | {cell(text)} |" for word, text in WORDS.items())
-    out = [HEAD.format(definitions=definitions, files=number, lines=lines, notation=notation, words=words)]
+    out = [HEAD.format(definitions=definitions, files=number, lines=lines, notation=notation, words=words, sections="; ".join(titles))]
     owned = owners(sources)
     for title, listed in SECTIONS:
         out += [f"## {title}", ""]
