@@ -1,7 +1,11 @@
 """docs/STATEMENT.md: the contract of the program and all that it rests on, as the sources have it, on one page."""
 import re
+import textwrap
 
 from lib.believed import Fault, member_line
+
+COUNTED = """There are {definitions} definitions and types, from {files} files, of {lines} lines with their comments. The sections are: {sections}. A
+name means the definition of its own file; else the one that is given behind the file's name, at its first definition; else the only one of that name on this page."""
 
 # the sections of the page, in reading order, each with its files in theirs; within a file the order is that of the source
 SECTIONS = [
@@ -51,9 +55,7 @@ and nobody has to believe it. That these definitions say what you mean, no proof
 [ASSURANCE](ASSURANCE.md) lists: the prover, the compilers, and the libraries, whose words are explained below. Where inputs and sinks
 tell no bytes, clauses on bytes say nothing; the real ones, at the end of the page, tell none.
 
-There are {definitions} definitions and types, from {files} files, of {lines} lines with their comments. The sections are: {sections}.
-A name means the definition of its own file; else the one that stands beside the file's name, where its section comes to it; else the
-only one of that name on this page.
+{counted}
 
 ## How to read it
 
@@ -137,7 +139,7 @@ WORDS = {
     "nat_lt": "whether the first number is less than the second",
     "IsTrue": "a test is `true`",
     "if◌then◌else◌": "the first if the test is passed, else the second",
-    "List": "a list of items. A text is a list of its bytes, and so is a `String`; `Vec` and `ArrayVec` are seen as lists",
+    "List": "a list of items. A text is a list of its bytes",
     "[]": "the list of nothing",
     "◌∷◌": "an item and the list behind it",
     "◌++◌": "a list and another behind it",
@@ -188,7 +190,7 @@ WORDS = {
     "is_utf8": "whether some bytes are text in UTF-8",
     "String": "a text of the code",
     "string_bytes": "the bytes of a `String`",
-    "ArrayVec": "a list of the code that has at most so many items; seen as a list",
+    "ArrayVec": "a list of the code that has at most so many items; `x.items` is the list, and so of a `Vec`",
     "IntoIter": "the items of a list that are still to come",
     "into_iter_items": "these items, as a list",
     "Error": "why a call of the system failed",
@@ -298,7 +300,8 @@ def page(sources):
     notation = "\n".join(f"| `{cell(sign)}` | {cell(text)} |" for sign, text in NOTATION)
     titles = [title[0].lower() + title[1:] for title, _ in SECTIONS]
     words = "\n".join(f"| `{cell(shown_name(word))}` | {cell(text)} |" for word, text in WORDS.items())
-    out = [HEAD.format(definitions=definitions, files=number, lines=lines, notation=notation, words=words, sections="; ".join(titles))]
+    counted = COUNTED.format(definitions=definitions, files=number, lines=lines, sections="; ".join(titles))
+    out = [HEAD.format(counted=textwrap.fill(counted, 135), notation=notation, words=words)]
     owned = owners(sources)
     for title, listed in SECTIONS:
         out += [f"## {title}", ""]
