@@ -79,7 +79,7 @@ NOTATION = [
     ("ghost", "only for statements: nothing of it is run. A trait's ghost members are what an implementation tells of itself"),
     ("Model, Value, view", "a type of the code is seen in statements as a value of the type `Value`, which `view` reads off it"),
     ("abbrev, unfoldable", "a definition that stands for its right side. The word concerns the prover alone, and so does `opaque`"),
-    ("struct, enum, type", "a type of the code, seen as a `record`, as `data`, and as another name of a type. Its `u8` to `u128` are seen as numbers, `&str` as its bytes"),
+    ("struct, enum, type", "a type of the code, seen as a `record`, as `data`, and as another name of a type. Its `u8` to `u128` are seen as numbers of `ℕ`, its `i64` as one of `ℤ`, `&str` as its bytes"),
     ("pub", "other files may cite it"),
     ("f : A → B → C", "`f` takes an `A` and a `B` and gives a `C`. It is defined by the equations below: the first whose left side fits"),
     ("f x y", "`f` of `x` and `y`"),
