@@ -56,8 +56,7 @@ pub record CanFindBound {E : Type 0} (stands_for : E → Meaning → Type 0) (ro
   pub is_open : IsOpen network tree history
 
 -- the engine has the weights and the assets are a user's of one market in use of this network,
--- where the question can be answered,
--- and a clique holds it
+-- where the question can be answered, and a clique holds it
 pub record CanBound {E A P : Type 0} (stands_for : E → Meaning → Type 0) (owned_for : A → Meaning → Type 0) (prices : E) (assets : Assets A P)
     (network : List Variable) (at : ℕ) (asked : Asked) : Type 0 where
   pub tree : GivenTree

@@ -45,8 +45,7 @@ IsSureAt network H u points_per_bit asked interval =
     (CoversLeast network H u points_per_bit (with_target asked))
 
 -- the engine has the weights of a market in use of this network, where the question about every
--- value
--- can be answered, and a clique holds it
+-- value can be answered, and a clique holds it
 pub record CanTellPrices {E : Type 0} (stands_for : E → Meaning → Type 0) (prices : E)
     (network : List Variable) (at : ℕ) (spread : SpreadAsked) : Type 0 where
   pub tree : GivenTree

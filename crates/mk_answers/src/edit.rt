@@ -36,8 +36,7 @@ pub enum Sides {
 }
 
 /// The sides of a question for a user, asked in a clique that holds it: their bounds enclose them,
-/// and are exact in the small case.
-/// It leaves what the engine and the assets stand for as it was.
+/// and are exact in the small case. It leaves what the engine and the assets stand for as it was.
 pub fn bounds_of<P: Engine<SumProd>, A: Engine<MinProd>>(
     prices: &mut P,
     assets: &mut Assets<A>,

@@ -1,8 +1,7 @@
 //! The numbers of a market's answers, from the beliefs of its engines: prices, also of every value
-//! of a variable, the bounds of an
-//! edit of a question or of a whole distribution, what can come, the least that a user owns, also
-//! where each value comes, and the most
-//! that the operator can lose.
+//! of a variable, the bounds of an edit of a question or of a whole distribution, what can come,
+//! the least that a user owns, also where each value comes, and the most that the operator can
+//! lose.
 #![tactic(auto)]
 
 mod edit;

@@ -13,9 +13,9 @@ use mk_engine::Engine;
 use mk_net::{Event, Pair};
 use mk_semiring::{Held, SumProd};
 
-/// The place of the first pair of an event with which, beside those before it, no possible state is left. None where some state
-/// has all of them. It asks one belief a pair, in a clique that holds the event, and leaves what
-/// the engine stands for as it was.
+/// The place of the first pair of an event with which, beside those before it, no possible state is
+/// left. None where some state has all of them. It asks one belief a pair, in a clique that holds
+/// the event, and leaves what the engine stands for as it was.
 pub fn first_impossible<P: Engine<SumProd>>(prices: &mut P, at: u32, event: &Event) -> Option<usize>
     requires { CanSearch P.stands_for prices.old at event.now }
     ensures kept { (m : Meaning) → P.stands_for prices.old m → P.stands_for prices.new m }

@@ -22,15 +22,14 @@ use mk_semiring::{Held, SumProd};
 const UNITS: u64 = 10_000_000_000;
 
 /// Bounds on the price of a question, in units of 10^-10: at most two apart. They are the floor and
-/// the ceiling in the small case,
-/// and else but for a price that is a part in 2^42 from a unit; and nothing or all of one where the
-/// target cannot come or nothing
-/// else can. None where the condition cannot come. It leaves what the engine stands for as it was.
-/// All is asked in one clique that
+/// the ceiling in the small case, and else but for a price that is a part in 2^42 from a unit; and
+/// nothing or all of one where the target cannot come or nothing else can. None where the condition
+/// cannot come. It leaves what the engine stands for as it was. All is asked in one clique that
 /// holds the question, so no message is made for the condition.
 ///
-/// Where the network has shares of nothing it asks for both sides. Elsewhere both can come: of two values the other one's
-/// states are half of the condition's, and of more, or without a condition, the condition is asked for.
+/// Where the network has shares of nothing it asks for both sides. Elsewhere both can come: of two
+/// values the other one's states are half of the condition's, and of more, or without a condition,
+/// the condition is asked for.
 pub fn price_of<P: Engine<SumProd>>(
     prices: &mut P,
     net: &Network,

@@ -34,8 +34,8 @@ pub enum SpreadSides {
 }
 
 /// The sides of a question about every value of a variable, for a user, asked in a clique that
-/// holds it: their bounds enclose them,
-/// and are exact in the small case. It leaves what the engine and the assets stand for as it was.
+/// holds it: their bounds enclose them, and are exact in the small case. It leaves what the engine
+/// and the assets stand for as it was.
 pub fn spread_bounds_of<P: Engine<SumProd>, A: Engine<MinProd>>(
     prices: &mut P,
     assets: &mut Assets<A>,

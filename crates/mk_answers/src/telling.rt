@@ -23,10 +23,8 @@ use mk_quote::SpreadQuestion;
 use mk_semiring::{MinProd, SumProd};
 
 /// Bounds on the price of each value of a variable under a condition, in units of 10^-10 and in the
-/// order of the values, asked in a
-/// clique that holds them: each as `price_of` gives it. None where the condition cannot come. It
-/// leaves what the engine stands for as
-/// it was.
+/// order of the values, asked in a clique that holds them: each as `price_of` gives it. None where
+/// the condition cannot come. It leaves what the engine stands for as it was.
 pub fn prices_of<P: Engine<SumProd>>(
     prices: &mut P,
     net: &Network,
@@ -52,10 +50,9 @@ pub fn prices_of<P: Engine<SumProd>>(
 }
 
 /// For each value of a variable bounds on what a user is sure of where it comes and a condition
-/// holds, in points: the cash of the least
-/// factor there, and none for a value that cannot come. None at all where the condition cannot
-/// come. All is asked in a clique that
-/// holds the values with the condition. It leaves what the assets stand for as it was.
+/// holds, in points: the cash of the least factor there, and none for a value that cannot come.
+/// None at all where the condition cannot come. All is asked in a clique that holds the values with
+/// the condition. It leaves what the assets stand for as it was.
 pub fn position_of<A: Engine<MinProd>>(
     assets: &mut Assets<A>,
     net: &Network,
@@ -85,8 +82,7 @@ pub fn position_of<A: Engine<MinProd>>(
 }
 
 /// Bounds on the cash of a user's least factor where the target of a question comes. None where it
-/// cannot come. It leaves what the assets
-/// stand for as it was.
+/// cannot come. It leaves what the assets stand for as it was.
 fn sure_of<A: Engine<MinProd>>(
     assets: &mut Assets<A>,
     net: &Network,

@@ -23,8 +23,7 @@ use mk_net::Event;
 use mk_semiring::MinProd;
 
 /// The least factor of a user over all possible states: of one who holds no trade the gain is one.
-/// It leaves what the assets
-/// stand for as it was.
+/// It leaves what the assets stand for as it was.
 pub fn least_of<A: Engine<MinProd>>(assets: &mut Assets<A>) -> Factor
     requires { CanFindWorst A.stands_for assets.old }
     ensures kept { (h : Holding) → Owns A.stands_for assets.old h → Owns A.stands_for assets.new h }
@@ -40,9 +39,8 @@ pub fn least_of<A: Engine<MinProd>>(assets: &mut Assets<A>) -> Factor
 }
 
 /// The most bits that can be taken from a factor of at least one: the greatest number in the small
-/// case and where the gain is
-/// one. Else it may be one less where the factor is less than a part in 2^43 - 1 above a whole
-/// power of two.
+/// case and where the gain is one. Else it may be one less where the factor is less than a part in
+/// 2^43 - 1 above a whole power of two.
 pub fn most_bits(factor: &Factor) -> u64
     ensures most { (network : List Variable) (H : List Entry) (q : Fraction)
         → IsFactorFor factor.now (IsSmall network H) q → IsAtLeastOne q

@@ -35,9 +35,8 @@ pub struct Assets<E: Engine<MinProd>> {
 
 impl<E: Engine<MinProd>> Assets<E> {
     /// The assets of a user who has not traded, with what is known already, over the tree of the
-    /// network that the plan was made for.
-    /// They are told in which states each variable of the network that has a share of nothing
-    /// cannot come.
+    /// network that the plan was made for. They are told in which states each variable of the
+    /// network that has a share of nothing cannot come.
     pub fn start(
         alloc: Global,
         plan: &E::Plan,
@@ -115,8 +114,7 @@ impl<E: Engine<MinProd>> Assets<E> {
     }
 
     /// The least factor over the states where the known pairs and an event hold, asked in a clique
-    /// that holds the event. None where
-    /// there is no such state.
+    /// that holds the event. None where there is no such state.
     pub fn least(&mut self, at: u32, event: &Event) -> Option<Factor>
         requires held { IsTakenAt E.answers_at self.old at event.now }
         requires range { CanFindLeast E.stands_for self.old event.now }
@@ -128,10 +126,9 @@ impl<E: Engine<MinProd>> Assets<E> {
         self.factor(&found)
     }
 
-    /// The least factor over the states where the known pairs and the condition of a question hold and its target does
-    /// not, asked in a clique that holds the question: its variable has one of its other values, of
-    /// which there are `values` with the
-    /// target's.
+    /// The least factor over the states where the known pairs and the condition of a question hold
+    /// and its target does not, asked in a clique that holds the question: its variable has one of
+    /// its other values, of which there are `values` with the target's.
     pub fn least_of_others(&mut self, at: u32, asked: &Question, values: u32) -> Option<Factor>
         requires { CanFindLeastOfOthers E.stands_for self.old at asked.now values }
         ensures kept { (h : Holding) → Owns E.stands_for self.old h → Owns E.stands_for self.new h }

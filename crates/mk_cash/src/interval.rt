@@ -13,9 +13,8 @@ ghost use Rattle.mk_cash.specs.inner.Quotient.{IsLessNear};
 use mk_enclose::{Enclosure, Factor};
 
 /// Bounds on the points that a factor of at least one is worth: `points_per_bit` times the
-/// logarithm of the factor to
-/// base 2, rounded down. They are nearer where the gain is exact, and both the points where it is
-/// one.
+/// logarithm of the factor to base 2, rounded down. They are nearer where the gain is exact, and
+/// both the points where it is one.
 ///
 /// Nothing is said of a factor below one but that both numbers are small.
 pub fn cash(factor: &Factor, points_per_bit: u32) -> (u64, u64)

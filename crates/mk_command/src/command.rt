@@ -34,8 +34,7 @@ pub enum Command {
         question: QuestionText,
     },
     /// `edit U Q to X` or `edit U Q to X at R`: U moves it to X millionths, having seen the
-    /// revision
-    /// R.
+    /// revision R.
     Edit {
         user: Name,
         question: QuestionText,
@@ -94,8 +93,7 @@ pub struct Words {
 }
 
 /// A command whose question, or condition and shares, are lent: what `Command` is, passed on
-/// without
-/// a copy of these. `command_of` in the definitions says which command it is.
+/// without a copy of these. `command_of` in the definitions says which command it is.
 #[derive(Debug, Drop, PartialEq, Eq)]
 pub enum CommandRef<'a> {
     /// `user U`.

@@ -25,8 +25,8 @@ abbrev pub exact_others : (ℕ → ℕ → ℕ) → Meaning → Asked → ℕ �
 exact_others plus m asked values = plus_over plus 0 (λ v. exact_belief plus m (pairs_with asked v)) (other_values asked values)
 
 -- the engine stands for a meaning of whose network this is a question, whose variable has so many
--- values, and in whose tree this
--- clique holds it; and there are no more factors than an engine may hold
+-- values, and in whose tree this clique holds it; and there are no more factors than an engine may
+-- hold
 pub record CanAskOthers {E : Type 0} (stands_for : E → Meaning
     → Type 0) (engine : E) (at : ℕ) (asked : Asked) (values : ℕ) : Type 0 where
   pub meaning : Meaning

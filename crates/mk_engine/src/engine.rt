@@ -16,15 +16,15 @@ use mk_semiring::Semiring;
 use mk_tree::Tree;
 use std::alloc::Global;
 
-/// An engine of beliefs: it multiplies factors over the states of a network, and adds up or compares their products.
+/// An engine of beliefs: it multiplies factors over the states of a network, and adds up or
+/// compares their products.
 ///
-/// An engine stands for meanings: a network, a tree of it, a list of factors and a list of known pairs. Each clause holds
-/// for every meaning that the engine stands for before the call.
+/// An engine stands for meanings: a network, a tree of it, a list of factors and a list of known
+/// pairs. Each clause holds for every meaning that the engine stands for before the call.
 ///
 /// Calls name a clique of the tree, which counts from 1: the home of what is placed, which is the
-/// first clique that holds it, and
-/// any clique that holds what is asked. So whoever asks many questions of one event looks for its
-/// clique once.
+/// first clique that holds it, and any clique that holds what is asked. So whoever asks many
+/// questions of one event looks for its clique once.
 pub trait Engine<R: Semiring>: Sized + Drop {
     /// What is made once for a network and a tree.
     type Plan: Drop;
@@ -77,8 +77,8 @@ pub trait Engine<R: Semiring>: Sized + Drop {
         ensures { (m : Meaning) → stands_for self.old m → stands_for self.new (with_known pair m) };
 
     /// The plus, over all states where the known pairs and the event hold, of the product of all
-    /// factors, asked in a clique that
-    /// holds the event. It leaves what the engine stands for as it was.
+    /// factors, asked in a clique that holds the event. It leaves what the engine stands for as it
+    /// was.
     fn belief(&mut self, at: u32, event: &Event) -> R::Value
         requires held { answers_at self.old at event.now }
         requires range { CanBelieve stands_for self.old event.now }

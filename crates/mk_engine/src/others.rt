@@ -10,8 +10,8 @@ use mk_net::{Event, Pair, Question};
 use mk_semiring::Semiring;
 
 /// The plus of the beliefs in the other values of a question's variable, of which there are
-/// `values`, under its condition, asked in
-/// a clique that holds the question. It leaves what the engine stands for as it was.
+/// `values`, under its condition, asked in a clique that holds the question. It leaves what the
+/// engine stands for as it was.
 pub fn belief_of_others<R: Semiring, E: Engine<R>>(
     engine: &mut E,
     at: u32,

@@ -18,8 +18,7 @@ abbrev pub Covers : Fraction → ℕ → Type 0
 Covers q bits = 2 ^ bits * q.den ≤ q.num
 
 -- k bits are within the factor, and k + 1 are more than it but for a part in 2^43; in the small
--- case, and of a user who holds no
--- trade, more than it
+-- case, and of a user who holds no trade, more than it
 pub record IsMost (small idle : Type 0) (q : Fraction) (k : ℕ) : Type 0 where
   pub within : Covers q k
   pub nearly : q.num * (2 ^ 43 - 1) < 2 ^ (k + 1) * 2 ^ 43 * q.den

@@ -1,6 +1,6 @@
 -- What exists: an allowed answer to each line that a market can be asked, in numbers. Where a law
--- says ⊤ for the small case, or for
--- a user who holds no trade, it gives what this case asks for, and so what any case does.
+-- says ⊤ for the small case, or for a user who holds no trade, it gives what this case asks for,
+-- and so what any case does.
 use Rattle.std.specs.Prelude.{◌≡◌, ℕ, ◌+◌, ◌*◌, ◌^◌, ◌<◌, ◌≤◌, true, false, ⊤, ◌⊎◌, List, [], ◌∷◌}
 use Rattle.std.specs.Prelude.{◌++◌, length, Bool, Option, Some}
 use Rattle.std.specs.List.{AllByRecursion, count_by}

@@ -19,10 +19,8 @@ abbrev pub exact_price : List Variable → List Entry → Asked → Fraction
 exact_price network H asked = price_where network H asked.condition (with_target asked)
 
 -- low .. high, in units of 10^-10, covers the price. Were it less by one part in 2^42, it would be
--- below low + 1, and were it
--- greater by that, above high - 1. What cannot come costs nothing, and what is sure all of one; in
--- the small case low is the floor
--- and high the ceiling
+-- below low + 1, and were it greater by that, above high - 1. What cannot come costs nothing, and
+-- what is sure all of one; in the small case low is the floor and high the ceiling
 pub record CoversPrice (small : Type 0) (price : Fraction) (low high : ℕ) : Type 0 where
   pub below : low * price.den ≤ 10 ^ 10 * price.num
   pub above : 10 ^ 10 * price.num ≤ high * price.den

@@ -105,8 +105,8 @@ pub(crate) fn refuse_decided<P: Engine<SumProd>>(
 }
 
 /// The refusal of a condition that cannot come, in its words: its first pair with which no possible
-/// state is left. It is asked in a
-/// clique that holds the condition, and leaves what the engine stands for as it was.
+/// state is left. It is asked in a clique that holds the condition, and leaves what the engine
+/// stands for as it was.
 pub(crate) fn refuse_condition<P: Engine<SumProd>>(
     prices: &mut P,
     at: u32,
@@ -171,9 +171,9 @@ fn pair_with(net: &Network, variable: &Name, asked: &SpreadQuestion, value: u32)
     }
 }
 
-/// Whether some possible state has a pair of a variable that is not resolved. Where the network has no shares of nothing one has, and
-/// no belief is asked. It is asked in the pair's home, and leaves what the engine stands for as it
-/// was.
+/// Whether some possible state has a pair of a variable that is not resolved. Where the network has
+/// no shares of nothing one has, and no belief is asked. It is asked in the pair's home, and leaves
+/// what the engine stands for as it was.
 pub(crate) fn can_come<P: Engine<SumProd>>(
     prices: &mut P,
     net: &Network,

@@ -1,5 +1,6 @@
-//! What a market remembers, and what it refuses by that: its accepted changes, its users with their assets and last quotes, and
-//! the refusals of each command that the record alone decides, first to last.
+//! What a market remembers, and what it refuses by that: its accepted changes, its users with their
+//! assets and last quotes, and the refusals of each command that the record alone decides, first to
+//! last.
 #![tactic(auto)]
 
 mod asking;

@@ -76,9 +76,9 @@ pub fn refuse_transfer<A: Engine<MinProd>>(
     Ok(user)
 }
 
-/// What `price` is refused for by the record: a settlement, a pair that is unknown, a variable that occurs twice, a target that is
-/// resolved, a condition that a resolution contradicts, and a question that no clique holds. Else
-/// the question has a home.
+/// What `price` is refused for by the record: a settlement, a pair that is unknown, a variable that
+/// occurs twice, a target that is resolved, a condition that a resolution contradicts, and a
+/// question that no clique holds. Else the question has a home.
 pub fn refuse_price(
     file: &MarketFile,
     journal: &Journal,
@@ -96,8 +96,7 @@ pub fn refuse_price(
 }
 
 /// The question of a price without a condition that the record does not refuse, and its home. None
-/// says nothing: no step to it can hold
-/// a refusal, which would cost more than the step.
+/// says nothing: no step to it can hold a refusal, which would cost more than the step.
 pub fn plain_price(
     file: &MarketFile,
     journal: &Journal,

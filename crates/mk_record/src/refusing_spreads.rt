@@ -37,9 +37,9 @@ use mk_semiring::MinProd;
 const MILLION: u32 = 1_000_000;
 
 /// What `bounds` and `position` are refused for by the record: a settlement, an unknown user, a
-/// variable that is unknown, a pair of the condition that
-/// is, a variable that occurs twice, one that is asked about and resolved, a condition that a resolution contradicts, and
-/// a question that no clique holds.
+/// variable that is unknown, a pair of the condition that is, a variable that occurs twice, one
+/// that is asked about and resolved, a condition that a resolution contradicts, and a question that
+/// no clique holds.
 pub fn refuse_bounds<A: Engine<MinProd>>(
     file: &MarketFile,
     journal: &Journal,

@@ -5,8 +5,7 @@ use mk_net::{Name, PairText, Question, QuestionText};
 use mk_quote::SpreadQuestion;
 
 /// A user's question that the record does not refuse, and its home: the clique in which it is
-/// asked, and in which a trade of it is
-/// placed.
+/// asked, and in which a trade of it is placed.
 #[derive(Clone, Copy, Debug)]
 pub struct Request {
     pub user: u32,

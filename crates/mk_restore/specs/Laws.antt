@@ -38,8 +38,8 @@ FrontStands =
     → changes_of market old lines replies ≡ first ++ second
     → (middle : List Entry) × Restores market old.history first middle × Stands market middle
 
--- what a market's safety rests on, sound or not: users, pairs and units are in range, some state
--- is possible, no trade is wide, and the history is bounded
+-- what a market's safety rests on, sound or not: users, pairs and units are in range, some state is
+-- possible, no trade is wide, and the history is bounded
 pub record IsSafe (market : Market) (H : List Entry) : Type 0 where
   pub proper : IsProper (network_of market H) H
   pub none_wide : AllByRecursion (IsInClique (cliques_of market H)) (trades H)

@@ -237,8 +237,7 @@ abbrev pub settled_with : List Payment → Reply
 settled_with payments = Settled 6 payments
 
 -- heads came up: alice is paid 126 points and bob, who holds no trade, none, in this order; no
--- wider interval will do, and no point
--- less
+-- wider interval will do, and no point less
 pub record IsPaid : Type 0 where
   pub allowed : IsAllowed coin_market heads_up [] Settle (settled_with (paying alice 126 126 126 ∷ paying bob 0 0 0 ∷ []))
   pub not_wide : IsAllowed coin_market heads_up [] Settle

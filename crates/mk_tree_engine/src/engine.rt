@@ -26,10 +26,9 @@ use std::alloc::Global;
 use std::marker::Model;
 use std::rc::Rc;
 
-/// An engine over a tree of cliques: each factor and each known pair is placed in the first clique that holds its variables, and a
-/// belief is read in the clique that it is asked in, once the stale messages that lead towards that
-/// clique were made. It suits every
-/// network with a tree of it.
+/// An engine over a tree of cliques: each factor and each known pair is placed in the first clique
+/// that holds its variables, and a belief is read in the clique that it is asked in, once the stale
+/// messages that lead towards that clique were made. It suits every network with a tree of it.
 #[derive(Drop)]
 pub struct TreeEngine<R: Semiring> {
     flow: Flow<R>,

@@ -1,6 +1,5 @@
 //! Trials of trees, flows and engines, and of a plain walk over all states, over their public
-//! calls: a crate of its own, since a crate
-//! with tests is proved twice.
+//! calls: a crate of its own, since a crate with tests is proved twice.
 #![tactic(auto)]
 
 #[cfg(test)]

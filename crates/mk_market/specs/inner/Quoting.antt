@@ -116,8 +116,7 @@ IsTurnedDown network tree H u spread quotes new_quotes Xs (Decided why) = IsDeci
 IsTurnedDown network tree H u spread quotes new_quotes Xs why = IsStoppedByJudge network tree H u spread quotes new_quotes Xs why
 
 -- a trade that can be made: some market is in use, its user has assets there, its ratio is of the
--- network and has this home, and there
--- is room for one more
+-- network and has this home, and there is room for one more
 pub record CanBeMade {P A Plan : Type 0} (weights_stand : P → Meaning → Type 0) (gains_stand : A → Meaning → Type 0) (prices : P) (members : List (Member A Plan))
     (journal : JournalOf) (user at : ℕ) (ratio : TradeRatio) : Type 0 where
   pub network : List Variable
