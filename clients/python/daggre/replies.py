@@ -60,8 +60,8 @@ class Withdrawn(Reply):
 
 @dataclass(frozen=True, slots=True)
 class Price(Reply):
-    """`price`: the exact price lies between both ends. They are its floor and ceiling in units of 10^-10, or one of them is a unit off where
-    the price is within one part in 2^42 of a unit."""
+    """`price`: the exact price lies between both ends. They are its floor and ceiling in units of 10^-10; an end may be a unit off
+    where the price is within one part in 2^42 of a unit."""
 
     low: Decimal
     high: Decimal
@@ -133,7 +133,7 @@ class Worst(Reply):
 
 @dataclass(frozen=True, slots=True)
 class Prices(Reply):
-    """`prices`: for each value in the file's order what `price` says of it."""
+    """`prices`: for each value in the file's order an interval of its price, as near as that of `price`."""
 
     intervals: tuple[Price, ...]
 
