@@ -18,23 +18,32 @@ COMMANDS = {kind: re.compile(form) for kind, form in {
     "edit": rf"edit (?P<user>{N}) {QUESTION} to (?P<numbers>{NUMBER}){AT}",
     "bounds": rf"bounds (?P<user>{N}) {ALL_OF}",
     "spread": rf"spread (?P<user>{N}) {ALL_OF} to (?P<numbers>{NUMBER}(?: {NUMBER}){{1,15}}){AT}",
+    "prices": rf"prices {ALL_OF}",
+    "position": rf"position (?P<user>{N}) {ALL_OF}",
     "worst": rf"worst (?P<user>{N})",
+    "status": r"status",
     "resolve": rf"resolve (?P<name>{N})=(?P<value>{N})",
     "settle": r"settle",
     "bound": r"bound",
 }.items()}
 CHANGES = ("user", "deposit", "withdraw", "edit", "spread", "resolve", "settle")
 INTERVAL = r"[0-9]+\.\.[0-9]+"
+PRICES = r"[01]\.[0-9]{10}\.\.[01]\.[0-9]{10}"
+SURE = rf"(?:none|{INTERVAL})"
 REPLIES = {kind: re.compile(form) for kind, form in {
     "user": r"user \S+ at (?P<at>[0-9]+)",
     "deposit": r"deposit \S+ [0-9]+ at (?P<at>[0-9]+)",
     "withdraw": r"withdraw \S+ [0-9]+ at (?P<at>[0-9]+)",
-    "price": r"price (?P<ends>[01]\.[0-9]{10}\.\.[01]\.[0-9]{10})",
+    "price": rf"price (?P<ends>{PRICES})",
     "limits": rf"limits (?P<ends>none|{INTERVAL}) at (?P<at>[0-9]+)",
     "edit": r"trade (?P<ratios>[0-9]+ [0-9]+) at (?P<at>[0-9]+)",
     "bounds": rf"bounds (?P<ends>none|{INTERVAL}(?: {INTERVAL}){{1,15}}) at (?P<at>[0-9]+)",
     "spread": r"spread (?P<ratios>[0-9]+(?: [0-9]+){1,15}) at (?P<at>[0-9]+)",
+    "prices": rf"prices (?P<ends>{PRICES}(?: {PRICES}){{1,15}})",
+    "position": rf"position (?P<ends>{SURE}(?: {SURE}){{1,15}})",
     "worst": rf"worst (?P<ends>{INTERVAL})",
+    "status": (r"status at (?P<at>[0-9]+) users (?P<users>[0-9]+) trades (?P<trades>[0-9]+ of [0-9]+) transfers (?P<transfers>[0-9]+ of [0-9]+)"
+               r" open (?P<open>[0-9]+ of [0-9]+)"),
     "resolve": r"resolve \S+ at (?P<at>[0-9]+)",
     "settle": rf"settle at (?P<at>[0-9]+)(?P<payments>(?:, {N} {INTERVAL} paid [0-9]+)*)",
     "bound": rf"bound (?P<ends>{INTERVAL})",

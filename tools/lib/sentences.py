@@ -13,7 +13,10 @@ FORMS = {
     "edit": ("edit U V=v | W=w, .. to X at R", "U takes the price to X parts per million; with `at R` only at that revision"),
     "bounds": ("bounds U V | W=w, ..", "the shares to which U can take the prices of all answers of V now"),
     "spread": ("spread U V | W=w, .. to X X .. at R", "U takes the price of each answer of V to its share; together they make 1000000"),
+    "prices": ("prices V | W=w, ..", "the prices of all answers of V"),
+    "position": ("position U V | W=w, ..", "for each answer of V what U is paid at least where it comes, in points"),
     "worst": ("worst U", "what U is paid at least, whatever comes, in points"),
+    "status": ("status", "the revision, and how many users, trades, deposits and withdrawals, and open questions there are"),
     "resolve": ("resolve V=v", "V has the answer v, for ever"),
     "settle": ("settle", "pays every user, once each question is resolved; nothing is taken behind it"),
     "bound": ("bound", "the most that the operator can lose, in points"),
@@ -150,7 +153,7 @@ def read_user(words, market):
         raise Wrong(words.place(), "the name of a user is missing")
     behind = words.found[words.next + 1][0] if words.next + 1 < len(words.found) else None
     if "=" in words.peek() or (words.peek() in market.questions and (behind is None or behind in ("|", "to")) and len(words.found) > 1 and kind in
-                               ("limits", "edit", "bounds", "spread")):
+                               ("limits", "edit", "bounds", "spread", "position")):
         raise Wrong(words.place(), f"the user comes first: {kind} USER {words.peek()}")
     check_name(words.peek(), words.place(), "a user")
     words.take()
@@ -201,8 +204,9 @@ def read_target(words, market, is_all, stops):
     if is_all:
         kind = words.found[0][0]
         if "=" in word:
-            one = {"bounds": "limits", "spread": "edit"}[kind]
-            raise Wrong(place + word.index("="), f"{kind} is about all answers of {word.partition('=')[0]}, and names none; {one} is about one")
+            one = {"bounds": "limits", "spread": "edit", "prices": "price"}.get(kind)
+            raise Wrong(place + word.index("="), f"{kind} is about all answers of {word.partition('=')[0]}, and names none"
+                        + (f"; {one} is about one" if one else ""))
         check_name(word, place, "a question")
     else:
         check_pair(word, place, market)
@@ -273,13 +277,13 @@ def read_line(line, market):
     words = Words(line)
     kind = words.found[0][0]
     check_first(kind)
-    if kind not in ("price", "resolve", "settle", "bound"):
+    if kind not in ("price", "prices", "resolve", "settle", "bound", "status"):
         read_user(words, market)
     if kind in ("deposit", "withdraw"):
         read_bits(words, market)
     elif kind in ("price", "limits"):
         read_question(words, market)
-    elif kind == "bounds":
+    elif kind in ("bounds", "prices", "position"):
         read_question(words, market, is_all=True)
     elif kind in ("edit", "spread"):
         read_question(words, market, is_all=kind == "spread", stops=("to",))
@@ -362,8 +366,21 @@ REFUSALS = {
 }
 
 
+def position_text(line, intervals, market):
+    """What a user is sure of, answer by answer."""
+    command = read_command(line)
+    if command is None or command.name not in market.questions:
+        return None
+    pairs = [f"{command.name}={answer}" for answer in market.values(command.name)]
+    told = [f"{pair} cannot come" if interval == "none" else f"{int(interval.partition('..')[0]):,} where {pair} comes"
+            for pair, interval in zip(pairs, intervals)]
+    return f"{command.user} is paid at least, in points: {', '.join(told)}"
+
+
 def explain(line, reply, market):
     """One sentence on a reply, or None where it speaks for itself."""
+    if reply.startswith("position "):
+        return position_text(line, reply.split(" ")[1:], market)
     if reply.startswith("bound "):
         low, _, high = reply.removeprefix("bound ").partition("..")
         return f"whatever comes and whoever trades, the operator loses at most {high} points over the whole market, by what is resolved so far"

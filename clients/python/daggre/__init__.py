@@ -12,7 +12,7 @@ Replies are dataclasses (`daggre.replies`), a refusal raises `daggre.Refused`, w
 """
 from . import commands, refusals, replies
 from .aio import AsyncMarket
-from .amounts import MILLION, PRICE_UNITS, RATIO_UNIT, Interval
+from .amounts import MILLION, PRICE_UNITS, RATIO_UNIT, Interval, Points
 from .commands import Command
 from .errors import Ended, FileFault, FileRefused, MarketError, NotALine, ProgramMissing, Refused, Silent, UnknownLine
 from .market import Exchanged, Market, Ready, exchange
@@ -22,6 +22,6 @@ from .replies import Reply, read_reply
 
 __all__ = [
     "MILLION", "PRICE_UNITS", "RATIO_UNIT", "AsyncMarket", "Command", "Distribution", "Ended", "Exchanged", "FileFault", "FileRefused", "Interval",
-    "Market", "MarketError", "NotALine", "Pair", "ProgramMissing", "Question", "Ready", "Refusal", "Refused", "Reply", "Silent", "UnknownLine",
+    "Market", "MarketError", "NotALine", "Pair", "Points", "ProgramMissing", "Question", "Ready", "Refusal", "Refused", "Reply", "Silent", "UnknownLine",
     "commands", "exchange", "read_reply", "refusals", "replies",
 ]

@@ -182,6 +182,18 @@ class AsyncMarket:
         """What the user is paid at least, whatever comes, in points."""
         return await self.ask(commands.worst(user))
 
+    async def prices(self, question: Distribution | str) -> replies.Prices:
+        """The price of each value where the condition holds."""
+        return await self.ask(commands.prices(question))
+
+    async def position(self, user: str, question: Distribution | str) -> replies.Position:
+        """For each value what the user is paid at least where it comes and the condition holds, in points."""
+        return await self.ask(commands.position(user, question))
+
+    async def read_status(self) -> replies.Status:
+        """The command `status`: the revision, and how full the market is. `status` without a call is that of the process."""
+        return await self.ask(commands.status())
+
     async def resolve(self, pair: Pair | str) -> replies.Resolved:
         """The variable has the value, for good."""
         return await self.ask(commands.resolve(pair))

@@ -9,10 +9,15 @@ PRICE = r"([01]\.[0-9]{10})"
 _RANGE = r"(?:0|[1-9][0-9]{0,5})\.\.(?:0|[1-9][0-9]{0,5})"
 INTERVAL = rf"(none|{_RANGE})"
 BOX = rf"(none|{_RANGE}(?: {_RANGE}){{1,15}})"
+_PRICES = rf"{PRICE}\.\.{PRICE}"
+PRICE_LIST = rf"({_PRICES}(?: {_PRICES}){{1,15}})"
+_POINTS = rf"(?:none|{COUNT}\.\.{COUNT})"
+POINTS_LIST = rf"({_POINTS}(?: {_POINTS}){{1,15}})"
 
 PRICE_UNITS = 10**10
 RATIO_UNIT = 2**40
 MILLION = 10**6
+MOST_COUNTED = 2**32 - 1
 
 
 def read_count(text: str, most: int = 2**63 - 1) -> int:
@@ -34,6 +39,24 @@ def read_price(text: str) -> Decimal:
     if price > 1:
         raise ValueError(f"a price is at most 1: {text}")
     return price
+
+
+@dataclass(frozen=True, slots=True)
+class Points:
+    """Whole points, of which one of the two ends, or a number between them, is the exact one."""
+
+    low: int
+    high: int
+
+    def __str__(self) -> str:
+        return f"{self.low}..{self.high}"
+
+
+def read_points(text: str) -> Points | None:
+    if text == "none":
+        return None
+    low, high = text.split("..")
+    return Points(read_count(low), read_count(high))
 
 
 @dataclass(frozen=True, slots=True)

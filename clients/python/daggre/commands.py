@@ -78,6 +78,18 @@ def worst(user: str) -> Command[replies.Worst]:
     return Command(f"worst {user}", replies.Worst)
 
 
+def prices(question: Distribution | str) -> Command[replies.Prices]:
+    return Command(f"prices {question}", replies.Prices)
+
+
+def position(user: str, question: Distribution | str) -> Command[replies.Position]:
+    return Command(f"position {user} {question}", replies.Position)
+
+
+def status() -> Command[replies.Status]:
+    return Command("status", replies.Status)
+
+
 def resolve(pair: Pair | str) -> Command[replies.Resolved]:
     return Command(f"resolve {pair}", replies.Resolved)
 

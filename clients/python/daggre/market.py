@@ -188,6 +188,18 @@ class Market:
         """What the user is paid at least, whatever comes, in points."""
         return self.ask(commands.worst(user))
 
+    def prices(self, question: Distribution | str) -> replies.Prices:
+        """The price of each value where the condition holds."""
+        return self.ask(commands.prices(question))
+
+    def position(self, user: str, question: Distribution | str) -> replies.Position:
+        """For each value what the user is paid at least where it comes and the condition holds, in points."""
+        return self.ask(commands.position(user, question))
+
+    def read_status(self) -> replies.Status:
+        """The command `status`: the revision, and how full the market is. `status` without a call is that of the process."""
+        return self.ask(commands.status())
+
     def resolve(self, pair: Pair | str) -> replies.Resolved:
         """The variable has the value, for good."""
         return self.ask(commands.resolve(pair))

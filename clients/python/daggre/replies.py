@@ -11,8 +11,8 @@ from dataclasses import dataclass
 from decimal import Decimal
 
 from . import refusals
-from .amounts import (BOX, COUNT, INTERVAL, PRICE, PRICE_UNITS, Interval, box_text, interval_text, read_box, read_count, read_interval,
-                      read_price, read_ratio)
+from .amounts import (BOX, COUNT, INTERVAL, MOST_COUNTED, POINTS_LIST, PRICE, PRICE_LIST, PRICE_UNITS, Interval, Points, box_text, interval_text,
+                      read_box, read_count, read_interval, read_points, read_price, read_ratio)
 from .questions import NAME, Pair
 from .refusals import Refusal
 
@@ -60,7 +60,8 @@ class Withdrawn(Reply):
 
 @dataclass(frozen=True, slots=True)
 class Price(Reply):
-    """`price`: the exact price lies between both ends, which are at most two units of 10^-10 apart."""
+    """`price`: the exact price lies between both ends. They are its floor and ceiling in units of 10^-10; an end may be a unit off
+    where the price is within one part in 2^42 of a unit."""
 
     low: Decimal
     high: Decimal
@@ -121,13 +122,51 @@ class Spread(Reply):
 
 @dataclass(frozen=True, slots=True)
 class Worst(Reply):
-    """`worst`: what the user is paid at least, in points; the two are at most one apart."""
+    """`worst`: what the user is paid at least, in points; the two are at most one apart, and equal for a user who holds no trade."""
 
     low: int
     high: int
 
     def __str__(self) -> str:
         return f"worst {self.low}..{self.high}"
+
+
+@dataclass(frozen=True, slots=True)
+class Prices(Reply):
+    """`prices`: for each value in the file's order an interval of its price, as near as that of `price`."""
+
+    intervals: tuple[Price, ...]
+
+    def __str__(self) -> str:
+        return f"prices {' '.join(f'{price.low:.10f}..{price.high:.10f}' for price in self.intervals)}"
+
+
+@dataclass(frozen=True, slots=True)
+class Position(Reply):
+    """`position`: for each value in the file's order what the user is paid at least where it comes; None for a value that cannot come."""
+
+    intervals: tuple[Points | None, ...]
+
+    def __str__(self) -> str:
+        return f"position {' '.join('none' if points is None else str(points) for points in self.intervals)}"
+
+
+@dataclass(frozen=True, slots=True)
+class Status(Reply):
+    """`status`: the revision, and how many users, trades, transfers and open questions there are, with the most that there may be."""
+
+    at: int
+    users: int
+    trades: int
+    most_trades: int
+    transfers: int
+    most_transfers: int
+    open: int
+    questions: int
+
+    def __str__(self) -> str:
+        return (f"status at {self.at} users {self.users} trades {self.trades} of {self.most_trades} "
+                f"transfers {self.transfers} of {self.most_transfers} open {self.open} of {self.questions}")
 
 
 @dataclass(frozen=True, slots=True)
@@ -195,11 +234,23 @@ def _settlement(at: str, rest: str) -> Settlement:
     return Settlement(read_count(at), tuple(payments))
 
 
+def _prices(text: str, *_: str) -> Prices:
+    ends = [part.split("..") for part in text.split(" ")]
+    return Prices(tuple(Price(read_price(low), read_price(high)) for low, high in ends))
+
+
+def _status(at: str, *rest: str) -> Status:
+    return Status(read_count(at), *(read_count(number, MOST_COUNTED) for number in rest))
+
+
 _TEXTS: list[tuple[str, Callable[..., Reply]]] = [
     (rf"price {PRICE}\.\.{PRICE}", lambda a, b: Price(read_price(a), read_price(b))),
     (f"trade {COUNT} {COUNT} at {COUNT}", lambda hit, miss, at: Traded(read_ratio(hit), read_ratio(miss), read_count(at))),
     (f"limits {INTERVAL} at {COUNT}", lambda text, at: Limits(read_interval(text), read_count(at))),
     (rf"worst {COUNT}\.\.{COUNT}", lambda a, b: Worst(read_count(a), read_count(b))),
+    (f"prices {PRICE_LIST}", _prices),
+    (f"position {POINTS_LIST}", lambda text, *_: Position(tuple(map(read_points, text.split(" "))))),
+    (f"status at {COUNT} users {COUNT} trades {COUNT} of {COUNT} transfers {COUNT} of {COUNT} open {COUNT} of {COUNT}", _status),
     (f"bounds {BOX} at {COUNT}", lambda text, at: Bounds(read_box(text), read_count(at))),
     (f"spread ({COUNT}(?: {COUNT}){{1,15}}) at {COUNT}",
      lambda text, *rest: Spread(tuple(map(read_ratio, text.split(" "))), read_count(rest[-1]))),

@@ -24,6 +24,9 @@ def test_every_command_has_a_method(example):
             assert (await market.limits("alice", "storm=yes")).interval == daggre.Interval(62500, 812500)
             assert (await market.edit("alice", "storm=yes", 500000, at=2)).hit == 2 * daggre.RATIO_UNIT
             assert await market.worst("alice") == replies.Worst(141, 141)
+            assert len((await market.prices("storm | ferry=sails")).intervals) == 2
+            assert (await market.position("alice", "storm")).intervals == (daggre.Points(300, 300), daggre.Points(141, 141))
+            assert (await market.read_status()).most_transfers == 65536
             assert (await market.bounds("alice", "concert")).at == 3
             assert (await market.spread("alice", "concert", [600000, 400000])).at == 4
             assert (await market.withdraw("alice", 1)).at == 5

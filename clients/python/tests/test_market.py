@@ -7,7 +7,7 @@ from decimal import Decimal
 import pytest
 
 import daggre
-from daggre import Interval, Market, Question, commands, exchange, refusals, replies
+from daggre import Distribution, Interval, Market, Points, Question, commands, exchange, refusals, replies
 
 pytestmark = pytest.mark.usefixtures("built")
 
@@ -33,6 +33,10 @@ def test_every_command_has_a_method(ferry):
     assert ferry.limits("alice", "storm=yes") == replies.Limits(Interval(62500, 812500), 2)
     assert ferry.edit("alice", "storm=yes", 500000, at=2) == replies.Traded(2199023255552, 733007751850, 3)
     assert ferry.worst("alice") == replies.Worst(141, 141)
+    assert ferry.position("alice", "storm") == replies.Position((Points(300, 300), Points(141, 141)))
+    assert [(price.low <= share <= price.high) for price, share in zip(ferry.prices("storm").intervals, (Decimal("0.5"), Decimal("0.5")))] == [True, True]
+    assert ferry.prices(Distribution.read("concert | ferry=sails")).intervals[0].low <= Decimal("0.8")
+    assert ferry.read_status() == replies.Status(3, 1, 1, 1000, 1, 65536, 3, 3)
     bounds = ferry.bounds("alice", "concert")
     assert bounds.at == 3 and len(bounds.intervals) == 2
     assert ferry.spread("alice", "concert", [600000, 400000], at=3).at == 4
@@ -58,6 +62,8 @@ def test_the_bound_where_the_program_knows_it(coin):
     (lambda m: m.edit("alice", "coin=heads", 600000), refusals.Beyond(Interval(500000, 500000))),
     (lambda m: m.edit("alice", "coin=heads", 500000, at=7), refusals.Stale(7, 1)),
     (lambda m: m.spread("alice", "coin", [1, 2]), refusals.Sum(3)),
+    (lambda m: m.prices("dice"), refusals.UnknownVariable("dice")),
+    (lambda m: m.position("bob", "dice"), refusals.UnknownUser("bob")),
     (lambda m: m.settle(), refusals.StillOpen("coin")),
     (lambda m: m.withdraw("alice", 1), refusals.Short(0)),
 ])

@@ -4,7 +4,7 @@ from pathlib import Path
 
 import pytest
 
-from daggre import FileFault, Interval, Pair, Question, read_reply, refusals, replies
+from daggre import FileFault, Interval, Pair, Points, Question, read_reply, refusals, replies
 from daggre.questions import Distribution
 
 GREATEST = 2**63 - 1
@@ -22,6 +22,14 @@ REPLIES = {
     "bounds none at 3": replies.Bounds(None, 3),
     "spread 1099511627775 824634957783 at 4": replies.Spread((1099511627775, 824634957783), 4),
     "worst 167..168": replies.Worst(167, 168),
+    "prices 0.2500000000..0.2500000000 0.7499999999..0.7500000001": replies.Prices((
+        replies.Price(Decimal("0.25"), Decimal("0.25")), replies.Price(Decimal("0.7499999999"), Decimal("0.7500000001")))),
+    f"prices{' 0.0000000000..1.0000000000' * 16}": replies.Prices((replies.Price(Decimal(0), Decimal(1)),) * 16),
+    "position 126..126 none 80..81": replies.Position((Points(126, 126), None, Points(80, 81))),
+    f"position 0..0 {GREATEST}..{GREATEST}": replies.Position((Points(0, 0), Points(GREATEST, GREATEST))),
+    "position none none": replies.Position((None, None)),
+    "status at 4 users 2 trades 1 of 1000 transfers 3 of 65536 open 1 of 2": replies.Status(4, 2, 1, 1000, 3, 65536, 1, 2),
+    f"status at {GREATEST} users {2**32 - 1} trades 0 of 1 transfers 0 of 1 open 0 of 1": replies.Status(GREATEST, 2**32 - 1, 0, 1, 0, 1, 0, 1),
     "resolve storm=no at 6": replies.Resolved(Pair("storm", "no"), 6),
     "settle at 9": replies.Settlement(9, ()),
     "settle at 9, alice 67..67 paid 67, bob 0..1 paid 0": replies.Settlement(9, (replies.Payment("alice", 67, 67), replies.Payment("bob", 0, 1))),
@@ -58,6 +66,10 @@ NO_REPLIES = [
     "limits 0..5 at 1", "limits 5..4 at 1", "limits 1..1000000 at 1", "limits 0..0 at 1", "trade 0 1 at 1", f"trade {GREATEST + 1} 1 at 1",
     "bounds 1..2 at 1", "bounds 0..1 1..5 at 2", "bounds 0..0 0..5 at 2", f"bounds {' '.join(['1..2'] * 17)} at 1", "spread 1 at 1", "spread 0 1 at 1",
     "worst 1", "worst -1..0", "resolve storm at 6", "settle", "settle at 9, alice 67..67 paid 66", "settle at 9,alice 67..67 paid 67",
+    "prices 0.5000000000..0.5000000000", f"prices{' 0.5000000000..0.5000000000' * 17}", "prices 5..5 5..5", "prices 0.5000000000..0.5000000000 none",
+    "prices 0.5000000000..0.5000000000  0.5000000000..0.5000000000", "prices 0.5000000000..0.5000000000 1.0000000001..1.0000000001", "position none",
+    "position 5..5", "position 5..5 05..6", f"position{' 5..5' * 17}", f"position 5..5 0..{GREATEST + 1}", "status", "status at 1 users 1 trades 1 of 5 open 1 of 2",
+    f"status at 1 users 1 trades 0 of 1 transfers 0 of {2**32} open 1 of 1", f"status at {GREATEST + 1} users 1 trades 0 of 1 transfers 0 of 1 open 1 of 1",
     "bound 5", "bound 5..6 at 1", "bound none", "refused", "refused sure w", "refused users 65537", "refused beyond", "refused Syntax", "refused syntax ",
     "refused market toml", "price 0.5000000000..0.5000000000\n", "price ٠.5000000000..0.5000000000", "settle at 9" + "".join(f", u{k} 0..0 paid 0" for k in range(257)),
 ]
