@@ -2,11 +2,11 @@
 
 ghost use Rattle.std.specs.Prelude.{◌≡◌, ◌⊎◌, ℕ, ◌+◌, ◌-◌, ◌<◌, ◌≤◌, All, vec_len, List, [], ◌∷◌, ◌++◌, length, string_bytes, Some, None, is_some, IfOk, OnOk, OnErr};
 ghost use Rattle.mk_disk.specs.Disk.{Fills};
-ghost use Rattle.mk_disk.specs.Memory.{rested, chosen, wrote, faulted_in, synced, file_after, IsImage, WasImage, counted, failed, starved, uncalled, IsFailing, IsCalled, Happened, opened_name, seen_of, room_of, prepared};
+ghost use Rattle.mk_disk.specs.Memory.{FileState, rested, chosen, after_event, wrote, faulted_in, synced, file_after, IsImage, WasImage, counted, failed, starved, uncalled, IsFailing, IsCalled, Happened, opened_name, seen_of, room_of, prepared};
 ghost use Rattle.mk_disk.specs.inner.MemoryLaws.{seen_image, now_counts, now_only};
 
 use crate::calls::Calls;
-use crate::contents::contents_after;
+use crate::contents::{contents_after, overwrite_within};
 use crate::disk::{Disk, DiskFailed};
 use crate::event::{Choice, Event};
 use std::alloc::{AllocError, Global};
@@ -26,13 +26,15 @@ pub struct MemoryDisk {
     calls: Calls,
     // copies of the open file's name
     spare: Vec<String>,
+    // what a read of the open file gives
+    seen: Vec<u8>,
 }
 
 const PREPARED: usize = 2;
 
 impl Model for MemoryDisk {
     ghost use Rattle.std.specs.Prelude.{◌≡◌, ◌-◌, [], All, option_map, unwrap_or, string_bytes, vec_len, vec_capacity};
-    ghost use Rattle.mk_disk.specs.Memory.{MemoryState};
+    ghost use Rattle.mk_disk.specs.Memory.{MemoryState, file_after};
 
     ghost Value = { MemoryState };
 
@@ -44,7 +46,8 @@ impl Model for MemoryDisk {
       places = vec_capacity d.events - vec_len d.events;
     } };
 
-    ghost invariant = { λ d. All (λ s. string_bytes s ≡ unwrap_or (option_map (λ o. string_bytes o) d.opened) []) d.spare.items };
+    ghost invariant = { λ d. All (λ s. string_bytes s ≡ unwrap_or (option_map (λ o. string_bytes o) d.opened) []) d.spare.items
+      × (d.seen.items ≡ (file_after (unwrap_or (option_map (λ o. string_bytes o) d.opened) []) d.events.items).seen) };
 }
 
 impl MemoryDisk {
@@ -58,6 +61,7 @@ impl MemoryDisk {
             opened: None,
             calls: Calls::new(failing),
             spare: Vec::new(alloc),
+            seen: Vec::new(alloc),
         }
     }
 
@@ -68,10 +72,22 @@ impl MemoryDisk {
         ensures closed { IfOk result (λ disk. disk.opened ≡ None) }
         ensures calls { IfOk result (λ disk. disk.calls ≡ self.calls) }
     {
-        let mut disk = self;
-        disk.close();
-        disk.note(Event::Crash(choice))?;
-        Ok(disk)
+        let MemoryDisk {
+            alloc,
+            mut events,
+            calls,
+            ..
+        } = self;
+        events.push(Event::Crash(choice))?;
+        let seen = contents_after(alloc, &events, "")?.seen;
+        Ok(MemoryDisk {
+            alloc,
+            events,
+            opened: None,
+            calls,
+            spare: Vec::new(alloc),
+            seen,
+        })
     }
 
     /// How many calls there were.
@@ -88,16 +104,9 @@ impl MemoryDisk {
         Ok(contents_after(self.alloc, &self.events, name)?.seen)
     }
 
-    // No file is open.
-    fn close(&mut self)
-        ensures { self.new ≡ record self.old { opened = None; names = 0 } }
-    {
-        self.spare.clear();
-        self.opened = None;
-    }
-
-    // One event more.
+    // One event more, which a read of the open file does not show.
     fn note(&mut self, event: Event) -> Result<(), AllocError>
+        requires { (s : FileState) → (after_event (opened_name self.old) event s).seen ≡ s.seen }
         ensures ok { OnOk result (self.new ≡ record self.old { events = self.new.events; places = self.new.places }) }
         ensures added { OnOk result (self.new.events ≡ self.old.events ++ event ∷ []) }
         ensures err { OnErr result (self.new ≡ record self.old { places = self.new.places }) }
@@ -143,9 +152,11 @@ impl MemoryDisk {
     {
         let opened = String::from_str(self.alloc, name)?;
         let spare = copies(self.alloc, name)?;
+        let seen = self.bytes(name)?;
         self.events.reserve(PREPARED)?;
         self.opened = Some(opened);
         self.spare = spare;
+        self.seen = seen;
         Ok(())
     }
 
@@ -159,14 +170,6 @@ impl MemoryDisk {
         }
     }
 
-    // The bytes of the open file.
-    fn seen(&self) -> Result<Vec<u8>, AllocError>
-        ensures { IfOk result (λ v. v.items ≡ seen_of self.now (opened_name self.now)) }
-    {
-        let name = self.open_name()?;
-        self.bytes(name.as_str())
-    }
-
     fn note_write(&mut self, at: u64, bytes: &[u8]) -> Result<(), AllocError>
         ensures ok { OnOk result (self.new ≡ record self.old { events = self.new.events; names = self.new.names; places = self.new.places }) }
         ensures happened { OnOk result (Happened self.old.events self.new.events (wrote (opened_name self.old) at bytes.now)) }
@@ -176,8 +179,11 @@ impl MemoryDisk {
     {
         self.prepare()?;
         let name = self.open_name()?;
+        let seen = overwrite_within(self.alloc, &self.seen, at, bytes)?;
         let bytes = bytes.to_vec(self.alloc)?;
-        self.note(Event::Write(name, at, bytes))
+        self.events.push(Event::Write(name, at, bytes))?;
+        self.seen = seen;
+        Ok(())
     }
 
     fn note_fault(&mut self, at: u64, len: usize) -> Result<(), AllocError>
@@ -267,18 +273,13 @@ impl Disk for MemoryDisk {
         ensures called { IsCalled self.old.calls self.new.calls result }
         ensures amount { IfOk result (λ len. len ≡ length (seen_of self.old (opened_name self.old))) }
         ensures same { self.new ≡ record self.old { calls = self.new.calls } }
+        ensures wants { OnErr result (IsFailing self.old.calls) }
     {
         if self.calls.begin() {
             self.calls.fail();
             return Err(DiskFailed);
         }
-        match self.seen() {
-            Ok(seen) => Ok(seen.len() as u64),
-            Err(_) => {
-                self.calls.starve();
-                Err(DiskFailed)
-            }
-        }
+        Ok(self.seen.len() as u64)
     }
 
     fn read_at(&mut self, at: u64, buf: &mut [u8]) -> Result<usize, DiskFailed>
@@ -286,18 +287,13 @@ impl Disk for MemoryDisk {
         ensures bound { IfOk result (λ count. count ≤ length buf.new) }
         ensures reads { IfOk result (λ count. Fills (seen_of self.old (opened_name self.old)) at count buf.new) }
         ensures same { self.new ≡ record self.old { calls = self.new.calls } }
+        ensures wants { OnErr result (IsFailing self.old.calls) }
     {
         if self.calls.begin() {
             self.calls.fail();
             return Err(DiskFailed);
         }
-        match self.seen() {
-            Ok(seen) => Ok(copy_from(&seen, at as usize, buf)),
-            Err(_) => {
-                self.calls.starve();
-                Err(DiskFailed)
-            }
-        }
+        Ok(copy_from(&self.seen, at as usize, buf))
     }
 
     fn write_at(&mut self, at: u64, bytes: &[u8]) -> Result<(), DiskFailed>
