@@ -3,9 +3,7 @@ use Rattle.std.proofs.Common.{◌≡◌, ◌≢◌, ◌⊎◌, inl, inr, ℕ, �
 use Rattle.std.proofs.lemmas.Bool.{cases_lt, cases_Bool, cond-true, cond-false, false_from_ne_true}
 use Rattle.std.proofs.lemmas.List.{take_all, take-append-le}
 use Rattle.std.proofs.lemmas.Slice.Eq.{bytes_eq-Decides}
-use Rattle.std.specs.Prelude.{string_bytes, String, Vec}
 use Rattle.mk_disk.specs.declared.event.Event.{Event}
-use Rattle.mk_disk.specs.declared.event.Event.TheVariants.{Write, Fault, Sync}
 use Rattle.mk_disk.specs.Disk.{overwritten, Torn, Only, Follows, NoMore, Elapses}
 use Rattle.mk_disk.specs.Image.{IsImageOf}
 use Rattle.mk_disk.specs.Memory.{FileState, rested, faulted, written, wrote, faulted_in, synced, after_event, after_events, file_after, IsImage, WasImage, Happened}

@@ -15,9 +15,10 @@ use std::marker::Model;
 /// A disk in memory, at first without files.
 ///
 /// It keeps all that happened to its files, and each content follows from that. Its calls are numbered from 1, through
-/// crashes too. Those with the given numbers fail, and else a call fails for want of memory alone, which is counted. An
-/// opening and a write leave room for two events more: a sync then wants no memory, and a write that fails as it was to
-/// is among the events, so that a crash leaves any bytes in its range.
+/// crashes too. Those with the given numbers fail, and else a call fails for want of memory alone, which is counted.
+/// Memory is wanting in an opening, in a write, and in a sync that has no room; a length and a read want none. An opening
+/// and a write leave room for two events more: a sync then succeeds unless it is to fail, and a write that is to fail is
+/// among the events, so that a crash leaves any bytes in its range.
 #[derive(Drop)]
 pub struct MemoryDisk {
     alloc: Global,
@@ -47,7 +48,7 @@ impl Model for MemoryDisk {
     } };
 
     ghost invariant = { λ d. All (λ s. string_bytes s ≡ unwrap_or (option_map (λ o. string_bytes o) d.opened) []) d.spare.items
-      × (d.seen.items ≡ (file_after (unwrap_or (option_map (λ o. string_bytes o) d.opened) []) d.events.items).seen) };
+        × (d.seen.items ≡ (file_after (unwrap_or (option_map (λ o. string_bytes o) d.opened) []) d.events.items).seen) };
 }
 
 impl MemoryDisk {

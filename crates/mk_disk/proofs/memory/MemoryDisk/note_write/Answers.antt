@@ -1,5 +1,5 @@
 use Rattle.std.proofs.Common.{◌≡◌, ◌∙◌, sym, ap, rules}
-use Rattle.mk_disk.specs.Memory.{FileState, MemoryState, opened_name, file_after}
+use Rattle.mk_disk.specs.Memory.{FileState, opened_name}
 use Rattle.mk_disk.specs.declared.event.Event.TheVariants.{Write}
 use Rattle.mk_disk.proofs.Events.{file_push, seen_written}
 use Rattle.mk_disk.proofs.memory.MemoryDisk.note_write.Goals as goal
