@@ -105,11 +105,22 @@ pub record IsCalled {T E : Type 0} (old new : Called) (result : Result T E) : Ty
   pub failing : IsFailing old → OnOk result ⊥
   pub failed : OnErr result ((IsFailing old × (new ≡ failed (counted old))) ⊎ (new ≡ starved (counted old)))
 
--- the disk: what happened, the open file's name, and its calls
+-- the disk: what happened, the open file's name, its calls, and for how many events more it has copies of that name,
+-- and places
 pub record MemoryState : Type 0 where
   pub events : List Event
   pub opened : Option (List ℕ)
   pub calls : Called
+  pub names : ℕ
+  pub places : ℕ
+
+-- so many events more of the open file want no memory
+abbrev pub room_of : MemoryState → ℕ
+room_of disk = min disk.names disk.places
+
+-- the room that an opening and a write leave: for a sync, and for a write behind it that fails
+abbrev pub prepared : ℕ
+prepared = 2
 
 -- one event more happened, which does this to the file of each name
 pub record Happened (old new : List Event) (step : List ℕ → FileState → FileState) : Type 0 where

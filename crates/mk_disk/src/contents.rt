@@ -117,6 +117,19 @@ fn fault(alloc: Global, contents: Contents, at: u64, len: usize) -> Result<Conte
     })
 }
 
+/// The file with these bytes over those from a place on, which is its end where the place is behind that.
+pub fn overwrite_within(
+    alloc: Global,
+    file: &[u8],
+    at: u64,
+    bytes: &[u8],
+) -> Result<Vec<u8>, AllocError>
+    ensures { IfOk result (λ v. v.items ≡ overwritten (min at (length file.now)) bytes.now file.now) }
+{
+    let place = (at as usize).min(file.len());
+    overwrite(alloc, file, place, bytes)
+}
+
 // The file with these bytes over those from a place on.
 fn overwrite(alloc: Global, file: &[u8], at: usize, bytes: &[u8]) -> Result<Vec<u8>, AllocError>
     ensures { IfOk result (λ v. v.items ≡ overwritten at bytes.now file.now) }

@@ -1,8 +1,8 @@
 -- Bytes that are told or not: one piece after another.
-use Rattle.std.proofs.Common.{◌≡◌, ℕ, ◌+◌, ◌-◌, ◌≤◌, List, [], ◌++◌, length, take, drop, Option, Some, None, Ok, refl, sym, ap, ◌∙◌, append_assoc, take-append-drop, length-drop, length-take, arith}
+use Rattle.std.proofs.Common.{◌≡◌, ℕ, ◌+◌, ◌-◌, ◌<◌, ◌≤◌, List, [], ◌++◌, length, take, drop, Option, Some, None, Ok, refl, sym, ap, ◌∙◌, append_assoc, take-append-drop, length-drop, length-take, arith}
 use Rattle.std.proofs.Math.Seq.{take-add}
 use Rattle.std.proofs.lemmas.List.{append-nil, take_rest, take_all}
-use Rattle.mk_io.specs.Outside.{Writes, AddsFront, append_known, prepend_known}
+use Rattle.mk_io.specs.Outside.{Writes, AddsFront, AddsPart, append_known, prepend_known}
 
 pub append_known_twice : (told : Option (List ℕ)) (a b : List ℕ) → append_known (append_known told a) b ≡ append_known told (a ++ b)
 append_known_twice None a b = refl
@@ -49,5 +49,15 @@ wrote_front old now next before after bytes done wrote same =
       front = take done bytes;
       rest = drop done bytes;
       parts = sym (take-append-drop done bytes);
+      added = same ∙ wrote.added;
+    }
+
+pub wrote_part : (old now next : Option (List ℕ)) (before after : ℕ) (bytes : List ℕ) (done : ℕ) → Wrote old now before after bytes done → done < length bytes → next ≡ now → AddsPart old next bytes
+wrote_part old now next before after bytes done wrote more same =
+    record {
+      front = take done bytes;
+      rest = drop done bytes;
+      parts = sym (take-append-drop done bytes);
+      left = omega (arith, length-drop done bytes);
       added = same ∙ wrote.added;
     }

@@ -53,3 +53,11 @@ pub record AddsFront (old new : Option (List ℕ)) (bytes : List ℕ) : Type 0 w
   pub rest : List ℕ
   pub parts : bytes ≡ front ++ rest
   pub added : new ≡ append_known old front
+
+-- what was added is a front of these bytes, behind which some of them are left
+pub record AddsPart (old new : Option (List ℕ)) (bytes : List ℕ) : Type 0 where
+  pub front : List ℕ
+  pub rest : List ℕ
+  pub parts : bytes ≡ front ++ rest
+  pub left : 0 < length rest
+  pub added : new ≡ append_known old front

@@ -92,3 +92,19 @@ IsReply (Refused why) = IsRefusal why
 abbrev pub IsUnread : List ℕ → Unread → Type 0
 IsUnread line Syntax = (r : Reply) → IsReply r → line ≢ reply_text r
 IsUnread line Memory = (rest : List ℕ) × (line ≡ codes "settle" ++ rest)
+
+-- bytes that begin with a revision, as it stands behind a reply
+pub record BeginsWithRevision (bytes : List ℕ) : Type 0 where
+  pub at : ℕ
+  pub rest : List ℕ
+  pub is_long : IsLong at
+  pub begins : bytes ≡ at_text at ++ rest
+
+-- a line that begins as the text of a settlement does: with its word, a revision, and what follows these
+abbrev pub BeginsSettlement : List ℕ → Type 0
+BeginsSettlement line = (rest : List ℕ) × (line ≡ codes "settle" ++ rest) × BeginsWithRevision rest
+
+-- memory was wanting only for a line that begins as a settlement does
+abbrev pub IsCausedBy : List ℕ → Unread → Type 0
+IsCausedBy line Syntax = Unit {0}
+IsCausedBy line Memory = BeginsSettlement line

@@ -2,7 +2,7 @@
 
 ghost use Rattle.std.specs.Prelude.{◌≡◌, ℕ, List, IfOk, IfErr, option_map, [], ◌++◌, codes};
 ghost use Rattle.mk_text.specs.Reading.{Finds, behind};
-ghost use Rattle.mk_reply.specs.Replies.{IsReply, reply_text, IsUnread};
+ghost use Rattle.mk_reply.specs.Replies.{IsReply, reply_text, IsUnread, IsCausedBy, BeginsSettlement, BeginsWithRevision};
 ghost use Rattle.mk_reply.specs.Reading.{read_long, read_joined, read_moved, read_prices, read_limited, read_traded, read_bounded, read_spreaded, read_worst, read_bound, read_resolved, read_payment, read_payments, read_settled, read_other, read_form};
 ghost use Rattle.mk_reply.specs.Reading.{read_all_prices, read_position, read_later};
 ghost use Rattle.mk_reply.specs.Reading.{read_of, read_transfers, read_status};
@@ -15,10 +15,11 @@ use mk_net::{Name, NoMemory};
 use mk_text::{Item, Reader, intervals, several};
 use std::alloc::Global;
 
-/// The reply of which these bytes are the text. Only a settlement takes memory.
+/// The reply of which these bytes are the text. Memory is wanting only behind the word and the revision of a settlement.
 pub fn read_reply(alloc: Global, line: &[u8]) -> Result<Reply, Unread>
     ensures found { IfOk result (λ r. IsReply r × (line.now ≡ reply_text r)) }
     ensures unread { IfErr result (IsUnread line.now) }
+    ensures cause { IfErr result (IsCausedBy line.now) }
 {
     let mut reader = Reader::new(line);
     let Some(reply) = reply(alloc, &mut reader)? else {
@@ -35,6 +36,7 @@ pub fn read_reply(alloc: Global, line: &[u8]) -> Result<Reply, Unread>
 fn reply(alloc: Global, reader: &mut Reader) -> Result<Option<Reply>, NoMemory>
     ensures found { IfOk result (λ found. Finds found reader.new (read_form reader.old)) }
     ensures memory { IfErr result (λ _. (rest : List ℕ) × (reader.old ≡ codes "settle" ++ rest)) }
+    ensures begins { IfErr result (λ _. BeginsSettlement reader.old) }
 {
     if reader.skip(b"settle") {
         settled(alloc, reader)
@@ -271,7 +273,8 @@ fn resolved(reader: &mut Reader) -> Option<Reply>
 
 #[tactic(auto, unfolding(crate::specs::Reading::read_settled))]
 fn settled(alloc: Global, reader: &mut Reader) -> Result<Option<Reply>, NoMemory>
-    ensures { IfOk result (λ found. Finds found reader.new (read_settled reader.old)) }
+    ensures found { IfOk result (λ found. Finds found reader.new (read_settled reader.old)) }
+    ensures begins { IfErr result (λ _. BeginsWithRevision reader.old) }
 {
     let Some(at) = revision(reader) else {
         return Ok(None);

@@ -63,7 +63,7 @@ write_at-tells c =
       told = search rules;
       torn = wrote_torn name old.events new.events c.args.at c.args.bytes.now within _ c.result written failed;
       stays = ap is_some c.ensures.opened;
-      stays_name = ap (λ o. opened_name (record { events = old.events; opened = o; calls = old.calls })) c.ensures.opened;
+      stays_name = ap (λ o. opened_name (record old { opened = o })) c.ensures.opened;
       others = others_seen name old.events new.events c.args.at c.args.bytes.now _ c.result written failed;
       other_images = others_left name old.events new.events c.args.at c.args.bytes.now _ c.result written failed;
       time = wrote_time name old.events new.events c.args.at c.args.bytes.now _ c.result written failed;
@@ -78,7 +78,7 @@ sync-tells c =
       cause = caused old.calls new.calls c.result c.ensures.called;
       durable = durable_of name old.events new.events c.result c.ensures.synced;
       stays = ap is_some c.ensures.opened;
-      stays_name = ap (λ o. opened_name (record { events = old.events; opened = o; calls = old.calls })) c.ensures.opened;
+      stays_name = ap (λ o. opened_name (record old { opened = o })) c.ensures.opened;
       files = synced_seen name old.events new.events c.result c.ensures.synced c.ensures.unchanged;
       images = synced_left name old.events new.events c.result c.ensures.synced c.ensures.unchanged;
       time = synced_time name old.events new.events c.result c.ensures.synced c.ensures.unchanged;
