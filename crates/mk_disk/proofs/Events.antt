@@ -121,15 +121,21 @@ elapses_at {old = old} {old' = old'} {new' = new'} name first second time =
     (subst (λ es. Elapses (length es) (length new') (WasImage es name) (WasImage new' name) (IsImage new' name)) first time)
 
 -- what a read gives after one event more: a write of the file, or what a read of it does not show
-pub seen_kept : (name : List ℕ) (old new : List Event) (event : Event) (seen : List ℕ) → new ≡ old ++ event ∷ []
-    → ((s : FileState) → (after_event name event s).seen ≡ s.seen) → seen ≡ (file_after name old).seen → seen ≡ (file_after name new).seen
+pub seen_kept : (name : List ℕ) (old new : List Event) (event : Event) (seen : List ℕ)
+    → new ≡ old ++ event ∷ []
+    → ((s : FileState) → (after_event name event s).seen ≡ s.seen)
+    → seen ≡ (file_after name old).seen → seen ≡ (file_after name new).seen
 seen_kept name old new event seen is keeps was =
-    was ∙ sym (ap (λ (s : FileState). s.seen) (file_push name old new event is) ∙ keeps (file_after name old))
+    was ∙ sym (ap (λ (s : FileState). s.seen) (file_push name old new event is) ∙ keeps
+    (file_after name old))
 
-pub fault_keeps : (of name : List ℕ) (at len : ℕ) (s : FileState) → (faulted_in of at len name s).seen ≡ s.seen
+pub fault_keeps : (of name : List ℕ) (at len : ℕ) (s : FileState)
+    → (faulted_in of at len name s).seen ≡ s.seen
 fault_keeps of name at len s = elim (cases_Bool (bytes_eq of name)) [
-  | inl same ↦ ap (λ (t : FileState). t.seen) (cond-true _ (faulted (min at (length s.seen)) len s) s same)
-  | inr other ↦ ap (λ (t : FileState). t.seen) (cond-false _ (faulted (min at (length s.seen)) len s) s other)
+  | inl same ↦ ap (λ (t : FileState). t.seen)
+      (cond-true _ (faulted (min at (length s.seen)) len s) s same)
+  | inr other ↦ ap (λ (t : FileState). t.seen)
+      (cond-false _ (faulted (min at (length s.seen)) len s) s other)
 ]
 
 pub sync_keeps : (of name : List ℕ) (s : FileState) → (synced of name s).seen ≡ s.seen
@@ -138,12 +144,16 @@ sync_keeps of name s = elim (synced_cases of name s) [
   | inr same ↦ ap (λ (t : FileState). t.seen) same
 ]
 
-pub write_shows : (of name bytes : List ℕ) (at : ℕ) (s : FileState) → of ≡ name → (wrote of at bytes name s).seen ≡ overwritten (min at (length s.seen)) bytes s.seen
+pub write_shows : (of name bytes : List ℕ) (at : ℕ) (s : FileState) → of ≡ name
+    → (wrote of at bytes name s).seen ≡ overwritten (min at (length s.seen)) bytes s.seen
 write_shows of name bytes at s same =
-    ap (λ (t : FileState). t.seen) (cond-true _ (written (min at (length s.seen)) bytes s) s (subst (λ n. bytes_eq n name ≡ true) (sym same) (same_name name)))
+    ap (λ (t : FileState). t.seen) (cond-true _ (written (min at (length s.seen)) bytes s) s
+    (subst (λ n. bytes_eq n name ≡ true) (sym same) (same_name name)))
 
-pub seen_written : (of name bytes given : List ℕ) (at : ℕ) (s : FileState) (left seen : List ℕ) → of ≡ name → bytes ≡ given
-    → left ≡ s.seen → seen ≡ overwritten (min at (length left)) given left → seen ≡ (wrote of at bytes name s).seen
+pub seen_written : (of name bytes given : List ℕ) (at : ℕ) (s : FileState) (left seen : List ℕ)
+    → of ≡ name → bytes ≡ given
+    → left ≡ s.seen → seen ≡ overwritten (min at (length left)) given left
+    → seen ≡ (wrote of at bytes name s).seen
 seen_written of name bytes given at s left seen same is was shown =
     shown
     ∙ ap (λ (g : List ℕ). overwritten (min at (length left)) g left) (sym is)

@@ -105,8 +105,8 @@ pub record IsCalled {T E : Type 0} (old new : Called) (result : Result T E) : Ty
   pub failing : IsFailing old → OnOk result ⊥
   pub failed : OnErr result ((IsFailing old × (new ≡ failed (counted old))) ⊎ (new ≡ starved (counted old)))
 
--- the disk: what happened, the open file's name, its calls, and for how many events more it has copies of that name,
--- and places
+-- the disk: what happened, the open file's name, its calls, and for how many events more it has
+-- copies of that name, and places
 pub record MemoryState : Type 0 where
   pub events : List Event
   pub opened : Option (List ℕ)

@@ -117,7 +117,8 @@ fn fault(alloc: Global, contents: Contents, at: u64, len: usize) -> Result<Conte
     })
 }
 
-/// The file with these bytes over those from a place on, which is its end where the place is behind that.
+/// The file with these bytes over those from a place on, which is its end where the place is behind
+/// that.
 pub fn overwrite_within(
     alloc: Global,
     file: &[u8],

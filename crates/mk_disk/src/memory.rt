@@ -1,8 +1,13 @@
 //! A disk in memory, whose calls can be made to fail and which can crash.
 
-ghost use Rattle.std.specs.Prelude.{◌≡◌, ◌⊎◌, ℕ, ◌+◌, ◌-◌, ◌<◌, ◌≤◌, All, vec_len, List, [], ◌∷◌, ◌++◌, length, string_bytes, Some, None, is_some, IfOk, OnOk, OnErr};
+ghost use Rattle.std.specs.Prelude.{◌≡◌, ◌⊎◌, ℕ, ◌+◌, ◌-◌, ◌<◌, ◌≤◌, All, vec_len, List, [], ◌∷◌};
+ghost use Rattle.std.specs.Prelude.{◌++◌, length, string_bytes, Some, None, is_some, IfOk, OnOk};
+ghost use Rattle.std.specs.Prelude.{OnErr};
 ghost use Rattle.mk_disk.specs.Disk.{Fills};
-ghost use Rattle.mk_disk.specs.Memory.{FileState, rested, chosen, after_event, wrote, faulted_in, synced, file_after, IsImage, WasImage, counted, failed, starved, uncalled, IsFailing, IsCalled, Happened, opened_name, seen_of, room_of, prepared};
+ghost use Rattle.mk_disk.specs.Memory.{FileState, rested, chosen, after_event, wrote, faulted_in};
+ghost use Rattle.mk_disk.specs.Memory.{synced, file_after, IsImage, WasImage, counted, failed};
+ghost use Rattle.mk_disk.specs.Memory.{starved, uncalled, IsFailing, IsCalled, Happened};
+ghost use Rattle.mk_disk.specs.Memory.{opened_name, seen_of, room_of, prepared};
 ghost use Rattle.mk_disk.specs.inner.MemoryLaws.{seen_image, now_counts, now_only};
 
 use crate::calls::Calls;
@@ -14,11 +19,12 @@ use std::marker::Model;
 
 /// A disk in memory, at first without files.
 ///
-/// It keeps all that happened to its files, and each content follows from that. Its calls are numbered from 1, through
-/// crashes too. Those with the given numbers fail, and else a call fails for want of memory alone, which is counted.
-/// Memory is wanting in an opening, in a write, and in a sync that has no room; a length and a read want none. An opening
-/// and a write leave room for two events more: a sync then succeeds unless it is to fail, and a write that is to fail is
-/// among the events, so that a crash leaves any bytes in its range.
+/// It keeps all that happened to its files, and each content follows from that. Its calls are
+/// numbered from 1, through crashes too. Those with the given numbers fail, and else a call fails for
+/// want of memory alone, which is counted. Memory is wanting in an opening, in a write, and in a sync
+/// that has no room; a length and a read want none. An opening and a write leave room for two events
+/// more: a sync then succeeds unless it is to fail, and a write that is to fail is among the events,
+/// so that a crash leaves any bytes in its range.
 #[derive(Drop)]
 pub struct MemoryDisk {
     alloc: Global,
@@ -34,7 +40,8 @@ pub struct MemoryDisk {
 const PREPARED: usize = 2;
 
 impl Model for MemoryDisk {
-    ghost use Rattle.std.specs.Prelude.{◌≡◌, ◌-◌, [], All, option_map, unwrap_or, string_bytes, vec_len, vec_capacity};
+    ghost use Rattle.std.specs.Prelude.{◌≡◌, ◌-◌, [], All, option_map, unwrap_or, string_bytes};
+    ghost use Rattle.std.specs.Prelude.{vec_len, vec_capacity};
     ghost use Rattle.mk_disk.specs.Memory.{MemoryState, file_after};
 
     ghost Value = { MemoryState };
@@ -47,14 +54,23 @@ impl Model for MemoryDisk {
       places = vec_capacity d.events - vec_len d.events;
     } };
 
-    ghost invariant = { λ d. All (λ s. string_bytes s ≡ unwrap_or (option_map (λ o. string_bytes o) d.opened) []) d.spare.items
-        × (d.seen.items ≡ (file_after (unwrap_or (option_map (λ o. string_bytes o) d.opened) []) d.events.items).seen) };
+    ghost invariant = { λ d.
+        All (λ s. string_bytes s ≡ unwrap_or (option_map (λ o. string_bytes o) d.opened) [])
+        d.spare.items
+        × (d.seen.items ≡ (file_after (unwrap_or (option_map (λ o. string_bytes o) d.opened) [])
+        d.events.items).seen) };
 }
 
 impl MemoryDisk {
     /// A disk without files, on which the calls with these numbers fail.
     pub fn new(alloc: Global, failing: Vec<u64>) -> MemoryDisk
-        ensures { result ≡ record { events = []; opened = None; calls = uncalled failing.items; names = 0; places = 0 } }
+        ensures { result ≡ record {
+          events = [];
+          opened = None;
+          calls = uncalled failing.items;
+          names = 0;
+          places = 0;
+        } }
     {
         MemoryDisk {
             alloc,
@@ -108,7 +124,8 @@ impl MemoryDisk {
     // One event more, which a read of the open file does not show.
     fn note(&mut self, event: Event) -> Result<(), AllocError>
         requires { (s : FileState) → (after_event (opened_name self.old) event s).seen ≡ s.seen }
-        ensures ok { OnOk result (self.new ≡ record self.old { events = self.new.events; places = self.new.places }) }
+        ensures ok { OnOk result (self.new ≡ record self.old
+            { events = self.new.events; places = self.new.places }) }
         ensures added { OnOk result (self.new.events ≡ self.old.events ++ event ∷ []) }
         ensures err { OnErr result (self.new ≡ record self.old { places = self.new.places }) }
         ensures places { self.old.places ≤ self.new.places + 1 }
@@ -131,7 +148,8 @@ impl MemoryDisk {
 
     // Room for a write and the events that are prepared behind it.
     fn prepare(&mut self) -> Result<(), AllocError>
-        ensures same { self.new ≡ record self.old { names = self.new.names; places = self.new.places } }
+        ensures same { self.new ≡ record self.old
+            { names = self.new.names; places = self.new.places } }
         ensures names { self.old.names ≤ self.new.names }
         ensures places { self.old.places ≤ self.new.places }
         ensures enough_names { OnOk result (prepared ≤ self.new.names) }
@@ -146,7 +164,8 @@ impl MemoryDisk {
 
     // The file of a name is the open one.
     fn reopen(&mut self, name: &str) -> Result<(), AllocError>
-        ensures ok { OnOk result (self.new ≡ record self.old { opened = Some name.now; names = self.new.names; places = self.new.places }) }
+        ensures ok { OnOk result (self.new ≡ record self.old
+            { opened = Some name.now; names = self.new.names; places = self.new.places }) }
         ensures prepared { OnOk result (prepared ≤ room_of self.new) }
         ensures err { OnErr result (self.new ≡ record self.old { places = self.new.places }) }
         ensures places { self.old.places ≤ self.new.places }
@@ -172,10 +191,12 @@ impl MemoryDisk {
     }
 
     fn note_write(&mut self, at: u64, bytes: &[u8]) -> Result<(), AllocError>
-        ensures ok { OnOk result (self.new ≡ record self.old { events = self.new.events; names = self.new.names; places = self.new.places }) }
+        ensures ok { OnOk result (self.new ≡ record self.old
+            { events = self.new.events; names = self.new.names; places = self.new.places }) }
         ensures happened { OnOk result (Happened self.old.events self.new.events (wrote (opened_name self.old) at bytes.now)) }
         ensures prepared { OnOk result (prepared ≤ room_of self.new) }
-        ensures err { OnErr result (self.new ≡ record self.old { names = self.new.names; places = self.new.places }) }
+        ensures err { OnErr result (self.new ≡ record self.old
+            { names = self.new.names; places = self.new.places }) }
         ensures room { room_of self.old ≤ room_of self.new + 1 }
     {
         self.prepare()?;
@@ -188,9 +209,11 @@ impl MemoryDisk {
     }
 
     fn note_fault(&mut self, at: u64, len: usize) -> Result<(), AllocError>
-        ensures ok { OnOk result (self.new ≡ record self.old { events = self.new.events; names = self.new.names; places = self.new.places }) }
+        ensures ok { OnOk result (self.new ≡ record self.old
+            { events = self.new.events; names = self.new.names; places = self.new.places }) }
         ensures happened { OnOk result (Happened self.old.events self.new.events (faulted_in (opened_name self.old) at len)) }
-        ensures err { OnErr result (self.new ≡ record self.old { names = self.new.names; places = self.new.places }) }
+        ensures err { OnErr result (self.new ≡ record self.old
+            { names = self.new.names; places = self.new.places }) }
         ensures room { room_of self.old ≤ room_of self.new + 1 }
         ensures wants { OnErr result (room_of self.old ≡ 0) }
     {
@@ -205,7 +228,8 @@ impl MemoryDisk {
         ensures later { self.old.calls.faults ≤ self.new.calls.faults }
         ensures failed { (Happened self.old.events self.new.events (faulted_in (opened_name self.old) at len) × (self.new.calls ≡ failed self.old.calls))
             ⊎ ((self.new.events ≡ self.old.events) × (self.new.calls ≡ starved self.old.calls)) }
-        ensures noted { 0 < room_of self.old → Happened self.old.events self.new.events (faulted_in (opened_name self.old) at len) }
+        ensures noted { 0 < room_of self.old
+            → Happened self.old.events self.new.events (faulted_in (opened_name self.old) at len) }
         ensures room { room_of self.old ≤ room_of self.new + 1 }
     {
         match self.note_fault(at, len) {
@@ -215,9 +239,11 @@ impl MemoryDisk {
     }
 
     fn note_sync(&mut self) -> Result<(), AllocError>
-        ensures ok { OnOk result (self.new ≡ record self.old { events = self.new.events; names = self.new.names; places = self.new.places }) }
+        ensures ok { OnOk result (self.new ≡ record self.old
+            { events = self.new.events; names = self.new.names; places = self.new.places }) }
         ensures happened { OnOk result (Happened self.old.events self.new.events (synced (opened_name self.old))) }
-        ensures err { OnErr result (self.new ≡ record self.old { names = self.new.names; places = self.new.places }) }
+        ensures err { OnErr result (self.new ≡ record self.old
+            { names = self.new.names; places = self.new.places }) }
         ensures room { room_of self.old ≤ room_of self.new + 1 }
         ensures wants { OnErr result (room_of self.old ≡ 0) }
     {
@@ -304,7 +330,8 @@ impl Disk for MemoryDisk {
             ⊎ ((self.new.events ≡ self.old.events) × (self.new.calls ≡ starved (counted self.old.calls)))) }
         ensures opened { self.new.opened ≡ self.old.opened }
         ensures noted { IsFailing self.old.calls → 0 < room_of self.old
-            → Happened self.old.events self.new.events (faulted_in (opened_name self.old) at (length bytes.now)) }
+            → Happened self.old.events self.new.events
+            (faulted_in (opened_name self.old) at (length bytes.now)) }
         ensures prepared { OnOk result (prepared ≤ room_of self.new) }
         ensures room { room_of self.old ≤ room_of self.new + 1 }
     {

@@ -1,5 +1,7 @@
 -- Bytes that are told or not: one piece after another.
-use Rattle.std.proofs.Common.{◌≡◌, ℕ, ◌+◌, ◌-◌, ◌<◌, ◌≤◌, List, [], ◌++◌, length, take, drop, Option, Some, None, Ok, refl, sym, ap, ◌∙◌, append_assoc, take-append-drop, length-drop, length-take, arith}
+use Rattle.std.proofs.Common.{◌≡◌, ℕ, ◌+◌, ◌-◌, ◌<◌, ◌≤◌, List, [], ◌++◌, length, take, drop}
+use Rattle.std.proofs.Common.{Option, Some, None, Ok, refl, sym, ap, ◌∙◌, append_assoc}
+use Rattle.std.proofs.Common.{take-append-drop, length-drop, length-take, arith}
 use Rattle.std.proofs.Math.Seq.{take-add}
 use Rattle.std.proofs.lemmas.List.{append-nil, take_rest, take_all}
 use Rattle.mk_io.specs.Outside.{Writes, AddsFront, AddsPart, append_known, prepend_known}
@@ -52,7 +54,9 @@ wrote_front old now next before after bytes done wrote same =
       added = same ∙ wrote.added;
     }
 
-pub wrote_part : (old now next : Option (List ℕ)) (before after : ℕ) (bytes : List ℕ) (done : ℕ) → Wrote old now before after bytes done → done < length bytes → next ≡ now → AddsPart old next bytes
+pub wrote_part : (old now next : Option (List ℕ)) (before after : ℕ) (bytes : List ℕ) (done : ℕ)
+    → Wrote old now before after bytes done → done < length bytes → next ≡ now
+    → AddsPart old next bytes
 wrote_part old now next before after bytes done wrote more same =
     record {
       front = take done bytes;

@@ -1,7 +1,8 @@
 //! The traits of the outside, with the causes of their failures.
 
 ghost use Rattle.std.specs.Prelude.{◌≡◌, ℕ, ◌<◌, List, [], Option, length, OnOk, OnErr};
-ghost use Rattle.mk_io.specs.Outside.{HasCause, LeavesRest, Reads, Writes, AddsFront, AddsPart, append_known};
+ghost use Rattle.mk_io.specs.Outside.{HasCause, LeavesRest, Reads, Writes, AddsFront, AddsPart};
+ghost use Rattle.mk_io.specs.Outside.{append_known};
 
 /// A read or an opening failed.
 #[derive(Clone, Copy, Debug, PartialEq, Eq)]
@@ -63,7 +64,8 @@ pub trait Sink {
         ensures writes { Writes (written self.old) (written self.new) result bytes.now };
 }
 
-/// Writes all of `bytes`. Fails only where a write failed, and then a front of them was written, but not all.
+/// Writes all of `bytes`. Fails only where a write failed. Then a front of them was written, but not
+/// all.
 pub fn write_all<S: Sink>(out: &mut S, bytes: &[u8]) -> Result<(), SinkFailed>
     ensures cause { HasCause (S.faults out.old) (S.faults out.new) result }
     ensures whole { OnOk result (S.written out.new ≡ append_known (S.written out.old) bytes.now) }

@@ -11,7 +11,8 @@ use Rattle.mk_text.specs.Reading.{Finds, Read, both, behind, made, nothing, read
 use Rattle.mk_text.proofs.ReadingLaws.{Took, Reads, Tells, Spelled, IsMade, BothFit, both_text, behind_text, both_reads, behind_reads, passed_reads, made_reads, reads_same, AreItems, EndsList, list_reads, spelled_by, choose_takes, nothing_takes, made_last, whole_one, whole_found, whole_nothing, whole_left}
 use Rattle.mk_text.proofs.WordLemmas.{after_begins}
 use Rattle.mk_text.proofs.PartLaws.{EndsSeveral, name_reads, pair_reads, limits_reads, price_reads, range_reads, units_reads, several_reads, number_goes_on, intervals_reads, both_ends, AreBelow}
-use Rattle.mk_reply.specs.Replies.{reply_text, at_text, payment_text, IsRatio, IsPayment, IsReply, IsUnread, BeginsWithRevision, BeginsSettlement}
+use Rattle.mk_reply.specs.Replies.{reply_text, at_text, payment_text, IsRatio, IsPayment, IsReply}
+use Rattle.mk_reply.specs.Replies.{IsUnread, BeginsWithRevision, BeginsSettlement}
 use Rattle.mk_reply.specs.Reading.{read_long, dated, boxed, read_joined, read_moved, read_prices, read_limited, read_traded, read_bounded, read_spreaded, read_worst, read_bound, read_resolved, read_payment, read_payments, read_settled, read_refusal, other_forms, read_other, read_form}
 use Rattle.mk_reply.specs.Reading.{read_all_prices, read_position, read_status, status_of}
 use Rattle.mk_reply.specs.Reading.{later_forms, read_later}
@@ -277,17 +278,20 @@ settlement_begins (Ok x) bytes left here = tt
 settlement_begins (Err e) bytes left here = (left, after_begins (codes "settle") bytes left here)
 
 -- bytes at whose front a revision was read, and with the word of a settlement before them
-pub revision_read : {T E : Type 0} (read : Result T E) (bytes left : List ℕ) (at : ℕ) → Finds (Some at) left (behind (codes " at ") read_long bytes)
+pub revision_read : {T E : Type 0} (read : Result T E) (bytes left : List ℕ) (at : ℕ)
+    → Finds (Some at) left (behind (codes " at ") read_long bytes)
     → IfErr read (λ e. BeginsWithRevision bytes)
 revision_read (Ok x) bytes left at found = tt
 revision_read (Err e) bytes left at found =
     let took = at_reads.takes bytes at left found in
     record { at = at; rest = left; is_long = took.fits; begins = took.begins }
 
-pub dated_settlement : {T E : Type 0} (read : Result T E) (bytes left : List ℕ) → after (codes "settle") bytes ≡ Some left
+pub dated_settlement : {T E : Type 0} (read : Result T E) (bytes left : List ℕ)
+    → after (codes "settle") bytes ≡ Some left
     → IfErr read (λ e. BeginsWithRevision left) → IfErr read (λ e. BeginsSettlement bytes)
 dated_settlement (Ok x) bytes left here begins = tt
-dated_settlement (Err e) bytes left here begins = (left, after_begins (codes "settle") bytes left here, begins)
+dated_settlement (Err e) bytes left here begins =
+    (left, after_begins (codes "settle") bytes left here, begins)
 
 -- what a line is where nothing was found at its front, where a reply was all of it, and where bytes were left behind one
 pub nothing_found : (found : Option Reply) (line left : List ℕ) → found ≡ None → Finds found left (read_form line)

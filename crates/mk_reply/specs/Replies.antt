@@ -100,7 +100,8 @@ pub record BeginsWithRevision (bytes : List ℕ) : Type 0 where
   pub is_long : IsLong at
   pub begins : bytes ≡ at_text at ++ rest
 
--- a line that begins as the text of a settlement does: with its word, a revision, and what follows these
+-- a line that begins as the text of a settlement does: with its word, a revision, and what follows
+-- these
 abbrev pub BeginsSettlement : List ℕ → Type 0
 BeginsSettlement line = (rest : List ℕ) × (line ≡ codes "settle" ++ rest) × BeginsWithRevision rest
 

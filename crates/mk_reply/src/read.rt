@@ -2,7 +2,8 @@
 
 ghost use Rattle.std.specs.Prelude.{◌≡◌, ℕ, List, IfOk, IfErr, option_map, [], ◌++◌, codes};
 ghost use Rattle.mk_text.specs.Reading.{Finds, behind};
-ghost use Rattle.mk_reply.specs.Replies.{IsReply, reply_text, IsUnread, IsCausedBy, BeginsSettlement, BeginsWithRevision};
+ghost use Rattle.mk_reply.specs.Replies.{IsReply, reply_text, IsUnread, IsCausedBy};
+ghost use Rattle.mk_reply.specs.Replies.{BeginsSettlement, BeginsWithRevision};
 ghost use Rattle.mk_reply.specs.Reading.{read_long, read_joined, read_moved, read_prices, read_limited, read_traded, read_bounded, read_spreaded, read_worst, read_bound, read_resolved, read_payment, read_payments, read_settled, read_other, read_form};
 ghost use Rattle.mk_reply.specs.Reading.{read_all_prices, read_position, read_later};
 ghost use Rattle.mk_reply.specs.Reading.{read_of, read_transfers, read_status};
@@ -15,7 +16,8 @@ use mk_net::{Name, NoMemory};
 use mk_text::{Item, Reader, intervals, several};
 use std::alloc::Global;
 
-/// The reply of which these bytes are the text. Memory is wanting only behind the word and the revision of a settlement.
+/// The reply of which these bytes are the text. Memory is wanting only behind the word and the
+/// revision of a settlement.
 pub fn read_reply(alloc: Global, line: &[u8]) -> Result<Reply, Unread>
     ensures found { IfOk result (λ r. IsReply r × (line.now ≡ reply_text r)) }
     ensures unread { IfErr result (IsUnread line.now) }

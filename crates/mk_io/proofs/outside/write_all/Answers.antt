@@ -17,4 +17,5 @@ returns-in_err-done-clause-front g c =
 pub returns-in_err-done-clause-part : goal.returns-in_err-done-clause-part
 returns-in_err-done-clause-part g c =
     let p = err_from_is_err_and c.from_residual.result c.from_residual.ensures.1 in
-    rw p.1 (wrote_part _ _ _ _ _ _ _ c.loop-done.invariant (omega arith) c.in_err-done.ensures.writes.failed)
+    rw p.1 (wrote_part _ _ _ _ _ _ _ c.loop-done.invariant (omega arith)
+    c.in_err-done.ensures.writes.failed)

@@ -5,4 +5,5 @@ pub returns-then-skip-clause-memory : goal.returns-then-skip-clause-memory
 returns-then-skip-clause-memory c = settlement_begins c.settled.result c.args.reader.now c.skip.new.self c.if-skip.ensures.passed
 
 pub returns-then-skip-clause-begins : goal.returns-then-skip-clause-begins
-returns-then-skip-clause-begins c = dated_settlement c.settled.result c.args.reader.now c.skip.new.self c.if-skip.ensures.passed c.settled.ensures.begins
+returns-then-skip-clause-begins c = dated_settlement c.settled.result c.args.reader.now
+    c.skip.new.self c.if-skip.ensures.passed c.settled.ensures.begins

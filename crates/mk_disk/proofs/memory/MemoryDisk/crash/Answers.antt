@@ -14,4 +14,5 @@ pub returns-clause-image : goal.returns-clause-image
 returns-clause-image c n =
     let before = ap (λ (d : MemoryState). d.events ++ Crash c.args.choice ∷ []) c.self.view_is in
     let left = file_push n _ _ (Crash c.args.choice) (c.in_ok-push.ensures.items ∙ before) in
-    subst (λ b. IsImage c.args.self.events n b) (sym (ap (λ (s : FileState). s.seen) left)) (chosen_image n c.args.self.events c.args.choice)
+    subst (λ b. IsImage c.args.self.events n b) (sym (ap (λ (s : FileState). s.seen) left))
+    (chosen_image n c.args.self.events c.args.choice)

@@ -4,4 +4,5 @@ use Rattle.mk_disk.proofs.Events.{fault_keeps}
 use Rattle.mk_disk.proofs.memory.MemoryDisk.note_fault.Goals as goal
 
 pub note-requires : goal.note-requires
-note-requires c s = fault_keeps (string_bytes c.in_ok-name.name) (opened_name c.take_name.new.self) c.args.at c.args.len s
+note-requires c s = fault_keeps (string_bytes c.in_ok-name.name) (opened_name c.take_name.new.self)
+    c.args.at c.args.len s
