@@ -1,10 +1,9 @@
 -- What a history's weights are once pairs are known beside it.
-use Rattle.std.proofs.Common.{◌≡◌, ℕ, suc, ◌+◌, ◌*◌, ◌<◌, ◌≤◌, ◌^◌, Bool, true, false, ◌&&◌, List, [], ◌∷◌, ◌++◌, map, filter, length, take, get_or, sum_by, Some, None, refl, sym, ap, ap₂, subst, ◌∙◌, arith, append-nil, append_assoc}
-use Rattle.std.specs.List.{list_all, filter_map}
+use Rattle.std.proofs.Common.{◌≡◌, ℕ, ◌+◌, ◌*◌, ◌<◌, ◌^◌, Bool, true, false, ◌&&◌, List, [], ◌∷◌, ◌++◌, map, filter, length, take, get_or, sum_by, refl, sym, ap, ap₂, subst, ◌∙◌, append-nil, append_assoc}
+use Rattle.std.specs.List.{filter_map}
 use Rattle.std.proofs.Math.Path.{fun_ext}
-use Rattle.std.proofs.Math.Seq.{take-suc}
 use Rattle.std.proofs.Math.Bool.{and-true}
-use Rattle.std.proofs.lemmas.List.{map-append}
+use Rattle.std.proofs.lemmas.List.{map-append, take_more}
 use Rattle.std.proofs.lemmas.List.Elements.{filter_map-append}
 use Rattle.mk_net.specs.declared.words.Pair.{Pair}
 use Rattle.mk_net.specs.Network.{Variable}
@@ -21,17 +20,12 @@ use Rattle.mk_beliefs.specs.Meanings.{weights_of}
 use Rattle.mk_beliefs.proofs.Grown.{weights_grow}
 use Rattle.mk_best.specs.inner.Engines.{learned}
 
-take_more : {X : Type 0} (xs : List X) (d : X) (i : ℕ) → i < length xs → take (i + 1) xs ≡ take i xs ++ get_or xs i d ∷ []
-take_more xs d i l =
-    let e : i + 1 ≡ suc i = omega arith in
-    ap (λ (n : ℕ). take n xs) e ∙ take-suc xs i d l
-
 pub learned_none : (H : List Entry) → learned H [] ≡ H
 learned_none H = append-nil H
 
 pub learned_more : (H : List Entry) (pairs : List Pair) (d : Pair) (i : ℕ) → i < length pairs → learned H (take (i + 1) pairs) ≡ learned H (take i pairs) ++ Resolve (get_or pairs i d) ∷ []
 learned_more H pairs d i l =
-    ap (learned H) (take_more pairs d i l)
+    ap (learned H) (take_more pairs i d l)
     ∙ ap (λ (es : List Entry). H ++ es) (map-append Resolve (take i pairs) (get_or pairs i d ∷ []))
     ∙ sym (append_assoc H (map Resolve (take i pairs)) (Resolve (get_or pairs i d) ∷ []))
 

@@ -1,11 +1,10 @@
 -- An engine takes a history entry by entry.
-use Rattle.std.proofs.Common.{◌≡◌, ℕ, zero, suc, ◌+◌, ◌<◌, ◌≤◌, List, [], ◌∷◌, ◌++◌, map, length, take, drop, get_or, true, Option, Some, None, is_some, refl, sym, ap, subst, ◌∙◌, arith, append_assoc, length-append}
+use Rattle.std.proofs.Common.{◌≡◌, ℕ, zero, suc, ◌+◌, ◌<◌, List, [], ◌∷◌, ◌++◌, length, take, drop, get_or, true, Option, Some, None, is_some, refl, sym, ap, subst, ◌∙◌, arith, length-append}
 use Rattle.std.specs.List.{AllByRecursion}
-use Rattle.std.proofs.lemmas.List.{map-append}
+use Rattle.std.proofs.lemmas.List.{map-append, take_more}
 use Rattle.std.proofs.lemmas.List.Elements.{filter_map-append}
-use Rattle.std.proofs.Math.Seq.{take-suc}
 use Rattle.mk_net.specs.declared.words.Pair.{Pair}
-use Rattle.mk_net.specs.Asked.{ratio_pairs, TradeRatio}
+use Rattle.mk_net.specs.Asked.{ratio_pairs}
 use Rattle.mk_net.specs.Network.{Variable, IsNetwork}
 use Rattle.mk_exact.specs.History as history
 use Rattle.mk_exact.specs.History.{UserTrade, trade_in, resolution_in, trades, resolutions, users}
@@ -14,22 +13,17 @@ use Rattle.mk_exact.proofs.After.{trades_more}
 use Rattle.mk_tree.specs.Given.{GivenTree, home}
 use Rattle.mk_tree.specs.Checked.{IsTreeOf}
 use Rattle.mk_tree.proofs.Held.{pair_has_home}
-use Rattle.mk_engine.specs.Meaning.{Meaning, Factor, RatioOf, max_factors}
+use Rattle.mk_engine.specs.Meaning.{Meaning, RatioOf}
 use Rattle.mk_beliefs.specs.Meanings.{weights_of, grown}
 use Rattle.mk_beliefs.proofs.Grown.{weights_grow, factors_are_few}
 use Rattle.mk_market.specs.declared.entry.Entry.{Entry}
 use Rattle.mk_market.specs.Entries.{change_of, changes}
 use Rattle.mk_best.specs.Chances.{IsPlaced}
-use Rattle.mk_best.specs.inner.Engines.{CanTakeBy, CanTake}
+use Rattle.mk_best.specs.inner.Engines.{CanTakeBy}
 use Rattle.mk_best.proofs.Sums.{all_back}
 
-pub take_more : {X : Type 0} (xs : List X) (d : X) (i : ℕ) → i < length xs → take (i + 1) xs ≡ take i xs ++ get_or xs i d ∷ []
-take_more xs d i l =
-    let e : i + 1 ≡ suc i = omega arith in
-    ap (λ (n : ℕ). take n xs) e ∙ take-suc xs i d l
-
 pub changes_more : (entries : List Entry) (d : Entry) (i : ℕ) → i < length entries → changes (take (i + 1) entries) ≡ changes (take i entries) ++ change_of (get_or entries i d) ∷ []
-changes_more entries d i l = ap changes (take_more entries d i l) ∙ map-append change_of (take i entries) (get_or entries i d ∷ [])
+changes_more entries d i l = ap changes (take_more entries i d l) ∙ map-append change_of (take i entries) (get_or entries i d ∷ [])
 
 -- one more entry is taken
 pub take_one : {E : Type 0} (stands_for : E → Meaning → Type 0) (engine : E) (network : List Variable) (tree : GivenTree) (entries : List Entry) (d : Entry) (i : ℕ)
@@ -68,7 +62,7 @@ module _ (network : List Variable) (tree : GivenTree) (legal : IsNetwork network
       let more : length (trades (front ++ history.Trade user ratio ∷ [])) ≡ length (trades front) + 1 = ap length (trades_more front user ratio) ∙ length-append (trades front) (t ∷ []) in
       let few = (factors_are_few network tree (front ++ history.Trade user ratio ∷ []) 0 legal (omega (arith, all, more, placed.few_trades))).0 in
       let grows : length (weights_of network tree (front ++ history.Trade user ratio ∷ [])).factors ≡ length (weights_of network tree front).factors + 1 =
-          ap (λ (m : Meaning). length m.factors) (weights_grow network tree front (history.Trade user ratio)) ∙ length-append (weights_of network tree front).factors (RatioOf ratio ∷ []) in
+      ap (λ (m : Meaning). length m.factors) (weights_grow network tree front (history.Trade user ratio)) ∙ length-append (weights_of network tree front).factors (RatioOf ratio ∷ []) in
       (fit.0.ratio, at_home.0, omega (arith, few, grows))
 
   pub can_take_one : (entries : List Entry) (d : Entry) (i : ℕ) → i < length entries → IsPlaced network tree (changes entries)

@@ -1,6 +1,5 @@
 -- Beliefs in the states that are left, and the share of a part in a whole.
-use Rattle.std.proofs.Common.{◌≡◌, ℕ, ◌+◌, ◌*◌, ◌^◌, ◌<◌, ◌≤◌, Bool, true, false, ◌&&◌, List, [], ◌∷◌, length, slice_index, Some, not, refl, sym, ap, subst, ◌∙◌, arith}
-use Rattle.std.proofs.Math.Path.{fun_ext}
+use Rattle.std.proofs.Common.{◌≡◌, ℕ, ◌+◌, ◌^◌, ◌≤◌, ◌&&◌, List, [], ◌∷◌, length, slice_index, Some, not, refl, sym, ap, subst, ◌∙◌, arith}
 use Rattle.std.proofs.lemmas.List.Elements.{All-from_recursion}
 use Rattle.mk_net.specs.declared.words.Pair.{Pair}
 use Rattle.mk_net.specs.Bounds.{max_market_trades}
@@ -17,7 +16,7 @@ use Rattle.mk_exact.proofs.Positive.{few_values_at}
 use Rattle.mk_engine.specs.Cases.{exact_others, CanAskOthers, IsOthersBelief}
 use Rattle.mk_scaled.specs.Near.{near_more}
 use Rattle.mk_enclose.specs.declared.enclosure.Enclosure.{Enclosure}
-use Rattle.mk_enclose.specs.Enclosure.{lower_of, upper_of, Encloses, HasGrade, IsExact}
+use Rattle.mk_enclose.specs.Enclosure.{lower_of, upper_of, HasGrade, IsExact}
 use Rattle.mk_semiring.specs.declared.held.Held.{Held}
 use Rattle.mk_semiring.specs.declared.held.Held.TheVariants.{Absent, Present}
 use Rattle.mk_semiring.specs.Held.{HeldEncloses, HasHeldGrade, IsHeldExact, held_grade_more}
@@ -93,11 +92,12 @@ pub chance_is : (network : List Variable) (H : List Entry) (want given : List Pa
     → IsLeftFor network (learned H given) want found → IsChance network H want given found
 chance_is network H want given (Price low high) legal proper left =
     let num : total network (learned H given) (holds want) ≡ total network H (λ s. holds given s && holds want s) = total_learned H given network (holds want) in
-    let den : total network (learned H given) always ≡ total network H (holds given) = all_learned H given network in
-    (weighed_comes network H (holds given) (subst (λ n. 1 ≤ n) den left.0),
-    subst (λ (n : ℕ). CoversPrice (IsSmall network H) (record { num = n; den = total network H (holds given) }) low high) num
-    (subst (λ (n : ℕ). CoversPrice (IsSmall network H) (record { num = total network (learned H given) (holds want); den = n }) low high) den
-    (covers_when (IsSmall network H) (IsSmall network (learned H given)) (small_learned H given network) _ low high left.1)))
+    let den : total network (learned H given) always ≡ total network H (holds given) = all_learned H given network in (
+      weighed_comes network H (holds given) (subst (λ n. 1 ≤ n) den left.0),
+      subst (λ (n : ℕ). CoversPrice (IsSmall network H) (record { num = n; den = total network H (holds given) }) low high) num
+          (subst (λ (n : ℕ). CoversPrice (IsSmall network H) (record { num = total network (learned H given) (holds want); den = n }) low high) den
+          (covers_when (IsSmall network H) (IsSmall network (learned H given)) (small_learned H given network) _ low high left.1)),
+    )
 chance_is network H want given Impossible legal proper left =
     absent_never network H (holds given) legal proper (sym (all_learned H given network) ∙ left)
 

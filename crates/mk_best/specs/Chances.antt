@@ -1,5 +1,5 @@
 -- Chances after a history.
-use Rattle.std.specs.Prelude.{◌≡◌, ℕ, ◌≤◌, List, Bool, true, false, ◌&&◌, length, is_some}
+use Rattle.std.specs.Prelude.{◌≡◌, ◌≤◌, List, true, false, ◌&&◌, length, is_some}
 use Rattle.std.specs.List.{AllByRecursion}
 use Rattle.mk_net.specs.declared.words.Pair.{Pair}
 use Rattle.mk_net.specs.Asked.{ratio_pairs}

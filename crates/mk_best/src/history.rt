@@ -67,9 +67,6 @@ fn take<E: Engine<SumProd>>(engine: &mut E, tree: &Tree, entry: &Entry)
             };
             engine.know(home, *pair);
         }
-        Entry::Join { .. }
-        | Entry::Deposit { .. }
-        | Entry::Withdraw { .. }
-        | Entry::Settle => {}
+        Entry::Join { .. } | Entry::Deposit { .. } | Entry::Withdraw { .. } | Entry::Settle => {}
     }
 }

@@ -35,12 +35,7 @@ pub(crate) fn are_sure<E: Engine<SumProd>>(
 }
 
 /// Whether some state that is left has another value than that of a pair. It leaves what the engine stands for as it was.
-fn can_fail<E: Engine<SumProd>>(
-    engine: &mut E,
-    net: &Network,
-    tree: &Tree,
-    pair: Pair,
-) -> bool
+fn can_fail<E: Engine<SumProd>>(engine: &mut E, net: &Network, tree: &Tree, pair: Pair) -> bool
     requires { CanAskPair E.stands_for engine.old net.now tree.now pair }
     ensures kept { (m : Meaning) → E.stands_for engine.old m → E.stands_for engine.new m }
     ensures fails { (H : List Entry) → E.stands_for engine.old (weights_of net.now tree.now H)

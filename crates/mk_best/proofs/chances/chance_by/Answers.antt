@@ -1,5 +1,3 @@
-use Rattle.std.proofs.Common.{◌≡◌, [], refl}
-use Rattle.mk_beliefs.specs.Meanings.{weights_of}
 use Rattle.mk_market.specs.Entries.{changes}
 use Rattle.mk_best.specs.inner.Engines.{learned}
 use Rattle.mk_best.proofs.Shares.{chance_is, few_learned}

@@ -1,9 +1,9 @@
-use Rattle.std.proofs.Common.{◌≡◌, ℕ, ◌<◌, ◌≤◌, List, [], length, refl, sym, subst, ◌∙◌, ap, arith}
+use Rattle.std.proofs.Common.{refl}
 use Rattle.mk_exact.specs.Events.{holds, always}
 use Rattle.mk_exact.specs.Weight.{total, IsSmall}
 use Rattle.mk_beliefs.specs.Meanings.{weights_of}
 use Rattle.mk_answers.proofs.Presence.{some_weight}
-use Rattle.mk_best.specs.inner.Engines.{learned, ArePartAndWhole}
+use Rattle.mk_best.specs.inner.Engines.{learned}
 use Rattle.mk_best.proofs.Failing.{less_unless}
 use Rattle.mk_best.proofs.Shares.{left_in, few_learned, part_in, in_present, in_absent, covers_all}
 use Rattle.mk_best.proofs.Sums.{total_narrow}
@@ -50,14 +50,15 @@ returns g c = λ H h few.
     let a = c.requires in let net = c.args.net.now in let tree = c.args.tree.now in let want = c.args.want.now in
     let later = c.are_sure.ensures.kept (weights_of net tree H) (c.belief.ensures.kept (weights_of net tree H) h) in
     let whole = in_present c.belief.result c.in-Present.whole (IsSmall net H) (total net H always) c.in-Present.is
-    (left_in net tree H a.legal few c.empty.result c.belief.result c.empty.ensures (c.belief.ensures.belief (weights_of net tree H) h)) in
-    (some_weight c.in-Present.whole (total net H always) whole.encloses,
-    c.share_of-low.ensures net H (total net H (holds want)) (total net H always) (record {
-      of_part =
-          part_in net H want c.belief-part.result
-          (left_in net tree (learned H want) a.legal (few_learned H want few) c.empty-2.result c.belief-part.result c.empty-2.ensures
-          (c.belief-part.ensures.belief (weights_of net tree (learned H want)) (c.know_all.ensures net H later)));
-      of_whole = whole;
-      less = less_unless (total net H (holds want)) (total net H always) c.are_sure.result (total_narrow net H always (holds want) (λ s e. refl))
-          (c.are_sure.ensures.sure H (c.belief.ensures.kept (weights_of net tree H) h)).1 c.if-are_sure.false;
-    }))
+    (left_in net tree H a.legal few c.empty.result c.belief.result c.empty.ensures (c.belief.ensures.belief (weights_of net tree H) h)) in (
+      some_weight c.in-Present.whole (total net H always) whole.encloses,
+      c.share_of-low.ensures net H (total net H (holds want)) (total net H always) (record {
+        of_part =
+            part_in net H want c.belief-part.result
+            (left_in net tree (learned H want) a.legal (few_learned H want few) c.empty-2.result c.belief-part.result c.empty-2.ensures
+            (c.belief-part.ensures.belief (weights_of net tree (learned H want)) (c.know_all.ensures net H later)));
+        of_whole = whole;
+        less = less_unless (total net H (holds want)) (total net H always) c.are_sure.result (total_narrow net H always (holds want) (λ s e. refl))
+            (c.are_sure.ensures.sure H (c.belief.ensures.kept (weights_of net tree H) h)).1 c.if-are_sure.false;
+      }),
+    )

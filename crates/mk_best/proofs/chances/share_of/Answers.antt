@@ -1,12 +1,9 @@
-use Rattle.std.proofs.Common.{◌≡◌, ℕ, ◌≤◌, arith, subst}
+use Rattle.std.proofs.Common.{arith, subst}
 use Rattle.mk_exact.specs.Weight.{IsSmall}
 use Rattle.mk_semiring.specs.declared.held.Held.{Held}
 use Rattle.mk_best.specs.inner.Engines.{ArePartAndWhole}
 use Rattle.mk_best.proofs.Shares.{covers_nothing, covers_part}
 use Rattle.mk_best.proofs.chances.share_of.Goals as goal
-
-at_part : (a b : Held) (P : Held → Type 0) → a ≡ b → P a → P b
-at_part a b P e h = subst P e h
 
 pub parts-requires-clause-part : goal.parts-requires-clause-part
 parts-requires-clause-part c =

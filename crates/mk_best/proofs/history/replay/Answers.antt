@@ -1,4 +1,4 @@
-use Rattle.std.proofs.Common.{◌≡◌, ℕ, List, [], ◌∷◌, length, take, get_or, refl, sym, subst, ◌∙◌, ap}
+use Rattle.std.proofs.Common.{List, take, refl, sym, subst}
 use Rattle.std.proofs.lemmas.List.{take_all}
 use Rattle.mk_beliefs.specs.Meanings.{weights_of, grown}
 use Rattle.mk_market.specs.declared.entry.Entry.{Entry}

@@ -1,12 +1,9 @@
-use Rattle.std.proofs.Common.{◌≡◌, ℕ, List, [], ◌∷◌, length, true, Some, is_some, refl, sym, subst, ◌∙◌, ap}
-use Rattle.mk_net.specs.declared.words.Pair.{Pair}
+use Rattle.std.proofs.Common.{◌≡◌, true, is_some, sym, subst, ◌∙◌, ap}
 use Rattle.mk_net.specs.Asked.{ratio_pairs}
 use Rattle.mk_net.specs.Trades.{trade_ratio}
-use Rattle.mk_exact.specs.History as history
 use Rattle.mk_tree.specs.Given.{GivenTree, home}
 use Rattle.mk_engine.specs.Meaning.{Meaning}
 use Rattle.mk_market.specs.declared.entry.Entry.{Entry}
-use Rattle.mk_market.specs.declared.entry.Entry.TheVariants as entry
 use Rattle.mk_market.specs.Entries.{change_of}
 use Rattle.mk_best.specs.inner.Engines.{CanTakeBy}
 use Rattle.mk_best.proofs.Replayed.{no_home}

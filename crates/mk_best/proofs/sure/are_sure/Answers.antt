@@ -1,10 +1,9 @@
-use Rattle.std.proofs.Common.{◌≡◌, ℕ, ◌+◌, List, [], ◌∷◌, length, take, get_or, refl, sym, subst, ◌∙◌, ap, arith}
+use Rattle.std.proofs.Common.{◌≡◌, [], ◌∷◌, take, get_or, refl, sym, subst, arith}
 use Rattle.std.specs.List.{AllByRecursion}
-use Rattle.std.proofs.lemmas.List.{take_all}
+use Rattle.std.proofs.lemmas.List.{take_all, take_more}
 use Rattle.mk_net.specs.declared.words.Pair.{Pair}
 use Rattle.mk_exact.proofs.Sums.{each-append}
 use Rattle.mk_best.proofs.Failing.{fails, all_sure, one_fails, some_of}
-use Rattle.mk_best.proofs.Replayed.{take_more}
 use Rattle.mk_best.proofs.sure.are_sure.Goals as goal
 
 abbrev blank : Pair
@@ -24,7 +23,7 @@ loop-pair-preserved g c =
     record {
       kept = λ m h. c.can_fail.ensures.kept m (before.kept m h);
       so_far = λ H h.
-          subst (AllByRecursion (λ p. fails net H p ≡ 0)) (sym (take_more pairs blank i c.loop-pair-test.true))
+          subst (AllByRecursion (λ p. fails net H p ≡ 0)) (sym (take_more pairs i blank c.loop-pair-test.true))
           (each-append (λ p. fails net H p ≡ 0) (take i pairs) (get_or pairs i blank ∷ []) (before.so_far H h)
           ((c.can_fail.ensures.fails H (before.kept _ h)).0 c.if-can_fail.false, tt));
     }
