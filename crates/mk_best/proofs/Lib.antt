@@ -1,0 +1,5 @@
+pub mod Sums
+pub mod Learned
+pub mod Replayed
+pub mod Failing
+pub mod Shares

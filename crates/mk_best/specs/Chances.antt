@@ -1,0 +1,32 @@
+-- Chances after a history.
+use Rattle.std.specs.Prelude.{◌≡◌, ◌≤◌, List, true, false, ◌&&◌, length, is_some}
+use Rattle.std.specs.List.{AllByRecursion}
+use Rattle.mk_net.specs.declared.words.Pair.{Pair}
+use Rattle.mk_net.specs.Asked.{ratio_pairs}
+use Rattle.mk_net.specs.Bounds.{max_market_trades}
+use Rattle.mk_net.specs.Network.{Variable}
+use Rattle.mk_exact.specs.Events.{holds}
+use Rattle.mk_exact.specs.Factors.{Fraction}
+use Rattle.mk_exact.specs.History.{Entry, UserTrade, trades}
+use Rattle.mk_exact.specs.Prices.{CoversPrice, price_where}
+use Rattle.mk_exact.specs.Proper.{IsProper}
+use Rattle.mk_exact.specs.Weight.{IsSmall, cannot_come}
+use Rattle.mk_tree.specs.Given.{GivenTree, home}
+use Rattle.mk_best.specs.declared.found.Chance.{Chance}
+use Rattle.mk_best.specs.declared.found.Chance.TheVariants.{Price, Impossible}
+
+-- the share of the states that meet the wanted pairs among those that meet the given ones
+abbrev pub chance_of : List Variable → List Entry → List Pair → List Pair → Fraction
+chance_of network H want given = price_where network H given (λ s. holds given s && holds want s)
+
+-- an interval that covers the chance, or that no possible state meets the given pairs
+abbrev pub IsChance : List Variable → List Entry → List Pair → List Pair → Chance → Type 0
+IsChance network H want given (Price low high) =
+    (cannot_come network H (holds given) ≡ false) × CoversPrice (IsSmall network H) (chance_of network H want given) low high
+IsChance network H want given Impossible = cannot_come network H (holds given) ≡ true
+
+-- a proper history of no more trades than a market takes, the variables of each of which a clique holds together
+pub record IsPlaced (network : List Variable) (tree : GivenTree) (H : List Entry) : Type 0 where
+  pub proper : IsProper network H
+  pub few_trades : length (trades H) ≤ max_market_trades
+  pub homes : AllByRecursion (λ (t : UserTrade). is_some (home tree (ratio_pairs t.ratio)) ≡ true) (trades H)

@@ -1,0 +1,2 @@
+pub mod Chances
+pub mod inner

@@ -1,0 +1,93 @@
+-- What the calls ask of an engine that has the weights of a history, and what is found of the states that are left.
+use Rattle.std.specs.Prelude.{◌≡◌, ℕ, ◌<◌, ◌≤◌, List, [], ◌∷◌, ◌++◌, map, length, is_some, true}
+use Rattle.mk_net.specs.declared.words.Pair.{Pair}
+use Rattle.mk_net.specs.Asked.{ratio_pairs}
+use Rattle.mk_net.specs.Bounds.{max_market_trades}
+use Rattle.mk_net.specs.Network.{Variable, IsNetwork}
+use Rattle.mk_exact.specs.Events.{holds, always}
+use Rattle.mk_exact.specs.History.{Entry, Trade, Resolve, trades}
+use Rattle.mk_exact.specs.Prices.{CoversPrice}
+use Rattle.mk_exact.specs.Proper.{IsPairOf, IsRatioOf}
+use Rattle.mk_exact.specs.Weight.{IsSmall, total}
+use Rattle.mk_enclose.specs.declared.enclosure.Enclosure.{Enclosure}
+use Rattle.mk_semiring.specs.declared.held.Held.{Held}
+use Rattle.mk_semiring.specs.declared.held.Held.TheVariants.{Present}
+use Rattle.mk_tree.specs.Given.{GivenTree, home}
+use Rattle.mk_tree.specs.Checked.{IsTreeOf}
+use Rattle.mk_engine.specs.Meaning.{Meaning, ArePairsOf, max_factors}
+use Rattle.mk_beliefs.specs.Meanings.{weights_of}
+use Rattle.mk_answers.specs.inner.Found.{IsBeliefIn}
+use Rattle.mk_best.specs.declared.found.Chance.{Chance}
+use Rattle.mk_best.specs.declared.found.Chance.TheVariants.{Price, Impossible}
+use Rattle.mk_best.specs.Chances.{IsPlaced}
+
+-- a history after which these pairs were resolved too
+abbrev pub learned : List Entry → List Pair → List Entry
+learned H pairs = H ++ map Resolve pairs
+
+-- one entry more can be taken: a trade has a home and room, and a resolution is of the network
+abbrev pub CanTakeBy : Meaning → Entry → Type 0
+CanTakeBy m (Trade user ratio) = IsRatioOf m.network ratio × (is_some (home m.tree (ratio_pairs ratio)) ≡ true) × (length m.factors < max_factors)
+CanTakeBy m (Resolve pair) = IsPairOf m.network pair × (is_some (home m.tree (pair ∷ [])) ≡ true)
+CanTakeBy m _ = Unit {0}
+
+module _ {E : Type 0} (stands_for : E → Meaning → Type 0) where
+  -- the engine has the weights of a history of a network with this tree, whose pairs these are
+  pub record CanLearn (engine : E) (tree : GivenTree) (pairs : List Pair) : Type 0 where
+    pub network : List Variable
+    pub history : List Entry
+    pub stands : stands_for engine (weights_of network tree history)
+    pub tree_of_it : IsTreeOf network tree
+    pub in_range : ArePairsOf network pairs
+
+  -- the engine has the weights of a network before any entry, and this is a history of it
+  pub record CanReplay (engine : E) (tree : GivenTree) (H : List Entry) : Type 0 where
+    pub network : List Variable
+    pub stands : stands_for engine (weights_of network tree [])
+    pub legal : IsNetwork network
+    pub tree_of_it : IsTreeOf network tree
+    pub placed : IsPlaced network tree H
+
+  -- the engine can take this entry
+  pub record CanTake (engine : E) (tree : GivenTree) (e : Entry) : Type 0 where
+    pub meaning : Meaning
+    pub stands : stands_for engine meaning
+    pub of_tree : meaning.tree ≡ tree
+    pub takes : CanTakeBy meaning e
+
+  -- the engine has the weights of a history of this network, whose pairs these are, and of no more trades than a market takes
+  pub record CanAsk (engine : E) (network : List Variable) (tree : GivenTree) (pairs : List Pair) : Type 0 where
+    pub history : List Entry
+    pub stands : stands_for engine (weights_of network tree history)
+    pub legal : IsNetwork network
+    pub tree_of_it : IsTreeOf network tree
+    pub few_trades : length (trades history) ≤ max_market_trades
+    pub in_range : ArePairsOf network pairs
+
+  -- and so for one pair
+  pub record CanAskPair (engine : E) (network : List Variable) (tree : GivenTree) (pair : Pair) : Type 0 where
+    pub history : List Entry
+    pub stands : stands_for engine (weights_of network tree history)
+    pub legal : IsNetwork network
+    pub tree_of_it : IsTreeOf network tree
+    pub few_trades : length (trades history) ≤ max_market_trades
+    pub in_range : IsPairOf network pair
+
+-- the share of the states with all pairs among those that are left; or none is left
+abbrev pub IsLeftFor : List Variable → List Entry → List Pair → Chance → Type 0
+IsLeftFor network H want (Price low high) =
+    (1 ≤ total network H always) × CoversPrice (IsSmall network H) (record { num = total network H (holds want); den = total network H always }) low high
+IsLeftFor network H want Impossible = total network H always ≡ 0
+
+-- the beliefs are in a part and in a whole that is more
+pub record ArePartAndWhole (network : List Variable) (H : List Entry) (part : Held) (whole : Enclosure) (v w : ℕ) : Type 0 where
+  pub of_part : IsBeliefIn part (IsSmall network H) v
+  pub of_whole : IsBeliefIn (Present whole) (IsSmall network H) w
+  pub less : v < w
+
+pub record HasPartAndWhole (part : Held) (whole : Enclosure) : Type 0 where
+  pub network : List Variable
+  pub history : List Entry
+  pub inner : ℕ
+  pub outer : ℕ
+  pub are : ArePartAndWhole network history part whole inner outer

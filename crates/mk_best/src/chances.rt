@@ -1,0 +1,112 @@
+//! Chances.
+ghost use Rattle.std.specs.Prelude.{◌≡◌, ℕ, ◌^◌, ◌≤◌, List, [], length, IfOk};
+ghost use Rattle.mk_net.specs.Bounds.{max_market_trades};
+ghost use Rattle.mk_net.specs.Network.{Variable};
+ghost use Rattle.mk_exact.specs.History.{Entry as Change, trades};
+ghost use Rattle.mk_exact.specs.Prices.{CoversPrice};
+ghost use Rattle.mk_exact.specs.Weight.{IsSmall};
+ghost use Rattle.mk_tree.specs.Checked.{IsTreeOf};
+ghost use Rattle.mk_engine.specs.Meaning.{ArePairsOf};
+ghost use Rattle.mk_record.specs.Entries.{changes};
+ghost use Rattle.mk_best.specs.Chances.{IsChance, IsPlaced};
+ghost use Rattle.mk_best.specs.inner.Engines.{CanAsk, IsLeftFor, ArePartAndWhole, HasPartAndWhole};
+ghost use Rattle.mk_beliefs.specs.Meanings.{weights_of};
+
+use crate::found::Chance;
+use crate::history::{engine_of, replay};
+use crate::known::know_all;
+use crate::sure::are_sure;
+use mk_enclose::Enclosure;
+use mk_engine::Engine;
+use mk_record::Entry;
+use mk_net::{Event, Network, NoMemory, Pair};
+use mk_semiring::{Held, SumProd};
+use mk_tree::Tree;
+use mk_tree_engine::TreeEngine;
+use std::alloc::Global;
+
+/// The units of 10^-10 in one.
+const UNITS: u64 = 10_000_000_000;
+
+/// The clique in which beliefs in no pair at all are asked.
+const ROOT: u32 = 1;
+
+/// The chance that a possible state that meets `given` meets `want` too, after a history, in units of 10^-10. The pairs need no
+/// clique that holds them together, and a variable may stand among them more than once. It is impossible exactly where no possible
+/// state meets `given`. All memory that it takes it gives back.
+pub fn chance(
+    alloc: Global,
+    net: &Network,
+    tree: &Tree,
+    history: &[Entry],
+    want: &[Pair],
+    given: &[Pair],
+) -> Result<Chance, NoMemory>
+    requires tree { IsTreeOf net.now tree.now }
+    requires history { IsPlaced net.now tree.now (changes history.now) }
+    requires want { ArePairsOf net.now want.now }
+    requires given { ArePairsOf net.now given.now }
+    ensures { IfOk result (IsChance net.now (changes history.now) want.now given.now) }
+{
+    chance_by::<TreeEngine<SumProd>>(alloc, net, tree, history, want, given)
+}
+
+/// The same by any engine of sums.
+pub fn chance_by<E: Engine<SumProd>>(
+    alloc: Global,
+    net: &Network,
+    tree: &Tree,
+    history: &[Entry],
+    want: &[Pair],
+    given: &[Pair],
+) -> Result<Chance, NoMemory>
+    requires suits { E.suits net.now tree.now }
+    requires tree { IsTreeOf net.now tree.now }
+    requires history { IsPlaced net.now tree.now (changes history.now) }
+    requires want { ArePairsOf net.now want.now }
+    requires given { ArePairsOf net.now given.now }
+    ensures { IfOk result (IsChance net.now (changes history.now) want.now given.now) }
+{
+    let mut engine = engine_of::<E>(alloc, net, tree)?;
+    replay(&mut engine, tree, history);
+    know_all(&mut engine, tree, given);
+    Ok(chance_left(&mut engine, net, tree, want))
+}
+
+/// The chance of pairs among the states that are left.
+fn chance_left<E: Engine<SumProd>>(
+    engine: &mut E,
+    net: &Network,
+    tree: &Tree,
+    want: &[Pair],
+) -> Chance
+    requires { CanAsk E.stands_for engine.old net.now tree.now want.now }
+    ensures { (H : List Change) → E.stands_for engine.old (weights_of net.now tree.now H)
+        → length (trades H) ≤ max_market_trades → IsLeftFor net.now H want.now result }
+{
+    let Held::Present(whole) = engine.belief(ROOT, &Event::empty()) else {
+        return Chance::Impossible;
+    };
+    if are_sure(engine, net, tree, want) {
+        return Chance::Price {
+            low: UNITS,
+            high: UNITS,
+        };
+    }
+    know_all(engine, tree, want);
+    let part = engine.belief(ROOT, &Event::empty());
+    let (low, high) = share_of(&part, &whole);
+    Chance::Price { low, high }
+}
+
+/// The share of a part in a whole that is more.
+fn share_of(part: &Held, whole: &Enclosure) -> (u64, u64)
+    requires { HasPartAndWhole part.now whole.now }
+    ensures { (network : List Variable) (H : List Change) (v w : ℕ) → ArePartAndWhole network H part.now whole.now v w
+        → CoversPrice (IsSmall network H) (record { num = v; den = w }) result.0 result.1 }
+{
+    match part {
+        Held::Absent => (0, 0),
+        Held::Present(part) => Enclosure::parts(part, whole, UNITS),
+    }
+}

@@ -1,0 +1,72 @@
+//! The engine of a history.
+ghost use Rattle.std.specs.Prelude.{List, [], IfOk};
+ghost use Rattle.mk_net.specs.Network.{Variable, IsNetwork};
+ghost use Rattle.mk_tree.specs.Checked.{IsTreeOf};
+ghost use Rattle.mk_beliefs.specs.Meanings.{weights_of};
+ghost use Rattle.mk_record.specs.Entries.{changes};
+ghost use Rattle.mk_best.specs.inner.Engines.{CanReplay};
+
+use mk_engine::Engine;
+use mk_record::Entry;
+use mk_net::{Network, NoMemory};
+use mk_semiring::SumProd;
+use mk_tree::Tree;
+use std::alloc::Global;
+
+/// An engine with the rows of each variable, before any entry.
+pub(crate) fn engine_of<E: Engine<SumProd>>(
+    alloc: Global,
+    net: &Network,
+    tree: &Tree,
+) -> Result<E, NoMemory>
+    requires tree { IsTreeOf net.now tree.now }
+    requires suits { E.suits net.now tree.now }
+    ensures stands { IfOk result (λ engine. E.stands_for engine (weights_of net.now tree.now [])) }
+    ensures network { IfOk result (λ _. IsNetwork net.now) }
+{
+    let plan = E::plan(alloc, net, tree)?;
+    let mut engine = E::start(alloc, &plan)?;
+    for variable in 0..net.variables() {
+        engine.weigh(net, variable);
+    }
+    Ok(engine)
+}
+
+/// The engine takes each entry of a history, in its order.
+pub(crate) fn replay<E: Engine<SumProd>>(engine: &mut E, tree: &Tree, history: &[Entry])
+    requires { CanReplay E.stands_for engine.old tree.now (changes history.now) }
+    ensures { (network : List Variable) → E.stands_for engine.old (weights_of network tree.now [])
+        → E.stands_for engine.new (weights_of network tree.now (changes history.now)) }
+{
+    for entry in history {
+        take(engine, tree, entry);
+    }
+}
+
+ghost use Rattle.mk_exact.specs.History as exact;
+ghost use Rattle.mk_record.specs.Entries.{change_of};
+ghost use Rattle.mk_beliefs.specs.Meanings.{grown};
+ghost use Rattle.mk_engine.specs.Meaning.{Meaning};
+ghost use Rattle.mk_best.specs.inner.Engines.{CanTake};
+
+/// The engine takes one entry: a trade multiplies the weights, a resolution is known, and nothing else changes them.
+fn take<E: Engine<SumProd>>(engine: &mut E, tree: &Tree, entry: &Entry)
+    requires { CanTake E.stands_for engine.old tree.now (change_of entry.now) }
+    ensures { (m : Meaning) → E.stands_for engine.old m → E.stands_for engine.new (grown (change_of entry.now) m) }
+{
+    match entry {
+        Entry::Trade { ratio, .. } => {
+            let Some(home) = tree.home(&ratio.event()) else {
+                unreachable!()
+            };
+            engine.multiply(home, ratio);
+        }
+        Entry::Resolve { pair } => {
+            let Some(home) = tree.pair_home(*pair) else {
+                unreachable!()
+            };
+            engine.know(home, *pair);
+        }
+        Entry::Join { .. } | Entry::Deposit { .. } | Entry::Withdraw { .. } | Entry::Settle => {}
+    }
+}

@@ -1,0 +1,25 @@
+//! Pairs that become known.
+ghost use Rattle.std.specs.Prelude.{List};
+ghost use Rattle.mk_net.specs.Network.{Variable};
+ghost use Rattle.mk_exact.specs.History.{Entry};
+ghost use Rattle.mk_beliefs.specs.Meanings.{weights_of};
+ghost use Rattle.mk_best.specs.inner.Engines.{CanLearn, learned};
+
+use mk_engine::Engine;
+use mk_net::Pair;
+use mk_semiring::SumProd;
+use mk_tree::Tree;
+
+/// The engine learns each of the pairs, as if it were resolved.
+pub(crate) fn know_all<E: Engine<SumProd>>(engine: &mut E, tree: &Tree, pairs: &[Pair])
+    requires { CanLearn E.stands_for engine.old tree.now pairs.now }
+    ensures { (network : List Variable) (H : List Entry) → E.stands_for engine.old (weights_of network tree.now H)
+        → E.stands_for engine.new (weights_of network tree.now (learned H pairs.now)) }
+{
+    for pair in pairs {
+        let Some(home) = tree.pair_home(*pair) else {
+            unreachable!()
+        };
+        engine.know(home, *pair);
+    }
+}

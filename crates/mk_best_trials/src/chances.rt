@@ -1,0 +1,152 @@
+//! Chances by numbers worked out by hand, and by published ones.
+
+ghost use Rattle.std.specs.Prelude.{List, [], IfOk};
+ghost use Rattle.mk_net.specs.Network.{IsNetwork};
+ghost use Rattle.mk_exact.specs.Proper.{IsPairOf};
+ghost use Rattle.mk_tree.specs.Checked.{IsTreeOf};
+ghost use Rattle.mk_engine.specs.Meaning.{ArePairsOf};
+
+use mk_best::{Chance, chance};
+use mk_file::{MarketFile, read_market};
+use mk_net::{Network, Pair};
+use std::alloc::Global;
+use std::process::Abort;
+use std::test::Fail;
+
+/// Three variables, each the parent of the next, in the cliques {a, b}, {b, c} and {c}.
+const CHAIN: &str = "points_per_bit = 1
+max_trades = 1
+cliques = [['a', 'b'], ['b', 'c'], ['c']]
+links = [1, 2]
+[[variable]]
+name = 'a'
+values = ['up', 'down']
+parents = []
+rows = [[500000, 500000]]
+[[variable]]
+name = 'b'
+values = ['up', 'down']
+parents = ['a']
+rows = [[600000, 400000], [300000, 700000]]
+[[variable]]
+name = 'c'
+values = ['up', 'down']
+parents = ['b']
+rows = [[800000, 200000], [100000, 900000]]
+";
+
+/// Pearl's alarm, which a burglary or an earthquake sets off, and by which John and Mary call.
+const ALARM: &str = "points_per_bit = 1
+max_trades = 1
+cliques = [['burglary', 'earthquake', 'alarm'], ['alarm', 'john'], ['alarm', 'mary']]
+links = [1, 1]
+[[variable]]
+name = 'burglary'
+values = ['yes', 'no']
+parents = []
+rows = [[1000, 999000]]
+[[variable]]
+name = 'earthquake'
+values = ['yes', 'no']
+parents = []
+rows = [[2000, 998000]]
+[[variable]]
+name = 'alarm'
+values = ['yes', 'no']
+parents = ['burglary', 'earthquake']
+rows = [[950000, 50000], [940000, 60000], [290000, 710000], [1000, 999000]]
+[[variable]]
+name = 'john'
+values = ['yes', 'no']
+parents = ['alarm']
+rows = [[900000, 100000], [50000, 950000]]
+[[variable]]
+name = 'mary'
+values = ['yes', 'no']
+parents = ['alarm']
+rows = [[700000, 300000], [10000, 990000]]
+";
+
+/// The network of a market file, with its tree.
+fn read(alloc: Global, file: &str) -> Result<MarketFile, Fail>
+    ensures { IfOk result (λ file. IsTreeOf file.net file.tree) }
+{
+    Ok(read_market(alloc, file.as_bytes())?)
+}
+
+/// A variable at a value.
+fn at(variable: u32, value: u32) -> Pair {
+    Pair { variable, value }
+}
+
+/// Stops unless the pair is the network's own.
+fn expect_pair(rt: &impl Abort, net: &Network, pair: Pair)
+    ensures { IsPairOf net.now pair }
+{
+    assert!(rt; pair.variable < net.variables());
+    assert!(rt; pair.value < net.values(pair.variable));
+}
+
+/// Stops unless the pairs are the network's own.
+fn expect_own(rt: &impl Abort, net: &Network, pairs: &[Pair])
+    ensures pairs { ArePairsOf net.now pairs.now }
+    ensures network { IsNetwork net.now }
+{
+    let _ = net.variables();
+    for pair in pairs {
+        expect_pair(rt, net, *pair);
+    }
+}
+
+/// Stops unless the chance before any entry has these bounds, or is impossible.
+fn expect(
+    rt: &impl Abort,
+    alloc: Global,
+    file: &MarketFile,
+    want: &[Pair],
+    given: &[Pair],
+    bounds: Option<(u64, u64)>,
+) -> Result<(), Fail>
+    requires { IsTreeOf file.now.net file.now.tree }
+{
+    expect_own(rt, &file.net, want);
+    expect_own(rt, &file.net, given);
+    let found = match chance(alloc, &file.net, &file.tree, &[], want, given)? {
+        Chance::Price { low, high } => Some((low, high)),
+        Chance::Impossible => None,
+    };
+    assert_eq!(rt; found, bounds);
+    Ok(())
+}
+
+fn check_chain(rt: &impl Abort, alloc: Global, file: &MarketFile) -> Result<(), Fail>
+    requires { IsTreeOf file.now.net file.now.tree }
+{
+    let (up, down) = (at(0, 0), at(0, 1));
+    expect(rt, alloc, file, &[at(2, 0)], &[up], Some((5200000000, 5200000000)))?;
+    expect(rt, alloc, file, &[up], &[up, at(2, 0)], Some((10000000000, 10000000000)))?;
+    expect(rt, alloc, file, &[up, down], &[], Some((0, 0)))?;
+    expect(rt, alloc, file, &[up], &[up, down], None)
+}
+
+fn check_alarm(rt: &impl Abort, alloc: Global, file: &MarketFile) -> Result<(), Fail>
+    requires { IsTreeOf file.now.net file.now.tree }
+{
+    let calls = [at(3, 0), at(4, 0)];
+    expect(rt, alloc, file, &[at(0, 0)], &calls, Some((2841718353, 2841718354)))?;
+    let alone = [at(3, 0), at(4, 0), at(2, 0), at(0, 1), at(1, 1)];
+    expect(rt, alloc, file, &alone, &[], Some((6281112, 6281113)))?;
+    expect(rt, alloc, file, &[at(1, 0)], &[at(2, 0)], Some((2310087019, 2310087020)))
+}
+
+#[test]
+fn on_the_chain(rt: HostRuntime) -> Result<(), Fail> {
+    let file = read(rt.alloc(), CHAIN)?;
+    check_chain(&rt, rt.alloc(), &file)
+}
+
+#[test]
+fn on_the_alarm(rt: HostRuntime) -> Result<(), Fail> {
+    let file = read(rt.alloc(), ALARM)?;
+    check_alarm(&rt, rt.alloc(), &file)
+}
