@@ -1,5 +1,7 @@
 -- What a history's weights are once pairs are known beside it.
-use Rattle.std.proofs.Common.{◌≡◌, ℕ, ◌+◌, ◌*◌, ◌<◌, ◌^◌, Bool, true, false, ◌&&◌, List, [], ◌∷◌, ◌++◌, map, filter, length, take, get_or, sum_by, refl, sym, ap, ap₂, subst, ◌∙◌, append-nil, append_assoc}
+use Rattle.std.proofs.Common.{◌≡◌, ℕ, ◌+◌, ◌*◌, ◌<◌, ◌^◌, Bool, true, false, ◌&&◌, List, [], ◌∷◌}
+use Rattle.std.proofs.Common.{◌++◌, map, filter, length, take, get_or, sum_by, refl, sym, ap, ap₂}
+use Rattle.std.proofs.Common.{subst, ◌∙◌, append-nil, append_assoc}
 use Rattle.std.specs.List.{filter_map}
 use Rattle.std.proofs.Math.Path.{fun_ext}
 use Rattle.std.proofs.Math.Bool.{and-true}
@@ -8,7 +10,8 @@ use Rattle.std.proofs.lemmas.List.Elements.{filter_map-append}
 use Rattle.mk_net.specs.declared.words.Pair.{Pair}
 use Rattle.mk_net.specs.Network.{Variable}
 use Rattle.mk_exact.specs.Events.{has, holds, always}
-use Rattle.mk_exact.specs.History.{Entry, Resolve, UserTrade, trade_in, resolution_in, trades, resolutions}
+use Rattle.mk_exact.specs.History.{Entry, Resolve, UserTrade, trade_in, resolution_in, trades}
+use Rattle.mk_exact.specs.History.{resolutions}
 use Rattle.mk_exact.specs.InitialWeight.{all_states, initial_weight}
 use Rattle.mk_exact.specs.Ratios.{ratio_at}
 use Rattle.mk_exact.specs.States.{product_by}
@@ -23,15 +26,19 @@ use Rattle.mk_best.specs.inner.Engines.{learned}
 pub learned_none : (H : List Entry) → learned H [] ≡ H
 learned_none H = append-nil H
 
-pub learned_more : (H : List Entry) (pairs : List Pair) (d : Pair) (i : ℕ) → i < length pairs → learned H (take (i + 1) pairs) ≡ learned H (take i pairs) ++ Resolve (get_or pairs i d) ∷ []
+pub learned_more : (H : List Entry) (pairs : List Pair) (d : Pair) (i : ℕ) → i < length pairs
+    → learned H (take (i + 1) pairs) ≡ learned H (take i pairs) ++ Resolve (get_or pairs i d) ∷ []
 learned_more H pairs d i l =
     ap (learned H) (take_more pairs i d l)
     ∙ ap (λ (es : List Entry). H ++ es) (map-append Resolve (take i pairs) (get_or pairs i d ∷ []))
     ∙ sym (append_assoc H (map Resolve (take i pairs)) (Resolve (get_or pairs i d) ∷ []))
 
 -- one more pair of them becomes known
-pub learn_more : {E : Type 0} (stands_for : E → Meaning → Type 0) (engine : E) (network : List Variable) (tree : GivenTree) (H : List Entry) (pairs : List Pair) (d : Pair) (i : ℕ)
-    → i < length pairs → stands_for engine (with_known (get_or pairs i d) (weights_of network tree (learned H (take i pairs))))
+pub learn_more : {E : Type 0} (stands_for : E → Meaning
+    → Type 0) (engine : E) (network : List Variable) (tree : GivenTree) (H : List Entry)
+    (pairs : List Pair) (d : Pair) (i : ℕ)
+    → i < length pairs → stands_for engine (with_known (get_or pairs i d)
+    (weights_of network tree (learned H (take i pairs))))
     → stands_for engine (weights_of network tree (learned H (take (i + 1) pairs)))
 learn_more stands_for engine network tree H pairs d i l h =
     subst (λ (m : Meaning). stands_for engine m)
@@ -48,10 +55,12 @@ all_known (p ∷ ps) = ap (λ (qs : List Pair). p ∷ qs) (all_known ps)
 
 module _ (H : List Entry) (pairs : List Pair) where
   pub trades_learned : trades (learned H pairs) ≡ trades H
-  trades_learned = filter_map-append trade_in H (map Resolve pairs) ∙ ap (λ (ts : List UserTrade). trades H ++ ts) (no_trades pairs) ∙ append-nil (trades H)
+  trades_learned = filter_map-append trade_in H (map Resolve pairs) ∙ ap
+      (λ (ts : List UserTrade). trades H ++ ts) (no_trades pairs) ∙ append-nil (trades H)
 
   resolutions_learned : resolutions (learned H pairs) ≡ resolutions H ++ pairs
-  resolutions_learned = filter_map-append resolution_in H (map Resolve pairs) ∙ ap (λ (ps : List Pair). resolutions H ++ ps) (all_known pairs)
+  resolutions_learned = filter_map-append resolution_in H (map Resolve pairs) ∙ ap
+      (λ (ps : List Pair). resolutions H ++ ps) (all_known pairs)
 
   module _ (network : List Variable) where
     three : (a b c : Bool) → ((a && b) && c) ≡ (a && (b && c))
@@ -59,23 +68,29 @@ module _ (H : List Entry) (pairs : List Pair) where
     three false b c = refl
 
     weight_by : List UserTrade → List ℕ → ℕ
-    weight_by ts s = initial_weight network s * product_by (λ (t : UserTrade). ratio_at t.ratio s) ts
+    weight_by ts s = initial_weight network s * product_by (λ (t : UserTrade). ratio_at t.ratio s)
+        ts
 
     total_by : (List ℕ → Bool) → List UserTrade → List Pair → ℕ
     unfolding weight_by
-    total_by test ts known = sum_by (weight_by ts) (filter (λ s. holds known s && test s) (all_states network))
+    total_by test ts known = sum_by (weight_by ts)
+        (filter (λ s. holds known s && test s) (all_states network))
 
     -- the states that are left then are those that have the pairs
-    pub total_learned : (test : List ℕ → Bool) → total network (learned H pairs) test ≡ total network H (λ s. holds pairs s && test s)
+    pub total_learned : (test : List ℕ → Bool)
+        → total network (learned H pairs) test ≡ total network H (λ s. holds pairs s && test s)
     unfolding weight_by total_by
     total_learned test =
         ap₂ (total_by test) trades_learned resolutions_learned
         ∙ ap (λ (p : List ℕ → Bool). sum_by (weight_by (trades H)) (filter p (all_states network)))
-        (fun_ext (λ s. ap (λ b. b && test s) (list_all-append (λ p. has p s) (resolutions H) pairs) ∙ three (holds (resolutions H) s) (holds pairs s) (test s)))
+        (fun_ext (λ s. ap (λ b. b && test s) (list_all-append (λ p. has p s) (resolutions H) pairs)
+        ∙ three (holds (resolutions H) s) (holds pairs s) (test s)))
 
     pub all_learned : total network (learned H pairs) always ≡ total network H (holds pairs)
-    all_learned = total_learned always ∙ ap (total network H) (fun_ext (λ s. and-true (holds pairs s)))
+    all_learned = total_learned always ∙ ap (total network H)
+        (fun_ext (λ s. and-true (holds pairs s)))
 
     pub small_learned : IsSmall network H → IsSmall network (learned H pairs)
     unfolding weight_by
-    small_learned small = subst (λ (ts : List UserTrade). sum_by (weight_by ts) (all_states network) < 2 ^ 63) (sym trades_learned) small
+    small_learned small = subst (λ (ts : List UserTrade). sum_by (weight_by ts) (all_states network)
+        < 2 ^ 63) (sym trades_learned) small

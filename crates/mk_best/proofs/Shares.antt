@@ -1,5 +1,6 @@
 -- Beliefs in the states that are left, and the share of a part in a whole.
-use Rattle.std.proofs.Common.{◌≡◌, ℕ, ◌+◌, ◌^◌, ◌≤◌, ◌&&◌, List, [], ◌∷◌, length, slice_index, Some, not, refl, sym, ap, subst, ◌∙◌, arith}
+use Rattle.std.proofs.Common.{◌≡◌, ℕ, ◌+◌, ◌^◌, ◌≤◌, ◌&&◌, List, [], ◌∷◌, length, slice_index, Some}
+use Rattle.std.proofs.Common.{not, refl, sym, ap, subst, ◌∙◌, arith}
 use Rattle.std.proofs.lemmas.List.Elements.{All-from_recursion}
 use Rattle.mk_net.specs.declared.words.Pair.{Pair}
 use Rattle.mk_net.specs.Bounds.{max_market_trades}
@@ -35,26 +36,34 @@ use Rattle.mk_best.specs.Chances.{IsChance}
 use Rattle.mk_best.specs.inner.Engines.{learned, IsLeftFor, ArePartAndWhole}
 use Rattle.mk_best.proofs.Learned.{trades_learned, total_learned, all_learned, small_learned}
 
-pub few_factors : (network : List Variable) (tree : GivenTree) (H : List Entry) → IsNetwork network → length (trades H) ≤ max_market_trades
+pub few_factors : (network : List Variable) (tree : GivenTree) (H : List Entry) → IsNetwork network
+    → length (trades H) ≤ max_market_trades
     → length (weights_of network tree H).factors ≤ max_factors
 few_factors network tree H legal few = (factors_are_few network tree H 0 legal few).0
 
-pub nothing_fits : (network : List Variable) (event : List Pair) → event ≡ [] → ArePairsOf network event
-nothing_fits network event e = subst (λ (ps : List Pair). ArePairsOf network ps) (sym e) (All-from_recursion (IsPairOf network) [] tt)
+pub nothing_fits : (network : List Variable) (event : List Pair) → event ≡ []
+    → ArePairsOf network event
+nothing_fits network event e = subst (λ (ps : List Pair). ArePairsOf network ps) (sym e)
+    (All-from_recursion (IsPairOf network) [] tt)
 
 -- the belief in no pair is in all states that are left
-pub left_in : (network : List Variable) (tree : GivenTree) (H : List Entry) → IsNetwork network → length (trades H) ≤ max_market_trades → (event : List Pair) (belief : Held) → event ≡ []
-    → IsBelief HeldEncloses HasHeldGrade IsHeldExact ◌+◌ (weights_of network tree H) event belief → IsBeliefIn belief (IsSmall network H) (total network H always)
+pub left_in : (network : List Variable) (tree : GivenTree) (H : List Entry) → IsNetwork network
+    → length (trades H) ≤ max_market_trades → (event : List Pair) (belief : Held) → event ≡ []
+    → IsBelief HeldEncloses HasHeldGrade IsHeldExact ◌+◌ (weights_of network tree H) event belief
+    → IsBeliefIn belief (IsSmall network H) (total network H always)
 left_in network tree H legal few event belief none b = record {
-  encloses = subst (HeldEncloses belief) (belief_is_total network tree H event ∙ ap (λ (ps : List Pair). total network H (holds ps)) none) b.value;
-  grade = held_grade_more belief (length (weights_of network tree H).factors + max_grade) max_side_grade b.grade (omega (arith, few_factors network tree H legal few));
+  encloses = subst (HeldEncloses belief) (belief_is_total network tree H event ∙ ap
+      (λ (ps : List Pair). total network H (holds ps)) none) b.value;
+  grade = held_grade_more belief (length (weights_of network tree H).factors + max_grade)
+      max_side_grade b.grade (omega (arith, few_factors network tree H legal few));
   exact = λ s. b.exact (weights_are_small network tree H s);
 }
 
 grade_more : (e : Enclosure) (g h : ℕ) → g ≤ h → HasGrade e g → HasGrade e h
 grade_more e g h l has = record { near = near_more (lower_of e) (upper_of e) g h l has.near }
 
-pub covers_nothing : (small : Type 0) (v w : ℕ) → v ≡ 0 → 1 ≤ w → CoversPrice small (record { num = v; den = w }) 0 0
+pub covers_nothing : (small : Type 0) (v w : ℕ) → v ≡ 0 → 1 ≤ w
+    → CoversPrice small (record { num = v; den = w }) 0 0
 covers_nothing small v w none some = record {
   below = omega (arith, none);
   above = omega (arith, none);
@@ -67,7 +76,8 @@ covers_nothing small v w none some = record {
   ceiling = λ s. omega (arith, none, some);
 }
 
-pub covers_all : (small : Type 0) (v w : ℕ) → v ≡ w → 1 ≤ w → CoversPrice small (record { num = v; den = w }) (10 ^ 10) (10 ^ 10)
+pub covers_all : (small : Type 0) (v w : ℕ) → v ≡ w → 1 ≤ w
+    → CoversPrice small (record { num = v; den = w }) (10 ^ 10) (10 ^ 10)
 covers_all small v w same some = record {
   below = omega (arith, same);
   above = omega (arith, same);
@@ -80,44 +90,60 @@ covers_all small v w same some = record {
   ceiling = λ s. omega (arith, same, some);
 }
 
-pub covers_part : (network : List Variable) (H : List Entry) (part whole : Enclosure) (v w low high : ℕ) → ArePartAndWhole network H (Present part) whole v w
-    → ArePartsOf part whole low high → CoversPrice (IsSmall network H) (record { num = v; den = w }) low high
+pub covers_part : (network : List Variable) (H : List Entry) (part whole : Enclosure)
+    (v w low high : ℕ) → ArePartAndWhole network H (Present part) whole v w
+    → ArePartsOf part whole low high
+    → CoversPrice (IsSmall network H) (record { num = v; den = w }) low high
 covers_part network H part whole v w low high are parts =
-    covers_when (IsSmall network H) (IsExact part × IsExact whole) (λ s. (are.of_part.exact s, are.of_whole.exact s)) (record { num = v; den = w }) low high
-    (parts_cover part whole v w (2 ^ 17) low high are.of_part.encloses are.of_whole.encloses (some_weight whole w are.of_whole.encloses) (omega (arith, are.less)) are.less (omega arith)
-    (grade_more part max_side_grade (2 ^ 17) (omega arith) are.of_part.grade.0) (grade_more whole max_side_grade (2 ^ 17) (omega arith) are.of_whole.grade.0) parts)
+    covers_when (IsSmall network H) (IsExact part × IsExact whole)
+    (λ s. (are.of_part.exact s, are.of_whole.exact s)) (record { num = v; den = w }) low high
+    (parts_cover part whole v w (2 ^ 17) low high are.of_part.encloses are.of_whole.encloses
+    (some_weight whole w are.of_whole.encloses) (omega (arith, are.less)) are.less (omega arith)
+    (grade_more part max_side_grade (2 ^ 17) (omega arith) are.of_part.grade.0)
+    (grade_more whole max_side_grade (2 ^ 17) (omega arith) are.of_whole.grade.0) parts)
 
 -- what is found of the states that are left with what is given is found of the chance
-pub chance_is : (network : List Variable) (H : List Entry) (want given : List Pair) (found : Chance) → IsNetwork network → IsProper network H
+pub chance_is : (network : List Variable) (H : List Entry) (want given : List Pair) (found : Chance)
+    → IsNetwork network → IsProper network H
     → IsLeftFor network (learned H given) want found → IsChance network H want given found
 chance_is network H want given (Price low high) legal proper left =
-    let num : total network (learned H given) (holds want) ≡ total network H (λ s. holds given s && holds want s) = total_learned H given network (holds want) in
-    let den : total network (learned H given) always ≡ total network H (holds given) = all_learned H given network in (
+    let num : total network (learned H given) (holds want) ≡ total network H
+    (λ s. holds given s && holds want s) = total_learned H given network (holds want) in
+    let den : total network (learned H given) always ≡ total network H (holds given) = all_learned H
+    given network in (
       weighed_comes network H (holds given) (subst (λ n. 1 ≤ n) den left.0),
-      subst (λ (n : ℕ). CoversPrice (IsSmall network H) (record { num = n; den = total network H (holds given) }) low high) num
-          (subst (λ (n : ℕ). CoversPrice (IsSmall network H) (record { num = total network (learned H given) (holds want); den = n }) low high) den
-          (covers_when (IsSmall network H) (IsSmall network (learned H given)) (small_learned H given network) _ low high left.1)),
+      subst (λ (n : ℕ). CoversPrice (IsSmall network H)
+          (record { num = n; den = total network H (holds given) }) low high) num
+          (subst (λ (n : ℕ). CoversPrice (IsSmall network H)
+          (record { num = total network (learned H given) (holds want); den = n }) low high) den
+          (covers_when (IsSmall network H) (IsSmall network (learned H given))
+          (small_learned H given network) _ low high left.1)),
     )
 chance_is network H want given Impossible legal proper left =
     absent_never network H (holds given) legal proper (sym (all_learned H given network) ∙ left)
 
 -- ---- the part with the wanted pairs
 
-pub few_learned : (H : List Entry) (pairs : List Pair) → length (trades H) ≤ max_market_trades → length (trades (learned H pairs)) ≤ max_market_trades
-few_learned H pairs few = subst (λ (ts : List UserTrade). length ts ≤ max_market_trades) (sym (trades_learned H pairs)) few
+pub few_learned : (H : List Entry) (pairs : List Pair) → length (trades H) ≤ max_market_trades
+    → length (trades (learned H pairs)) ≤ max_market_trades
+few_learned H pairs few = subst (λ (ts : List UserTrade). length ts ≤ max_market_trades)
+    (sym (trades_learned H pairs)) few
 
 pub part_in : (network : List Variable) (H : List Entry) (want : List Pair) (part : Held)
-    → IsBeliefIn part (IsSmall network (learned H want)) (total network (learned H want) always) → IsBeliefIn part (IsSmall network H) (total network H (holds want))
+    → IsBeliefIn part (IsSmall network (learned H want)) (total network (learned H want) always)
+    → IsBeliefIn part (IsSmall network H) (total network H (holds want))
 part_in network H want part b = record {
   encloses = subst (HeldEncloses part) (all_learned H want network) b.encloses;
   grade = b.grade;
   exact = λ s. b.exact (small_learned H want network s);
 }
 
-pub in_present : (belief : Held) (e : Enclosure) (small : Type 0) (n : ℕ) → belief ≡ Present e → IsBeliefIn belief small n → IsBeliefIn (Present e) small n
+pub in_present : (belief : Held) (e : Enclosure) (small : Type 0) (n : ℕ) → belief ≡ Present e
+    → IsBeliefIn belief small n → IsBeliefIn (Present e) small n
 in_present belief e small n is b = subst (λ (x : Held). IsBeliefIn x small n) is b
 
-pub in_absent : (belief : Held) (small : Type 0) (n : ℕ) → belief ≡ Absent → IsBeliefIn belief small n → n ≡ 0
+pub in_absent : (belief : Held) (small : Type 0) (n : ℕ) → belief ≡ Absent
+    → IsBeliefIn belief small n → n ≡ 0
 in_absent belief small n is b = (subst (λ (x : Held). HeldEncloses x n) is b.encloses)
 
 -- ---- whether a pair can fail
@@ -125,10 +151,15 @@ in_absent belief small n is b = (subst (λ (x : Held). HeldEncloses x n) is b.en
 abbrev pub is_asked : Pair → Asked
 is_asked pair = record { target = pair; condition = [] }
 
-pub can_ask : {E : Type 0} (stands_for : E → Meaning → Type 0) (engine : E) (network : List Variable) (tree : GivenTree) (H : List Entry) (pair : Pair) (at values : ℕ) (asked : Asked)
-    → stands_for engine (weights_of network tree H) → IsNetwork network → length (trades H) ≤ max_market_trades → IsPairOf network pair → asked ≡ is_asked pair
-    → home tree (pair ∷ []) ≡ Some at → values ≡ slice_index (sizes network) pair.variable → CanAskOthers stands_for engine at asked values
-can_ask stands_for engine network tree H pair at values asked stands legal few fits is at_home sized =
+pub can_ask : {E : Type 0} (stands_for : E → Meaning
+    → Type 0) (engine : E) (network : List Variable) (tree : GivenTree) (H : List Entry)
+    (pair : Pair) (at values : ℕ) (asked : Asked)
+    → stands_for engine (weights_of network tree H) → IsNetwork network
+    → length (trades H) ≤ max_market_trades → IsPairOf network pair → asked ≡ is_asked pair
+    → home tree (pair ∷ []) ≡ Some at → values ≡ slice_index (sizes network) pair.variable
+    → CanAskOthers stands_for engine at asked values
+can_ask stands_for engine network tree H pair at values asked stands legal few fits is at_home sized
+    =
     subst (λ (a : Asked). CanAskOthers stands_for engine at a values) (sym is) (record {
       meaning = weights_of network tree H;
       stands = stands;
@@ -139,18 +170,22 @@ can_ask stands_for engine network tree H pair at values asked stands legal few f
       room = few_factors network tree H legal few;
     })
 
-pub fails_in : (network : List Variable) (tree : GivenTree) (H : List Entry) (pair : Pair) (values : ℕ) (asked : Asked) (belief : Held) → IsPairOf network pair → asked ≡ is_asked pair
+pub fails_in : (network : List Variable) (tree : GivenTree) (H : List Entry) (pair : Pair)
+    (values : ℕ) (asked : Asked) (belief : Held) → IsPairOf network pair → asked ≡ is_asked pair
     → values ≡ slice_index (sizes network) pair.variable
-    → IsOthersBelief HeldEncloses HasHeldGrade IsHeldExact ◌+◌ (weights_of network tree H) asked values belief
+    → IsOthersBelief HeldEncloses HasHeldGrade IsHeldExact ◌+◌ (weights_of network tree H) asked
+    values belief
     → HeldEncloses belief (total network H (λ s. not (has pair s)))
 fails_in network tree H pair values asked belief fits is sized b =
     subst (HeldEncloses belief)
     (ap (λ (a : Asked). exact_others ◌+◌ (weights_of network tree H) a values) is
     ∙ ap (λ n. exact_others ◌+◌ (weights_of network tree H) (is_asked pair) n) sized
-    ∙ others_are_total network tree H (is_asked pair) (record { target = fits; condition = tt })) b.value
+    ∙ others_are_total network tree H (is_asked pair) (record { target = fits; condition = tt }))
+    b.value
 
 pub none_of : (belief : Held) (n : ℕ) → belief ≡ Absent → HeldEncloses belief n → n ≡ 0
 none_of belief n is h = subst (λ (x : Held). HeldEncloses x n) is h
 
-pub some_of : (belief : Held) (e : Enclosure) (n : ℕ) → belief ≡ Present e → HeldEncloses belief n → 1 ≤ n
+pub some_of : (belief : Held) (e : Enclosure) (n : ℕ) → belief ≡ Present e → HeldEncloses belief n
+    → 1 ≤ n
 some_of belief e n is h = some_weight e n (subst (λ (x : Held). HeldEncloses x n) is h)

@@ -22,11 +22,14 @@ chance_of network H want given = price_where network H given (λ s. holds given 
 -- an interval that covers the chance, or that no possible state meets the given pairs
 abbrev pub IsChance : List Variable → List Entry → List Pair → List Pair → Chance → Type 0
 IsChance network H want given (Price low high) =
-    (cannot_come network H (holds given) ≡ false) × CoversPrice (IsSmall network H) (chance_of network H want given) low high
+    (cannot_come network H (holds given) ≡ false) × CoversPrice (IsSmall network H)
+    (chance_of network H want given) low high
 IsChance network H want given Impossible = cannot_come network H (holds given) ≡ true
 
--- a proper history of no more trades than a market takes, the variables of each of which a clique holds together
+-- a proper history of no more trades than a market takes, the variables of each of which a clique
+-- holds together
 pub record IsPlaced (network : List Variable) (tree : GivenTree) (H : List Entry) : Type 0 where
   pub proper : IsProper network H
   pub few_trades : length (trades H) ≤ max_market_trades
-  pub homes : AllByRecursion (λ (t : UserTrade). is_some (home tree (ratio_pairs t.ratio)) ≡ true) (trades H)
+  pub homes : AllByRecursion (λ (t : UserTrade). is_some (home tree (ratio_pairs t.ratio)) ≡ true)
+      (trades H)

@@ -18,8 +18,8 @@ use crate::known::know_all;
 use crate::sure::are_sure;
 use mk_enclose::Enclosure;
 use mk_engine::Engine;
-use mk_record::Entry;
 use mk_net::{Event, Network, NoMemory, Pair};
+use mk_record::Entry;
 use mk_semiring::{Held, SumProd};
 use mk_tree::Tree;
 use mk_tree_engine::TreeEngine;
@@ -31,8 +31,10 @@ const UNITS: u64 = 10_000_000_000;
 /// The clique in which beliefs in no pair at all are asked.
 const ROOT: u32 = 1;
 
-/// The chance that a possible state that meets `given` meets `want` too, after a history, in units of 10^-10. The pairs need no
-/// clique that holds them together, and a variable may stand among them more than once. It is impossible exactly where no possible
+/// The chance that a possible state that meets `given` meets `want` too, after a history, in units
+/// of 10^-10. The pairs need no
+/// clique that holds them together, and a variable may stand among them more than once. It is
+/// impossible exactly where no possible
 /// state meets `given`. All memory that it takes it gives back.
 pub fn chance(
     alloc: Global,
@@ -102,7 +104,8 @@ fn chance_left<E: Engine<SumProd>>(
 /// The share of a part in a whole that is more.
 fn share_of(part: &Held, whole: &Enclosure) -> (u64, u64)
     requires { HasPartAndWhole part.now whole.now }
-    ensures { (network : List Variable) (H : List Change) (v w : ℕ) → ArePartAndWhole network H part.now whole.now v w
+    ensures { (network : List Variable) (H : List Change) (v w : ℕ)
+        → ArePartAndWhole network H part.now whole.now v w
         → CoversPrice (IsSmall network H) (record { num = v; den = w }) result.0 result.1 }
 {
     match part {

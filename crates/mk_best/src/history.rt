@@ -7,8 +7,8 @@ ghost use Rattle.mk_record.specs.Entries.{changes};
 ghost use Rattle.mk_best.specs.inner.Engines.{CanReplay};
 
 use mk_engine::Engine;
-use mk_record::Entry;
 use mk_net::{Network, NoMemory};
+use mk_record::Entry;
 use mk_semiring::SumProd;
 use mk_tree::Tree;
 use std::alloc::Global;
@@ -49,10 +49,12 @@ ghost use Rattle.mk_beliefs.specs.Meanings.{grown};
 ghost use Rattle.mk_engine.specs.Meaning.{Meaning};
 ghost use Rattle.mk_best.specs.inner.Engines.{CanTake};
 
-/// The engine takes one entry: a trade multiplies the weights, a resolution is known, and nothing else changes them.
+/// The engine takes one entry: a trade multiplies the weights, a resolution is known, and nothing
+/// else changes them.
 fn take<E: Engine<SumProd>>(engine: &mut E, tree: &Tree, entry: &Entry)
     requires { CanTake E.stands_for engine.old tree.now (change_of entry.now) }
-    ensures { (m : Meaning) → E.stands_for engine.old m → E.stands_for engine.new (grown (change_of entry.now) m) }
+    ensures { (m : Meaning) → E.stands_for engine.old m
+        → E.stands_for engine.new (grown (change_of entry.now) m) }
 {
     match entry {
         Entry::Trade { ratio, .. } => {

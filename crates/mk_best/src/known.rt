@@ -13,7 +13,8 @@ use mk_tree::Tree;
 /// The engine learns each of the pairs, as if it were resolved.
 pub(crate) fn know_all<E: Engine<SumProd>>(engine: &mut E, tree: &Tree, pairs: &[Pair])
     requires { CanLearn E.stands_for engine.old tree.now pairs.now }
-    ensures { (network : List Variable) (H : List Entry) → E.stands_for engine.old (weights_of network tree.now H)
+    ensures { (network : List Variable) (H : List Entry)
+        → E.stands_for engine.old (weights_of network tree.now H)
         → E.stands_for engine.new (weights_of network tree.now (learned H pairs.now)) }
 {
     for pair in pairs {

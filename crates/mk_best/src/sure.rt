@@ -13,7 +13,8 @@ use mk_net::{Event, Network, Pair, Question};
 use mk_semiring::{Held, SumProd};
 use mk_tree::Tree;
 
-/// Whether all states that are left have each of the pairs: whether none has another value than that of one of them. It leaves
+/// Whether all states that are left have each of the pairs: whether none has another value than
+/// that of one of them. It leaves
 /// what the engine stands for as it was.
 pub(crate) fn are_sure<E: Engine<SumProd>>(
     engine: &mut E,
@@ -34,7 +35,8 @@ pub(crate) fn are_sure<E: Engine<SumProd>>(
     true
 }
 
-/// Whether some state that is left has another value than that of a pair. It leaves what the engine stands for as it was.
+/// Whether some state that is left has another value than that of a pair. It leaves what the engine
+/// stands for as it was.
 fn can_fail<E: Engine<SumProd>>(engine: &mut E, net: &Network, tree: &Tree, pair: Pair) -> bool
     requires { CanAskPair E.stands_for engine.old net.now tree.now pair }
     ensures kept { (m : Meaning) → E.stands_for engine.old m → E.stands_for engine.new m }

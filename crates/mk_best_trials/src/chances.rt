@@ -123,8 +123,22 @@ fn check_chain(rt: &impl Abort, alloc: Global, file: &MarketFile) -> Result<(), 
     requires { IsTreeOf file.now.net file.now.tree }
 {
     let (up, down) = (at(0, 0), at(0, 1));
-    expect(rt, alloc, file, &[at(2, 0)], &[up], Some((5200000000, 5200000000)))?;
-    expect(rt, alloc, file, &[up], &[up, at(2, 0)], Some((10000000000, 10000000000)))?;
+    expect(
+        rt,
+        alloc,
+        file,
+        &[at(2, 0)],
+        &[up],
+        Some((5200000000, 5200000000)),
+    )?;
+    expect(
+        rt,
+        alloc,
+        file,
+        &[up],
+        &[up, at(2, 0)],
+        Some((10000000000, 10000000000)),
+    )?;
     expect(rt, alloc, file, &[up, down], &[], Some((0, 0)))?;
     expect(rt, alloc, file, &[up], &[up, down], None)
 }
@@ -133,10 +147,24 @@ fn check_alarm(rt: &impl Abort, alloc: Global, file: &MarketFile) -> Result<(), 
     requires { IsTreeOf file.now.net file.now.tree }
 {
     let calls = [at(3, 0), at(4, 0)];
-    expect(rt, alloc, file, &[at(0, 0)], &calls, Some((2841718353, 2841718354)))?;
+    expect(
+        rt,
+        alloc,
+        file,
+        &[at(0, 0)],
+        &calls,
+        Some((2841718353, 2841718354)),
+    )?;
     let alone = [at(3, 0), at(4, 0), at(2, 0), at(0, 1), at(1, 1)];
     expect(rt, alloc, file, &alone, &[], Some((6281112, 6281113)))?;
-    expect(rt, alloc, file, &[at(1, 0)], &[at(2, 0)], Some((2310087019, 2310087020)))
+    expect(
+        rt,
+        alloc,
+        file,
+        &[at(1, 0)],
+        &[at(2, 0)],
+        Some((2310087019, 2310087020)),
+    )
 }
 
 #[test]

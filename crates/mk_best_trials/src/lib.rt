@@ -1,4 +1,5 @@
-//! Trials of chances, over their public calls: a crate of its own, since a crate with tests is proved twice.
+//! Trials of chances, over their public calls: a crate of its own, since a crate with tests is
+//! proved twice.
 #![tactic(auto)]
 
 #[cfg(test)]

@@ -1,4 +1,5 @@
--- What the calls ask of an engine that has the weights of a history, and what is found of the states that are left.
+-- What the calls ask of an engine that has the weights of a history, and what is found of the
+-- states that are left.
 use Rattle.std.specs.Prelude.{◌≡◌, ℕ, ◌<◌, ◌≤◌, List, [], ◌∷◌, ◌++◌, map, length, is_some, true}
 use Rattle.mk_net.specs.declared.words.Pair.{Pair}
 use Rattle.mk_net.specs.Asked.{ratio_pairs}
@@ -27,7 +28,8 @@ learned H pairs = H ++ map Resolve pairs
 
 -- one entry more can be taken: a trade has a home and room, and a resolution is of the network
 abbrev pub CanTakeBy : Meaning → Entry → Type 0
-CanTakeBy m (Trade user ratio) = IsRatioOf m.network ratio × (is_some (home m.tree (ratio_pairs ratio)) ≡ true) × (length m.factors < max_factors)
+CanTakeBy m (Trade user ratio) = IsRatioOf m.network ratio ×
+    (is_some (home m.tree (ratio_pairs ratio)) ≡ true) × (length m.factors < max_factors)
 CanTakeBy m (Resolve pair) = IsPairOf m.network pair × (is_some (home m.tree (pair ∷ [])) ≡ true)
 CanTakeBy m _ = Unit {0}
 
@@ -55,8 +57,10 @@ module _ {E : Type 0} (stands_for : E → Meaning → Type 0) where
     pub of_tree : meaning.tree ≡ tree
     pub takes : CanTakeBy meaning e
 
-  -- the engine has the weights of a history of this network, whose pairs these are, and of no more trades than a market takes
-  pub record CanAsk (engine : E) (network : List Variable) (tree : GivenTree) (pairs : List Pair) : Type 0 where
+  -- the engine has the weights of a history of this network, whose pairs these are, and of no more
+  -- trades than a market takes
+  pub record CanAsk (engine : E) (network : List Variable) (tree : GivenTree) (pairs : List Pair) :
+      Type 0 where
     pub history : List Entry
     pub stands : stands_for engine (weights_of network tree history)
     pub legal : IsNetwork network
@@ -65,7 +69,8 @@ module _ {E : Type 0} (stands_for : E → Meaning → Type 0) where
     pub in_range : ArePairsOf network pairs
 
   -- and so for one pair
-  pub record CanAskPair (engine : E) (network : List Variable) (tree : GivenTree) (pair : Pair) : Type 0 where
+  pub record CanAskPair (engine : E) (network : List Variable) (tree : GivenTree) (pair : Pair) :
+      Type 0 where
     pub history : List Entry
     pub stands : stands_for engine (weights_of network tree history)
     pub legal : IsNetwork network
@@ -76,11 +81,13 @@ module _ {E : Type 0} (stands_for : E → Meaning → Type 0) where
 -- the share of the states with all pairs among those that are left; or none is left
 abbrev pub IsLeftFor : List Variable → List Entry → List Pair → Chance → Type 0
 IsLeftFor network H want (Price low high) =
-    (1 ≤ total network H always) × CoversPrice (IsSmall network H) (record { num = total network H (holds want); den = total network H always }) low high
+    (1 ≤ total network H always) × CoversPrice (IsSmall network H)
+    (record { num = total network H (holds want); den = total network H always }) low high
 IsLeftFor network H want Impossible = total network H always ≡ 0
 
 -- the beliefs are in a part and in a whole that is more
-pub record ArePartAndWhole (network : List Variable) (H : List Entry) (part : Held) (whole : Enclosure) (v w : ℕ) : Type 0 where
+pub record ArePartAndWhole (network : List Variable) (H : List Entry) (part : Held)
+    (whole : Enclosure) (v w : ℕ) : Type 0 where
   pub of_part : IsBeliefIn part (IsSmall network H) v
   pub of_whole : IsBeliefIn (Present whole) (IsSmall network H) w
   pub less : v < w

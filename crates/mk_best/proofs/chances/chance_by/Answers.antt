@@ -17,6 +17,10 @@ chance_left-requires g c =
 
 pub returns : goal.returns
 returns g c =
-    let a = c.requires in let net = c.args.net.now in let H = changes c.args.history.now in let given = c.args.given.now in
-    chance_is net H c.args.want.now given c.chance_left.result c.in_ok-engine.ensures.network a.history.proper
-    (c.chance_left.ensures (learned H given) (c.know_all.ensures net H (c.replay.ensures net c.in_ok-engine.ensures.stands)) (few_learned H given a.history.few_trades))
+    let a = c.requires in let net = c.args.net.now in let H = changes c.args.history.now in let
+    given = c.args.given.now in
+    chance_is net H c.args.want.now given c.chance_left.result c.in_ok-engine.ensures.network
+    a.history.proper
+    (c.chance_left.ensures (learned H given) (c.know_all.ensures net H
+    (c.replay.ensures net c.in_ok-engine.ensures.stands))
+    (few_learned H given a.history.few_trades))

@@ -13,21 +13,30 @@ pub returns-in_default : goal.returns-in_default
 returns-in_default g c = λ H h few.
     let net = c.args.net.now in let tree = c.args.tree.now in
     in_absent c.belief.result (IsSmall net H) (total net H always) c.in_default.is
-    (left_in net tree H c.requires.legal few c.empty.result c.belief.result c.empty.ensures (c.belief.ensures.belief (weights_of net tree H) h))
+    (left_in net tree H c.requires.legal few c.empty.result c.belief.result c.empty.ensures
+    (c.belief.ensures.belief (weights_of net tree H) h))
 
 pub returns-then-are_sure : goal.returns-then-are_sure
 returns-then-are_sure g c = λ H h few.
     let net = c.args.net.now in let tree = c.args.tree.now in
-    let whole = in_present c.belief.result c.in-Present.whole (IsSmall net H) (total net H always) c.in-Present.is
-    (left_in net tree H c.requires.legal few c.empty.result c.belief.result c.empty.ensures (c.belief.ensures.belief (weights_of net tree H) h)) in
+    let whole = in_present c.belief.result c.in-Present.whole (IsSmall net H) (total net H always)
+    c.in-Present.is
+    (left_in net tree H c.requires.legal few c.empty.result c.belief.result c.empty.ensures
+    (c.belief.ensures.belief (weights_of net tree H) h)) in
     let some = some_weight c.in-Present.whole (total net H always) whole.encloses in
-    let same = (c.are_sure.ensures.sure H (c.belief.ensures.kept (weights_of net tree H) h)).0 c.if-are_sure.true in
-    (some, covers_all (IsSmall net H) (total net H (holds c.args.want.now)) (total net H always) same some)
+    let same = (c.are_sure.ensures.sure H (c.belief.ensures.kept (weights_of net tree H) h)).0
+    c.if-are_sure.true in (
+      some,
+      covers_all (IsSmall net H) (total net H (holds c.args.want.now)) (total net H always)
+          same some,
+    )
 
 pub share_of-low-requires : goal.share_of-low-requires
 share_of-low-requires g c =
-    let a = c.requires in let net = c.args.net.now in let tree = c.args.tree.now in let want = c.args.want.now in let H = a.history in let h = a.stands in let few = a.few_trades in
-    let later = c.are_sure.ensures.kept (weights_of net tree H) (c.belief.ensures.kept (weights_of net tree H) h) in
+    let a = c.requires in let net = c.args.net.now in let tree = c.args.tree.now in let want =
+    c.args.want.now in let H = a.history in let h = a.stands in let few = a.few_trades in
+    let later = c.are_sure.ensures.kept (weights_of net tree H)
+    (c.belief.ensures.kept (weights_of net tree H) h) in
     record {
       network = net;
       history = H;
@@ -36,29 +45,43 @@ share_of-low-requires g c =
       are = record {
         of_part =
             part_in net H want c.belief-part.result
-            (left_in net tree (learned H want) a.legal (few_learned H want few) c.empty-2.result c.belief-part.result c.empty-2.ensures
-            (c.belief-part.ensures.belief (weights_of net tree (learned H want)) (c.know_all.ensures net H later)));
-        of_whole = in_present c.belief.result c.in-Present.whole (IsSmall net H) (total net H always) c.in-Present.is
-            (left_in net tree H a.legal few c.empty.result c.belief.result c.empty.ensures (c.belief.ensures.belief (weights_of net tree H) h));
-        less = less_unless (total net H (holds want)) (total net H always) c.are_sure.result (total_narrow net H always (holds want) (λ s e. refl))
-            (c.are_sure.ensures.sure H (c.belief.ensures.kept (weights_of net tree H) h)).1 c.if-are_sure.false;
+            (left_in net tree (learned H want) a.legal (few_learned H want few) c.empty-2.result
+            c.belief-part.result c.empty-2.ensures
+            (c.belief-part.ensures.belief (weights_of net tree (learned H want))
+            (c.know_all.ensures net H later)));
+        of_whole = in_present c.belief.result c.in-Present.whole (IsSmall net H)
+            (total net H always) c.in-Present.is
+            (left_in net tree H a.legal few c.empty.result c.belief.result c.empty.ensures
+            (c.belief.ensures.belief (weights_of net tree H) h));
+        less = less_unless (total net H (holds want)) (total net H always) c.are_sure.result
+            (total_narrow net H always (holds want) (λ s e. refl))
+            (c.are_sure.ensures.sure H (c.belief.ensures.kept (weights_of net tree H) h)).1
+            c.if-are_sure.false;
       };
     }
 
 pub returns : goal.returns
 returns g c = λ H h few.
-    let a = c.requires in let net = c.args.net.now in let tree = c.args.tree.now in let want = c.args.want.now in
-    let later = c.are_sure.ensures.kept (weights_of net tree H) (c.belief.ensures.kept (weights_of net tree H) h) in
-    let whole = in_present c.belief.result c.in-Present.whole (IsSmall net H) (total net H always) c.in-Present.is
-    (left_in net tree H a.legal few c.empty.result c.belief.result c.empty.ensures (c.belief.ensures.belief (weights_of net tree H) h)) in (
+    let a = c.requires in let net = c.args.net.now in let tree = c.args.tree.now in let want =
+    c.args.want.now in
+    let later = c.are_sure.ensures.kept (weights_of net tree H)
+    (c.belief.ensures.kept (weights_of net tree H) h) in
+    let whole = in_present c.belief.result c.in-Present.whole (IsSmall net H) (total net H always)
+    c.in-Present.is
+    (left_in net tree H a.legal few c.empty.result c.belief.result c.empty.ensures
+    (c.belief.ensures.belief (weights_of net tree H) h)) in (
       some_weight c.in-Present.whole (total net H always) whole.encloses,
       c.share_of-low.ensures net H (total net H (holds want)) (total net H always) (record {
         of_part =
             part_in net H want c.belief-part.result
-            (left_in net tree (learned H want) a.legal (few_learned H want few) c.empty-2.result c.belief-part.result c.empty-2.ensures
-            (c.belief-part.ensures.belief (weights_of net tree (learned H want)) (c.know_all.ensures net H later)));
+            (left_in net tree (learned H want) a.legal (few_learned H want few) c.empty-2.result
+            c.belief-part.result c.empty-2.ensures
+            (c.belief-part.ensures.belief (weights_of net tree (learned H want))
+            (c.know_all.ensures net H later)));
         of_whole = whole;
-        less = less_unless (total net H (holds want)) (total net H always) c.are_sure.result (total_narrow net H always (holds want) (λ s e. refl))
-            (c.are_sure.ensures.sure H (c.belief.ensures.kept (weights_of net tree H) h)).1 c.if-are_sure.false;
+        less = less_unless (total net H (holds want)) (total net H always) c.are_sure.result
+            (total_narrow net H always (holds want) (λ s e. refl))
+            (c.are_sure.ensures.sure H (c.belief.ensures.kept (weights_of net tree H) h)).1
+            c.if-are_sure.false;
       }),
     )

@@ -8,16 +8,26 @@ use Rattle.mk_best.proofs.chances.share_of.Goals as goal
 pub parts-requires-clause-part : goal.parts-requires-clause-part
 parts-requires-clause-part c =
     let a = c.requires in
-    let are = subst (λ (b : Held). ArePartAndWhole a.network a.history b c.args.whole.now a.inner a.outer) c.in-Present.is a.are in
+    let are = subst (λ (b : Held). ArePartAndWhole a.network a.history b c.args.whole.now a.inner
+    a.outer) c.in-Present.is a.are in
     omega (arith, are.of_part.encloses.lower, are.of_whole.encloses.upper, are.less)
 
 pub returns-in-Absent : goal.returns-in-Absent
 returns-in-Absent c = λ network H v w are.
-    let here = subst (λ (b : Held). ArePartAndWhole network H b c.args.whole.now v w) c.in-Absent.is are in
+    let here = subst (λ (b : Held). ArePartAndWhole network H b c.args.whole.now v w) c.in-Absent.is
+    are in
     covers_nothing (IsSmall network H) v w here.of_part.encloses (omega (arith, here.less))
 
 pub returns-in-Present : goal.returns-in-Present
 returns-in-Present c = λ network H v w are.
-    let here = subst (λ (b : Held). ArePartAndWhole network H b c.args.whole.now v w) c.in-Present.is are in
-    covers_part network H c.in-Present.part c.args.whole.now v w c.parts.result.0 c.parts.result.1 here
-    (record { low_is = c.parts.ensures.low; high_is = c.parts.ensures.high; below = c.parts.ensures.below; above = c.parts.ensures.above })
+    let here = subst (λ (b : Held). ArePartAndWhole network H b c.args.whole.now v w)
+    c.in-Present.is are in
+    covers_part network H c.in-Present.part c.args.whole.now v w c.parts.result.0 c.parts.result.1
+    here
+    (record {
+      low_is = c.parts.ensures.low;
+      high_is = c.parts.ensures.high;
+      below =
+          c.parts.ensures.below;
+      above = c.parts.ensures.above;
+    })

@@ -1,6 +1,7 @@
 use Rattle.std.proofs.Common.{◌≡◌, ℕ, length, subst, arith, refl, ◌∙◌}
 use Rattle.mk_engine.specs.Meaning.{Meaning}
-use Rattle.mk_market.proofs.Openings.{first_rows, one_more, count_of_rows, all_rows, opening_weights}
+use Rattle.mk_market.proofs.Openings.{first_rows, one_more, count_of_rows, all_rows}
+use Rattle.mk_market.proofs.Openings.{opening_weights}
 use Rattle.mk_best.proofs.history.engine_of.Goals as goal
 
 pub weigh-requires : goal.weigh-requires
@@ -11,7 +12,13 @@ weigh-requires g c =
       stands = c.loop-variable.invariant;
       of_network = refl;
       in_range = omega (arith, c.loop-variable-test.true, c.variables-variable-end.ensures.count);
-      room = omega (arith, count_of_rows net tree k, c.loop-variable-test.true, c.variables-variable-end.ensures.count, c.variables-variable-end.ensures.network.few);
+      room = omega (
+        arith,
+        count_of_rows net tree k,
+        c.loop-variable-test.true,
+        c.variables-variable-end.ensures.count,
+        c.variables-variable-end.ensures.network.few,
+      );
     }
 
 pub loop-variable-preserved : goal.loop-variable-preserved
@@ -24,6 +31,13 @@ pub returns-clause-stands : goal.returns-clause-stands
 returns-clause-stands g c =
     let net = c.args.net.now in let tree = c.args.tree.now in
     let done : c.loop-variable.variable ≡ length net =
-    omega (arith, c.loop-variable-test.false, c.variables-variable-end.ensures.count, c.loop-variable.auto.variable-end) in
-    subst (g.E.Engine.stands_for c.loop-variable.engine) (all_rows net tree ∙ opening_weights net tree)
-    (subst (λ (k : ℕ). g.E.Engine.stands_for c.loop-variable.engine (first_rows net tree k)) done c.loop-variable.invariant)
+    omega (
+      arith,
+      c.loop-variable-test.false,
+      c.variables-variable-end.ensures.count,
+      c.loop-variable.auto.variable-end,
+    ) in
+    subst (g.E.Engine.stands_for c.loop-variable.engine)
+    (all_rows net tree ∙ opening_weights net tree)
+    (subst (λ (k : ℕ). g.E.Engine.stands_for c.loop-variable.engine (first_rows net tree k)) done
+    c.loop-variable.invariant)

@@ -14,15 +14,20 @@ takes m e d same h = subst (λ (e : Entry). CanTakeBy m (change_of e)) same h
 
 pub unreachable-requires : goal.unreachable-requires
 unreachable-requires g c =
-    let a = c.requires in let t = takes a.meaning _ _ c.in-Trade.is a.takes in let tree = c.args.tree.now in
-    no_home c.home.result (home tree (ratio_pairs (trade_ratio c.in-Trade.ratio))) c.in_default.is (c.home.ensures.home ∙ ap (home tree) c.event.ensures.pairs)
-    (subst (λ (t : GivenTree). is_some (home t (ratio_pairs (trade_ratio c.in-Trade.ratio))) ≡ true) a.of_tree t.1)
+    let a = c.requires in let t = takes a.meaning _ _ c.in-Trade.is a.takes in let tree =
+    c.args.tree.now in
+    no_home c.home.result (home tree (ratio_pairs (trade_ratio c.in-Trade.ratio))) c.in_default.is
+    (c.home.ensures.home ∙ ap (home tree) c.event.ensures.pairs)
+    (subst (λ (t : GivenTree). is_some (home t (ratio_pairs (trade_ratio c.in-Trade.ratio))) ≡ true)
+    a.of_tree t.1)
 
 pub multiply-requires-clause-home : goal.multiply-requires-clause-home
 multiply-requires-clause-home g c =
     let a = c.requires in let tree = c.args.tree.now in
-    g.met.E.Engine.home_is_place c.args.engine.now a.meaning c.in-Some.home (ratio_pairs (trade_ratio c.in-Trade.ratio)) a.stands
-    (ap (λ (t : GivenTree). home t (ratio_pairs (trade_ratio c.in-Trade.ratio))) a.of_tree ∙ sym (c.home.ensures.home ∙ ap (home tree) c.event.ensures.pairs) ∙ c.in-Some.is)
+    g.met.E.Engine.home_is_place c.args.engine.now a.meaning c.in-Some.home
+    (ratio_pairs (trade_ratio c.in-Trade.ratio)) a.stands
+    (ap (λ (t : GivenTree). home t (ratio_pairs (trade_ratio c.in-Trade.ratio))) a.of_tree ∙ sym
+    (c.home.ensures.home ∙ ap (home tree) c.event.ensures.pairs) ∙ c.in-Some.is)
 
 pub multiply-requires-clause-range : goal.multiply-requires-clause-range
 multiply-requires-clause-range g c =

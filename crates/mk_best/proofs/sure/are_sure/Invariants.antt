@@ -9,5 +9,6 @@ use Rattle.mk_best.proofs.sure.are_sure.Given as goal
 abbrev pub invariant-loop-pair : goal.invariant-loop-pair
 invariant-loop-pair g l = record {
   kept : (m : Meaning) → g.E.Engine.stands_for l.fn.engine m → g.E.Engine.stands_for l.engine m;
-  so_far : (H : List Entry) → g.E.Engine.stands_for l.fn.engine (weights_of l.net l.tree H) → AllByRecursion (λ p. fails l.net H p ≡ 0) (take l.pair-index l.pairs);
+  so_far : (H : List Entry) → g.E.Engine.stands_for l.fn.engine (weights_of l.net l.tree H)
+      → AllByRecursion (λ p. fails l.net H p ≡ 0) (take l.pair-index l.pairs);
 }
