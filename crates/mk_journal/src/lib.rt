@@ -17,4 +17,4 @@ pub use laws::{one_answer, one_reading, refuses_no_honest, stays_honest};
 pub use open::{OpenFault, header_of, open_store};
 pub use read::{End, Found};
 pub use steps::append;
-pub use telling::{Line, Steps, tell};
+pub use telling::{Batch, Line, Steps, tell};

@@ -38,6 +38,13 @@ pub struct Line<C> {
     pub more: bool,
 }
 
+/// Commands to be taken in turn, and the reply that each accepted change among them gets.
+#[derive(Clone, Copy, Drop)]
+pub struct Batch<'a, C> {
+    pub lines: &'a [Line<C>],
+    pub reply: &'a [u8],
+}
+
 // The changes that count as told, and those that wait for it.
 #[derive(Clone, Copy)]
 struct Progress {
@@ -137,47 +144,50 @@ fn one_more(count: u64, changed: bool) -> u64
     if changed { count + 1 } else { count }
 }
 
-/// Applies commands in turn, of which each accepted change gets the reply. Replies wait while more lines are there
-/// already, and are written once all changes before them are kept. Gives how many changes count as told. Whatever failed,
-/// no more replies than that were begun, and a crash then leaves the first of the accepted changes, among them all from
-/// before the call and all that count as told. So does, but for those that are told in the call, a crash at any moment.
+/// Applies the commands of a batch in turn, of which each accepted change gets the reply. Replies wait
+/// while more lines are there already, and are written once all changes before them are kept. Gives
+/// how many changes count as told. Whatever failed, no more replies than that were begun, and a crash
+/// then leaves the first of the accepted changes, among them all from before the call and all that
+/// count as told. So does, but for those that are told in the call, a crash at any moment.
 pub fn tell<D, M: Steps, J: Keeper<D>, S: Sink>(
     market: &mut M,
     keeper: &mut J,
     disk: &mut D,
     out: &mut S,
-    lines: &[Line<M::Command>],
+    batch: &Batch<M::Command>,
     room: &mut [u8],
-    reply: &[u8],
 ) -> u64
     requires room { length room.old ≡ 34000 }
-    requires few { M.took market.old + length lines.now < 2 ^ 62 }
-    requires ready { (n : ℕ) × (n + length lines.now < 2 ^ 40) × J.is_ready keeper.old disk.old n }
-    ensures taken { M.took market.new ≤ M.took market.old + length lines.now }
+    requires few { M.took market.old + length batch.now.lines.now < 2 ^ 62 }
+    requires ready { (n : ℕ) × (n + length batch.now.lines.now < 2 ^ 40)
+        × J.is_ready keeper.old disk.old n }
+    ensures taken { M.took market.new ≤ M.took market.old + length batch.now.lines.now }
     ensures all_taken { NoneFailed (J.faults disk.old) (J.faults disk.new) (S.faults out.old) (S.faults out.new)
-        → M.took market.new ≡ M.took market.old + length lines.now }
+        → M.took market.new ≡ M.took market.old + length batch.now.lines.now }
     ensures front { HasFront (M.accepted market.old) (M.accepted market.new) }
-    ensures written { AddsFront (S.written out.old) (S.written out.new) (repeated reply.now result) }
+    ensures written { AddsFront (S.written out.old) (S.written out.new)
+        (repeated batch.now.reply.now result) }
     ensures told { (name bytes : List ℕ) → J.holds keeper.old disk.old name bytes (M.accepted market.old) []
         → J.leaves disk.new name bytes (M.accepted market.new) (length (M.accepted market.old) + result) }
     ensures any_moment { (name bytes : List ℕ) → J.holds keeper.old disk.old name bytes (M.accepted market.old) []
         → J.passes disk.old disk.new name bytes (M.accepted market.new) (length (M.accepted market.old)) }
     ensures answered { NoneFailed (J.faults disk.old) (J.faults disk.new) (S.faults out.old) (S.faults out.new)
-        → AreAllTold reply.now (M.accepted market.old) (M.accepted market.new) (S.written out.old) (S.written out.new) }
+        → AreAllTold batch.now.reply.now (M.accepted market.old) (M.accepted market.new)
+        (S.written out.old) (S.written out.new) }
 {
     let mut progress = Progress {
         told: 0,
         waiting: 0,
     };
-    for line in lines {
+    for line in batch.lines {
         let Ok(changed) = take_step(market, keeper, disk, &line.command, room) else {
             return progress.told;
         };
         progress.waiting = one_more(progress.waiting, changed);
-        if !tell_waiting(line.more, keeper, disk, out, &mut progress, reply) {
+        if !tell_waiting(line.more, keeper, disk, out, &mut progress, batch.reply) {
             return progress.told;
         }
     }
-    tell_waiting(false, keeper, disk, out, &mut progress, reply);
+    tell_waiting(false, keeper, disk, out, &mut progress, batch.reply);
     progress.told
 }

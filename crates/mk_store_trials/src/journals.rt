@@ -4,7 +4,9 @@ ghost use Rattle.std.specs.Prelude.{ℕ, ◌≡◌, ◌<◌, List, length, IsTru
 
 use mk_disk::{Choice, Disk, MemoryDisk};
 use mk_io::MemorySink;
-use mk_journal::{End, Found, Group, Line, OpenFault, Steps, Store, header_of, open_store, tell};
+use mk_journal::{
+    Batch, End, Found, Group, Line, OpenFault, Steps, Store, header_of, open_store, tell,
+};
 use std::alloc::{AllocError, Global};
 use std::process::Abort;
 use std::test::Fail;
@@ -87,9 +89,11 @@ fn tell_lines<D: Disk>(
     };
     let mut room = vec![in alloc; 0; 34000]?;
     let mut out = MemorySink::new(vec![in alloc; 0; 8]?, 4, Vec::new(alloc));
-    let told = tell(
-        &mut log, &mut store, disk, &mut out, lines, &mut room, b"ok",
-    );
+    let batch = Batch {
+        lines,
+        reply: b"ok",
+    };
+    let told = tell(&mut log, &mut store, disk, &mut out, &batch, &mut room);
     Ok(told)
 }
 

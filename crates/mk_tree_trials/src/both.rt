@@ -138,20 +138,30 @@ fn check_each<R: Semiring<Value = Held>, E: Engine<R>>(
     }
 }
 
+/// A comparison of an engine with the walk over a file's network: the changes that both are told in
+/// turn, how many are told before beliefs are compared after each, and what both are asked of then.
+#[derive(Clone, Copy)]
+struct Comparison<'a> {
+    file: &'a MarketFile,
+    changes: &'a [Change],
+    from: usize,
+    asked: &'a [About],
+}
+
 /// Stops unless an engine's beliefs are as walked, after so many changes.
 fn check_all<R: Semiring<Value = Held> + Walked, E: Engine<R>>(
     rt: &impl Abort,
     alloc: Global,
     engine: &mut E,
-    file: &MarketFile,
+    comparison: &Comparison,
     past: &Past,
-    asked: &[About],
     before: u32,
 ) -> Result<(), Fail>
-    requires { IsInUse E.stands_for engine.old file.now before }
-    ensures { IsInUse E.stands_for engine.new file.now before }
+    requires { IsInUse E.stands_for engine.old comparison.now.file.now before }
+    ensures { IsInUse E.stands_for engine.new comparison.now.file.now before }
 {
-    for about in asked {
+    let file = comparison.file;
+    for about in comparison.asked {
         let event = event(rt, &file.net, about);
         let walked = R::walked(alloc, &file.net, past, event.pairs())?;
         check_each::<R, E>(rt, engine, file, &event, before, walked);
@@ -164,22 +174,20 @@ fn tell_all<R: Semiring<Value = Held> + Walked, E: Engine<R>>(
     rt: &impl Abort,
     alloc: Global,
     engine: &mut E,
-    file: &MarketFile,
+    comparison: &Comparison,
     past: &mut Past,
-    changes: &[Change],
-    from: usize,
-    asked: &[About],
 ) -> Result<(), Fail>
-    requires { IsInUse E.stands_for engine.old file.now 0 }
+    requires { IsInUse E.stands_for engine.old comparison.now.file.now 0 }
 {
+    let file = comparison.file;
     let mut before = 0;
-    for change in changes {
+    for change in comparison.changes {
         assert!(rt; before < 100);
         tell::<R, E>(rt, engine, file, change, before);
         before += 1;
         past.add(rt, &file.net, change)?;
-        if before as usize >= from {
-            check_all::<R, E>(rt, alloc, engine, file, past, asked, before)?;
+        if before as usize >= comparison.from {
+            check_all::<R, E>(rt, alloc, engine, comparison, past, before)?;
         }
     }
     Ok(())
@@ -189,26 +197,14 @@ fn tell_all<R: Semiring<Value = Held> + Walked, E: Engine<R>>(
 fn follow<R: Semiring<Value = Held> + Walked, E: Engine<R>>(
     rt: &impl Abort,
     alloc: Global,
-    file: &MarketFile,
-    changes: &[Change],
-    from: usize,
-    asked: &[About],
+    comparison: &Comparison,
 ) -> Result<(), Fail>
-    requires tree { IsTreeOf file.now.net file.now.tree }
-    requires suits { E.suits file.now.net file.now.tree }
+    requires tree { IsTreeOf comparison.now.file.now.net comparison.now.file.now.tree }
+    requires suits { E.suits comparison.now.file.now.net comparison.now.file.now.tree }
 {
-    let mut engine = start::<R, E>(alloc, file)?;
+    let mut engine = start::<R, E>(alloc, comparison.file)?;
     let mut past = Past::new(alloc);
-    tell_all::<R, E>(
-        rt,
-        alloc,
-        &mut engine,
-        file,
-        &mut past,
-        changes,
-        from,
-        asked,
-    )
+    tell_all::<R, E>(rt, alloc, &mut engine, comparison, &mut past)
 }
 
 /// Stops unless a clique of all variables is legal.
@@ -240,14 +236,24 @@ fn follow_both(
     requires tree { IsTreeOf file.now.net file.now.tree }
     requires few { joint_states file.now.net ≤ max_clique_cells }
 {
-    let (changes, asked) = (sample.changes, sample.asked);
-    let (rows, supports) = (sample.rows, sample.supports);
+    let (changes, rows) = (sample.changes, sample.rows);
     assert!(rt; rows <= changes.len());
-    follow::<SumProd, JointEngine<SumProd>>(rt, alloc, file, changes, rows, asked)?;
-    follow::<SumProd, TreeEngine<SumProd>>(rt, alloc, file, changes, rows, asked)?;
-    let traded = &changes[rows..];
-    follow::<MinProd, JointEngine<MinProd>>(rt, alloc, file, traded, supports, asked)?;
-    follow::<MinProd, TreeEngine<MinProd>>(rt, alloc, file, traded, supports, asked)
+    let sums = Comparison {
+        file,
+        changes,
+        from: rows,
+        asked: sample.asked,
+    };
+    follow::<SumProd, JointEngine<SumProd>>(rt, alloc, &sums)?;
+    follow::<SumProd, TreeEngine<SumProd>>(rt, alloc, &sums)?;
+    let minima = Comparison {
+        file,
+        changes: &changes[rows..],
+        from: sample.supports,
+        asked: sample.asked,
+    };
+    follow::<MinProd, JointEngine<MinProd>>(rt, alloc, &minima)?;
+    follow::<MinProd, TreeEngine<MinProd>>(rt, alloc, &minima)
 }
 
 fn follow_file(

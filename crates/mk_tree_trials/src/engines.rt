@@ -209,15 +209,18 @@ pub(crate) fn expect<R: Semiring<Value = Held>, E: Engine<R>>(
     check_exact(rt, &believed, number.0, number.1);
 }
 
-/// Stops unless this is the belief in a pair, after so many changes, and so many messages were made until then.
+/// A belief, and how many messages were made until an engine gave it.
+#[derive(Clone, Copy)]
+struct Made(u64, u64);
+
+/// Stops unless this is the belief in a pair, after so many changes, and so many messages were made.
 fn expect_made(
     rt: &impl Abort,
     engine: &mut TreeEngine<SumProd>,
     file: &MarketFile,
     pair: Pair,
     before: u32,
-    belief: u64,
-    computed: u64,
+    made: Made,
 )
     requires { IsInUse ⟦<TreeEngine<SumProd> as Engine<SumProd>>⟧.stands_for engine.old file.now
         before }
@@ -225,8 +228,8 @@ fn expect_made(
         before }
 {
     let event = event(rt, &file.net, &About(pair, None));
-    expect(rt, engine, file, &event, before, Exact(belief, 0));
-    assert!(rt; engine.computed() == computed);
+    expect(rt, engine, file, &event, before, Exact(made.0, 0));
+    assert!(rt; engine.computed() == made.1);
 }
 
 /// Over the chain: an engine that was told nothing, and how many messages it makes.
@@ -236,11 +239,11 @@ fn check_messages(rt: &impl Abort, engine: &mut TreeEngine<SumProd>, file: &Mark
     tell(rt, engine, file, &Change::Rows(0), 0);
     tell(rt, engine, file, &Change::Rows(1), 1);
     tell(rt, engine, file, &Change::Rows(2), 2);
-    expect_made(rt, engine, file, C, 3, 415_000_000_000_000_000, 2);
-    expect_made(rt, engine, file, C, 3, 415_000_000_000_000_000, 2);
+    expect_made(rt, engine, file, C, 3, Made(415_000_000_000_000_000, 2));
+    expect_made(rt, engine, file, C, 3, Made(415_000_000_000_000_000, 2));
     tell(rt, engine, file, &Change::Traded(About(A, None), 2, 3), 3);
-    expect_made(rt, engine, file, C, 4, 985_000_000_000_000_000, 3);
-    expect_made(rt, engine, file, B, 4, 1_050_000_000_000_000_000, 4);
+    expect_made(rt, engine, file, C, 4, Made(985_000_000_000_000_000, 3));
+    expect_made(rt, engine, file, B, 4, Made(1_050_000_000_000_000_000, 4));
 }
 
 /// Over the chain, only stale messages are made.

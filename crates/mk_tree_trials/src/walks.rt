@@ -41,15 +41,22 @@ fn expect_total(
     Ok(())
 }
 
+/// The states that are walked: those of an event, once pairs are known.
+#[derive(Clone, Copy)]
+struct Within<'a> {
+    known: &'a [Pair],
+    event: &'a [Pair],
+}
+
 fn expect_least(
     rt: &impl Abort,
     alloc: Global,
     network: &Network,
     trades: &[WalkTrade],
-    known: &[Pair],
-    event: &[Pair],
+    within: Within,
     number: Option<u128>,
 ) -> Result<(), Fail> {
+    let Within { known, event } = within;
     let found = least_gain(alloc, network, trades, 0, known, event)?;
     assert!(rt; found == number);
     Ok(())
@@ -74,8 +81,16 @@ fn check_calls(
         &[HEADS],
         659_706_976_665_500_000,
     )?;
-    expect_least(rt, alloc, network, trades, &[], &[], least)?;
-    expect_least(rt, alloc, network, trades, &[HEADS], &[TAILS], None)
+    let all = Within {
+        known: &[],
+        event: &[],
+    };
+    let none = Within {
+        known: &[HEADS],
+        event: &[TAILS],
+    };
+    expect_least(rt, alloc, network, trades, all, least)?;
+    expect_least(rt, alloc, network, trades, none, None)
 }
 
 fn check_states(rt: &impl Abort, alloc: Global, network: &Network) -> Result<(), Fail> {
