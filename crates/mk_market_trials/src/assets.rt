@@ -1,8 +1,11 @@
 //! A user of a coin's market: gains and net bits by numbers worked out by hand.
 
-ghost use Rattle.std.specs.Prelude.{◌≡◌, ◌≤◌, [], ◌∷◌, IfOk};
+ghost use Rattle.std.specs.Prelude.{◌≡◌, ◌≤◌, [], ◌∷◌, IfOk, Some};
 ghost use Rattle.mk_net.specs.Trades.{trade_ratio};
 ghost use Rattle.mk_engine.specs.Meaning.{ArePairsOf};
+ghost use Rattle.mk_tree.specs.Checked.{IsTreeOf};
+ghost use Rattle.mk_tree.specs.Given.{home};
+ghost use Rattle.mk_tree.specs.Held.{IsHeldAt};
 ghost use Rattle.mk_assets.specs.Holdings.{Owns, opening_holding, with_trade, with_deposit, with_withdrawal};
 
 use crate::coin::{Coin, HEADS, TAILS, make_coin};
@@ -91,6 +94,7 @@ fn traded(
     known: &[Pair],
     withdrawn: u32,
 ) -> Result<Assets<JointEngine<MinProd>>, Fail>
+    requires tree { IsTreeOf coin.now.net coin.now.tree }
     requires known { ArePairsOf coin.now.net known.now }
     requires withdrawn { withdrawn ≤ 1000 }
     ensures { IfOk result (λ assets. Owns ⟦<JointEngine<MinProd> as Engine<MinProd>>⟧.stands_for assets
@@ -98,8 +102,11 @@ fn traded(
 {
     assert!(rt; coin.net.variables() == 1);
     let plan = JointEngine::<MinProd>::plan(alloc, &coin.net, &coin.tree)?;
-    let mut assets = Assets::<JointEngine<MinProd>>::start(alloc, &plan, &coin.net, known)?;
-    assets.trade(&trade(rt));
+    let mut assets = Assets::<JointEngine<MinProd>>::start(
+        alloc, &plan, &coin.net, &coin.tree, known,
+    )?;
+    let ratio = trade(rt);
+    assets.trade(home_of(rt, coin, &ratio.event()), &ratio);
     assets.deposit(1);
     assets.withdraw(withdrawn);
     Ok(assets)
@@ -117,37 +124,49 @@ fn only(rt: &impl Abort, coin: &Coin, pair: Option<Pair>) -> Event
     Event::empty().with(pair).expect(rt, "a pair")
 }
 
+/// The first clique of the coin's tree that holds an event; there is one.
+fn home_of(rt: &impl Abort, coin: &Coin, event: &Event) -> u32
+    ensures home { home coin.now.tree event.now ≡ Some result }
+    ensures held { IsHeldAt coin.now.tree result event.now }
+{
+    coin.tree.home(event).expect(rt, "a home")
+}
+
 /// The least factor of a row.
-fn least(rt: &impl Abort, alloc: Global, coin: &Coin, row: Row) -> Result<Option<Factor>, Fail> {
+fn least(rt: &impl Abort, alloc: Global, coin: &Coin, row: Row) -> Result<Option<Factor>, Fail>
+    requires { IsTreeOf coin.now.net coin.now.tree }
+{
     assert!(rt; row.withdrawn <= 1000);
     let known = only(rt, coin, row.known);
     let asked = only(rt, coin, row.asked);
     let mut assets = traded(rt, alloc, coin, known.pairs(), row.withdrawn)?;
-    Ok(assets.least(&asked))
+    Ok(assets.least(home_of(rt, coin, &asked), &asked))
 }
 
 /// Stops unless the least factor where the coin does not show heads is this before it is known to show heads, and none after.
-fn check_tails<A: Engine<MinProd>>(
+fn check_tails(
     rt: &impl Abort,
     coin: &Coin,
-    assets: &mut Assets<A>,
+    assets: &mut Assets<JointEngine<MinProd>>,
     least: (u64, i64),
 )
-    requires { Owns A.stands_for assets.old
+    requires { Owns ⟦<JointEngine<MinProd> as Engine<MinProd>>⟧.stands_for assets.old
         (with_withdrawal 0 (with_deposit 1 (with_trade (record { variable = 0; condition = []; factors = HIT ∷ MISS ∷ [] }) (opening_holding coin.now.net coin.now.tree [])))) }
 {
     let asked = heads(rt);
-    assert!(rt; coin.tree.home(&asked.event()).is_some());
-    let before = assets.least_of_others(&asked, 2);
-    assets.know(HEADS);
-    let after = assets.least_of_others(&asked, 2);
+    let home = home_of(rt, coin, &asked.event());
+    let before = assets.least_of_others(home, &asked, 2);
+    assets.know(home, HEADS);
+    let after = assets.least_of_others(home, &asked, 2);
     assert!(rt; assets.trades() == 1);
     check(rt, before, Some(least));
     check(rt, after, None);
 }
 
 /// The least factors where the coin does not show heads.
-fn expect_at_tails(rt: &impl Abort, alloc: Global, coin: &Coin) -> Result<(), Fail> {
+fn expect_at_tails(rt: &impl Abort, alloc: Global, coin: &Coin) -> Result<(), Fail>
+    requires { IsTreeOf coin.now.net coin.now.tree }
+{
     let mut assets = traded(rt, alloc, coin, &[], 0)?;
     check_tails(rt, coin, &mut assets, (MISS, 1));
     Ok(())
@@ -166,7 +185,9 @@ fn check(rt: &impl Abort, found: Option<Factor>, least: Option<(u64, i64)>) {
     assert!(rt; factor.trades == 1);
 }
 
-fn expect_rows(rt: &impl Abort, alloc: Global, coin: &Coin) -> Result<(), Fail> {
+fn expect_rows(rt: &impl Abort, alloc: Global, coin: &Coin) -> Result<(), Fail>
+    requires { IsTreeOf coin.now.net coin.now.tree }
+{
     for row in ROWS {
         check(rt, least(rt, alloc, coin, row)?, row.least);
     }

@@ -1,8 +1,9 @@
 //! A coin: its market file, and its network and tree.
 
-ghost use Rattle.std.specs.Prelude.{◌≡◌, [], length, slice_index};
+ghost use Rattle.std.specs.Prelude.{◌≡◌, [], length, slice_index, IfOk};
 ghost use Rattle.mk_net.specs.Network.{sizes};
 ghost use Rattle.mk_net.specs.Zeros.{with_zeros};
+ghost use Rattle.mk_tree.specs.Checked.{IsTreeOf};
 
 use mk_file::read_market;
 use mk_net::{Network, Pair};
@@ -43,7 +44,9 @@ pub struct Coin {
     ghost plain: { with_zeros net ≡ [] },
 }
 
-pub fn make_coin(rt: &impl Abort, alloc: Global) -> Result<Coin, Fail> {
+pub fn make_coin(rt: &impl Abort, alloc: Global) -> Result<Coin, Fail>
+    ensures tree { IfOk result (λ coin. IsTreeOf coin.net coin.tree) }
+{
     let file = read_market(alloc, COIN.as_bytes())?;
     assert!(rt; file.net.variables() == 1);
     assert!(rt; file.net.values(0) == 2);

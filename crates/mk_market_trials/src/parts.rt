@@ -1,15 +1,16 @@
 //! A journal that is filled, and users who join and are found.
 
 ghost use Rattle.std.specs.Prelude.{◌≡◌, []};
+ghost use Rattle.mk_tree.specs.Checked.{IsTreeOf};
 
 use crate::coin::{Coin, HEADS, TAILS, make_coin};
 use mk_assets::Assets;
 use mk_enclose::{Enclosure, Factor};
 use mk_engine::Engine;
 use mk_joint::JointEngine;
-use mk_record::{Entry, Journal, LastQuote, Users};
 use mk_net::{Event, Name, Pair, Question, Ratio};
 use mk_quote::{Bounds, Quote};
+use mk_record::{Entry, Journal, LastQuote, Users};
 use mk_semiring::MinProd;
 use std::alloc::Global;
 use std::process::Abort;
@@ -105,9 +106,11 @@ fn journal_is_filled(rt: HostRuntime) -> Result<(), Fail> {
 }
 
 /// What a user owns who has not traded.
-fn nothing_owned(alloc: Global, coin: &Coin) -> Result<Assets<JointEngine<MinProd>>, Fail> {
+fn nothing_owned(alloc: Global, coin: &Coin) -> Result<Assets<JointEngine<MinProd>>, Fail>
+    requires { IsTreeOf coin.now.net coin.now.tree }
+{
     let plan = JointEngine::<MinProd>::plan(alloc, &coin.net, &coin.tree)?;
-    Ok(Assets::<JointEngine<MinProd>>::start(alloc, &plan, &coin.net, &[])?)
+    Ok(Assets::<JointEngine<MinProd>>::start(alloc, &plan, &coin.net, &coin.tree, &[])?)
 }
 
 fn join<A: Engine<MinProd>>(
@@ -151,7 +154,9 @@ fn join_each(
     coin: &Coin,
     users: &mut Users<JointEngine<MinProd>>,
     names: &str,
-) -> Result<(), Fail> {
+) -> Result<(), Fail>
+    requires { IsTreeOf coin.now.net coin.now.tree }
+{
     for text in names.split(" ") {
         let assets = nothing_owned(alloc, coin)?;
         join(rt, users, name(rt, text.as_bytes()), assets)?;
@@ -192,7 +197,9 @@ fn check_users(
     alloc: Global,
     coin: &Coin,
     users: &mut Users<JointEngine<MinProd>>,
-) -> Result<(), Fail> {
+) -> Result<(), Fail>
+    requires { IsTreeOf coin.now.net coin.now.tree }
+{
     join_each(rt, alloc, coin, users, "ann bob cy")?;
     expect_names(rt, users);
     check_quotes(rt, users);
