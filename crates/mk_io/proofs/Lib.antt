@@ -5,3 +5,4 @@ pub mod Answered
 pub mod InMemory
 pub mod WholeLines
 pub mod AtOnce
+pub mod LastLf

@@ -89,7 +89,7 @@ impl Lines {
         self.last.is_none()
             && self.given < MAX_STREAM_LINES
             && self.pending.len() as u64 <= MAX_STREAM_BYTES - self.spent
-            && self.pending.holds(b'\n')
+            && self.pending.holds_lf()
     }
 
     /// Takes the next line of the stream.

@@ -5,7 +5,7 @@ ghost use Rattle.mk_io.specs.Outside.{HasCause, LeavesRest};
 ghost use Rattle.mk_io.specs.inner.Cut.{Refills};
 
 use crate::outside::{InputFailed, Inputs};
-use memchr::memchr;
+use memchr::memrchr;
 use std::marker::Model;
 
 const READ_BYTES: usize = 4096;
@@ -16,16 +16,20 @@ pub struct Pending {
     buf: [u8; READ_BYTES],
     from: usize,
     to: usize,
+    /// Where the last LF of the last read stands.
+    last_lf: Option<usize>,
 }
 
 impl Model for Pending {
     ghost use Rattle.std.specs.Prelude.{ℕ, ◌-◌, ◌≤◌, List, take, drop};
+    ghost use Rattle.memchr.specs.Find.{IsLastByte, is_byte};
 
     ghost Value = { List ℕ };
 
     ghost view = { λ p. take (p.to - p.from) (drop p.from p.buf) };
 
-    ghost invariant = { λ p. (p.from ≤ p.to) × (p.to ≤ 4096) };
+    ghost invariant = { λ p. (p.from ≤ p.to) × (p.to ≤ 4096)
+        × IsLastByte (is_byte 10) (take p.to p.buf) p.last_lf };
 }
 
 impl Pending {
@@ -37,6 +41,7 @@ impl Pending {
             buf: [0; READ_BYTES],
             from: 0,
             to: 0,
+            last_lf: None,
         }
     }
 
@@ -67,8 +72,10 @@ impl Pending {
     {
         self.from = 0;
         self.to = 0;
+        self.last_lf = None;
         let count = inputs.read_commands(&mut self.buf)?;
         self.to = count;
+        self.last_lf = memrchr(b'\n', &self.buf[..count]);
         Ok(count > 0)
     }
 
@@ -79,11 +86,14 @@ impl Pending {
         self.to - self.from
     }
 
-    /// Whether a byte is among them.
-    pub fn holds(&self, byte: u8) -> bool
-        ensures { IsTrue result ↔ Contains self.now byte }
+    /// Whether an LF is among them.
+    pub fn holds_lf(&self) -> bool
+        ensures { IsTrue result ↔ Contains self.now 10 }
     {
-        memchr(byte, self.as_slice()).is_some()
+        match self.last_lf {
+            Some(at) => self.from <= at,
+            None => false,
+        }
     }
 
     /// The bytes, in their order.
