@@ -4,7 +4,9 @@ pub mod StoredReads
 pub mod SameText
 pub mod Named
 pub mod Bits
+pub mod Blanks
 pub mod Events
+pub mod KeptRows
 pub mod Mapped
 pub mod Numbers
 pub mod Choices
@@ -16,3 +18,5 @@ pub mod Checked
 pub mod Build
 pub mod UnitsOf
 pub mod Zeroed
+pub mod Copied
+pub mod Behind

@@ -1,12 +1,15 @@
 -- Names that are not yet taken: in a list without a double, in a map and in a set.
-use Rattle.std.specs.Prelude.{◌≡◌, ℕ, zero, suc, ◌+◌, ◌<◌, ◌≤◌, List, [], ◌∷◌, ◌++◌, length, take, Bool, true, false, ◌||◌, cond, not, nat_lt}
+use Rattle.std.specs.Prelude.{◌≡◌, ◌≢◌, All, ℕ, zero, suc, ◌+◌, ◌<◌, ◌≤◌, List, [], ◌∷◌, ◌++◌, length, take, Bool, true, false, ◌||◌, cond, not, nat_lt}
 use Rattle.std.specs.List.{list_any, position_or_len}
-use Rattle.std.proofs.Common.{refl, ap, ◌∙◌, arith, get_or}
+use Rattle.std.proofs.Common.{refl, sym, ap, ◌∙◌, arith, get_or}
 use Rattle.std.proofs.lemmas.Bool.{ltb-false, le-ltb}
+use Rattle.std.proofs.lemmas.List.{get_or-take, get_or_default, length-take}
+use Rattle.std.proofs.lemmas.List.Folds.{list_any_none}
 use Rattle.indexmap.specs.IndexMap.{insert_entry}
 use Rattle.indexmap.specs.IndexSet.{insert_key}
 use Rattle.mk_net.specs.Texts.{same_text}
-use Rattle.mk_net.specs.inner.TextLaws.{same_text_equiv}
+use Rattle.mk_net.specs.inner.TextLaws.{same_text_equiv, equal_of_same_text}
+use Rattle.mk_net.specs.Network.{AreDistinct}
 use Rattle.mk_net.specs.Checked.{has_double}
 
 pub neither_of : (p q : Bool) → p || q ≡ false → (p ≡ false) × (q ≡ false)
@@ -43,6 +46,30 @@ none_before p (x ∷ xs) (suc i) h = choose (p x) refl h (none_before p xs i)
         let past : suc i ≤ 1 + position_or_len p xs = ltb-false (1 + position_or_len p xs) (suc i) h in
         let rest : nat_lt (position_or_len p xs) i ≡ false = le-ltb (position_or_len p xs) i (omega arith) in
         rw e (later rest)
+
+not_same : (a b : List ℕ) → a ≢ b → same_text a b ≡ false
+not_same a b other = choose (same_text a b) refl
+  where
+    choose : (found : Bool) → same_text a b ≡ found → same_text a b ≡ false
+    choose true e = absurd (other (equal_of_same_text a b e))
+    choose false e = e
+
+-- a text of a list of different ones is none of the earlier ones
+pub distinct_untaken : (texts : List (List ℕ)) (i : ℕ) (d : List ℕ) → AreDistinct texts → i < length texts →
+    list_any (same_text (get_or texts i d)) (take i texts) ≡ false
+distinct_untaken texts i d distinct within =
+    list_any_none (same_text (get_or texts i d)) (take i texts)
+    (λ j e inside.
+    let before : j < i = omega (arith, inside, length-take i texts) in
+    not_same (get_or texts i d) (get_or (take i texts) j e)
+    (λ same. distinct j i e before within
+    (sym (get_or-take i texts j e before) ∙ sym same ∙ get_or_default texts i d e within)))
+
+-- and so is one that differs from each
+pub others_untaken : (name : List ℕ) (texts : List (List ℕ)) → All (λ t. name ≢ t) texts →
+    list_any (same_text name) texts ≡ false
+others_untaken name texts other =
+    list_any_none (same_text name) texts (λ i d inside. not_same name (get_or texts i d) (other i d inside))
 
 -- an untaken name goes to the end
 pub inserted_name : (names : List (List ℕ)) (name : List ℕ) → list_any (same_text name) names ≡ false →

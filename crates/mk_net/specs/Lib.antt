@@ -6,6 +6,7 @@ pub mod Texts
 pub mod Named
 pub mod Zeros
 pub mod Stored
+pub mod Additions
 pub mod Key
 pub mod Drafts
 pub mod Firsts

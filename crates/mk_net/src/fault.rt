@@ -4,6 +4,7 @@ ghost use Rattle.std.specs.Prelude.{◌≡◌};
 ghost use Rattle.mk_net.specs.declared.fault.NetFault.TheVariants.{Memory};
 
 use crate::key::Key;
+use crate::words::NoMemory;
 use std::alloc::{AllocError, AllocFailed};
 use thiserror::Error;
 
@@ -76,6 +77,14 @@ impl<T: Drop> From<AllocFailed<T>> for NetFault {
     ghost from_gives = { λ _ e. e ≡ Memory };
 
     fn from(_e: AllocFailed<T>) -> NetFault {
+        NetFault::Memory
+    }
+}
+
+impl From<NoMemory> for NetFault {
+    ghost from_gives = { λ _ e. e ≡ Memory };
+
+    fn from(_e: NoMemory) -> NetFault {
         NetFault::Memory
     }
 }

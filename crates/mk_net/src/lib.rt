@@ -1,6 +1,7 @@
 //! The questions of a market: names, pairs of a variable and a value, and the network of variables.
 #![tactic(auto)]
 
+mod addition;
 mod draft;
 mod event;
 mod fault;
@@ -11,11 +12,13 @@ mod network;
 mod order;
 mod question;
 mod ratio;
+mod row;
 mod rows;
 mod sets;
 mod trade;
 mod words;
 
+pub use addition::Addition;
 pub use draft::{Draft, VariableDraft};
 pub use event::Event;
 pub use fault::NetFault;
@@ -24,5 +27,6 @@ pub use name::Name;
 pub use network::Network;
 pub use question::Question;
 pub use ratio::Ratio;
+pub use row::Row;
 pub use sets::VarSet;
 pub use words::{NoMemory, Pair, PairText, QuestionText, Syntax};

@@ -1,14 +1,16 @@
 //! The network of a market's variables.
 
+use crate::addition::Addition;
 use crate::draft::Draft;
 use crate::fault::NetFault;
 use crate::name::Name;
-use crate::words::{Pair, PairText};
+use crate::words::{NoMemory, Pair, PairText};
 use indexmap::{IndexMap, IndexSet};
-use std::alloc::Global;
+use std::alloc::{AllocError, Global};
 use std::marker::Model;
 
 mod build;
+mod grow;
 
 /// A variable as it is kept, beside its name.
 #[derive(Drop)]
@@ -16,6 +18,25 @@ pub struct StoredVariable {
     values: IndexSet<Name>,
     parents: Vec<u32>,
     rows: Vec<Vec<u32>>,
+}
+
+/// A copy has the same values, parents and rows.
+impl Clone for StoredVariable {
+    ghost use Rattle.std.specs.Prelude.{◌≡◌, []};
+    ghost use Rattle.mk_net.specs.Stored.{variable_of};
+
+    ghost is_clone = { λ v w. variable_of ([], w) ≡ variable_of ([], v) };
+
+    fn clone(&self) -> Result<StoredVariable, AllocError> {
+        let values = self.values.clone()?;
+        let parents = self.parents.clone()?;
+        let rows = self.rows.clone()?;
+        Ok(StoredVariable {
+            values,
+            parents,
+            rows,
+        })
+    }
 }
 
 /// A list of variables, each with its values, its parents among the earlier variables, and a row of shares for each
@@ -40,12 +61,13 @@ impl Model for Network {
 }
 
 impl Network {
-    ghost use Rattle.std.specs.Prelude.{◌≡◌, ◌≢◌, ◌<◌, [], length, position, None, Some, false, IfOk, IfErr, IfSome, slice_index, slice_index_or};
+    ghost use Rattle.std.specs.Prelude.{◌≡◌, ◌≢◌, ◌<◌, ◌++◌, ◌∷◌, [], length, position, None, Some, false, IfOk, IfErr, IfSome, slice_index, slice_index_or};
     ghost use Rattle.mk_net.specs.Network.{IsNetwork, sizes};
     ghost use Rattle.mk_net.specs.Named.{variable_at, pair_named};
     ghost use Rattle.mk_net.specs.Texts.{same_text};
     ghost use Rattle.mk_net.specs.Drafts.{drafts_of};
     ghost use Rattle.mk_net.specs.Zeros.{with_zeros, HasNoZeros};
+    ghost use Rattle.mk_net.specs.Additions.{variable_of_addition, CanExtend};
     ghost use Rattle.mk_net.specs.Checked.{checked_network, first_fault};
 
     /// The network of a draft, or the draft's first fault.
@@ -63,6 +85,21 @@ impl Network {
             Some(fault) => Err(fault),
             None => build::network(alloc, draft),
         }
+    }
+
+    /// The network with one more variable, put last. It fails where memory is wanting.
+    pub fn extended(&self, alloc: Global, addition: &Addition) -> Result<Network, NoMemory>
+        requires { CanExtend self.now addition.now }
+        ensures longer { IfOk result (λ network. network ≡ self.now ++ variable_of_addition addition.now ∷ []) }
+        ensures network { IfOk result (λ network. IsNetwork network) }
+        ensures zeros { IfOk result (λ network. with_zeros network ≡ with_zeros self.now) }
+        ensures no_zeros { IfOk result (λ network. HasNoZeros self.now → HasNoZeros network) }
+    {
+        let added = grow::stored(alloc, addition)?;
+        let mut variables = self.variables.clone()?;
+        variables.insert(addition.variable.known(), added)?;
+        let zeros = build::with_zeros(alloc, &variables)?;
+        Ok(Network { variables, zeros })
     }
 
     /// How many variables there are.

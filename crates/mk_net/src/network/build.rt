@@ -14,6 +14,7 @@ use crate::draft::{Draft, VariableDraft};
 use crate::fault::NetFault;
 use crate::name::Name;
 use crate::rows::share;
+use crate::words::NoMemory;
 use indexmap::{IndexMap, IndexSet};
 use std::alloc::Global;
 
@@ -34,13 +35,12 @@ pub(super) fn network(alloc: Global, draft: &Draft) -> Result<Network, NetFault>
 }
 
 /// The variables that have a share of nothing, in their order.
-fn with_zeros(
+pub(super) fn with_zeros(
     alloc: Global,
     variables: &IndexMap<Name, StoredVariable>,
-) -> Result<Vec<u32>, NetFault>
+) -> Result<Vec<u32>, NoMemory>
     requires { length variables.now.entries ≤ 256 }
     ensures zeros { IfOk result (λ v. v.items ≡ with_zeros (variables_of variables.now.entries)) }
-    ensures memory { IfErr result (λ fault. fault ≡ NetFault.Memory) }
 {
     let mut zeros = Vec::new(alloc);
     for number in 0..variables.len() {

@@ -1,0 +1,8 @@
+use Rattle.std.proofs.Common.{ap₂, ◌∙◌}
+use Rattle.mk_net.specs.Texts.{same_text}
+use Rattle.mk_net.proofs.SameText.{pointwise_is_same_text}
+use Rattle.mk_net.proofs.row.RowPartialEq.eq.Goals as goal
+
+pub returns : goal.returns
+returns c = c.eq.ensures ∙ pointwise_is_same_text c.numbers.result.now c.numbers-2.result.now
+    ∙ ap₂ same_text c.numbers.ensures.numbers c.numbers-2.ensures.numbers
