@@ -37,7 +37,7 @@ no_cell_stands n m e f k s rank g h l z =
     (no_digits_at (m c) (e c) (g c o) (λ p. let b = l.below c o p in let y = g c o in let u = y.form.fits in omega arith))))
 
 -- full digits are ordered by their exponents first
-lesser_exponent : (m a n b : ℕ) → m < 2 ^ 64 → 2 ^ 63 ≤ n → a < b → m * 2 ^ a ≤ n * 2 ^ b
+pub lesser_exponent : (m a n b : ℕ) → m < 2 ^ 64 → 2 ^ 63 ≤ n → a < b → m * 2 ^ a ≤ n * 2 ^ b
 lesser_exponent m a n b h f l =
     let x : m * 2 ^ a ≤ 2 ^ 64 * 2 ^ a = mul-le-mul_right (2 ^ a) (omega arith) in
     let y : 2 ^ 63 * 2 ^ suc a ≤ n * 2 ^ b = mul-le-mul f (pow_le (suc a) b l) in

@@ -7,7 +7,7 @@ use Rattle.mk_cell.specs.inner.Close.{close_between}
 use Rattle.mk_cell.specs.inner.LowerEnd.{lower_none}
 use Rattle.mk_cell.specs.Least.{least, least-zero, least-at_zero, least-both, IsLeastOf}
 use Rattle.mk_cell.specs.Passes.{folded, folded-zero, folded-suc}
-use Rattle.mk_cell.proofs.Greatest.{IsAt}
+use Rattle.mk_cell.proofs.GreatestOf.{IsAt}
 
 -- ---- a search
 

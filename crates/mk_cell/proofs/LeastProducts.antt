@@ -59,13 +59,13 @@ abbrev pub ArePlaces : ℕ → (ℕ → ℕ) → (ℕ → ℕ) → (ℕ → ℕ)
 ArePlaces n a e b d m x = (c : ℕ) → c < n → IsUnrounded (a c) (e c) (b c) (d c) (m c) (x c)
 
 -- a product that is there has 63 digits among its places at least, and exponents that leave room
-record IsPresent (m x : ℕ) : Type 0 where
-  full : 2 ^ 62 ≤ m
-  fits : m < 2 ^ 64
-  low : 402653184 ≤ x
-  high : x ≤ 10 * 2 ^ 26
+pub record IsPresent (m x : ℕ) : Type 0 where
+  pub full : 2 ^ 62 ≤ m
+  pub fits : m < 2 ^ 64
+  pub low : 402653184 ≤ x
+  pub high : x ≤ 10 * 2 ^ 26
 
-present : (l e r d m x : ℕ) → IsUnrounded l e r d m x → 0 < l * r → IsPresent m x
+pub present : (l e r d m x : ℕ) → IsUnrounded l e r d m x → 0 < l * r → IsPresent m x
 present l e r d m x u p =
     let i = u.places_are in
     let j = u.exponent_is in
@@ -185,7 +185,7 @@ found_first n a e b d m x low value r p l v f c o q =
 -- ---- the number that was found, and what stands
 
 -- the places of a product are a lower end in two steps more
-places_lower : (l e r d m x k v s : ℕ) → IsUnrounded l e r d m x → IsLowerEnd ((l * r) * 2 ^ (e + d + k)) (v * (2 ^ bias * 2 ^ bias)) (2 ^ bias * 2 ^ bias) s → IsLowerEnd (m * 2 ^ (x + (64 + k))) (v * (2 ^ bias * 2 ^ bias)) (2 ^ bias * 2 ^ bias) (s + 2)
+pub places_lower : (l e r d m x k v s : ℕ) → IsUnrounded l e r d m x → IsLowerEnd ((l * r) * 2 ^ (e + d + k)) (v * (2 ^ bias * 2 ^ bias)) (2 ^ bias * 2 ^ bias) s → IsLowerEnd (m * 2 ^ (x + (64 + k))) (v * (2 ^ bias * 2 ^ bias)) (2 ^ bias * 2 ^ bias) (s + 2)
 places_lower l e r d m x k v s u h =
     ⊎_elim
     (λ (p : 0 < l * r).

@@ -1,7 +1,7 @@
 pub mod Digits
 pub mod Standing
 pub mod Added
-pub mod Greatest
+pub mod GreatestOf
 pub mod Floors
 pub mod Summed
 pub mod Pairs
@@ -9,6 +9,8 @@ pub mod SummedProducts
 pub mod LeastOf
 pub mod LeastCells
 pub mod LeastProducts
+pub mod GreaterCells
+pub mod GreaterProducts
 pub mod Each
 pub mod Ends
 pub mod Own

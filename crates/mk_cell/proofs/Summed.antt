@@ -9,7 +9,7 @@ use Rattle.mk_cell.specs.inner.LowerEnd.{power_parts, lower_finer}
 use Rattle.mk_cell.specs.Passes.{folded, plus_below, plus_below-folded}
 use Rattle.mk_cell.proofs.Standing.{no_digits, nothing_left, cut_product}
 use Rattle.mk_cell.proofs.Added.{added, added_part, added_none, added_size}
-use Rattle.mk_cell.proofs.Greatest.{greatest_is, greatest_at, greatest_at_most, IsAt}
+use Rattle.mk_cell.proofs.GreatestOf.{greatest_is, greatest_at, greatest_at_most, IsAt}
 use Rattle.mk_cell.proofs.Floors.{IsFloor, lower_added, close_floors}
 
 -- digits without their last places are so many parts

@@ -12,7 +12,7 @@ use Rattle.mk_cell.proofs.Standing.{times_none, nothing_left, cut_product, produ
 use Rattle.mk_cell.proofs.Added.{added, added_part, added_none, added_size}
 use Rattle.mk_cell.specs.Products.{PairsStand}
 use Rattle.mk_cell.proofs.Pairs.{ArePairs}
-use Rattle.mk_cell.proofs.Greatest.{greatest_is, greatest_at, greatest_at_most, IsAt}
+use Rattle.mk_cell.proofs.GreatestOf.{greatest_is, greatest_at, greatest_at_most, IsAt}
 use Rattle.mk_cell.proofs.Floors.{IsFloor, lower_added, close_half_floors}
 use Rattle.mk_cell.proofs.Summed.{floor_of, uncut}
 

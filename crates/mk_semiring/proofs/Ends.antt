@@ -25,6 +25,11 @@ pub min_bound : (r x y g : ℕ) → r ≡ min x y → x ≤ two_to (192 * (g + 1
 min_bound r x y g e h =
     let m = two_to-mono (192 * (g + 1)) (192 * (g + 1 + 1)) (omega arith) in omega arith
 
+pub max_bound : (r x y g : ℕ) → r ≡ max x y → x ≤ two_to (192 * (g + 1))
+    → y ≤ two_to (192 * (g + 1)) → r ≤ two_to (192 * (g + 1 + 1))
+max_bound r x y g e h k =
+    let m = two_to-mono (192 * (g + 1)) (192 * (g + 1 + 1)) (omega arith) in omega arith
+
 -- the same grade on both sides, and one more
 pub one_more : (e : Enclosure) (g : ℕ) → HasGrade e (max g g) → HasGrade e (g + 1)
 one_more e g h = record { near = near_more _ _ (max g g) (g + 1) (omega arith) h.near }
@@ -42,6 +47,13 @@ least_of_absent x v w z h = rw (z, least-zero w) h
 
 pub least_with_absent : (x : Held) (v w : ℕ) → w ≡ 0 → HeldEncloses x v → HeldEncloses x (least v w)
 least_with_absent x v w z h = rw (z, least-at_zero v) h
+
+pub greatest_of_absent : (x : Held) (v w : ℕ) → v ≡ 0 → HeldEncloses x w → HeldEncloses x (max v w)
+greatest_of_absent x v w z h = let i : max v w ≡ w = omega arith in rw i h
+
+pub greatest_with_absent : (x : Held) (v w : ℕ) → w ≡ 0 → HeldEncloses x v
+    → HeldEncloses x (max v w)
+greatest_with_absent x v w z h = let i : max v w ≡ v = omega arith in rw i h
 
 pub one_grade_more : (x : Held) (g : ℕ) → HasHeldGrade x g → HasHeldGrade x (g + 1)
 one_grade_more x g h = held_grade_more x g (g + 1) h (omega arith)

@@ -1,3 +1,4 @@
 pub mod Lawful
 pub mod Least
+pub mod Most
 pub mod Held

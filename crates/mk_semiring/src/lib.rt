@@ -4,10 +4,12 @@
 
 mod held;
 mod least;
+mod most;
 mod semiring;
 mod sums;
 
 pub use held::Held;
 pub use least::MinProd;
+pub use most::MaxProd;
 pub use semiring::Semiring;
 pub use sums::SumProd;

@@ -1,6 +1,6 @@
 use Rattle.std.proofs.Common.{◌≡◌, max, sym, rules, slice_index}
 use Rattle.mk_cell.specs.Passes.{folded-zero}
-use Rattle.mk_cell.proofs.Greatest.{greatest_next}
+use Rattle.mk_cell.proofs.GreatestOf.{greatest_next}
 use Rattle.mk_cell.proofs.sums.greatest.Goals as goal
 
 pub loop-c-init : goal.loop-c-init

@@ -1,7 +1,7 @@
 use Rattle.std.proofs.Common.{◌≡◌, ℕ, ◌+◌, ◌-◌, ◌*◌, ◌/◌, ◌^◌, ap, ◌∙◌, slice_index, length, arith}
 use Rattle.mk_cell.specs.Cell.{bias, bias-is, IsRounded}
 use Rattle.mk_cell.proofs.Added.{added}
-use Rattle.mk_cell.proofs.Greatest.{greatest_is}
+use Rattle.mk_cell.proofs.GreatestOf.{greatest_is}
 use Rattle.mk_cell.proofs.Summed.{top_of, top_at_most, terms, total_full, sum_stands}
 use Rattle.mk_cell.proofs.sums.sum.Goals as goal
 

@@ -3,7 +3,7 @@ use Rattle.mk_cell.specs.Cell.{IsRounded}
 use Rattle.mk_cell.specs.Passes.{folded}
 use Rattle.mk_cell.specs.Products.{AreUnrounded}
 use Rattle.mk_cell.proofs.Added.{added, added_same}
-use Rattle.mk_cell.proofs.Greatest.{greatest_is, greatest_same}
+use Rattle.mk_cell.proofs.GreatestOf.{greatest_is, greatest_same}
 use Rattle.mk_cell.proofs.Pairs.{ArePairs, pairs_of}
 use Rattle.mk_cell.proofs.SummedProducts.{pair_top, pair_top_at_most, pair_terms, total_full, products_stand}
 use Rattle.mk_cell.proofs.sums.sum_of_products.Goals as goal
