@@ -1,4 +1,4 @@
--- In a sound market each question that can be asked has a price, two sides and right limits, and each user a least gain.
+-- In a proper history each question that can be asked has a price, two sides and right limits, and each user a least gain.
 use Rattle.std.proofs.Common.{◌≡◌, ℕ, ◌<◌, ◌≤◌, min, Bool, true, false, cond, ◌&&◌, List, [], ◌∷◌, length, filter, sum_by, All, Option, Some, None, IfSome, refl, subst, inl, inr, arith, le_refl}
 use Rattle.std.specs.Bool.{⊤}
 use Rattle.std.specs.List.{AllByRecursion}
@@ -99,15 +99,25 @@ module _ (network : List Variable) (H : List Entry) where
       omega arith
 
   -- the least gain over the states that pass a test
-  pub least_where : (u : ℕ) (test : List ℕ → Bool) → IsSound network H
-      → 1 ≤ length (possible_states network H test)
-      → (g : ℕ) × (least_gain network H u test ≡ Some g) × IsSafeFactor (factor_with H u g)
-  least_where u test sound h = least_exists (gain H u) (λ g. IsSafeFactor (factor_with H u g)) (possible_states network H test) h
-      (each_weaker (λ s. IsAtLeastOne (factor H u s)) (λ s. IsSafeFactor (factor H u s)) (λ s. safe_factor H u (gain H u s)) (possible_states network H test)
-      (recursion_from_All (λ s. IsAtLeastOne (factor H u s)) (possible_states network H test) (each_passing (λ s. IsAtLeastOne (factor H u s)) test (sound.solvent u))))
+  pub least_where : (u : ℕ) (test : List ℕ → Bool) → 1 ≤ length (possible_states network H test)
+      → (g : ℕ) × (least_gain network H u test ≡ Some g)
+      × (IsSound network H → IsSafeFactor (factor_with H u g))
+  least_where u test h = least_exists (gain H u) SafeOnceSound (possible_states network H test) h
+      (each_weaker AtLeastOneOnceSound (λ s. SafeOnceSound (gain H u s))
+      (λ s one sound. safe_factor H u (gain H u s) (one sound)) (possible_states network H test)
+      (recursion_from_All AtLeastOneOnceSound (possible_states network H test)
+      (each_passing AtLeastOneOnceSound test (λ k d inside sound. sound.solvent u k d inside))))
+    where
+      SafeOnceSound : ℕ → Type 0
+      SafeOnceSound g = IsSound network H → IsSafeFactor (factor_with H u g)
+
+      AtLeastOneOnceSound : List ℕ → Type 0
+      AtLeastOneOnceSound s = IsSound network H → IsAtLeastOne (factor H u s)
 
   side_where : (u : ℕ) (asked : Asked) (test : List ℕ → Bool) → IsPositivePrice (price_where network H asked.condition test)
-      → (g : ℕ) × (least_gain network H u test ≡ Some g) × IsSafeFactor (factor_with H u g) → (side : Side) × IsSide network H u asked test side × IsOpenSide side
+      → (g : ℕ) × (least_gain network H u test ≡ Some g)
+      × (IsSound network H → IsSafeFactor (factor_with H u g))
+      → (side : Side) × IsSide network H u asked test side × IsOpenSide (IsSound network H) side
   side_where u asked test price least = (side, is_side, record { price = price; least = least.2 })
     where
       side : Side
@@ -120,10 +130,11 @@ module _ (network : List Variable) (H : List Entry) (net : IsNetwork network) (p
   pub some_possible : 1 ≤ length (possible_states network H always)
   some_possible = proper.some_left
 
-  pub least_exists_for : (u : ℕ) → IsSound network H → HasLeast network H u
-  least_exists_for u sound = at (least_where network H u always sound some_possible)
+  pub least_exists_for : (u : ℕ) → HasLeast network H u
+  least_exists_for u = at (least_where network H u always some_possible)
     where
-      at : (g : ℕ) × (least_gain network H u always ≡ Some g) × IsSafeFactor (factor_with H u g) → HasLeast network H u
+      at : (g : ℕ) × (least_gain network H u always ≡ Some g)
+          × (IsSound network H → IsSafeFactor (factor_with H u g)) → HasLeast network H u
       at l = record { least = l.0; is_least = l.1; safe = l.2 }
 
   module _ (asked : Asked) (open_for : CanBeAsked network H asked) where
@@ -143,17 +154,24 @@ module _ (network : List Variable) (H : List Entry) (net : IsNetwork network) (p
     miss_price : IsPositivePrice (price_where network H asked.condition (without_target asked))
     miss_price = record { positive = total_positive network H net proper (without_target asked) moves.some_miss; at_most_one = omega (arith, total_condition network H asked) }
 
-    pub sides_exist_for : (u : ℕ) → IsSound network H → HasSides network H u asked
-    sides_exist_for u sound = at
-        (side_where network H u asked (with_target asked) hit_price (least_where network H u (with_target asked) sound moves.some_hit))
-        (side_where network H u asked (without_target asked) miss_price (least_where network H u (without_target asked) sound moves.some_miss))
+    pub sides_exist_for : (u : ℕ) → HasSides network H u asked
+    sides_exist_for u = at
+        (side_where network H u asked (with_target asked) hit_price
+        (least_where network H u (with_target asked) moves.some_hit))
+        (side_where network H u asked (without_target asked) miss_price
+        (least_where network H u (without_target asked) moves.some_miss))
       where
-        at : (side : Side) × IsSide network H u asked (with_target asked) side × IsOpenSide side → (side : Side) × IsSide network H u asked (without_target asked) side × IsOpenSide side
+        OpenSide : (List ℕ → Bool) → Type 0
+        OpenSide test = (side : Side) × IsSide network H u asked test side
+            × IsOpenSide (IsSound network H) side
+
+        at : OpenSide (with_target asked) → OpenSide (without_target asked)
             → HasSides network H u asked
         at h m = record { hit = h.0; miss = m.0; sides = record { hit_side = h.1; miss_side = m.1 }; hit_open = h.2; miss_open = m.2 }
 
-    pub right_limits_exist_for : (u : ℕ) → IsSound network H → (limits : Option (ℕ × ℕ)) × AreRightLimits network H u asked limits
-    right_limits_exist_for u sound = at (sides_exist_for u sound)
+    pub right_limits_exist_for : (u : ℕ)
+        → (limits : Option (ℕ × ℕ)) × AreRightLimits network H u asked limits
+    right_limits_exist_for u = at (sides_exist_for u)
       where
         of : (found : HasSides network H u asked) → (limits : Option (ℕ × ℕ)) × AreRight ⊤ found.hit found.miss limits → (limits : Option (ℕ × ℕ)) × AreRightLimits network H u asked limits
         of found l = (l.0, record { hit = found.hit; miss = found.miss; sides = found.sides; right = right_in (IsSmall network H) found.hit found.miss (l.0) (l.1) })
@@ -164,13 +182,18 @@ module _ (network : List Variable) (H : List Entry) (net : IsNetwork network) (p
 pub price_exists : (network : List Variable) (H : List Entry) (asked : Asked) → IsNetwork network → IsProper network H → CanBeAsked network H asked → HasPrice network H asked
 price_exists network H asked net proper open_for = price_exists_for network H net proper asked open_for
 
-pub least_gain_exists : (network : List Variable) (H : List Entry) (u : ℕ) → IsNetwork network → IsProper network H → IsSound network H → HasLeast network H u
-least_gain_exists network H u net proper sound = least_exists_for network H net proper u sound
+pub least_gain_exists : (network : List Variable) (H : List Entry) (u : ℕ) → IsNetwork network
+    → IsProper network H → HasLeast network H u
+least_gain_exists network H u net proper = least_exists_for network H net proper u
 
-pub sides_exist : (network : List Variable) (H : List Entry) (u : ℕ) (asked : Asked) → IsNetwork network → IsProper network H → IsSound network H
+pub sides_exist : (network : List Variable) (H : List Entry) (u : ℕ) (asked : Asked)
+    → IsNetwork network → IsProper network H
     → CanMove network H asked → HasSides network H u asked
-sides_exist network H u asked net proper sound open_for = sides_exist_for network H net proper asked open_for u sound
+sides_exist network H u asked net proper open_for =
+    sides_exist_for network H net proper asked open_for u
 
-pub right_limits_exist : (network : List Variable) (H : List Entry) (u : ℕ) (asked : Asked) → IsNetwork network → IsProper network H → IsSound network H
+pub right_limits_exist : (network : List Variable) (H : List Entry) (u : ℕ) (asked : Asked)
+    → IsNetwork network → IsProper network H
     → CanMove network H asked → (limits : Option (ℕ × ℕ)) × AreRightLimits network H u asked limits
-right_limits_exist network H u asked net proper sound open_for = right_limits_exist_for network H net proper asked open_for u sound
+right_limits_exist network H u asked net proper open_for =
+    right_limits_exist_for network H net proper asked open_for u

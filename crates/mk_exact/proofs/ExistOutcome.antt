@@ -126,15 +126,22 @@ module _ (network : List Variable) (H : List Entry) (net : IsNetwork network) (p
       at t = only_one (IsState (sizes network)) (possible_states network H always) (one_possible (t.0) (t.1).0.0 (t.1).0.1 (t.1).1)
           (each_weaker Here (IsState (sizes network)) (λ s h. h.0.0) (possible_states network H always) possible_are)
 
-pub outcome_exists : (network : List Variable) (H : List Entry) → IsNetwork network → IsProper network H → IsSound network H
+pub outcome_exists : (network : List Variable) (H : List Entry)
+    → IsNetwork network → IsProper network H
     → ((v : ℕ) → v < length network → speaks_of (resolutions H) v ≡ true) → HasOutcome network H
-outcome_exists network H net proper sound resolved = at (one_state network H net proper resolved)
+outcome_exists network H net proper resolved = at (one_state network H net proper resolved)
   where
     at : (s : List ℕ) × (possible_states network H always ≡ s ∷ []) × IsState (sizes network) s → HasOutcome network H
-    at one = record { state = one.0; one_state = one.1; safe = λ u. safe_factor H u (gain H u (one.0)) (least u) }
+    at one = record {
+      state = one.0;
+      one_state = one.1;
+      safe = λ sound u. safe_factor H u (gain H u (one.0)) (least sound u);
+    }
       where
-        in_each : (u : ℕ) → AllByRecursion (λ s. IsAtLeastOne (factor H u s)) (possible_states network H always)
-        in_each u = recursion_from_All (λ s. IsAtLeastOne (factor H u s)) (possible_states network H always) (sound.solvent u)
+        in_each : IsSound network H → (u : ℕ)
+            → AllByRecursion (λ s. IsAtLeastOne (factor H u s)) (possible_states network H always)
+        in_each sound u = recursion_from_All (λ s. IsAtLeastOne (factor H u s))
+            (possible_states network H always) (sound.solvent u)
 
-        least : (u : ℕ) → IsAtLeastOne (factor H u (one.0))
-        least u = (rw (one.1) at (in_each u)).0
+        least : IsSound network H → (u : ℕ) → IsAtLeastOne (factor H u (one.0))
+        least sound u = (rw (one.1) at (in_each sound u)).0

@@ -152,49 +152,52 @@ abbrev pub PriceExists : Type 0
 PriceExists = (network : List Variable) (H : List Entry) (asked : Asked) → IsNetwork network → IsProper network H
     → CanBeAsked network H asked → HasPrice network H asked
 
--- a user's least gain over the possible states, whose factor is at least one
+-- a user's least gain over the possible states, whose factor is at least one where the history is sound
 pub record HasLeast (network : List Variable) (H : List Entry) (u : ℕ) : Type 0 where
   pub least : ℕ
   pub is_least : least_gain network H u always ≡ Some least
-  pub safe : IsSafeFactor (factor_with H u least)
+  pub safe : IsSound network H → IsSafeFactor (factor_with H u least)
 
--- in a sound market each user has one
+-- in a proper history each user has one
 abbrev pub LeastExists : Type 0
-LeastExists = (network : List Variable) (H : List Entry) (u : ℕ) → IsNetwork network → IsProper network H → IsSound network H
-    → HasLeast network H u
+LeastExists = (network : List Variable) (H : List Entry) (u : ℕ)
+    → IsNetwork network → IsProper network H → HasLeast network H u
 
--- a positive price of at most one, and a factor of at least one
-pub record IsOpenSide (side : Side) : Type 0 where
+-- a positive price of at most one, and where the history is sound a factor of at least one
+pub record IsOpenSide (sound : Type 0) (side : Side) : Type 0 where
   pub price : IsPositivePrice side.price
-  pub least : IsSafeFactor side.least
+  pub least : sound → IsSafeFactor side.least
 
 -- the two sides of a question
 pub record HasSides (network : List Variable) (H : List Entry) (u : ℕ) (asked : Asked) : Type 0 where
   pub hit : Side
   pub miss : Side
   pub sides : AreSides network H u asked hit miss
-  pub hit_open : IsOpenSide hit
-  pub miss_open : IsOpenSide miss
+  pub hit_open : IsOpenSide (IsSound network H) hit
+  pub miss_open : IsOpenSide (IsSound network H) miss
 
--- in a sound market each question that can be asked has both sides, for each user
+-- in a proper history each question whose price can move has both sides, for each user
 abbrev pub SidesExist : Type 0
-SidesExist = (network : List Variable) (H : List Entry) (u : ℕ) (asked : Asked) → IsNetwork network → IsProper network H → IsSound network H
+SidesExist = (network : List Variable) (H : List Entry) (u : ℕ) (asked : Asked)
+    → IsNetwork network → IsProper network H
     → CanMove network H asked → HasSides network H u asked
 
 -- and right limits
 abbrev pub RightLimitsExist : Type 0
-RightLimitsExist = (network : List Variable) (H : List Entry) (u : ℕ) (asked : Asked) → IsNetwork network → IsProper network H → IsSound network H
+RightLimitsExist = (network : List Variable) (H : List Entry) (u : ℕ) (asked : Asked)
+    → IsNetwork network → IsProper network H
     → CanMove network H asked → (limits : Option (ℕ × ℕ)) × AreRightLimits network H u asked limits
 
--- the one state that is possible; each user's factor in it is at least one
+-- the one state that is possible; where the history is sound each user's factor in it is at least one
 pub record HasOutcome (network : List Variable) (H : List Entry) : Type 0 where
   pub state : List ℕ
   pub one_state : possible_states network H always ≡ state ∷ []
-  pub safe : (u : ℕ) → IsSafeFactor (factor H u state)
+  pub safe : IsSound network H → (u : ℕ) → IsSafeFactor (factor H u state)
 
--- in a sound market whose variables are all resolved one state is left
+-- in a proper history whose variables are all resolved one state is left
 abbrev pub OutcomeExists : Type 0
-OutcomeExists = (network : List Variable) (H : List Entry) → IsNetwork network → IsProper network H → IsSound network H
+OutcomeExists = (network : List Variable) (H : List Entry)
+    → IsNetwork network → IsProper network H
     → ((v : ℕ) → v < length network → speaks_of (resolutions H) v ≡ true) → HasOutcome network H
 
 -- a history of at most 65,536 trades, their units below 2^63, and at most 65,536 transfers, with at most 1,000 bits in each deposit

@@ -77,12 +77,13 @@ pub fn price_exists()
     ensures { PriceExists }
 {}
 
-/// In a sound market each user has a least gain over the possible states, whose factor is at least one.
+/// In a proper history each user has a least gain over the possible states, and where it is sound
+/// the factor of that is at least one.
 pub fn least_exists()
     ensures { LeastExists }
 {}
 
-/// In a sound market each question that can be asked has both sides, for each user.
+/// In a proper history each question whose price can move has both sides, for each user.
 pub fn sides_exist()
     ensures { SidesExist }
 {}
@@ -92,7 +93,8 @@ pub fn right_limits_exist()
     ensures { RightLimitsExist }
 {}
 
-/// In a sound market whose variables are all resolved one state is left, and each user's factor in it is at least one.
+/// In a proper history whose variables are all resolved one state is left, and where it is sound each
+/// user's factor in it is at least one.
 pub fn outcome_exists()
     ensures { OutcomeExists }
 {}

@@ -142,9 +142,10 @@ can_move network H spread can k p comes = record {
     other : (j : ℕ) × (value_cannot_come network H spread j ≡ false) × (j ≡ k → ⊥) → 1 ≤ length (possible_states network H (without_target (asked_of spread k)))
     other r = other_comes network H spread (r.0) k (r.2) (r.1)
 
-module _ (network : List Variable) (H : List Entry) (u : ℕ) (spread : SpreadAsked) (net : IsNetwork network) (proper : IsProper network H) (sound : IsSound network H) (can : CanBeSpread network H spread) where
+module _ (network : List Variable) (H : List Entry) (u : ℕ) (spread : SpreadAsked)
+    (net : IsNetwork network) (proper : IsProper network H) (can : CanBeSpread network H spread) where
   abbrev IsOpen : Option Side → Type 0
-  IsOpen side = IfSome side IsOpenSide
+  IsOpen side = IfSome side (IsOpenSide (IsSound network H))
 
   value_side : (k : ℕ) → k < slice_index (sizes network) spread.variable → (side : Option Side) × IsValueSide network H u spread k side × IsOpen side
   value_side k p = at (value_cannot_come network H spread k) refl
@@ -154,7 +155,7 @@ module _ (network : List Variable) (H : List Entry) (u : ℕ) (spread : SpreadAs
 
       at : (b : Bool) → value_cannot_come network H spread k ≡ b → (side : Option Side) × IsValueSide network H u spread k side × IsOpen side
       at true e = (None, no_side network H spread u k e, tt)
-      at false e = of_both (sides_exist network H u (asked_of spread k) net proper sound (can_move network H spread can k p e))
+      at false e = of_both (sides_exist network H u (asked_of spread k) net proper (can_move network H spread can k p e))
 
   pub value_sides_exist : HasValueSides network H u spread
   value_sides_exist = listed (range_of (IsValueSide network H u spread) IsOpen (slice_index (sizes network) spread.variable) 0 (λ k p q. value_side k (omega arith)))

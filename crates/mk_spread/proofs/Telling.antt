@@ -219,8 +219,8 @@ module _ (network : List Variable) (H : List Entry) (u b : ℕ) (spread : Spread
       at true e = (None, no_side network H spread u k e, tt)
       at false e =
           let some = can_come_is network H (comes k) e in
-          let least = least_where network H u (comes k) sound some in
-          covered (least.0) (least.1) (least.2)
+          let least = least_where network H u (comes k) some in
+          covered (least.0) (least.1) (least.2 sound)
 
   pub position_exists : IsSound network H →
       (intervals : List (Option (ℕ × ℕ))) × IsPosition intervals

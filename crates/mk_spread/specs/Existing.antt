@@ -22,20 +22,24 @@ BoundsExist = (sides : List (Option Side)) → AllByRecursion (λ (side : Option
 abbrev pub InsideEachIsDecided : Type 0
 InsideEachIsDecided = (intervals : Intervals) (Xs : List ℕ) → InsideEach intervals Xs ⊎ (¬ InsideEach intervals Xs)
 
--- a side for each value that can come, with a positive price of at most one and a factor of at least one
+-- a side for each value that can come, with a positive price of at most one, and where the history is
+-- sound a factor of at least one
 pub record HasValueSides (network : List Variable) (H : List Entry) (u : ℕ) (spread : SpreadAsked) : Type 0 where
   pub sides : List (Option Side)
   pub are_sides : AreValueSides network H u spread sides
-  pub each_open : AllByRecursion (λ (side : Option Side). IfSome side IsOpenSide) sides
+  pub each_open : AllByRecursion (λ (side : Option Side). IfSome side (IsOpenSide (IsSound network H)))
+      sides
 
--- in a sound market each distribution that can be asked about has them, for each user
+-- in a proper history each distribution that can be asked about has them, for each user
 abbrev pub ValueSidesExist : Type 0
-ValueSidesExist = (network : List Variable) (H : List Entry) (u : ℕ) (spread : SpreadAsked) → IsNetwork network → IsProper network H → IsSound network H
+ValueSidesExist = (network : List Variable) (H : List Entry) (u : ℕ) (spread : SpreadAsked)
+    → IsNetwork network → IsProper network H
     → CanBeSpread network H spread → HasValueSides network H u spread
 
 -- and right bounds
 abbrev pub RightBoundsExist : Type 0
-RightBoundsExist = (network : List Variable) (H : List Entry) (u : ℕ) (spread : SpreadAsked) → IsNetwork network → IsProper network H → IsSound network H
+RightBoundsExist = (network : List Variable) (H : List Entry) (u : ℕ) (spread : SpreadAsked)
+    → IsNetwork network → IsProper network H
     → CanBeSpread network H spread → (intervals : Intervals) × AreRightBoundsOf network H u spread intervals
 
 -- an interval of shares: in order within 1 to 999,999, or of nothing alone

@@ -11,7 +11,8 @@ pub fn inside_each_is_decided()
     ensures { InsideEachIsDecided }
 {}
 
-/// In a sound market each distribution that can be asked about has a side for each value that can come, for each user.
+/// In a proper history each distribution that can be asked about has a side for each value that can
+/// come, for each user.
 pub fn value_sides_exist()
     ensures { ValueSidesExist }
 {}
