@@ -30,7 +30,8 @@ choices_positive ns n some [] h = omega arith
 choices_positive ns n some (p ∷ parents) h =
     one-le-mul (some p h.0) (choices_positive ns n some parents h.1)
 
-filter_below : (p q : ℕ → Bool) (n a : ℕ) → ((k : ℕ) → a ≤ k → k < a + n → p k ≡ q k) →
+-- tests that agree on some numbers keep the same of them
+pub filter_below : (p q : ℕ → Bool) (n a : ℕ) → ((k : ℕ) → a ≤ k → k < a + n → p k ≡ q k) →
     filter p (range_with_len a n) ≡ filter q (range_with_len a n)
 filter_below p q zero a h = refl
 filter_below p q (suc n) a h =
@@ -51,6 +52,12 @@ module _ (network : List Variable) (v : Variable) where
       ap (λ ns. slice_index ns p) sizes_more
       ∙ get_or_append_left (sizes network) (length v.values ∷ []) 0 p
       (omega (arith, h, length-map network (λ (w : Variable). length w.values)))
+
+  pub size_last : slice_index (sizes (network ++ v ∷ [])) (length network) ≡ length v.values
+  size_last =
+      ap (λ ns. slice_index ns (length network)) sizes_more
+      ∙ get_or_push (sizes network) (length v.values) 0 (length network)
+      (length-map network (λ (w : Variable). length w.values))
 
   pub variable_before : (k : ℕ) → k < length network →
       variable_at (network ++ v ∷ []) k ≡ variable_at network k

@@ -8,10 +8,10 @@ use Rattle.mk_tree.specs.declared.fault.TreeFault.TheVariants.{Cover, NotRunning
 use Rattle.mk_tree.specs.Given.{GivenTree, AreLinked, AreOfNetwork}
 use Rattle.mk_tree.specs.Tests.{is_covered, has_one_top, first_failing, first_too_large, tree_fault}
 use Rattle.mk_tree.specs.Checked.{IsTreeOf}
-use Rattle.mk_tree.proofs.Tops.{connected_of_one_top}
+use Rattle.mk_tree.proofs.Tops.{connected_of_one_top, one_top_of_connected}
 use Rattle.mk_tree.proofs.Tested.{one_top_outside}
-use Rattle.mk_tree.proofs.Found.{passes_where_none}
-use Rattle.mk_tree.proofs.Cells.{each_small, all_small}
+use Rattle.mk_tree.proofs.Found.{passes_where_none, none_failing}
+use Rattle.mk_tree.proofs.Cells.{each_small, all_small, none_too_large}
 
 -- the three tests that pass where there is no fault
 no_faults : (cover running cells : Option ℕ)
@@ -37,3 +37,18 @@ tree_without_fault network t linked inside e =
     one : first_failing network (has_one_top t) ≡ None → (x : ℕ) → ((x < length network) ⊎ (length network ≤ x)) → has_one_top t x ≡ true
     one none x (inl within) = passes_where_none network (has_one_top t) none x within
     one none x (inr outside) = one_top_outside network t inside x outside
+
+-- and a tree has no fault
+pub tree_is_faultless : (network : List Variable) (t : GivenTree) → IsTreeOf network t → tree_fault network t ≡ None
+tree_is_faultless network t tree = none (first_failing network (is_covered network t.cliques))
+    (first_failing network (has_one_top t)) (first_too_large network 1 0 t.cliques)
+    (none_failing network (is_covered network t.cliques) tree.covers)
+    (none_failing network (has_one_top t) (λ x within. one_top_of_connected t tree.linked x (tree.running x)))
+    (none_too_large network 1 0 t.cliques tree.small_cliques (omega (arith, tree.few_cells)))
+  where
+    none : (cover running cells : Option ℕ) → None ≡ cover → None ≡ running → cells ≡ None
+        → first_of (option_map Cover cover ∷ option_map NotRunning running ∷ option_map Cells cells ∷ []) ≡ None
+    none None None None a b c = refl
+    none (Some x) running cells a b c = absurd (cc)
+    none None (Some x) cells a b c = absurd (cc)
+    none None None (Some x) a b c = absurd (cc)

@@ -6,3 +6,5 @@ pub mod Tested
 pub mod Cells
 pub mod Faultless
 pub mod Held
+pub mod Leaf
+pub mod Grown

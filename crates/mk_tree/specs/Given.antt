@@ -4,7 +4,7 @@ use Rattle.std.specs.List.{list_all}
 use Rattle.mk_net.specs.declared.words.Pair.{Pair}
 use Rattle.mk_net.specs.declared.sets.VarSet.{VarSet}
 use Rattle.mk_net.specs.Sets.{is_member, no_variables}
-use Rattle.mk_net.specs.Bounds.{max_cliques}
+use Rattle.mk_net.specs.Bounds.{max_variables, max_cliques}
 use Rattle.mk_net.specs.Network.{Variable}
 use Rattle.mk_sums.specs.Trees.{Links, Joined}
 
@@ -25,10 +25,14 @@ holds t k x = is_member (clique_at t k) x
 abbrev pub link_of : GivenTree → ℕ → ℕ
 link_of t k = slice_index t.links (k - 2)
 
--- 1 to 256 cliques, each after the first with its link to an earlier one
+-- cliques of a tree: those of a file, and one for each question that is added later to at least one variable
+abbrev pub max_tree_cliques : ℕ
+max_tree_cliques = max_cliques + (max_variables - 1)
+
+-- 1 to 511 cliques, each after the first with its link to an earlier one
 pub record AreLinked (t : GivenTree) : Type 0 where
   pub some : 1 ≤ length t.cliques
-  pub few : length t.cliques ≤ max_cliques
+  pub few : length t.cliques ≤ max_tree_cliques
   pub one_link_each : length t.links + 1 ≡ length t.cliques
   pub earlier : Links (link_of t) (length t.cliques)
 

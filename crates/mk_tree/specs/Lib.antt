@@ -3,3 +3,4 @@ pub mod Tests
 pub mod Checked
 pub mod Laws
 pub mod Held
+pub mod Grown

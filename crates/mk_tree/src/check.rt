@@ -1,6 +1,7 @@
 //! What a tree is refused for.
 
-ghost use Rattle.std.specs.Prelude.{◌≡◌, ℕ, ◌+◌, ◌<◌, ◌≤◌, ◌↔◌, List, length, not, true, Some, None, nat_le, if◌then◌else◌};
+ghost use Rattle.std.specs.Prelude.{◌≡◌, ℕ, ◌+◌, ◌<◌, ◌≤◌, ◌↔◌, List, length, not, true, Some, None, nat_le, if◌then◌else◌, All, sum_by};
+ghost use Rattle.mk_net.specs.Bounds.{max_clique_cells, max_cells};
 ghost use Rattle.mk_net.specs.Sets.{is_member, IsSubset};
 ghost use Rattle.mk_net.specs.Network.{Variable, IsNetwork};
 ghost use Rattle.mk_tree.specs.Given.{AreLinked, AreOfNetwork};
@@ -111,7 +112,7 @@ fn top_variables(cliques: &[VarSet], links: &[u32], place: usize) -> VarSet
 fn first_too_large(net: &Network, cliques: &[VarSet]) -> Option<u32>
     requires network { IsNetwork net.now }
     requires of_network { AreOfNetwork net.now cliques.now }
-    requires few { length cliques.now ≤ 256 }
+    requires few { length cliques.now ≤ 511 }
     ensures { result ≡ first_too_large net.now 1 0 cliques.now }
 {
     let mut total = 0;
@@ -122,6 +123,31 @@ fn first_too_large(net: &Network, cliques: &[VarSet]) -> Option<u32>
         }
     }
     None
+}
+
+/// How many cells the cliques of a tree have together.
+pub(crate) fn total_cells(net: &Network, cliques: &[VarSet]) -> u32
+    requires of_network { AreOfNetwork net.now cliques.now }
+    requires small { All (λ set. cells_of net.now set ≤ max_clique_cells) cliques.now }
+    requires few { sum_by (cells_of net.now) cliques.now ≤ max_cells }
+    ensures { result ≡ sum_by (cells_of net.now) cliques.now }
+{
+    let mut total = 0;
+    'cliques: for clique in cliques {
+        total += clique_cells(net, clique).unwrap();
+    }
+    total
+}
+
+/// How many cells a clique of a network's variables has: one for each list of their values. None exactly where it has
+/// more than 4,096.
+pub fn clique_cells(net: &Network, clique: &VarSet) -> Option<u32>
+    requires of_network { (x : ℕ) → is_member clique.now x ≡ true → x < length net.now }
+    ensures { result ≡ (if nat_le (cells_of net.now clique.now) max_clique_cells then Some (cells_of net.now clique.now) else None) }
+{
+    // The call says that this is a network.
+    let _ = net.variables();
+    cells(net, clique)
 }
 
 /// How many cells a clique has. None exactly where it has more than 4,096.

@@ -6,6 +6,7 @@ mod fault;
 mod laws;
 mod tree;
 
+pub use check::clique_cells;
 pub use fault::TreeFault;
 pub use laws::one_top_is_connected;
 pub use tree::Tree;

@@ -1,12 +1,14 @@
 //! A checked tree.
 
 ghost use Rattle.std.specs.Prelude.{◌≡◌, ◌≢◌, ℕ, ◌<◌, ◌≤◌, [], ◌∷◌, length, None, Some, IfOk};
-ghost use Rattle.std.specs.Prelude.{IfErr, IfSome, position};
+ghost use Rattle.std.specs.Prelude.{IfErr, IfSome, position, sum_by};
 ghost use Rattle.mk_tree.specs.Given.{AreLinked, AreOfNetwork, clique_at, link_of, home, holds_event};
-ghost use Rattle.mk_tree.specs.Tests.{tree_fault};
+ghost use Rattle.mk_tree.specs.Tests.{cells_of, tree_fault};
 ghost use Rattle.mk_tree.specs.Checked.{IsTreeOf};
+ghost use Rattle.mk_tree.specs.Grown.{with_clique, IsBehind};
+ghost use Rattle.mk_net.specs.Bounds.{max_cells};
 
-use crate::check::find_fault;
+use crate::check::{find_fault, total_cells};
 use crate::fault::TreeFault;
 use mk_net::{Event, Network, NoMemory, Pair, VarSet};
 use std::alloc::Global;
@@ -94,6 +96,39 @@ impl Tree {
         let mut links = Vec::new(alloc);
         cliques.extend_from_slice(&self.cliques)?;
         links.extend_from_slice(&self.links)?;
+        Ok(Tree { cliques, links })
+    }
+
+    /// How many cells all cliques have together, in a network of which this is a tree.
+    pub fn cells(&self, net: &Network) -> u32
+        requires tree { IsTreeOf net.now self.now }
+        ensures cells { result ≡ sum_by (cells_of net.now) self.now.cliques }
+        ensures few { result ≤ max_cells }
+    {
+        total_cells(net, &self.cliques)
+    }
+
+    /// The tree with one clique more, put last and linked to clique `link`. The network is the tree's with one more
+    /// variable. The clique holds that variable and its parents, and clique `link` holds the clique's other variables.
+    /// It fails where memory is wanting.
+    pub fn with_clique(
+        &self,
+        alloc: Global,
+        net: &Network,
+        clique: &VarSet,
+        link: u32,
+    ) -> Result<Tree, NoMemory>
+        requires behind { IsBehind net.now self.now clique.now link }
+        ensures longer { IfOk result (λ tree. tree ≡ with_clique self.now clique.now link) }
+        ensures tree { IfOk result (λ tree. IsTreeOf net.now tree) }
+        ensures faultless { IfOk result (λ tree. tree_fault net.now tree ≡ None) }
+    {
+        let Tree {
+            mut cliques,
+            mut links,
+        } = self.copy(alloc)?;
+        cliques.push(*clique)?;
+        links.push(link)?;
         Ok(Tree { cliques, links })
     }
 
