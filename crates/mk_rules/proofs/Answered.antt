@@ -111,8 +111,8 @@ module _ (market : Market) (now : Standing) (is_market : IsMarket market) (ready
   of_least : (u : ℕ) (P : Fraction → Reply → Type 0) → ((q : Fraction) → IsSafeFactor q → (reply : Reply) × P q reply)
       → (reply : Reply) × IsSomeAnd (least_gain network H u always) (λ g. P (factor_with H u g) reply)
   of_least u P each =
-      let has = least_gain_exists network H u is_market.network ready.stands.proper ready.stands.sound in
-      let reply = each (factor_with H u has.least) has.safe in
+      let has = least_gain_exists network H u is_market.network ready.stands.proper in
+      let reply = each (factor_with H u has.least) (has.safe ready.stands.sound) in
       (reply.0, subst (λ (o : Option ℕ). IsSomeAnd o (λ g. P (factor_with H u g) reply.0)) (sym has.is_least) reply.1)
 
   trade_at : (u : ℕ) (asked : Asked) (X : ℕ) → HasFairPair network H u asked X → (reply : Reply) × IsTrade network H u asked X reply
@@ -131,7 +131,7 @@ module _ (market : Market) (now : Standing) (is_market : IsMarket market) (ready
   judged_afresh u asked X can = at limits.0 limits.1 (limits_judge network H u asked limits.0 X limits.1)
     where
       limits : (limits : Interval) × AreRightLimits network H u asked limits
-      limits = right_limits_exist network H u asked is_market.network ready.stands.proper ready.stands.sound can
+      limits = right_limits_exist network H u asked is_market.network ready.stands.proper can
 
       at : (limits : Interval) → AreRightLimits network H u asked limits → ((Inside limits X × HasFairPair network H u asked X) ⊎ (¬ Inside limits X))
           → (reply : Reply) × IsJudgedAfresh network H u asked X reply
@@ -159,7 +159,7 @@ module _ (market : Market) (now : Standing) (is_market : IsMarket market) (ready
 
   bounds_at : (u : ℕ) (spread : SpreadAsked) → CanBeSpread network H spread → (reply : Reply) × IsBounds network H u spread reply
   bounds_at u spread can =
-      let bounds = right_bounds_exist network H u spread is_market.network ready.stands.proper ready.stands.sound can in
+      let bounds = right_bounds_exist network H u spread is_market.network ready.stands.proper can in
       let box = boxed bounds.0 in
       (Bounded box.0 (revision H), record { box = box.0; printed = refl; right = subst (AreRightBoundsOf network H u spread) (sym box.1) bounds.1 })
 
@@ -177,7 +177,7 @@ module _ (market : Market) (now : Standing) (is_market : IsMarket market) (ready
   spread_afresh u spread Xs can = at bounds.0 bounds.1 (bounds_judge network H u spread bounds.0 Xs bounds.1)
     where
       bounds : (intervals : Intervals) × AreRightBoundsOf network H u spread intervals
-      bounds = right_bounds_exist network H u spread is_market.network ready.stands.proper ready.stands.sound can
+      bounds = right_bounds_exist network H u spread is_market.network ready.stands.proper can
 
       at : (intervals : Intervals) → AreRightBoundsOf network H u spread intervals → ((InsideEach intervals Xs × HasFairList network H u spread Xs) ⊎ (¬ InsideEach intervals Xs))
           → (reply : Reply) × IsSpreadJudgedAfresh network H u spread Xs reply
@@ -208,8 +208,8 @@ module _ (market : Market) (now : Standing) (is_market : IsMarket market) (ready
 
   settlement : ((v : ℕ) → v < length network → speaks_of (resolutions H) v ≡ true) → (reply : Reply) × IsSettlement network H market.points_per_bit reply
   settlement each =
-      let outcome = outcome_exists network H is_market.network ready.stands.proper ready.stands.sound each in
-      let paid = payments_from outcome.state outcome.safe 0 (users H) in
+      let outcome = outcome_exists network H is_market.network ready.stands.proper each in
+      let paid = payments_from outcome.state (outcome.safe ready.stands.sound) 0 (users H) in
       (Settled (revision H + 1) (paid.0), record { state = outcome.state; one_state = outcome.one_state; payments = paid.0; printed = refl; paid = paid.1 })
 
   answered : (command : Command) → first_refusal market H command ≡ None → HasAnswer command
@@ -227,7 +227,7 @@ module _ (market : Market) (now : Standing) (is_market : IsMarket market) (ready
   answered (Limits u q) none =
       let refused = none_applies (refusals market H (Limits u q)) none in
       let asked = question_exists network q refused.1.1.0 in
-      let limits = right_limits_exist network H (user_number H u) asked.0 is_market.network ready.stands.proper ready.stands.sound
+      let limits = right_limits_exist network H (user_number H u) asked.0 is_market.network ready.stands.proper
       (can_move network H q asked.0 (can_be_asked network H q asked.0 ready.stands.proper asked.1 refused.1.1.0 refused.1.1.1.0 refused.1.1.1.1.0 refused.1.1.1.1.1.1.1.0) asked.1 refused.1.1.1.1.1.1.1.1.0) in
       of_named (question_named network q) (IsLimits network H (user_number H u)) asked.0 asked.1 (Limited limits.0 (revision H), record { limits = limits.0; printed = refl; right = limits.1 })
   answered (Edit u q X seen) none =

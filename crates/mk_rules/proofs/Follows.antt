@@ -144,7 +144,7 @@ names_keep_bounds market now NoCommand reply is_market joins bounded h = bounded
 names_keep_bounds market now LongLine reply is_market joins bounded h = bounded
 
 -- a command that is a text joins a user by a name
-joins_by_name : (line : Line) → IsLine line → JoinsByName line
+pub joins_by_name : (line : Line) → IsLine line → JoinsByName line
 joins_by_name (OfCommand (User u)) text = text
 joins_by_name (OfCommand (Deposit u bits)) text = tt
 joins_by_name (OfCommand (Withdraw u bits)) text = tt
