@@ -129,7 +129,7 @@ module _ (network : List Variable) (tree : GivenTree) (H : List Entry) (u : ℕ)
   -- the least gain over all possible states
   pub always_some : 1 ≤ exact_belief least (gains_of network tree H u) []
   always_some =
-      let has = least_gain_exists network H u is_open.legal is_open.proper is_open.sound in
+      let has = least_gain_exists network H u is_open.legal is_open.proper in
       (present_is (exact_belief least (gains_of network tree H u) []) has.least (sym (all_is_least network tree H u is_open.legal is_open.proper) ∙ has.is_least)).1
 
   pub always_is : (g : ℕ) → least_gain network H u always ≡ Some g → exact_belief least (gains_of network tree H u) [] ≡ g
@@ -138,7 +138,7 @@ module _ (network : List Variable) (tree : GivenTree) (H : List Entry) (u : ℕ)
   -- which is one where the user holds no trade
   always_one : HoldsNoTrade H u → exact_belief least (gains_of network tree H u) [] ≡ 1
   always_one none =
-      let has = least_gain_exists network H u is_open.legal is_open.proper is_open.sound in
+      let has = least_gain_exists network H u is_open.legal is_open.proper in
       let one : IfSome (least_gain network H u always) (λ g. g ≡ 1) = of_least (gain H u)
       (λ g. g ≡ 1) (possible_states network H always)
       (each_one (possible_states network H always)) in

@@ -14,6 +14,7 @@ use Rattle.mk_exact.specs.Existing.{IsInOrder, IsSafeFactor}
 use Rattle.mk_exact.specs.Factors.{Fraction, HoldsNoTrade, gain, factor_with, least_gain}
 use Rattle.mk_exact.specs.Factors.{IsAtLeastOne}
 use Rattle.mk_exact.specs.History.{Entry, deposited, withdrawn}
+use Rattle.mk_exact.specs.Sound.{IsSound}
 use Rattle.mk_exact.specs.Weight.{IsSmall, cannot_come, possible_states}
 use Rattle.mk_exact.proofs.Coming.{never_by_least}
 use Rattle.mk_exact.proofs.ExistMarkets.{of_least, least_where}
@@ -153,12 +154,13 @@ module _ (network : List Variable) (tree : GivenTree) (H : List Entry) (u : ℕ)
             b ≤ max_points_per_bit → HasPowersInRange f b
         in_range = factor_in_range network tree H u is_open found most result f is least_is close
 
-        safe : IsAtLeastOne (factor_with H u found)
-        safe =
-            let least = least_where network H u (holds event) is_open.sound
+        safe : IsSound network H → IsAtLeastOne (factor_with H u found)
+        safe sound =
+            let least = least_where network H u (holds event)
             (can_come_is network H (holds event) comes) in
             let same : found ≡ least.0 = (let e = is_found in let d = least.1 in cc) in
-            subst (λ (g : ℕ). IsAtLeastOne (factor_with H u g)) (sym same) (least.2).at_least_one
+            subst (λ (g : ℕ). IsAtLeastOne (factor_with H u g)) (sym same)
+            (least.2 sound).at_least_one
 
         one : HoldsNoTrade H u → Encloses f.gain 1
         one none =
@@ -167,16 +169,16 @@ module _ (network : List Variable) (tree : GivenTree) (H : List Entry) (u : ℕ)
             encloses_least network tree H u is_open found most result f is least_is close 1 e
 
         -- its cash is what the user is sure of
-        pub sure : (b low high : ℕ) →
+        pub sure : IsSound network H → (b low high : ℕ) →
             ((q : Fraction) → StandsFor f q.num q.den → IsGradedWithin f.gain (2 ^ 17)
             → IsAtLeastOne q →
             CoversCash (IsExact f.gain) (Encloses f.gain 1) q b low high) →
             CoversLeast network H u b (holds event) (low, high)
-        sure b low high covers =
+        sure sound b low high covers =
             rw is_found
             (cash_for (IsSmall network H) (HoldsNoTrade H u) (IsExact f.gain) (Encloses f.gain 1)
             (factor_with H u found) b low high its.exact one
-            (covers (factor_with H u found) its.stands its.graded safe))
+            (covers (factor_with H u found) its.stands its.graded (safe sound)))
 
 -- an event of a question's condition and target is that its target comes
 pub sure_asked : (network : List Variable) (H : List Entry) (u b : ℕ) (asked : Asked)

@@ -7,7 +7,6 @@ use Rattle.mk_net.specs.Events.{pairs_asked}
 use Rattle.mk_exact.specs.History.{Entry, resolutions, deposited, withdrawn}
 use Rattle.mk_exact.specs.Factors.{Fraction}
 use Rattle.mk_exact.specs.Limits.{Side}
-use Rattle.mk_exact.specs.Sound.{IsSound}
 use Rattle.mk_exact.specs.Proper.{IsProper}
 use Rattle.mk_exact.specs.Existing.{IsInOrder, IsWithinBounds}
 use Rattle.mk_exact.specs.Laws.{AgreesWith}
@@ -25,12 +24,11 @@ use Rattle.mk_quote.specs.Values.{EncloseEach, AreEachGraded, AreEachExact}
 use Rattle.mk_beliefs.specs.Meanings.{gains_of}
 use Rattle.mk_assets.specs.Holdings.{Holding}
 
--- a market in use: a network with its tree, and a history that stands
+-- a market in use: a network with its tree, and a proper history within the bounds
 pub record IsOpen (network : List Variable) (tree : GivenTree) (H : List Entry) : Type 0 where
   pub legal : IsNetwork network
   pub tree_of_it : IsTreeOf network tree
   pub proper : IsProper network H
-  pub sound : IsSound network H
   pub within : IsWithinBounds H
 
 -- what a user's assets stand for then

@@ -8,6 +8,7 @@ use Rattle.mk_net.specs.Network.{Variable}
 use Rattle.mk_exact.specs.Events.{holds, with_target}
 use Rattle.mk_exact.specs.Factors.{least_gain}
 use Rattle.mk_exact.specs.History.{Entry}
+use Rattle.mk_exact.specs.Sound.{IsSound}
 use Rattle.mk_exact.specs.Weight.{cannot_come}
 use Rattle.mk_spread.specs.Spreads.{SpreadAsked, asked_of}
 use Rattle.mk_spread.specs.Told.{ArePricesOf, CoversLeast, IsPositionOf}
@@ -28,14 +29,14 @@ ArePricesFor network H spread (Some intervals) =
     (cannot_come network H (holds spread.condition) ≡ false)
     × ArePricesOf network H spread intervals.items
 
--- the same of what a user is sure of
+-- the same of what a user is sure of, where the history is sound
 abbrev pub IsPositionFor :
     List Variable → List Entry → ℕ → ℕ → SpreadAsked → Option (ArrayVec (Option (ℕ × ℕ))) → Type 0
 IsPositionFor network H u points_per_bit spread None =
     cannot_come network H (holds spread.condition) ≡ true
 IsPositionFor network H u points_per_bit spread (Some intervals) =
     (cannot_come network H (holds spread.condition) ≡ false)
-    × IsPositionOf network H u points_per_bit spread intervals.items
+    × (IsSound network H → IsPositionOf network H u points_per_bit spread intervals.items)
 
 -- the cash of a user's least factor where a question's target comes, or none where it cannot
 abbrev pub IsSureAt :

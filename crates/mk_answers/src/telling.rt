@@ -2,6 +2,7 @@
 ghost use Rattle.std.specs.Prelude.{◌≡◌, ◌≤◌, ℕ, List};
 ghost use Rattle.mk_net.specs.Bounds.{max_points_per_bit};
 ghost use Rattle.mk_exact.specs.History.{Entry};
+ghost use Rattle.mk_exact.specs.Sound.{IsSound};
 ghost use Rattle.mk_tree.specs.Given.{GivenTree};
 ghost use Rattle.mk_engine.specs.Meaning.{Meaning};
 ghost use Rattle.mk_beliefs.specs.Meanings.{weights_of};
@@ -52,7 +53,8 @@ pub fn prices_of<P: Engine<SumProd>>(
 /// For each value of a variable bounds on what a user is sure of where it comes and a condition
 /// holds, in points: the cash of the least factor there, and none for a value that cannot come.
 /// None at all where the condition cannot come. All is asked in a clique that holds the values with
-/// the condition. It leaves what the assets stand for as it was.
+/// the condition. Where the history isn't sound, nothing is said of the points. It leaves what the
+/// assets stand for as it was.
 pub fn position_of<A: Engine<MinProd>>(
     assets: &mut Assets<A>,
     net: &Network,
@@ -97,7 +99,7 @@ fn sure_of<A: Engine<MinProd>>(
         → Owns A.stands_for assets.new h }
     ensures sure { (tree : GivenTree) (H : List Entry) (u : ℕ)
         → Owns A.stands_for assets.old (holding_of net.now tree H u) → IsOpen net.now tree H
-        → IsSureAt net.now H u points_per_bit asked.now result }
+        → IsSound net.now H → IsSureAt net.now H u points_per_bit asked.now result }
 {
     match assets.least(at, &asked.event()) {
         None => None,

@@ -1,6 +1,7 @@
 -- A change that is taken back harms nothing, whatever its units are.
 use Rattle.std.proofs.Common.{◌≡◌, ℕ, ◌+◌, ◌<◌, ◌≤◌, List, [], ◌∷◌, ◌++◌, length, Option, Some}
 use Rattle.std.proofs.Common.{None, IfSome, refl, sym, ◌∙◌, subst, append-nil}
+use Rattle.std.specs.Prelude.{⊤}
 use Rattle.std.specs.Prelude.{option_to_list}
 use Rattle.std.specs.List.{AllByRecursion, All, count_by}
 use Rattle.std.proofs.lemmas.Bool.{leb-false}
@@ -29,15 +30,18 @@ use Rattle.mk_command.specs.declared.command.Command.TheVariants.{Worst, Resolve
 use Rattle.mk_command.specs.declared.command.Command.TheVariants.{Prices, Position, Status}
 use Rattle.mk_command.specs.Commands.{IsCommand}
 use Rattle.mk_reply.specs.declared.reply.Reply.{Reply}
-use Rattle.mk_reply.specs.declared.reply.Reply.TheVariants.{Traded, Spreaded, Resolved}
+use Rattle.mk_reply.specs.declared.reply.Reply.TheVariants.{Joined, Deposited, Withdrawn, Traded}
+use Rattle.mk_reply.specs.declared.reply.Reply.TheVariants.{Spreaded, Resolved, Settled, Bounded}
+use Rattle.mk_reply.specs.declared.reply.Reply.TheVariants as replies
 use Rattle.mk_reply.specs.Replies.{IsReply, IsRatio}
 use Rattle.mk_rules.specs.Refusals.{user_number, no_user, range, transfers_full}
 use Rattle.mk_rules.specs.Answers.{entry_of, next_history}
 use Rattle.mk_rules.specs.Standings.{IsMarket, IsInClique}
-use Rattle.mk_rules.specs.Bounded.{IsTransferOf}
+use Rattle.mk_rules.specs.Bounded.{IsTransferOf, JoinsByName}
+use Rattle.mk_rules.specs.Transcript.{OfCommand}
 use Rattle.mk_rules.proofs.Appended.{Appends, reply_appends}
 use Rattle.mk_rules.proofs.Bounds.{MayFollow, entry_bounded}
-use Rattle.mk_rules.proofs.Follows.{opening_is_bounded}
+use Rattle.mk_rules.proofs.Follows.{opening_is_bounded, joins_by_name}
 use Rattle.mk_rules.proofs.Coming.{some_with_pair}
 use Rattle.mk_rules.proofs.Spreads.{spread_is, spread_not_wide}
 use Rattle.mk_rules.proofs.Spreadable.{spread_exists, as_many_shares}
@@ -45,8 +49,33 @@ use Rattle.mk_rules.proofs.Traded.{ratio_fits, each_factor}
 use Rattle.mk_rules.proofs.Unrefused.{none_applies, not_faulted, user_in_range, number_in_range}
 use Rattle.mk_rules.proofs.Unrefused.{question_exists, question_known, not_wide, pair_known}
 use Rattle.mk_rules.proofs.Unrefused.{not_resolved}
-use Rattle.mk_restore.specs.Restoring.{Agrees, refusals_again}
+use Rattle.mk_restore.specs.Restoring.{Agrees, refusals_again, IsFit}
 use Rattle.mk_restore.specs.Laws.{IsSafe, FitIsSafe, OpeningIsSafe, RestoredIsSafe}
+
+-- the units of a reply are positive and fit 63 bits
+abbrev pub HasUnits : Reply → Type 0
+HasUnits (Traded hit miss at) = IsRatio hit × IsRatio miss
+HasUnits (Spreaded factors at) = All IsRatio factors.items
+HasUnits _ = ⊤
+
+-- as those of a reply that has a text
+has_units : (r : Reply) → IsReply r → HasUnits r
+has_units (Joined user at) h = tt
+has_units (Deposited user bits at) h = tt
+has_units (Withdrawn user bits at) h = tt
+has_units (replies.Price low high) h = tt
+has_units (replies.Limits limits at) h = tt
+has_units (Traded hit miss at) h = (h.0, h.1)
+has_units (Bounded intervals at) h = tt
+has_units (Spreaded factors at) h = h.0.each
+has_units (replies.Worst low high) h = tt
+has_units (Resolved pair at) h = tt
+has_units (Settled at payments) h = tt
+has_units (replies.Bound low high) h = tt
+has_units (replies.Prices intervals) h = tt
+has_units (replies.Position intervals) h = tt
+has_units (replies.Status at users trades most transfers most_transfers unresolved questions) h = tt
+has_units (replies.Refused why) h = tt
 
 each_of : (P Q : ℕ → Type 0) → ((n : ℕ) → P n → Q n) → (xs : List ℕ) → All P xs
     → AllByRecursion Q xs
@@ -175,22 +204,22 @@ module _ (market : Market) (H : List Entry) where
       })
 
   fit_follows : (command : Command) (reply : Reply) → IsProper (network_of market H) H
-      → IsCommand command → IsReply reply
+      → JoinsByName (OfCommand command) → HasUnits reply
       → IsUnrefused command → Agrees H command reply → Follows command reply
   unfolding IsUnrefused
-  fit_follows (User u) reply proper text is_reply none e =
+  fit_follows (User u) reply proper joins units none e =
       let refused = none_applies (refusals_again market H (User u)) none in
       reply_appends (MayBeNext market H) market H (User u) reply _ e (record {
         in_range = tt;
         narrow = tt;
         follows = (
-          text,
+          joins,
           leb-false max_users (length (users H))
               (not_faulted _ _ refused.1.1.0),
           not_faulted _ _ refused.1.0,
         );
       })
-  fit_follows (Deposit u bits) reply proper text is_reply none e =
+  fit_follows (Deposit u bits) reply proper joins units none e =
       let refused = none_applies (refusals_again market H (Deposit u bits)) none in
       reply_appends (MayBeNext market H) market H (Deposit u bits) reply _ e
       (record {
@@ -198,7 +227,7 @@ module _ (market : Market) (H : List Entry) where
         narrow = tt;
         follows = transfer_of u bits refused.1.0 refused.1.1.0 refused.1.1.1.0;
       })
-  fit_follows (Withdraw u bits) reply proper text is_reply none e =
+  fit_follows (Withdraw u bits) reply proper joins units none e =
       let refused = none_applies (refusals_again market H (Withdraw u bits)) none in
       reply_appends (MayBeNext market H) market H (Withdraw u bits) reply _ e
       (record {
@@ -206,37 +235,45 @@ module _ (market : Market) (H : List Entry) where
         narrow = tt;
         follows = transfer_of u bits refused.1.0 refused.1.1.0 refused.1.1.1.0;
       })
-  fit_follows (Price q) reply proper text is_reply none h = absurd h
-  fit_follows (Limits u q) reply proper text is_reply none h = absurd h
-  fit_follows (Edit u q X seen) reply proper text is_reply none trade =
-      let units = subst IsReply trade.printed is_reply in
+  fit_follows (Price q) reply proper joins units none h = absurd h
+  fit_follows (Limits u q) reply proper joins units none h = absurd h
+  fit_follows (Edit u q X seen) reply proper joins units none trade =
+      let its = subst HasUnits trade.printed units in
       reply_appends (MayBeNext market H) market H (Edit u q X seen) reply _ trade.printed
-      (edit_follows u q X seen trade.hit trade.miss (revision H + 1) units.0 units.1 none)
-  fit_follows (Bounds u v condition) reply proper text is_reply none h = absurd h
-  fit_follows (Spread u v condition to seen) reply proper text is_reply none trade =
-      let units = subst IsReply trade.printed is_reply in
+      (edit_follows u q X seen trade.hit trade.miss (revision H + 1) its.0 its.1 none)
+  fit_follows (Bounds u v condition) reply proper joins units none h = absurd h
+  fit_follows (Spread u v condition to seen) reply proper joins units none trade =
+      let its = subst HasUnits trade.printed units in
       reply_appends (MayBeNext market H) market H
       (Spread u v condition to seen) reply _ trade.printed
       (spread_follows u v condition to seen trade.factors
-      (revision H + 1) units.0.each trade.one_each none)
-  fit_follows (Worst u) reply proper text is_reply none h = absurd h
-  fit_follows (Resolve p) reply proper text is_reply none e =
+      (revision H + 1) its trade.one_each none)
+  fit_follows (Worst u) reply proper joins units none h = absurd h
+  fit_follows (Resolve p) reply proper joins units none e =
       reply_appends (MayBeNext market H) market H (Resolve p) reply _ e
       (resolve_follows p (revision H + 1) proper none)
-  fit_follows Settle reply proper text is_reply none settlement =
+  fit_follows Settle reply proper joins units none settlement =
       let refused = none_applies (refusals_again market H Settle) none in
       reply_appends (MayBeNext market H) market H Settle reply _ settlement.printed
       (record { in_range = tt; narrow = tt; follows = not_faulted _ _ refused.0 })
-  fit_follows Bound reply proper text is_reply none h = absurd h
-  fit_follows (Prices v condition) reply proper text is_reply none h = absurd h
-  fit_follows (Position u v condition) reply proper text is_reply none h = absurd h
-  fit_follows Status reply proper text is_reply none h = absurd h
+  fit_follows Bound reply proper joins units none h = absurd h
+  fit_follows (Prices v condition) reply proper joins units none h = absurd h
+  fit_follows (Position u v condition) reply proper joins units none h = absurd h
+  fit_follows Status reply proper joins units none h = absurd h
+
+-- a change that is taken back keeps a safe history safe, also where it was never a text
+pub fit_keeps_safe : (market : Market) (H : List Entry) (command : Command) (reply : Reply)
+    → IsMarket market → JoinsByName (OfCommand command) → HasUnits reply → IsSafe market H
+    → IsFit market H command reply → IsSafe market (next_history market H command reply)
+unfolding IsUnrefused
+fit_keeps_safe market H command reply is_market joins units safe fit =
+    next_is_safe market H (entry_of market H command reply) is_market safe
+    (fit_follows market H command reply safe.proper joins units fit.unrefused fit.agrees)
 
 pub fit_is_safe : FitIsSafe
-unfolding IsUnrefused
 fit_is_safe market H command reply is_market text safe fit =
-    next_is_safe market H (entry_of market H command reply) is_market safe
-    (fit_follows market H command reply safe.proper text.0 text.1 fit.unrefused fit.agrees)
+    fit_keeps_safe market H command reply is_market (joins_by_name (OfCommand command) text.0)
+    (has_units reply text.1) safe fit
 
 pub opening_is_safe : OpeningIsSafe
 opening_is_safe market is_market =

@@ -64,12 +64,12 @@ loop-value-preserved g c =
     record {
       kept_assets = λ h owns. c.sure_of.ensures.kept_assets h (so_far.kept_assets h owns);
       long = omega (arith, so_far.long, c.push.ensures.len);
-      sure = λ tree H u owns is_open.
+      sure = λ tree H u owns is_open sound.
           rw c.push.ensures.items
           (zip_more (IsSureOf net H u c.args.points_per_bit spread) c.loop-value.value
-          c.loop-value.intervals.items c.sure_of.result (so_far.sure tree H u owns is_open)
+          c.loop-value.intervals.items c.sure_of.result (so_far.sure tree H u owns is_open sound)
           (rw c.question_at-question.ensures at
-          (c.sure_of.ensures.sure tree H u (so_far.kept_assets _ owns) is_open)));
+          (c.sure_of.ensures.sure tree H u (so_far.kept_assets _ owns) is_open sound)));
     }
 
 pub returns-clause-position : goal.returns-clause-position
@@ -78,10 +78,11 @@ returns-clause-position g c = λ tree H u owns is_open answered.
     let all : c.loop-value.value ≡ slice_index (sizes net) spread.variable =
     omega (arith, c.values-value-end.ensures, c.loop-value-test.false, c.loop-value.auto.value-end)
     in
-    let sures = c.loop-value.invariant.sure tree H u owns is_open in
     let items = c.loop-value.intervals.items in (
       comes net tree H u is_open c.args.asked.now.condition _ c.least.result
           (c.least.ensures.least (holding_of net tree H u) owns) c.in-Some.field-0 c.in-Some.is,
-      subst (λ (n : ℕ). AllZip (IsSureOf net H u c.args.points_per_bit spread) (range_with_len 0 n)
-          items) all sures,
+      λ sound.
+          subst (λ (n : ℕ). AllZip (IsSureOf net H u c.args.points_per_bit spread)
+          (range_with_len 0 n) items) all
+          (c.loop-value.invariant.sure tree H u owns is_open sound),
     )

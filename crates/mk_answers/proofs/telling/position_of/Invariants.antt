@@ -1,6 +1,7 @@
 use Rattle.std.proofs.Common.{◌≡◌, ℕ, List, length}
 use Rattle.std.specs.List.{AllZip, range_with_len}
 use Rattle.mk_exact.specs.History.{Entry}
+use Rattle.mk_exact.specs.Sound.{IsSound}
 use Rattle.mk_spread.specs.Told.{IsSureOf}
 use Rattle.mk_tree.specs.Given.{GivenTree}
 use Rattle.mk_assets.specs.Holdings.{Holding, Owns}
@@ -15,6 +16,6 @@ invariant-loop-value g l = record {
   long : length (l.intervals).items ≡ l.value;
   sure : (tree : GivenTree) (H : List Entry) (u : ℕ)
       → Owns g.A.Engine.stands_for l.fn.assets (holding_of l.net tree H u) → IsOpen l.net tree H
-      → AllZip (IsSureOf l.net H u l.points_per_bit (spread_in l.asked)) (range_with_len 0 l.value)
+      → IsSound l.net H → AllZip (IsSureOf l.net H u l.points_per_bit (spread_in l.asked)) (range_with_len 0 l.value)
       (l.intervals).items;
 }
