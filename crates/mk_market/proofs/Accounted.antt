@@ -53,7 +53,6 @@ module _ (market : Market) (H : List Entry) (unsettled : is_settled H ≡ false)
         paid_in = old.paid_in ∙ ap (λ (n : ℕ). market.points_per_bit * n) d;
         taken_out = old.taken_out ∙ ap (λ (n : ℕ). market.points_per_bit * n) w;
         unpaid = λ h. old.unpaid unsettled;
-        paid_off = λ settled. absurd (still_unsettled e other settled);
       }
 
   -- one account changes, and the entry moves nobody else's bits
@@ -103,7 +102,6 @@ module _ (market : Market) (H : List Entry) (unsettled : is_settled H ≡ false)
         paid_in = rw (deposits, account.paid_in, worth) (omega arith);
         taken_out = account.taken_out ∙ ap (λ (n : ℕ). market.points_per_bit * n) withdrawals;
         unpaid = λ h. account.unpaid unsettled;
-        paid_off = λ settled. absurd (still_unsettled (Deposit user bits) refl settled);
       }
 
   -- or taken out
@@ -130,7 +128,6 @@ module _ (market : Market) (H : List Entry) (unsettled : is_settled H ≡ false)
         paid_in = account.paid_in ∙ ap (λ (n : ℕ). market.points_per_bit * n) deposits;
         taken_out = rw (withdrawals, account.taken_out, worth) (omega arith);
         unpaid = λ h. account.unpaid unsettled;
-        paid_off = λ settled. absurd (still_unsettled (Withdraw user bits) refl settled);
       }
 
   -- a user joins
@@ -149,7 +146,6 @@ module _ (market : Market) (H : List Entry) (unsettled : is_settled H ≡ false)
         paid_in = rw (moved.0) (omega arith);
         taken_out = rw (moved.1) (omega arith);
         unpaid = λ h. refl;
-        paid_off = λ settled. absurd (let no : true ≡ false = sym settled ∙ unsettled in cc no);
       }
 
       at : (u : ℕ) → u < length accounts + 1 → ((u ≡ length accounts) ⊎ (u ≡ length accounts → ⊥)) → IsAccount market (H ++ Join name ∷ []) u (account_of (accounts ++ empty_account ∷ []) u)

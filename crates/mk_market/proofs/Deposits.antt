@@ -20,6 +20,7 @@ use Rattle.mk_reply.specs.declared.payments.Payment.{Payment}
 use Rattle.mk_reply.specs.declared.reply.Reply.{Reply}
 use Rattle.mk_reply.specs.declared.reply.Reply.TheVariants.{Deposited}
 use Rattle.mk_rules.specs.Refusals.{first_refusal}
+use Rattle.mk_restore.specs.Restoring.{IsFit}
 use Rattle.mk_rules.specs.Transcript.{OfCommand, IsAllowedFor, after}
 use Rattle.mk_answers.specs.Open.{holding_of}
 use Rattle.mk_record.specs.declared.users.Member.{Member}
@@ -39,7 +40,7 @@ module _ {P A Plan : Type 0} (weights_stand : P → Meaning → Type 0) (gains_s
     (kept : IsKept weights_stand gains_stand plan_for file prices rows plan members accounts journal payments)
     (name : List ℕ) (user bits : ℕ) (is_user : IsUser journal.history name user) (room : HasRoomForTransfer journal.history bits) where
   bits_fit : deposited journal.history user + bits ≤ max_bits
-  bits_fit = let most = few_moved (length (users journal.history)) user journal.history kept.bounded.transfers_fit in omega (arith, most.0, room.most, room.few)
+  bits_fit = let most = few_moved (length (users journal.history)) user journal.history kept.safe.bounded.transfers_fit in omega (arith, most.0, room.most, room.few)
 
   pub can_deposit : (before : Assets A Plan) → slice_get (assets_of members) user ≡ Some before → CanDeposit gains_stand before bits
   can_deposit before there = record { holding = holding_of file.net file.tree journal.history user; owns = kept.owns user before there; room = bits_fit }
@@ -72,6 +73,10 @@ module _ {P A Plan : Type 0} (weights_stand : P → Meaning → Type 0) (gains_s
     unfolding reply
     allowed = answer_allowed (market_of file) (standing_of journal members) (Deposit name bits) (Deposited name bits (revision journal.history + 1)) none refl
 
+    fit : IsFit (market_of file) journal.history (Deposit name bits) reply
+    unfolding reply
+    fit = record { unrefused = sym none; agrees = refl }
+
     next : standing_of new_journal (with_assets members user now) ≡ after (market_of file) (standing_of journal members) (OfCommand (Deposit name bits)) reply
     unfolding reply
     next = ap₂ (λ (H : List Entry) (qs : List (Option LastQuote)). record { history = H; quotes = map (option_map quoted) qs })
@@ -82,10 +87,11 @@ module _ {P A Plan : Type 0} (weights_stand : P → Meaning → Type 0) (gains_s
         → ((h : Holding) → Owns gains_stand before h → h.deposited + bits ≤ max_bits → Owns gains_stand now (with_deposit bits h))
         → new_accounts ≡ slice_set accounts user (let account = account_of accounts user in record account { deposited = account.deposited + file.points_per_bit * bits })
         → IsKept weights_stand gains_stand plan_for file prices rows plan (with_assets members user now) new_accounts new_journal payments
+    unfolding reply
     deposit_kept limit deposits paid =
         let H = journal.history in
         kept_grown weights_stand gains_stand plan_for file prices prices rows rows plan members (with_assets members user now) accounts new_accounts journal new_journal payments payments
-        (Deposits user bits) (Deposit name bits) reply tt kept allowed next
+        (Deposits user bits) (Deposit name bits) reply tt tt kept fit next
         (record {
           history = history;
           limit = limit;

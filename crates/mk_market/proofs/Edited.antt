@@ -49,6 +49,9 @@ use Rattle.mk_market.specs.inner.Quoting.{IsQuoteOf}
 use Rattle.mk_market.proofs.Growing.{is_open}
 use Rattle.mk_market.proofs.Quotes.{trading, AreQuoted, quote_said, standing_quoted}
 use Rattle.mk_market.proofs.Replies.{answer_allowed, refusal_allowed, none_appended}
+use Rattle.mk_reply.specs.Replies.{IsRatio}
+use Rattle.mk_restore.specs.Restoring.{IsFit}
+use Rattle.mk_restore.proofs.Taken.{allowed_fits}
 use Rattle.mk_market.proofs.Together.{condition_comes}
 
 -- ---- a refusal
@@ -58,7 +61,7 @@ refused_answered : (old : Trading) (name : List ℕ) (q : QuestionText) (X : ℕ
     → Some why ≡ first_refusal old.market old.standing.history (Edit name q X seen) → IsAnswered old old (Edit name q X seen) (Refused why)
 refused_answered old name q X seen why e = record {
   same_market = refl;
-  allowed = refusal_allowed old.market old.standing (Edit name q X seen) why e;
+  allowed = λ sound. refusal_allowed old.market old.standing (Edit name q X seen) why e;
   next = none_appended old.market old.standing (Edit name q X seen) (Refused why) refl
       (edit_refused old.market old.standing.history old.standing.quotes name q X seen why (sym e));
   paid = λ u. refl;
@@ -111,14 +114,14 @@ module _ (network : List Variable) (tree : GivenTree) (H : List Entry) (u : ℕ)
     -- its limits are right
     pub right_limits : (limits : Option (ℕ × ℕ)) → AreRightFor (bounds_of quote) limits → AreRightLimits network H u asked limits
     right_limits limits right =
-        let has = sides_exist network H u (question_of quote) open_for.legal open_for.proper open_for.sound (can_move network H (question_of quote) is.current.answered.in_order is.current.left) in
+        let has = sides_exist network H u (question_of quote) open_for.legal open_for.proper (can_move network H (question_of quote) is.current.answered.in_order is.current.left) in
         subst (λ (a : Asked). AreRightLimits network H u a limits) is.question
         (right_by_bounds network H u (question_of quote) (bounds_of quote) has.hit has.miss has.sides (is.current.bounds has.hit has.miss has.sides) limits right)
 
     -- and the units that it gives are a fair pair
     pub fair_pair : (X hit miss : ℕ) → AreFairAndSolvent (bounds_of quote) X hit miss → IsFairPair network H u asked X hit miss
     fair_pair X hit miss fair =
-        let has = sides_exist network H u (question_of quote) open_for.legal open_for.proper open_for.sound (can_move network H (question_of quote) is.current.answered.in_order is.current.left) in
+        let has = sides_exist network H u (question_of quote) open_for.legal open_for.proper (can_move network H (question_of quote) is.current.answered.in_order is.current.left) in
         subst (λ (a : Asked). IsFairPair network H u a X hit miss) is.question
         (fair_by_bounds network H u (question_of quote) (bounds_of quote) has.hit has.miss has.sides (is.current.bounds has.hit has.miss has.sides) X hit miss fair)
 
@@ -230,7 +233,7 @@ module _ {P A Plan : Type 0} (weights_stand : P → Meaning → Type 0) (gains_s
       (trading file accounts journal new_members) (Limits name q)) (sym printed)
       (record {
         same_market = refl;
-        allowed = answer_allowed (market_of file) (standing_of journal members) (Limits name q) reply none
+        allowed = λ sound. answer_allowed (market_of file) (standing_of journal members) (Limits name q) reply none
             (subst (λ (o : Option Asked). IsSomeAnd o (λ a. IsLimits file.net journal.history (user_number journal.history name) a reply)) (sym is_question.named)
             (record { limits = limits_of quote; printed = refl; right = right_for_user (subst (AreRightFor (bounds_of quote)) its right) }));
         next = next_quoted;
@@ -251,7 +254,7 @@ module _ {P A Plan : Type 0} (weights_stand : P → Meaning → Type 0) (gains_s
       (trading file accounts journal new_members) (Edit name q X seen)) (sym printed)
       (record {
         same_market = refl;
-        allowed = edit_allowed file journal members name user is_user q asked is_question quote last X seen reply none
+        allowed = λ sound. edit_allowed file journal members name user is_user q asked is_question quote last X seen reply none
             (inr (record {
               limits = limits_of quote;
               right = right_limits file.net file.tree journal.history user asked quote is open_for (limits_of quote) (subst (AreRightFor (bounds_of quote)) its right);
@@ -277,6 +280,12 @@ module _ (file : MarketFile) (journal : JournalOf) (open_for : IsOpen file.net f
   pub miss_units : IsUnits miss
   miss_units = record { positive = pair.miss_units.fair.positive; fits = pair.miss_units.fair.fits }
 
+  pub trade_has_units : IsRatio hit × IsRatio miss
+  trade_has_units = (
+    record { positive = pair.hit_units.fair.positive; below = pair.hit_units.fair.fits },
+    record { positive = pair.miss_units.fair.positive; below = pair.miss_units.fair.fits },
+  )
+
   module _ {A Plan : Type 0} (members new_members : List (Member A Plan)) (new_journal : JournalOf) (seen : Option ℕ)
       (none : None ≡ first_refusal (market_of file) journal.history (Edit name q X seen)) (inside : Inside (limits_of quote) X)
       (last : (held : Quote) → slice_get (quotes_of members) user ≡ Some (Some (LastLimits held)) → IsFor held asked (revision journal.history) → quote ≡ held)
@@ -289,6 +298,14 @@ module _ (file : MarketFile) (journal : JournalOf) (open_for : IsOpen file.net f
         let trade : IsTrade file.net journal.history user asked X (Traded hit miss at)
         = record { hit = hit; miss = miss; printed = ap (λ (n : ℕ). Traded hit miss n) later; fair = pair } in
         edit_allowed file journal members name user is_user q asked is_question quote last X seen (Traded hit miss at) none (inl trade) (inl (inside, trade))
+
+    pub trade_fits : IsFit (market_of file) journal.history (Edit name q X seen)
+        (Traded hit miss at)
+    trade_fits = allowed_fits (market_of file) journal.history
+        (map (option_map quoted) (quotes_of members)) (Edit name q X seen) (Traded hit miss at)
+        (Trade (user_number journal.history name) (ratio_in file.net asked hit miss)) trade_allowed
+        (ap (option_map (λ (a : Asked). Trade (user_number journal.history name)
+        (ratio_in file.net a hit miss))) is_question.named)
 
     pub trade_next : standing_of new_journal new_members ≡ after (market_of file) (standing_of journal members) (OfCommand (Edit name q X seen)) (Traded hit miss at)
     trade_next =
@@ -303,7 +320,7 @@ module _ (file : MarketFile) (journal : JournalOf) (open_for : IsOpen file.net f
         (trading file accounts new_journal new_members) (Edit name q X seen) (Traded hit miss at)
     trade_answered accounts = record {
       same_market = refl;
-      allowed = trade_allowed;
+      allowed = λ sound. trade_allowed;
       next =
           trade_next;
       paid = λ u. refl;

@@ -11,6 +11,7 @@ use Rattle.mk_net.specs.Network.{Variable}
 use Rattle.mk_exact.specs.Events.{holds}
 use Rattle.mk_exact.specs.History.{Entry}
 use Rattle.mk_exact.specs.States.{numbers_below}
+use Rattle.mk_exact.specs.Sound.{IsSound}
 use Rattle.mk_exact.specs.Weight.{cannot_come}
 use Rattle.mk_spread.specs.Spreads.{SpreadAsked}
 use Rattle.mk_spread.specs.Told.{ArePricesOf, IsPositionOf}
@@ -149,11 +150,13 @@ module _ (file : MarketFile) (now : Standing) (v : List ℕ) (condition : ArrayV
         None ≡ first_of (refusals_by_record (market_of file) now.history (Position name v condition))
         →
         (cannot_come file.net now.history (holds spread.condition) ≡ false)
-        × IsPositionOf file.net now.history user file.points_per_bit spread intervals.items →
+        × (IsSound file.net now.history →
+        IsPositionOf file.net now.history user file.points_per_bit spread intervals.items) →
+        IsSound file.net now.history →
         IsAllowedFor (market_of file) now (OfCommand (Position name v condition)) (Sure intervals)
-    position_allowed name user is_user intervals none found =
+    position_allowed name user is_user intervals none found sound =
         let sure : IsPosition file.net now.history user file.points_per_bit spread (Sure intervals) =
-        record { intervals = intervals; printed = refl; covers = found.1 } in
+        record { intervals = intervals; printed = refl; covers = found.1 sound } in
         answer_allowed (market_of file) now (Position name v condition) (Sure intervals)
         (unrefused (market_of file) now.history (Position name v condition) none
         (ap (λ (o : Option Refusal). first_of (o ∷ [])) (together found.0)))

@@ -18,11 +18,12 @@ use Rattle.mk_record.specs.declared.last_quote.LastQuote.{LastQuote}
 use Rattle.mk_command.specs.declared.command.Command.{Command}
 use Rattle.mk_reply.specs.declared.payments.Payment.{Payment}
 use Rattle.mk_reply.specs.declared.reply.Reply.{Reply}
-use Rattle.mk_rules.specs.Transcript.{Standing, OfCommand, IsAllowedFor, after}
-use Rattle.mk_rules.specs.Standings.{IsMarket, IsReady}
-use Rattle.mk_rules.specs.Bounded.{JoinsByName, IsBounded}
-use Rattle.mk_rules.proofs.Ready.{ready_keeps}
-use Rattle.mk_rules.proofs.Follows.{names_keep_bounds}
+use Rattle.mk_rules.specs.Transcript.{Standing, OfCommand, after}
+use Rattle.mk_rules.specs.Standings.{IsMarket}
+use Rattle.mk_rules.specs.Bounded.{JoinsByName}
+use Rattle.mk_restore.specs.Laws.{IsSafe}
+use Rattle.mk_restore.specs.Restoring.{IsFit}
+use Rattle.mk_restore.proofs.Safe.{HasUnits, fit_keeps_safe}
 use Rattle.mk_answers.specs.Open.{IsOpen, holding_of}
 use Rattle.mk_record.specs.declared.users.Member.{Member}
 use Rattle.mk_record.specs.Journals.{JournalOf}
@@ -55,9 +56,8 @@ module _ {P A Plan : Type 0} (weights_stand : P → Meaning → Type 0) (gains_s
   is_open file prices rows plan members accounts journal payments kept = record {
     legal = kept.legal;
     tree_of_it = kept.tree;
-    proper = kept.ready.stands.proper;
-    sound = kept.ready.stands.sound;
-    within = kept.bounded.within;
+    proper = kept.safe.proper;
+    within = kept.safe.bounded.within;
   }
 
   -- what the parts of a market became by an entry
@@ -74,18 +74,17 @@ module _ {P A Plan : Type 0} (weights_stand : P → Meaning → Type 0) (gains_s
     pub accounts : AreAccounts (market_of file) (journal.history ++ e ∷ []) new_accounts
     pub room : is_settled (journal.history ++ e ∷ []) ≡ false → new_payments ≡ Some []
 
-  -- an allowed reply that appends an entry leads from a market that is kept to one that is
+  -- a reply that is taken back leads from a market that is kept to one that is
   pub kept_grown : (file : MarketFile) (prices new_prices : P) (rows new_rows : A) (plan : Plan) (members new_members : List (Member A Plan)) (accounts new_accounts : List Account)
       (journal new_journal : JournalOf) (payments new_payments : Option (List Payment)) (e : Entry) (command : Command) (reply : Reply)
-      → JoinsByName (OfCommand command)
+      → JoinsByName (OfCommand command) → HasUnits reply
       → IsKept weights_stand gains_stand plan_for file prices rows plan members accounts journal payments
-      → IsAllowedFor (market_of file) (standing_of journal members) (OfCommand command) reply
+      → IsFit (market_of file) journal.history command reply
       → standing_of new_journal new_members ≡ after (market_of file) (standing_of journal members) (OfCommand command) reply
       → AreGrown file journal new_journal e prices new_prices rows new_rows members new_members new_accounts new_payments
       → IsKept weights_stand gains_stand plan_for file new_prices new_rows plan new_members new_accounts new_journal new_payments
-  kept_grown file prices new_prices rows new_rows plan members new_members accounts new_accounts journal new_journal payments new_payments e command reply joins kept allowed next are =
+  kept_grown file prices new_prices rows new_rows plan members new_members accounts new_accounts journal new_journal payments new_payments e command reply joins units kept fit next are =
       let market = market_of file in
-      let old : Standing = standing_of journal members in
       let back : journal.history ++ e ∷ [] ≡ new_journal.history = sym are.history in
       record {
         legal = kept.legal;
@@ -100,9 +99,9 @@ module _ {P A Plan : Type 0} (weights_stand : P → Meaning → Type 0) (gains_s
         quotes_kept = λ u quote at. subst (λ (H : List Entry). IsKeptQuote file.net file.tree H u quote) back
             (quote_later file.net file.tree journal.history e u quote (kept.quotes_kept u quote (are.none_quoted u quote at)));
         accounts_kept = subst (λ (H : List Entry). AreAccounts (market_of file) H new_accounts) back are.accounts;
-        ready = subst (IsReady market) (sym next) (ready_keeps market old (OfCommand command) reply kept.ready allowed);
-        bounded = subst (λ (now : Standing). IsBounded market now.history) (sym next)
-            (names_keep_bounds market old (OfCommand command) reply (market_is file kept.legal) joins kept.bounded allowed);
+        safe = subst (λ (now : Standing). IsSafe market now.history) (sym next)
+            (fit_keeps_safe market journal.history command reply (market_is file kept.legal) joins
+            units kept.safe fit);
         max_trades = are.limit ∙ kept.max_trades;
         room = λ unsettled. are.room (subst (λ (H : List Entry). is_settled H ≡ false) are.history unsettled);
       }
@@ -133,8 +132,7 @@ module _ {P A Plan : Type 0} (weights_stand : P → Meaning → Type 0) (gains_s
         own.2 (holding_of file.net file.tree journal.history u) (kept.owns u (own.0) (own.1));
     quotes_kept = λ u quote at. kept.quotes_kept u quote (subst (λ (qs : List (Option LastQuote)). slice_get qs u ≡ Some (Some quote)) are.quotes_still at);
     accounts_kept = kept.accounts_kept;
-    ready = subst (λ (qs : List (Option LastQuote)). IsReady (market_of file) (record { history = journal.history; quotes = map (option_map quoted) qs })) (sym are.quotes_still) kept.ready;
-    bounded = kept.bounded;
+    safe = kept.safe;
     max_trades = kept.max_trades;
     room = kept.room;
   }
@@ -154,8 +152,7 @@ module _ {P A Plan : Type 0} (weights_stand : P → Meaning → Type 0) (gains_s
     owns = kept.owns;
     quotes_kept = kept.quotes_kept;
     accounts_kept = kept.accounts_kept;
-    ready = kept.ready;
-    bounded = kept.bounded;
+    safe = kept.safe;
     max_trades = kept.max_trades;
     room = kept.room;
   }

@@ -20,6 +20,7 @@ use Rattle.mk_reply.specs.declared.payments.Payment.{Payment}
 use Rattle.mk_reply.specs.declared.refusal.Refusal.TheVariants.{Memory}
 use Rattle.mk_reply.specs.declared.reply.Reply.TheVariants.{Joined, Refused}
 use Rattle.mk_rules.specs.Refusals.{first_refusal}
+use Rattle.mk_restore.specs.Restoring.{IsFit}
 use Rattle.mk_rules.specs.Quotes.{Quotes}
 use Rattle.mk_rules.specs.Transcript.{OfCommand, IsAllowedFor, after}
 use Rattle.mk_record.specs.declared.users.Member.{Member}
@@ -38,7 +39,7 @@ use Rattle.mk_market.proofs.Replies.{answer_allowed, refused_stays, unsettled}
 pub memory_answered : (now : Trading) (name : List ℕ) → None ≡ first_refusal now.market now.standing.history (User name) → IsAnswered now now (User name) (Refused Memory)
 memory_answered now name none = record {
   same_market = refl;
-  allowed = answer_allowed now.market now.standing (User name) (Refused Memory) none (inr refl);
+  allowed = λ sound. answer_allowed now.market now.standing (User name) (Refused Memory) none (inr refl);
   next = refused_stays now.market now.standing (User name) Memory tt;
   paid = λ u. refl;
 }
@@ -64,6 +65,14 @@ module _ {P A Plan : Type 0} (weights_stand : P → Meaning → Type 0) (gains_s
     join_allowed at e = answer_allowed (market_of file) (standing_of journal members) (User name) (Joined name at) none
         (Rattle.std.proofs.Common.inl (ap (λ (n : ℕ). Joined name n) (e ∙ ap (λ (H : List Entry). length H) history ∙ length_push journal.history (Join name))))
 
+    join_fit : IsFit (market_of file) journal.history (User name)
+        (Joined name (revision new_journal.history))
+    join_fit = record {
+      unrefused = sym none;
+      agrees = ap (λ (n : ℕ). Joined name n)
+          (ap (λ (H : List Entry). length H) history ∙ length_push journal.history (Join name));
+    }
+
     pub join_paid : (at : ℕ) → new_accounts ≡ accounts ++ empty_account ∷ []
         → ArePaidBy (Joined name at) accounts new_accounts
     join_paid at opened u = ap (λ (xs : List Account). (account_of xs u).paid) opened ∙ paid_opened
@@ -80,16 +89,16 @@ module _ {P A Plan : Type 0} (weights_stand : P → Meaning → Type 0) (gains_s
     join_kept is_name limit opened =
         let H = journal.history in
         kept_grown weights_stand gains_stand plan_for file prices prices rows rows plan members new_members accounts new_accounts journal new_journal payments payments
-        (Join name) (User name) (Joined name (revision new_journal.history)) is_name kept (join_allowed (revision new_journal.history) refl) (join_next (revision new_journal.history))
+        (Join name) (User name) (Joined name (revision new_journal.history)) is_name tt kept join_fit (join_next (revision new_journal.history))
         (record {
           history = history;
           limit = limit;
           prices_grown = λ m stands. stands;
           rows_grown = λ m stands. stands;
           names = names_more;
-          owned = rw more (owned_joined file.net file.tree H name gains_stand members assets kept.named kept.ready.stands.proper kept.bounded.transfers_fit kept.owns
+          owned = rw more (owned_joined file.net file.tree H name gains_stand members assets kept.named kept.safe.proper kept.safe.bounded.transfers_fit kept.owns
               (subst (λ (ps : List Pair). Owns gains_stand assets (opening_holding file.net file.tree ps)) known_is owns));
           none_quoted = rw more (none_quoted_joined file.net file.tree H name members assets);
-          accounts = rw opened (accounts_joined (market_of file) H (unsettled (market_of file) H (User name) none) accounts name kept.bounded.transfers_fit kept.accounts_kept);
+          accounts = rw opened (accounts_joined (market_of file) H (unsettled (market_of file) H (User name) none) accounts name kept.safe.bounded.transfers_fit kept.accounts_kept);
           room = λ unsettled. kept.room (sym (not_there H (Join name) is_settlement refl) ∙ unsettled);
         })

@@ -28,3 +28,4 @@ pub mod Resolvable
 pub mod Resolved
 pub mod Paid
 pub mod Settlement
+pub mod Homes

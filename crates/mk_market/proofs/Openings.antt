@@ -14,8 +14,7 @@ use Rattle.mk_beliefs.proofs.Grown.{opening_is_rows}
 use Rattle.mk_beliefs.proofs.Initials.{rows_open}
 use Rattle.mk_cash.specs.declared.ledger.Account.{Account}
 use Rattle.mk_reply.specs.declared.payments.Payment.{Payment}
-use Rattle.mk_rules.proofs.Ready.{opening_is_ready}
-use Rattle.mk_rules.proofs.Follows.{opening_is_bounded}
+use Rattle.mk_restore.proofs.Safe.{opening_is_safe}
 use Rattle.mk_record.specs.declared.users.Member.{Member}
 use Rattle.mk_record.specs.Journals.{JournalOf}
 use Rattle.mk_market.specs.inner.Keeping.{IsKept}
@@ -58,8 +57,7 @@ opening_kept weights_stand gains_stand plan_for file prices rows plan members ac
       owns = λ u assets at. absurd (cc);
       quotes_kept = λ u quote at. absurd (cc);
       accounts_kept = record { one_each = refl; each = λ u h. absurd (omega (arith, h)) };
-      ready = opening_is_ready (market_of file) (market_is file legal);
-      bounded = opening_is_bounded (market_of file);
+      safe = opening_is_safe (market_of file) (market_is file legal);
       max_trades = refl;
       room = λ h. refl;
     })

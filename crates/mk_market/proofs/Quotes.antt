@@ -96,20 +96,10 @@ module _ {P A Plan : Type 0} (weights_stand : P → Meaning → Type 0) (gains_s
       subst (AreKeptQuotes file.net file.tree journal.history) (sym are.quotes)
       (each_set (IsKeptQuote file.net file.tree journal.history) user quote (quotes_of members) is kept.quotes_kept)
 
-  ready_then : (command : Command) (reply : Reply)
-      → IsAnswered (trading file accounts journal members)
-      (trading file accounts journal new_members) command reply
-      → IsReady (market_of file) (standing_of journal new_members)
-  ready_then command reply answered =
-      subst (IsReady (market_of file)) (sym answered.next) (ready_keeps (market_of file) (standing_of journal members) (OfCommand command) reply kept.ready answered.allowed)
-
-  -- a market that was kept is kept beside a new quote, where its answer is allowed
+  -- a market that was kept is kept beside a new quote
   pub kept_quoted : ((m : Meaning) → weights_stand prices m → weights_stand new_prices m)
-      → (command : Command) (reply : Reply)
-      → IsAnswered (trading file accounts journal members)
-      (trading file accounts journal new_members) command reply
       → IsKept weights_stand gains_stand plan_for file new_prices rows plan new_members accounts journal payments
-  kept_quoted still_prices command reply answered = record {
+  kept_quoted still_prices = record {
     legal = kept.legal;
     tree = kept.tree;
     planned = kept.planned;
@@ -119,8 +109,7 @@ module _ {P A Plan : Type 0} (weights_stand : P → Meaning → Type 0) (gains_s
     owns = λ u. are.assets u (holding_of file.net file.tree journal.history u) (kept.owns u);
     quotes_kept = quotes_kept_then;
     accounts_kept = kept.accounts_kept;
-    ready = ready_then command reply answered;
-    bounded = kept.bounded;
+    safe = kept.safe;
     max_trades = kept.max_trades;
     room = kept.room;
   }
@@ -142,8 +131,7 @@ module _ {P A Plan : Type 0} (weights_stand : P → Meaning → Type 0) (gains_s
     owns = λ u. assets u (holding_of file.net file.tree journal.history u) (kept.owns u);
     quotes_kept = subst (AreKeptQuotes file.net file.tree journal.history) (sym same_quotes) kept.quotes_kept;
     accounts_kept = kept.accounts_kept;
-    ready = subst (λ (qs : List (Option LastQuote)). IsReady (market_of file) (record { history = journal.history; quotes = map (option_map quoted) qs })) (sym same_quotes) kept.ready;
-    bounded = kept.bounded;
+    safe = kept.safe;
     max_trades = kept.max_trades;
     room = kept.room;
   }

@@ -95,7 +95,7 @@ refused_answered : (old : Trading) (command : Command) (why : Refusal) → IsNoT
     → IsAnswered old old command (Refused why)
 refused_answered old command why other e = record {
   same_market = refl;
-  allowed = refusal_allowed old.market old.standing command why e;
+  allowed = λ sound. refusal_allowed old.market old.standing command why e;
   next = refused_stays old.market old.standing command why other;
   paid = λ u. refl;
 }

@@ -31,7 +31,8 @@ use Rattle.mk_reply.specs.declared.reply.Reply.{Reply}
 use Rattle.mk_reply.specs.declared.reply.Reply.TheVariants.{Resolved, Refused}
 use Rattle.mk_rules.specs.Refusals.{first_refusal, refusals_by_record, refusals_by_states}
 use Rattle.mk_rules.specs.Transcript.{OfCommand, IsAllowedFor, after}
-use Rattle.mk_rules.proofs.Keeps.{allowed_keeps}
+use Rattle.mk_restore.specs.Restoring.{IsFit}
+use Rattle.mk_restore.proofs.Safe.{fit_keeps_safe}
 use Rattle.mk_rules.proofs.Revisions.{few_resolutions}
 use Rattle.mk_answers.specs.Open.{IsOpen, holding_of}
 use Rattle.mk_record.specs.declared.users.Member.{Member}
@@ -43,7 +44,7 @@ use Rattle.mk_market.specs.inner.Quoting.{OwnsAt, CanBeTold}
 use Rattle.mk_market.specs.inner.Stopped.{CanAskOfPair}
 use Rattle.mk_market.proofs.Accounted.{accounts_kept}
 use Rattle.mk_record.proofs.Appends.{not_there, not_found}
-use Rattle.mk_market.proofs.Growing.{is_open, kept_grown, kept_still}
+use Rattle.mk_market.proofs.Growing.{market_is, is_open, kept_grown, kept_still}
 use Rattle.mk_market.proofs.Owned.{holding_grows}
 use Rattle.mk_market.proofs.Replies.{stopped_by_states, unrefused, refusal_allowed, answer_allowed, unsettled}
 use Rattle.mk_market.proofs.Resolvable.{of_one}
@@ -136,14 +137,20 @@ module _ {P A Plan : Type 0} (weights_stand : P → Meaning → Type 0) (gains_s
     unfolding reply
     allowed = answer_allowed (market_of file) (standing_of journal members) (Resolve words) (Resolved words (revision journal.history + 1)) none refl
 
+    fit : IsFit (market_of file) journal.history (Resolve words) reply
+    unfolding reply
+    fit = record { unrefused = sym none; agrees = refl }
+
     longer : (after (market_of file) (standing_of journal members) (OfCommand (Resolve words)) reply).history ≡ journal.history ++ Resolves pair ∷ []
     unfolding reply
     longer = ap (λ (o : Option Pair). journal.history ++ option_to_list (option_map Resolves o)) named
 
     pub few_known : length (resolutions journal.history) < max_variables
+    unfolding reply
     few_known =
-        let stands = allowed_keeps (market_of file) (standing_of journal members) (OfCommand (Resolve words)) reply kept.ready.stands allowed in
-        let proper : IsProper file.net (journal.history ++ Resolves pair ∷ []) = subst (λ (H : List Entry). IsProper file.net H) longer stands.proper in
+        let safe = fit_keeps_safe (market_of file) journal.history (Resolve words) reply
+        (market_is file kept.legal) tt tt kept.safe fit in
+        let proper : IsProper file.net (journal.history ++ Resolves pair ∷ []) = subst (λ (H : List Entry). IsProper file.net H) longer safe.proper in
         let few = few_resolutions file.net (journal.history ++ Resolves pair ∷ []) proper in
         let more = ap (λ (ps : List Pair). length ps) (resolutions_more journal.history pair) in
         omega (arith, few, more, length_push (resolutions journal.history) pair, kept.legal.few)
@@ -170,10 +177,11 @@ module _ {P A Plan : Type 0} (weights_stand : P → Meaning → Type 0) (gains_s
         → ((u : ℕ) (h : Holding) → OwnsAt gains_stand members u h → OwnsAt gains_stand new_members u (with_known_pair pair h))
         → names_of new_members ≡ names_of members → quotes_of new_members ≡ quotes_of members
         → IsKept weights_stand gains_stand plan_for file new_prices new_rows plan new_members accounts new_journal payments
+    unfolding reply
     resolution_kept new_prices new_rows new_members new_journal history limit known known_rows told names same_quotes =
         let H = journal.history in
         kept_grown weights_stand gains_stand plan_for file prices new_prices rows new_rows plan members new_members accounts accounts journal new_journal payments payments
-        (Resolves pair) (Resolve words) reply tt kept allowed
+        (Resolves pair) (Resolve words) reply tt tt kept fit
         (ap₂ (λ (H : List Entry) (qs : List (Option LastQuote)). record { history = H; quotes = map (option_map quoted) qs }) (history ∙ sym longer) same_quotes)
         (record {
           history = history;

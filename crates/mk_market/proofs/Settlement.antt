@@ -1,10 +1,10 @@
 -- The market is settled.
 use Rattle.std.specs.Prelude.{◌≡◌, ℕ, ◌+◌, ◌*◌, ◌^◌, ◌<◌, zero, suc, ◌&&◌, List, [], ◌∷◌, ◌++◌, map}
 use Rattle.std.specs.Prelude.{filter, sum_by, length, true, false, Option, Some, None, option_map}
-use Rattle.std.specs.Prelude.{slice_get}
+use Rattle.std.specs.Prelude.{slice_get, MatchOption}
 use Rattle.std.specs.List.{AllZip, enumerate_from}
 use Rattle.std.proofs.Common.{refl, sym, ap, ap₂, ◌∙◌, subst, arith, add-zero}
-use Rattle.std.proofs.lemmas.List.{length_push}
+use Rattle.std.proofs.lemmas.List.{length-map, length_push}
 use Rattle.std.proofs.lemmas.Option.{slice_get_within}
 use Rattle.mk_net.specs.Network.{Variable}
 use Rattle.mk_net.specs.declared.words.Pair.{Pair}
@@ -12,6 +12,7 @@ use Rattle.mk_exact.specs.Cash.{CoversCash}
 use Rattle.mk_exact.specs.Events.{always, holds}
 use Rattle.mk_exact.specs.Existing.{HasOutcome}
 use Rattle.mk_exact.specs.Factors.{Fraction, HoldsNoTrade, factor}
+use Rattle.mk_exact.specs.Sound.{IsSound}
 use Rattle.mk_exact.specs.InitialWeight.{all_states, initial_weight}
 use Rattle.mk_exact.specs.Ratios.{ratio_at}
 use Rattle.mk_exact.specs.States.{product_by}
@@ -32,15 +33,17 @@ use Rattle.mk_cash.specs.Accounts.{account_of}
 use Rattle.mk_record.specs.declared.last_quote.LastQuote.{LastQuote}
 use Rattle.mk_command.specs.declared.command.Command.TheVariants.{Settle}
 use Rattle.mk_reply.specs.declared.payments.Payment.{Payment}
-use Rattle.mk_reply.specs.declared.reply.Reply.TheVariants.{Settled}
-use Rattle.mk_rules.specs.Answers.{IsPayment, IsSettlement}
+use Rattle.mk_reply.specs.declared.refusal.Refusal.{Refusal}
+use Rattle.mk_reply.specs.declared.reply.Reply.TheVariants.{Settled, Refused}
+use Rattle.mk_rules.specs.Answers.{IsPayment, IsSettlement, IsAnswer}
 use Rattle.mk_rules.specs.Refusals.{first_refusal}
+use Rattle.mk_restore.specs.Restoring.{IsFit}
 use Rattle.mk_rules.specs.Transcript.{OfCommand, IsAllowedFor, after}
 use Rattle.mk_answers.specs.Open.{holding_of}
 use Rattle.mk_record.specs.declared.users.Member.{Member}
 use Rattle.mk_record.specs.Journals.{JournalOf}
 use Rattle.mk_record.specs.Members.{names_of, quotes_of}
-use Rattle.mk_market.specs.Points.{IsPaidOff, AreAccounts, ArePaidBy}
+use Rattle.mk_market.specs.Points.{IsPaidOff, AreAccounts, ArePaidBy, SettlementPaysOff}
 use Rattle.mk_record.specs.Refused.{CanBeSettled}
 use Rattle.mk_market.specs.inner.Keeping.{quoted, standing_of, IsKept}
 use Rattle.mk_market.specs.inner.Paying.{ArePaid}
@@ -65,14 +68,6 @@ payment_at R (x ∷ xs) (p ∷ ps) m (suc u) h l =
     let same : m + 1 + u ≡ m + suc u = omega arith in
     (later.0, later.1, later.2, subst (λ (k : ℕ). R (k, later.0) (later.1)) same (later.3))
 
-one_for_each : {A B : Type 0} (R : ℕ × A → B → Type 0) (names : List A) (pays : List B) (m : ℕ)
-    → AllZip R (enumerate_from m names) pays → length pays ≡ length names
-one_for_each R [] [] m h = refl
-one_for_each R [] (p ∷ ps) m h = absurd h
-one_for_each R (x ∷ xs) [] m h = absurd h
-one_for_each R (x ∷ xs) (p ∷ ps) m h = let later = one_for_each R xs ps (m + 1) (h.1) in omega
-    (arith, later)
-
 -- the small case, and a user without trades, are what they were before the settlement
 small_before : (network : List Variable) (H : List Entry) → IsSmall network (H ++ Settles ∷ [])
     → IsSmall network H
@@ -85,9 +80,7 @@ idle_before : (H : List Entry) (u : ℕ) → HoldsNoTrade (H ++ Settles ∷ []) 
 idle_before H u none = subst (λ (ts : List UserTrade). length ts ≡ 0)
     (trades_of_kept H Settles u refl) none
 
-module _ (market : Market) (H : List Entry) (state : List ℕ) (one : possible_states (network_of market H) H always ≡ state ∷ []) (pays : List Payment)
-    (paid : AllZip (IsPayment (network_of market H) H market.points_per_bit state)
-    (enumerate_from 0 (users H)) pays) where
+module _ (market : Market) (H : List Entry) (state : List ℕ) (one : possible_states (network_of market H) H always ≡ state ∷ []) where
   -- a user who was paid as it is printed is paid off
   is_paid_off : (u : ℕ) (name : List ℕ) (payment : Payment) (points : ℕ) → points ≡ payment.paid
       → IsPayment (network_of market H) H market.points_per_bit state (u, name) payment
@@ -110,58 +103,88 @@ module _ (market : Market) (H : List Entry) (state : List ℕ) (one : possible_s
         market.points_per_bit payment.low payment.high is.covers));
   }
 
-  -- payments that are entered leave what went in and out
-  accounts_settled : (old new : List Account) → is_settled H ≡ false → AreAccounts market H old → ArePaid old new pays → AreAccounts market (H ++ Settles ∷ []) new
-  accounts_settled old new unsettled are entered = record {
-    one_each = entered.count ∙ are.one_each ∙ sym (ap (λ (names : List (List ℕ)). length names) (users_kept H Settles refl));
-    each = λ u within.
-        let before = are.each u (omega (arith, within, entered.count)) in
-        let found = payment_at (IsPayment (network_of market H) H market.points_per_bit state)
-        (users H) pays 0 u paid (omega (arith, within, entered.count, are.one_each)) in
-        let same : 0 + u ≡ u = omega arith in
-        let printed : (account_of new u).paid ≡ (found.1).paid = omega (arith, entered.paid u (found.1) (found.2), before.unpaid unsettled) in
-        record {
-          paid_in = entered.paid_in u ∙ before.paid_in ∙ ap (λ (n : ℕ). market.points_per_bit * n) (sym (deposited_kept H Settles u refl));
-          taken_out = entered.taken_out u ∙ before.taken_out ∙ ap (λ (n : ℕ). market.points_per_bit * n) (sym (withdrawn_kept H Settles u refl));
-          unpaid = λ still. absurd (settled_now H still);
-          paid_off = λ _. is_paid_off u (found.0) (found.1) (account_of new u).paid printed
-              (subst (λ (k : ℕ). IsPayment (network_of market H) H market.points_per_bit state
-              (k, found.0) (found.1)) same (found.3));
-        };
-  }
+-- so each user is, where a settlement is entered that is one
+pub settlement_pays_off : SettlementPaysOff
+settlement_pays_off market H quotes old new at payments allowed paid u within =
+    met (first_refusal market H Settle) allowed
+  where
+    by : IsSettlement (network_of market H) H market.points_per_bit (Settled at payments)
+        → IsPaidOff market (H ++ Settles ∷ []) u (account_of new u).paid
+    by is =
+        let same : payments ≡ is.payments = (let e = is.printed in cc) in
+        let one = payment_at (IsPayment (network_of market H) H market.points_per_bit is.state)
+        (users H) is.payments 0 u is.paid within in
+        let zero_u : 0 + u ≡ u = omega arith in
+        is_paid_off market H is.state is.one_state u (one.0) (one.1) (account_of new u).paid
+        (paid u (one.1) (ap (λ (ps : List Payment). slice_get ps u) same ∙ one.2))
+        (subst (λ (k : ℕ). IsPayment (network_of market H) H market.points_per_bit is.state
+        (k, one.0) (one.1)) zero_u (one.3))
+
+    met : (o : Option Refusal)
+        → MatchOption o (IsAnswer market H quotes Settle (Settled at payments))
+        (λ why. Settled at payments ≡ Refused why)
+        → IsPaidOff market (H ++ Settles ∷ []) u (account_of new u).paid
+    met None is = by is
+    met (Some why) same = absurd (cc)
+
+-- payments that are entered leave what went in and out
+pub accounts_settled : (market : Market) (H : List Entry) (old new : List Account)
+    (pays : List Payment)
+    → AreAccounts market H old → ArePaid old new pays → AreAccounts market (H ++ Settles ∷ []) new
+accounts_settled market H old new pays are entered = record {
+  one_each = entered.count ∙ are.one_each ∙ sym (ap (λ (names : List (List ℕ)). length names) (users_kept H Settles refl));
+  each = λ u within.
+      let before = are.each u (omega (arith, within, entered.count)) in
+      record {
+        paid_in = entered.paid_in u ∙ before.paid_in ∙ ap (λ (n : ℕ). market.points_per_bit * n) (sym (deposited_kept H Settles u refl));
+        taken_out = entered.taken_out u ∙ before.taken_out ∙ ap (λ (n : ℕ). market.points_per_bit * n) (sym (withdrawn_kept H Settles u refl));
+        unpaid = λ still. absurd (settled_now H still);
+      };
+}
 
 module _ {P A Plan : Type 0} (weights_stand : P → Meaning → Type 0) (gains_stand : A → Meaning → Type 0) (plan_for : Plan → List Variable → GivenTree → Type 0)
     (file : MarketFile) (prices : P) (rows : A) (plan : Plan) (members : List (Member A Plan)) (accounts : List Account) (journal : JournalOf) (payments : Option (List Payment))
     (kept : IsKept weights_stand gains_stand plan_for file prices rows plan members accounts journal payments)
     (can : CanBeSettled file.net journal.history) (none : None ≡ first_refusal (market_of file) journal.history Settle)
     (new_members : List (Member A Plan)) (new_journal : JournalOf) (history : new_journal.history ≡ journal.history ++ Settles ∷ []) (same_quotes : quotes_of new_members ≡ quotes_of members)
-    (pays : List Payment)
-    (paid : (state : List ℕ) → possible_states file.net journal.history always ≡ state ∷ []
-    → AllZip (IsPayment file.net journal.history file.points_per_bit state)
-    (enumerate_from 0 (names_of members)) pays)
+    (pays : List Payment) (in_order : map (λ (p : Payment). p.user) pays ≡ names_of members)
     (at : ℕ) (now : at ≡ revision new_journal.history) where
+  later : at ≡ revision journal.history + 1
+  later = now ∙ ap (λ (H : List Entry). length H) history ∙ length_push journal.history Settles
+
   -- one state is left, and the payments are what the factors there are worth
-  outcome : HasOutcome file.net journal.history
-  outcome = outcome_exists file.net journal.history kept.legal kept.ready.stands.proper kept.ready.stands.sound can.resolved
+  module _ (paid : IsSound file.net journal.history
+      → (state : List ℕ) → possible_states file.net journal.history always ≡ state ∷ []
+      → AllZip (IsPayment file.net journal.history file.points_per_bit state)
+      (enumerate_from 0 (names_of members)) pays) where
+    outcome : HasOutcome file.net journal.history
+    outcome = outcome_exists file.net journal.history kept.legal kept.safe.proper can.resolved
 
-  paid_there : AllZip (IsPayment file.net journal.history file.points_per_bit outcome.state)
-      (enumerate_from 0 (users journal.history)) pays
-  paid_there =
-      subst (λ (names : List (List ℕ)). AllZip (IsPayment file.net journal.history
-      file.points_per_bit outcome.state) (enumerate_from 0 names) pays) kept.named
-      (paid outcome.state outcome.one_state)
+    settlement : IsSound file.net journal.history
+        → IsSettlement file.net journal.history file.points_per_bit (Settled at pays)
+    settlement sound = record {
+      state = outcome.state;
+      one_state = outcome.one_state;
+      payments = pays;
+      printed = ap (λ (n : ℕ). Settled n pays) later;
+      paid = subst (λ (names : List (List ℕ)). AllZip (IsPayment file.net journal.history
+          file.points_per_bit outcome.state) (enumerate_from 0 names) pays) kept.named
+          (paid sound outcome.state outcome.one_state);
+    }
 
-  settlement : IsSettlement file.net journal.history file.points_per_bit (Settled at pays)
-  settlement = record {
-    state = outcome.state;
-    one_state = outcome.one_state;
-    payments = pays;
-    printed = ap (λ (n : ℕ). Settled n pays) (now ∙ ap (λ (H : List Entry). length H) history ∙ length_push journal.history Settles);
-    paid = paid_there;
+    pub settlement_allowed : IsSound file.net journal.history → IsAllowedFor (market_of file) (standing_of journal members) (OfCommand Settle) (Settled at pays)
+    settlement_allowed sound = answer_allowed (market_of file) (standing_of journal members) Settle (Settled at pays) none (settlement sound)
+
+  -- each user is named in the order of joining, so they agree with the history
+  fit : IsFit (market_of file) journal.history Settle (Settled at pays)
+  fit = record {
+    unrefused = sym none;
+    agrees = record {
+      payments = pays;
+      printed = ap (λ (n : ℕ). Settled n pays) later;
+      in_order = in_order ∙ kept.named;
+    };
   }
-
-  pub settlement_allowed : IsAllowedFor (market_of file) (standing_of journal members) (OfCommand Settle) (Settled at pays)
-  settlement_allowed = answer_allowed (market_of file) (standing_of journal members) Settle (Settled at pays) none settlement
 
   pub settlement_next : standing_of new_journal new_members ≡ after (market_of file) (standing_of journal members) (OfCommand Settle) (Settled at pays)
   settlement_next = ap₂ (λ (H : List Entry) (qs : List (Option LastQuote)). record { history = H; quotes = map (option_map quoted) qs }) history same_quotes
@@ -171,10 +194,10 @@ module _ {P A Plan : Type 0} (weights_stand : P → Meaning → Type 0) (gains_s
       → ArePaidBy (Settled at pays) accounts new_accounts
   settlement_paid new_accounts entered u payment there =
       let few = slice_get_within pays u payment there in
-      let one_each = one_for_each (IsPayment file.net journal.history file.points_per_bit
-      outcome.state) (users journal.history) pays 0 paid_there in
+      let one_each = ap (λ (names : List (List ℕ)). length names) (in_order ∙ kept.named) in
+      let as_many = length-map pays (λ (p : Payment). p.user) in
       let before = kept.accounts_kept.each u (omega
-      (arith, few, one_each, kept.accounts_kept.one_each)) in
+      (arith, few, one_each, as_many, kept.accounts_kept.one_each)) in
       omega (arith, entered.paid u payment there, before.unpaid can.unsettled)
 
   -- the market is kept
@@ -184,7 +207,7 @@ module _ {P A Plan : Type 0} (weights_stand : P → Meaning → Type 0) (gains_s
   settlement_kept new_accounts left limit names still entered =
       let H = journal.history in
       kept_grown weights_stand gains_stand plan_for file prices prices rows rows plan members new_members accounts new_accounts journal new_journal payments left
-      Settles Settle (Settled at pays) tt kept settlement_allowed settlement_next
+      Settles Settle (Settled at pays) tt tt kept fit settlement_next
       (record {
         history = history;
         limit = limit;
@@ -193,6 +216,6 @@ module _ {P A Plan : Type 0} (weights_stand : P → Meaning → Type 0) (gains_s
         names = names ∙ kept.named ∙ sym (not_found H Settles join_in refl);
         owned = λ u assets at. subst (Owns gains_stand assets) (sym (holding_same file.net file.tree H Settles u refl refl refl)) (still u (holding_of file.net file.tree H u) (kept.owns u) assets at);
         none_quoted = λ u quote at. subst (λ (qs : List (Option LastQuote)). slice_get qs u ≡ Some (Some quote)) same_quotes at;
-        accounts = accounts_settled (market_of file) H outcome.state outcome.one_state pays paid_there accounts new_accounts can.unsettled kept.accounts_kept entered;
+        accounts = accounts_settled (market_of file) H accounts new_accounts pays kept.accounts_kept entered;
         room = λ unsettled. absurd (settled_now H unsettled);
       })

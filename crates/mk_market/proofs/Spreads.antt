@@ -6,6 +6,7 @@ use Rattle.std.specs.Prelude.{Err, IsErrAnd, ⊤, slice_get, slice_set, slice_in
 use Rattle.std.proofs.Common.{refl, sym, ap, ap₂, ◌∙◌, subst, inl, inr, arith}
 use Rattle.std.proofs.lemmas.Bool.{eqb-true}
 use Rattle.std.proofs.lemmas.List.{length_push}
+use Rattle.std.proofs.lemmas.List.Elements.{All-from_recursion, recursion_from_All}
 use Rattle.std.proofs.lemmas.Option.{slice_get-map}
 use Rattle.arrayvec.specs.ArrayVec.{ArrayVec}
 use Rattle.mk_net.specs.declared.words.PairText.{PairText}
@@ -15,6 +16,7 @@ use Rattle.mk_exact.specs.History.{Entry, Trade, revision}
 use Rattle.mk_exact.specs.Limits.{Side}
 use Rattle.mk_exact.specs.Proper.{IsRatioOf}
 use Rattle.mk_exact.specs.Weight.{IsSmall}
+use Rattle.mk_exact.proofs.Sums.{each_weaker}
 use Rattle.mk_spread.specs.Spreads.{SpreadAsked, spread_ratio}
 use Rattle.mk_spread.specs.Bounds.{Intervals, InsideEach}
 use Rattle.mk_spread.specs.Existing.{HasValueSides}
@@ -61,6 +63,9 @@ use Rattle.mk_market.specs.inner.Quoting.{IsSpreadQuoteOf, IsOutside}
 use Rattle.mk_market.proofs.Growing.{is_open}
 use Rattle.mk_market.proofs.Quotes.{trading, quote_said, standing_quoted}
 use Rattle.mk_market.proofs.Replies.{answer_allowed, refusal_allowed, none_appended}
+use Rattle.mk_reply.specs.Replies.{IsRatio}
+use Rattle.mk_restore.specs.Restoring.{IsFit}
+use Rattle.mk_restore.proofs.Taken.{allowed_fits}
 
 -- ---- a refusal
 
@@ -69,7 +74,7 @@ refused_answered : (old : Trading) (name v : List ℕ) (condition : ArrayVec Pai
     → Some why ≡ first_refusal old.market old.standing.history (Spread name v condition to seen) → IsAnswered old old (Spread name v condition to seen) (Refused why)
 refused_answered old name v condition to seen why e = record {
   same_market = refl;
-  allowed = refusal_allowed old.market old.standing (Spread name v condition to seen) why e;
+  allowed = λ sound. refusal_allowed old.market old.standing (Spread name v condition to seen) why e;
   next = none_appended old.market old.standing (Spread name v condition to seen) (Refused why) refl
       (spread_refused old.market old.standing.history old.standing.quotes name v condition to seen why (sym e));
   paid = λ u. refl;
@@ -111,7 +116,7 @@ module _ (network : List Variable) (tree : GivenTree) (H : List Entry) (u : ℕ)
 
   module _ (open_for : IsOpen network tree H) where
     has_sides : HasValueSides network H u (question_of quote)
-    has_sides = value_sides_exist network H u (question_of quote) open_for.legal open_for.proper open_for.sound
+    has_sides = value_sides_exist network H u (question_of quote) open_for.legal open_for.proper
         (record { in_order = is.current.answered.in_order; two_left = is.current.two_left })
 
     enclosed : AreSideBoundsFor (sides_of quote) (IsSmall network H) has_sides.sides
@@ -254,7 +259,7 @@ module _ {P A Plan : Type 0} (weights_stand : P → Meaning → Type 0) (gains_s
       (trading file accounts journal new_members) (Bounds name v condition) (Bounded box at)
   bounds_answered box at none given right now = record {
     same_market = refl;
-    allowed = answer_allowed (market_of file) (standing_of journal members) (Bounds name v condition) (Bounded box at) none
+    allowed = λ sound. answer_allowed (market_of file) (standing_of journal members) (Bounds name v condition) (Bounded box at) none
         (subst (λ (o : Option SpreadAsked). IsSomeAnd o (λ s. IsBounds file.net journal.history (user_number journal.history name) s (Bounded box at))) (sym is_question.named)
         (record {
           box = box;
@@ -277,7 +282,7 @@ module _ {P A Plan : Type 0} (weights_stand : P → Meaning → Type 0) (gains_s
       let outside : PrintsOutside (intervals_of quote) to.items reply = record { outside = out.outside; box = box; given = out.given; printed = refl } in
       record {
         same_market = refl;
-        allowed = spread_allowed file journal members name user is_user v condition spread is_question quote last to seen reply none
+        allowed = λ sound. spread_allowed file journal members name user is_user v condition spread is_question quote last to seen reply none
             (inr (record {
               intervals = intervals_of quote;
               right = right_for (intervals_of quote) (subst (AreRightForEach (sides_of quote)) out.given out.right);
@@ -305,6 +310,11 @@ module _ (file : MarketFile) (journal : JournalOf) (open_for : IsOpen file.net f
   pub ratio_is : IsRatioOf file.net (spread_ratio spread factors.items)
   ratio_is = fair_list_is_ratio file.net journal.history user spread to.items factors.items list is_question.answered.in_order.in_range
 
+  pub spread_has_units : All IsRatio factors.items
+  spread_has_units = All-from_recursion IsRatio factors.items
+      (each_weaker IsUnits IsRatio (λ n is. record { positive = is.positive; below = is.fits })
+      factors.items (recursion_from_All IsUnits factors.items of_values.1))
+
   module _ {A Plan : Type 0} (members new_members : List (Member A Plan)) (new_journal : JournalOf) (seen : Option ℕ)
       (none : None ≡ first_refusal (market_of file) journal.history (Spread name v condition to seen)) (inside : InsideEach (intervals_of quote) to.items)
       (last : (held : SpreadQuote) → slice_get (quotes_of members) user ≡ Some (Some (LastBounds held)) → IsSpreadFor held spread (revision journal.history) → quote ≡ held)
@@ -317,6 +327,16 @@ module _ (file : MarketFile) (journal : JournalOf) (open_for : IsOpen file.net f
         let trade : IsSpreadTrade file.net journal.history user spread to.items (Spreaded factors at)
         = record { factors = factors; printed = ap (λ (n : ℕ). Spreaded factors n) later; fair = list } in
         spread_allowed file journal members name user is_user v condition spread is_question quote last to seen (Spreaded factors at) none (inl trade) (inl (inside, trade))
+
+    pub spread_trade_fits : IsFit (market_of file) journal.history
+        (Spread name v condition to seen) (Spreaded factors at)
+    spread_trade_fits = allowed_fits (market_of file) journal.history
+        (map (option_map quoted) (quotes_of members)) (Spread name v condition to seen)
+        (Spreaded factors at)
+        (Trade (user_number journal.history name) (spread_ratio spread factors.items))
+        spread_trade_allowed
+        (ap (option_map (λ (s : SpreadAsked). Trade (user_number journal.history name)
+        (spread_ratio s factors.items))) is_question.named)
 
     pub spread_trade_next : standing_of new_journal new_members ≡ after (market_of file) (standing_of journal members) (OfCommand (Spread name v condition to seen)) (Spreaded factors at)
     spread_trade_next =
@@ -332,7 +352,7 @@ module _ (file : MarketFile) (journal : JournalOf) (open_for : IsOpen file.net f
         (Spreaded factors at)
     spread_trade_answered accounts = record {
       same_market = refl;
-      allowed = spread_trade_allowed;
+      allowed = λ sound. spread_trade_allowed;
       next = spread_trade_next;
       paid = λ u. refl;
     }

@@ -30,7 +30,6 @@ use Rattle.mk_reply.specs.declared.refusal.Refusal.{Refusal}
 use Rattle.mk_reply.specs.declared.refusal.Refusal.TheVariants.{Impossible, Range}
 use Rattle.mk_reply.specs.declared.reply.Reply.TheVariants.{Refused}
 use Rattle.mk_rules.specs.Refusals.{spread_named, unknown, refusals_by_record, first_refusal, pair_with, impossible_together, sure_value, impossible_share, missing_share}
-use Rattle.mk_rules.specs.Standings.{IsReady}
 use Rattle.mk_rules.proofs.Spreadable.{as_many_shares}
 use Rattle.mk_rules.proofs.Unrefused.{none_applies}
 use Rattle.mk_answers.specs.Open.{IsOpen, holding_of}
@@ -159,8 +158,7 @@ module _ {P A Plan : Type 0} (weights_stand : P → Meaning → Type 0) (gains_s
     owns = λ u. are.assets_beside u (holding_of file.net file.tree journal.history u) (kept.owns u);
     quotes_kept = subst (AreKeptQuotes file.net file.tree journal.history) (sym same) kept.quotes_kept;
     accounts_kept = kept.accounts_kept;
-    ready = subst (λ (qs : List (Option LastQuote)). IsReady (market_of file) (record { history = journal.history; quotes = map (option_map quoted) qs })) (sym same) kept.ready;
-    bounded = kept.bounded;
+    safe = kept.safe;
     max_trades = kept.max_trades;
     room = kept.room;
   }
@@ -286,4 +284,3 @@ module _ {P A Plan : Type 0} (weights_stand : P → Meaning → Type 0) (gains_s
           kept_quoted weights_stand gains_stand plan_for file prices new_prices rows plan members new_members accounts journal payments kept user (LastBounds down.quote)
           (kept_quote file.net file.tree journal.history user spread down.quote down.judge.its)
           (record { names = are.names_beside; quotes = down.quotes_left; assets = are.assets_beside }) are.prices_beside
-          (Spread name v condition to seen) (Refused found) (stopped_answered (stopped.Outside box) found down is)

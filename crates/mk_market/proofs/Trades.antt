@@ -1,10 +1,10 @@
 -- A market in which a user trades.
-use Rattle.std.specs.Prelude.{◌≡◌, ℕ, ◌<◌, List, [], ◌∷◌, ◌++◌, length, Option, Some, None}
+use Rattle.std.specs.Prelude.{◌≡◌, ℕ, ◌<◌, List, [], ◌∷◌, ◌++◌, length, false, Option, Some}
 use Rattle.std.specs.Prelude.{slice_get}
 use Rattle.std.proofs.Common.{refl, sym, ◌∙◌, subst, arith}
 use Rattle.mk_net.specs.Network.{Variable}
 use Rattle.mk_net.specs.Asked.{TradeRatio, ratio_pairs}
-use Rattle.mk_exact.specs.History.{Trade, join_in, users, trades, is_settlement}
+use Rattle.mk_exact.specs.History.{Trade, join_in, users, trades, is_settlement, is_settled}
 use Rattle.mk_exact.specs.Proper.{IsRatioOf}
 use Rattle.mk_tree.specs.Given.{GivenTree, home}
 use Rattle.mk_file.specs.declared.market_file.MarketFile.{MarketFile}
@@ -15,8 +15,9 @@ use Rattle.mk_cash.specs.declared.ledger.Account.{Account}
 use Rattle.mk_command.specs.declared.command.Command.{Command}
 use Rattle.mk_reply.specs.declared.payments.Payment.{Payment}
 use Rattle.mk_reply.specs.declared.reply.Reply.{Reply}
-use Rattle.mk_rules.specs.Refusals.{first_refusal}
-use Rattle.mk_rules.specs.Transcript.{OfCommand, IsAllowedFor, after}
+use Rattle.mk_restore.specs.Restoring.{IsFit}
+use Rattle.mk_restore.proofs.Safe.{HasUnits}
+use Rattle.mk_rules.specs.Transcript.{OfCommand, after}
 use Rattle.mk_rules.specs.Bounded.{JoinsByName}
 use Rattle.mk_answers.specs.Open.{holding_of}
 use Rattle.mk_record.specs.declared.last_quote.LastQuote.{LastQuote}
@@ -29,7 +30,6 @@ use Rattle.mk_market.proofs.Accounted.{accounts_kept}
 use Rattle.mk_record.proofs.Appends.{not_there, not_found}
 use Rattle.mk_market.proofs.Growing.{is_open, kept_grown}
 use Rattle.mk_market.proofs.Lent.{in_range}
-use Rattle.mk_market.proofs.Replies.{unsettled}
 
 module _ {P A Plan : Type 0} (weights_stand : P → Meaning → Type 0) (gains_stand : A → Meaning → Type 0) (plan_for : Plan → List Variable → GivenTree → Type 0)
     (file : MarketFile) (prices : P) (rows : A) (plan : Plan) (members : List (Member A Plan)) (accounts : List Account) (journal : JournalOf)
@@ -63,9 +63,11 @@ module _ {P A Plan : Type 0} (weights_stand : P → Meaning → Type 0) (gains_s
           few = omega (arith, kept.max_trades, file.trades_most);
         }
 
-    -- and where the reply to it is allowed the market is kept
-    pub trade_kept : (command : Command) (reply : Reply) → JoinsByName (OfCommand command) → None ≡ first_refusal (market_of file) journal.history command
-        → (new_members : List (Member A Plan)) (new_journal : JournalOf) → IsAllowedFor (market_of file) (standing_of journal members) (OfCommand command) reply
+    -- and where the reply to it is taken back the market is kept
+    pub trade_kept : (command : Command) (reply : Reply) → JoinsByName (OfCommand command) → HasUnits reply
+        → is_settled journal.history ≡ false
+        → (new_members : List (Member A Plan)) (new_journal : JournalOf)
+        → IsFit (market_of file) journal.history command reply
         → standing_of new_journal new_members ≡ after (market_of file) (standing_of journal members) (OfCommand command) reply
         → new_journal.history ≡ journal.history ++ Trade user ratio ∷ [] → quotes_of new_members ≡ quotes_of members
         → (new_prices : P) → new_journal.max_trades ≡ journal.max_trades
@@ -73,10 +75,10 @@ module _ {P A Plan : Type 0} (weights_stand : P → Meaning → Type 0) (gains_s
         → names_of new_members ≡ names_of members
         → ((u : ℕ) → OwnsAt gains_stand new_members u (holding_of file.net file.tree (journal.history ++ Trade user ratio ∷ []) u))
         → IsKept weights_stand gains_stand plan_for file new_prices rows plan new_members accounts new_journal payments
-    trade_kept command reply joins none new_members new_journal allowed next history same_quotes new_prices limit grown names owned =
+    trade_kept command reply joins units unsettled new_members new_journal fit next history same_quotes new_prices limit grown names owned =
         let H = journal.history in
         kept_grown weights_stand gains_stand plan_for file prices new_prices rows rows plan members new_members accounts accounts journal new_journal payments payments
-        (Trade user ratio) command reply joins kept allowed next
+        (Trade user ratio) command reply joins units kept fit next
         (record {
           history = history;
           limit = limit;
@@ -85,6 +87,6 @@ module _ {P A Plan : Type 0} (weights_stand : P → Meaning → Type 0) (gains_s
           names = names ∙ kept.named ∙ sym (not_found H (Trade user ratio) join_in refl);
           owned = owned;
           none_quoted = λ u quote at. subst (λ (qs : List (Option LastQuote)). slice_get qs u ≡ Some (Some quote)) same_quotes at;
-          accounts = accounts_kept (market_of file) H (unsettled (market_of file) H command none) (Trade user ratio) accounts refl refl (λ u. (refl, refl)) kept.accounts_kept;
-          room = λ unsettled. kept.room (sym (not_there H (Trade user ratio) is_settlement refl) ∙ unsettled);
+          accounts = accounts_kept (market_of file) H unsettled (Trade user ratio) accounts refl refl (λ u. (refl, refl)) kept.accounts_kept;
+          room = λ still. kept.room (sym (not_there H (Trade user ratio) is_settlement refl) ∙ still);
         })

@@ -12,6 +12,7 @@ use Rattle.mk_file.specs.MarketOf.{market_of}
 use Rattle.mk_exact.specs.Accepted.{Covers, IsMost}
 use Rattle.mk_exact.specs.Events.{always}
 use Rattle.mk_exact.specs.Existing.{HasLeast}
+use Rattle.mk_exact.specs.Sound.{IsSound}
 use Rattle.mk_exact.specs.Factors.{Fraction, HoldsNoTrade, IsAtLeastOne, factor_with, least_gain}
 use Rattle.mk_exact.specs.Weight.{IsSmall}
 use Rattle.mk_exact.proofs.ExistMarkets.{least_gain_exists}
@@ -31,6 +32,7 @@ use Rattle.mk_reply.specs.declared.payments.Payment.{Payment}
 use Rattle.mk_reply.specs.declared.reply.Reply.{Reply}
 use Rattle.mk_reply.specs.declared.reply.Reply.TheVariants.{Withdrawn, Refused}
 use Rattle.mk_rules.specs.Refusals.{first_refusal}
+use Rattle.mk_restore.specs.Restoring.{IsFit}
 use Rattle.mk_rules.specs.Transcript.{OfCommand, IsAllowedFor, after}
 use Rattle.mk_record.specs.declared.users.Member.{Member}
 use Rattle.mk_record.specs.Journals.{JournalOf}
@@ -50,7 +52,7 @@ module _ {P A Plan : Type 0} (weights_stand : P → Meaning → Type 0) (gains_s
     (kept : IsKept weights_stand gains_stand plan_for file prices rows plan members accounts journal payments)
     (name : List ℕ) (user bits : ℕ) (is_user : IsUser journal.history name user) (room : HasRoomForTransfer journal.history bits) where
   bits_fit : withdrawn journal.history user + bits ≤ max_bits
-  bits_fit = let most = few_moved (length (users journal.history)) user journal.history kept.bounded.transfers_fit in omega (arith, most.1, room.most, room.few)
+  bits_fit = let most = few_moved (length (users journal.history)) user journal.history kept.safe.bounded.transfers_fit in omega (arith, most.1, room.most, room.few)
 
   pub points_fit : (account_of accounts user).withdrawn + file.points_per_bit * bits < number_limit
   points_fit =
@@ -76,7 +78,7 @@ module _ {P A Plan : Type 0} (weights_stand : P → Meaning → Type 0) (gains_s
         (found : (network : List Variable) (tree : GivenTree) (H : List Entry) (u g : ℕ) → Owns gains_stand before (holding_of network tree H u) → IsOpen network tree H
         → least_gain network H u always ≡ Some g → IsFactorFor factor (IsSmall network H) (factor_with H u g)) where
       has_least : HasLeast file.net journal.history user
-      has_least = least_gain_exists file.net journal.history user kept.legal kept.ready.stands.proper kept.ready.stands.sound
+      has_least = least_gain_exists file.net journal.history user kept.legal kept.safe.proper
 
       -- the factor of the least gain
       worth : Fraction
@@ -109,9 +111,10 @@ module _ {P A Plan : Type 0} (weights_stand : P → Meaning → Type 0) (gains_s
           → ((network : List Variable) (H : List Entry) (q : Fraction)
           → IsFactorFor factor (IsSmall network H) q → IsAtLeastOne q
           → IsMost (IsSmall network H) (Encloses factor.gain 1) q most)
+          → IsSound file.net journal.history
           → IsAllowedFor (market_of file) (standing_of journal members) (OfCommand (Withdraw name bits)) (Refused (Short most))
       unfolding worth
-      short_allowed one_gain less is_most =
+      short_allowed one_gain less is_most sound =
           let small = IsSmall file.net journal.history in let idle = HoldsNoTrade journal.history
           user in
           let opened = is_open weights_stand gains_stand plan_for file prices rows plan members
@@ -123,63 +126,76 @@ module _ {P A Plan : Type 0} (weights_stand : P → Meaning → Type 0) (gains_s
             is_most = most_when small small idle (Encloses factor.gain 1) (λ s. s)
                 (one_gain file.net file.tree journal.history user (kept.owns user before there)
                 opened) worth most
-                (is_most file.net journal.history worth worth_for has_least.safe.at_least_one);
+                (is_most file.net journal.history worth worth_for
+                (has_least.safe sound).at_least_one);
             printed = refl;
           } in
           answered (Refused (Short most)) (inr short)
 
       -- and others are covered
-      module _ (now : Assets A Plan) (new_accounts : List Account) (new_journal : JournalOf) (history : new_journal.history ≡ journal.history ++ Withdraws user bits ∷ [])
-          (enough : bits ≤ most)
-          (covered : (network : List Variable) (H : List Entry) (q : Fraction) (bits : ℕ) → IsFactorFor factor (IsSmall network H) q → IsAtLeastOne q → bits ≤ most → Covers q bits) where
-        same_quotes : quotes_of (with_assets members user now) ≡ quotes_of members
-        same_quotes = quotes_same members user before now there
+      pub withdrawal_allowed : (new_journal : JournalOf)
+          → new_journal.history ≡ journal.history ++ Withdraws user bits ∷ [] → bits ≤ most
+          → ((network : List Variable) (H : List Entry) (q : Fraction) (bits : ℕ)
+          → IsFactorFor factor (IsSmall network H) q → IsAtLeastOne q → bits ≤ most → Covers q bits)
+          → (at : ℕ) → at ≡ revision new_journal.history → IsSound file.net journal.history
+          → IsAllowedFor (market_of file) (standing_of journal members)
+          (OfCommand (Withdraw name bits)) (Withdrawn name bits at)
+      unfolding worth
+      withdrawal_allowed new_journal history enough covered at e sound =
+          subst (λ (n : ℕ). IsAllowedFor (market_of file) (standing_of journal members)
+          (OfCommand (Withdraw name bits)) (Withdrawn name bits n))
+          (sym (e ∙ ap (λ (H : List Entry). length H) history
+          ∙ length_push journal.history (Withdraws user bits)))
+          (answered (Withdrawn name bits (revision journal.history + 1))
+          (inl (covered file.net journal.history worth bits worth_for
+          (has_least.safe sound).at_least_one enough, refl)))
 
-        reply : Reply
-        reply = Withdrawn name bits (revision journal.history + 1)
+    -- bits that are taken out leave the market kept, covered or not
+    module _ (none : None ≡ first_refusal (market_of file) journal.history (Withdraw name bits))
+        (now : Assets A Plan) (new_accounts : List Account) (new_journal : JournalOf)
+        (history : new_journal.history ≡ journal.history ++ Withdraws user bits ∷ []) where
+      same_quotes : quotes_of (with_assets members user now) ≡ quotes_of members
+      same_quotes = quotes_same members user before now there
 
-        allowed : IsAllowedFor (market_of file) (standing_of journal members) (OfCommand (Withdraw name bits)) reply
-        unfolding reply worth
-        allowed = answered (Withdrawn name bits (revision journal.history + 1)) (inl (covered file.net journal.history worth bits worth_for has_least.safe.at_least_one enough, refl))
+      reply : Reply
+      reply = Withdrawn name bits (revision journal.history + 1)
 
-        next : standing_of new_journal (with_assets members user now) ≡ after (market_of file) (standing_of journal members) (OfCommand (Withdraw name bits)) reply
-        unfolding reply
-        next = ap₂ (λ (H : List Entry) (qs : List (Option LastQuote)). record { history = H; quotes = map (option_map quoted) qs })
-            (history ∙ ap (λ (v : ℕ). journal.history ++ Withdraws v bits ∷ []) is_user.number) same_quotes
+      fit : IsFit (market_of file) journal.history (Withdraw name bits) reply
+      unfolding reply
+      fit = record { unrefused = sym none; agrees = refl }
 
-        -- the market is kept
-        pub withdrawal_kept : new_journal.max_trades ≡ journal.max_trades
-            → ((h : Holding) → Owns gains_stand mid h → h.withdrawn + bits ≤ max_bits → Owns gains_stand now (with_withdrawal bits h))
-            → new_accounts ≡ slice_set accounts user (let account = account_of accounts user in record account { withdrawn = account.withdrawn + file.points_per_bit * bits })
-            → IsKept weights_stand gains_stand plan_for file prices rows plan (with_assets members user now) new_accounts new_journal payments
-        withdrawal_kept limit withdraws paid =
-            let H = journal.history in
-            kept_grown weights_stand gains_stand plan_for file prices prices rows rows plan members (with_assets members user now) accounts new_accounts journal new_journal payments payments
-            (Withdraws user bits) (Withdraw name bits) reply tt kept allowed next
-            (record {
-              history = history;
-              limit = limit;
-              prices_grown = λ m stands. stands;
-              rows_grown = λ m stands. stands;
-              names = names_same members user before now there ∙ kept.named ∙ sym (not_found H (Withdraws user bits) Rattle.mk_exact.specs.History.join_in refl);
-              owned = owned_one file.net file.tree H gains_stand members user before now (Withdraws user bits) there kept.owns
-                  (subst (Owns gains_stand now) (sym (withdrawal_holding file.net file.tree H user bits))
-                  (withdraws (holding_of file.net file.tree H user) (still (holding_of file.net file.tree H user) (kept.owns user before there)) bits_fit))
-                  (withdrawal_others file.net file.tree H user bits);
-              none_quoted = λ u quote at. subst (λ (qs : List (Option LastQuote)). slice_get qs u ≡ Some (Some quote)) same_quotes at;
-              accounts = rw paid (accounts_withdrawn (market_of file) H (unsettled (market_of file) H (Withdraw name bits) none) accounts user bits (file.points_per_bit * bits) is_user.within refl kept.accounts_kept);
-              room = λ unsettled. kept.room (sym (not_there H (Withdraws user bits) is_settlement refl) ∙ unsettled);
-            })
+      next : standing_of new_journal (with_assets members user now) ≡ after (market_of file) (standing_of journal members) (OfCommand (Withdraw name bits)) reply
+      unfolding reply
+      next = ap₂ (λ (H : List Entry) (qs : List (Option LastQuote)). record { history = H; quotes = map (option_map quoted) qs })
+          (history ∙ ap (λ (v : ℕ). journal.history ++ Withdraws v bits ∷ []) is_user.number) same_quotes
 
-        pub withdrawal_allowed : (at : ℕ) → at ≡ revision new_journal.history → IsAllowedFor (market_of file) (standing_of journal members) (OfCommand (Withdraw name bits)) (Withdrawn name bits at)
-        unfolding reply
-        withdrawal_allowed at e =
-            subst (λ (n : ℕ). IsAllowedFor (market_of file) (standing_of journal members) (OfCommand (Withdraw name bits)) (Withdrawn name bits n))
-            (sym (e ∙ ap (λ (H : List Entry). length H) history ∙ length_push journal.history (Withdraws user bits))) allowed
+      pub withdrawal_kept : new_journal.max_trades ≡ journal.max_trades
+          → ((h : Holding) → Owns gains_stand mid h → h.withdrawn + bits ≤ max_bits → Owns gains_stand now (with_withdrawal bits h))
+          → new_accounts ≡ slice_set accounts user (let account = account_of accounts user in record account { withdrawn = account.withdrawn + file.points_per_bit * bits })
+          → IsKept weights_stand gains_stand plan_for file prices rows plan (with_assets members user now) new_accounts new_journal payments
+      unfolding reply
+      withdrawal_kept limit withdraws paid =
+          let H = journal.history in
+          kept_grown weights_stand gains_stand plan_for file prices prices rows rows plan members (with_assets members user now) accounts new_accounts journal new_journal payments payments
+          (Withdraws user bits) (Withdraw name bits) reply tt tt kept fit next
+          (record {
+            history = history;
+            limit = limit;
+            prices_grown = λ m stands. stands;
+            rows_grown = λ m stands. stands;
+            names = names_same members user before now there ∙ kept.named ∙ sym (not_found H (Withdraws user bits) Rattle.mk_exact.specs.History.join_in refl);
+            owned = owned_one file.net file.tree H gains_stand members user before now (Withdraws user bits) there kept.owns
+                (subst (Owns gains_stand now) (sym (withdrawal_holding file.net file.tree H user bits))
+                (withdraws (holding_of file.net file.tree H user) (still (holding_of file.net file.tree H user) (kept.owns user before there)) bits_fit))
+                (withdrawal_others file.net file.tree H user bits);
+            none_quoted = λ u quote at. subst (λ (qs : List (Option LastQuote)). slice_get qs u ≡ Some (Some quote)) same_quotes at;
+            accounts = rw paid (accounts_withdrawn (market_of file) H (unsettled (market_of file) H (Withdraw name bits) none) accounts user bits (file.points_per_bit * bits) is_user.within refl kept.accounts_kept);
+            room = λ unsettled. kept.room (sym (not_there H (Withdraws user bits) is_settlement refl) ∙ unsettled);
+          })
 
-        pub withdrawal_next : (at : ℕ) → standing_of new_journal (with_assets members user now) ≡ after (market_of file) (standing_of journal members) (OfCommand (Withdraw name bits)) (Withdrawn name bits at)
-        unfolding reply
-        withdrawal_next at = next
+      pub withdrawal_next : (at : ℕ) → standing_of new_journal (with_assets members user now) ≡ after (market_of file) (standing_of journal members) (OfCommand (Withdraw name bits)) (Withdrawn name bits at)
+      unfolding reply
+      withdrawal_next at = next
 
     pub short_next : (now : Assets A Plan) (most : ℕ) → standing_of journal (with_assets members user now) ≡ after (market_of file) (standing_of journal members) (OfCommand (Withdraw name bits)) (Refused (Short most))
     short_next now most =

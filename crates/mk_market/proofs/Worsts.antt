@@ -8,6 +8,7 @@ use Rattle.mk_exact.specs.Weight.{IsSmall}
 use Rattle.mk_exact.specs.Factors.{Fraction, HoldsNoTrade, IsAtLeastOne, factor_with, least_gain}
 use Rattle.mk_exact.specs.Cash.{CoversCash}
 use Rattle.mk_exact.specs.Existing.{HasLeast}
+use Rattle.mk_exact.specs.Sound.{IsSound}
 use Rattle.mk_exact.proofs.ExistMarkets.{least_gain_exists}
 use Rattle.mk_tree.specs.Given.{GivenTree}
 use Rattle.mk_file.specs.declared.market_file.MarketFile.{MarketFile}
@@ -57,9 +58,9 @@ module _ {P A Plan : Type 0} (weights_stand : P → Meaning → Type 0) (gains_s
     }
 
     has_least : HasLeast file.net journal.history user
-    has_least = least_gain_exists file.net journal.history user kept.legal kept.ready.stands.proper kept.ready.stands.sound
+    has_least = least_gain_exists file.net journal.history user kept.legal kept.safe.proper
 
-    pub worst_allowed : (factor : Factor) (low high : ℕ) → None ≡ first_refusal (market_of file) journal.history (Worst name)
+    pub worst_allowed : (factor : Factor) (low high : ℕ) → IsSound file.net journal.history → None ≡ first_refusal (market_of file) journal.history (Worst name)
         → ((network : List Variable) (tree : GivenTree) (H : List Entry) (u g : ℕ) → Owns gains_stand before (holding_of network tree H u) → IsOpen network tree H
         → least_gain network H u always ≡ Some g → IsFactorFor factor (IsSmall network H) (factor_with H u g))
         → ((network : List Variable) (tree : GivenTree) (H : List Entry) (u : ℕ)
@@ -69,7 +70,7 @@ module _ {P A Plan : Type 0} (weights_stand : P → Meaning → Type 0) (gains_s
         → IsAtLeastOne q
         → CoversCash (IsExact factor.gain) (Encloses factor.gain 1) q file.points_per_bit low high)
         → IsAllowedFor (market_of file) (standing_of journal members) (OfCommand (Worst name)) (Worsted low high)
-    worst_allowed factor low high none found one_gain covers =
+    worst_allowed factor low high sound none found one_gain covers =
         let least = has_least in let H = journal.history in
         let is = found file.net file.tree H user least.least (kept.owns user before there) opened least.is_least in
         let q = factor_with H user least.least in
@@ -83,7 +84,7 @@ module _ {P A Plan : Type 0} (weights_stand : P → Meaning → Type 0) (gains_s
               (Encloses factor.gain 1) is.exact
               (one_gain file.net file.tree H user (kept.owns user before there) opened) q
               file.points_per_bit low high (covers q is.stands is.graded
-              least.safe.at_least_one);
+              (least.safe sound).at_least_one);
         } in
         answer_allowed (market_of file) (standing_of journal members) (Worst name) (Worsted low high) none
         (subst (λ (n : ℕ). IsSomeAnd (least_gain file.net H n always)

@@ -1,7 +1,7 @@
 -- The accounts of a market's users, in points.
-use Rattle.std.specs.Prelude.{◌≡◌, ℕ, ◌*◌, ◌<◌, List, [], ◌∷◌, length, slice_get, Some, true, false}
+use Rattle.std.specs.Prelude.{◌≡◌, ℕ, ◌*◌, ◌<◌, List, [], ◌∷◌, ◌++◌, length, slice_get, Some, false}
 use Rattle.mk_exact.specs.Events.{always}
-use Rattle.mk_exact.specs.History.{Entry, users, deposited, withdrawn, is_settled}
+use Rattle.mk_exact.specs.History.{Entry, Settle as Settles, users, deposited, withdrawn, is_settled}
 use Rattle.mk_exact.specs.Weight.{IsSmall, possible_states}
 use Rattle.mk_exact.specs.Factors.{HoldsNoTrade, factor}
 use Rattle.mk_exact.specs.Cash.{CoversCash}
@@ -11,6 +11,9 @@ use Rattle.mk_cash.specs.Accounts.{account_of}
 use Rattle.mk_reply.specs.declared.payments.Payment.{Payment}
 use Rattle.mk_reply.specs.declared.reply.Reply.{Reply}
 use Rattle.mk_reply.specs.declared.reply.Reply.TheVariants.{Settled}
+use Rattle.mk_command.specs.declared.command.Command.TheVariants.{Settle}
+use Rattle.mk_rules.specs.Answers.{IsAllowed}
+use Rattle.mk_rules.specs.Quotes.{Quotes}
 
 -- a user is paid off with the low end of an interval that covers the cash of the user's factor in the one possible state
 pub record IsPaidOff (market : Market) (H : List Entry) (u points : ℕ) : Type 0 where
@@ -20,12 +23,11 @@ pub record IsPaidOff (market : Market) (H : List Entry) (u points : ℕ) : Type 
   pub covers : CoversCash (IsSmall (network_of market H) H) (HoldsNoTrade H u) (factor H u state)
       market.points_per_bit points high
 
--- a user's account: the points of the bits that went in and out, and nothing paid before the settlement, which pays the user off
+-- a user's account: the points of the bits that went in and out, and nothing paid before the settlement
 pub record IsAccount (market : Market) (H : List Entry) (u : ℕ) (account : Account) : Type 0 where
   pub paid_in : account.deposited ≡ market.points_per_bit * deposited H u
   pub taken_out : account.withdrawn ≡ market.points_per_bit * withdrawn H u
   pub unpaid : is_settled H ≡ false → account.paid ≡ 0
-  pub paid_off : is_settled H ≡ true → IsPaidOff market H u account.paid
 
 -- one for each user
 pub record AreAccounts (market : Market) (H : List Entry) (accounts : List Account) : Type 0 where
@@ -38,3 +40,13 @@ abbrev pub ArePaidBy : Reply → List Account → List Account → Type 0
 ArePaidBy (Settled at payments) old new = (u : ℕ) (payment : Payment)
     → slice_get payments u ≡ Some payment → (account_of new u).paid ≡ payment.paid
 ArePaidBy _ old new = (u : ℕ) → (account_of new u).paid ≡ (account_of old u).paid
+
+-- by an allowed settlement that is entered each user is paid off
+abbrev pub SettlementPaysOff : Type 0
+SettlementPaysOff =
+    (market : Market) (H : List Entry) (quotes : Quotes) (old new : List Account)
+    (at : ℕ) (payments : List Payment)
+    → IsAllowed market H quotes Settle (Settled at payments)
+    → ArePaidBy (Settled at payments) old new
+    → (u : ℕ) → u < length (users H)
+    → IsPaidOff market (H ++ Settles ∷ []) u (account_of new u).paid

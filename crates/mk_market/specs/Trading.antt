@@ -1,6 +1,7 @@
 -- What a market in use is to its callers, and how it answers a command.
 use Rattle.std.specs.Prelude.{◌≡◌, List, Result, Ok, Err}
-use Rattle.mk_exact.specs.Market.{Market}
+use Rattle.mk_exact.specs.Market.{Market, network_of}
+use Rattle.mk_exact.specs.Sound.{IsSound}
 use Rattle.mk_cash.specs.declared.ledger.Account.{Account}
 use Rattle.mk_command.specs.declared.command.Command.{Command}
 use Rattle.mk_reply.specs.declared.refusal.Refusal.{Refusal}
@@ -20,10 +21,11 @@ abbrev pub reply_of : Result Reply Refusal → Reply
 reply_of (Ok reply) = reply
 reply_of (Err why) = Refused why
 
--- a command is answered by an allowed reply, the standing moves on by it, and so does what users
--- were paid
+-- a command is answered by a reply that is allowed where the history before it is sound; whether it
+-- is or not, the standing moves on by the reply, and so does what users were paid
 pub record IsAnswered (old new : Trading) (command : Command) (reply : Reply) : Type 0 where
   pub same_market : new.market ≡ old.market
-  pub allowed : IsAllowedFor old.market old.standing (OfCommand command) reply
+  pub allowed : IsSound (network_of old.market old.standing.history) old.standing.history
+      → IsAllowedFor old.market old.standing (OfCommand command) reply
   pub next : new.standing ≡ after old.market old.standing (OfCommand command) reply
   pub paid : ArePaidBy reply old.accounts new.accounts

@@ -4,6 +4,7 @@
 mod answering;
 mod editing;
 mod joining;
+mod laws;
 mod market;
 mod opening;
 mod possible;
@@ -18,5 +19,6 @@ mod trading;
 mod transfers;
 mod withdrawing;
 
+pub use laws::{safe_has_homes, settlement_pays_off};
 pub use market::Market;
 pub use mk_record::Entry;

@@ -41,6 +41,7 @@ impl<P: Engine<SumProd>, A: Engine<MinProd>> Market<P, A> {
     ghost use Rattle.std.specs.Prelude.{◌≡◌, length};
     ghost use Rattle.mk_file.specs.MarketOf.{market_of};
     ghost use Rattle.mk_record.specs.Entries.{changes};
+    ghost use Rattle.mk_restore.specs.Laws.{IsSafe};
     ghost use Rattle.mk_market.specs.Points.{AreAccounts};
 
     /// How many variables the market has.
@@ -57,9 +58,10 @@ impl<P: Engine<SumProd>, A: Engine<MinProd>> Market<P, A> {
         self.file.points_per_bit
     }
 
-    /// The accepted changes, in order.
+    /// The accepted changes, in order. Whatever gave them, a market's safety rests on them.
     pub fn history(&self) -> &[Entry]
-        ensures { changes result.now ≡ (self.now.standing).history }
+        ensures same { changes result.now ≡ (self.now.standing).history }
+        ensures safe { IsSafe self.now.market (self.now.standing).history }
     {
         self.journal.entries()
     }

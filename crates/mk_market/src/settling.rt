@@ -36,11 +36,12 @@ impl<P: Engine<SumProd>, A: Engine<MinProd>> Market<P, A> {
     }
 }
 
-ghost use Rattle.std.specs.Prelude.{◌≡◌, ◌<◌, ℕ, List, [], ◌∷◌, length, false, Some, slice_get};
+ghost use Rattle.std.specs.Prelude.{◌≡◌, ◌<◌, ℕ, List, [], ◌∷◌, length, map, false, Some, slice_get};
 ghost use Rattle.std.specs.List.{AllZip, enumerate_from};
 ghost use Rattle.mk_net.specs.Bounds.{number_limit};
 ghost use Rattle.mk_exact.specs.Events.{always};
 ghost use Rattle.mk_exact.specs.History.{is_settled};
+ghost use Rattle.mk_exact.specs.Sound.{IsSound};
 ghost use Rattle.mk_exact.specs.Weight.{possible_states};
 ghost use Rattle.mk_assets.specs.Holdings.{Holding};
 ghost use Rattle.mk_file.specs.MarketOf.{market_of};
@@ -69,7 +70,9 @@ fn pay<A: Engine<MinProd>>(
     ensures names { names_of users.new ≡ names_of users.old }
     ensures quotes { quotes_of users.new ≡ quotes_of users.old }
     ensures ledger { ArePaid ledger.old ledger.new payments.new }
-    ensures payments { (state : List ℕ) → possible_states file.now.net journal.now.history always ≡ state ∷ []
+    ensures in_order { map (λ p. p.user) payments.new ≡ names_of users.old }
+    ensures payments { IsSound file.now.net journal.now.history
+        → (state : List ℕ) → possible_states file.now.net journal.now.history always ≡ state ∷ []
         → AllZip (IsPayment file.now.net journal.now.history file.now.points_per_bit state)
         (enumerate_from 0 (names_of users.old)) payments.new }
 {
@@ -93,7 +96,9 @@ fn payment_of<A: Engine<MinProd>>(
     ensures assets { (u : ℕ) (h : Holding) → OwnsAt A.stands_for users.old u h → OwnsAt A.stands_for users.new u h }
     ensures names { names_of users.new ≡ names_of users.old }
     ensures quotes { quotes_of users.new ≡ quotes_of users.old }
-    ensures payment { (state name : List ℕ) → possible_states file.now.net journal.now.history always ≡ state ∷ []
+    ensures user { slice_get (names_of users.old) user ≡ Some result.user }
+    ensures payment { IsSound file.now.net journal.now.history
+        → (state name : List ℕ) → possible_states file.now.net journal.now.history always ≡ state ∷ []
         → slice_get (names_of users.old) user ≡ Some name
         → IsPayment file.now.net journal.now.history file.now.points_per_bit state (user, name)
         result }

@@ -22,8 +22,7 @@ use Rattle.mk_quote.specs.Spreads as spreads
 use Rattle.mk_reply.specs.declared.payments.Payment.{Payment}
 use Rattle.mk_rules.specs.Quotes as rules
 use Rattle.mk_rules.specs.Transcript.{Standing}
-use Rattle.mk_rules.specs.Standings.{IsReady}
-use Rattle.mk_rules.specs.Bounded.{IsBounded}
+use Rattle.mk_restore.specs.Laws.{IsSafe}
 use Rattle.mk_answers.specs.Results.{AreBothLeft}
 use Rattle.mk_answers.specs.Open.{CanBeAnswered, CanBeSpreadHere, AreBoundsFor, AreSideBoundsFor, holding_of}
 use Rattle.mk_record.specs.declared.last_quote.LastQuote.{LastQuote}
@@ -79,7 +78,8 @@ pub record IsKeptQuote (network : List Variable) (tree : GivenTree) (H : List En
 abbrev pub AreKeptQuotes : List Variable → GivenTree → List Entry → List (Option LastQuote) → Type 0
 AreKeptQuotes network tree H quotes = (u : ℕ) (quote : LastQuote) → slice_get quotes u ≡ Some (Some quote) → IsKeptQuote network tree H u quote
 
--- the engines, the users and the ledger are as the history leaves them, and the history stands
+-- the engines, the users and the ledger are as the history leaves them, and the history is safe: what a
+-- store gives back is that also where it isn't sound
 module _ {P A Plan : Type 0} (weights_stand : P → Meaning → Type 0) (gains_stand : A → Meaning → Type 0) (plan_for : Plan → List Variable → GivenTree → Type 0) where
   pub record IsKept (file : MarketFile) (prices : P) (rows : A) (plan : Plan) (members : List (Member A Plan)) (accounts : List Account) (journal : JournalOf)
       (payments : Option (List Payment)) : Type 0 where
@@ -93,7 +93,6 @@ module _ {P A Plan : Type 0} (weights_stand : P → Meaning → Type 0) (gains_s
         → Owns gains_stand assets (holding_of file.net file.tree journal.history u)
     pub quotes_kept : AreKeptQuotes file.net file.tree journal.history (quotes_of members)
     pub accounts_kept : AreAccounts (market_of file) journal.history accounts
-    pub ready : IsReady (market_of file) (standing_of journal members)
-    pub bounded : IsBounded (market_of file) journal.history
+    pub safe : IsSafe (market_of file) journal.history
     pub max_trades : journal.max_trades ≡ file.max_trades
     pub room : is_settled journal.history ≡ false → payments ≡ Some []

@@ -16,6 +16,7 @@ invariant-loop-value g l = record {
   long : length (l.intervals).items ≡ l.value;
   sure : (tree : GivenTree) (H : List Entry) (u : ℕ)
       → Owns g.A.Engine.stands_for l.fn.assets (holding_of l.net tree H u) → IsOpen l.net tree H
-      → IsSound l.net H → AllZip (IsSureOf l.net H u l.points_per_bit (spread_in l.asked)) (range_with_len 0 l.value)
+      → IsSound l.net H
+      → AllZip (IsSureOf l.net H u l.points_per_bit (spread_in l.asked)) (range_with_len 0 l.value)
       (l.intervals).items;
 }

@@ -12,4 +12,4 @@ loop-user-preserved g c =
     one_paid g.A.Engine.stands_for c.args.file.now.net c.args.journal.now.history c.args.file.now.points_per_bit c.args.users.now c.args.ledger.now c.loop-user.user
     c.loop-user.users made.new.users c.loop-user.ledger c.pay.new.self c.loop-user.payments c.push.new.self made.result
     (omega (arith, c.loop-user-test.true, c.count-user-end.ensures.count)) c.requires.one_each c.loop-user.invariant
-    made.ensures.assets made.ensures.names made.ensures.quotes made.ensures.payment c.pay.ensures c.push.ensures
+    made.ensures.assets made.ensures.names made.ensures.quotes made.ensures.user made.ensures.payment c.pay.ensures c.push.ensures

@@ -1,5 +1,7 @@
-use Rattle.std.proofs.Common.{List, ℕ, slice_get, refl, sym, ap, ◌∙◌}
-use Rattle.mk_market.proofs.Lent.{names_stay, quotes_stay, owned_still}
+use Rattle.std.proofs.Common.{List, ℕ, slice_get, Some, refl, sym, ap, ◌∙◌, arith}
+use Rattle.std.proofs.lemmas.List.{length-map}
+use Rattle.mk_record.specs.Members.{names_of}
+use Rattle.mk_market.proofs.Lent.{there, names_stay, quotes_stay, owned_still}
 use Rattle.mk_market.proofs.Paid.{some_is, covers_factor}
 use Rattle.mk_market.proofs.settling.payment_of.Goals as goal
 
@@ -24,12 +26,12 @@ pub returns-clause-quotes : goal.returns-clause-quotes
 returns-clause-quotes g c = quotes_stay c.args.users.now c.args.user c.least_of-factor.new.assets
 
 pub returns-clause-payment : goal.returns-clause-payment
-returns-clause-payment g c = λ state name one at.
+returns-clause-payment g c = λ sound state name one at.
     let net = c.args.file.now.net in let tree = c.args.file.now.tree in let H = c.args.journal.now.history in
     record {
       name = some_is c.name.result name
           (sym c.name.ensures ∙ ap (λ (names : List (List ℕ)). slice_get names c.args.user) (names_stay c.args.users.now c.args.user c.least_of-factor.new.assets) ∙ at);
-      covers = covers_factor net tree H c.requires.is_open c.args.user state one c.least_of-factor.result c.args.file.now.points_per_bit (c.cash-low.result.0) (c.cash-low.result.1)
+      covers = covers_factor net tree H c.requires.is_open c.args.user state one sound c.least_of-factor.result c.args.file.now.points_per_bit (c.cash-low.result.0) (c.cash-low.result.1)
           (λ gain is_least. c.least_of-factor.ensures.least net tree H c.args.user gain (c.requires.owns c.args.user c.assets.result.now c.assets.ensures.value) c.requires.is_open is_least)
           (c.least_of-factor.ensures.idle net tree H c.args.user
           (c.requires.owns c.args.user c.assets.result.now c.assets.ensures.value)
@@ -37,3 +39,12 @@ returns-clause-payment g c = λ state name one at.
           c.cash-low.ensures.covers;
       low_end = refl;
     }
+
+pub returns-clause-user : goal.returns-clause-user
+returns-clause-user g c =
+    let lent = there (names_of c.args.users.now) c.args.user
+    (omega (arith, c.requires.user, length-map c.args.users.now (λ (m : _). m.name))) in
+    lent.1 ∙ ap (λ (name : List ℕ). Some name) (sym (some_is c.name.result (lent.0)
+    (sym c.name.ensures
+    ∙ ap (λ (names : List (List ℕ)). slice_get names c.args.user)
+    (names_stay c.args.users.now c.args.user c.least_of-factor.new.assets) ∙ lent.1)))

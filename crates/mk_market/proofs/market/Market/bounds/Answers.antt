@@ -77,11 +77,6 @@ invariant_of-self-2 g c =
     let made = c.fresh_spread_quote in
     let quote = c.in-Ok.quote in
     let its = c.in-Ok.ensures.quote in
-    let question = question_for i.file i.journal.history c.args.variable.now c.as_slice.result.now c.args.condition.now _ c.as_slice.ensures.value found.ensures.question in
-    let none = bounds_unrefused g.P.Engine.stands_for g.A.Engine.stands_for g.A.Engine.plan_for i.file i.prices i.rows i.plan i.users i.ledger i.journal i.payments c.self.invariant
-    made.new.prices made.new.users c.args.name.now found.request.user found.ensures.user
-    c.args.variable.now c.args.condition.now _ question quote its
-    (found.ensures.refusal c.args.condition.now (sym c.as_slice.ensures.value)) in
     let are = quote_was_set g.A.Engine.stands_for i.users made.new.users c.set_quote.new.self
     found.request.user (Bounds quote) c.in-Ok.ensures.names c.in-Ok.ensures.quotes
     c.in-Ok.ensures.assets (in_range i.users (users i.journal.history) found.request.user
@@ -89,12 +84,7 @@ invariant_of-self-2 g c =
     kept_quoted g.P.Engine.stands_for g.A.Engine.stands_for g.A.Engine.plan_for i.file i.prices made.new.prices i.rows i.plan i.users c.set_quote.new.self i.ledger i.journal i.payments
     c.self.invariant found.request.user (Bounds quote)
     (kept_quote i.file.net i.file.tree i.journal.history found.request.user _ quote its) are
-    c.in-Ok.ensures.prices _ _
-    (bounds_answered g.P.Engine.stands_for g.A.Engine.stands_for g.A.Engine.plan_for i.file i.prices i.rows i.plan i.users c.set_quote.new.self i.ledger i.journal i.payments
-    c.self.invariant c.args.name.now found.request.user found.ensures.user c.args.variable.now
-    c.args.condition.now _ question quote its are.quotes
-    c.intervals-intervals.result c.revision.result none c.intervals-intervals.ensures.value
-    c.intervals-intervals.ensures.right c.revision.ensures)
+    c.in-Ok.ensures.prices
 
 pub returns : goal.returns
 returns g c =

@@ -9,11 +9,11 @@ use Rattle.mk_reply.specs.declared.reply.Reply.TheVariants.{Traded}
 use Rattle.mk_rules.proofs.Traded.{ratio_fits}
 use Rattle.mk_record.specs.declared.last_quote.LastQuote.TheVariants.{Limits}
 use Rattle.mk_market.specs.inner.Quoting.{CanBeMade}
-use Rattle.mk_market.proofs.Replies.{by_record}
+use Rattle.mk_market.proofs.Replies.{by_record, unsettled}
 use Rattle.mk_market.proofs.Stopping.{edit_known, edit_unrefused, edit_stopped}
 use Rattle.mk_file.specs.MarketOf.{market_of}
 use Rattle.mk_beliefs.specs.Meanings.{weights_of}
-use Rattle.mk_market.proofs.Edited.{left_by_quote, last_is, edit_refused_answered, kept_quote, beyond_answered, hit_units, miss_units, trade_allowed, trade_next, trade_answered}
+use Rattle.mk_market.proofs.Edited.{left_by_quote, last_is, edit_refused_answered, kept_quote, beyond_answered, hit_units, miss_units, trade_has_units, trade_fits, trade_next, trade_answered}
 use Rattle.mk_market.proofs.Growing.{is_open}
 use Rattle.mk_market.proofs.Lent.{in_range}
 use Rattle.mk_market.proofs.Quotes.{quote_was_set, kept_quoted, kept_unquoted}
@@ -55,12 +55,6 @@ invariant_of-self-in_default g c =
     let found = c.in_ok-request in
     let made = c.present_quote in
     let ok = c.in-Ok in
-    let none = edit_unrefused i.file i.journal.history c.args.name.now c.args.question.now c.args.to
-    c.args.at found.request.question found.ensures.question.named
-    (left_by_quote i.file.net i.file.tree i.journal.history found.request.user
-    found.request.question ok.quote ok.ensures.quote) found.ensures.refusal in
-    let last = last_is i.users found.request.user found.request.question
-    (revision i.journal.history) made.result ok.quote ok.is made.ensures.last in
     let are = quote_was_set g.A.Engine.stands_for i.users made.new.users c.set_quote.new.self
     found.request.user (Limits ok.quote) made.ensures.names made.ensures.quotes
     made.ensures.assets (in_range i.users (users i.journal.history) found.request.user
@@ -68,11 +62,7 @@ invariant_of-self-in_default g c =
     kept_quoted g.P.Engine.stands_for g.A.Engine.stands_for g.A.Engine.plan_for i.file i.prices made.new.prices i.rows i.plan i.users c.set_quote.new.self i.ledger i.journal i.payments
     c.self.invariant found.request.user (Limits ok.quote)
     (kept_quote i.file.net i.file.tree i.journal.history found.request.user
-    found.request.question ok.quote ok.ensures.quote) are made.ensures.prices _ _
-    (beyond_answered g.P.Engine.stands_for g.A.Engine.stands_for g.A.Engine.plan_for i.file i.prices i.rows i.plan i.users c.set_quote.new.self i.ledger i.journal i.payments
-    c.self.invariant c.args.name.now found.request.user found.ensures.user c.args.question.now
-    found.request.question found.ensures.question ok.quote ok.ensures.quote are
-    c.args.to c.args.at c.limits.result none c.limits.ensures.value c.limits.ensures.right c.in_default.ensures.inside last)
+    found.request.question ok.quote ok.ensures.quote) are made.ensures.prices
 
 pub returns-in_default : goal.returns-in_default
 returns-in_default g c =
@@ -186,8 +176,14 @@ invariant_of-self-2 g c =
     trade_kept g.P.Engine.stands_for g.A.Engine.stands_for g.A.Engine.plan_for i.file i.prices
     i.rows i.plan i.users i.ledger i.journal i.payments c.self.invariant found.request.user
     found.ensures.user.within
-    (trade_ratio ratio.result) (Edit c.args.name.now c.args.question.now c.args.to c.args.at) (Traded (c.in-Some.units.0) (c.in-Some.units.1) c.revision.result) tt none c.trade.new.users c.trade.new.journal
-    (trade_allowed i.file i.journal opened c.args.name.now found.request.user found.ensures.user
+    (trade_ratio ratio.result) (Edit c.args.name.now c.args.question.now c.args.to c.args.at) (Traded (c.in-Some.units.0) (c.in-Some.units.1) c.revision.result) tt
+    (trade_has_units i.file i.journal opened c.args.name.now found.request.user found.ensures.user
+    c.args.question.now found.request.question found.ensures.question ok.quote ok.ensures.quote
+    c.args.to (c.in-Some.units.0) (c.in-Some.units.1) c.in-Some.ensures.fair)
+    (unsettled (market_of i.file) i.journal.history
+    (Edit c.args.name.now c.args.question.now c.args.to c.args.at) none)
+    c.trade.new.users c.trade.new.journal
+    (trade_fits i.file i.journal opened c.args.name.now found.request.user found.ensures.user
     c.args.question.now found.request.question found.ensures.question ok.quote ok.ensures.quote
     c.args.to (c.in-Some.units.0) (c.in-Some.units.1) c.in-Some.ensures.fair i.users c.trade.new.users c.trade.new.journal c.args.at none c.in-Some.ensures.inside last
     history (c.trade.ensures.quotes ∙ made.ensures.quotes) c.revision.result c.revision.ensures)

@@ -45,10 +45,6 @@ invariant_of-self-2 g c =
     let found = c.in_ok-request in
     let made = c.fresh_quote in
     let ok = c.in-Ok in
-    let none = limits_unrefused i.file i.journal.history c.args.name.now c.args.question.now
-    found.request.question found.ensures.question.named
-    (left_by_quote i.file.net i.file.tree i.journal.history found.request.user
-    found.request.question ok.quote ok.ensures.quote) found.ensures.refusal in
     let are = quote_was_set g.A.Engine.stands_for i.users made.new.users c.set_quote.new.self
     found.request.user (Limits ok.quote) made.ensures.names made.ensures.quotes
     made.ensures.assets (in_range i.users (users i.journal.history) found.request.user
@@ -56,11 +52,7 @@ invariant_of-self-2 g c =
     kept_quoted g.P.Engine.stands_for g.A.Engine.stands_for g.A.Engine.plan_for i.file i.prices made.new.prices i.rows i.plan i.users c.set_quote.new.self i.ledger i.journal i.payments
     c.self.invariant found.request.user (Limits ok.quote)
     (kept_quote i.file.net i.file.tree i.journal.history found.request.user
-    found.request.question ok.quote ok.ensures.quote) are made.ensures.prices _ _
-    (limits_answered g.P.Engine.stands_for g.A.Engine.stands_for g.A.Engine.plan_for i.file i.prices i.rows i.plan i.users c.set_quote.new.self i.ledger i.journal i.payments
-    c.self.invariant c.args.name.now found.request.user found.ensures.user c.args.question.now
-    found.request.question found.ensures.question ok.quote ok.ensures.quote are
-    c.limits.result c.revision.result none c.limits.ensures.value c.limits.ensures.right c.revision.ensures)
+    found.request.question ok.quote ok.ensures.quote) are made.ensures.prices
 
 pub returns : goal.returns
 returns g c =

@@ -95,12 +95,12 @@ returns-in-Some g c =
     let none = found.ensures.refusal c.args.condition.now (sym c.as_slice-words.ensures.value) in
     rw (← c.self.view_is) (record {
       same_market = refl;
-      allowed = position_allowed i.file (standing_of i.journal i.users) c.args.variable.now
+      allowed = λ sound. position_allowed i.file (standing_of i.journal i.users) c.args.variable.now
           c.args.condition.now spread question
           c.args.name.now found.request.user found.ensures.user c.in-Some.intervals none
           (c.in-Some.ensures.position i.file.tree H found.request.user
           (c.self.invariant.owns found.request.user c.assets.result.now c.assets.ensures.value)
-          opened found.ensures.question.answered);
+          opened found.ensures.question.answered) sound;
       next = same_standing i.journal i.users found.request.user c.assets.result.now
           c.position_of.new.assets c.assets.ensures.value
           ∙ none_appended (market_of i.file) (standing_of i.journal i.users) command
@@ -134,7 +134,7 @@ returns-in-None g c =
     found.ensures.question.answered) in
     rw (← c.self.view_is) (record {
       same_market = refl;
-      allowed = position_stopped i.file (standing_of i.journal i.users) c.args.variable.now
+      allowed = λ sound. position_stopped i.file (standing_of i.journal i.users) c.args.variable.now
           c.args.condition.now spread question
           c.args.name.now c.refuse_condition.result none
           (ap (impossible_together i.file.net H) (sym c.as_slice-words.ensures.value) ∙

@@ -46,7 +46,7 @@ pub returns-in-Some : goal.returns-in-Some
 returns-in-Some g c =
     rw (← c.self.view_is) (record {
       same_market = refl;
-      allowed = price_allowed g.P.Engine.stands_for g.A.Engine.stands_for g.A.Engine.plan_for _ _ _ _ _ _ _ _ c.self.invariant c.args.question.now c.in_ok-asked.asked c.in_ok-asked.ensures.question
+      allowed = λ sound. price_allowed g.P.Engine.stands_for g.A.Engine.stands_for g.A.Engine.plan_for _ _ _ _ _ _ _ _ c.self.invariant c.args.question.now c.in_ok-asked.asked c.in_ok-asked.ensures.question
           c.in-Some.low c.in-Some.high c.in_ok-asked.ensures.refusal c.in-Some.ensures.price;
       next = price_next g.P.Engine.stands_for g.A.Engine.stands_for g.A.Engine.plan_for _ _ _ _ _ _ _ _ c.self.invariant c.args.question.now c.in-Some.low c.in-Some.high;
       paid = λ u. refl;

@@ -69,7 +69,7 @@ returns-in-Some g c =
     let none = found.ensures.refusal c.args.condition.now (sym c.as_slice-words.ensures.value) in
     rw (← c.self.view_is) (record {
       same_market = refl;
-      allowed = prices_allowed i.file (standing_of i.journal i.users) c.args.variable.now
+      allowed = λ sound. prices_allowed i.file (standing_of i.journal i.users) c.args.variable.now
           c.args.condition.now spread question
           c.in-Some.intervals none
           (c.in-Some.ensures.prices i.file.tree H c.self.invariant.prices_stand opened
@@ -104,7 +104,7 @@ returns-in-None g c =
     found.ensures.question.answered) in
     rw (← c.self.view_is) (record {
       same_market = refl;
-      allowed = prices_stopped i.file (standing_of i.journal i.users) c.args.variable.now
+      allowed = λ sound. prices_stopped i.file (standing_of i.journal i.users) c.args.variable.now
           c.args.condition.now spread question
           c.refuse_condition.result none (ap (impossible_together i.file.net H)
           (sym c.as_slice-words.ensures.value) ∙ refused);

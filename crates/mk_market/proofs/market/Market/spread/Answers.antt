@@ -16,9 +16,10 @@ use Rattle.mk_market.specs.inner.Quoting.{IsTaken, IsTurnedDown, CanBeMade}
 use Rattle.mk_market.specs.inner.Stopped.{IsRefusedFor}
 use Rattle.mk_market.proofs.Growing.{is_open}
 use Rattle.mk_market.proofs.Refiled.{refiled}
-use Rattle.mk_market.proofs.Replies.{by_record}
+use Rattle.mk_market.proofs.Replies.{by_record, unsettled}
 use Rattle.mk_market.proofs.Spreads.{spread_refused_answered, question_for, of_values, ratio_is}
-use Rattle.mk_market.proofs.Spreads.{spread_trade_allowed, spread_trade_next, spread_trade_answered}
+use Rattle.mk_market.proofs.Spreads.{spread_has_units, spread_trade_fits, spread_trade_next}
+use Rattle.mk_market.proofs.Spreads.{spread_trade_answered}
 use Rattle.mk_market.proofs.StoppedSpreads.{can_refuse, spread_known, one_share_each, spread_unrefused, turned_may_stop, stopped_answered, stopped_kept}
 use Rattle.mk_market.proofs.Trades.{in_use, can_be_made, trade_kept}
 use Rattle.mk_market.proofs.market.Market.spread.Goals as goal
@@ -213,9 +214,14 @@ invariant_of-self-2 g c =
     trade_kept g.P.Engine.stands_for g.A.Engine.stands_for g.A.Engine.plan_for i.file i.prices
     i.rows i.plan i.users i.ledger i.journal i.payments c.self.invariant found.request.user
     found.ensures.user.within
-    (trade_ratio c.ratio_of_spread-ratio.result) (Spread c.args.name.now c.args.variable.now c.args.condition.now c.args.to.now c.args.at) (Spreaded factors c.revision.result) tt none
+    (trade_ratio c.ratio_of_spread-ratio.result) (Spread c.args.name.now c.args.variable.now c.args.condition.now c.args.to.now c.args.at) (Spreaded factors c.revision.result) tt
+    (spread_has_units i.file i.journal opened c.args.name.now found.request.user found.ensures.user
+    c.args.variable.now c.args.condition.now spread question judged.quote judged.judge.its
+    c.args.to.now factors judged.is_inside.fair)
+    (unsettled (market_of i.file) i.journal.history
+    (Spread c.args.name.now c.args.variable.now c.args.condition.now c.args.to.now c.args.at) none)
     c.trade.new.users c.trade.new.journal
-    (spread_trade_allowed i.file i.journal opened c.args.name.now found.request.user
+    (spread_trade_fits i.file i.journal opened c.args.name.now found.request.user
     found.ensures.user c.args.variable.now c.args.condition.now spread question judged.quote
     judged.judge.its
     c.args.to.now factors judged.is_inside.fair i.users c.trade.new.users c.trade.new.journal c.args.at none judged.is_inside.inside judged.judge.last history quotes
