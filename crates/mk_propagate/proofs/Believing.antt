@@ -100,7 +100,7 @@ module _ (plus : ℕ → ℕ → ℕ) (law : Lawful plus) (flow : FlowOf) (produ
   pub some_cells : 1 ≤ cells_in table.scope
   some_cells = let s = ap cells_in scope_is in let e = clique_counted p.network tree k in let c = cells_positive p.network (clique_at tree k) has.shape_is.legal in omega (arith, s, e, c)
 
-  pub few_before : flow.factors + cells + 2 * length tree.cliques ≤ 99072
+  pub few_before : flow.factors + cells + 2 * length tree.cliques ≤ 99582
   few_before = let a = all_cells_are in let n = has.counted in let l = few_grades flow.shape p has.shape_is has.placing in omega (arith, a, n, l)
 
   -- the total

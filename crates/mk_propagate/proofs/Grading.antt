@@ -123,7 +123,7 @@ module _ (shape : ShapeOf) (p : Placing) (is : IsShapeFor shape p.network) (plac
       let d = factors_at_most m p.factors in
       omega (arith, a, b, c, d)
 
-  pub few_grades : length p.factors + all_cells tree p + 2 * length tree.cliques ≤ 99072
+  pub few_grades : length p.factors + all_cells tree p + 2 * length tree.cliques ≤ 99582
   few_grades = let c = few_cells in let m = is.tree_is.linked.few in let l = placing.few in omega (arith, c, m, l)
 
   -- what is gathered in a clique with its cells, and twice one for each message, is within the whole
@@ -165,10 +165,10 @@ module _ (shape : ShapeOf) (p : Placing) (is : IsShapeFor shape p.network) (plac
         let t = sum_of_at_most (is_input tree k receiver) (is_input tree k receiver) m (λ i. exact_message_grade tree p i k) (λ i. exact_message_grade tree p i k + 2) (λ i h. h) (λ i. omega arith) in
         omega (arith, e, t)
 
-    pub few_steps : factors_in p k + gathered_steps tree p k receiver (neighbours tree k) + 2 * clique_cells p.network tree k ≤ 3 * 99072
+    pub few_steps : factors_in p k + gathered_steps tree p k receiver (neighbours tree k) + 2 * clique_cells p.network tree k ≤ 3 * 99582
     few_steps = let a = steps_at_most in let b = within_whole in let c = whole_parts in let d = few_grades in omega (arith, a, b, c, d)
 
-    pub few_factors : factors_in p k + gathered_factors tree p k receiver (neighbours tree k) ≤ 99072
+    pub few_factors : factors_in p k + gathered_factors tree p k receiver (neighbours tree k) ≤ 99582
     few_factors = let a = factors_at_most_grades in let b = within_whole in let c = whole_parts in let d = few_grades in omega (arith, a, b, c, d)
 
     -- a reading has three steps for each of its grade
