@@ -10,3 +10,5 @@ mod files;
 mod names;
 #[cfg(test)]
 mod networks;
+#[cfg(test)]
+mod rows;
