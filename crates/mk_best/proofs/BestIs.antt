@@ -1,16 +1,15 @@
 -- What is found is a best state.
 use Rattle.std.proofs.Common.{◌≡◌, ℕ, zero, suc, ◌+◌, ◌-◌, ◌*◌, ◌^◌, ◌<◌, ◌≤◌, ◌⊎◌, inl, inr, Bool}
-use Rattle.std.proofs.Common.{true, false, cond, ◌&&◌, max, List, [], ◌∷◌, ◌++◌, length, take}
+use Rattle.std.proofs.Common.{true, false, cond, ◌&&◌, max, List, [], ◌∷◌, length, take}
 use Rattle.std.proofs.Common.{slice_index, refl, sym, ap, subst, ◌∙◌, arith, le_trans}
 use Rattle.std.specs.List.{AllByRecursion}
 use Rattle.std.proofs.lemmas.List.Elements.{All-from_recursion}
 use Rattle.std.proofs.lemmas.Bool.{cases_lt}
 use Rattle.std.proofs.Math.Nat.{le_of_mul-le-mul_right}
 use Rattle.mk_net.specs.declared.words.Pair.{Pair}
-use Rattle.mk_net.specs.Bounds.{max_market_trades}
 use Rattle.mk_net.specs.Network.{Variable, IsNetwork, sizes}
 use Rattle.mk_exact.specs.Events.{holds, always}
-use Rattle.mk_exact.specs.History.{Entry, trades}
+use Rattle.mk_exact.specs.History.{Entry}
 use Rattle.mk_exact.specs.InitialWeight.{can_come, value_at}
 use Rattle.mk_exact.specs.Prices.{CoversPrice}
 use Rattle.mk_exact.specs.Proper.{IsPairOf, IsProper}
@@ -34,10 +33,10 @@ use Rattle.mk_best.specs.declared.found.Best.{Best}
 use Rattle.mk_best.specs.declared.found.Best.TheVariants.{Found, Impossible}
 use Rattle.mk_best.specs.BestStates.{greatest, IsEarlier, IsFirstBest, IsBest, IsBestFound}
 use Rattle.mk_best.specs.inner.Engines.{learned}
-use Rattle.mk_best.specs.inner.Picks.{is_at, pairs_from, greatest_with, AreFound, AreEnds}
+use Rattle.mk_best.specs.inner.Picks.{is_at, pairs_from, AreFound, AreEnds}
 use Rattle.mk_best.specs.inner.Picks.{IsCertificate, IsBestLeft}
 use Rattle.mk_best.specs.inner.Values.{values_in}
-use Rattle.mk_best.proofs.Learned.{total_learned, all_learned, small_learned}
+use Rattle.mk_best.proofs.Learned.{all_learned, small_learned}
 use Rattle.mk_best.proofs.OneState.{has_values, values_had, values_are}
 use Rattle.mk_best.proofs.Maxima.{no_weight, weight_alone, greatest_narrow, greatest_left}
 use Rattle.mk_best.proofs.Maxima.{greatest_learned, greatest_at_most, none_weighs, weight_learned}

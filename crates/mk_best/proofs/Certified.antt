@@ -1,6 +1,6 @@
 -- One enclosure of two weights, and how far the units of the best are above those of a state.
 use Rattle.std.proofs.Common.{◌≡◌, ℕ, zero, suc, ◌+◌, ◌-◌, ◌*◌, ◌^◌, ◌<◌, ◌≤◌, ◌⊎◌, inl, inr}
-use Rattle.std.proofs.Common.{sym, ap, ap₂, subst, ◌∙◌, arith, le_trans, le_refl}
+use Rattle.std.proofs.Common.{sym, subst, arith, le_refl}
 use Rattle.std.specs.Int.{div_ceil}
 use Rattle.std.proofs.lemmas.Bool.{cases_lt}
 use Rattle.std.proofs.lemmas.Grind.{div_ceil_times}
@@ -12,7 +12,7 @@ use Rattle.mk_enclose.specs.Enclosure.{lower_of, upper_of, Encloses, HasGrade, I
 use Rattle.mk_semiring.specs.declared.held.Held.{Held}
 use Rattle.mk_semiring.specs.declared.held.Held.TheVariants.{Absent, Present}
 use Rattle.mk_semiring.specs.Held.{HeldEncloses}
-use Rattle.mk_answers.specs.inner.Found.{IsBeliefIn, max_side_grade}
+use Rattle.mk_answers.specs.inner.Found.{max_side_grade}
 use Rattle.mk_best.specs.inner.Picks.{AreEnds, IsCertificate}
 
 -- k of n are less than u of p; t is not far above n, nor p above w, nor w above v; and u of v are

@@ -4,7 +4,7 @@ use Rattle.std.proofs.Common.{◌++◌, length, slice_index, take, refl, sym, ap
 use Rattle.std.proofs.Common.{length-append}
 use Rattle.std.proofs.lemmas.Bool.{cases_lt}
 use Rattle.mk_net.specs.declared.words.Pair.{Pair}
-use Rattle.mk_net.specs.Network.{Variable, IsNetwork, sizes}
+use Rattle.mk_net.specs.Network.{Variable, sizes}
 use Rattle.mk_exact.specs.Events.{holds, always}
 use Rattle.mk_exact.specs.History.{Entry}
 use Rattle.mk_exact.specs.Weight.{IsSmall}

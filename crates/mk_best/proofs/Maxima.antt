@@ -1,9 +1,8 @@
 -- The greatest weights that are left.
 use Rattle.std.proofs.Common.{◌≡◌, ℕ, zero, suc, ◌+◌, ◌*◌, ◌<◌, ◌≤◌, Bool, true, false, cond}
 use Rattle.std.proofs.Common.{◌&&◌, eqb, max, List, [], ◌∷◌, ◌++◌, map, filter, length, slice_index}
-use Rattle.std.proofs.Common.{sum_by, refl, sym, ap, ap₂, subst, ◌∙◌, arith, append_assoc}
+use Rattle.std.proofs.Common.{refl, sym, ap, ap₂, subst, ◌∙◌, arith, append_assoc}
 use Rattle.std.specs.Prelude.{nat_le}
-use Rattle.std.specs.List.{AllByRecursion}
 use Rattle.std.proofs.lemmas.Bool.{le-leb}
 use Rattle.std.proofs.lemmas.List.{map-append}
 use Rattle.std.proofs.Math.Path.{fun_ext}
@@ -27,7 +26,7 @@ use Rattle.mk_sums.proofs.States.{is_plus}
 use Rattle.mk_tree.specs.Given.{GivenTree}
 use Rattle.mk_engine.specs.Meaning.{exact_belief, max_grade}
 use Rattle.mk_engine.specs.Beliefs.{IsBelief}
-use Rattle.mk_engine.proofs.Cases.{product_at, belief_where, plus_over_at_most}
+use Rattle.mk_engine.proofs.Cases.{belief_where, plus_over_at_most}
 use Rattle.mk_beliefs.specs.Meanings.{weights_of}
 use Rattle.mk_beliefs.proofs.Exact.{without_nothing}
 use Rattle.mk_beliefs.proofs.Gained.{each_of}

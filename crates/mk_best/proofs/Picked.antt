@@ -1,6 +1,6 @@
 -- The value with the greatest lower end, and how near the greatest weight stays.
-use Rattle.std.proofs.Common.{◌≡◌, ℕ, zero, suc, ◌+◌, ◌-◌, ◌*◌, ◌^◌, ◌<◌, ◌≤◌, ◌⊎◌, inl, inr, max}
-use Rattle.std.proofs.Common.{refl, sym, ap, subst, ◌∙◌, arith, le_trans, le_refl}
+use Rattle.std.proofs.Common.{◌≡◌, ℕ, zero, suc, ◌+◌, ◌<◌, ◌≤◌, ◌⊎◌, inl, inr, max}
+use Rattle.std.proofs.Common.{sym, subst, arith, le_trans, le_refl}
 use Rattle.std.specs.List.{range_with_len}
 use Rattle.std.proofs.lemmas.Bool.{cases_lt}
 use Rattle.mk_exact.specs.States.{numbers_below, plus_over}

@@ -1,11 +1,9 @@
-use Rattle.std.proofs.Common.{List, ◌∷◌, [], ◌≡◌, Some, max, sym, subst, ap, ◌∙◌}
+use Rattle.std.proofs.Common.{List, ◌∷◌, [], sym, subst, ◌∙◌}
 use Rattle.mk_net.specs.declared.words.Pair.{Pair}
 use Rattle.mk_exact.specs.Events.{holds}
 use Rattle.mk_exact.specs.Weight.{IsSmall}
-use Rattle.mk_semiring.specs.Held.{HeldEncloses, HasHeldGrade, IsHeldExact}
 use Rattle.mk_tree.specs.Held.{IsHeldAt}
 use Rattle.mk_tree.proofs.Held.{pair_has_home, home_is_held}
-use Rattle.mk_engine.specs.Beliefs.{IsBelief}
 use Rattle.mk_beliefs.specs.Meanings.{weights_of}
 use Rattle.mk_answers.specs.inner.Found.{IsBeliefIn}
 use Rattle.mk_best.specs.BestStates.{greatest}

@@ -1,4 +1,4 @@
-use Rattle.std.proofs.Common.{◌≡◌, ℕ, ◌+◌, ◌<◌, List, [], ◌∷◌, length, sym, subst, arith, ◌∙◌}
+use Rattle.std.proofs.Common.{◌+◌, ◌<◌, List, [], ◌∷◌, length, sym, subst, arith}
 use Rattle.std.proofs.lemmas.List.Elements.{All-from_recursion}
 use Rattle.mk_net.specs.declared.words.Pair.{Pair}
 use Rattle.mk_exact.specs.History.{Entry}
