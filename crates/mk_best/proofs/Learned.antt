@@ -58,7 +58,7 @@ module _ (H : List Entry) (pairs : List Pair) where
   trades_learned = filter_map-append trade_in H (map Resolve pairs) ∙ ap
       (λ (ts : List UserTrade). trades H ++ ts) (no_trades pairs) ∙ append-nil (trades H)
 
-  resolutions_learned : resolutions (learned H pairs) ≡ resolutions H ++ pairs
+  pub resolutions_learned : resolutions (learned H pairs) ≡ resolutions H ++ pairs
   resolutions_learned = filter_map-append resolution_in H (map Resolve pairs) ∙ ap
       (λ (ps : List Pair). resolutions H ++ ps) (all_known pairs)
 

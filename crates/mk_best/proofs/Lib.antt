@@ -3,3 +3,9 @@ pub mod Learned
 pub mod Replayed
 pub mod Failing
 pub mod Shares
+pub mod OneState
+pub mod Maxima
+pub mod Picked
+pub mod Greedy
+pub mod Certified
+pub mod BestIs

@@ -1,2 +1,3 @@
 pub mod Chances
+pub mod BestStates
 pub mod inner

@@ -1,1 +1,3 @@
 pub mod Engines
+pub mod Picks
+pub mod Values

@@ -26,10 +26,10 @@ use mk_tree_engine::TreeEngine;
 use std::alloc::Global;
 
 /// The units of 10^-10 in one.
-const UNITS: u64 = 10_000_000_000;
+pub(crate) const UNITS: u64 = 10_000_000_000;
 
 /// The clique in which beliefs in no pair at all are asked.
-const ROOT: u32 = 1;
+pub(crate) const ROOT: u32 = 1;
 
 /// The chance that a possible state that meets `given` meets `want` too, after a history, in units
 /// of 10^-10. The pairs need no
@@ -69,14 +69,14 @@ pub fn chance_by<E: Engine<SumProd>>(
     requires given { ArePairsOf net.now given.now }
     ensures { IfOk result (IsChance net.now (changes history.now) want.now given.now) }
 {
-    let mut engine = engine_of::<E>(alloc, net, tree)?;
-    replay(&mut engine, tree, history);
-    know_all(&mut engine, tree, given);
+    let mut engine = engine_of::<SumProd, E>(alloc, net, tree)?;
+    replay::<SumProd, E>(&mut engine, tree, history);
+    know_all::<SumProd, E>(&mut engine, tree, given);
     Ok(chance_left(&mut engine, net, tree, want))
 }
 
 /// The chance of pairs among the states that are left.
-fn chance_left<E: Engine<SumProd>>(
+pub(crate) fn chance_left<E: Engine<SumProd>>(
     engine: &mut E,
     net: &Network,
     tree: &Tree,
@@ -95,7 +95,7 @@ fn chance_left<E: Engine<SumProd>>(
             high: UNITS,
         };
     }
-    know_all(engine, tree, want);
+    know_all::<SumProd, E>(engine, tree, want);
     let part = engine.belief(ROOT, &Event::empty());
     let (low, high) = share_of(&part, &whole);
     Chance::Price { low, high }

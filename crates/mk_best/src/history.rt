@@ -9,12 +9,12 @@ ghost use Rattle.mk_best.specs.inner.Engines.{CanReplay};
 use mk_engine::Engine;
 use mk_net::{Network, NoMemory};
 use mk_record::Entry;
-use mk_semiring::SumProd;
+use mk_semiring::Semiring;
 use mk_tree::Tree;
 use std::alloc::Global;
 
 /// An engine with the rows of each variable, before any entry.
-pub(crate) fn engine_of<E: Engine<SumProd>>(
+pub(crate) fn engine_of<R: Semiring, E: Engine<R>>(
     alloc: Global,
     net: &Network,
     tree: &Tree,
@@ -33,13 +33,13 @@ pub(crate) fn engine_of<E: Engine<SumProd>>(
 }
 
 /// The engine takes each entry of a history, in its order.
-pub(crate) fn replay<E: Engine<SumProd>>(engine: &mut E, tree: &Tree, history: &[Entry])
+pub(crate) fn replay<R: Semiring, E: Engine<R>>(engine: &mut E, tree: &Tree, history: &[Entry])
     requires { CanReplay E.stands_for engine.old tree.now (changes history.now) }
     ensures { (network : List Variable) → E.stands_for engine.old (weights_of network tree.now [])
         → E.stands_for engine.new (weights_of network tree.now (changes history.now)) }
 {
     for entry in history {
-        take(engine, tree, entry);
+        take::<R, E>(engine, tree, entry);
     }
 }
 
@@ -51,7 +51,7 @@ ghost use Rattle.mk_best.specs.inner.Engines.{CanTake};
 
 /// The engine takes one entry: a trade multiplies the weights, a resolution is known, and nothing
 /// else changes them.
-fn take<E: Engine<SumProd>>(engine: &mut E, tree: &Tree, entry: &Entry)
+fn take<R: Semiring, E: Engine<R>>(engine: &mut E, tree: &Tree, entry: &Entry)
     requires { CanTake E.stands_for engine.old tree.now (change_of entry.now) }
     ensures { (m : Meaning) → E.stands_for engine.old m
         → E.stands_for engine.new (grown (change_of entry.now) m) }

@@ -7,11 +7,11 @@ ghost use Rattle.mk_best.specs.inner.Engines.{CanLearn, learned};
 
 use mk_engine::Engine;
 use mk_net::Pair;
-use mk_semiring::SumProd;
+use mk_semiring::Semiring;
 use mk_tree::Tree;
 
 /// The engine learns each of the pairs, as if it were resolved.
-pub(crate) fn know_all<E: Engine<SumProd>>(engine: &mut E, tree: &Tree, pairs: &[Pair])
+pub(crate) fn know_all<R: Semiring, E: Engine<R>>(engine: &mut E, tree: &Tree, pairs: &[Pair])
     requires { CanLearn E.stands_for engine.old tree.now pairs.now }
     ensures { (network : List Variable) (H : List Entry)
         → E.stands_for engine.old (weights_of network tree.now H)

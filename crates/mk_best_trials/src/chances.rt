@@ -14,7 +14,7 @@ use std::process::Abort;
 use std::test::Fail;
 
 /// Three variables, each the parent of the next, in the cliques {a, b}, {b, c} and {c}.
-const CHAIN: &str = "points_per_bit = 1
+pub(crate) const CHAIN: &str = "points_per_bit = 1
 max_trades = 1
 cliques = [['a', 'b'], ['b', 'c'], ['c']]
 links = [1, 2]
@@ -36,7 +36,7 @@ rows = [[800000, 200000], [100000, 900000]]
 ";
 
 /// Pearl's alarm, which a burglary or an earthquake sets off, and by which John and Mary call.
-const ALARM: &str = "points_per_bit = 1
+pub(crate) const ALARM: &str = "points_per_bit = 1
 max_trades = 1
 cliques = [['burglary', 'earthquake', 'alarm'], ['alarm', 'john'], ['alarm', 'mary']]
 links = [1, 1]
@@ -68,14 +68,14 @@ rows = [[700000, 300000], [10000, 990000]]
 ";
 
 /// The network of a market file, with its tree.
-fn read(alloc: Global, file: &str) -> Result<MarketFile, Fail>
+pub(crate) fn read(alloc: Global, file: &str) -> Result<MarketFile, Fail>
     ensures { IfOk result (λ file. IsTreeOf file.net file.tree) }
 {
     Ok(read_market(alloc, file.as_bytes())?)
 }
 
 /// A variable at a value.
-fn at(variable: u32, value: u32) -> Pair {
+pub(crate) fn at(variable: u32, value: u32) -> Pair {
     Pair { variable, value }
 }
 
@@ -88,7 +88,7 @@ fn expect_pair(rt: &impl Abort, net: &Network, pair: Pair)
 }
 
 /// Stops unless the pairs are the network's own.
-fn expect_own(rt: &impl Abort, net: &Network, pairs: &[Pair])
+pub(crate) fn expect_own(rt: &impl Abort, net: &Network, pairs: &[Pair])
     ensures pairs { ArePairsOf net.now pairs.now }
     ensures network { IsNetwork net.now }
 {
