@@ -14,7 +14,8 @@ lesser_rank m a n b k f g l =
     ⊎_elim
     (λ (p : 0 < n).
     ⊎_elim
-    (λ (r : a < b). let u = f.fits in lesser_exponent m (a + k) n (b + k) u (g.full p) (omega arith))
+    (λ (r : a < b). let u = f.fits in lesser_exponent m (a + k) n (b + k) u (g.full p)
+    (omega arith))
     (λ (r : b ≤ a).
     let u = g.fits in
     let w = f.fits in
@@ -68,7 +69,8 @@ pub greater_stands : (k m a n b v w steps : ℕ) → b * 2 ^ 64 + n ≤ a * 2 ^ 
 greater_stands k m a n b v w steps l x y = record {
   form = x.form;
   lower = subst (λ z. IsLowerEnd (m * 2 ^ (a + k)) z (2 ^ bias) steps) (max_scaled v w (2 ^ bias))
-      (lower_greater (m * 2 ^ (a + k)) (n * 2 ^ (b + k)) (v * 2 ^ bias) (w * 2 ^ bias) (2 ^ bias) steps
+      (lower_greater (m * 2 ^ (a + k)) (n * 2 ^ (b + k)) (v * 2 ^ bias) (w * 2 ^ bias) (2 ^ bias)
+      steps
       (lesser_rank n b m a k y.form x.form l) x.lower y.lower);
   size = let p = x.size in let q = y.size in omega arith;
 }

@@ -39,7 +39,8 @@ place_stands n a e b d m x f g j k s t q y p h c o r =
     (λ (l : 0 < m c).
     let z = some_number (m c) (x c + 64) in
     let i : s + t + 3 ≡ s + t + 2 + 1 = omega arith in
-    rw i (cut_product q y (j + k) (m c * 2 ^ (x c + (64 + (j + k)))) (m c * 2 ^ (x c + 64)) (f c * g c)
+    rw i (cut_product q y (j + k) (m c * 2 ^ (x c + (64 + (j + k)))) (m c * 2 ^ (x c + 64))
+    (f c * g c)
     (s + t + 2) r.form (r.cut (omega arith)) (shifted (m c) (x c) (j + k))
     (places_lower (a c) (e c) (b c) (d c) (m c) (x c) (j + k) (f c * g c) (s + t) (p c o)
     (pair_lower n a e b d f g j k s t h c o))

@@ -185,7 +185,9 @@ found_first n a e b d m x low value r p l v f c o q =
 -- ---- the number that was found, and what stands
 
 -- the places of a product are a lower end in two steps more
-pub places_lower : (l e r d m x k v s : ℕ) → IsUnrounded l e r d m x → IsLowerEnd ((l * r) * 2 ^ (e + d + k)) (v * (2 ^ bias * 2 ^ bias)) (2 ^ bias * 2 ^ bias) s → IsLowerEnd (m * 2 ^ (x + (64 + k))) (v * (2 ^ bias * 2 ^ bias)) (2 ^ bias * 2 ^ bias) (s + 2)
+pub places_lower : (l e r d m x k v s : ℕ) → IsUnrounded l e r d m x
+    → IsLowerEnd ((l * r) * 2 ^ (e + d + k)) (v * (2 ^ bias * 2 ^ bias)) (2 ^ bias * 2 ^ bias) s
+    → IsLowerEnd (m * 2 ^ (x + (64 + k))) (v * (2 ^ bias * 2 ^ bias)) (2 ^ bias * 2 ^ bias) (s + 2)
 places_lower l e r d m x k v s u h =
     ⊎_elim
     (λ (p : 0 < l * r).

@@ -42,7 +42,8 @@ pub fn greatest(digits: &[u64], exponents: &[u32]) -> Cell
     most
 }
 
-/// The greatest of products of cells, each rounded down, of which the first 64 places are given: the
+/// The greatest of products of cells, each rounded down, of which the first 64 places are given:
+/// the
 /// others do not count.
 pub fn greatest_of_products(places: &[u64], exponents: &[u32]) -> Cell
     requires { (a e b d : ℕ → ℕ) × AreUnrounded a e b d places.now exponents.now }

@@ -1,5 +1,8 @@
 -- Totals, least gains, proper and sound histories with one variable more.
-use Rattle.std.proofs.Common.{◌≡◌, ℕ, suc, zero, ◌+◌, ◌*◌, ◌^◌, ◌<◌, ◌≤◌, Bool, true, false, cond, ◌&&◌, List, [], ◌∷◌, ◌++◌, Option, Some, None, eqb, filter, flat_map, length, sum_by, All, refl, sym, ap, ap₂, ◌∙◌, subst, arith, mul_assoc, mul_comm, mul-le-mul_left, length-append}
+use Rattle.std.proofs.Common.{◌≡◌, ℕ, suc, zero, ◌+◌, ◌*◌, ◌^◌, ◌<◌, ◌≤◌, Bool, true, false, cond}
+use Rattle.std.proofs.Common.{◌&&◌, List, [], ◌∷◌, ◌++◌, Option, Some, None, eqb, filter, flat_map}
+use Rattle.std.proofs.Common.{length, sum_by, All, refl, sym, ap, ap₂, ◌∙◌, subst, arith, mul_assoc}
+use Rattle.std.proofs.Common.{mul_comm, mul-le-mul_left, length-append}
 use Rattle.std.proofs.Math.Path.{fun_ext}
 use Rattle.std.specs.List.{AllByRecursion, range_with_len}
 use Rattle.std.proofs.lemmas.List.Elements.{All-from_recursion, recursion_from_All}
@@ -19,47 +22,69 @@ use Rattle.mk_exact.specs.Weight.{weight, total, is_possible, possible_states}
 use Rattle.mk_exact.specs.Factors.{gain, factor, factor_with, least_gain, lesser, IsAtLeastOne}
 use Rattle.mk_exact.specs.Proper.{IsPairOf, IsQuestionOf, IsTradeOf, IsProper}
 use Rattle.mk_exact.specs.Sound.{IsSound}
-use Rattle.mk_exact.proofs.Sums.{IsPlus, sums_are_plus, sum_by_is, sum_by-times, sum_by_each, plus_over-filter, plus_over_each, each_weaker, each_both, each-flat_map, each-map, each_always}
+use Rattle.mk_exact.proofs.Sums.{IsPlus, sums_are_plus, sum_by_is, sum_by-times, sum_by_each}
+use Rattle.mk_exact.proofs.Sums.{plus_over-filter, plus_over_each, each_weaker, each_both}
+use Rattle.mk_exact.proofs.Sums.{each-flat_map, each-map, each_always}
 use Rattle.mk_exact.proofs.Listed.{all_are}
 use Rattle.mk_exact.proofs.Totals.{total_is}
 use Rattle.mk_net.proofs.Behind.{size_before, variable_last}
 use Rattle.mk_grown.specs.Grown.{with_variable, with_each_value, share_of, IsWithoutZeros, IsBlind}
 use Rattle.mk_grown.proofs.States.{all_more, plus_over_more, filter_longer}
-use Rattle.mk_grown.proofs.Entries.{holds_kept, has_kept, ratios_kept, weight_more, shares_whole, some_value}
+use Rattle.mk_grown.proofs.Entries.{holds_kept, has_kept, ratios_kept, weight_more, shares_whole}
+use Rattle.mk_grown.proofs.Entries.{some_value}
 
-sum_by_more : (f : List ℕ → ℕ) (network : List Variable) (v : Variable) → IsNetwork (with_variable network v) → IsWithoutZeros v
-    → sum_by f (all_states (with_variable network v)) ≡ sum_by (λ s. sum_by (λ x. f (s ++ x ∷ [])) (numbers_below (length v.values))) (all_states network)
+sum_by_more : (f : List ℕ → ℕ) (network : List Variable) (v : Variable)
+    → IsNetwork (with_variable network v) → IsWithoutZeros v
+    → sum_by f (all_states (with_variable network v))
+    ≡ sum_by (λ s. sum_by (λ x. f (s ++ x ∷ [])) (numbers_below (length v.values)))
+    (all_states network)
 sum_by_more f network v net some =
     sum_by_is f (all_states (with_variable network v))
     ∙ plus_over_more network v net some ◌+◌ 0 sums_are_plus f
-    ∙ ap (λ (g : List ℕ → ℕ). plus_over ◌+◌ 0 g (all_states network)) (fun_ext (λ s. sym (sum_by_is (λ x. f (s ++ x ∷ [])) (numbers_below (length v.values)))))
-    ∙ sym (sum_by_is (λ s. sum_by (λ x. f (s ++ x ∷ [])) (numbers_below (length v.values))) (all_states network))
+    ∙ ap (λ (g : List ℕ → ℕ). plus_over ◌+◌ 0 g (all_states network))
+    (fun_ext (λ s. sym (sum_by_is (λ x. f (s ++ x ∷ [])) (numbers_below (length v.values)))))
+    ∙ sym (sum_by_is (λ s. sum_by (λ x. f (s ++ x ∷ [])) (numbers_below (length v.values)))
+    (all_states network))
 
 -- a sum over the longer states whose terms are those of the earlier states, each times its share
-shared : (network : List Variable) (v : Variable) → IsNetwork (with_variable network v) → IsWithoutZeros v → (f g : List ℕ → ℕ)
-    → ((s : List ℕ) (x : ℕ) → IsState (sizes network) s → f (s ++ x ∷ []) ≡ g s * share_of network v s x)
+shared : (network : List Variable) (v : Variable) → IsNetwork (with_variable network v)
+    → IsWithoutZeros v → (f g : List ℕ → ℕ)
+    → ((s : List ℕ) (x : ℕ) → IsState (sizes network) s → f (s ++ x ∷ []) ≡ g s
+    * share_of network v s x)
     → sum_by f (all_states (with_variable network v)) ≡ million * sum_by g (all_states network)
 shared network v net some f g h =
     sum_by_more f network v net some
-    ∙ sum_by_each (λ s. sum_by (λ x. f (s ++ x ∷ [])) (numbers_below (length v.values))) (λ s. million * g s) (all_states network)
-    (each_weaker (IsState (sizes network)) (λ s. sum_by (λ x. f (s ++ x ∷ [])) (numbers_below (length v.values)) ≡ million * g s) at (all_states network) (all_are network))
+    ∙ sum_by_each (λ s. sum_by (λ x. f (s ++ x ∷ [])) (numbers_below (length v.values)))
+    (λ s. million * g s) (all_states network)
+    (each_weaker (IsState (sizes network)) (λ s. sum_by (λ x. f (s ++ x ∷ []))
+    (numbers_below (length v.values)) ≡ million * g s) at (all_states network)
+    (all_are network))
     ∙ sum_by-times million g (all_states network)
   where
-    at : (s : List ℕ) → IsState (sizes network) s → sum_by (λ x. f (s ++ x ∷ [])) (numbers_below (length v.values)) ≡ million * g s
+    at : (s : List ℕ) → IsState (sizes network) s
+        → sum_by (λ x. f (s ++ x ∷ [])) (numbers_below (length v.values)) ≡ million * g s
     at s is_state =
-        ap (λ (k : ℕ → ℕ). sum_by k (numbers_below (length v.values))) (fun_ext (λ x. h s x is_state))
+        ap (λ (k : ℕ → ℕ). sum_by k (numbers_below (length v.values)))
+        (fun_ext (λ x. h s x is_state))
         ∙ sum_by-times (g s) (share_of network v s) (numbers_below (length v.values))
         ∙ ap (λ n. g s * n) (shares_whole network v net s is_state)
         ∙ mul_comm (g s) million
 
-pub initial_total_more : (network : List Variable) (v : Variable) → IsNetwork (with_variable network v) → IsWithoutZeros v → initial_total (with_variable network v) ≡ million * initial_total network
-initial_total_more network v net some = shared network v net some (initial_weight (with_variable network v)) (initial_weight network) (λ s x is_state. weight_more network v s x is_state net)
+pub initial_total_more : (network : List Variable) (v : Variable)
+    → IsNetwork (with_variable network v) → IsWithoutZeros v
+    → initial_total (with_variable network v) ≡ million * initial_total network
+initial_total_more network v net some = shared network v net some
+    (initial_weight (with_variable network v)) (initial_weight network)
+    (λ s x is_state. weight_more network v s x is_state net)
 
-pub total_more : (network : List Variable) (v : Variable) (H : List Entry) (test : List ℕ → Bool) → IsNetwork (with_variable network v) → IsWithoutZeros v → IsProper network H
+pub total_more : (network : List Variable) (v : Variable) (H : List Entry) (test : List ℕ → Bool)
+    → IsNetwork (with_variable network v) → IsWithoutZeros v → IsProper network H
     → IsBlind network test → total (with_variable network v) H test ≡ million * total network H test
 total_more network v H test net some proper blind =
     total_is (with_variable network v) H test
-    ∙ shared network v net some (λ s. cond (is_possible H s && test s) (weight (with_variable network v) H s) 0) (λ s. cond (is_possible H s && test s) (weight network H s) 0) at
+    ∙ shared network v net some (λ s. cond (is_possible H s && test s)
+    (weight (with_variable network v) H s) 0)
+    (λ s. cond (is_possible H s && test s) (weight network H s) 0) at
     ∙ ap (λ n. million * n) (sym (total_is network H test))
   where
     out : (b : Bool) (w share r : ℕ) → cond b ((w * share) * r) 0 ≡ cond b (w * r) 0 * share
@@ -67,13 +92,17 @@ total_more network v H test net some proper blind =
     out false w share r = omega arith
 
     at : (s : List ℕ) (x : ℕ) → IsState (sizes network) s
-        → cond (is_possible H (s ++ x ∷ []) && test (s ++ x ∷ [])) (weight (with_variable network v) H (s ++ x ∷ [])) 0
+        → cond (is_possible H (s ++ x ∷ []) && test (s ++ x ∷ []))
+        (weight (with_variable network v) H (s ++ x ∷ [])) 0
         ≡ cond (is_possible H s && test s) (weight network H s) 0 * share_of network v s x
     at s x is_state =
         ap₂ (λ (b : Bool) w. cond b w 0)
-        (ap₂ ◌&&◌ (holds_kept network v s x is_state (resolutions H) proper.resolutions_fit) (blind s x is_state))
-        (ap₂ ◌*◌ (weight_more network v s x is_state net) (ratios_kept network v s x is_state (length (users H)) (trades H) proper.trades_fit))
-        ∙ out (is_possible H s && test s) (initial_weight network s) (share_of network v s x) (product_by (λ (t : UserTrade). ratio_at t.ratio s) (trades H))
+        (ap₂ ◌&&◌ (holds_kept network v s x is_state (resolutions H) proper.resolutions_fit)
+        (blind s x is_state))
+        (ap₂ ◌*◌ (weight_more network v s x is_state net)
+        (ratios_kept network v s x is_state (length (users H)) (trades H) proper.trades_fit))
+        ∙ out (is_possible H s && test s) (initial_weight network s) (share_of network v s x)
+        (product_by (λ (t : UserTrade). ratio_at t.ratio s) (trades H))
 
 -- least gains
 lesser_plus : IsPlus lesser None
@@ -95,16 +124,20 @@ lesser_same : (o : Option ℕ) → lesser o o ≡ o
 lesser_same None = refl
 lesser_same (Some a) = ap Some (omega arith)
 
-least_of_same : (o : Option ℕ) (n a : ℕ) → 0 < n → plus_over lesser None (λ (x : ℕ). o) (range_with_len a n) ≡ o
+least_of_same : (o : Option ℕ) (n a : ℕ) → 0 < n
+    → plus_over lesser None (λ (x : ℕ). o) (range_with_len a n) ≡ o
 least_of_same o zero a h = absurd (omega arith)
 least_of_same o (suc zero) a h = lesser_plus.comm o None
-least_of_same o (suc (suc n)) a h = ap (lesser o) (least_of_same o (suc n) (a + 1) (omega arith)) ∙ lesser_same o
+least_of_same o (suc (suc n)) a h = ap (lesser o) (least_of_same o (suc n) (a + 1) (omega arith))
+    ∙ lesser_same o
 
-each_filtered : {X : Type 0} (P : X → Type 0) (p : X → Bool) (xs : List X) → AllByRecursion P xs → AllByRecursion P (filter p xs)
+each_filtered : {X : Type 0} (P : X → Type 0) (p : X → Bool) (xs : List X) → AllByRecursion P xs
+    → AllByRecursion P (filter p xs)
 each_filtered P p [] h = tt
 each_filtered P p (x ∷ xs) h = at (p x) (each_filtered P p xs h.1)
   where
-    at : (b : Bool) → AllByRecursion P (filter p xs) → AllByRecursion P (cond b (x ∷ filter p xs) (filter p xs))
+    at : (b : Bool) → AllByRecursion P (filter p xs)
+        → AllByRecursion P (cond b (x ∷ filter p xs) (filter p xs))
     at true k = (h.0, k)
     at false k = k
 
@@ -112,39 +145,54 @@ each_filtered P p (x ∷ xs) h = at (p x) (each_filtered P p xs h.1)
 abbrev found : List Entry → ℕ → (List ℕ → Bool) → List ℕ → Option ℕ
 found H u test s = cond (is_possible H s && test s) (Some (gain H u s)) None
 
-least_gain_is : (network : List Variable) (H : List Entry) (u : ℕ) (test : List ℕ → Bool) → least_gain network H u test ≡ plus_over lesser None (found H u test) (all_states network)
-least_gain_is network H u test = plus_over-filter lesser None lesser_plus (λ s. Some (gain H u s)) (λ s. is_possible H s && test s) (all_states network)
+least_gain_is : (network : List Variable) (H : List Entry) (u : ℕ) (test : List ℕ → Bool)
+    → least_gain network H u test ≡ plus_over lesser None (found H u test) (all_states network)
+least_gain_is network H u test = plus_over-filter lesser None lesser_plus (λ s. Some (gain H u s))
+    (λ s. is_possible H s && test s) (all_states network)
 
-pub least_gain_more : (network : List Variable) (v : Variable) (H : List Entry) (u : ℕ) (test : List ℕ → Bool) → IsNetwork (with_variable network v)
-    → IsWithoutZeros v → IsProper network H → IsBlind network test → least_gain (with_variable network v) H u test ≡ least_gain network H u test
+pub least_gain_more : (network : List Variable) (v : Variable) (H : List Entry) (u : ℕ)
+    (test : List ℕ → Bool) → IsNetwork (with_variable network v)
+    → IsWithoutZeros v → IsProper network H → IsBlind network test
+    → least_gain (with_variable network v) H u test ≡ least_gain network H u test
 least_gain_more network v H u test net some proper blind =
     least_gain_is (with_variable network v) H u test
     ∙ plus_over_more network v net some lesser None lesser_plus (found H u test)
-    ∙ plus_over_each lesser None (λ s. plus_over lesser None (λ x. found H u test (s ++ x ∷ [])) (numbers_below (length v.values))) (found H u test) (all_states network)
-    (each_weaker (IsState (sizes network)) (λ s. plus_over lesser None (λ x. found H u test (s ++ x ∷ [])) (numbers_below (length v.values)) ≡ found H u test s) at (all_states network) (all_are network))
+    ∙ plus_over_each lesser None (λ s. plus_over lesser None (λ x. found H u test (s ++ x ∷ []))
+    (numbers_below (length v.values))) (found H u test) (all_states network)
+    (each_weaker (IsState (sizes network)) (λ s. plus_over lesser None
+    (λ x. found H u test (s ++ x ∷ [])) (numbers_below (length v.values)) ≡ found H u test s) at
+    (all_states network) (all_are network))
     ∙ sym (least_gain_is network H u test)
   where
-    at : (s : List ℕ) → IsState (sizes network) s → plus_over lesser None (λ x. found H u test (s ++ x ∷ [])) (numbers_below (length v.values)) ≡ found H u test s
+    at : (s : List ℕ) → IsState (sizes network) s
+        → plus_over lesser None (λ x. found H u test (s ++ x ∷ []))
+        (numbers_below (length v.values)) ≡ found H u test s
     at s is_state =
         ap (λ (f : ℕ → Option ℕ). plus_over lesser None f (numbers_below (length v.values)))
         (fun_ext (λ x. ap₂ (λ (b : Bool) (g : ℕ). cond b (Some g) None)
-        (ap₂ ◌&&◌ (holds_kept network v s x is_state (resolutions H) proper.resolutions_fit) (blind s x is_state))
-        (ratios_kept network v s x is_state (length (users H)) (trades_of H u) (each_filtered (IsTradeOf network (length (users H))) (λ (t : UserTrade). eqb t.user u) (trades H) proper.trades_fit))))
+        (ap₂ ◌&&◌ (holds_kept network v s x is_state (resolutions H) proper.resolutions_fit)
+        (blind s x is_state))
+        (ratios_kept network v s x is_state (length (users H)) (trades_of H u)
+        (each_filtered (IsTradeOf network (length (users H))) (λ (t : UserTrade). eqb t.user u)
+        (trades H) proper.trades_fit))))
         ∙ least_of_same (found H u test s) (length v.values) 0 (some_value network v net s is_state)
 
 -- proper histories
-pair_later : (network : List Variable) (v : Variable) (p : Pair) → IsPairOf network p → IsPairOf (with_variable network v) p
+pair_later : (network : List Variable) (v : Variable) (p : Pair) → IsPairOf network p
+    → IsPairOf (with_variable network v) p
 pair_later network v p h = record {
   variable = omega (arith, h.variable, length_push network v);
   value = rw (size_before network v p.variable h.variable) h.value;
 }
 
-trade_later : (network : List Variable) (v : Variable) (joined : ℕ) (t : UserTrade) → IsTradeOf network joined t → IsTradeOf (with_variable network v) joined t
+trade_later : (network : List Variable) (v : Variable) (joined : ℕ) (t : UserTrade)
+    → IsTradeOf network joined t → IsTradeOf (with_variable network v) joined t
 trade_later network v joined t h = record {
   user = h.user;
   ratio = record {
     variable = omega (arith, h.ratio.variable, length_push network v);
-    condition = each_weaker (IsPairOf network) (IsPairOf (with_variable network v)) (pair_later network v) t.ratio.condition h.ratio.condition;
+    condition = each_weaker (IsPairOf network) (IsPairOf (with_variable network v))
+        (pair_later network v) t.ratio.condition h.ratio.condition;
     one_each = h.ratio.one_each ∙ sym (size_before network v t.ratio.variable h.ratio.variable);
     positive = h.ratio.positive;
   };
@@ -155,30 +203,49 @@ abbrev passes : List Entry → (List ℕ → Bool) → List ℕ → Bool
 passes H test s = is_possible H s && test s
 
 -- the possible states that pass a test which does not look at the added variable
-possible_more : (network : List Variable) (v : Variable) (H : List Entry) (test : List ℕ → Bool) → IsNetwork (with_variable network v)
+possible_more : (network : List Variable) (v : Variable) (H : List Entry) (test : List ℕ → Bool)
+    → IsNetwork (with_variable network v)
     → IsWithoutZeros v → IsProper network H → IsBlind network test
-    → possible_states (with_variable network v) H test ≡ flat_map (with_each_value (length v.values)) (possible_states network H test)
+    → possible_states (with_variable network v) H test
+    ≡ flat_map (with_each_value (length v.values)) (possible_states network H test)
 possible_more network v H test net some proper blind =
     ap (filter (passes H test)) (all_more network v net some)
     ∙ filter_longer (passes H test) (passes H test) (length v.values) (all_states network)
-    (each_weaker (IsState (sizes network)) (λ s. AllByRecursion (λ t. passes H test t ≡ passes H test s) (with_each_value (length v.values) s)) at (all_states network) (all_are network))
+    (each_weaker (IsState (sizes network)) (λ s. AllByRecursion
+    (λ t. passes H test t ≡ passes H test s) (with_each_value (length v.values) s)) at
+    (all_states network) (all_are network))
   where
-    at : (s : List ℕ) → IsState (sizes network) s → AllByRecursion (λ t. passes H test t ≡ passes H test s) (with_each_value (length v.values) s)
-    at s is_state = each-map (λ t. passes H test t ≡ passes H test s) (λ x. s ++ x ∷ []) (numbers_below (length v.values))
+    at : (s : List ℕ) → IsState (sizes network) s
+        → AllByRecursion (λ t. passes H test t ≡ passes H test s)
+        (with_each_value (length v.values) s)
+    at s is_state = each-map (λ t. passes H test t ≡ passes H test s) (λ x. s ++ x ∷ [])
+        (numbers_below (length v.values))
         (each_always (λ x. passes H test (s ++ x ∷ []) ≡ passes H test s)
-        (λ x. ap₂ ◌&&◌ (holds_kept network v s x is_state (resolutions H) proper.resolutions_fit) (blind s x is_state)) (numbers_below (length v.values)))
+        (λ x. ap₂ ◌&&◌ (holds_kept network v s x is_state (resolutions H) proper.resolutions_fit)
+        (blind s x is_state)) (numbers_below (length v.values)))
 
 -- some are left with each of at least one value
-some_longer : (n : ℕ) (ss : List (List ℕ)) → 0 < n → 1 ≤ length ss → 1 ≤ length (flat_map (with_each_value n) ss)
+some_longer : (n : ℕ) (ss : List (List ℕ)) → 0 < n → 1 ≤ length ss → 1
+    ≤ length (flat_map (with_each_value n) ss)
 some_longer n [] h k = absurd (omega (arith, k))
 some_longer n (s ∷ ss) h k =
-    omega (arith, h, length-append (with_each_value n s) (flat_map (with_each_value n) ss), length-map (numbers_below n) (λ x. s ++ x ∷ []), length-range_with_len 0 n)
+    omega (
+      arith,
+      h,
+      length-append (with_each_value n s) (flat_map (with_each_value n) ss),
+      length-map (numbers_below n) (λ x. s ++ x ∷ []),
+      length-range_with_len 0 n,
+    )
 
-pub proper_more : (network : List Variable) (v : Variable) (H : List Entry) → IsNetwork (with_variable network v) → IsWithoutZeros v
+pub proper_more : (network : List Variable) (v : Variable) (H : List Entry)
+    → IsNetwork (with_variable network v) → IsWithoutZeros v
     → IsProper network H → IsProper (with_variable network v) H
 proper_more network v H net some proper = record {
-  trades_fit = each_weaker (IsTradeOf network (length (users H))) (IsTradeOf (with_variable network v) (length (users H))) (trade_later network v (length (users H))) (trades H) proper.trades_fit;
-  resolutions_fit = each_weaker (IsPairOf network) (IsPairOf (with_variable network v)) (pair_later network v) (resolutions H) proper.resolutions_fit;
+  trades_fit = each_weaker (IsTradeOf network (length (users H)))
+      (IsTradeOf (with_variable network v) (length (users H)))
+      (trade_later network v (length (users H))) (trades H) proper.trades_fit;
+  resolutions_fit = each_weaker (IsPairOf network) (IsPairOf (with_variable network v))
+      (pair_later network v) (resolutions H) proper.resolutions_fit;
   resolved_once = proper.resolved_once;
   some_left = rw (possible_more network v H always net some proper (λ s x is_state. refl))
       (some_longer (length v.values) (possible_states network H always) values proper.some_left);
@@ -186,44 +253,73 @@ proper_more network v H net some proper = record {
   where
     values : 0 < length v.values
     values = let its = net.each (length network) nobody (omega (arith, length_push network v)) in
-        omega (arith, (subst (λ (w : Variable). IsVariable (sizes (with_variable network v)) (length network) w) (variable_last network v) its).two_values)
+        omega (
+          arith,
+          (subst (λ (w : Variable). IsVariable (sizes (with_variable network v))
+              (length network) w) (variable_last network v) its).two_values,
+        )
 
 -- sound histories
-sound_states : (network : List Variable) (v : Variable) (H : List Entry) (u : ℕ) → IsNetwork (with_variable network v) → IsWithoutZeros v
+sound_states : (network : List Variable) (v : Variable) (H : List Entry) (u : ℕ)
+    → IsNetwork (with_variable network v) → IsWithoutZeros v
     → IsProper network H → All (λ s. IsAtLeastOne (factor H u s)) (possible_states network H always)
     → All (λ s. IsAtLeastOne (factor H u s)) (possible_states (with_variable network v) H always)
-sound_states network v H u net some proper h = All-from_recursion Safe (possible_states (with_variable network v) H always)
-    (subst (AllByRecursion Safe) (sym (possible_more network v H always net some proper (λ s x is_state. refl)))
+sound_states network v H u net some proper h =
+    All-from_recursion Safe (possible_states (with_variable network v) H always)
+    (subst (AllByRecursion Safe)
+    (sym (possible_more network v H always net some proper (λ s x is_state. refl)))
     (each-flat_map Safe (with_each_value (length v.values)) (possible_states network H always)
-    (each_weaker (λ s. IsState (sizes network) s × Safe s) (λ s. AllByRecursion Safe (with_each_value (length v.values) s)) at (possible_states network H always)
+    (each_weaker (λ s. IsState (sizes network) s × Safe s)
+    (λ s. AllByRecursion Safe (with_each_value (length v.values) s)) at
+    (possible_states network H always)
     (each_both (IsState (sizes network)) Safe (possible_states network H always)
-    (each_filtered (IsState (sizes network)) (λ s. is_possible H s && true) (all_states network) (all_are network))
+    (each_filtered (IsState (sizes network)) (λ s. is_possible H s && true) (all_states network)
+    (all_are network))
     (recursion_from_All Safe (possible_states network H always) h)))))
   where
     Safe : List ℕ → Type 0
     Safe s = IsAtLeastOne (factor H u s)
 
-    at : (s : List ℕ) → IsState (sizes network) s × Safe s → AllByRecursion Safe (with_each_value (length v.values) s)
-    at s known = each-map Safe (λ x. s ++ x ∷ []) (numbers_below (length v.values)) (each_always (λ x. Safe (s ++ x ∷ []))
+    at : (s : List ℕ) → IsState (sizes network) s × Safe s
+        → AllByRecursion Safe (with_each_value (length v.values) s)
+    at s known = each-map Safe (λ x. s ++ x ∷ []) (numbers_below (length v.values))
+        (each_always (λ x. Safe (s ++ x ∷ []))
         (λ x. subst (λ (g : ℕ). IsAtLeastOne (factor_with H u g))
-        (sym (ratios_kept network v s x known.0 (length (users H)) (trades_of H u) (each_filtered (IsTradeOf network (length (users H))) (λ (t : UserTrade). eqb t.user u) (trades H) proper.trades_fit)))
+        (sym (ratios_kept network v s x known.0 (length (users H)) (trades_of H u)
+        (each_filtered (IsTradeOf network (length (users H))) (λ (t : UserTrade). eqb t.user u)
+        (trades H) proper.trades_fit)))
         known.1) (numbers_below (length v.values)))
 
-pub sound_more : (network : List Variable) (v : Variable) (H : List Entry) → IsNetwork (with_variable network v) → IsWithoutZeros v → IsProper network H → IsSound network H → IsSound (with_variable network v) H
+pub sound_more : (network : List Variable) (v : Variable) (H : List Entry)
+    → IsNetwork (with_variable network v) → IsWithoutZeros v → IsProper network H
+    → IsSound network H → IsSound (with_variable network v) H
 sound_more network v H net some proper sound = record {
   solvent = λ u. sound_states network v H u net some proper (sound.solvent u);
-  bounded = rw (total_more network v H always net some proper (λ s x is. refl), initial_total_more network v net some)
-      (let h : million * total network H always ≤ million * (initial_total network * unit ^ length (trades H)) = mul-le-mul_left million sound.bounded in
-      subst (λ n. million * total network H always ≤ n) (sym (mul_assoc million (initial_total network) (unit ^ length (trades H)))) h);
+  bounded = rw (
+    total_more network v H always net some proper (λ s x is. refl),
+    initial_total_more network v net some,
+  )
+      (let h : million * total network H always ≤ million
+      * (initial_total network * unit ^ length (trades H)) =
+      mul-le-mul_left million sound.bounded in
+      subst (λ n. million * total network H always ≤ n)
+      (sym (mul_assoc million (initial_total network) (unit ^ length (trades H)))) h);
 }
 
 -- exact prices
-pub prices_stay : (network : List Variable) (v : Variable) (H : List Entry) (asked : Asked) → IsNetwork (with_variable network v) → IsWithoutZeros v → IsProper network H → IsQuestionOf network asked
-    → total (with_variable network v) H (with_target asked) * total network H (holds asked.condition) ≡ total network H (with_target asked) * total (with_variable network v) H (holds asked.condition)
+pub prices_stay : (network : List Variable) (v : Variable) (H : List Entry) (asked : Asked)
+    → IsNetwork (with_variable network v) → IsWithoutZeros v → IsProper network H
+    → IsQuestionOf network asked
+    → total (with_variable network v) H (with_target asked)
+    * total network H (holds asked.condition) ≡ total network H (with_target asked)
+    * total (with_variable network v) H (holds asked.condition)
 prices_stay network v H asked net some proper is =
     rw (
-      total_more network v H (with_target asked) net some proper (λ s x is_state. ap₂ ◌&&◌ (holds_kept network v s x is_state asked.condition is.condition) (has_kept network v s x is_state asked.target is.target)),
-      total_more network v H (holds asked.condition) net some proper (λ s x is_state. holds_kept network v s x is_state asked.condition is.condition),
+      total_more network v H (with_target asked) net some proper
+          (λ s x is_state. ap₂ ◌&&◌ (holds_kept network v s x is_state asked.condition is.condition)
+          (has_kept network v s x is_state asked.target is.target)),
+      total_more network v H (holds asked.condition) net some proper
+          (λ s x is_state. holds_kept network v s x is_state asked.condition is.condition),
     )
     (across million (total network H (with_target asked)) (total network H (holds asked.condition)))
   where

@@ -1,5 +1,6 @@
 -- A network with one variable more, behind the others.
-use Rattle.std.specs.Prelude.{◌≡◌, ℕ, ◌≤◌, List, [], ◌∷◌, ◌++◌, Bool, All, map, slice_index, slice_index_or}
+use Rattle.std.specs.Prelude.{◌≡◌, ℕ, ◌≤◌, List, [], ◌∷◌, ◌++◌, Bool, All, map, slice_index}
+use Rattle.std.specs.Prelude.{slice_index_or}
 use Rattle.mk_net.specs.Network.{Variable, sizes}
 use Rattle.mk_exact.specs.States.{numbers_below, IsState}
 use Rattle.mk_exact.specs.InitialWeight.{row_number}
@@ -17,8 +18,10 @@ IsWithoutZeros v = All (All (λ share. 1 ≤ share)) v.rows
 
 -- the share of a value of the added variable, in a state of the others
 abbrev pub share_of : List Variable → Variable → List ℕ → ℕ → ℕ
-share_of network v s x = slice_index (slice_index_or v.rows (row_number (sizes network) v.parents s) []) x
+share_of network v s x =
+    slice_index (slice_index_or v.rows (row_number (sizes network) v.parents s) []) x
 
 -- a test that does not look at the added variable
 abbrev pub IsBlind : List Variable → (List ℕ → Bool) → Type 0
-IsBlind network test = (s : List ℕ) (x : ℕ) → IsState (sizes network) s → test (s ++ x ∷ []) ≡ test s
+IsBlind network test = (s : List ℕ) (x : ℕ) → IsState (sizes network) s → test (s ++ x ∷ [])
+    ≡ test s

@@ -1,10 +1,13 @@
-//! The exact market with one question more: nothing that was asked before changes. Nothing here runs in the market; the functions
+//! The exact market with one question more: nothing that was asked before changes. Nothing here
+//! runs in the market; the functions
 //! below state laws of the definitions.
 #![tactic(auto)]
 
-ghost use Rattle.mk_grown.specs.Laws.{StatesGrow, TotalsGrow, InitialTotalGrows, LeastGainsStay, ProperGrows, SoundGrows, PricesStay};
+ghost use Rattle.mk_grown.specs.Laws.{StatesGrow, TotalsGrow, InitialTotalGrows, LeastGainsStay};
+ghost use Rattle.mk_grown.specs.Laws.{ProperGrows, SoundGrows, PricesStay};
 
-/// The states of a network with one variable more that can come are those that could, with each of its values behind
+/// The states of a network with one variable more that can come are those that could, with each of
+/// its values behind
 /// them.
 pub fn states_grow()
     ensures { StatesGrow }

@@ -147,8 +147,11 @@ module _ {P A Plan : Type 0} (weights_stand : P → Meaning → Type 0) (gains_s
           (sym (e ∙ ap (λ (H : List Entry). length H) history
           ∙ length_push journal.history (Withdraws user bits)))
           (answered (Withdrawn name bits (revision journal.history + 1))
-          (inl (covered file.net journal.history worth bits worth_for
-          (has_least.safe sound).at_least_one enough, refl)))
+          (inl (
+            covered file.net journal.history worth bits worth_for
+                (has_least.safe sound).at_least_one enough,
+            refl,
+          )))
 
     -- bits that are taken out leave the market kept, covered or not
     module _ (none : None ≡ first_refusal (market_of file) journal.history (Withdraw name bits))

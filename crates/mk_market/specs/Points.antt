@@ -1,7 +1,8 @@
 -- The accounts of a market's users, in points.
 use Rattle.std.specs.Prelude.{◌≡◌, ℕ, ◌*◌, ◌<◌, List, [], ◌∷◌, ◌++◌, length, slice_get, Some, false}
 use Rattle.mk_exact.specs.Events.{always}
-use Rattle.mk_exact.specs.History.{Entry, Settle as Settles, users, deposited, withdrawn, is_settled}
+use Rattle.mk_exact.specs.History.{Entry, Settle as Settles, users, deposited, withdrawn}
+use Rattle.mk_exact.specs.History.{is_settled}
 use Rattle.mk_exact.specs.Weight.{IsSmall, possible_states}
 use Rattle.mk_exact.specs.Factors.{HoldsNoTrade, factor}
 use Rattle.mk_exact.specs.Cash.{CoversCash}
@@ -23,7 +24,8 @@ pub record IsPaidOff (market : Market) (H : List Entry) (u points : ℕ) : Type 
   pub covers : CoversCash (IsSmall (network_of market H) H) (HoldsNoTrade H u) (factor H u state)
       market.points_per_bit points high
 
--- a user's account: the points of the bits that went in and out, and nothing paid before the settlement
+-- a user's account: the points of the bits that went in and out, and nothing paid before the
+-- settlement
 pub record IsAccount (market : Market) (H : List Entry) (u : ℕ) (account : Account) : Type 0 where
   pub paid_in : account.deposited ≡ market.points_per_bit * deposited H u
   pub taken_out : account.withdrawn ≡ market.points_per_bit * withdrawn H u

@@ -36,7 +36,8 @@ impl<P: Engine<SumProd>, A: Engine<MinProd>> Market<P, A> {
     }
 }
 
-ghost use Rattle.std.specs.Prelude.{◌≡◌, ◌<◌, ℕ, List, [], ◌∷◌, length, map, false, Some, slice_get};
+ghost use Rattle.std.specs.Prelude.{◌≡◌, ◌<◌, ℕ, List, [], ◌∷◌, length, map, false, Some};
+ghost use Rattle.std.specs.Prelude.{slice_get};
 ghost use Rattle.std.specs.List.{AllZip, enumerate_from};
 ghost use Rattle.mk_net.specs.Bounds.{number_limit};
 ghost use Rattle.mk_exact.specs.Events.{always};
@@ -98,7 +99,8 @@ fn payment_of<A: Engine<MinProd>>(
     ensures quotes { quotes_of users.new ≡ quotes_of users.old }
     ensures user { slice_get (names_of users.old) user ≡ Some result.user }
     ensures payment { IsSound file.now.net journal.now.history
-        → (state name : List ℕ) → possible_states file.now.net journal.now.history always ≡ state ∷ []
+        → (state name : List ℕ) → possible_states file.now.net journal.now.history always
+        ≡ state ∷ []
         → slice_get (names_of users.old) user ≡ Some name
         → IsPayment file.now.net journal.now.history file.now.points_per_bit state (user, name)
         result }

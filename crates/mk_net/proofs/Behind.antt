@@ -1,10 +1,13 @@
 -- A network with one variable behind it.
-use Rattle.std.specs.Prelude.{◌≡◌, ◌≢◌, ℕ, zero, suc, ◌+◌, ◌*◌, ◌<◌, ◌≤◌, List, [], ◌∷◌, ◌++◌, filter, length, sum, All, get_or, slice_index, Bool, true, false, cond, ◌==◌}
+use Rattle.std.specs.Prelude.{◌≡◌, ◌≢◌, ℕ, zero, suc, ◌+◌, ◌*◌, ◌<◌, ◌≤◌, List, [], ◌∷◌, ◌++◌}
+use Rattle.std.specs.Prelude.{filter, length, sum, All, get_or, slice_index, Bool, true, false}
+use Rattle.std.specs.Prelude.{cond, ◌==◌}
 use Rattle.std.specs.List.{AllByRecursion, list_any, range_with_len}
 use Rattle.std.proofs.Common.{◌⊎◌, inl, inr, refl, sym, ap, ap₂, subst, ◌∙◌, arith, append-nil}
 use Rattle.std.proofs.Math.Nat.{one-le-mul}
 use Rattle.std.proofs.lemmas.Bool.{cases_lt, eqb-true}
-use Rattle.std.proofs.lemmas.List.{map-append, get_or_append_left, get_or_push, length_push, length-map}
+use Rattle.std.proofs.lemmas.List.{map-append, get_or_append_left, get_or_push, length_push}
+use Rattle.std.proofs.lemmas.List.{length-map}
 use Rattle.std.proofs.lemmas.List.Folds.{list_any_none}
 use Rattle.std.proofs.lemmas.List.Quantifiers.{all_pairs_push}
 use Rattle.std.proofs.lemmas.List.Elements.{All-head, recursion_from_All}
@@ -19,10 +22,13 @@ use Rattle.mk_net.proofs.Networks.{two_values}
 use Rattle.mk_net.proofs.Zeroed.{numbers_kept}
 
 -- the product looks at the values of the parents alone
-pub choices_same : (ns ms : List ℕ) (n : ℕ) → ((p : ℕ) → p < n → slice_index ms p ≡ slice_index ns p) →
-    (parents : List ℕ) → AllByRecursion (λ p. p < n) parents → choices ms parents ≡ choices ns parents
+pub choices_same : (ns ms : List ℕ) (n : ℕ) → ((p : ℕ) → p < n → slice_index ms p
+    ≡ slice_index ns p) →
+    (parents : List ℕ) → AllByRecursion (λ p. p < n) parents → choices ms parents
+    ≡ choices ns parents
 choices_same ns ms n same [] h = refl
-choices_same ns ms n same (p ∷ parents) h = ap₂ ◌*◌ (same p h.0) (choices_same ns ms n same parents h.1)
+choices_same ns ms n same (p ∷ parents) h = ap₂ ◌*◌ (same p h.0)
+    (choices_same ns ms n same parents h.1)
 
 choices_positive : (ns : List ℕ) (n : ℕ) → ((p : ℕ) → p < n → 1 ≤ slice_index ns p) →
     (parents : List ℕ) → AllByRecursion (λ p. p < n) parents → 1 ≤ choices ns parents
@@ -68,7 +74,8 @@ module _ (network : List Variable) (v : Variable) where
 
   choices_before : (parents : List ℕ) → All (λ p. p < length network) parents →
       choices (sizes (network ++ v ∷ [])) parents ≡ choices (sizes network) parents
-  choices_before parents h = choices_same (sizes network) (sizes (network ++ v ∷ [])) (length network) size_before parents
+  choices_before parents h = choices_same (sizes network) (sizes (network ++ v ∷ []))
+      (length network) size_before parents
       (recursion_from_All (λ p. p < length network) parents h)
 
   -- a variable that is one over the earlier sizes is one over all
@@ -84,12 +91,14 @@ module _ (network : List Variable) (v : Variable) where
     parents_earlier = is.parents_earlier;
     parents_distinct = is.parents_distinct;
     one_row_each = is.one_row_each ∙ sym (choices_before w.parents
-        (λ i d inside. let earlier : get_or w.parents i d < k = is.parents_earlier i d inside in omega (arith, earlier, h)));
+        (λ i d inside. let earlier : get_or w.parents i d < k =
+        is.parents_earlier i d inside in omega (arith, earlier, h)));
     rows_fit = is.rows_fit;
   }
 
   -- a network followed by a variable of a new name is one
-  network_behind : IsNetwork network → length network < 256 → All (λ name. v.name ≢ name) (names network) →
+  network_behind : IsNetwork network → length network < 256
+      → All (λ name. v.name ≢ name) (names network) →
       IsVariable (sizes network) (length network) v → IsNetwork (network ++ v ∷ [])
   network_behind net room untaken is = record {
     some = omega (arith, length_push network v);
@@ -100,14 +109,16 @@ module _ (network : List Variable) (v : Variable) where
     each = λ k d inside. at k d inside (cases_lt k (length network));
   }
     where
-      at : (k : ℕ) (d : Variable) → k < length (network ++ v ∷ []) → (k < length network) ⊎ (length network ≤ k) →
+      at : (k : ℕ) (d : Variable) → k < length (network ++ v ∷ []) → (k < length network)
+          ⊎ (length network ≤ k) →
           IsVariable (sizes (network ++ v ∷ [])) k (get_or (network ++ v ∷ []) k d)
       at k d inside (inl before) = rw (get_or_append_left network (v ∷ []) d k before)
           (variable_stays k (get_or network k d) (omega (arith, before)) (net.each k d before))
       at k d inside (inr behind) =
           let last : length network ≡ k = omega (arith, inside, behind, length_push network v) in
           rw (get_or_push network v d k last)
-          (variable_stays k v (omega (arith, last)) (subst (λ n. IsVariable (sizes network) n v) last is))
+          (variable_stays k v (omega (arith, last))
+          (subst (λ n. IsVariable (sizes network) n v) last is))
 
 -- a row of inner shares has two numbers at least
 two_numbers : (row : List ℕ) → All IsInnerShare row → sum row ≡ million → 2 ≤ length row
@@ -117,7 +128,8 @@ two_numbers (n ∷ []) shares whole =
     absurd (omega (arith, whole, first.below))
 two_numbers (n ∷ m ∷ row) shares whole = omega arith
 
-module _ (network : List Variable) (addition : Addition) (net : IsNetwork network) (can : CanExtend network addition) where
+module _ (network : List Variable) (addition : Addition) (net : IsNetwork network)
+    (can : CanExtend network addition) where
   some_row : 1 ≤ length addition.rows.items
   some_row =
       let some = choices_positive (sizes network) (length network)
@@ -128,11 +140,13 @@ module _ (network : List Variable) (addition : Addition) (net : IsNetwork networ
   enough_values : 2 ≤ length addition.values.items
   enough_values =
       let row : List ℕ = get_or addition.rows.items 0 [] in
-      let two : 2 ≤ length row = two_numbers row (can.shares 0 [] some_row) (can.sums 0 [] some_row) in
+      let two : 2 ≤ length row = two_numbers row (can.shares 0 [] some_row) (can.sums 0 [] some_row)
+      in
       omega (arith, two, can.widths 0 [] some_row)
 
   module _ (named : IsName addition.variable) (values_named : All IsName addition.values.items)
-      (few_values : length addition.values.items ≤ max_values) (few_parents : length addition.parents.items ≤ max_parents) where
+      (few_values : length addition.values.items ≤ max_values)
+      (few_parents : length addition.parents.items ≤ max_parents) where
     is_variable : IsVariable (sizes network) (length network) (variable_of_addition addition)
     is_variable = record {
       name = named;
@@ -144,7 +158,11 @@ module _ (network : List Variable) (addition : Addition) (net : IsNetwork networ
       parents_earlier = can.parents_known;
       parents_distinct = can.parents_distinct;
       one_row_each = can.one_row_each;
-      rows_fit = λ i d inside. record { one_each = can.widths i d inside; whole = can.sums i d inside };
+      rows_fit = λ i d inside. record {
+        one_each = can.widths i d inside;
+        whole =
+            can.sums i d inside;
+      };
     }
 
     pub extended_is_network : IsNetwork (network ++ variable_of_addition addition ∷ [])
@@ -152,7 +170,8 @@ module _ (network : List Variable) (addition : Addition) (net : IsNetwork networ
         network_behind network (variable_of_addition addition) net can.room can.untaken is_variable
 
   -- the added rows have no share of nothing
-  no_zero : list_any (λ (row : List ℕ). list_any (λ share. share == 0) row) addition.rows.items ≡ false
+  no_zero : list_any (λ (row : List ℕ). list_any (λ share. share == 0) row) addition.rows.items
+      ≡ false
   no_zero = list_any_none (λ (row : List ℕ). list_any (λ share. share == 0) row) addition.rows.items
       (λ i d inside. list_any_none (λ share. share == 0) (get_or addition.rows.items i d)
       (λ j e within.
@@ -172,24 +191,29 @@ module _ (network : List Variable) (addition : Addition) (net : IsNetwork networ
 
   pub extended_zeros : with_zeros longer ≡ with_zeros network
   extended_zeros =
-      ap (λ n. filter (has_zero longer) (range_with_len 0 n)) (length_push network (variable_of_addition addition))
+      ap (λ n. filter (has_zero longer) (range_with_len 0 n))
+      (length_push network (variable_of_addition addition))
       ∙ numbers_kept (has_zero longer) (length network)
-      ∙ ap (λ b. filter (has_zero longer) (range_with_len 0 (length network)) ++ cond b (length network ∷ []) [])
+      ∙ ap (λ b. filter (has_zero longer) (range_with_len 0 (length network))
+      ++ cond b (length network ∷ []) [])
       (ap (λ (w : Variable). list_any (λ (row : List ℕ). list_any (λ share. share == 0) row) w.rows)
       (variable_last network (variable_of_addition addition)) ∙ no_zero)
       ∙ append-nil (filter (has_zero longer) (range_with_len 0 (length network)))
       ∙ filter_below (has_zero longer) (has_zero network) (length network) 0
-      (λ k l m. ap (λ (w : Variable). list_any (λ (row : List ℕ). list_any (λ share. share == 0) row) w.rows)
+      (λ k l m. ap (λ (w : Variable). list_any
+      (λ (row : List ℕ). list_any (λ share. share == 0) row) w.rows)
       (variable_before network (variable_of_addition addition) k (omega (arith, m))))
 
   pub extended_has_no_zeros : HasNoZeros network → HasNoZeros longer
   extended_has_no_zeros none k inside = at (cases_lt k (length network))
     where
-      at : (k < length network) ⊎ (length network ≤ k) → All (All (λ share. 1 ≤ share)) (variable_at longer k).rows
+      at : (k < length network) ⊎ (length network ≤ k)
+          → All (All (λ share. 1 ≤ share)) (variable_at longer k).rows
       at (inl before) = subst (λ (w : Variable). All (All (λ share. 1 ≤ share)) w.rows)
           (sym (variable_before network (variable_of_addition addition) k before)) (none k before)
       at (inr behind) =
-          let last : length network ≡ k = omega (arith, inside, behind, length_push network (variable_of_addition addition)) in
+          let last : length network ≡ k =
+          omega (arith, inside, behind, length_push network (variable_of_addition addition)) in
           subst (λ n. All (All (λ share. 1 ≤ share)) (variable_at longer n).rows) last
           (subst (λ (w : Variable). All (All (λ share. 1 ≤ share)) w.rows)
           (sym (variable_last network (variable_of_addition addition)))

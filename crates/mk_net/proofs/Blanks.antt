@@ -1,5 +1,6 @@
 -- An item put behind the first few of a list whose other places are blank.
-use Rattle.std.specs.Prelude.{◌≡◌, ℕ, zero, suc, ◌-◌, ◌<◌, List, [], ◌∷◌, ◌++◌, length, take, drop, replicate, slice_set}
+use Rattle.std.specs.Prelude.{◌≡◌, ℕ, zero, suc, ◌-◌, ◌<◌, List, [], ◌∷◌, ◌++◌, length, take, drop}
+use Rattle.std.specs.Prelude.{replicate, slice_set}
 use Rattle.std.proofs.Common.{refl, sym, ap, ◌∙◌, arith, length-append, length-take}
 
 pub set_behind : {X : Type 0} (xs : List X) (n : ℕ) (x : X) → n < length xs →
@@ -24,7 +25,8 @@ split_at zero xs = refl
 split_at (suc n) [] = refl
 split_at (suc n) (x ∷ xs) = ap (λ rest. x ∷ rest) (split_at n xs)
 
-behind : {X : Type 0} (n : ℕ) (front rest : List X) → n ≡ length front → drop n (front ++ rest) ≡ rest
+behind : {X : Type 0} (n : ℕ) (front rest : List X) → n ≡ length front → drop n (front ++ rest)
+    ≡ rest
 behind zero [] rest h = refl
 behind zero (x ∷ xs) rest h = absurd (omega (arith, h))
 behind (suc n) [] rest h = absurd (omega (arith, h))
@@ -40,13 +42,15 @@ one_fewer blank k (suc n) (x ∷ xs) h = one_fewer blank k n xs h
 -- a list of so many items, of which the first n are no blanks, and then one more is none
 pub blanks_longer : {X : Type 0} (blank : X) (most : ℕ) (xs : List X) (n : ℕ) (x : X) →
     length xs ≡ most → n < most → take n xs ++ replicate (most - length (take n xs)) blank ≡ xs →
-    take (suc n) (slice_set xs n x) ++ replicate (most - length (take (suc n) (slice_set xs n x))) blank
+    take (suc n) (slice_set xs n x) ++ replicate (most - length (take (suc n) (slice_set xs n x)))
+    blank
     ≡ slice_set xs n x
 blanks_longer {X} blank most xs n x whole more padded =
     let inside : n < length xs = omega (arith, whole, more) in
     let size : length (take n xs) ≡ n = grind (arith, length-take {A = X}, whole, more) in
     let blanks : drop n xs ≡ replicate (most - n) blank =
-    ap (drop n) (sym padded) ∙ behind n (take n xs) (replicate (most - length (take n xs)) blank) (sym size)
+    ap (drop n) (sym padded) ∙ behind n (take n xs) (replicate (most - length (take n xs)) blank)
+    (sym size)
     ∙ ap (λ (k : ℕ). replicate (most - k) blank) size in
     let count : most - n ≡ suc (most - (suc n)) = omega (arith, more) in
     let fewer : drop (suc n) xs ≡ replicate (most - (suc n)) blank =
@@ -55,5 +59,6 @@ blanks_longer {X} blank most xs n x whole more padded =
     let front_size : length (take (suc n) (slice_set xs n x)) ≡ suc n =
     ap length front ∙ omega (arith, length-append (take n xs) (x ∷ []), size) in
     ap (λ (k : ℕ). take (suc n) (slice_set xs n x) ++ replicate (most - k) blank) front_size
-    ∙ ap (λ (rest : List X). take (suc n) (slice_set xs n x) ++ rest) (sym (set_rest xs n x inside ∙ fewer))
+    ∙ ap (λ (rest : List X). take (suc n) (slice_set xs n x) ++ rest)
+    (sym (set_rest xs n x inside ∙ fewer))
     ∙ split_at (suc n) (slice_set xs n x)

@@ -1,5 +1,6 @@
 -- A kept event with one pair more.
-use Rattle.std.specs.Prelude.{◌≡◌, ℕ, suc, ◌<◌, List, [], ◌∷◌, ◌++◌, length, take, slice_set, Bool, true, false, ◌||◌, ◌==◌}
+use Rattle.std.specs.Prelude.{◌≡◌, ℕ, suc, ◌<◌, List, [], ◌∷◌, ◌++◌, length, take, slice_set, Bool}
+use Rattle.std.specs.Prelude.{true, false, ◌||◌, ◌==◌}
 use Rattle.std.proofs.Common.{refl, sym, ◌∙◌, arith, length-append, length-take}
 use Rattle.std.proofs.lemmas.Bool.{eqb-true, eq-eqb}
 use Rattle.mk_net.specs.declared.words.Pair.{Pair}

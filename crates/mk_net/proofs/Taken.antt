@@ -1,5 +1,6 @@
 -- Names that are not yet taken: in a list without a double, in a map and in a set.
-use Rattle.std.specs.Prelude.{◌≡◌, ◌≢◌, All, ℕ, zero, suc, ◌+◌, ◌<◌, ◌≤◌, List, [], ◌∷◌, ◌++◌, length, take, Bool, true, false, ◌||◌, cond, not, nat_lt}
+use Rattle.std.specs.Prelude.{◌≡◌, ◌≢◌, All, ℕ, zero, suc, ◌+◌, ◌<◌, ◌≤◌, List, [], ◌∷◌, ◌++◌}
+use Rattle.std.specs.Prelude.{length, take, Bool, true, false, ◌||◌, cond, not, nat_lt}
 use Rattle.std.specs.List.{list_any, position_or_len}
 use Rattle.std.proofs.Common.{refl, sym, ap, ◌∙◌, arith, get_or}
 use Rattle.std.proofs.lemmas.Bool.{ltb-false, le-ltb}
@@ -55,7 +56,8 @@ not_same a b other = choose (same_text a b) refl
     choose false e = e
 
 -- a text of a list of different ones is none of the earlier ones
-pub distinct_untaken : (texts : List (List ℕ)) (i : ℕ) (d : List ℕ) → AreDistinct texts → i < length texts →
+pub distinct_untaken : (texts : List (List ℕ)) (i : ℕ) (d : List ℕ) → AreDistinct texts
+    → i < length texts →
     list_any (same_text (get_or texts i d)) (take i texts) ≡ false
 distinct_untaken texts i d distinct within =
     list_any_none (same_text (get_or texts i d)) (take i texts)
@@ -69,7 +71,8 @@ distinct_untaken texts i d distinct within =
 pub others_untaken : (name : List ℕ) (texts : List (List ℕ)) → All (λ t. name ≢ t) texts →
     list_any (same_text name) texts ≡ false
 others_untaken name texts other =
-    list_any_none (same_text name) texts (λ i d inside. not_same name (get_or texts i d) (other i d inside))
+    list_any_none (same_text name) texts (λ i d inside. not_same name (get_or texts i d)
+    (other i d inside))
 
 -- an untaken name goes to the end
 pub inserted_name : (names : List (List ℕ)) (name : List ℕ) → list_any (same_text name) names ≡ false →

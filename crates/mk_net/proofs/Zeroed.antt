@@ -11,7 +11,8 @@ use Rattle.mk_net.specs.Stored.{variables_of}
 use Rattle.mk_net.specs.declared.network.StoredVariable.{StoredVariable}
 use Rattle.mk_net.proofs.StoredReads.{rows_stored}
 
-pub numbers_kept : (p : ℕ → Bool) (k : ℕ) → filter p (range_with_len 0 (k + 1)) ≡ filter p (range_with_len 0 k) ++ cond (p k) (k ∷ []) []
+pub numbers_kept : (p : ℕ → Bool) (k : ℕ) → filter p (range_with_len 0 (k + 1))
+    ≡ filter p (range_with_len 0 k) ++ cond (p k) (k ∷ []) []
 numbers_kept p k =
     ap (λ (ns : List ℕ). filter p ns) (sym (map-id (range_with_len 0 (k + 1))))
     ∙ filter_of_map_range_with_len_more p (λ (n : ℕ). n) 0 k k (omega arith)

@@ -7,7 +7,13 @@ use Rattle.mk_net.specs.declared.addition.Addition.{Addition}
 -- the variable of an addition
 abbrev pub variable_of_addition : Addition → Variable
 variable_of_addition a =
-    record { name = a.variable; values = a.values.items; parents = a.parents.items; rows = a.rows.items }
+    record {
+      name = a.variable;
+      values = a.values.items;
+      parents = a.parents.items;
+      rows =
+          a.rows.items;
+    }
 
 -- a share that an added row may give a value: some of the million, and not all of it
 pub record IsInnerShare (share : ℕ) : Type 0 where

@@ -4,8 +4,10 @@ use crate::name::Name;
 use crate::row::Row;
 use arrayvec::ArrayVec;
 
-/// A variable to be put behind those of a network: its name, the names of its values, the numbers of its parents, and a
-/// row of shares, in parts per million, for each list of the parents' values, the last parent's fastest.
+/// A variable to be put behind those of a network: its name, the names of its values, the numbers
+/// of its parents, and a
+/// row of shares, in parts per million, for each list of the parents' values, the last parent's
+/// fastest.
 #[derive(Debug, Default, Drop, PartialEq, Eq)]
 pub struct Addition {
     pub variable: Name,

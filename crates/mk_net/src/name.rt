@@ -92,15 +92,6 @@ impl Name {
         })
     }
 
-    /// The same name.
-    pub(crate) fn known(&self) -> Name
-        ensures same { result ≡ self.now }
-        ensures name { IsName self.now }
-    {
-        let _ = &self.bytes;
-        *self
-    }
-
     /// Its bytes.
     pub fn bytes(&self) -> &[u8]
         ensures same { result.now ≡ self.now }

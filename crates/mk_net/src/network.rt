@@ -61,7 +61,8 @@ impl Model for Network {
 }
 
 impl Network {
-    ghost use Rattle.std.specs.Prelude.{◌≡◌, ◌≢◌, ◌<◌, ◌++◌, ◌∷◌, [], length, position, None, Some, false, IfOk, IfErr, IfSome, slice_index, slice_index_or};
+    ghost use Rattle.std.specs.Prelude.{◌≡◌, ◌≢◌, ◌<◌, ◌++◌, ◌∷◌, [], length, position, None, Some};
+    ghost use Rattle.std.specs.Prelude.{false, IfOk, IfErr, IfSome, slice_index, slice_index_or};
     ghost use Rattle.mk_net.specs.Network.{IsNetwork, sizes};
     ghost use Rattle.mk_net.specs.Named.{variable_at, pair_named};
     ghost use Rattle.mk_net.specs.Texts.{same_text};
@@ -90,14 +91,17 @@ impl Network {
     /// The network with one more variable, put last. It fails where memory is wanting.
     pub fn extended(&self, alloc: Global, addition: &Addition) -> Result<Network, NoMemory>
         requires { CanExtend self.now addition.now }
-        ensures longer { IfOk result (λ network. network ≡ self.now ++ variable_of_addition addition.now ∷ []) }
+        ensures longer { IfOk result (λ network. network ≡ self.now
+            ++ variable_of_addition addition.now ∷ []) }
         ensures network { IfOk result (λ network. IsNetwork network) }
         ensures zeros { IfOk result (λ network. with_zeros network ≡ with_zeros self.now) }
         ensures no_zeros { IfOk result (λ network. HasNoZeros self.now → HasNoZeros network) }
     {
         let added = grow::stored(alloc, addition)?;
         let mut variables = self.variables.clone()?;
-        variables.insert(addition.variable.known(), added)?;
+        // The call says that this is a name.
+        let _ = addition.variable.bytes();
+        variables.insert(addition.variable, added)?;
         let zeros = build::with_zeros(alloc, &variables)?;
         Ok(Network { variables, zeros })
     }

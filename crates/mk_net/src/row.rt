@@ -33,7 +33,12 @@ impl Model for Row {
     ghost use Rattle.std.specs.Prelude.{refl};
     ghost use Rattle.mk_net.specs.inner.KeptRows.{row_inverse};
 
-    ghost inverse_ok = { λ r kept. row_inverse r (record { numbers = padded_row (take r.size r.numbers); size = length (take r.size r.numbers) }) refl refl kept };
+    ghost inverse_ok = { λ r kept. row_inverse r
+        (record {
+          numbers = padded_row (take r.size r.numbers);
+          size =
+              length (take r.size r.numbers);
+        }) refl refl kept };
 }
 
 /// The row with no numbers.

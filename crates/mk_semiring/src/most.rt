@@ -1,6 +1,7 @@
 //! Maxima and products.
 ghost use Rattle.std.specs.Prelude.{◌≡◌, ℕ, ◌+◌, ◌*◌, ◌^◌, ◌<◌, ◌≤◌, length, max};
-ghost use Rattle.mk_semiring.specs.Held.{HeldEncloses, HasHeldGrade, IsHeldExact, CanTimes, held_grade_more, held_times_fits};
+ghost use Rattle.mk_semiring.specs.Held.{HeldEncloses, HasHeldGrade, IsHeldExact, CanTimes};
+ghost use Rattle.mk_semiring.specs.Held.{held_grade_more, held_times_fits};
 ghost use Rattle.mk_semiring.specs.Most.{greatest_lawful};
 
 use crate::{Held, Semiring, held};

@@ -10,10 +10,11 @@ use Rattle.mk_exact.specs.Market.{Market}
 use Rattle.mk_reply.specs.declared.reply.Reply.{Reply}
 use Rattle.mk_rules.specs.Transcript.{Standing, opening, Line, IsAllowedFor, after, Run}
 use Rattle.mk_rules.specs.Standings.{IsMarket, Stands}
-use Rattle.mk_rules.proofs.Keeps.{opening_stands}
+use Rattle.mk_rules.proofs.Keeps.{opening_stands, run_keeps}
 use Rattle.mk_rules.proofs.Settling.{run_settles}
 use Rattle.mk_session.specs.Texts.{ready_line, reply_line}
 use Rattle.mk_session.specs.Transcript.{Asks, AreReplied, AreAnswered, IsAllowedRun, Transcript}
+use Rattle.mk_session.specs.inner.Progress.{IsSoundAt}
 use Rattle.mk_session.proofs.Passing.{safe_on_way}
 
 pub no_more : {X : Type 0} (xs : List X) → xs ++ [] ≡ xs
@@ -117,6 +118,15 @@ then_answered market old mid new ls ms a b first second = record {
   printed = ap₂ (λ x y. x ++ y) first.printed second.printed
       ∙ sym (flat_map-append reply_line first.replies second.replies);
 }
+
+-- lines that are answered from the opening on leave a sound history
+pub sound_so_far : (market : Market) → IsMarket market → (lines : List StreamLine)
+    (now : Standing) (replies : List Reply) → AreReplied market opening lines now replies
+    → IsSoundAt market now
+sound_so_far market is_market lines now replies replied =
+    let stands = run_keeps market opening now replied.asked replies
+    (opening_stands market is_market) replied.run in
+    stands.sound
 
 -- what lines that are answered from the opening on keep
 pub allowed_run_of : (market : Market) → IsMarket market → (lines : List StreamLine)

@@ -23,7 +23,8 @@ use Rattle.mk_session.specs.Tally.{is_trade, is_refusal, last_reply, IsRemembere
 use Rattle.mk_session.specs.Tally.{IsTally, TallyEnds}
 use Rattle.mk_session.specs.inner.Counting.{uncounted, is_want, IsWithin, IsCounted, CountsLine}
 use Rattle.mk_session.specs.inner.Counting.{IsCountedSoFar, IsCounting}
-use Rattle.mk_session.proofs.Answering.{no_more, none_replied, then_replied, allowed_run_of}
+use Rattle.mk_session.proofs.Answering.{no_more, none_replied, then_replied, sound_so_far}
+use Rattle.mk_session.proofs.Answering.{allowed_run_of}
 use Rattle.mk_session.proofs.Underway.{are_whole, placed_next}
 use Rattle.mk_session.proofs.Endings.{past_of, risen}
 use Rattle.mk_session.proofs.Completing.{past_limits, none_rose, none_within_stream}
@@ -80,7 +81,8 @@ counted_next market lines line now then before after more counted = record {
   is_market = counted.is_market;
   replies = counted.replies ++ more.replies;
   replied = then_replied market opening now then lines (line ∷ []) counted.replies more.replies
-      counted.replied more.replied;
+      counted.replied (more.replied (sound_so_far market counted.is_market lines now
+      counted.replies counted.replied));
   remembered = All-append IsRemembered counted.replies more.replies counted.remembered
       more.remembered;
   counts = more.counts counted.replies counted.counts;

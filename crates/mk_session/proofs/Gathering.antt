@@ -8,7 +8,7 @@ use Rattle.mk_io.proofs.Told.{append_known_none}
 use Rattle.mk_exact.specs.Market.{Market}
 use Rattle.mk_rules.specs.Transcript.{Standing}
 use Rattle.mk_session.specs.Transcript.{AreAnswered}
-use Rattle.mk_session.specs.inner.Progress.{Gathers, AreGathered, IsReady}
+use Rattle.mk_session.specs.inner.Progress.{Gathers, AreGathered, IsReady, IsSoundAt}
 use Rattle.mk_session.proofs.Answering.{no_more}
 
 -- nothing was written
@@ -73,8 +73,8 @@ parts_behind first waited bytes gone waits parts =
 
 pub gathered_when_said : {T E : Type 0} (said : Result T E) (market : Market) (old : Standing)
     (lines : List StreamLine) (new : Standing) (output : List ℕ)
-    (before after : Option (List ℕ)) (waited waits : List ℕ) → AreAnswered market old lines new
-    output
+    (before after : Option (List ℕ)) (waited waits : List ℕ)
+    → (IsSoundAt market old → AreAnswered market old lines new output)
     → OnOk said (Gathers before after waited output waits)
     → OnOk said (AreGathered market old lines new before after waited waits)
 gathered_when_said (Ok v) market old lines new output before after waited waits answered gathers =

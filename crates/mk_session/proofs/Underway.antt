@@ -13,7 +13,7 @@ use Rattle.mk_rules.specs.Transcript.{Standing, opening}
 use Rattle.mk_session.specs.Transcript.{AreAnswered}
 use Rattle.mk_session.specs.inner.Progress.{Gathers, AreGathered, IsBetween, IsPlaced, AreSaid}
 use Rattle.mk_session.specs.inner.Progress.{IsSoFar}
-use Rattle.mk_session.proofs.Answering.{no_more, then_answered}
+use Rattle.mk_session.proofs.Answering.{no_more, then_answered, sound_so_far}
 use Rattle.mk_session.proofs.Gathering.{parts_behind}
 
 -- what is left of a source behind some bytes of it that are known
@@ -145,7 +145,8 @@ so_far_next market all line old new source rest now then before written after wa
           output)
           (parts_behind answers.bytes waited said.output gone waits said.gathers.parts)
           (then_answered market opening now then lines (line ∷ []) (answers.bytes ++ waited)
-          said.output answers.holds said.answered);
+          said.output answers.holds (said.answered (sound_so_far market answers.is_market lines now
+          answers.holds.replies answers.holds.replied)));
     }) far
 
 -- some of what waits was written

@@ -15,6 +15,7 @@ ghost use Rattle.mk_rules.specs.Transcript.{Standing, opening};
 ghost use Rattle.mk_session.specs.Transcript.{AreReplied};
 ghost use Rattle.mk_session.specs.Outcome.{HasCauses, CountsNone};
 ghost use Rattle.mk_session.specs.inner.Progress.{Gathers, AreGathered, IsReady, IsSoFar, IsEnded};
+ghost use Rattle.mk_session.specs.inner.Progress.{IsSoundAt};
 
 use crate::market::TreeMarket;
 use crate::print::{LineBuffer, print_ready, print_reply_line};
@@ -41,7 +42,8 @@ pub(crate) fn reply_to(
 ) -> Reply
     requires { list_all (λ b. b == 32) line.now ≡ false }
     ensures market { market.new.market ≡ market.old.market }
-    ensures replied { AreReplied market.old.market market.old.standing (text line.now ∷ [])
+    ensures replied { IsSoundAt market.old.market market.old.standing →
+        AreReplied market.old.market market.old.standing (text line.now ∷ [])
         market.new.standing (result ∷ []) }
 {
     match read_command(line, words) {

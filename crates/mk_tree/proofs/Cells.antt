@@ -2,7 +2,9 @@
 use Rattle.std.specs.Prelude.{◌≡◌, ℕ, zero, suc, ◌+◌, ◌*◌, ◌^◌, ◌<◌, ◌≤◌, List, [], ◌∷◌, length, filter, Bool, true, false, not, cond, ◌&&◌, ◌==◌, ◌||◌, ◌⊎◌, nat_lt, nat_le, if◌then◌else◌, slice_index, drop, Option, Some, None, All, sum_by}
 use Rattle.std.specs.List.{range_with_len}
 use Rattle.std.proofs.Common.{refl, sym, ap, ◌∙◌, arith, inl, inr}
-use Rattle.std.proofs.lemmas.Bool.{cases_Bool, cases_eq, and_parts, and_left, and_right, not_from_true, eq-eqb, ne_eqb, cond-true, cond-false, le-leb, lt-leb, ltb-false, le-ltb, or_parts}
+use Rattle.std.proofs.lemmas.Bool.{cases_Bool, cases_eq, and_parts, and_left, and_right}
+use Rattle.std.proofs.lemmas.Bool.{not_from_true, eq-eqb, ne_eqb, cond-true, cond-false, le-leb}
+use Rattle.std.proofs.lemmas.Bool.{lt-leb, ltb-false, le-ltb, or_parts}
 use Rattle.std.proofs.lemmas.List.Sums.{sum_by-cons}
 use Rattle.std.proofs.Math.Nat.{mul-le-mul}
 use Rattle.std.proofs.lemmas.List.Elements.{All-nil, All-cons, All-head, All-tail}
@@ -205,20 +207,25 @@ all_small network k before (set ∷ sets) few e =
 
 -- and where each has few cells, and so have all together, none is too large
 pub none_too_large : (network : List Variable) (k before : ℕ) (cliques : List VarSet)
-    → All (λ (set : VarSet). cells_of network set ≤ 4096) cliques → before + sum_by (cells_of network) cliques ≤ 32768
+    → All (λ (set : VarSet). cells_of network set ≤ 4096) cliques
+    → before + sum_by (cells_of network) cliques ≤ 32768
     → first_too_large network k before cliques ≡ None
 none_too_large network k before [] small few = refl
 none_too_large network k before (set ∷ sets) small few =
     let whole = sum_by-cons (cells_of network) set sets in
-    let here : cells_of network set ≤ 4096 = All-head (λ (s : VarSet). cells_of network s ≤ 4096) set sets small in
-    let own : nat_lt 4096 (cells_of network set) ≡ false = le-ltb 4096 (cells_of network set) here in
+    let here : cells_of network set ≤ 4096 = All-head (λ (s : VarSet). cells_of network s ≤ 4096)
+    set sets small in
+    let own : nat_lt 4096 (cells_of network set) ≡ false =
+    le-ltb 4096 (cells_of network set) here in
     let all : nat_lt 32768 (before + cells_of network set) ≡ false =
     le-ltb 32768 (before + cells_of network set) (omega (arith, few, whole)) in
     rw (own, all) (none_too_large network (k + 1) (before + cells_of network set) sets
-    (All-tail (λ (s : VarSet). cells_of network s ≤ 4096) set sets small) (omega (arith, few, whole)))
+    (All-tail (λ (s : VarSet). cells_of network s ≤ 4096) set sets small)
+    (omega (arith, few, whole)))
 
 -- a clique of few cells is counted
-pub counted : (network : List Variable) (set : VarSet) (found : Option ℕ) → found ≡ few_cells network set
+pub counted : (network : List Variable) (set : VarSet) (found : Option ℕ) → found
+    ≡ few_cells network set
     → cells_of network set ≤ 4096 → found ≡ Some (cells_of network set)
 counted network set found is few =
     is ∙ cond-true (nat_le (cells_of network set) 4096) (Some (cells_of network set)) None
@@ -233,10 +240,15 @@ choices_fewer ns p q (suc n) a weaker some =
     (choices_fewer ns p q n (a + 1) weaker (λ x h. some x (omega (arith, h))))
   where
     at : ((p a ≡ true) ⊎ (p a ≡ false)) → ((q a ≡ true) ⊎ (q a ≡ false))
-        → choices ns (filter p (range_with_len (a + 1) n)) ≤ choices ns (filter q (range_with_len (a + 1) n))
-        → choices ns (cond (p a) (a ∷ filter p (range_with_len (a + 1) n)) (filter p (range_with_len (a + 1) n)))
-        ≤ choices ns (cond (q a) (a ∷ filter q (range_with_len (a + 1) n)) (filter q (range_with_len (a + 1) n)))
-    at (inl e) (inl f) ih = rw (e, f) (mul-le-mul (let own : slice_index ns a ≤ slice_index ns a = omega arith in own) ih)
+        → choices ns (filter p (range_with_len (a + 1) n))
+        ≤ choices ns (filter q (range_with_len (a + 1) n))
+        → choices ns (cond (p a) (a ∷ filter p (range_with_len (a + 1) n))
+        (filter p (range_with_len (a + 1) n)))
+        ≤ choices ns (cond (q a) (a ∷ filter q (range_with_len (a + 1) n))
+        (filter q (range_with_len (a + 1) n)))
+    at (inl e) (inl f) ih =
+        rw (e, f) (mul-le-mul (let own : slice_index ns a ≤ slice_index ns a =
+        omega arith in own) ih)
     at (inl e) (inr f) ih = absurd (let g = weaker a e in cc)
     at (inr e) (inl f) ih = rw (e, f)
         (let more = mul-le-mul (some a (omega arith)) ih in omega (arith, more))
@@ -244,7 +256,8 @@ choices_fewer ns p q (suc n) a weaker some =
 
 -- a set within another has no more cells
 pub cells_fewer : (network : List Variable) (less more : VarSet) → IsNetwork network
-    → ((x : ℕ) → is_member less x ≡ true → is_member more x ≡ true) → cells_of network less ≤ cells_of network more
+    → ((x : ℕ) → is_member less x ≡ true → is_member more x ≡ true) → cells_of network less
+    ≤ cells_of network more
 cells_fewer network less more is within =
     choices_fewer (sizes network) (is_member less) (is_member more) (length network) 0 within
     (λ x h. let two = two_values network x is (omega (arith, h)) in omega (arith, two))

@@ -39,11 +39,13 @@ tree_without_fault network t linked inside e =
     one none x (inr outside) = one_top_outside network t inside x outside
 
 -- and a tree has no fault
-pub tree_is_faultless : (network : List Variable) (t : GivenTree) → IsTreeOf network t → tree_fault network t ≡ None
+pub tree_is_faultless : (network : List Variable) (t : GivenTree) → IsTreeOf network t
+    → tree_fault network t ≡ None
 tree_is_faultless network t tree = none (first_failing network (is_covered network t.cliques))
     (first_failing network (has_one_top t)) (first_too_large network 1 0 t.cliques)
     (none_failing network (is_covered network t.cliques) tree.covers)
-    (none_failing network (has_one_top t) (λ x within. one_top_of_connected t tree.linked x (tree.running x)))
+    (none_failing network (has_one_top t) (λ x within. one_top_of_connected t tree.linked x
+    (tree.running x)))
     (none_too_large network 1 0 t.cliques tree.small_cliques (omega (arith, tree.few_cells)))
   where
     none : (cover running cells : Option ℕ) → None ≡ cover → None ≡ running → cells ≡ None

@@ -25,7 +25,8 @@ holds t k x = is_member (clique_at t k) x
 abbrev pub link_of : GivenTree → ℕ → ℕ
 link_of t k = slice_index t.links (k - 2)
 
--- cliques of a tree: those of a file, and one for each question that is added later to at least one variable
+-- cliques of a tree: those of a file, and one for each question that is added later to at least one
+-- variable
 abbrev pub max_tree_cliques : ℕ
 max_tree_cliques = max_cliques + (max_variables - 1)
 

@@ -1,5 +1,6 @@
 -- The tree of a network with one variable more.
-use Rattle.std.specs.Prelude.{◌≡◌, ◌≢◌, ℕ, ◌+◌, ◌<◌, ◌≤◌, List, [], ◌∷◌, ◌++◌, length, true, All, sum_by}
+use Rattle.std.specs.Prelude.{◌≡◌, ◌≢◌, ℕ, ◌+◌, ◌<◌, ◌≤◌, List, [], ◌∷◌, ◌++◌, length, true, All}
+use Rattle.std.specs.Prelude.{sum_by}
 use Rattle.mk_net.specs.declared.sets.VarSet.{VarSet}
 use Rattle.mk_net.specs.Sets.{is_member}
 use Rattle.mk_net.specs.Bounds.{max_clique_cells, max_cells}
@@ -13,7 +14,8 @@ abbrev pub with_clique : GivenTree → VarSet → ℕ → GivenTree
 with_clique t clique k = record { cliques = t.cliques ++ clique ∷ []; links = t.links ++ k ∷ [] }
 
 -- a clique of one more variable, behind the network, may be linked to clique k
-pub record FitsBehind (network : List Variable) (v : Variable) (t : GivenTree) (clique : VarSet) (k : ℕ) : Type 0 where
+pub record FitsBehind (network : List Variable) (v : Variable) (t : GivenTree) (clique : VarSet)
+    (k : ℕ) : Type 0 where
   -- fewer cliques are there than there may be
   pub few : length t.cliques < max_tree_cliques
   -- clique k is one of the tree's
@@ -30,7 +32,8 @@ pub record FitsBehind (network : List Variable) (v : Variable) (t : GivenTree) (
   -- with it there are as few cells as there may be
   pub room : sum_by (cells_of network) t.cliques + cells_of (network ++ v ∷ []) clique ≤ max_cells
 
--- a network is that of a tree and one more variable, and a clique of this variable fits behind the tree
+-- a network is that of a tree and one more variable, and a clique of this variable fits behind the
+-- tree
 pub record IsBehind (net : List Variable) (t : GivenTree) (clique : VarSet) (k : ℕ) : Type 0 where
   pub earlier : List Variable
   pub added : Variable

@@ -1,6 +1,7 @@
 //! What a tree is refused for.
 
-ghost use Rattle.std.specs.Prelude.{◌≡◌, ℕ, ◌+◌, ◌<◌, ◌≤◌, ◌↔◌, List, length, not, true, Some, None, nat_le, if◌then◌else◌, All, sum_by};
+ghost use Rattle.std.specs.Prelude.{◌≡◌, ℕ, ◌+◌, ◌<◌, ◌≤◌, ◌↔◌, List, length, not, true, Some};
+ghost use Rattle.std.specs.Prelude.{None, nat_le, if◌then◌else◌, All, sum_by};
 ghost use Rattle.mk_net.specs.Bounds.{max_clique_cells, max_cells};
 ghost use Rattle.mk_net.specs.Sets.{is_member, IsSubset};
 ghost use Rattle.mk_net.specs.Network.{Variable, IsNetwork};
@@ -139,11 +140,13 @@ pub(crate) fn total_cells(net: &Network, cliques: &[VarSet]) -> u32
     total
 }
 
-/// How many cells a clique of a network's variables has: one for each list of their values. None exactly where it has
+/// How many cells a clique of a network's variables has: one for each list of their values. None
+/// exactly where it has
 /// more than 4,096.
 pub fn clique_cells(net: &Network, clique: &VarSet) -> Option<u32>
     requires of_network { (x : ℕ) → is_member clique.now x ≡ true → x < length net.now }
-    ensures { result ≡ (if nat_le (cells_of net.now clique.now) max_clique_cells then Some (cells_of net.now clique.now) else None) }
+    ensures { result ≡ (if nat_le (cells_of net.now clique.now) max_clique_cells then Some
+        (cells_of net.now clique.now) else None) }
 {
     // The call says that this is a network.
     let _ = net.variables();

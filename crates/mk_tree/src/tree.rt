@@ -108,8 +108,10 @@ impl Tree {
         total_cells(net, &self.cliques)
     }
 
-    /// The tree with one clique more, put last and linked to clique `link`. The network is the tree's with one more
-    /// variable. The clique holds that variable and its parents, and clique `link` holds the clique's other variables.
+    /// The tree with one clique more, put last and linked to clique `link`. The network is the
+    /// tree's with one more
+    /// variable. The clique holds that variable and its parents, and clique `link` holds the
+    /// clique's other variables.
     /// It fails where memory is wanting.
     pub fn with_clique(
         &self,

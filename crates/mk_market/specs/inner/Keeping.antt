@@ -78,8 +78,8 @@ pub record IsKeptQuote (network : List Variable) (tree : GivenTree) (H : List En
 abbrev pub AreKeptQuotes : List Variable → GivenTree → List Entry → List (Option LastQuote) → Type 0
 AreKeptQuotes network tree H quotes = (u : ℕ) (quote : LastQuote) → slice_get quotes u ≡ Some (Some quote) → IsKeptQuote network tree H u quote
 
--- the engines, the users and the ledger are as the history leaves them, and the history is safe: what a
--- store gives back is that also where it isn't sound
+-- the engines, the users and the ledger are as the history leaves them, and the history is safe:
+-- what a store gives back is that also where it isn't sound
 module _ {P A Plan : Type 0} (weights_stand : P → Meaning → Type 0) (gains_stand : A → Meaning → Type 0) (plan_for : Plan → List Variable → GivenTree → Type 0) where
   pub record IsKept (file : MarketFile) (prices : P) (rows : A) (plan : Plan) (members : List (Member A Plan)) (accounts : List Account) (journal : JournalOf)
       (payments : Option (List Payment)) : Type 0 where

@@ -18,7 +18,8 @@ use std::alloc::Global;
 /// The variable of an addition, as it is kept.
 pub(super) fn stored(alloc: Global, addition: &Addition) -> Result<StoredVariable, NoMemory>
     requires apart { AreDistinct addition.now.values.items }
-    ensures variable { IfOk result (λ stored. variable_of (addition.now.variable, stored) ≡ variable_of_addition addition.now) }
+    ensures variable { IfOk result (λ stored. variable_of (addition.now.variable, stored)
+        ≡ variable_of_addition addition.now) }
     ensures named { IfOk result (λ _. All IsName addition.now.values.items) }
     ensures few_values { IfOk result (λ _. length addition.now.values.items ≤ max_values) }
     ensures few_parents { IfOk result (λ _. length addition.now.parents.items ≤ max_parents) }
@@ -41,7 +42,9 @@ fn names(alloc: Global, names: &[Name]) -> Result<IndexSet<Name>, NoMemory>
 {
     let mut set = IndexSet::new(alloc);
     'names: for name in names {
-        set.insert(name.known())?;
+        // The call says that these are names.
+        let _ = name.bytes();
+        set.insert(*name)?;
     }
     Ok(set)
 }

@@ -13,7 +13,7 @@ use Rattle.mk_session.specs.declared.counts.Tally.{Tally}
 use Rattle.mk_session.specs.declared.counts.TallyFault.{TallyFault}
 use Rattle.mk_session.specs.Transcript.{AreReplied}
 use Rattle.mk_session.specs.Tally.{IsRemembered, AreCounted}
-use Rattle.mk_session.specs.inner.Progress.{IsPlaced}
+use Rattle.mk_session.specs.inner.Progress.{IsPlaced, IsSoundAt}
 
 abbrev pub uncounted : Tally
 uncounted = record { replies = 0; trades = 0; refused = 0; last = None }
@@ -39,11 +39,11 @@ pub record IsCounted (market : Market) (lines : List StreamLine) (now : Standing
   pub remembered : All IsRemembered replies
   pub counts : AreCounted replies tally
 
--- one line more is answered and counted
+-- one line more is answered, once the history before it is sound, and counted
 pub record CountsLine (market : Market) (old : Standing) (line : StreamLine) (new : Standing)
     (before after : Tally) : Type 0 where
   pub replies : List Reply
-  pub replied : AreReplied market old (line ∷ []) new replies
+  pub replied : IsSoundAt market old → AreReplied market old (line ∷ []) new replies
   pub remembered : All IsRemembered replies
   pub counts : (earlier : List Reply) → AreCounted earlier before → AreCounted (earlier ++ replies)
       after

@@ -5,7 +5,8 @@ use Rattle.mk_io.specs.declared.lines.Next.{Next}
 use Rattle.mk_io.specs.Outside.{append_known}
 use Rattle.mk_io.specs.Stream.{StreamLine, stream_lines, AreWholeLines}
 use Rattle.mk_io.specs.Cutting.{Cutting, HoldsLine, stream_left}
-use Rattle.mk_exact.specs.Market.{Market}
+use Rattle.mk_exact.specs.Market.{Market, network_of}
+use Rattle.mk_exact.specs.Sound.{IsSound}
 use Rattle.mk_rules.specs.Transcript.{Standing, opening}
 use Rattle.mk_rules.specs.Standings.{IsMarket}
 use Rattle.mk_session.specs.Texts.{ready_line}
@@ -20,12 +21,17 @@ pub record Gathers (before after : Option (List ℕ)) (waited bytes waits : List
   pub added : after ≡ append_known before gone
   pub parts : waited ++ bytes ≡ gone ++ waits
 
--- some lines are answered, and their answers are written or wait
+-- the history of a standing is sound
+abbrev pub IsSoundAt : Market → Standing → Type 0
+IsSoundAt market now = IsSound (network_of market now.history) now.history
+
+-- some lines are answered, once the history before them is sound, and their answers are written or
+-- wait
 pub record AreGathered (market : Market) (old : Standing) (lines : List StreamLine) (new : Standing)
     (before after : Option (List ℕ))
     (waited waits : List ℕ) : Type 0 where
   pub output : List ℕ
-  pub answered : AreAnswered market old lines new output
+  pub answered : IsSoundAt market old → AreAnswered market old lines new output
   pub gathers : Gathers before after waited output waits
 
 -- the next line is there without a read, or nothing waits

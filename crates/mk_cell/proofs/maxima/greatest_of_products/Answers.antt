@@ -19,6 +19,7 @@ loop-c-preserved c = λ a e b d u j k f g n p h.
     (n + p + 2 * count + 1) (c.loop-c.invariant a e b d u j k f g n p h)
     (stands_with_more (j + k) c.rounded.result.digits c.rounded.result.exponent (f i * g i)
     (n + p + 3) (n + p + 2 * count + 1) (omega (arith, l))
-    (place_stands count a e b d (slice_index c.args.places.now) (slice_index c.args.exponents.now) f g
+    (place_stands count a e b d (slice_index c.args.places.now) (slice_index c.args.exponents.now)
+    f g
     j k n p c.rounded.result.digits c.rounded.result.exponent u.each h i (omega (arith, l))
     c.rounded.ensures.rounded)))

@@ -11,7 +11,7 @@ pub returns-clause-counted : goal.returns-clause-counted
 returns-clause-counted c = λ market now.
     record {
       replies = Refused Long ∷ [];
-      replied = one_replied market now long LongLine (Refused Long) refl tt refl;
+      replied = λ sound. one_replied market now long LongLine (Refused Long) refl tt refl;
       remembered = remembered_one (Refused Long) refl;
       counts = c.add.ensures.counts;
     }

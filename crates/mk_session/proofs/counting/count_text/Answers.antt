@@ -11,7 +11,7 @@ returns-then-is_blank-clause-counted c =
     let m = c.args.market.now in
     record {
       replies = [];
-      replied = blank_replied m.market m.standing (text c.args.line.now)
+      replied = λ sound. blank_replied m.market m.standing (text c.args.line.now)
           (rw (sym c.is_blank.ensures ∙ c.if-is_blank.true) refl);
       remembered = All-nil IsRemembered;
       counts = λ earlier counts. counts_none earlier c.args.tally.now counts;

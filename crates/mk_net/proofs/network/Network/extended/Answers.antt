@@ -1,6 +1,4 @@
 use Rattle.std.proofs.Common.{◌≡◌, List, [], ◌∷◌, ◌++◌, ap, subst, sym, ◌∙◌}
-use Rattle.indexmap.specs.IndexMap.{insert_entry}
-use Rattle.mk_net.specs.Texts.{same_text}
 use Rattle.mk_net.specs.Network.{Variable, IsNetwork}
 use Rattle.mk_net.specs.Stored.{variables_of}
 use Rattle.mk_net.specs.Zeros.{with_zeros, HasNoZeros}
@@ -13,13 +11,12 @@ net : (c : goal.In_ok-zeros) → IsNetwork c.args.self.now
 net c = rw c.self.view_is at c.self.invariant.network
 
 whole : (c : goal.In_ok-zeros) →
-    variables_of c.insert.new.self.entries ≡ c.args.self.now ++ variable_of_addition c.args.addition.now ∷ []
+    variables_of c.insert.new.self.entries ≡ c.args.self.now
+    ++ variable_of_addition c.args.addition.now ∷ []
 whole c =
     ap variables_of c.in_ok-insert.ensures.entries
-    ∙ ap (λ name. variables_of (insert_entry same_text c.in_ok-variables.variables.entries name c.in_ok-added.added))
-    c.known.ensures.same
-    ∙ inserted_variable c.in_ok-variables.variables.entries c.args.self.now c.args.addition.now.variable
-    c.in_ok-added.added (variable_of_addition c.args.addition.now)
+    ∙ inserted_variable c.in_ok-variables.variables.entries c.args.self.now
+    c.args.addition.now.variable c.in_ok-added.added (variable_of_addition c.args.addition.now)
     (copied_variables c.self.inside.variables.entries c.in_ok-variables.variables.entries
     c.in_ok-variables.ensures.cases ∙ c.self.view_is)
     c.requires.untaken c.in_ok-added.ensures.variable
@@ -27,7 +24,7 @@ whole c =
 longer : (c : goal.In_ok-zeros) → IsNetwork (variables_of c.insert.new.self.entries)
 longer c = rw (whole c)
     (extended_is_network c.args.self.now c.args.addition.now (net c) c.requires
-    c.known.ensures.name c.in_ok-added.ensures.named c.in_ok-added.ensures.few_values
+    c.bytes.ensures.name c.in_ok-added.ensures.named c.in_ok-added.ensures.few_values
     c.in_ok-added.ensures.few_parents)
 
 pub invariant_of-result : goal.invariant_of-result

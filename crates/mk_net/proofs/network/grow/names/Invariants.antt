@@ -3,4 +3,5 @@ use Rattle.mk_net.specs.Name.{IsName}
 use Rattle.mk_net.proofs.network.grow.names.Given as goal
 
 abbrev pub invariant-names : goal.invariant-names
-invariant-names l = (l.set.keys ≡ take l.name-index l.names) × All IsName (take l.name-index l.names)
+invariant-names l = (l.set.keys ≡ take l.name-index l.names)
+    × All IsName (take l.name-index l.names)

@@ -8,6 +8,9 @@ next : (n : ℕ) → suc n ≡ n + 1
 next n = omega arith
 
 pub invariant_of-result : goal.invariant_of-result
-invariant_of-result c = subst (λ (n : ℕ). IsKeptRow (slice_set c.self.inside.numbers c.self.inside.size c.args.number) n)
+invariant_of-result c =
+    subst (λ (n : ℕ). IsKeptRow (slice_set c.self.inside.numbers c.self.inside.size c.args.number)
+    n)
     (next c.self.inside.size)
-    (row_longer c.self.inside.numbers c.self.inside.size c.args.number c.self.invariant (search (rules, arith)))
+    (row_longer c.self.inside.numbers c.self.inside.size c.args.number c.self.invariant
+    (search (rules, arith)))

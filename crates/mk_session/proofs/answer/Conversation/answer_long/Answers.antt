@@ -11,5 +11,5 @@ use Rattle.mk_session.proofs.answer.Conversation.answer_long.Goals as goal
 pub returns-clause-answered : goal.returns-clause-answered
 returns-clause-answered g c = λ market now.
     gathered_when_said c.say.result market now (long ∷ []) now (reply_line (Refused Long)) _ _ _ _
-    (one_answered market now (long ∷ []) now (Refused Long) (one_replied market now long LongLine
-    (Refused Long) refl tt refl)) c.say.ensures.gathers
+    (λ sound. one_answered market now (long ∷ []) now (Refused Long)
+    (one_replied market now long LongLine (Refused Long) refl tt refl)) c.say.ensures.gathers

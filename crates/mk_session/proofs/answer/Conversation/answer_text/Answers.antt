@@ -15,7 +15,7 @@ returns-then-is_blank-clause-answered g c =
     (sym c.line.ensures) ∙ sym c.is_blank.ensures ∙ c.if-is_blank.true in
     record {
       output = [];
-      answered = blank_answered m.market m.standing (text line) (rw blank refl);
+      answered = λ sound. blank_answered m.market m.standing (text line) (rw blank refl);
       gathers = gathers_none (g.S.Sink.written c.args.out.now) c.args.self.now.waiting.bytes;
     }
 
@@ -25,8 +25,8 @@ returns-clause-answered g c =
     let line = c.args.self.now.lines.line in
     gathered_when_said c.say.result m.market m.standing (text line ∷ [])
     c.reply_to-reply.new.market.standing (reply_line c.reply_to-reply.result) _ _ _ _
-    (one_answered m.market m.standing (text line ∷ []) c.reply_to-reply.new.market.standing
-    c.reply_to-reply.result
+    (λ sound. one_answered m.market m.standing (text line ∷ [])
+    c.reply_to-reply.new.market.standing c.reply_to-reply.result
     (subst (λ (l : List ℕ). AreReplied m.market m.standing (text l ∷ [])
     c.reply_to-reply.new.market.standing (c.reply_to-reply.result ∷ [])) c.line-2.ensures
-    c.reply_to-reply.ensures.replied)) c.say.ensures.gathers
+    (c.reply_to-reply.ensures.replied sound))) c.say.ensures.gathers

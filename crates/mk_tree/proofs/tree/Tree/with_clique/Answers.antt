@@ -5,10 +5,16 @@ use Rattle.mk_tree.proofs.Grown.{grown_is_tree}
 use Rattle.mk_tree.proofs.tree.Tree.with_clique.Goals as goal
 
 whole : (c : goal.In_ok-push-2) →
-    IsTreeOf c.args.net.now (record { cliques = c.push.new.self.items; links = c.push-2.new.self.items })
+    IsTreeOf c.args.net.now (record {
+      cliques = c.push.new.self.items;
+      links =
+          c.push-2.new.self.items;
+    })
 whole c =
-    let cliques : c.push.new.self.items ≡ c.args.self.now.cliques ++ c.args.clique.now ∷ [] = search rules in
-    let links : c.push-2.new.self.items ≡ c.args.self.now.links ++ c.args.link ∷ [] = search rules in
+    let cliques : c.push.new.self.items ≡ c.args.self.now.cliques ++ c.args.clique.now ∷ [] =
+    search rules in
+    let links : c.push-2.new.self.items ≡ c.args.self.now.links ++ c.args.link ∷ [] =
+    search rules in
     rw (cliques, links)
     (grown_is_tree c.args.net.now c.args.self.now c.args.clique.now c.args.link c.requires.behind)
 
