@@ -20,12 +20,13 @@ invariant_of-self g c = worst_kept g.P.Engine.stands_for g.A.Engine.stands_for g
 
 pub returns : goal.returns
 returns g c =
+    let found = c.in_ok-user in
     rw (← c.self.view_is) (record {
       same_market = refl;
-      allowed = λ sound. worst_allowed g.P.Engine.stands_for g.A.Engine.stands_for g.A.Engine.plan_for _ _ _ _ _ _ _ _ c.self.invariant c.args.name.now c.in_ok-user.user c.in_ok-user.ensures.user c.assets.result.now c.least_of-factor.new.assets c.assets.ensures.value c.least_of-factor.result c.cash-low.result.0 c.cash-low.result.1
-          sound (c.in_ok-user.ensures.refusal (market_of c.self.inside.file))
+      allowed = λ sound. worst_allowed g.P.Engine.stands_for g.A.Engine.stands_for g.A.Engine.plan_for _ _ _ _ _ _ _ _ c.self.invariant c.args.name.now found.user found.ensures.user c.assets.result.now c.least_of-factor.new.assets c.assets.ensures.value c.least_of-factor.result c.cash-low.result.0 c.cash-low.result.1
+          sound (found.ensures.refusal (market_of c.self.inside.file))
           c.least_of-factor.ensures.least c.least_of-factor.ensures.idle
           c.cash-low.ensures.covers;
-      next = worst_next g.P.Engine.stands_for g.A.Engine.stands_for g.A.Engine.plan_for _ _ _ _ _ _ _ _ c.self.invariant c.args.name.now c.in_ok-user.user c.in_ok-user.ensures.user c.assets.result.now c.least_of-factor.new.assets c.assets.ensures.value c.cash-low.result.0 c.cash-low.result.1;
+      next = worst_next g.P.Engine.stands_for g.A.Engine.stands_for g.A.Engine.plan_for _ _ _ _ _ _ _ _ c.self.invariant c.args.name.now found.user found.ensures.user c.assets.result.now c.least_of-factor.new.assets c.assets.ensures.value c.cash-low.result.0 c.cash-low.result.1;
       paid = λ u. refl;
     })
