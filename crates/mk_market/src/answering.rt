@@ -12,24 +12,8 @@ impl<P: Engine<SumProd>, A: Engine<MinProd>> Market<P, A> {
     ghost use Rattle.mk_market.specs.Trading.{IsAnswered, reply_of};
 
     /// Answers a command. Only a user who joins takes memory, all of it before anything changes.
-    ///
-    /// A price without a condition is the cheapest command, and is tried before all others.
     #[inline(never)]
-    #[tactic(auto, unfolding(mk_command::specs::Commands::command_of))]
     pub fn apply(&mut self, alloc: Global, command: &CommandRef) -> Reply
-        ensures { IsAnswered self.old self.new (command_of command.now) result }
-    {
-        if let CommandRef::Price { question } = command {
-            if let Some((low, high)) = self.plain_price(question) {
-                return Reply::Price { low, high };
-            }
-        }
-        self.apply_any(alloc, command)
-    }
-
-    /// Answers a command of any kind.
-    #[inline(never)]
-    fn apply_any(&mut self, alloc: Global, command: &CommandRef) -> Reply
         ensures { IsAnswered self.old self.new (command_of command.now) result }
     {
         let answered = self.answer(alloc, command);

@@ -12,15 +12,16 @@ ghost use Rattle.mk_session.specs.Texts.{ready_line, reply_line};
 ghost use Rattle.mk_exact.specs.Market.{Market};
 ghost use Rattle.mk_rules.specs.Standings.{IsMarket};
 ghost use Rattle.mk_rules.specs.Transcript.{Standing, opening};
-ghost use Rattle.mk_session.specs.Transcript.{AreReplied};
+ghost use Rattle.mk_command.specs.Commands.{command_of};
+ghost use Rattle.mk_session.specs.Transcript.{AreReplied, AreAnswered};
 ghost use Rattle.mk_session.specs.Outcome.{HasCauses, CountsNone};
 ghost use Rattle.mk_session.specs.inner.Progress.{Gathers, AreGathered, IsReady, IsSoFar, IsEnded};
-ghost use Rattle.mk_session.specs.inner.Progress.{IsSoundAt};
+ghost use Rattle.mk_session.specs.inner.Progress.{IsSoundAt, IsPrinted};
 
 use crate::market::TreeMarket;
 use crate::print::{LineBuffer, print_ready, print_reply_line};
 use crate::waiting::{put_line, write_before_read};
-use mk_command::{Words, read_command};
+use mk_command::{CommandRef, Words, read_command};
 use mk_file::MarketFile;
 use mk_io::{Inputs, Lines, Next, Sink, SinkFailed, Status, write_all};
 use mk_reply::{Refusal, Reply};
@@ -52,6 +53,51 @@ pub(crate) fn reply_to(
         },
         Ok(command) => market.apply(alloc, &command),
     }
+}
+
+/// Puts the line of the reply to a line that is not too long and not blank into `print`, in place of
+/// what it held.
+fn print_answer(
+    alloc: Global,
+    market: &mut TreeMarket,
+    line: &[u8],
+    words: &mut Words,
+    print: &mut LineBuffer,
+)
+    requires { list_all (λ b. b == 32) line.now ≡ false }
+    ensures market { market.new.market ≡ market.old.market }
+    ensures answered { IsSoundAt market.old.market market.old.standing →
+        AreAnswered market.old.market market.old.standing (text line.now ∷ [])
+        market.new.standing print.new.bytes }
+{
+    match read_command(line, words) {
+        Err(_) => print_reply_line(
+            &Reply::Refused {
+                why: Refusal::Syntax,
+            },
+            print,
+        ),
+        Ok(command) => print_answer_to(alloc, market, &command, print),
+    }
+}
+
+/// Puts the line of the reply to a command into `print`, in place of what it held.
+///
+/// A price without a condition is the cheapest command, and is tried before all others.
+fn print_answer_to(
+    alloc: Global,
+    market: &mut TreeMarket,
+    command: &CommandRef,
+    print: &mut LineBuffer,
+)
+    ensures { IsPrinted market.old market.new (command_of command.now) print.new.bytes }
+{
+    if let CommandRef::Price { question } = command {
+        if let Some((low, high)) = market.plain_price(question) {
+            return print_reply_line(&Reply::Price { low, high }, print);
+        }
+    }
+    print_reply_line(&market.apply(alloc, command), print)
 }
 
 /// What stands between a market and who talks to it: what was read and not answered, and what was
@@ -229,8 +275,9 @@ impl Conversation {
         if is_blank(self.lines.line()) {
             return Ok(());
         }
-        let reply = reply_to(alloc, market, self.lines.line(), &mut self.words);
-        self.say(&reply, out)
+        let words = &mut self.words;
+        print_answer(alloc, market, self.lines.line(), words, &mut self.line);
+        put_line(self.line.as_str(), &mut self.waiting, out)
     }
 
     /// Answers a line that is too long, as any market does.

@@ -9,7 +9,10 @@ use Rattle.mk_exact.specs.Market.{Market, network_of}
 use Rattle.mk_exact.specs.Sound.{IsSound}
 use Rattle.mk_rules.specs.Transcript.{Standing, opening}
 use Rattle.mk_rules.specs.Standings.{IsMarket}
-use Rattle.mk_session.specs.Texts.{ready_line}
+use Rattle.mk_command.specs.declared.command.Command.{Command}
+use Rattle.mk_reply.specs.declared.reply.Reply.{Reply}
+use Rattle.mk_market.specs.Trading.{Trading, IsAnswered}
+use Rattle.mk_session.specs.Texts.{ready_line, reply_line}
 use Rattle.mk_session.specs.Transcript.{AreAnswered}
 use Rattle.mk_session.specs.Complete.{AreWithin}
 use Rattle.mk_session.specs.Outcome.{Adds, Serves}
@@ -24,6 +27,12 @@ pub record Gathers (before after : Option (List ℕ)) (waited bytes waits : List
 -- the history of a standing is sound
 abbrev pub IsSoundAt : Market → Standing → Type 0
 IsSoundAt market now = IsSound (network_of market now.history) now.history
+
+-- a market answered a command by a reply, whose line this is
+pub record IsPrinted (old new : Trading) (command : Command) (line : List ℕ) : Type 0 where
+  pub reply : Reply
+  pub answered : IsAnswered old new command reply
+  pub printed : line ≡ reply_line reply
 
 -- some lines are answered, once the history before them is sound, and their answers are written or
 -- wait

@@ -1,9 +1,8 @@
 use Rattle.std.proofs.Common.{◌≡◌, ◌==◌, ℕ, List, [], ◌∷◌, true, refl, sym, ap, subst, ◌∙◌}
 use Rattle.std.specs.List.{list_all}
 use Rattle.mk_io.specs.Stream.{text}
-use Rattle.mk_session.specs.Texts.{reply_line}
-use Rattle.mk_session.specs.Transcript.{AreReplied}
-use Rattle.mk_session.proofs.Answering.{blank_answered, one_answered}
+use Rattle.mk_session.specs.Transcript.{AreAnswered}
+use Rattle.mk_session.proofs.Answering.{blank_answered}
 use Rattle.mk_session.proofs.Gathering.{gathers_none, gathered_when_said}
 use Rattle.mk_session.proofs.answer.Conversation.answer_text.Goals as goal
 
@@ -23,10 +22,10 @@ pub returns-clause-answered : goal.returns-clause-answered
 returns-clause-answered g c =
     let m = c.args.market.now in
     let line = c.args.self.now.lines.line in
-    gathered_when_said c.say.result m.market m.standing (text line ∷ [])
-    c.reply_to-reply.new.market.standing (reply_line c.reply_to-reply.result) _ _ _ _
-    (λ sound. one_answered m.market m.standing (text line ∷ [])
-    c.reply_to-reply.new.market.standing c.reply_to-reply.result
-    (subst (λ (l : List ℕ). AreReplied m.market m.standing (text l ∷ [])
-    c.reply_to-reply.new.market.standing (c.reply_to-reply.result ∷ [])) c.line-2.ensures
-    (c.reply_to-reply.ensures.replied sound))) c.say.ensures.gathers
+    gathered_when_said c.put_line.result m.market m.standing (text line ∷ [])
+    c.print_answer.new.market.standing c.as_str.result.now _ _ _ _
+    (λ sound. subst (AreAnswered m.market m.standing (text line ∷ [])
+    c.print_answer.new.market.standing) (sym c.as_str.ensures.value)
+    (subst (λ (l : List ℕ). AreAnswered m.market m.standing (text l ∷ [])
+    c.print_answer.new.market.standing c.print_answer.new.print.bytes) c.line-2.ensures
+    (c.print_answer.ensures.answered sound))) c.put_line.ensures.gathers
