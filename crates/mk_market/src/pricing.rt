@@ -16,8 +16,9 @@ impl<P: Engine<SumProd>, A: Engine<MinProd>> Market<P, A> {
     ghost use Rattle.std.specs.Prelude.{◌≡◌, IfSome, IfNone};
     ghost use Rattle.mk_reply.specs.declared.reply.Reply.TheVariants as reply;
 
-    /// The price of a question without a condition that nothing refuses, in units of 10^-10: what `apply` would answer.
-    /// None leaves all as it was, and says nothing. It is for who prints many prices: no reply is made.
+    /// The price of a question without a condition that nothing refuses, in units of 10^-10, as
+    /// `apply` answers it. None leaves all as it was, and says nothing. It makes no reply, so it
+    /// costs less.
     #[inline(never)]
     pub fn plain_price(&mut self, question: &QuestionText) -> Option<(u64, u64)>
         ensures priced { IfSome result (λ price. IsAnswered self.old self.new (Price question.now) (reply.Price price.0 price.1)) }

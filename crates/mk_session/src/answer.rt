@@ -55,8 +55,8 @@ pub(crate) fn reply_to(
     }
 }
 
-/// Puts the line of the reply to a line that is not too long and not blank into `print`, in place of
-/// what it held.
+/// Puts the line of the reply to a line that is not too long and not blank into `print`, in place
+/// of what it held.
 fn print_answer(
     alloc: Global,
     market: &mut TreeMarket,
