@@ -1,5 +1,6 @@
 pub mod Counts
 pub mod Tops
+pub mod Connected
 pub mod Found
 pub mod Families
 pub mod Tested

@@ -1,15 +1,17 @@
 -- Tops by sets: the variables of which a clique is a top, and those with more than one.
 use Rattle.std.specs.Prelude.{◌≡◌, ℕ, zero, suc, ◌+◌, ◌-◌, ◌<◌, ◌≤◌, List, length, Bool, true, false, cond, not, ◌&&◌, ◌||◌, ◌==◌, ◌⊎◌, nat_le, slice_index, get_or, Some, None}
 use Rattle.std.proofs.Common.{refl, sym, ap, subst, ◌∙◌, arith, inl, inr}
-use Rattle.std.proofs.lemmas.Bool.{and_parts, ne_eqb, le-leb, lt-leb, not-true, not-false, not_from_true, not_from_false, cases_lt, both_ways}
+use Rattle.std.proofs.lemmas.Bool.{ne_eqb, le-leb, lt-leb, not-true, not-false, not_from_true, not_from_false, cases_lt, both_ways}
 use Rattle.std.proofs.lemmas.List.{get_or_default}
 use Rattle.std.proofs.lemmas.List.Elements.{All-get_or}
 use Rattle.mk_net.specs.declared.sets.VarSet.{VarSet}
 use Rattle.mk_net.specs.Sets.{is_member, no_variables}
 use Rattle.mk_net.specs.Network.{Variable}
-use Rattle.mk_tree.specs.Given.{GivenTree, AreLinked, AreOfNetwork, holds, link_of}
-use Rattle.mk_tree.specs.Tests.{is_top, has_one_top, first_failing}
-use Rattle.mk_tree.proofs.Counts.{passing, one_more, none_counted}
+use Rattle.mk_tree.specs.Given.{GivenTree, AreLinked, AreOfNetwork}
+use Rattle.mk_tree.specs.Tests.{are_connected, first_failing}
+use Rattle.mk_tree.specs.inner.Tops.{is_top}
+use Rattle.mk_tree.proofs.Counts.{passing, one_more}
+use Rattle.mk_tree.proofs.Connected.{same_test, connected_where_none}
 use Rattle.mk_tree.proofs.Found.{failing_at, none_failing}
 
 -- the link of a clique after the first
@@ -82,32 +84,30 @@ two_or_not_one n = at (cases_lt n 2)
     at (inl few) = lt-leb 2 n few ∙ sym (not_from_true (nat_le n 1) (le-leb n 1 (omega (arith, few))))
     at (inr many) = le-leb 2 n many ∙ sym (not_from_false (nat_le n 1) (lt-leb n 1 (omega (arith, many))))
 
-pub tops_end : (t : GivenTree) (once twice : VarSet) → AreTops t (length t.cliques) once twice → (x : ℕ) → is_member twice x ≡ not (has_one_top t x)
-tops_end t once twice tops x = tops.twice x ∙ two_or_not_one (passing (is_top t x) 1 (length t.cliques))
+pub tops_end : (t : GivenTree) (once twice : VarSet) → AreLinked t → AreTops t (length t.cliques) once twice → (x : ℕ) → is_member twice x ≡ not (are_connected t x)
+tops_end t once twice linked tops x =
+    tops.twice x ∙ two_or_not_one (passing (is_top t x) 1 (length t.cliques)) ∙ ap (λ (b : Bool). not b) (same_test t linked x)
 
 -- no clique holds what is no variable of the network
-pub one_top_outside : (network : List Variable) (t : GivenTree) → AreOfNetwork network t.cliques → (x : ℕ) → length network ≤ x → has_one_top t x ≡ true
-one_top_outside network t inside x outside =
-    let none : passing (is_top t x) 1 (length t.cliques) ≡ 0 = none_counted (is_top t x) 1 (length t.cliques) (λ k low high top.
-    let held = and_parts (holds t k x) ((k == 1) || not (holds t (link_of t k) x)) top in
-    let within = All-get_or (λ (set : VarSet). (y : ℕ) → is_member set y ≡ true → y < length network) t.cliques (k - 1) no_variables (omega (arith, low, high)) inside x held.0 in
-    omega (arith, within, outside)) in
-    ap (λ (n : ℕ). nat_le n 1) none
+pub connected_outside : (network : List Variable) (t : GivenTree) → AreOfNetwork network t.cliques → (x : ℕ) → length network ≤ x → are_connected t x ≡ true
+connected_outside network t inside x outside = connected_where_none t x (λ k low high held.
+    let within = All-get_or (λ (set : VarSet). (y : ℕ) → is_member set y ≡ true → y < length network) t.cliques (k - 1) no_variables (omega (arith, low, high)) inside x held in
+    omega (arith, within, outside))
 
--- the first variable with more than one top
+-- the first variable whose cliques are not connected
 pub apart_at : (network : List Variable) (t : GivenTree) (several : VarSet) (x : ℕ) → AreOfNetwork network t.cliques
-    → ((y : ℕ) → is_member several y ≡ not (has_one_top t y)) → is_member several x ≡ true → ((y : ℕ) → y < x → is_member several y ≡ false)
-    → Some (x + 1) ≡ first_failing network (has_one_top t)
+    → ((y : ℕ) → is_member several y ≡ not (are_connected t y)) → is_member several x ≡ true → ((y : ℕ) → y < x → is_member several y ≡ false)
+    → Some (x + 1) ≡ first_failing network (are_connected t)
 apart_at network t several x inside are member before =
-    let fails : has_one_top t x ≡ false = not-true (has_one_top t x) (sym (are x) ∙ member) in
-    failing_at network (has_one_top t) x (within fails (cases_lt x (length network))) fails
-    (λ y below. not-false (has_one_top t y) (sym (are y) ∙ before y below))
+    let fails : are_connected t x ≡ false = not-true (are_connected t x) (sym (are x) ∙ member) in
+    failing_at network (are_connected t) x (within fails (cases_lt x (length network))) fails
+    (λ y below. not-false (are_connected t y) (sym (are y) ∙ before y below))
   where
-    within : has_one_top t x ≡ false → ((x < length network) ⊎ (length network ≤ x)) → x < length network
+    within : are_connected t x ≡ false → ((x < length network) ⊎ (length network ≤ x)) → x < length network
     within fails (inl inner) = inner
-    within fails (inr outer) = absurd (both_ways (has_one_top t x) fails (one_top_outside network t inside x outer))
+    within fails (inr outer) = absurd (both_ways (are_connected t x) fails (connected_outside network t inside x outer))
 
 pub none_apart : (network : List Variable) (t : GivenTree) (several : VarSet)
-    → ((y : ℕ) → is_member several y ≡ not (has_one_top t y)) → ((y : ℕ) → is_member several y ≡ false)
-    → None ≡ first_failing network (has_one_top t)
-none_apart network t several are none = none_failing network (has_one_top t) (λ y within. not-false (has_one_top t y) (sym (are y) ∙ none y))
+    → ((y : ℕ) → is_member several y ≡ not (are_connected t y)) → ((y : ℕ) → is_member several y ≡ false)
+    → None ≡ first_failing network (are_connected t)
+none_apart network t several are none = none_failing network (are_connected t) (λ y within. not-false (are_connected t y) (sym (are y) ∙ none y))

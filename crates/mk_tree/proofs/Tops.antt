@@ -6,7 +6,7 @@ use Rattle.std.proofs.lemmas.Bool.{cases_eq, both_ways, and_parts, and_from, and
 use Rattle.mk_sums.specs.Trees.{linked, Joined, here, step, Running, IsTop, OneTop}
 use Rattle.mk_sums.proofs.Sides.{tops_from_running, running_from_tops}
 use Rattle.mk_tree.specs.Given.{GivenTree, AreLinked, IsConnected, holds, link_of}
-use Rattle.mk_tree.specs.Tests.{is_top, has_one_top}
+use Rattle.mk_tree.specs.inner.Tops.{is_top, has_one_top}
 use Rattle.mk_tree.proofs.Counts.{same_counted, one_counted}
 
 -- the cliques as they hold one variable alone

@@ -1,8 +1,8 @@
 -- The test of the check, in the words of running intersection.
 use Rattle.std.specs.Prelude.{◌≡◌, ℕ, true, ◌↔◌}
 use Rattle.mk_tree.specs.Given.{GivenTree, AreLinked, IsConnected}
-use Rattle.mk_tree.specs.Tests.{has_one_top}
+use Rattle.mk_tree.specs.Tests.{are_connected}
 
--- a variable has at most one top exactly where its cliques are connected
-abbrev pub OneTopIsConnected : Type 0
-OneTopIsConnected = (t : GivenTree) → AreLinked t → (x : ℕ) → (has_one_top t x ≡ true) ↔ IsConnected t x
+-- the test of a variable's cliques passes exactly where they are joined by links through them
+abbrev pub TestIsConnected : Type 0
+TestIsConnected = (t : GivenTree) → AreLinked t → (x : ℕ) → (are_connected t x ≡ true) ↔ IsConnected t x

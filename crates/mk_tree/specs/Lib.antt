@@ -4,3 +4,4 @@ pub mod Checked
 pub mod Laws
 pub mod Held
 pub mod Grown
+pub mod inner

@@ -1,5 +1,5 @@
 -- What a tree is refused for, as tests.
-use Rattle.std.specs.Prelude.{ℕ, ◌+◌, List, [], ◌∷◌, length, filter, Bool, ◌&&◌, ◌||◌, not, ◌==◌, nat_lt, nat_le, if◌then◌else◌, Option, Some, None, option_map, find, count_by}
+use Rattle.std.specs.Prelude.{ℕ, ◌+◌, ◌-◌, List, [], ◌∷◌, length, filter, Bool, ◌&&◌, ◌||◌, not, nat_lt, if◌then◌else◌, Option, Some, None, option_map, find}
 use Rattle.std.specs.List.{list_all, list_any, range_with_len}
 use Rattle.mk_net.specs.declared.sets.VarSet.{VarSet}
 use Rattle.mk_net.specs.Bounds.{max_clique_cells, max_cells}
@@ -20,13 +20,17 @@ holds_family network x set = is_member set x && list_all (is_member set) (variab
 abbrev pub is_covered : List Variable → List VarSet → ℕ → Bool
 is_covered network cliques x = list_any (holds_family network x) cliques
 
--- clique k holds the variable, and is the first or is linked to one that does not
-abbrev pub is_top : GivenTree → ℕ → ℕ → Bool
-is_top t x k = holds t k x && ((k == 1) || not (holds t (link_of t k) x))
+-- a clique before number k holds the variable
+abbrev pub is_held_before : GivenTree → ℕ → ℕ → Bool
+is_held_before t x k = list_any (λ (j : ℕ). holds t j x) (range_with_len 1 (k - 1))
 
--- at most one clique is such a top; it is the same as that the cliques of the variable are connected
-abbrev pub has_one_top : GivenTree → ℕ → Bool
-has_one_top t x = nat_le (count_by (is_top t x) (range_with_len 1 (length t.cliques))) 1
+-- clique k, where it holds the variable and is not the first to do so, is linked to one that holds it
+abbrev pub goes_on : GivenTree → ℕ → ℕ → Bool
+goes_on t x k = not (holds t k x && is_held_before t x k) || holds t (link_of t k) x
+
+-- so the cliques that hold the variable are connected: each but the first is linked to another one
+abbrev pub are_connected : GivenTree → ℕ → Bool
+are_connected t x = list_all (goes_on t x) (range_with_len 1 (length t.cliques))
 
 -- the network's variables in a set, in rising order
 abbrev pub members : List Variable → VarSet → List ℕ
@@ -51,6 +55,6 @@ first_failing network test = option_map (λ (x : ℕ). x + 1) (find (λ (x : ℕ
 abbrev pub tree_fault : List Variable → GivenTree → Option TreeFault
 tree_fault network t = first_of (
     option_map Cover (first_failing network (is_covered network t.cliques))
-    ∷ option_map NotRunning (first_failing network (has_one_top t))
+    ∷ option_map NotRunning (first_failing network (are_connected t))
     ∷ option_map Cells (first_too_large network 1 0 t.cliques)
     ∷ [])

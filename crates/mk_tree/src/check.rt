@@ -6,7 +6,8 @@ ghost use Rattle.mk_net.specs.Bounds.{max_clique_cells, max_cells};
 ghost use Rattle.mk_net.specs.Sets.{is_member, IsSubset};
 ghost use Rattle.mk_net.specs.Network.{Variable, IsNetwork};
 ghost use Rattle.mk_tree.specs.Given.{AreLinked, AreOfNetwork};
-ghost use Rattle.mk_tree.specs.Tests.{holds_family, is_covered, is_top, has_one_top, cells_of, first_failing, first_too_large, tree_fault};
+ghost use Rattle.mk_tree.specs.Tests.{holds_family, is_covered, are_connected, cells_of, first_failing, first_too_large, tree_fault};
+ghost use Rattle.mk_tree.specs.inner.Tops.{is_top};
 
 use crate::fault::TreeFault;
 use mk_net::{Network, VarSet};
@@ -73,17 +74,17 @@ fn family(net: &Network, variable: u32) -> VarSet
 fn first_apart(cliques: &[VarSet], links: &[u32]) -> Option<u32>
     requires { AreLinked (record { cliques = cliques.now; links = links.now }) }
     ensures { (network : List Variable) → AreOfNetwork network cliques.now
-        → result ≡ first_failing network (has_one_top (record { cliques = cliques.now; links = links.now })) }
+        → result ≡ first_failing network (are_connected (record { cliques = cliques.now; links = links.now })) }
 {
     let variable = with_several_tops(cliques, links).first()?;
     Some(variable + 1)
 }
 
-/// The variables that have more than one top. A top of a variable is a clique that holds it, and is the first or is
-/// linked to one that does not.
+/// The variables whose cliques are not connected: those that have more than one top, which is a clique that holds the
+/// variable, and is the first of all or is linked to one that does not.
 fn with_several_tops(cliques: &[VarSet], links: &[u32]) -> VarSet
     requires { AreLinked (record { cliques = cliques.now; links = links.now }) }
-    ensures { (x : ℕ) → is_member result x ≡ not (has_one_top (record { cliques = cliques.now; links = links.now }) x) }
+    ensures { (x : ℕ) → is_member result x ≡ not (are_connected (record { cliques = cliques.now; links = links.now }) x) }
 {
     let mut once = VarSet::empty();
     let mut twice = VarSet::empty();

@@ -1,8 +1,8 @@
 //! What the check of a tree rests on.
-ghost use Rattle.mk_tree.specs.Laws.{OneTopIsConnected};
+ghost use Rattle.mk_tree.specs.Laws.{TestIsConnected};
 
-/// A variable's cliques are connected exactly where at most one of them is the first, or is linked to one that does not
-/// hold the variable.
-pub fn one_top_is_connected()
-    ensures { OneTopIsConnected }
+/// Each clique that holds a variable, but the first of them, is linked to one that holds it exactly where the
+/// variable's cliques are connected.
+pub fn test_is_connected()
+    ensures { TestIsConnected }
 {}

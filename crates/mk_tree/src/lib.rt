@@ -8,5 +8,5 @@ mod tree;
 
 pub use check::clique_cells;
 pub use fault::TreeFault;
-pub use laws::one_top_is_connected;
+pub use laws::test_is_connected;
 pub use tree::Tree;

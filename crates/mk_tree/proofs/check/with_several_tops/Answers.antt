@@ -10,5 +10,5 @@ loop-place-preserved c =
 pub returns : goal.returns
 returns c =
     let all : c.loop-place.place ≡ length c.args.cliques.now = omega arith in
-    tops_end (record { cliques = c.args.cliques.now; links = c.args.links.now }) c.loop-place.once c.loop-place.twice
+    tops_end (record { cliques = c.args.cliques.now; links = c.args.links.now }) c.loop-place.once c.loop-place.twice c.requires
     (subst (λ n. AreTops (record { cliques = c.args.cliques.now; links = c.args.links.now }) n c.loop-place.once c.loop-place.twice) all c.loop-place.invariant)
