@@ -69,6 +69,12 @@ abbrev pub ClearsTowards : MarkedFlow → MarkedFlow → ℕ → Type 0
 ClearsTowards old new c =
     (a b : ℕ) → are_linked old.flow.shape.tree a b ≡ true → is_stale new a b ≡ (is_stale old a b && not (leads_towards old.flow.shape.tree c a b))
 
+-- an engine as it is started from a plan: no message was made, and each is stale
+pub record IsStarted (shape : ShapeOf) (e : MarkedFlow) : Type 0 where
+  pub shape_is : e.flow.shape ≡ shape
+  pub none_made : e.flow.computed ≡ 0
+  pub all_stale : (a b : ℕ) → is_stale e a b ≡ true
+
 -- the shape and the count of messages are as they were
 pub record KeepsCount (old new : MarkedFlow) : Type 0 where
   pub same_shape : new.flow.shape ≡ old.flow.shape

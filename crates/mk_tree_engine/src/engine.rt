@@ -1,18 +1,21 @@
 //! The engine.
 
-ghost use Rattle.std.specs.Prelude.{◌≡◌, ℕ, ◌<◌, ◌≤◌, [], ◌∷◌, length, Some, IfOk, ⊤};
+ghost use Rattle.std.specs.Prelude.{◌≡◌, ℕ, ◌<◌, ◌≤◌, List, [], ◌∷◌, length, Some, IfOk, ⊤};
 ghost use Rattle.mk_net.specs.Asked.{ratio_pairs};
 ghost use Rattle.mk_net.specs.Trades.{trade_ratio};
 ghost use Rattle.std.proofs.Common.{sym, subst};
+ghost use Rattle.mk_net.specs.Network.{Variable};
 ghost use Rattle.mk_tree.specs.Given.{GivenTree, home};
 ghost use Rattle.mk_tree.specs.Checked.{IsTreeOf};
 ghost use Rattle.mk_tree.specs.Held.{IsHeldAt};
-ghost use Rattle.mk_engine.specs.Meaning.{Meaning, RowsOf, SupportOf, RatioOf, with_factor, with_known};
+ghost use Rattle.mk_engine.specs.Meaning.{Meaning, opening, RowsOf, SupportOf, RatioOf};
+ghost use Rattle.mk_engine.specs.Meaning.{with_factor, with_known};
 ghost use Rattle.mk_engine.specs.Beliefs.{CanWeigh, CanMultiply, CanKnow, CanBelieve, IsBelief};
 ghost use Rattle.mk_propagate.specs.Shapes.{IsClique};
 ghost use Rattle.mk_propagate.specs.Flows.{counted_on, reading_grade};
 ghost use Rattle.mk_tree_engine.specs.Engines.{HasTree, IsPlanFor, MarksAway, ClearsTowards};
-ghost use Rattle.mk_tree_engine.specs.Engines.{KeepsCount, factor_home, placing_of, stale_number};
+ghost use Rattle.mk_tree_engine.specs.Engines.{IsStarted, KeepsCount, factor_home};
+ghost use Rattle.mk_tree_engine.specs.Engines.{placing_of, stale_number};
 
 use crate::homes::family_home;
 use crate::marks::Marks;
@@ -84,7 +87,12 @@ impl<R: Semiring> Engine<R> for TreeEngine<R> {
         Ok(Rc::new(alloc, shape)?)
     }
 
-    fn start(alloc: Global, plan: &Rc<Shape>) -> Result<TreeEngine<R>, NoMemory> {
+    fn start(alloc: Global, plan: &Rc<Shape>) -> Result<TreeEngine<R>, NoMemory>
+        ensures stands { IfOk result (λ engine. (network : List Variable) (tree : GivenTree) →
+            ⟦<TreeEngine<R> as Engine<R>>⟧.plan_for plan.now network tree →
+            ⟦<TreeEngine<R> as Engine<R>>⟧.stands_for engine (opening network tree)) }
+        ensures started { IfOk result (IsStarted plan.now.value) }
+    {
         let flow = Flow::start(alloc, plan)?;
         let marks = Marks::all_stale(alloc, flow.shape().cliques())?;
         Ok(TreeEngine { flow, marks })
