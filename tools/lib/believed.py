@@ -80,7 +80,10 @@ class Module:
         raw = path.read_text().splitlines()
         lines = without_comments(raw, "--")
         self.imports = imports_of(lines)
-        self.aliases = {m.group(3): m.group(1) for m in map(USE_AS.match, lines) if m}
+        named = [m.groups() for m in map(USE_AS.match, lines) if m]
+        # the forms of a type of the code, under one name: `name.Form`
+        self.forms = {alias: (crate, path) for crate, path, alias in named if path.startswith("declared.") and path.endswith(".TheVariants")}
+        self.aliases = {alias: crate for crate, _, alias in named if alias not in self.forms}
         self.about = self.first_comment(raw)
         self.texts, self.parts, self.items = {}, {}, {}
         heads = self.read(lines)
@@ -283,6 +286,8 @@ class Sources:
                 self.visit(module, word, by)
         elif word in module.imports:
             self.visit_import(by, *module.imports[word])
+        elif word in module.forms:
+            self.visit_import(by, *module.forms[word], word)
 
     def visit_declared(self, code, name, by):
         known = self.items.get((name, code.shown))
@@ -347,7 +352,10 @@ class Sources:
         for word in dict.fromkeys(words):
             if word in (module.texts if module else code.declared):
                 continue
-            if word in imports:
+            if module and word in module.forms:
+                owner = self.owner(*module.forms[word], word)
+                found[word] = (owner.path, owner.name, owner.name)
+            elif word in imports:
                 crate, path, name = imports[word]
                 if (self.crates / crate).is_dir():
                     owner = self.owner(crate, path, name)

@@ -48,6 +48,9 @@ REPLIES = {kind: re.compile(form) for kind, form in {
     "settle": rf"settle at (?P<at>[0-9]+)(?P<payments>(?:, {N} {INTERVAL} paid [0-9]+)*)",
     "bound": rf"bound (?P<ends>{INTERVAL})",
 }.items()}
+# What `chance`, `best` and `expect` write behind the last reply of a run.
+LAST_LINE = re.compile(rf"chance {PRICES}|best {PRICES} at most [0-9]+\.[0-9]{{10}}(?: {PAIR})+|expect -?[0-9]+\.\.-?[0-9]+"
+                       rf"|refused (?:name {PAIR}|user {N}|given)")
 PAYMENT = re.compile(rf"({N}) ([0-9]+)\.\.([0-9]+) paid ([0-9]+)")
 
 
@@ -118,7 +121,7 @@ def read_entry(line, text):
 
 
 def read_transcript(lines, replies):
-    """The entries of commands, blank lines left out, and of their replies, the greeting among them."""
+    """The entries of commands, blank lines left out, and of their replies, the greeting among them. A last line of another form than `run` is no reply."""
     if not replies or not re.fullmatch(r"ready [0-9]+ [0-9]+", replies[0]):
         raise NoTranscript("the replies do not begin with the line `ready ..`")
     entries, revision = [], 0
@@ -133,7 +136,8 @@ def read_transcript(lines, replies):
             if int(entry.reply["at"]) != revision:
                 raise NoTranscript(f"reply {number + 1:,} speaks of revision {entry.reply['at']}, where {revision:,} is the one: {entry.text}")
         entries.append(entry)
-    if len(replies) > len(lines) + 1:
+    rest = replies[len(lines) + 1:]
+    if len(rest) > 1 or rest and not LAST_LINE.fullmatch(rest[0]):
         raise NoTranscript(f"there are {len(lines):,} commands and {len(replies) - 1:,} replies to commands")
     return entries
 

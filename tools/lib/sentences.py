@@ -21,6 +21,8 @@ FORMS = {
     "settle": ("settle", "pays every user, once each question is resolved; nothing is taken behind it"),
     "bound": ("bound", "the most that the operator can lose, in points"),
 }
+# forms of a call that are no commands, with their words behind the market file
+CALLS = {"chance": "V=v .. given W=w ..", "best": "V=v ..", "expect": "U"}
 GIVEN = ("given", "if", "when", "where", "while", "under", "||", "/")
 JOINED = ("and", "&", "&&", ";", "+")
 
@@ -77,6 +79,8 @@ def check_first(word):
         return
     if word.lower() in COMMANDS:
         raise Wrong(0, f"commands are in small letters: {word.lower()}")
+    if word in CALLS:
+        raise Wrong(0, f"{word} is no command; `daggre {word} FILE {CALLS[word]}` tells it over the lines so far")
     raise Wrong(0, f"there is no command {word}{meant(word.lower(), COMMANDS) or '; `help` lists them'}")
 
 
@@ -319,7 +323,8 @@ def wide(line, market):
     command = read_command(line)
     names = [command.name, *(name for name, _ in command.condition)] if command else []
     held = "; ".join(groups_text(market, name) for name in names if name in market.questions)
-    return f"no group of the file holds all questions that are named{': ' if held else ''}{held}"
+    more = f". `daggre chance FILE {command.question()} given {command.given().replace(', ', ' ')}` tells it over the lines so far" if command and command.kind == "price" else ""
+    return f"no group of the file holds all questions that are named{': ' if held else ''}{held}{more}"
 
 
 def unknown_pair(pair, market):

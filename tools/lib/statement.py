@@ -13,6 +13,10 @@ SECTIONS = [
     ("Words and statuses", [
         "daggre/specs/Words.antt", "daggre/specs/Called.antt", "mk_net/specs/Texts.antt", "mk_io/src/status.rt", "mk_io/specs/Status.antt",
         "mk_session/specs/Outcome.antt", "mk_session/specs/Complete.antt"]),
+    ("What is asked of the last history", [
+        "daggre/src/ask.rt", "daggre/specs/AskOutcome.antt", "daggre/specs/LastLine.antt", "mk_best/src/found.rt", "mk_best/specs/Chances.antt",
+        "mk_best/specs/BestStates.antt", "mk_enclose/src/enclosure.rt", "mk_enclose/specs/Enclosure.antt", "mk_scaled/src/scaled.rt",
+        "mk_expect/specs/Expectation.antt"]),
     ("The transcript", [
         "mk_session/specs/Transcript.antt", "mk_session/specs/Passed.antt", "mk_rules/specs/Transcript.antt", "mk_rules/specs/Standings.antt",
         "mk_io/specs/Stream.antt", "mk_io/specs/Cutting.antt"]),
@@ -95,6 +99,7 @@ NOTATION = [
     ("Unit {0}", "what always holds"),
     ("record", "a thing with the fields that are listed, each read as `x.field`. As a statement: there are such fields, and all of them hold"),
     ("record { a = x }", "the thing whose field `a` is `x`"),
+    ("a.Form", "the form `Form` of the type that the file's note says `a` is"),
     ("data", "a thing of one of the forms that are listed"),
     ("infixr 65", "how an operator groups"),
     ("--, ///", "a comment"),
@@ -116,6 +121,7 @@ WORDS = {
     "◌%◌": "the remainder; by 0 it is the number itself",
     "◌^◌": "to the power",
     "min": "the lesser of two",
+    "max": "the greater of two",
     "sum": "the sum of a list",
     "sum_by": "the sum of what a function gives of the items",
     "count_by": "how many items pass a test",

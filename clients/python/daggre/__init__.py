@@ -8,11 +8,13 @@
         print(market.price("ferry=sails | storm=yes").low)
 
 Replies are dataclasses (`daggre.replies`), a refusal raises `daggre.Refused`, whose `cause` is one of `daggre.refusals`.
-`daggre.AsyncMarket` is the same for asyncio, and `daggre.exchange` drives many markets side by side.
+`daggre.AsyncMarket` is the same for asyncio, and `daggre.exchange` drives many markets side by side. `daggre.chance`, `daggre.best` and
+`daggre.expect` ask what a market comes to behind lines that were kept.
 """
 from . import commands, refusals, replies
 from .aio import AsyncMarket
 from .amounts import MILLION, PRICE_UNITS, RATIO_UNIT, Interval, Points
+from .asking import Best, Chance, Contradiction, Expectation, best, chance, expect
 from .commands import Command
 from .errors import Ended, FileFault, FileRefused, MarketError, NotALine, ProgramMissing, Refused, Silent, UnknownLine
 from .market import Exchanged, Market, Ready, exchange
@@ -21,7 +23,7 @@ from .refusals import Refusal
 from .replies import Reply, read_reply
 
 __all__ = [
-    "MILLION", "PRICE_UNITS", "RATIO_UNIT", "AsyncMarket", "Command", "Distribution", "Ended", "Exchanged", "FileFault", "FileRefused", "Interval",
-    "Market", "MarketError", "NotALine", "Pair", "Points", "ProgramMissing", "Question", "Ready", "Refusal", "Refused", "Reply", "Silent", "UnknownLine",
-    "commands", "exchange", "read_reply", "refusals", "replies",
+    "MILLION", "PRICE_UNITS", "RATIO_UNIT", "AsyncMarket", "Best", "Chance", "Command", "Contradiction", "Distribution", "Ended", "Exchanged", "Expectation",
+    "FileFault", "FileRefused", "Interval", "Market", "MarketError", "NotALine", "Pair", "Points", "ProgramMissing", "Question", "Ready", "Refusal", "Refused",
+    "Reply", "Silent", "UnknownLine", "best", "chance", "commands", "exchange", "expect", "read_reply", "refusals", "replies",
 ]
