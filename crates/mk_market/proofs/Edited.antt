@@ -43,7 +43,8 @@ use Rattle.mk_record.specs.declared.users.Member.{Member}
 use Rattle.mk_record.specs.Journals.{JournalOf}
 use Rattle.mk_record.specs.Members.{quotes_of}
 use Rattle.mk_record.specs.Refused.{IsUser, IsQuestionFor}
-use Rattle.mk_market.specs.Trading.{Trading, IsAnswered, reply_of}
+use Rattle.mk_market.specs.Trading.{Trading, IsAnswered}
+use Rattle.mk_market.specs.inner.Answering.{IsAnsweredBy}
 use Rattle.mk_market.specs.inner.Keeping.{quoted, standing_of, IsKeptQuote, IsKept}
 use Rattle.mk_market.specs.inner.Quoting.{IsQuoteOf}
 use Rattle.mk_market.proofs.Growing.{is_open}
@@ -67,11 +68,13 @@ refused_answered old name q X seen why e = record {
   paid = λ u. refl;
 }
 
-pub edit_refused_answered : (old known : Trading) → known ≡ old → (name : List ℕ) (q : QuestionText) (X : ℕ) (seen : Option ℕ) (why : Refusal) (result : Result Reply Refusal)
-    → IsErrAnd result (λ e. e ≡ why) → Some why ≡ first_refusal known.market known.standing.history (Edit name q X seen)
-    → IsAnswered old old (Edit name q X seen) (reply_of result)
-edit_refused_answered old known same name q X seen why (Ok reply) e refusal = absurd e
-edit_refused_answered old known same name q X seen why (Err found) e refusal =
+pub edit_refused_answered : {F : Type 0} → (tell : F → Reply) (old known : Trading)
+    → known ≡ old → (name : List ℕ) (q : QuestionText) (X : ℕ) (seen : Option ℕ) (why : Refusal)
+    (result : Result F Refusal) → IsErrAnd result (λ e. e ≡ why)
+    → Some why ≡ first_refusal known.market known.standing.history (Edit name q X seen)
+    → IsAnsweredBy old old (Edit name q X seen) result tell
+edit_refused_answered tell old known same name q X seen why (Ok found) e refusal = absurd e
+edit_refused_answered tell old known same name q X seen why (Err found) e refusal =
     subst (λ (w : Refusal). IsAnswered old old (Edit name q X seen) (Refused w)) (sym e)
     (subst (λ (t : Trading). IsAnswered t t (Edit name q X seen) (Refused why)) same (refused_answered known name q X seen why refusal))
 

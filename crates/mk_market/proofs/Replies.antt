@@ -15,7 +15,8 @@ use Rattle.mk_reply.specs.declared.reply.Reply.TheVariants.{Refused}
 use Rattle.mk_rules.specs.Refusals.{first_refusal, refusals_by_record, refusals_by_states}
 use Rattle.mk_rules.specs.Answers.{IsAnswer, entry_of, next_quotes}
 use Rattle.mk_rules.specs.Transcript.{Standing, OfCommand, IsAllowedFor, after}
-use Rattle.mk_market.specs.Trading.{Trading, IsAnswered, reply_of}
+use Rattle.mk_market.specs.Trading.{Trading, IsAnswered}
+use Rattle.mk_market.specs.inner.Answering.{IsAnsweredBy}
 
 -- the first refusal of two lists is that of the first list where it has one, and else that of the second
 refused_before : (faults later : List (Option Refusal)) (why : Refusal) → Some why ≡ first_of faults → Some why ≡ first_of (faults ++ later)
@@ -91,7 +92,7 @@ refused_stays market now (Position user variable condition) why h = none_appende
     (Position user variable condition) (Refused why) refl refl
 refused_stays market now Status why h = none_appended market now Status (Refused why) refl refl
 
-refused_answered : (old : Trading) (command : Command) (why : Refusal) → IsNoTrade command → Some why ≡ first_refusal old.market old.standing.history command
+pub refused_answered : (old : Trading) (command : Command) (why : Refusal) → IsNoTrade command → Some why ≡ first_refusal old.market old.standing.history command
     → IsAnswered old old command (Refused why)
 refused_answered old command why other e = record {
   same_market = refl;
@@ -101,17 +102,15 @@ refused_answered old command why other e = record {
 }
 
 -- so does the market
-pub answered_refused : (old known : Trading) → known ≡ old → (command : Command) → IsNoTrade command → (why : Refusal) (result : Result Reply Refusal) → IsErrAnd result (λ e. e ≡ why)
-    → Some why ≡ first_refusal known.market known.standing.history command → IsAnswered old old command (reply_of result)
-answered_refused old known same command other why (Ok reply) e refusal = absurd e
-answered_refused old known same command other why (Err found) e refusal =
+pub answered_refused : {F : Type 0} → (tell : F → Reply) (old known : Trading) → known ≡ old
+    → (command : Command) → IsNoTrade command
+    → (why : Refusal) (result : Result F Refusal) → IsErrAnd result (λ e. e ≡ why)
+    → Some why ≡ first_refusal known.market known.standing.history command
+    → IsAnsweredBy old old command result tell
+answered_refused tell old known same command other why (Ok found) e refusal = absurd e
+answered_refused tell old known same command other why (Err found) e refusal =
     subst (λ (w : Refusal). IsAnswered old old command (Refused w)) (sym e)
     (subst (λ (t : Trading). IsAnswered t t command (Refused why)) same (refused_answered known command why other refusal))
-
--- an error is replied as a refusal
-pub error_replied : (result : Result Reply Refusal) (why : Refusal) → IsErrAnd result (λ e. e ≡ why) → Refused why ≡ reply_of result
-error_replied (Ok reply) why e = absurd e
-error_replied (Err found) why e = ap (λ (w : Refusal). Refused w) (sym e)
 
 -- where no refusal meets a command the market is unsettled
 unsettled_first : (b : Bool) (why : Refusal) (later : Option Refusal) → None ≡ or_else (fault_if b why) later → b ≡ false

@@ -57,7 +57,8 @@ use Rattle.mk_record.specs.declared.users.Member.{Member}
 use Rattle.mk_record.specs.Journals.{JournalOf}
 use Rattle.mk_record.specs.Members.{quotes_of}
 use Rattle.mk_record.specs.Refused.{IsUser, IsSpreadQuestionFor}
-use Rattle.mk_market.specs.Trading.{Trading, IsAnswered, reply_of}
+use Rattle.mk_market.specs.Trading.{Trading, IsAnswered}
+use Rattle.mk_market.specs.inner.Answering.{IsAnsweredBy}
 use Rattle.mk_market.specs.inner.Keeping.{quoted, standing_of, IsKeptQuote, IsKept}
 use Rattle.mk_market.specs.inner.Quoting.{IsSpreadQuoteOf, IsOutside}
 use Rattle.mk_market.proofs.Growing.{is_open}
@@ -70,7 +71,7 @@ use Rattle.mk_restore.proofs.Taken.{allowed_fits}
 -- ---- a refusal
 
 -- a spread that a refusal of the table meets leaves the standing
-refused_answered : (old : Trading) (name v : List ℕ) (condition : ArrayVec PairText) (to : ArrayVec ℕ) (seen : Option ℕ) (why : Refusal)
+pub refused_answered : (old : Trading) (name v : List ℕ) (condition : ArrayVec PairText) (to : ArrayVec ℕ) (seen : Option ℕ) (why : Refusal)
     → Some why ≡ first_refusal old.market old.standing.history (Spread name v condition to seen) → IsAnswered old old (Spread name v condition to seen) (Refused why)
 refused_answered old name v condition to seen why e = record {
   same_market = refl;
@@ -80,11 +81,14 @@ refused_answered old name v condition to seen why e = record {
   paid = λ u. refl;
 }
 
-pub spread_refused_answered : (old known : Trading) → known ≡ old → (name v : List ℕ) (condition : ArrayVec PairText) (to : ArrayVec ℕ) (seen : Option ℕ) (why : Refusal)
-    (result : Result Reply Refusal) → IsErrAnd result (λ e. e ≡ why) → Some why ≡ first_refusal known.market known.standing.history (Spread name v condition to seen)
-    → IsAnswered old old (Spread name v condition to seen) (reply_of result)
-spread_refused_answered old known same name v condition to seen why (Ok reply) e refusal = absurd e
-spread_refused_answered old known same name v condition to seen why (Err found) e refusal =
+pub spread_refused_answered : {F : Type 0} → (tell : F → Reply) (old known : Trading)
+    → known ≡ old → (name v : List ℕ) (condition : ArrayVec PairText) (to : ArrayVec ℕ)
+    (seen : Option ℕ) (why : Refusal) (result : Result F Refusal) → IsErrAnd result (λ e. e ≡ why)
+    → Some why ≡ first_refusal known.market known.standing.history
+    (Spread name v condition to seen)
+    → IsAnsweredBy old old (Spread name v condition to seen) result tell
+spread_refused_answered tell old known same name v condition to seen why (Ok found) e refusal = absurd e
+spread_refused_answered tell old known same name v condition to seen why (Err found) e refusal =
     subst (λ (w : Refusal). IsAnswered old old (Spread name v condition to seen) (Refused w)) (sym e)
     (subst (λ (t : Trading). IsAnswered t t (Spread name v condition to seen) (Refused why)) same (refused_answered known name v condition to seen why refusal))
 

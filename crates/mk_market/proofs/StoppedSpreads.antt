@@ -49,8 +49,9 @@ use Rattle.mk_market.specs.inner.Quoting.{OwnsAt, IsSpreadQuoteOf, IsTurnedDown}
 use Rattle.mk_market.specs.inner.Stopped.{IsSpreadDecidedBy, IsRefusedFor, MayStop, CanRefuseSpread}
 use Rattle.mk_market.proofs.Growing.{is_open}
 use Rattle.mk_market.proofs.Quotes.{trading, kept_quoted}
-use Rattle.mk_market.proofs.Replies.{answered_refused, stopped_by_states, unrefused}
-use Rattle.mk_market.proofs.Spreads.{spread_refused_answered, kept_quote, two_left, no_side_is, outside_answered}
+use Rattle.mk_market.proofs.Replies.{refused_answered, stopped_by_states, unrefused}
+use Rattle.mk_market.proofs.Spreads.{refused_answered as spread_refused, kept_quote, two_left}
+use Rattle.mk_market.proofs.Spreads.{no_side_is, outside_answered}
 use Rattle.mk_market.proofs.TogetherSpreads.{together_left, sure_is, not_sure, impossible_by, missing_by, inside_is_placed}
 
 -- ---- the first refusal by what can come
@@ -202,9 +203,8 @@ module _ {P A Plan : Type 0} (weights_stand : P → Meaning → Type 0) (gains_s
     decided_answered why found none by is same =
         subst (λ (t : Trading). IsAnswered (trading file accounts journal members) t
         (Bounds name v condition) (Refused found)) (same_trading same)
-        (answered_refused (trading file accounts journal members)
-        (trading file accounts journal members) refl (Bounds name v condition) tt found
-        (Err found) refl
+        (refused_answered (trading file accounts journal members)
+        (Bounds name v condition) found tt
         (stopped_by_states (market_of file) journal.history (Bounds name v condition) found none
         (decided_first file.net file.tree journal.history v condition.items spread is_question.named why found [] by is)))
 
@@ -244,9 +244,7 @@ module _ {P A Plan : Type 0} (weights_stand : P → Meaning → Type 0) (gains_s
       refused_same found same first =
           subst (λ (t : Trading). IsAnswered (trading file accounts journal members) t
           (Spread name v condition to seen) (Refused found)) (same_trading same)
-          (spread_refused_answered (trading file accounts journal members)
-          (trading file accounts journal members) refl name v condition to seen found
-          (Err found) refl
+          (spread_refused (trading file accounts journal members) name v condition to seen found
           (stopped_by_states (market_of file) journal.history (Spread name v condition to seen) found none first))
 
       abbrev IsTurned : Stopped → Type 0

@@ -1,12 +1,10 @@
 -- What a market in use is to its callers, and how it answers a command.
-use Rattle.std.specs.Prelude.{◌≡◌, List, Result, Ok, Err}
+use Rattle.std.specs.Prelude.{◌≡◌, List}
 use Rattle.mk_exact.specs.Market.{Market, network_of}
 use Rattle.mk_exact.specs.Sound.{IsSound}
 use Rattle.mk_cash.specs.declared.ledger.Account.{Account}
 use Rattle.mk_command.specs.declared.command.Command.{Command}
-use Rattle.mk_reply.specs.declared.refusal.Refusal.{Refusal}
 use Rattle.mk_reply.specs.declared.reply.Reply.{Reply}
-use Rattle.mk_reply.specs.declared.reply.Reply.TheVariants.{Refused}
 use Rattle.mk_rules.specs.Transcript.{Standing, OfCommand, IsAllowedFor, after}
 use Rattle.mk_market.specs.Points.{ArePaidBy}
 
@@ -15,11 +13,6 @@ pub record Trading : Type 0 where
   pub market : Market
   pub standing : Standing
   pub accounts : List Account
-
--- the reply of an answer, or of a refusal
-abbrev pub reply_of : Result Reply Refusal → Reply
-reply_of (Ok reply) = reply
-reply_of (Err why) = Refused why
 
 -- a command is answered by a reply that is allowed where the history before it is sound; whether it
 -- is or not, the standing moves on by the reply, and so does what users were paid

@@ -3,3 +3,4 @@ pub mod Keeping
 pub mod Quoting
 pub mod Paying
 pub mod Stopped
+pub mod Answering

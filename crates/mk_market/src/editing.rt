@@ -10,13 +10,39 @@ use mk_record::{EditWish, LastQuote, refuse_edit, refuse_limits};
 use mk_reply::{Refusal, Reply};
 use mk_semiring::{MinProd, SumProd};
 
+/// A trade of a question that was made: its units, and the revision behind it.
+#[derive(Drop)]
+struct Traded {
+    hit: u64,
+    miss: u64,
+    at: u64,
+}
+
 impl<P: Engine<SumProd>, A: Engine<MinProd>> Market<P, A> {
     ghost use Rattle.mk_command.specs.declared.command.Command.TheVariants.{Limits, Edit};
-    ghost use Rattle.mk_market.specs.Trading.{IsAnswered, reply_of};
+    ghost use Rattle.mk_market.specs.Trading.{IsAnswered};
+    ghost use Rattle.mk_market.specs.inner.Answering.{IsAnsweredBy};
+    ghost use Rattle.mk_reply.specs.declared.reply.Reply.TheVariants as reply;
 
-    /// The shares to which a user may move a question. They are the user's last quote.
-    pub(crate) fn limits(&mut self, name: &Name, question: &QuestionText) -> Result<Reply, Refusal>
-        ensures { IsAnswered self.old self.new (Limits name.now question.now) (reply_of result) }
+    /// Answers to which shares a user may move a question.
+    pub(crate) fn answer_limits(&mut self, name: &Name, question: &QuestionText) -> Reply
+        ensures { IsAnswered self.old self.new (Limits name.now question.now) result }
+    {
+        match self.limits(name, question) {
+            Ok((limits, at)) => Reply::Limits { limits, at },
+            Err(why) => Reply::Refused { why },
+        }
+    }
+
+    /// The shares to which a user may move a question, if there are any, and the revision. They are
+    /// the user's last quote.
+    fn limits(
+        &mut self,
+        name: &Name,
+        question: &QuestionText,
+    ) -> Result<(Option<(u32, u32)>, u64), Refusal>
+        ensures { IsAnsweredBy self.old self.new (Limits name.now question.now)
+            result (λ found. reply.Limits found.0 found.1) }
     {
         let request = refuse_limits(&self.file, &self.journal, &self.users, name, question)?;
         let quote = match fresh_quote(
@@ -31,23 +57,37 @@ impl<P: Engine<SumProd>, A: Engine<MinProd>> Market<P, A> {
         };
         self.users
             .set_quote(request.user, LastQuote::Limits { quote });
-        Ok(Reply::Limits {
-            limits: quote.limits(),
-            at: self.journal.revision(),
-        })
+        Ok((quote.limits(), self.journal.revision()))
     }
 
-    /// A user moves the price of a question to so many millionths, having seen a revision. It is judged by the user's
-    /// last quote where that is of this question and of the present revision, and else by one made anew, which a refusal
-    /// leaves as the last.
-    pub(crate) fn edit(
+    /// Answers a user who moves the price of a question.
+    pub(crate) fn answer_edit(
         &mut self,
         name: &Name,
         question: &QuestionText,
         to: u32,
         at: Option<u32>,
-    ) -> Result<Reply, Refusal>
-        ensures { IsAnswered self.old self.new (Edit name.now question.now to at) (reply_of result) }
+    ) -> Reply
+        ensures { IsAnswered self.old self.new (Edit name.now question.now to at) result }
+    {
+        match self.edit(name, question, to, at) {
+            Ok(Traded { hit, miss, at }) => Reply::Traded { hit, miss, at },
+            Err(why) => Reply::Refused { why },
+        }
+    }
+
+    /// A user moves the price of a question to so many millionths, having seen a revision. It is judged by the user's
+    /// last quote where that is of this question and of the present revision, and else by one made anew, which a refusal
+    /// leaves as the last.
+    fn edit(
+        &mut self,
+        name: &Name,
+        question: &QuestionText,
+        to: u32,
+        at: Option<u32>,
+    ) -> Result<Traded, Refusal>
+        ensures { IsAnsweredBy self.old self.new (Edit name.now question.now to at)
+            result (λ traded. reply.Traded traded.hit traded.miss traded.at) }
     {
         let wish = EditWish { question, to, at };
         let request = refuse_edit(&self.file, &self.journal, &self.users, name, &wish)?;
@@ -77,7 +117,7 @@ impl<P: Engine<SumProd>, A: Engine<MinProd>> Market<P, A> {
             request.home,
             ratio,
         );
-        Ok(Reply::Traded {
+        Ok(Traded {
             hit: units.0,
             miss: units.1,
             at: self.journal.revision(),

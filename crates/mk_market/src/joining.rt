@@ -11,11 +11,24 @@ use std::alloc::Global;
 
 impl<P: Engine<SumProd>, A: Engine<MinProd>> Market<P, A> {
     ghost use Rattle.mk_command.specs.declared.command.Command.TheVariants.{User};
-    ghost use Rattle.mk_market.specs.Trading.{IsAnswered, reply_of};
+    ghost use Rattle.mk_market.specs.Trading.{IsAnswered};
+    ghost use Rattle.mk_market.specs.inner.Answering.{IsAnsweredBy};
+    ghost use Rattle.mk_reply.specs.declared.reply.Reply.TheVariants as reply;
 
-    /// A user joins. All memory is taken before anything changes.
-    pub(crate) fn user(&mut self, alloc: Global, name: &Name) -> Result<Reply, Refusal>
-        ensures { IsAnswered self.old self.new (User name.now) (reply_of result) }
+    /// Answers a user who joins.
+    pub(crate) fn answer_user(&mut self, alloc: Global, name: &Name) -> Reply
+        ensures { IsAnswered self.old self.new (User name.now) result }
+    {
+        match self.user(alloc, name) {
+            Ok(at) => Reply::Joined { user: *name, at },
+            Err(why) => Reply::Refused { why },
+        }
+    }
+
+    /// A user joins. All memory is taken before anything changes. It gives the revision.
+    fn user(&mut self, alloc: Global, name: &Name) -> Result<u64, Refusal>
+        ensures { IsAnsweredBy self.old self.new (User name.now) result
+            (λ at. reply.Joined name.now at) }
     {
         refuse_user(&self.journal, &self.users, name)?;
         let known = self.journal.known();
@@ -29,9 +42,6 @@ impl<P: Engine<SumProd>, A: Engine<MinProd>> Market<P, A> {
         let _ = name.bytes();
         self.ledger.join();
         self.journal.join(*name);
-        Ok(Reply::Joined {
-            user: *name,
-            at: self.journal.revision(),
-        })
+        Ok(self.journal.revision())
     }
 }

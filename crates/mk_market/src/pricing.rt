@@ -12,7 +12,8 @@ use mk_semiring::{MinProd, SumProd};
 
 impl<P: Engine<SumProd>, A: Engine<MinProd>> Market<P, A> {
     ghost use Rattle.mk_command.specs.declared.command.Command.TheVariants.{Price, Worst, Bound};
-    ghost use Rattle.mk_market.specs.Trading.{IsAnswered, reply_of};
+    ghost use Rattle.mk_market.specs.Trading.{IsAnswered};
+    ghost use Rattle.mk_market.specs.inner.Answering.{IsAnsweredBy};
     ghost use Rattle.std.specs.Prelude.{◌≡◌, IfSome, IfNone};
     ghost use Rattle.mk_reply.specs.declared.reply.Reply.TheVariants as reply;
 
@@ -28,13 +29,24 @@ impl<P: Engine<SumProd>, A: Engine<MinProd>> Market<P, A> {
         price_of(&mut self.prices, &self.file.net, home, &asked)
     }
 
-    /// The price of a question.
-    pub(crate) fn price(&mut self, question: &QuestionText) -> Result<Reply, Refusal>
-        ensures { IsAnswered self.old self.new (Price question.now) (reply_of result) }
+    /// Answers what a question is worth.
+    pub(crate) fn answer_price(&mut self, question: &QuestionText) -> Reply
+        ensures { IsAnswered self.old self.new (Price question.now) result }
+    {
+        match self.price(question) {
+            Ok((low, high)) => Reply::Price { low, high },
+            Err(why) => Reply::Refused { why },
+        }
+    }
+
+    /// The price of a question, in units of 10^-10.
+    fn price(&mut self, question: &QuestionText) -> Result<(u64, u64), Refusal>
+        ensures { IsAnsweredBy self.old self.new (Price question.now)
+            result (λ price. reply.Price price.0 price.1) }
     {
         let (asked, home) = refuse_price(&self.file, &self.journal, question)?;
         match price_of(&mut self.prices, &self.file.net, home, &asked) {
-            Some((low, high)) => Ok(Reply::Price { low, high }),
+            Some(price) => Ok(price),
             None => Err(refuse_condition(
                 &mut self.prices,
                 home,
@@ -44,22 +56,42 @@ impl<P: Engine<SumProd>, A: Engine<MinProd>> Market<P, A> {
         }
     }
 
-    /// What a user is paid at least, whatever comes.
-    pub(crate) fn worst(&mut self, name: &Name) -> Result<Reply, Refusal>
-        ensures { IsAnswered self.old self.new (Worst name.now) (reply_of result) }
+    /// Answers what a user is paid at least.
+    pub(crate) fn answer_worst(&mut self, name: &Name) -> Reply
+        ensures { IsAnswered self.old self.new (Worst name.now) result }
+    {
+        match self.worst(name) {
+            Ok((low, high)) => Reply::Worst { low, high },
+            Err(why) => Reply::Refused { why },
+        }
+    }
+
+    /// What a user is paid at least, whatever comes, in points.
+    fn worst(&mut self, name: &Name) -> Result<(u64, u64), Refusal>
+        ensures { IsAnsweredBy self.old self.new (Worst name.now)
+            result (λ ends. reply.Worst ends.0 ends.1) }
     {
         let user = refuse_worst(&self.journal, &self.users, name)?;
         let factor = least_of(self.users.assets(user));
-        let (low, high) = cash(&factor, self.file.points_per_bit);
-        Ok(Reply::Worst { low, high })
+        Ok(cash(&factor, self.file.points_per_bit))
     }
 
-    /// What the operator can lose at most.
-    pub(crate) fn bound(&mut self) -> Result<Reply, Refusal>
-        ensures { IsAnswered self.old self.new Bound (reply_of result) }
+    /// Answers what the operator can lose at most.
+    pub(crate) fn answer_bound(&mut self) -> Reply
+        ensures { IsAnswered self.old self.new Bound result }
+    {
+        match self.bound() {
+            Ok((low, high)) => Reply::Bound { low, high },
+            Err(why) => Reply::Refused { why },
+        }
+    }
+
+    /// What the operator can lose at most, in points.
+    fn bound(&mut self) -> Result<(u64, u64), Refusal>
+        ensures { IsAnsweredBy self.old self.new Bound result
+            (λ ends. reply.Bound ends.0 ends.1) }
     {
         not_settled(&self.journal)?;
-        let (low, high) = bound_of(&mut self.rows, &self.file.net, self.file.points_per_bit);
-        Ok(Reply::Bound { low, high })
+        Ok(bound_of(&mut self.rows, &self.file.net, self.file.points_per_bit))
     }
 }

@@ -11,11 +11,25 @@ use mk_semiring::{MinProd, SumProd};
 
 impl<P: Engine<SumProd>, A: Engine<MinProd>> Market<P, A> {
     ghost use Rattle.mk_command.specs.declared.command.Command.TheVariants.{Resolve};
-    ghost use Rattle.mk_market.specs.Trading.{IsAnswered, reply_of};
+    ghost use Rattle.mk_market.specs.Trading.{IsAnswered};
+    ghost use Rattle.mk_market.specs.inner.Answering.{IsAnsweredBy};
+    ghost use Rattle.mk_reply.specs.declared.reply.Reply.TheVariants as reply;
 
-    /// A variable has a value from now on. The engines of prices and of initial weights and every user's assets learn it.
-    pub(crate) fn resolve(&mut self, words: &PairText) -> Result<Reply, Refusal>
-        ensures { IsAnswered self.old self.new (Resolve words.now) (reply_of result) }
+    /// Answers that a variable has a value.
+    pub(crate) fn answer_resolve(&mut self, words: &PairText) -> Reply
+        ensures { IsAnswered self.old self.new (Resolve words.now) result }
+    {
+        match self.resolve(words) {
+            Ok(at) => Reply::Resolved { pair: *words, at },
+            Err(why) => Reply::Refused { why },
+        }
+    }
+
+    /// A variable has a value from now on. The engines of prices and of initial weights and every
+    /// user's assets learn it. It gives the revision.
+    fn resolve(&mut self, words: &PairText) -> Result<u64, Refusal>
+        ensures { IsAnsweredBy self.old self.new (Resolve words.now)
+            result (λ at. reply.Resolved words.now at) }
     {
         let pair = refuse_resolve(&self.file, &self.journal, words)?;
         let home = home_of(&self.file, pair);
@@ -26,10 +40,7 @@ impl<P: Engine<SumProd>, A: Engine<MinProd>> Market<P, A> {
         self.rows.know(home, pair);
         tell(&mut self.users, home, pair);
         self.journal.resolve(pair);
-        Ok(Reply::Resolved {
-            pair: *words,
-            at: self.journal.revision(),
-        })
+        Ok(self.journal.revision())
     }
 }
 

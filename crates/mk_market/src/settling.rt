@@ -11,11 +11,25 @@ use mk_semiring::{MinProd, SumProd};
 
 impl<P: Engine<SumProd>, A: Engine<MinProd>> Market<P, A> {
     ghost use Rattle.mk_command.specs.declared.command.Command.TheVariants.{Settle};
-    ghost use Rattle.mk_market.specs.Trading.{IsAnswered, reply_of};
+    ghost use Rattle.mk_market.specs.Trading.{IsAnswered};
+    ghost use Rattle.mk_market.specs.inner.Answering.{IsAnsweredBy};
+    ghost use Rattle.mk_reply.specs.declared.reply.Reply.TheVariants as reply;
 
-    /// Each user is paid what the user's factor is worth in the one state that is left.
-    pub(crate) fn settle(&mut self) -> Result<Reply, Refusal>
-        ensures { IsAnswered self.old self.new Settle (reply_of result) }
+    /// Answers that the market is to be settled.
+    pub(crate) fn answer_settle(&mut self) -> Reply
+        ensures { IsAnswered self.old self.new Settle result }
+    {
+        match self.settle() {
+            Ok((at, payments)) => Reply::Settled { at, payments },
+            Err(why) => Reply::Refused { why },
+        }
+    }
+
+    /// Each user is paid what the user's factor is worth in the one state that is left. It gives
+    /// the revision and the payments.
+    fn settle(&mut self) -> Result<(u64, Payments), Refusal>
+        ensures { IsAnsweredBy self.old self.new Settle
+            result (λ settled. reply.Settled settled.0 settled.1) }
     {
         refuse_settle(&self.file, &self.journal)?;
         let Some(mut payments) = self.payments.take() else {
@@ -29,10 +43,7 @@ impl<P: Engine<SumProd>, A: Engine<MinProd>> Market<P, A> {
             &mut payments,
         );
         self.journal.settle();
-        Ok(Reply::Settled {
-            at: self.journal.revision(),
-            payments,
-        })
+        Ok((self.journal.revision(), payments))
     }
 }
 

@@ -8,21 +8,40 @@ use arrayvec::ArrayVec;
 use mk_engine::Engine;
 use mk_net::{Name, PairText};
 use mk_record::{LastQuote, SpreadWish, refuse_bounds, refuse_spread};
-use mk_reply::{Refusal, Reply};
+use mk_reply::{Intervals, Refusal, Reply};
 use mk_semiring::{MinProd, SumProd};
 
 impl<P: Engine<SumProd>, A: Engine<MinProd>> Market<P, A> {
     ghost use Rattle.mk_command.specs.declared.command.Command.TheVariants.{Bounds, Spread};
-    ghost use Rattle.mk_market.specs.Trading.{IsAnswered, reply_of};
+    ghost use Rattle.mk_market.specs.Trading.{IsAnswered};
+    ghost use Rattle.mk_market.specs.inner.Answering.{IsAnsweredBy};
+    ghost use Rattle.mk_reply.specs.declared.reply.Reply.TheVariants as reply;
 
-    /// The shares to which a user may move each value of a variable. They are the user's last quote.
-    pub(crate) fn bounds(
+    /// Answers to which shares a user may move each value of a variable.
+    pub(crate) fn answer_bounds(
         &mut self,
         name: &Name,
         variable: &Name,
         condition: &ArrayVec<PairText, 8>,
-    ) -> Result<Reply, Refusal>
-        ensures { IsAnswered self.old self.new (Bounds name.now variable.now condition.now) (reply_of result) }
+    ) -> Reply
+        ensures { IsAnswered self.old self.new (Bounds name.now variable.now condition.now) result }
+    {
+        match self.bounds(name, variable, condition) {
+            Ok((intervals, at)) => Reply::Bounded { intervals, at },
+            Err(why) => Reply::Refused { why },
+        }
+    }
+
+    /// The shares to which a user may move each value of a variable, if there are any, and the
+    /// revision. They are the user's last quote.
+    fn bounds(
+        &mut self,
+        name: &Name,
+        variable: &Name,
+        condition: &ArrayVec<PairText, 8>,
+    ) -> Result<(Option<Intervals>, u64), Refusal>
+        ensures { IsAnsweredBy self.old self.new (Bounds name.now variable.now condition.now)
+            result (λ found. reply.Bounded found.0 found.1) }
     {
         let request = refuse_bounds(
             &self.file,
@@ -55,24 +74,41 @@ impl<P: Engine<SumProd>, A: Engine<MinProd>> Market<P, A> {
         let intervals = quote.intervals();
         self.users
             .set_quote(request.user, LastQuote::Bounds { quote });
-        Ok(Reply::Bounded {
-            intervals,
-            at: self.journal.revision(),
-        })
+        Ok((intervals, self.journal.revision()))
     }
 
-    /// A user moves the values of a variable to so many millionths each, having seen a revision. They are judged by the
-    /// user's last quote where that is of this spread and of the present revision, and else by one made anew, which a
-    /// refusal leaves as the last.
-    pub(crate) fn spread(
+    /// Answers a user who moves the values of a variable.
+    pub(crate) fn answer_spread(
         &mut self,
         name: &Name,
         variable: &Name,
         condition: &ArrayVec<PairText, 8>,
         to: &ArrayVec<u32, 16>,
         at: Option<u32>,
-    ) -> Result<Reply, Refusal>
-        ensures { IsAnswered self.old self.new (Spread name.now variable.now condition.now to.now at) (reply_of result) }
+    ) -> Reply
+        ensures { IsAnswered self.old self.new
+            (Spread name.now variable.now condition.now to.now at) result }
+    {
+        match self.spread(name, variable, condition, to, at) {
+            Ok((factors, at)) => Reply::Spreaded { factors, at },
+            Err(why) => Reply::Refused { why },
+        }
+    }
+
+    /// A user moves the values of a variable to so many millionths each, having seen a revision. They are judged by the
+    /// user's last quote where that is of this spread and of the present revision, and else by one made anew, which a
+    /// refusal leaves as the last. It gives the factors of the trade, and the revision.
+    fn spread(
+        &mut self,
+        name: &Name,
+        variable: &Name,
+        condition: &ArrayVec<PairText, 8>,
+        to: &ArrayVec<u32, 16>,
+        at: Option<u32>,
+    ) -> Result<(ArrayVec<u64, 16>, u64), Refusal>
+        ensures { IsAnsweredBy self.old self.new
+            (Spread name.now variable.now condition.now to.now at)
+            result (λ traded. reply.Spreaded traded.0 traded.1) }
     {
         let wish = SpreadWish {
             variable,
@@ -108,9 +144,6 @@ impl<P: Engine<SumProd>, A: Engine<MinProd>> Market<P, A> {
             request.home,
             ratio,
         );
-        Ok(Reply::Spreaded {
-            factors,
-            at: self.journal.revision(),
-        })
+        Ok((factors, self.journal.revision()))
     }
 }

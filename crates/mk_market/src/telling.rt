@@ -7,39 +7,72 @@ use mk_answers::{position_of, prices_of};
 use mk_engine::Engine;
 use mk_net::{Name, PairText};
 use mk_record::{Journal, MAX_TRANSFERS, not_settled, refuse_bounds, refuse_prices};
-use mk_reply::{Refusal, Reply};
+use mk_reply::{Refusal, Reply, Spans};
 use mk_semiring::{MinProd, SumProd};
 
 impl<P: Engine<SumProd>, A: Engine<MinProd>> Market<P, A> {
     ghost use Rattle.mk_command.specs.declared.command.Command.TheVariants.{Prices, Position};
     ghost use Rattle.mk_command.specs.declared.command.Command.TheVariants.{Status};
-    ghost use Rattle.mk_market.specs.Trading.{IsAnswered, reply_of};
+    ghost use Rattle.mk_market.specs.Trading.{IsAnswered};
+    ghost use Rattle.mk_market.specs.inner.Answering.{IsAnsweredBy};
+    ghost use Rattle.mk_reply.specs.declared.reply.Reply.TheVariants as reply;
 
-    /// The prices of all values of a variable.
-    pub(crate) fn prices(
+    /// Answers what the values of a variable are worth.
+    pub(crate) fn answer_prices(
         &mut self,
         variable: &Name,
         condition: &ArrayVec<PairText, 8>,
-    ) -> Result<Reply, Refusal>
-        ensures { IsAnswered self.old self.new (Prices variable.now condition.now) (reply_of result) }
+    ) -> Reply
+        ensures { IsAnswered self.old self.new (Prices variable.now condition.now) result }
+    {
+        match self.prices(variable, condition) {
+            Ok(intervals) => Reply::Prices { intervals },
+            Err(why) => Reply::Refused { why },
+        }
+    }
+
+    /// The prices of all values of a variable, in units of 10^-10.
+    fn prices(
+        &mut self,
+        variable: &Name,
+        condition: &ArrayVec<PairText, 8>,
+    ) -> Result<Spans, Refusal>
+        ensures { IsAnsweredBy self.old self.new (Prices variable.now condition.now)
+            result (λ intervals. reply.Prices intervals) }
     {
         let words = condition.as_slice();
         let (asked, home) = refuse_prices(&self.file, &self.journal, variable, words)?;
         match prices_of(&mut self.prices, &self.file.net, home, &asked) {
-            Some(intervals) => Ok(Reply::Prices { intervals }),
+            Some(intervals) => Ok(intervals),
             None => Err(refuse_condition(&mut self.prices, home, &asked.condition, words)),
         }
     }
 
-    /// What a user is sure of where each value of a variable comes.
-    pub(crate) fn position(
+    /// Answers what a user is sure of.
+    pub(crate) fn answer_position(
         &mut self,
         name: &Name,
         variable: &Name,
         condition: &ArrayVec<PairText, 8>,
-    ) -> Result<Reply, Refusal>
+    ) -> Reply
         ensures { IsAnswered self.old self.new (Position name.now variable.now condition.now)
-            (reply_of result) }
+            result }
+    {
+        match self.position(name, variable, condition) {
+            Ok(intervals) => Reply::Position { intervals },
+            Err(why) => Reply::Refused { why },
+        }
+    }
+
+    /// What a user is sure of where each value of a variable comes, in points.
+    fn position(
+        &mut self,
+        name: &Name,
+        variable: &Name,
+        condition: &ArrayVec<PairText, 8>,
+    ) -> Result<ArrayVec<Option<(u64, u64)>, 16>, Refusal>
+        ensures { IsAnsweredBy self.old self.new (Position name.now variable.now condition.now)
+            result (λ intervals. reply.Position intervals) }
     {
         let words = condition.as_slice();
         let request = refuse_bounds(
@@ -57,7 +90,7 @@ impl<P: Engine<SumProd>, A: Engine<MinProd>> Market<P, A> {
             &request.question,
             self.file.points_per_bit,
         ) {
-            Some(intervals) => Ok(Reply::Position { intervals }),
+            Some(intervals) => Ok(intervals),
             None => Err(refuse_condition(
                 &mut self.prices,
                 request.home,
@@ -67,13 +100,15 @@ impl<P: Engine<SumProd>, A: Engine<MinProd>> Market<P, A> {
         }
     }
 
-    /// How far the market is, and what is left of its limits.
-    pub(crate) fn status(&mut self) -> Result<Reply, Refusal>
-        ensures { IsAnswered self.old self.new Status (reply_of result) }
+    /// Answers how far the market is, and what is left of its limits.
+    pub(crate) fn answer_status(&self) -> Reply
+        ensures { IsAnswered self.now self.now Status result }
     {
-        not_settled(&self.journal)?;
+        if let Err(why) = not_settled(&self.journal) {
+            return Reply::Refused { why };
+        }
         let questions = self.file.net.variables();
-        Ok(Reply::Status {
+        Reply::Status {
             at: self.journal.revision(),
             users: self.journal.joined(),
             trades: self.journal.trades(),
@@ -82,7 +117,7 @@ impl<P: Engine<SumProd>, A: Engine<MinProd>> Market<P, A> {
             most_transfers: MAX_TRANSFERS,
             open: open_questions(&self.journal, questions),
             questions,
-        })
+        }
     }
 }
 

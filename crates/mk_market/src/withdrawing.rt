@@ -10,11 +10,28 @@ use mk_semiring::{MinProd, SumProd};
 
 impl<P: Engine<SumProd>, A: Engine<MinProd>> Market<P, A> {
     ghost use Rattle.mk_command.specs.declared.command.Command.TheVariants.{Withdraw};
-    ghost use Rattle.mk_market.specs.Trading.{IsAnswered, reply_of};
+    ghost use Rattle.mk_market.specs.Trading.{IsAnswered};
+    ghost use Rattle.mk_market.specs.inner.Answering.{IsAnsweredBy};
+    ghost use Rattle.mk_reply.specs.declared.reply.Reply.TheVariants as reply;
 
-    /// A user takes out so many bits, as far as the user's least factor covers them.
-    pub(crate) fn withdraw(&mut self, name: &Name, bits: u32) -> Result<Reply, Refusal>
-        ensures { IsAnswered self.old self.new (Withdraw name.now bits) (reply_of result) }
+    /// Answers a withdrawal.
+    pub(crate) fn answer_withdraw(&mut self, name: &Name, bits: u32) -> Reply
+        ensures { IsAnswered self.old self.new (Withdraw name.now bits) result }
+    {
+        match self.withdraw(name, bits) {
+            Ok(at) => Reply::Withdrawn {
+                user: *name,
+                bits,
+                at,
+            },
+            Err(why) => Reply::Refused { why },
+        }
+    }
+
+    /// A user takes out so many bits, as far as the user's least factor covers them. It gives the revision.
+    fn withdraw(&mut self, name: &Name, bits: u32) -> Result<u64, Refusal>
+        ensures { IsAnsweredBy self.old self.new (Withdraw name.now bits)
+            result (λ at. reply.Withdrawn name.now bits at) }
     {
         let user = refuse_transfer(&self.journal, &self.users, name, bits)?;
         let assets = self.users.assets(user);
@@ -26,10 +43,6 @@ impl<P: Engine<SumProd>, A: Engine<MinProd>> Market<P, A> {
         self.ledger
             .withdraw(user, self.file.points_per_bit as u64 * bits as u64);
         self.journal.withdraw(user, bits);
-        Ok(Reply::Withdrawn {
-            user: *name,
-            bits,
-            at: self.journal.revision(),
-        })
+        Ok(self.journal.revision())
     }
 }

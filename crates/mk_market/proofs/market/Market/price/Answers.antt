@@ -13,7 +13,7 @@ use Rattle.mk_market.proofs.market.Market.price.Goals as goal
 pub returns-in_err-asked : goal.returns-in_err-asked
 returns-in_err-asked g c =
     let i = c.self.inside in
-    answered_refused c.args.self.now _ c.self.view_is (Price c.args.question.now) tt c.in_err-asked.field-0.0 c.from_residual.result
+    answered_refused _ c.args.self.now _ c.self.view_is (Price c.args.question.now) tt c.in_err-asked.field-0.0 c.from_residual.result
     c.from_residual.ensures.1 (by_record (market_of i.file) i.journal.history (Price c.args.question.now) c.in_err-asked.field-0.0 c.in_err-asked.ensures.refusal)
 
 pub price_of-requires : goal.price_of-requires
@@ -47,8 +47,8 @@ returns-in-Some g c =
     rw (← c.self.view_is) (record {
       same_market = refl;
       allowed = λ sound. price_allowed g.P.Engine.stands_for g.A.Engine.stands_for g.A.Engine.plan_for _ _ _ _ _ _ _ _ c.self.invariant c.args.question.now c.in_ok-asked.asked c.in_ok-asked.ensures.question
-          c.in-Some.low c.in-Some.high c.in_ok-asked.ensures.refusal c.in-Some.ensures.price;
-      next = price_next g.P.Engine.stands_for g.A.Engine.stands_for g.A.Engine.plan_for _ _ _ _ _ _ _ _ c.self.invariant c.args.question.now c.in-Some.low c.in-Some.high;
+          (c.in-Some.price.0) (c.in-Some.price.1) c.in_ok-asked.ensures.refusal c.in-Some.ensures.price;
+      next = price_next g.P.Engine.stands_for g.A.Engine.stands_for g.A.Engine.plan_for _ _ _ _ _ _ _ _ c.self.invariant c.args.question.now (c.in-Some.price.0) (c.in-Some.price.1);
       paid = λ u. refl;
     })
 

@@ -8,7 +8,7 @@ use Rattle.mk_market.proofs.market.Market.user.Goals as goal
 
 pub returns-in_err-refuse_user : goal.returns-in_err-refuse_user
 returns-in_err-refuse_user g c =
-    answered_refused c.args.self.now _ c.self.view_is (User c.args.name.now) tt c.in_err-refuse_user.field-0.0 c.from_residual.result
+    answered_refused _ c.args.self.now _ c.self.view_is (User c.args.name.now) tt c.in_err-refuse_user.field-0.0 c.from_residual.result
     c.from_residual.ensures.1 (c.in_err-refuse_user.ensures.refusal (market_of c.self.inside.file))
 
 pub returns-in_default : goal.returns-in_default

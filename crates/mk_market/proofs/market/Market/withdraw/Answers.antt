@@ -10,7 +10,7 @@ use Rattle.mk_market.proofs.market.Market.withdraw.Goals as goal
 
 pub returns-in_err-user : goal.returns-in_err-user
 returns-in_err-user g c =
-    answered_refused c.args.self.now _ c.self.view_is (Withdraw c.args.name.now c.args.bits) tt c.in_err-user.field-0.0 c.from_residual.result
+    answered_refused _ c.args.self.now _ c.self.view_is (Withdraw c.args.name.now c.args.bits) tt c.in_err-user.field-0.0 c.from_residual.result
     c.from_residual.ensures.1 (c.in_err-user.ensures.withdrawal (market_of c.self.inside.file))
 
 pub least_of-requires : goal.least_of-requires

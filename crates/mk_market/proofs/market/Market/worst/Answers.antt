@@ -7,7 +7,7 @@ use Rattle.mk_market.proofs.market.Market.worst.Goals as goal
 
 pub returns-in_err-user : goal.returns-in_err-user
 returns-in_err-user g c =
-    answered_refused c.args.self.now _ c.self.view_is (Worst c.args.name.now) tt c.in_err-user.field-0.0 c.from_residual.result
+    answered_refused _ c.args.self.now _ c.self.view_is (Worst c.args.name.now) tt c.in_err-user.field-0.0 c.from_residual.result
     c.from_residual.ensures.1 (c.in_err-user.ensures.refusal (market_of c.self.inside.file))
 
 pub least_of-factor-requires : goal.least_of-factor-requires
@@ -23,10 +23,10 @@ returns g c =
     let found = c.in_ok-user in
     rw (← c.self.view_is) (record {
       same_market = refl;
-      allowed = λ sound. worst_allowed g.P.Engine.stands_for g.A.Engine.stands_for g.A.Engine.plan_for _ _ _ _ _ _ _ _ c.self.invariant c.args.name.now found.user found.ensures.user c.assets.result.now c.least_of-factor.new.assets c.assets.ensures.value c.least_of-factor.result c.cash-low.result.0 c.cash-low.result.1
+      allowed = λ sound. worst_allowed g.P.Engine.stands_for g.A.Engine.stands_for g.A.Engine.plan_for _ _ _ _ _ _ _ _ c.self.invariant c.args.name.now found.user found.ensures.user c.assets.result.now c.least_of-factor.new.assets c.assets.ensures.value c.least_of-factor.result c.cash.result.0 c.cash.result.1
           sound (found.ensures.refusal (market_of c.self.inside.file))
           c.least_of-factor.ensures.least c.least_of-factor.ensures.idle
-          c.cash-low.ensures.covers;
-      next = worst_next g.P.Engine.stands_for g.A.Engine.stands_for g.A.Engine.plan_for _ _ _ _ _ _ _ _ c.self.invariant c.args.name.now found.user found.ensures.user c.assets.result.now c.least_of-factor.new.assets c.assets.ensures.value c.cash-low.result.0 c.cash-low.result.1;
+          c.cash.ensures.covers;
+      next = worst_next g.P.Engine.stands_for g.A.Engine.stands_for g.A.Engine.plan_for _ _ _ _ _ _ _ _ c.self.invariant c.args.name.now found.user found.ensures.user c.assets.result.now c.least_of-factor.new.assets c.assets.ensures.value c.cash.result.0 c.cash.result.1;
       paid = λ u. refl;
     })
