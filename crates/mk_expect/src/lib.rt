@@ -1,0 +1,7 @@
+//! What a user may expect to have: bounds on the expected cash of a user after a history that is
+//! there.
+#![tactic(auto)]
+
+mod bits;
+mod points;
+mod tally;
