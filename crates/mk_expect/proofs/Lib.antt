@@ -1,1 +1,4 @@
 pub mod Powers
+pub mod Means
+pub mod Entries
+pub mod Covered

@@ -6,7 +6,7 @@ use Rattle.std.proofs.lemmas.Nat.{pow-add, pow_pos}
 use Rattle.mk_scaled.specs.Near.{IsNear, near_trans, near_width}
 use Rattle.mk_scaled.specs.Range.{IsInRange, two_to-small, pow-lt_reflects}
 
-power_times : (a e b : ℕ) → (a ^ e) ^ b ≡ a ^ (e * b)
+pub power_times : (a e b : ℕ) → (a ^ e) ^ b ≡ a ^ (e * b)
 power_times a e zero = let s : e * zero ≡ 0 = omega arith in pow-zero (a ^ e) ∙ sym
     (ap (λ k. a ^ k) s ∙ pow-zero a)
 power_times a e (suc b) =
@@ -14,7 +14,7 @@ power_times a e (suc b) =
     pow-suc (a ^ e) b ∙ ap (λ k. k * a ^ e) (power_times a e b) ∙ sym (pow-add a (e * b) e)
     ∙ ap (λ k. a ^ k) s
 
-double : (k : ℕ) → 2 ^ (k + 1) ≡ 2 * 2 ^ k
+pub double : (k : ℕ) → 2 ^ (k + 1) ≡ 2 * 2 ^ k
 double k = pow-add 2 k 1 ∙ (let x = 2 ^ k in omega arith)
 
 -- a number below 2^63 has a power of at most so many bits

@@ -3,10 +3,6 @@ use Rattle.std.specs.Prelude.{ℕ, ℤ, ◌+◌, ◌*◌, ◌^◌, ◌<◌, ◌�
 use Rattle.mk_expect.specs.declared.tally.Tally.{Tally}
 use Rattle.mk_expect.specs.Expectation.{above_zero, below_zero}
 
--- the bits of one whole unit, in parts of 2^20
-abbrev pub unit_bits : ℕ
-unit_bits = 40 * 2 ^ 20
-
 -- a tally of nothing, and the sum of two
 abbrev pub no_tally : Tally
 no_tally = record { least_gained = 0; most_gained = 0; least_owed = 0; most_owed = 0 }
@@ -19,10 +15,10 @@ tally_sum a b = record {
   most_owed = a.most_owed + b.most_owed;
 }
 
--- it bounds what is gained and what is owed, over a whole
-pub record IsTally (t : Tally) (whole gained owed : ℕ) : Type 0 where
+-- it bounds what is gained, at most with a rounding, and what is owed, each over a whole
+pub record IsTally (t : Tally) (whole gained rounding owed : ℕ) : Type 0 where
   pub least_gained : t.least_gained * whole ≤ 2 ^ 34 * gained
-  pub most_gained : 2 ^ 34 * gained ≤ t.most_gained * whole
+  pub most_gained : 2 ^ 34 * (gained + rounding) ≤ t.most_gained * whole
   pub least_owed : t.least_owed * whole ≤ 2 ^ 34 * owed
   pub most_owed : 2 ^ 34 * owed ≤ t.most_owed * whole
 
