@@ -17,7 +17,7 @@ use Rattle.mk_expect.specs.Expectation.{above_zero, below_zero, CoversExpectatio
 use Rattle.mk_expect.specs.declared.tally.Tally.{Tally}
 use Rattle.mk_expect.specs.inner.Parts.{unit_bits, entry_gained, entry_owed}
 use Rattle.mk_expect.specs.inner.Tallies.{IsTally, IsNarrow, ArePoints}
-use Rattle.mk_expect.proofs.Entries.{held_is}
+use Rattle.mk_expect.proofs.Histories.{held_is}
 use Rattle.mk_expect.proofs.Means.{mean}
 use Rattle.mk_expect.proofs.Powers.{power_times, double, bits_at_most}
 
@@ -72,6 +72,14 @@ bits_exist k n some =
     let p = one-le-pow k n some in let b = bit_length_bounds (n ^ k) p in
     from_length (n ^ k) (bit_length (n ^ k)) p b.0 b.1
 
+pub some_bits : ℕ → ℕ
+some_bits = bits_of (2 ^ 20)
+
+pub some_are_bits : AreBits some_bits
+unfolding some_bits
+some_are_bits n some =
+    let e = bits_exist (2 ^ 20) n some in record { covered = e.0; greatest = e.1 }
+
 -- those of a unit are 40
 unit_power : (k l : ℕ) → 2 ^ l ≤ unit ^ k → unit ^ k < 2 ^ (l + 1) → l ≡ 40 * k
 unit_power k l h g =
@@ -97,9 +105,7 @@ pub covers : (network : List Variable) (H : List Entry) (b u : ℕ) (low high : 
     → IsNarrow t (trade_count H u * 2 ^ 36) → ArePoints t b low high
     → CoversExpectation network H b u low high
 covers network H b u low high t proper tallied narrow points =
-    let bits = bits_of (2 ^ 20) in
-    let are : AreBits bits = λ n some.
-    let e = bits_exist (2 ^ 20) n some in record { covered = e.0; greatest = e.1 } in
+    let bits = some_bits in let are = some_are_bits in
     let z = total network H always in
     let held = mean network H (bits_held bits H u) in
     let gained = sum_by (entry_gained network H bits u) H in

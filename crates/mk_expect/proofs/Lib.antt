@@ -1,4 +1,9 @@
 pub mod Powers
 pub mod Means
-pub mod Entries
+pub mod Histories
 pub mod Covered
+pub mod Shares
+pub mod Tallied
+pub mod Transfers
+pub mod Added
+pub mod Prefixes

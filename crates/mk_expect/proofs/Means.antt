@@ -1,11 +1,11 @@
 -- Sums over the possible states, each by its weight, and what a trade adds by its values.
-use Rattle.std.proofs.Common.{◌≡◌, ℕ, ◌+◌, ◌*◌, ◌<◌, Bool, true, false, cond, eqb}
+use Rattle.std.proofs.Common.{◌≡◌, ◌≤◌, ℕ, ◌+◌, ◌*◌, ◌<◌, Bool, true, false, cond, eqb}
 use Rattle.std.proofs.Common.{◌&&◌, List, [], ◌∷◌, length, filter, slice_index, sum_by, refl}
 use Rattle.std.proofs.Common.{sym, ap, ap₂, ◌∙◌, arith, eqb-true}
 use Rattle.std.specs.List.{AllByRecursion}
 use Rattle.std.proofs.Math.Path.{fun_ext}
 use Rattle.std.proofs.lemmas.List.Elements.{recursion_from_All}
-use Rattle.std.proofs.lemmas.List.Sums.{sum_by-cons}
+use Rattle.std.proofs.lemmas.List.Sums.{sum_by-cons, sum_by-le-sum_by}
 use Rattle.mk_net.specs.Asked.{TradeRatio}
 use Rattle.mk_net.specs.Network.{Variable, sizes}
 use Rattle.mk_exact.specs.Events.{has, holds, always}
@@ -125,6 +125,25 @@ module _ (network : List Variable) (H : List Entry) where
             (kept_each (λ s. is_possible H s && true) P (all_states network)
             (each_weaker (IsState (sizes network)) (λ s. (is_possible H s && true) ≡ true → P s)
             (λ s st _. h s st) (all_states network) (all_are network)))
+
+    -- the bits of whole units where a condition holds are at most those everywhere
+    pub owed_at_most : length r.factors ≡ slice_index (sizes network) r.variable
+        → values_owed network H r (length r.factors) ≤ unit_bits * total network H always
+    unfolding values on_values
+    owed_at_most each =
+        let whole = λ (k : ℕ). unit_bits in
+        let e : values_owed network H r (length r.factors) ≡ mean (on_values whole) =
+        ap (λ n. values_owed network H r n) each ∙ sym (by_values whole) in
+        let l : mean (on_values whole) ≤ mean (λ s. unit_bits) =
+        sum_by-le-sum_by (λ s. weight network H s * on_values whole s)
+        (λ s. weight network H s * unit_bits) states_left
+        (λ s. fewer (holds r.condition s) (weight network H s)) in
+        let m = mean-same unit_bits in
+        omega (arith, e, l, m)
+      where
+        fewer : (h : Bool) (w : ℕ) → w * cond h unit_bits 0 ≤ w * unit_bits
+        fewer true w = omega arith
+        fewer false w = omega arith
 
     -- the bits of a trade's ratio, and whole units where its condition holds, are those of its
     -- values, and whole units everywhere

@@ -1,11 +1,14 @@
 -- The cash that a user may expect to have, by the weights of the possible states.
 use Rattle.std.specs.Prelude.{ℕ, ℤ, pos, negsuc, suc, ◌+◌, ◌*◌, ◌^◌, ◌<◌, ◌≤◌, List, sum_by}
+use Rattle.mk_net.specs.Bounds.{max_transfers, max_transfer_bits}
 use Rattle.mk_net.specs.Network.{Variable}
 use Rattle.mk_exact.specs.Events.{always}
 use Rattle.mk_exact.specs.Factors.{Fraction, trade_count}
 use Rattle.mk_exact.specs.History.{Entry, UserTrade, trades_of, deposited, withdrawn}
+use Rattle.mk_exact.specs.Market.{Market}
 use Rattle.mk_exact.specs.Ratios.{ratio_at}
 use Rattle.mk_exact.specs.Weight.{weight, total, possible_states}
+use Rattle.mk_rules.specs.Bounded.{IsBounded}
 
 -- l are the bits of n, its logarithm to base 2, in parts of 2^20 of a bit and rounded down
 pub record IsBits (n l : ℕ) : Type 0 where
@@ -53,6 +56,15 @@ pub record CoversPoints (b owed trades : ℕ) (held : Fraction) (low high : ℤ)
       ≤ above_zero high * 2 ^ 20 * held.den + b * owed * held.den
   pub narrow : (above_zero high + below_zero low) * 2 ^ 18
       ≤ (above_zero low + below_zero high) * 2 ^ 18 + 3 * 2 ^ 18 + b * trades
+
+-- a user has deposited no more bits, and withdrawn no more, than all transfers of a market come to
+pub record HasFewBits (H : List Entry) (u : ℕ) : Type 0 where
+  pub few_deposited : deposited H u ≤ max_transfers * max_transfer_bits
+  pub few_withdrawn : withdrawn H u ≤ max_transfers * max_transfer_bits
+
+-- so it is in every bounded history
+abbrev pub BoundedHasFewBits : Type 0
+BoundedHasFewBits = (market : Market) (H : List Entry) (u : ℕ) → IsBounded market H → HasFewBits H u
 
 -- low .. high covers the expected cash of a user at b points a bit
 pub record CoversExpectation (network : List Variable) (H : List Entry) (b u : ℕ) (low high : ℤ) :

@@ -13,6 +13,7 @@ pub(crate) fn bits_of(units: u64) -> (u64, u64)
     requires { IsUnits units }
     ensures at_least { (l : ℕ) → IsBits units l → result.0 ≤ l }
     ensures at_most { (l : ℕ) → IsBits units l → l ≤ result.1 }
+    ensures in_order { result.0 ≤ result.1 }
     ensures narrow { result.1 ≤ result.0 + 1 }
     ensures small { result.1 ≤ 2 ^ 26 }
 {
@@ -27,6 +28,7 @@ fn power_bits(number: u64, power: u32) -> (u64, u64)
     requires few { power ≤ 2 ^ 20 }
     ensures below { 2 ^ result.0 ≤ number ^ power }
     ensures above { number ^ power < 2 ^ (result.1 + 1) }
+    ensures in_order { result.0 ≤ result.1 }
     ensures narrow { result.1 ≤ result.0 + 1 }
     ensures small { result.1 ≤ 63 * power + 1 }
 {

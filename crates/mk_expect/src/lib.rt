@@ -3,5 +3,9 @@
 #![tactic(auto)]
 
 mod bits;
+mod entries;
+mod laws;
 mod points;
 mod tally;
+mod trades;
+mod values;

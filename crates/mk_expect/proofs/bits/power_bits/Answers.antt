@@ -1,6 +1,7 @@
 use Rattle.std.proofs.Common.{◌^◌, ◌<◌, sym, subst}
+use Rattle.std.proofs.Common.{le_trans}
 use Rattle.mk_scaled.specs.Range.{IsInRange}
-use Rattle.mk_expect.proofs.Powers.{power_in_range, bits_near, bits_few}
+use Rattle.mk_expect.proofs.Powers.{bits_at_most, power_in_range, bits_near, bits_few}
 use Rattle.mk_expect.proofs.bits.power_bits.Goals as goal
 
 pub pow_down-low-requires-clause-range : goal.pow_down-low-requires-clause-range
@@ -26,3 +27,10 @@ returns-clause-small c =
     (subst (λ n. n < 2 ^ 63) (sym c.of_whole-number.ensures) c.requires.fits)
     c.pow_down-low.ensures.below c.pow_down-low.ensures.near
     c.pow_up-high.ensures.near c.log2_floor-2.ensures.below
+
+pub returns-clause-in_order : goal.returns-clause-in_order
+returns-clause-in_order c =
+    bits_at_most c.pow_down-low.result c.pow_up-high.result c.log2_floor.result
+    c.log2_floor-2.result c.log2_floor.ensures.below
+    (le_trans c.pow_down-low.ensures.below c.pow_up-high.ensures.above)
+    c.log2_floor-2.ensures.greatest

@@ -4,6 +4,7 @@ use Rattle.std.proofs.Common.{[], ◌∷◌, length, sum_by, refl, sym, ap, ap�
 use Rattle.std.specs.List.{AllByRecursion}
 use Rattle.std.proofs.Math.Path.{fun_ext}
 use Rattle.std.proofs.lemmas.List.Sums.{sum_by-cons}
+use Rattle.mk_net.specs.Asked.{TradeRatio}
 use Rattle.mk_net.specs.Network.{Variable}
 use Rattle.mk_exact.specs.Events.{always}
 use Rattle.mk_exact.specs.Factors.{trade_count}
@@ -17,7 +18,7 @@ use Rattle.mk_exact.proofs.Sums.{sum_by-plus, sum_by-times, each_weaker, kept_ea
 use Rattle.std.proofs.lemmas.List.Elements.{recursion_from_All}
 use Rattle.mk_expect.specs.Expectation.{bits_held, bits_owed}
 use Rattle.mk_expect.specs.inner.Parts.{unit_bits, own_trade, values_gained, values_owed}
-use Rattle.mk_expect.specs.inner.Parts.{entry_gained, entry_owed}
+use Rattle.mk_expect.specs.inner.Parts.{entry_gained, entry_owed, of_trade}
 use Rattle.mk_expect.proofs.Means.{mean, mean-plus, mean-same, mean-sum, trade_is}
 
 -- one trade more
@@ -33,44 +34,44 @@ summed : (M O G z ins outs n ms os gs : ℕ) → M ≡ ins * 2 ^ 20 * z + ms
 summed M O G z ins outs n ms os gs a b c trades = omega (arith, a, b, c, trades)
 
 module _ (u : ℕ) where
-  -- a number of a user's trades, of an entry that is one
-  abbrev of_trade : (UserTrade → ℕ) → Entry → ℕ
-  of_trade g (Trade v r) = cond (eqb v u) (g (record { user = v; ratio = r })) 0
-  of_trade g _ = 0
+  one_more : (f : TradeRatio → ℕ) (x : UserTrade) (xs : List UserTrade) (b : Bool)
+      → cond b (f x.ratio) 0 + sum_by (λ (t : UserTrade). f t.ratio) xs
+      ≡ sum_by (λ (t : UserTrade). f t.ratio) (cond b (x ∷ xs) xs)
+  one_more f x xs true = sym (sum_by-cons (λ (t : UserTrade). f t.ratio) x xs)
+  one_more f x xs false = zero-add (sum_by (λ (t : UserTrade). f t.ratio) xs)
 
-  one_more : (g : UserTrade → ℕ) (x : UserTrade) (xs : List UserTrade) (b : Bool)
-      → cond b (g x) 0 + sum_by g xs ≡ sum_by g (cond b (x ∷ xs) xs)
-  one_more g x xs true = sym (sum_by-cons g x xs)
-  one_more g x xs false = zero-add (sum_by g xs)
+  passed : (f : TradeRatio → ℕ) (e : Entry) (P : List Entry) → of_trade u f e ≡ 0
+      → trades_of (e ∷ P) u ≡ trades_of P u
+      → sum_by (of_trade u f) P ≡ sum_by (λ (t : UserTrade). f t.ratio) (trades_of P u)
+      → sum_by (of_trade u f) (e ∷ P)
+      ≡ sum_by (λ (t : UserTrade). f t.ratio) (trades_of (e ∷ P) u)
+  passed f e P none same rest =
+      sum_by-cons (of_trade u f) e P ∙ ap (λ n. n + sum_by (of_trade u f) P) none
+      ∙ zero-add (sum_by (of_trade u f) P) ∙ rest
+      ∙ ap (sum_by (λ (t : UserTrade). f t.ratio)) (sym same)
 
-  over_trades : (g : UserTrade → ℕ) (P : List Entry)
-      → sum_by (of_trade g) P ≡ sum_by g (trades_of P u)
-  over_trades g [] = refl
-  over_trades g (Trade v r ∷ P) =
-      sum_by-cons (of_trade g) (Trade v r) P
-      ∙ ap (λ n. cond (eqb v u) (g (record { user = v; ratio = r })) 0 + n) (over_trades g P)
-      ∙ one_more g (record { user = v; ratio = r }) (trades_of P u) (eqb v u)
-  over_trades g (Join name ∷ P) =
-      sum_by-cons (of_trade g) (Join name) P ∙ zero-add (sum_by (of_trade g) P) ∙ over_trades g P
-  over_trades g (Deposit v n ∷ P) =
-      sum_by-cons (of_trade g) (Deposit v n) P ∙ zero-add (sum_by (of_trade g) P)
-      ∙ over_trades g P
-  over_trades g (Withdraw v n ∷ P) =
-      sum_by-cons (of_trade g) (Withdraw v n) P ∙ zero-add (sum_by (of_trade g) P)
-      ∙ over_trades g P
-  over_trades g (Resolve p ∷ P) =
-      sum_by-cons (of_trade g) (Resolve p) P ∙ zero-add (sum_by (of_trade g) P) ∙ over_trades g P
-  over_trades g (Settle ∷ P) =
-      sum_by-cons (of_trade g) Settle P ∙ zero-add (sum_by (of_trade g) P) ∙ over_trades g P
+  -- over a history it adds up over the user's trades
+  over_trades : (f : TradeRatio → ℕ) (P : List Entry)
+      → sum_by (of_trade u f) P ≡ sum_by (λ (t : UserTrade). f t.ratio) (trades_of P u)
+  over_trades f [] = refl
+  over_trades f (Trade v r ∷ P) =
+      sum_by-cons (of_trade u f) (Trade v r) P
+      ∙ ap (λ n. cond (eqb v u) (f r) 0 + n) (over_trades f P)
+      ∙ one_more f (record { user = v; ratio = r }) (trades_of P u) (eqb v u)
+  over_trades f (Join name ∷ P) = passed f (Join name) P refl refl (over_trades f P)
+  over_trades f (Deposit v n ∷ P) = passed f (Deposit v n) P refl refl (over_trades f P)
+  over_trades f (Withdraw v n ∷ P) = passed f (Withdraw v n) P refl refl (over_trades f P)
+  over_trades f (Resolve p ∷ P) = passed f (Resolve p) P refl refl (over_trades f P)
+  over_trades f (Settle ∷ P) = passed f Settle P refl refl (over_trades f P)
 
   -- a sum over entries, each of which adds bits or a trade
-  by_kinds : (z : ℕ) (f m : Entry → ℕ) (g : UserTrade → ℕ)
-      → ((e : Entry) → f e ≡ z * (m e * 2 ^ 20) + of_trade g e)
-      → (P : List Entry) → sum_by f P ≡ z * (sum_by m P * 2 ^ 20) + sum_by g (trades_of P u)
-  by_kinds z f m g each P =
-      ap (λ (h : Entry → ℕ). sum_by h P) (fun_ext (λ e. each e ∙ turned (m e) (of_trade g e)))
-      ∙ sum_by-plus (λ e. z * 2 ^ 20 * m e) (of_trade g) P
-      ∙ ap₂ ◌+◌ (sum_by-times (z * 2 ^ 20) m P ∙ back (sum_by m P)) (over_trades g P)
+  by_kinds : (z : ℕ) (m : Entry → ℕ) (f : TradeRatio → ℕ) (P : List Entry)
+      → sum_by (λ e. z * (m e * 2 ^ 20) + of_trade u f e) P
+      ≡ z * (sum_by m P * 2 ^ 20) + sum_by (λ (t : UserTrade). f t.ratio) (trades_of P u)
+  by_kinds z m f P =
+      ap (λ (h : Entry → ℕ). sum_by h P) (fun_ext (λ e. turned (m e) (of_trade u f e)))
+      ∙ sum_by-plus (λ e. z * 2 ^ 20 * m e) (of_trade u f) P
+      ∙ ap₂ ◌+◌ (sum_by-times (z * 2 ^ 20) m P ∙ back (sum_by m P)) (over_trades f P)
     where
       turned : (a b : ℕ) → z * (a * 2 ^ 20) + b ≡ z * 2 ^ 20 * a + b
       turned a b = omega arith
@@ -80,18 +81,8 @@ module _ (u : ℕ) where
 
   -- how many trades
   pub own_trades : (P : List Entry) → sum_by (own_trade u) P ≡ trade_count P u
-  own_trades P =
-      ap (λ (h : Entry → ℕ). sum_by h P) (fun_ext each) ∙ over_trades (λ t. 1) P
-      ∙ ones (trades_of P u)
+  own_trades P = over_trades (λ r. 1) P ∙ ones (trades_of P u)
     where
-      each : (e : Entry) → own_trade u e ≡ of_trade (λ t. 1) e
-      each (Join name) = refl
-      each (Deposit v n) = refl
-      each (Withdraw v n) = refl
-      each (Trade v r) = refl
-      each (Resolve p) = refl
-      each Settle = refl
-
       ones : (ts : List UserTrade) → sum_by (λ t. 1) ts ≡ length ts
       ones [] = refl
       ones (t ∷ ts) =
@@ -104,44 +95,17 @@ module _ (u : ℕ) where
     owed_in : UserTrade → ℕ
     owed_in t = values_owed network H t.ratio (length t.ratio.factors)
 
-    transfer : (b : Bool) (z n : ℕ) → cond b (z * (n * 2 ^ 20)) 0 ≡ z * (cond b n 0 * 2 ^ 20) + 0
-    transfer true z n = omega arith
-    transfer false z n = omega arith
-
-    trade : (z n : ℕ) → n ≡ z * (0 * 2 ^ 20) + n
-    trade z n = omega arith
-
     all_gained : (P : List Entry) → sum_by (entry_gained network H bits u) P
         ≡ total network H always * (deposited P u * 2 ^ 20) + sum_by gained_in (trades_of P u)
     unfolding gained_in
-    all_gained = by_kinds (total network H always) (entry_gained network H bits u) (bits_in u)
-        (λ t. values_gained network H bits t.ratio (length t.ratio.factors)) each
-      where
-        each : (e : Entry) → entry_gained network H bits u e
-            ≡ total network H always * (bits_in u e * 2 ^ 20)
-            + of_trade (λ t. values_gained network H bits t.ratio (length t.ratio.factors)) e
-        each (Join name) = trade (total network H always) 0
-        each (Deposit v n) = transfer (eqb v u) (total network H always) n
-        each (Withdraw v n) = trade (total network H always) 0
-        each (Trade v r) = trade (total network H always) _
-        each (Resolve p) = trade (total network H always) 0
-        each Settle = trade (total network H always) 0
+    all_gained = by_kinds (total network H always) (bits_in u)
+        (λ r. values_gained network H bits r (length r.factors))
 
     all_owed : (P : List Entry) → sum_by (entry_owed network H u) P
         ≡ total network H always * (withdrawn P u * 2 ^ 20) + sum_by owed_in (trades_of P u)
     unfolding owed_in
-    all_owed = by_kinds (total network H always) (entry_owed network H u) (bits_out u)
-        (λ t. values_owed network H t.ratio (length t.ratio.factors)) each
-      where
-        each : (e : Entry) → entry_owed network H u e
-            ≡ total network H always * (bits_out u e * 2 ^ 20)
-            + of_trade (λ t. values_owed network H t.ratio (length t.ratio.factors)) e
-        each (Join name) = trade (total network H always) 0
-        each (Deposit v n) = trade (total network H always) 0
-        each (Withdraw v n) = transfer (eqb v u) (total network H always) n
-        each (Trade v r) = trade (total network H always) _
-        each (Resolve p) = trade (total network H always) 0
-        each Settle = trade (total network H always) 0
+    all_owed = by_kinds (total network H always) (bits_out u)
+        (λ r. values_owed network H r (length r.factors))
 
     -- what its bits come to, over the trades of a user
     over_own : bits unit ≡ unit_bits → (ts : List UserTrade)
