@@ -1,6 +1,6 @@
 -- Bounds on what the entries of a history add up to cover what a user expects.
 use Rattle.std.proofs.Common.{◌≡◌, ℕ, ℤ, suc, zero, ◌+◌, ◌-◌, ◌*◌, ◌^◌, ◌<◌, ◌≤◌, List, sum_by}
-use Rattle.std.proofs.Common.{ap, arith}
+use Rattle.std.proofs.Common.{ap, subst, arith}
 use Rattle.std.proofs.Math.Nat.{mul-le-mul_left, mul-le-mul_right, pow-suc, pow-zero, one-le-pow}
 use Rattle.std.proofs.lemmas.Nat.{pow_pos}
 use Rattle.mk_net.specs.Network.{Variable}
@@ -17,7 +17,8 @@ use Rattle.mk_expect.specs.Expectation.{above_zero, below_zero, CoversExpectatio
 use Rattle.mk_expect.specs.declared.tally.Tally.{Tally}
 use Rattle.mk_expect.specs.inner.Parts.{unit_bits, entry_gained, entry_owed}
 use Rattle.mk_expect.specs.inner.Tallies.{IsTally, IsNarrow, ArePoints}
-use Rattle.mk_expect.proofs.Histories.{held_is}
+use Rattle.mk_expect.proofs.Histories.{held_is, own_trades}
+use Rattle.mk_expect.specs.inner.Added.{AddsAll}
 use Rattle.mk_expect.proofs.Means.{mean}
 use Rattle.mk_expect.proofs.Powers.{power_times, double, bits_at_most}
 
@@ -127,3 +128,15 @@ covers network H b u low high t proper tallied narrow points =
             t.least_owed points.narrow narrow.narrow;
       };
     }
+
+-- by what the entries of a history add up to
+pub covers_all : (network : List Variable) (H : List Entry) (b u : ℕ) (low high : ℤ) (t : Tally)
+    → IsProper network H → AddsAll network H u t → ArePoints t b low high
+    → CoversExpectation network H b u low high
+covers_all network H b u low high t proper adds points =
+    let own = own_trades u H in
+    covers network H b u low high t proper
+    (λ bits are. subst (λ n. IsTally t (total network H always)
+    (sum_by (entry_gained network H bits u) H) (n * total network H always)
+    (sum_by (entry_owed network H u) H)) own (adds bits are).tally)
+    (subst (λ n. IsNarrow t (n * 2 ^ 36)) own (adds some_bits some_are_bits).narrow) points

@@ -7,3 +7,4 @@ pub mod Tallied
 pub mod Transfers
 pub mod Added
 pub mod Prefixes
+pub mod Placed

@@ -1,8 +1,7 @@
 -- The first entries of a history, and one of them.
-use Rattle.std.proofs.Common.{◌≡◌, ℕ, zero, suc, ◌+◌, ◌*◌, ◌^◌, ◌<◌, ◌≤◌, List, [], ◌∷◌, ◌++◌, length, take, get_or}
+use Rattle.std.proofs.Common.{◌≡◌, ℕ, zero, suc, ◌+◌, ◌*◌, ◌^◌, ◌<◌, ◌≤◌, List, [], ◌∷◌, length, take, get_or}
 use Rattle.std.proofs.Common.{eqb, sum_by, refl, sym, ap, subst, ◌∙◌, arith}
 use Rattle.std.specs.List.{AllByRecursion}
-use Rattle.std.proofs.lemmas.List.{map-append, take_more}
 use Rattle.std.proofs.lemmas.List.Sums.{sum_by-cons, sum_by-take-le, get_or-le-sum_by}
 use Rattle.std.proofs.lemmas.List.Sums.{length-filter, count_by-le-length}
 use Rattle.mk_net.specs.Bounds.{max_market_trades}
@@ -18,13 +17,9 @@ use Rattle.mk_expect.specs.declared.tally.Tally.{Tally}
 use Rattle.mk_expect.specs.inner.Added.{AddsEntry, AddsEntries}
 use Rattle.mk_expect.specs.inner.Parts.{own_trade}
 use Rattle.mk_expect.specs.inner.Tallies.{IsWithin, tally_sum}
+use Rattle.mk_best.proofs.Replayed.{changes_more}
 use Rattle.mk_expect.proofs.Added.{adds_more}
 use Rattle.mk_expect.proofs.Histories.{own_trades}
-
-changes_more : (es : List Entry) (d : Entry) (i : ℕ) → i < length es
-    → changes (take (i + 1) es) ≡ changes (take i es) ++ change_of (get_or es i d) ∷ []
-changes_more es d i l = ap changes (take_more es i d l) ∙ map-append change_of (take i es)
-    (get_or es i d ∷ [])
 
 -- what holds of each change holds of one
 pub each_at : (P : history.Entry → Type 0) (es : List Entry) (d : Entry) (i : ℕ) → i < length es
@@ -116,3 +111,10 @@ module _ (network : List Variable) (es : List Entry) (bits : ℕ → ℕ) (u : �
       (sym (changes_more es d i l))
       (adds_more network (changes es) bits u (changes (take i es)) (change_of (get_or es i d)) a b
       h k)
+
+  pub all_have_room : (t : Tally) → HasFewBits (changes es) u
+      → length (trades (changes es)) ≤ max_market_trades
+      → AddsEntries network (changes es) bits u (changes es) t → IsWithin t (2 ^ 83) (2 ^ 83)
+  all_have_room t few some h =
+      has_room (changes es) u t (deposited (changes es) u) (withdrawn (changes es) u)
+      (sum_by (own_trade u) (changes es)) few some (omega arith) (omega arith) (omega arith) h.within

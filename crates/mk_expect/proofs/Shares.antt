@@ -1,6 +1,6 @@
 -- The share of an event in the whole, by the beliefs of an engine.
-use Rattle.std.proofs.Common.{◌≡◌, ℕ, ◌+◌, ◌*◌, ◌^◌, ◌<◌, ◌≤◌, List, length, Option, Some, None}
-use Rattle.std.proofs.Common.{is_some, true, refl, subst, arith, le_trans}
+use Rattle.std.proofs.Common.{◌≡◌, ℕ, ◌+◌, ◌*◌, ◌^◌, ◌<◌, ◌≤◌, List, [], length}
+use Rattle.std.proofs.Common.{refl, subst, arith, le_trans}
 use Rattle.std.proofs.Math.Nat.{le_of_mul-le-mul_right}
 use Rattle.mk_net.specs.declared.words.Pair.{Pair}
 use Rattle.mk_net.specs.Asked.{Asked, TradeRatio, ratio_pairs}
@@ -14,7 +14,7 @@ use Rattle.mk_exact.proofs.Totals.{total_always}
 use Rattle.mk_enclose.specs.declared.enclosure.Enclosure.{Enclosure}
 use Rattle.mk_enclose.specs.Enclosure.{Encloses}
 use Rattle.mk_semiring.specs.declared.held.Held.{Held}
-use Rattle.mk_semiring.specs.declared.held.Held.TheVariants.{Absent, Present}
+use Rattle.mk_semiring.specs.declared.held.Held.TheVariants.{Present}
 use Rattle.mk_semiring.specs.Held.{HeldEncloses, HasHeldGrade, IsHeldExact, held_grade_more}
 use Rattle.mk_tree.specs.Given.{GivenTree}
 use Rattle.mk_tree.specs.Held.{IsHeldAt}
@@ -23,6 +23,7 @@ use Rattle.mk_engine.specs.Beliefs.{IsBelief}
 use Rattle.mk_beliefs.specs.Meanings.{weights_of}
 use Rattle.mk_beliefs.proofs.Grown.{factors_are_few}
 use Rattle.mk_beliefs.proofs.Weighed.{belief_is_total, weights_are_small}
+use Rattle.mk_best.proofs.Shares.{left_in, in_present}
 use Rattle.mk_answers.specs.inner.Found.{IsBeliefIn, max_side_grade}
 use Rattle.mk_engine.proofs.Found.{pairs_fit, case_is_held}
 use Rattle.mk_expect.specs.inner.Parts.{event_at}
@@ -41,14 +42,6 @@ event_in network tree H legal few event belief b =
           max_side_grade b.grade (omega (arith, room));
       exact = λ s. b.exact (weights_are_small network tree H s);
     }
-
-pub as_present : (belief : Held) (e : Enclosure) (small : Type 0) (n : ℕ) → belief ≡ Present e
-    → IsBeliefIn belief small n → IsBeliefIn (Present e) small n
-as_present belief e small n is b = subst (λ (x : Held). IsBeliefIn x small n) is b
-
-pub as_absent : (belief : Held) (small : Type 0) (n : ℕ) → belief ≡ Absent
-    → IsBeliefIn belief small n → n ≡ 0
-as_absent belief small n is b = subst (λ (x : Held). HeldEncloses x n) is b.encloses
 
 -- an event weighs no more than everything
 pub part_at_most : (network : List Variable) (H : List Entry) (event : List Pair)
@@ -114,7 +107,20 @@ pub event_held : (tree : GivenTree) (at : ℕ) (r : TradeRatio) (k : ℕ)
 unfolding as_asked
 event_held tree at r k h = case_is_held tree at (as_asked r) k (event_at r k) refl h
 
--- an event that has a home is not without one
-pub no_home : (found its : Option ℕ) → found ≡ None → found ≡ its → is_some its ≡ true → ⊥
-no_home found None none e h = absurd (cc)
-no_home found (Some k) none e h = absurd (cc)
+-- the belief in no pair at all is the whole
+pub has_whole : {E : Type 0} (stands_for : E → Meaning → Type 0) (old new : E)
+    → ((m : Meaning) → stands_for old m → stands_for new m)
+    → (network : List Variable) (tree : GivenTree) (H : List Entry) (event : List Pair)
+    (belief : Held) (whole : Enclosure) → event ≡ [] → belief ≡ Present whole
+    → stands_for old (weights_of network tree H) → IsNetwork network
+    → length (trades H) ≤ max_market_trades
+    → IsBelief HeldEncloses HasHeldGrade IsHeldExact ◌+◌ (weights_of network tree H) event belief
+    → HasWhole stands_for new network tree H whole
+has_whole stands_for old new kept network tree H event belief whole none is stands legal few b =
+    record {
+      stands = kept (weights_of network tree H) stands;
+      legal = legal;
+      few_trades = few;
+      of_whole = in_present belief whole (IsSmall network H) (total network H always) is
+          (left_in network tree H legal few event belief none b);
+    }

@@ -5,6 +5,7 @@ use Rattle.mk_exact.specs.Events.{always}
 use Rattle.mk_exact.specs.History.{Entry, bits_in, bits_out, deposited, withdrawn}
 use Rattle.mk_exact.specs.Weight.{total}
 use Rattle.mk_expect.specs.declared.tally.Tally.{Tally}
+use Rattle.mk_expect.specs.Expectation.{AreBits}
 use Rattle.mk_expect.specs.inner.Parts.{entry_gained, entry_owed, own_trade}
 use Rattle.mk_expect.specs.inner.Tallies.{AddsUp}
 
@@ -19,3 +20,7 @@ module _ (network : List Variable) (H : List Entry) where
   abbrev pub AddsEntries : (ℕ → ℕ) → ℕ → List Entry → Tally → Type 0
   AddsEntries bits u es t = AddsUp t (total network H always) (sum_by (entry_gained network H bits u) es)
       (sum_by (entry_owed network H u) es) (deposited es u) (withdrawn es u) (sum_by (own_trade u) es)
+
+  -- all of a history, whatever names the bits
+  abbrev pub AddsAll : ℕ → Tally → Type 0
+  AddsAll u t = (bits : ℕ → ℕ) → AreBits bits → AddsEntries bits u H t

@@ -12,10 +12,12 @@ use Rattle.mk_exact.specs.Weight.{total, IsSmall}
 use Rattle.mk_enclose.specs.declared.enclosure.Enclosure.{Enclosure}
 use Rattle.mk_semiring.specs.declared.held.Held.TheVariants.{Present}
 use Rattle.mk_tree.specs.Given.{GivenTree, home}
+use Rattle.mk_tree.specs.Checked.{IsTreeOf}
 use Rattle.mk_tree.specs.Held.{IsHeldAt}
 use Rattle.mk_engine.specs.Meaning.{Meaning, ArePairsOf}
 use Rattle.mk_beliefs.specs.Meanings.{weights_of}
 use Rattle.mk_answers.specs.inner.Found.{IsBeliefIn}
+use Rattle.mk_best.specs.Chances.{IsPlaced}
 use Rattle.mk_expect.specs.Expectation.{HasFewBits}
 
 -- the share of a part in a whole, in parts of 2^34
@@ -80,4 +82,14 @@ module _ {E : Type 0} (stands_for : E → Meaning → Type 0) where
     pub network : List Variable
     pub has : HasWhole engine network tree H whole
     pub fits : AllByRecursion (FitsEntry network tree) H
+    pub few_bits : HasFewBits H u
+
+  -- the engine has the weights of a placed history of a network with this tree, in which the user
+  -- has few bits
+  pub record CanExpect (engine : E) (tree : GivenTree) (H : List Entry) (u : ℕ) : Type 0 where
+    pub network : List Variable
+    pub stands : stands_for engine (weights_of network tree H)
+    pub legal : IsNetwork network
+    pub tree_of_it : IsTreeOf network tree
+    pub placed : IsPlaced network tree H
     pub few_bits : HasFewBits H u

@@ -9,7 +9,7 @@ use Rattle.mk_answers.proofs.Presence.{some_weight}
 use Rattle.mk_expect.specs.inner.Parts.{values_gained, values_owed}
 use Rattle.mk_expect.proofs.Covered.{some_bits, some_are_bits}
 use Rattle.mk_expect.proofs.Means.{owed_at_most}
-use Rattle.mk_expect.proofs.Shares.{no_home}
+use Rattle.mk_best.proofs.Replayed.{no_home}
 use Rattle.mk_expect.proofs.Tallied.{rounded_tally, rounded_narrow}
 use Rattle.mk_expect.proofs.trades.trade_tally.Goals as goal
 

@@ -4,7 +4,8 @@ use Rattle.mk_exact.specs.Weight.{IsSmall, total}
 use Rattle.mk_beliefs.specs.Meanings.{weights_of}
 use Rattle.mk_answers.specs.inner.Found.{max_side_grade}
 use Rattle.mk_answers.proofs.Presence.{some_weight}
-use Rattle.mk_expect.proofs.Shares.{event_in, as_present, as_absent, part_at_most, no_share}
+use Rattle.mk_expect.proofs.Shares.{event_in, part_at_most, no_share}
+use Rattle.mk_best.proofs.Shares.{in_present, in_absent}
 use Rattle.mk_expect.proofs.Shares.{share_order, share_in}
 use Rattle.mk_expect.proofs.values.share_of.Goals as goal
 
@@ -17,7 +18,7 @@ belief-requires-clause-held g c =
 pub parts-requires-clause-part : goal.parts-requires-clause-part
 parts-requires-clause-part g c =
     let a = c.requires in let event = c.args.event.now in
-    let of_part = as_present _ c.in-Present.part (IsSmall a.network a.history)
+    let of_part = in_present _ c.in-Present.part (IsSmall a.network a.history)
     (total a.network a.history (holds event)) c.in-Present.is
     (event_in a.network a.tree a.history a.has.legal a.has.few_trades event c.belief.result
     (c.belief.ensures.belief (weights_of a.network a.tree a.history) a.has.stands)) in
@@ -32,7 +33,7 @@ pub returns-in-Absent-clause-share : goal.returns-in-Absent-clause-share
 returns-in-Absent-clause-share g c = λ network tree H has.
     let event = c.args.event.now in
     no_share (total network H (holds event)) (total network H always)
-    (as_absent _ (IsSmall network H) (total network H (holds event)) c.in-Absent.is
+    (in_absent _ (IsSmall network H) (total network H (holds event)) c.in-Absent.is
     (event_in network tree H has.legal has.few_trades event c.belief.result
     (c.belief.ensures.belief (weights_of network tree H) has.stands)))
 
@@ -41,7 +42,7 @@ returns-in-Present-clause-share g c = λ network tree H has.
     let event = c.args.event.now in
     share_in network H event c.in-Present.part c.args.whole.now c.parts.result.0 c.parts.result.1
     (record { below = c.parts.ensures.below; above = c.parts.ensures.above })
-    (as_present _ c.in-Present.part (IsSmall network H) (total network H (holds event))
+    (in_present _ c.in-Present.part (IsSmall network H) (total network H (holds event))
     c.in-Present.is (event_in network tree H has.legal has.few_trades event c.belief.result
     (c.belief.ensures.belief (weights_of network tree H) has.stands)))
     has.of_whole
@@ -49,7 +50,7 @@ returns-in-Present-clause-share g c = λ network tree H has.
 pub returns-in-Present-clause-in_order : goal.returns-in-Present-clause-in_order
 returns-in-Present-clause-in_order g c =
     let a = c.requires in let event = c.args.event.now in
-    let of_part = as_present _ c.in-Present.part (IsSmall a.network a.history)
+    let of_part = in_present _ c.in-Present.part (IsSmall a.network a.history)
     (total a.network a.history (holds event)) c.in-Present.is
     (event_in a.network a.tree a.history a.has.legal a.has.few_trades event c.belief.result
     (c.belief.ensures.belief (weights_of a.network a.tree a.history) a.has.stands)) in
@@ -63,7 +64,7 @@ returns-in-Present-clause-in_order g c =
 pub returns-in-Present-clause-narrow : goal.returns-in-Present-clause-narrow
 returns-in-Present-clause-narrow g c =
     let a = c.requires in let event = c.args.event.now in
-    let of_part = as_present _ c.in-Present.part (IsSmall a.network a.history)
+    let of_part = in_present _ c.in-Present.part (IsSmall a.network a.history)
     (total a.network a.history (holds event)) c.in-Present.is
     (event_in a.network a.tree a.history a.has.legal a.has.few_trades event c.belief.result
     (c.belief.ensures.belief (weights_of a.network a.tree a.history) a.has.stands)) in
