@@ -86,8 +86,10 @@ unit_power : (k l : ℕ) → 2 ^ l ≤ unit ^ k → unit ^ k < 2 ^ (l + 1) → l
 unit_power k l h g =
     let e : unit ^ k ≡ 2 ^ (40 * k) = power_times 2 40 k in
     let some = pow_pos (40 * k) in
-    let more : 2 ^ (40 * k) < 2 ^ (40 * k + 1) = (let d = double (40 * k) in omega (arith, d, some)) in
-    let a : l ≤ 40 * k = bits_at_most (unit ^ k) (2 ^ (40 * k)) l (40 * k) h (omega (arith, e)) more in
+    let d = double (40 * k) in
+    let more : 2 ^ (40 * k) < 2 ^ (40 * k + 1) = omega (arith, d, some) in
+    let a : l ≤ 40 * k =
+    bits_at_most (unit ^ k) (2 ^ (40 * k)) l (40 * k) h (omega (arith, e)) more in
     let b : 40 * k ≤ l = bits_at_most (2 ^ (40 * k)) (unit ^ k) (40 * k) l (omega arith)
     (omega (arith, e)) g in
     omega (arith, a, b)

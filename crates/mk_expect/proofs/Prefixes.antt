@@ -1,5 +1,6 @@
 -- The first entries of a history, and one of them.
-use Rattle.std.proofs.Common.{◌≡◌, ℕ, zero, suc, ◌+◌, ◌*◌, ◌^◌, ◌<◌, ◌≤◌, List, [], ◌∷◌, length, take, get_or}
+use Rattle.std.proofs.Common.{◌≡◌, ℕ, zero, suc, ◌+◌, ◌*◌, ◌^◌, ◌<◌, ◌≤◌, List, [], ◌∷◌, length}
+use Rattle.std.proofs.Common.{take, get_or}
 use Rattle.std.proofs.Common.{eqb, sum_by, refl, sym, ap, subst, ◌∙◌, arith}
 use Rattle.std.specs.List.{AllByRecursion}
 use Rattle.std.proofs.lemmas.List.Sums.{sum_by-cons, sum_by-take-le, get_or-le-sum_by}
@@ -117,4 +118,5 @@ module _ (network : List Variable) (es : List Entry) (bits : ℕ → ℕ) (u : �
       → AddsEntries network (changes es) bits u (changes es) t → IsWithin t (2 ^ 83) (2 ^ 83)
   all_have_room t few some h =
       has_room (changes es) u t (deposited (changes es) u) (withdrawn (changes es) u)
-      (sum_by (own_trade u) (changes es)) few some (omega arith) (omega arith) (omega arith) h.within
+      (sum_by (own_trade u) (changes es)) few some (omega arith) (omega arith) (omega arith)
+      h.within

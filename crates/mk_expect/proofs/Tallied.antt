@@ -150,5 +150,6 @@ pub rounded_narrow : (t : Tally) (whole gained owed : ℕ) → 1 ≤ whole
 rounded_narrow t whole gained owed some h few thin =
     let x = h.least_owed in let y = thin.thin in
     let scaled : t.least_owed * whole ≤ 2 ^ 34 * unit_bits * whole = omega (arith, x, few) in
-    let least : t.least_owed ≤ 2 ^ 34 * unit_bits = le_of_mul-le-mul_right {k = whole} scaled some in
+    let least : t.least_owed ≤ 2 ^ 34 * unit_bits =
+    le_of_mul-le-mul_right {k = whole} scaled some in
     record { narrow = omega (arith, y, least) }

@@ -9,8 +9,8 @@ use crate::tally::Tally;
 /// The parts of a tally in one bit.
 const PARTS: u128 = 1 << 54;
 
-/// Whole points on either side of what is gained less what is owed, at so many points a bit: as many
-/// as it is at least, and as many as it is at most.
+/// Whole points on either side of what is gained less what is owed, at so many points a bit: as
+/// many as it is at least, and as many as it is at most.
 pub(crate) fn points_of(tally: &Tally, points_per_bit: u32) -> (i64, i64)
     requires few_points { points_per_bit ≤ max_points_per_bit }
     requires small { IsWithin tally.now (2 ^ 83) (2 ^ 83) }

@@ -22,8 +22,8 @@ use mk_tree::Tree;
 /// One part of 2^20 of a bit, which the bits of a trade may be above their whole parts.
 const ROUNDING: u128 = 1 << 34;
 
-/// The tally of a trade: of the values of its variable, and of the parts of bits that are not whole.
-/// It leaves what the engine stands for as it was.
+/// The tally of a trade: of the values of its variable, and of the parts of bits that are not
+/// whole. It leaves what the engine stands for as it was.
 pub(crate) fn trade_tally<E: Engine<SumProd>>(
     engine: &mut E,
     tree: &Tree,

@@ -17,7 +17,8 @@ pow_up-high-requires-clause-range c =
 pub returns-clause-narrow : goal.returns-clause-narrow
 returns-clause-narrow c =
     bits_near c.pow_down-low.result (c.of_whole-number.result ^ c.args.power) c.pow_up-high.result
-    c.log2_floor.result c.log2_floor-2.result c.args.power c.requires.few c.pow_down-low.ensures.near
+    c.log2_floor.result c.log2_floor-2.result c.args.power c.requires.few
+    c.pow_down-low.ensures.near
     c.pow_up-high.ensures.near c.log2_floor.ensures.greatest c.log2_floor-2.ensures.below
 
 pub returns-clause-small : goal.returns-clause-small
