@@ -1,6 +1,7 @@
 //! What keeps the accepted changes of a run.
 
 ghost use Rattle.std.specs.Prelude.{◌≡◌, ℕ, ◌+◌, ◌*◌, ◌^◌, ◌<◌, ◌≤◌, List, [], ◌∷◌, ◌++◌, length, IsTrue, IfSome, OnOk, OnErr};
+ghost use Rattle.std.specs.Prelude.{false};
 ghost use Rattle.mk_disk.specs.Disk.{HasCause};
 ghost use Rattle.mk_journal.specs.Store.{IsLength, AreRecords, opened};
 ghost use Rattle.mk_journal.specs.Kept.{IsSettled};
@@ -27,6 +28,12 @@ pub trait Keeper<D> {
     ghost passes: { D → D → List ℕ → List ℕ → List (List ℕ) → ℕ → Type 0 };
     // how many calls of the disk have failed
     ghost faults: { D → ℕ };
+
+    /// Whether it keeps changes at all. Where it does not, none has to be taken.
+    fn keeps(&self) -> bool
+        ensures { result ≡ false → (disk : D) (name market change : List ℕ)
+            (kept waiting : List (List ℕ)) → holds self.now disk name market kept waiting
+            → holds self.now disk name market kept (waiting ++ change ∷ []) };
 
     /// Takes a change, which then waits or is kept. Those that wait are kept first where there is no room for it.
     fn take(&mut self, disk: &mut D, change: &[u8]) -> Result<(), DiskFailed>
@@ -102,6 +109,10 @@ impl Keeper<()> for NoStore {
     ghost fewer_are_left = { λ _ _ _ _ _ _ _ _ _. tt };
 
     ghost fewer_pass = { λ _ _ _ _ _ _ _ _ _ _. tt };
+
+    fn keeps(&self) -> bool {
+        false
+    }
 
     fn take(&mut self, _disk: &mut (), _change: &[u8]) -> Result<(), DiskFailed> {
         Ok(())
@@ -218,6 +229,10 @@ impl<K: Disk> Keeper<K> for Store {
     ghost fewer_are_left = { λ d name market all more least fewer less left c is. front_fewer more less (left c is) };
 
     ghost fewer_pass = { λ before now name market all more least fewer less moments. weaken (λ c is. front_fewer more less is) moments };
+
+    fn keeps(&self) -> bool {
+        true
+    }
 
     fn take(&mut self, disk: &mut K, change: &[u8]) -> Result<(), DiskFailed> {
         self.make_room(disk, change.len())?;

@@ -49,14 +49,14 @@ one_replied market now line question reply busy asks allowed =
       run = (allowed, refl);
     }
 
-asks_behind : (ls ms : List StreamLine) (xs ys : List Line) → AllZip Asks ls xs → AllZip Asks ms ys
-    → AllZip Asks (ls ++ ms) (xs ++ ys)
+pub asks_behind : (ls ms : List StreamLine) (xs ys : List Line) → AllZip Asks ls xs
+    → AllZip Asks ms ys → AllZip Asks (ls ++ ms) (xs ++ ys)
 asks_behind [] ms [] ys first second = second
 asks_behind [] ms (x ∷ xs) ys first second = absurd first
 asks_behind (l ∷ ls) ms [] ys first second = absurd first
 asks_behind (l ∷ ls) ms (x ∷ xs) ys first second = (first.0, asks_behind ls ms xs ys first.1 second)
 
-run_behind : (market : Market) (xs ys : List Line) (rs ss : List Reply) (old mid new : Standing)
+pub run_behind : (market : Market) (xs ys : List Line) (rs ss : List Reply) (old mid new : Standing)
     → Run market old xs rs mid → Run market mid ys ss new
     → Run market old (xs ++ ys) (rs ++ ss) new
 run_behind market [] ys [] ss old mid new first second =

@@ -1,14 +1,12 @@
 -- How a run ends, from what it has come to.
 use Rattle.std.proofs.Common.{◌≡◌, ℕ, ◌<◌, ◌+◌, List, [], ◌∷◌, ◌++◌, length, Option, Some}
-use Rattle.std.proofs.Common.{None, Result, Ok, Err, MatchResult, MatchOption, OnOk, OnErr, IfSome}
+use Rattle.std.proofs.Common.{None, Result, Ok, Err, MatchOption, OnOk, OnErr, IfSome}
 use Rattle.std.proofs.Common.{IfNone, ◌⊎◌, inl, inr, refl, sym, ap, subst, ◌∙◌, append_assoc}
-use Rattle.mk_io.specs.declared.status.Status.{Status}
 use Rattle.mk_io.specs.declared.status.Status.TheVariants.{Done, ReadFault, WriteFault, TooMany}
 use Rattle.mk_io.specs.declared.lines.Next.{Next}
 use Rattle.mk_io.specs.declared.lines.Next.TheVariants.{Line, Long, End, ReadFault as Unread}
 use Rattle.mk_io.specs.declared.lines.Next.TheVariants.{TooMany as Overrun}
-use Rattle.mk_io.specs.Outside.{append_known, prepend_known, AddsFront, IsAtEnd, HasCause}
-use Rattle.mk_io.specs.Outside.{CountsFault}
+use Rattle.mk_io.specs.Outside.{append_known, prepend_known, AddsFront, IsAtEnd, CountsFault}
 use Rattle.mk_io.specs.Stream.{StreamLine, stream_lines, AreWholeLines, max_stream_lines}
 use Rattle.mk_io.specs.Stream.{max_stream_bytes}
 use Rattle.mk_io.specs.Cutting.{Cutting, stream_left, first_size, GoesOn, GivesLine, Stays}
@@ -20,8 +18,12 @@ use Rattle.mk_rules.specs.Transcript.{Standing, opening}
 use Rattle.mk_session.specs.Texts.{ready_line}
 use Rattle.mk_session.specs.Transcript.{AreAnswered, Transcript}
 use Rattle.mk_session.specs.Complete.{AreWithin}
-use Rattle.mk_session.specs.Outcome.{HasCauses, CountsNone}
 use Rattle.mk_session.specs.inner.Progress.{Gathers, AreGathered, IsBetween, IsSoFar, IsEnded}
+use Rattle.mk_session.specs.declared.waiting.TellFault.{TellFault}
+use Rattle.mk_session.specs.declared.waiting.TellFault.TheVariants.{Disk, Sink}
+use Rattle.mk_session.specs.declared.answer.Ending.{Ending}
+use Rattle.mk_session.specs.inner.Telling.{HasTellCause, HasEndCauses, CountsNoFault}
+use Rattle.mk_session.specs.inner.Telling.{ended_by, shown}
 use Rattle.mk_session.proofs.Answering.{no_more, transcript_of}
 use Rattle.mk_session.proofs.Underway.{rest_of, are_whole, so_far_next, still_so_far}
 
@@ -138,7 +140,7 @@ ended_too_many market all old new source rest now before written after waits non
     }
 
 -- the bytes before a place are whole lines, or none is left behind it
-whole_or_none : (last : Option Next) (done left left_parts : List ℕ) → left ≡ left_parts
+pub whole_or_none : (last : Option Next) (done left left_parts : List ℕ) → left ≡ left_parts
     → IsBetween last done left → AreWholeLines done ⊎ (left_parts ≡ [])
 whole_or_none None done left left_parts e whole = inl whole
 whole_or_none (Some last) done left left_parts e none = inr (sym e ∙ none)
@@ -185,70 +187,78 @@ ended_broken market all part cutting source rest now before written after waited
       };
     }
 
--- the same where a line was given, whose reply had no room behind what waited
-broken_behind : (market : Market) (all : List ℕ) (line : StreamLine) (old new : Cutting)
-    (source rest : Option (List ℕ)) (now : Standing)
-    (before written after : Option (List ℕ)) (waited : List ℕ) → GivesLine line old new
-    (stream_left old source) (stream_left new rest)
-    → AddsFront written after waited → IsSoFar market all old source now before written waited
-    → IsEnded WriteFault market all rest before after
-broken_behind market all line old new source rest now before written after waited gives cut far =
-    ended_broken market all (gives.piece ++ new.left) old source rest now before written after
-    waited
-    (gives.taken ∙ prepend_known_twice gives.piece new.left rest) cut far
-
 -- a line that was answered: the run goes on, one line further
-pub goes_on_after : {T E : Type 0} (said : Result T E) (ended : Option Status) (market : Market)
-    (line : StreamLine) (old new kept : Cutting) (source rest : Option (List ℕ))
+pub goes_on_after : {T : Type 0} (said : Result T TellFault) (ended : Option Ending)
+    (market : Market) (line : StreamLine) (old new kept : Cutting) (source rest : Option (List ℕ))
     (now then : Standing)
     (written after : Option (List ℕ)) (waited waits : List ℕ)
-    → MatchResult said (λ _. ended ≡ None) (λ _. ended ≡ Some WriteFault) → kept ≡ new
+    → ended ≡ ended_by said → kept ≡ new
     → old.last ≡ None → IsWithinLimits new
     → GivesLine line old new (stream_left old source) (stream_left new rest)
     → OnOk said (AreGathered market now (line ∷ []) then written after waited waits)
     → IfNone ended ((all : List ℕ) (before : Option (List ℕ))
     → IsSoFar market all old source now before written waited
     → IsSoFar market all kept rest then before after waits)
-goes_on_after (Ok v) ended market line old new kept source rest now then written after waited waits
+goes_on_after said ended market line old new kept source rest now then written after waited waits
     e same none limits gives answered =
-    subst (λ (o : Option Status). IfNone o ((all : List ℕ) (before : Option (List ℕ))
+    subst (λ (o : Option Ending). IfNone o ((all : List ℕ) (before : Option (List ℕ))
     → IsSoFar market all old source now before written waited
-    → IsSoFar market all kept rest then before after waits)) (sym e)
-    (λ all before far.
-    subst (λ (cutting : Cutting). IsSoFar market all cutting rest then before after waits)
-    (sym same)
-    (so_far_next market all line old new source rest now then before written after waited waits
-    none limits gives answered far))
-goes_on_after (Err x) ended market line old new kept source rest now then written after waited waits
-    e same none limits gives answered =
-    subst (λ (o : Option Status). IfNone o ((all : List ℕ) (before : Option (List ℕ))
-    → IsSoFar market all old source now before written waited
-    → IsSoFar market all kept rest then before after waits)) (sym e) tt
+    → IsSoFar market all kept rest then before after waits)) (sym e) (at said answered)
+  where
+    at : {T : Type 0} (said : Result T TellFault)
+        → OnOk said (AreGathered market now (line ∷ []) then written after waited waits)
+        → IfNone (ended_by said) ((all : List ℕ) (before : Option (List ℕ))
+        → IsSoFar market all old source now before written waited
+        → IsSoFar market all kept rest then before after waits)
+    at (Ok v) answered =
+        λ all before far.
+        subst (λ (cutting : Cutting). IsSoFar market all cutting rest then before after waits)
+        (sym same)
+        (so_far_next market all line old new source rest now then before written after waited
+        waits none limits gives answered far)
+    at (Err Disk) answered = tt
+    at (Err Sink) answered = tt
 
--- a line whose reply had no room: the run is broken
-pub breaks_after : {T E : Type 0} (said : Result T E) (ended : Option Status) (market : Market)
-    (line : StreamLine) (old new : Cutting)
+-- what waited was not told: the run is broken
+pub breaks_off : {T : Type 0} (said : Result T TellFault) (ended : Option Ending) (market : Market)
+    (cutting : Cutting) (part : List ℕ) (source rest : Option (List ℕ)) (now : Standing)
+    (written after : Option (List ℕ)) (waited : List ℕ)
+    → ended ≡ ended_by said → stream_left cutting source ≡ prepend_known part rest
+    → OnErr said (AddsFront written after waited)
+    → IfSome ended (λ end. (all : List ℕ) (before : Option (List ℕ)) → IsSoFar market all cutting
+    source now before written waited → IsEnded (shown end) market all rest before after)
+breaks_off said ended market cutting part source rest now written after waited e taken cut =
+    subst (λ (o : Option Ending). IfSome o (λ end. (all : List ℕ) (before : Option (List ℕ))
+    → IsSoFar market all cutting source now before written waited
+    → IsEnded (shown end) market all rest before after))
+    (sym e) (at said cut)
+  where
+    at : {T : Type 0} (said : Result T TellFault) → OnErr said (AddsFront written after waited)
+        → IfSome (ended_by said) (λ end. (all : List ℕ) (before : Option (List ℕ))
+        → IsSoFar market all cutting source now before written waited
+        → IsEnded (shown end) market all rest before after)
+    at (Ok v) cut = tt
+    at (Err Disk) cut = λ all before far. ended_broken market all part cutting source rest now
+        before written after waited taken cut far
+    at (Err Sink) cut = λ all before far. ended_broken market all part cutting source rest now
+        before written after waited taken cut far
+
+-- the same where a line was given, whose reply was not told
+pub breaks_after : {T : Type 0} (said : Result T TellFault) (ended : Option Ending)
+    (market : Market) (line : StreamLine) (old new : Cutting)
     (source rest : Option (List ℕ)) (now : Standing) (written after : Option (List ℕ))
     (waited : List ℕ)
-    → MatchResult said (λ _. ended ≡ None) (λ _. ended ≡ Some WriteFault)
+    → ended ≡ ended_by said
     → GivesLine line old new (stream_left old source) (stream_left new rest)
     → OnErr said (AddsFront written after waited)
-    → IfSome ended (λ status. (all : List ℕ) (before : Option (List ℕ)) → IsSoFar market all old
-    source now before written waited → IsEnded status market all rest before after)
-breaks_after (Ok v) ended market line old new source rest now written after waited e gives cut =
-    subst (λ (o : Option Status). IfSome o (λ status. (all : List ℕ) (before : Option (List ℕ))
-    → IsSoFar market all old source now before written waited → IsEnded status market all rest
-    before after))
-    (sym e) tt
-breaks_after (Err x) ended market line old new source rest now written after waited e gives cut =
-    subst (λ (o : Option Status). IfSome o (λ status. (all : List ℕ) (before : Option (List ℕ))
-    → IsSoFar market all old source now before written waited → IsEnded status market all rest
-    before after))
-    (sym e) (λ all before far. broken_behind market all line old new source rest now before written
-    after waited gives cut far)
+    → IfSome ended (λ end. (all : List ℕ) (before : Option (List ℕ)) → IsSoFar market all old
+    source now before written waited → IsEnded (shown end) market all rest before after)
+breaks_after said ended market line old new source rest now written after waited e gives cut =
+    breaks_off said ended market old (gives.piece ++ new.left) source rest now written after waited
+    e (gives.taken ∙ prepend_known_twice gives.piece new.left rest) cut
 
--- what waits was written before: the run goes on from there
-pub goes_on_from : (ended : Option Status) (market : Market) (old new : Cutting)
+-- what waits was told before: the run goes on from there
+pub goes_on_from : (ended : Option Ending) (market : Market) (old new : Cutting)
     (source rest : Option (List ℕ)) (now then : Standing)
     (written mid after : Option (List ℕ)) (waited left waits : List ℕ) → Gathers written mid waited
     [] left
@@ -260,47 +270,57 @@ goes_on_from None market old new source rest now then written mid after waited l
     next =
     λ all before far. next all before (still_so_far market all old source now before written mid
     waited left gathers far)
-goes_on_from (Some status) market old new source rest now then written mid after waited left waits
+goes_on_from (Some end) market old new source rest now then written mid after waited left waits
     gathers next = tt
 
-pub ends_from : (ended : Option Status) (market : Market) (cutting : Cutting)
+pub ends_from : (ended : Option Ending) (market : Market) (cutting : Cutting)
     (source rest : Option (List ℕ)) (now : Standing)
     (written mid after : Option (List ℕ)) (waited left : List ℕ) → Gathers written mid waited []
     left
-    → IfSome ended (λ status. (all : List ℕ) (before : Option (List ℕ)) → IsSoFar market all cutting
-    source now before mid left → IsEnded status market all rest before after)
-    → IfSome ended (λ status. (all : List ℕ) (before : Option (List ℕ)) → IsSoFar market all cutting
-    source now before written waited → IsEnded status market all rest before after)
+    → IfSome ended (λ end. (all : List ℕ) (before : Option (List ℕ)) → IsSoFar market all cutting
+    source now before mid left → IsEnded (shown end) market all rest before after)
+    → IfSome ended (λ end. (all : List ℕ) (before : Option (List ℕ)) → IsSoFar market all cutting
+    source now before written waited → IsEnded (shown end) market all rest before after)
 ends_from None market cutting source rest now written mid after waited left gathers next = tt
-ends_from (Some status) market cutting source rest now written mid after waited left gathers next =
+ends_from (Some end) market cutting source rest now written mid after waited left gathers next =
     λ all before far. next all before (still_so_far market all cutting source now before written mid
     waited left gathers far)
 
-pub causes_from : (ended : Option Status) (inputs inputs_now sink sink_mid sink_now : ℕ)
-    → sink_mid ≡ sink
-    → MatchOption ended (CountsNone inputs inputs_now sink_mid sink_now)
-    (λ status. HasCauses status inputs inputs_now sink_mid sink_now)
-    → MatchOption ended (CountsNone inputs inputs_now sink sink_now)
-    (λ status. HasCauses status inputs inputs_now sink sink_now)
-causes_from ended inputs inputs_now sink sink_mid sink_now same causes =
-    subst (λ (n : ℕ). MatchOption ended (CountsNone inputs inputs_now n sink_now)
-    (λ status. HasCauses status inputs inputs_now n sink_now)) same causes
+pub causes_from : (ended : Option Ending)
+    (disk disk_mid disk_now inputs inputs_now sink sink_mid sink_now : ℕ)
+    → disk_mid ≡ disk → sink_mid ≡ sink
+    → MatchOption ended (CountsNoFault disk_mid disk_now inputs inputs_now sink_mid sink_now)
+    (λ end. HasEndCauses end disk_mid disk_now inputs inputs_now sink_mid sink_now)
+    → MatchOption ended (CountsNoFault disk disk_now inputs inputs_now sink sink_now)
+    (λ end. HasEndCauses end disk disk_now inputs inputs_now sink sink_now)
+causes_from ended disk disk_mid disk_now inputs inputs_now sink sink_mid sink_now same_disk
+    same_sink causes =
+    subst (λ (n : ℕ). MatchOption ended (CountsNoFault n disk_now inputs inputs_now sink sink_now)
+    (λ end. HasEndCauses end n disk_now inputs inputs_now sink sink_now)) same_disk
+    (subst (λ (n : ℕ). MatchOption ended
+    (CountsNoFault disk_mid disk_now inputs inputs_now n sink_now)
+    (λ end. HasEndCauses end disk_mid disk_now inputs inputs_now n sink_now)) same_sink causes)
 
 -- the causes of a turn that read a line and said what it answers
-pub causes_after : {T E : Type 0} (said : Result T E) (ended : Option Status)
-    (inputs inputs_now sink sink_now : ℕ)
-    → MatchResult said (λ _. ended ≡ None) (λ _. ended ≡ Some WriteFault) → inputs_now ≡ inputs
-    → HasCause sink sink_now said
-    → MatchOption ended (CountsNone inputs inputs_now sink sink_now)
-    (λ status. HasCauses status inputs inputs_now sink sink_now)
-causes_after (Ok v) ended inputs inputs_now sink sink_now e same cause =
-    subst (λ (o : Option Status). MatchOption o (CountsNone inputs inputs_now sink sink_now)
-    (λ status. HasCauses status inputs inputs_now sink sink_now))
-    (sym e) (same, cause.kept)
-causes_after (Err x) ended inputs inputs_now sink sink_now e same cause =
-    subst (λ (o : Option Status). MatchOption o (CountsNone inputs inputs_now sink sink_now)
-    (λ status. HasCauses status inputs inputs_now sink sink_now))
-    (sym e) (same, record { later = cause.later; rose = cause.failed })
+pub causes_after : {T : Type 0} (said : Result T TellFault) (ended : Option Ending)
+    (disk disk_now inputs inputs_now sink sink_now : ℕ)
+    → ended ≡ ended_by said → inputs_now ≡ inputs
+    → HasTellCause said disk disk_now sink sink_now
+    → MatchOption ended (CountsNoFault disk disk_now inputs inputs_now sink sink_now)
+    (λ end. HasEndCauses end disk disk_now inputs inputs_now sink sink_now)
+causes_after said ended disk disk_now inputs inputs_now sink sink_now e same cause =
+    subst (λ (o : Option Ending). MatchOption o
+    (CountsNoFault disk disk_now inputs inputs_now sink sink_now)
+    (λ end. HasEndCauses end disk disk_now inputs inputs_now sink sink_now)) (sym e)
+    (at said cause)
+  where
+    at : {T : Type 0} (said : Result T TellFault) → HasTellCause said disk disk_now sink sink_now
+        → MatchOption (ended_by said)
+        (CountsNoFault disk disk_now inputs inputs_now sink sink_now)
+        (λ end. HasEndCauses end disk disk_now inputs inputs_now sink sink_now)
+    at (Ok v) cause = (cause.0, (same, cause.1))
+    at (Err Disk) cause = (cause.0, (same, cause.1))
+    at (Err Sink) cause = (cause.0, (same, cause.1))
 
 -- an answer is a fresh one where none stays
 pub fresh_answer : (result : Next) (old new : Cutting) (source rest : Option (List ℕ))

@@ -1,10 +1,11 @@
 -- What the two loops of a run keep.
-use Rattle.std.proofs.Common.{◌≡◌, ℕ, ◌≤◌, List, [], ◌++◌, length, take, Option, Some, None, inl}
+use Rattle.std.proofs.Common.{◌≡◌, ℕ, ◌+◌, ◌^◌, ◌<◌, ◌≤◌, List, [], ◌++◌, length}
+use Rattle.std.proofs.Common.{take, Option, Some, None, inl}
 use Rattle.std.proofs.Common.{refl, sym, ap, subst, ◌∙◌, arith, append_assoc}
 use Rattle.std.proofs.lemmas.List.{take_all}
 use Rattle.std.proofs.Math.Seq.{take-append_seam}
 use Rattle.mk_io.specs.Outside.{prepend_known, IsAtEnd}
-use Rattle.mk_io.specs.declared.status.Status.{Status}
+use Rattle.mk_io.specs.Stream.{max_stream_lines}
 use Rattle.mk_io.specs.Cutting.{Cutting, fresh, GoesOn}
 use Rattle.mk_io.proofs.Told.{append_known_none, prepend_known_none}
 use Rattle.mk_exact.specs.Market.{Market}
@@ -13,21 +14,25 @@ use Rattle.mk_rules.specs.Transcript.{Standing, opening}
 use Rattle.mk_session.specs.Transcript.{AreAnswered}
 use Rattle.mk_session.specs.inner.Progress.{IsSoFar}
 use Rattle.mk_session.specs.Opening.{IsTakenWithin}
-use Rattle.mk_session.specs.Outcome.{CountsNone, HasCauses}
+use Rattle.mk_session.specs.declared.answer.Ending.{Ending}
+use Rattle.mk_session.specs.inner.Telling.{HasEndCauses, CountsNoFault}
 use Rattle.mk_session.specs.inner.Loading.{IsTaken}
 use Rattle.mk_session.proofs.Answering.{no_more, none_answered}
 use Rattle.mk_session.proofs.Completing.{none_within_stream}
 
--- between two lines: the market is the same, the lines go on, no fault was counted, and the run is
--- so far
+-- between two lines: the market is the same, the lines go on, no fault was counted, the keeper is
+-- ready, and the run is so far
 pub record IsGoing (start market : Market) (commands : Option (List ℕ)) (lines : Cutting)
     (source : Option (List ℕ)) (now : Standing)
     (before written : Option (List ℕ)) (waits : List ℕ) (opened_before opened : Option (List ℕ))
-    (inputs_before inputs sink_before sink : ℕ) : Type 0 where
+    (disk_before disk inputs_before inputs sink_before sink : ℕ)
+    (begins is_ready : ℕ → Type 0) : Type 0 where
   pub same : market ≡ start
   pub stays : opened ≡ opened_before
   pub goes_on : GoesOn lines.last
-  pub counts : CountsNone inputs_before inputs sink_before sink
+  pub within : lines.given ≤ max_stream_lines
+  pub counts : CountsNoFault disk_before disk inputs_before inputs sink_before sink
+  pub ready : (n : ℕ) → n + max_stream_lines + 1 < 2 ^ 40 → begins n → is_ready (n + lines.given)
   pub far : (all : List ℕ) → commands ≡ Some all → IsSoFar start all lines source now before written
       waits
 
@@ -54,13 +59,18 @@ far_at_start market is_market all source now before waits told begins empty = re
 }
 
 -- what a turn counts is what the run has counted, since no fault was counted before
-pub causes_of_turn : (status : Status) (inputs_before inputs inputs_now sink_before sink
-    sink_now : ℕ) → CountsNone inputs_before inputs sink_before sink
-    → HasCauses status inputs inputs_now sink sink_now → HasCauses status inputs_before inputs_now
-    sink_before sink_now
-causes_of_turn status inputs_before inputs inputs_now sink_before sink sink_now none causes =
-    subst (λ (n : ℕ). HasCauses status n inputs_now sink_before sink_now) none.0
-    (subst (λ (n : ℕ). HasCauses status inputs inputs_now n sink_now) none.1 causes)
+pub causes_of_turn : (end : Ending) (disk_before disk disk_now inputs_before inputs inputs_now
+    sink_before sink sink_now : ℕ)
+    → CountsNoFault disk_before disk inputs_before inputs sink_before sink
+    → HasEndCauses end disk disk_now inputs inputs_now sink sink_now
+    → HasEndCauses end disk_before disk_now inputs_before inputs_now sink_before sink_now
+causes_of_turn end disk_before disk disk_now inputs_before inputs inputs_now sink_before sink
+    sink_now none causes =
+    subst (λ (n : ℕ). HasEndCauses end n disk_now inputs_before inputs_now sink_before sink_now)
+    none.0
+    (subst (λ (n : ℕ). HasEndCauses end disk disk_now n inputs_now sink_before sink_now) none.1.0
+    (subst (λ (n : ℕ). HasEndCauses end disk disk_now inputs inputs_now n sink_now) none.1.1
+    causes))
 
 -- between two pieces of a file: what was read so far, at most `most` bytes
 pub record IsLoading (most : ℕ) (opened : Option (List ℕ)) (bytes : List ℕ)

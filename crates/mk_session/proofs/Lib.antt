@@ -3,6 +3,10 @@ pub mod Answering
 pub mod Gathering
 pub mod Underway
 pub mod Endings
+pub mod Spoken
+pub mod Keeping
+pub mod Held
+pub mod Turns
 pub mod Going
 pub mod Serving
 pub mod Completing

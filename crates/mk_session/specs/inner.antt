@@ -1,4 +1,6 @@
 -- What only proofs and private contracts cite.
 pub mod Loading
 pub mod Progress
+pub mod Telling
+pub mod Keeping
 pub mod Counting

@@ -1,11 +1,14 @@
 //! Answering the lines of a stream, one after another.
 
-ghost use Rattle.std.specs.Prelude.{◌≡◌, ◌≢◌, ◌+◌, ◌≤◌, ◌==◌, ℕ, List, [], ◌∷◌, true, false};
-ghost use Rattle.std.specs.Prelude.{Option, None, Some, OnOk, OnErr, IfNone, IfSome};
-ghost use Rattle.std.specs.Prelude.{MatchOption, MatchResult};
+ghost use Rattle.std.specs.Prelude.{◌≡◌, ◌≢◌, ◌+◌, ◌^◌, ◌<◌, ◌≤◌, ◌==◌, ℕ, List, [], ◌∷◌};
+ghost use Rattle.std.specs.Prelude.{◌++◌, MatchResult};
+ghost use Rattle.std.specs.Prelude.{length, true, false, Option, None, Some, OnOk, OnErr};
+ghost use Rattle.std.specs.Prelude.{IfNone, IfSome, MatchOption};
 ghost use Rattle.std.specs.List.{list_all};
 ghost use Rattle.mk_io.specs.Outside.{HasCause, AddsFront, append_known};
-ghost use Rattle.mk_io.specs.Stream.{text, long, max_stream_lines};
+ghost use Rattle.mk_journal.specs.Keepers.{Holds};
+ghost use Rattle.mk_disk.specs.Disk.{HasCause as HasDiskCause};
+ghost use Rattle.mk_io.specs.Stream.{text, long, max_line_bytes, max_stream_lines};
 ghost use Rattle.mk_io.specs.Cutting.{fresh, GoesOn};
 ghost use Rattle.mk_file.specs.MarketOf.{market_of};
 ghost use Rattle.mk_session.specs.Texts.{ready_line, reply_line};
@@ -14,16 +17,23 @@ ghost use Rattle.mk_rules.specs.Standings.{IsMarket};
 ghost use Rattle.mk_rules.specs.Transcript.{Standing, opening};
 ghost use Rattle.mk_command.specs.Commands.{command_of};
 ghost use Rattle.mk_session.specs.Transcript.{AreReplied, AreAnswered};
-ghost use Rattle.mk_session.specs.Outcome.{HasCauses, CountsNone};
+ghost use Rattle.mk_session.specs.Outcome.{HasCauses};
 ghost use Rattle.mk_session.specs.inner.Progress.{Gathers, AreGathered, IsReady, IsSoFar, IsEnded};
 ghost use Rattle.mk_session.specs.inner.Progress.{IsSoundAt, IsPrinted};
+ghost use Rattle.mk_session.specs.inner.Telling.{HasTellCause, HasEndCauses, CountsNoFault};
+ghost use Rattle.mk_session.specs.inner.Telling.{ended_by, shown};
+ghost use Rattle.mk_session.specs.inner.Keeping.{IsSpoken, AreSpoken, Tells, SpeaksAndTells};
+ghost use Rattle.mk_session.specs.inner.Keeping.{IsHeldSoFar, IsLeft};
 
+use crate::change::{RecordBuffer, take_change};
 use crate::market::TreeMarket;
 use crate::print::{LineBuffer, print_ready, print_reply_line};
-use crate::waiting::{put_line, write_before_read};
+use crate::waiting::{TellFault, put_line, write_before_read};
 use mk_command::{CommandRef, Words, read_command};
+use mk_disk::DiskFailed;
 use mk_file::MarketFile;
 use mk_io::{Inputs, Lines, Next, Sink, SinkFailed, Status, write_all};
+use mk_journal::{Keeper, NoStore};
 use mk_reply::{Refusal, Reply};
 use std::alloc::Global;
 
@@ -66,8 +76,7 @@ fn print_answer(
 )
     requires { list_all (λ b. b == 32) line.now ≡ false }
     ensures market { market.new.market ≡ market.old.market }
-    ensures answered { IsSoundAt market.old.market market.old.standing →
-        AreAnswered market.old.market market.old.standing (text line.now ∷ [])
+    ensures spoken { IsSpoken market.old.market market.old.standing (text line.now)
         market.new.standing print.new.bytes }
 {
     match read_command(line, words) {
@@ -100,10 +109,19 @@ fn print_answer_to(
     print_reply_line(&market.apply(alloc, command), print)
 }
 
+/// How a run over a keeper ends.
+#[derive(Clone, Copy)]
+pub enum Ending {
+    /// As its status says.
+    Told(Status),
+    /// The keeper's disk failed; a front of the output was written.
+    DiskFault,
+}
+
 /// What stands between a market and who talks to it: what was read and not answered, and what was
-/// answered and not written.
+/// answered and not kept or not written.
 #[derive(Drop)]
-pub(crate) struct Conversation {
+pub(crate) struct Conversation<J> {
     /// Reads the commands and cuts them into lines.
     lines: Lines,
     /// Where the longer words of a command are put.
@@ -112,44 +130,14 @@ pub(crate) struct Conversation {
     line: LineBuffer,
     /// The lines behind the ready line that wait to be written.
     waiting: LineBuffer,
+    /// Where the record of a change is put for the keeper.
+    room: RecordBuffer,
+    /// Keeps the changes of all lines before these lines are written.
+    keeper: J,
 }
 
-impl Conversation {
-    /// Nothing was read, and nothing waits.
-    pub(crate) fn new() -> Conversation
-        ensures lines { result.lines ≡ fresh }
-        ensures waiting { result.waiting.bytes ≡ [] }
-    {
-        Conversation {
-            lines: Lines::new(),
-            words: Words::default(),
-            line: LineBuffer::new(),
-            waiting: LineBuffer::new(),
-        }
-    }
-
-    /// Prints the ready line of this file's market.
-    pub(crate) fn print_ready(&mut self, file: &MarketFile)
-        ensures printed { self.new.line.bytes ≡ ready_line (market_of file.now) }
-        ensures lines { self.new.lines ≡ self.old.lines }
-        ensures waiting { self.new.waiting ≡ self.old.waiting }
-    {
-        print_ready(file, &mut self.line);
-    }
-
-    /// Writes the line that was printed last. Only the ready line is written so, before others
-    /// wait.
-    pub(crate) fn write_ready<S: Sink>(&self, out: &mut S) -> Result<(), SinkFailed>
-        ensures cause { HasCause (S.faults out.old) (S.faults out.new) result }
-        ensures whole { OnOk result
-            (S.written out.new ≡ append_known (S.written out.old) self.now.line.bytes) }
-        ensures front { OnErr result
-            (AddsFront (S.written out.old) (S.written out.new) self.now.line.bytes) }
-    {
-        write_all(out, self.line.as_bytes())
-    }
-
-    /// Answers the commands to their end, or until reading or writing fails.
+impl Conversation<NoStore> {
+    /// Answers the commands to their end, or until reading or writing fails, and keeps nothing.
     pub(crate) fn answer_lines<I: Inputs, S: Sink>(
         &mut self,
         alloc: Global,
@@ -169,150 +157,355 @@ impl Conversation {
             (S.faults out.old) (S.faults out.new) }
         ensures not_usage { result ≢ Status.Usage }
     {
-        loop {
-            if let Some(status) = self.take_turn(alloc, market, inputs, out) {
-                return status;
-            }
+        match self.keep_lines(alloc, market, inputs, out, &mut ()) {
+            Ending::Told(status) => status,
+            // Nothing is kept, so there is no disk that could fail.
+            Ending::DiskFault => unreachable!(),
+        }
+    }
+}
+
+impl<J> Conversation<J> {
+    /// Nothing was read, and nothing waits.
+    pub(crate) fn new(keeper: J) -> Conversation<J>
+        ensures lines { result.lines ≡ fresh }
+        ensures waiting { result.waiting.bytes ≡ [] }
+        ensures keeper { result.keeper ≡ keeper }
+    {
+        Conversation {
+            lines: Lines::new(),
+            words: Words::default(),
+            line: LineBuffer::new(),
+            waiting: LineBuffer::new(),
+            room: RecordBuffer::new(),
+            keeper,
         }
     }
 
-    /// Answers the next line, and writes what waits before it where more has to be read. None where
-    /// the run goes on; else how it ends.
-    fn take_turn<I: Inputs, S: Sink>(
+    /// Prints the ready line of this file's market.
+    pub(crate) fn print_ready(&mut self, file: &MarketFile)
+        ensures printed { self.new.line.bytes ≡ ready_line (market_of file.now) }
+        ensures lines { self.new.lines ≡ self.old.lines }
+        ensures waiting { self.new.waiting ≡ self.old.waiting }
+        ensures keeper { self.new.keeper ≡ self.old.keeper }
+    {
+        print_ready(file, &mut self.line);
+    }
+
+    /// Writes the line that was printed last. Only the ready line is written so, before others
+    /// wait.
+    pub(crate) fn write_ready<S: Sink>(&self, out: &mut S) -> Result<(), SinkFailed>
+        ensures cause { HasCause (S.faults out.old) (S.faults out.new) result }
+        ensures whole { OnOk result
+            (S.written out.new ≡ append_known (S.written out.old) self.now.line.bytes) }
+        ensures front { OnErr result
+            (AddsFront (S.written out.old) (S.written out.new) self.now.line.bytes) }
+    {
+        write_all(out, self.line.as_bytes())
+    }
+
+    /// Answers the commands to their end, or until reading, keeping or writing fails. No line is
+    /// written before the changes of all lines up to it are kept.
+    pub(crate) fn keep_lines<D, I: Inputs, S: Sink>(
         &mut self,
         alloc: Global,
         market: &mut TreeMarket,
         inputs: &mut I,
         out: &mut S,
-    ) -> Option<Status>
-        requires { GoesOn self.old.lines.last }
+        disk: &mut D,
+    ) -> Ending
+    where
+        J: Keeper<D>,
+        requires is_market { IsMarket market.old.market }
+        requires opening { market.old.standing ≡ opening }
+        requires unread { self.old.lines ≡ fresh }
+        requires none_waits { self.old.waiting.bytes ≡ [] }
+        requires ready { (n : ℕ) × (n + max_stream_lines + 1 < 2 ^ 40)
+            × J.is_ready self.old.keeper disk.old n }
+        ensures ended { (all : List ℕ) → I.commands inputs.old ≡ Some all →
+            IsEnded (shown result) market.old.market all (I.commands inputs.new)
+            (S.written out.old) (S.written out.new) }
+        ensures left { (all name bytes : List ℕ) (kept waiting : List (List ℕ)) →
+            I.commands inputs.old ≡ Some all →
+            J.holds self.old.keeper disk.old name bytes kept waiting →
+            IsLeft market.old.market all (S.written out.old) (S.written out.new) (length kept)
+            (λ n rs. J.leaves disk.new name bytes ((kept ++ waiting) ++ rs) n) }
+        ensures opened { I.market inputs.new ≡ I.market inputs.old }
+        ensures causes { HasEndCauses result (J.faults disk.old) (J.faults disk.new)
+            (I.faults inputs.old) (I.faults inputs.new) (S.faults out.old) (S.faults out.new) }
+        ensures not_usage { shown result ≢ Status.Usage }
+    {
+        loop {
+            if let Some(end) = self.take_turn(alloc, market, inputs, out, disk) {
+                return end;
+            }
+        }
+    }
+
+    /// Answers the next line, and keeps and writes what waits before it where more has to be read.
+    /// None where the run goes on; else how it ends.
+    fn take_turn<D, I: Inputs, S: Sink>(
+        &mut self,
+        alloc: Global,
+        market: &mut TreeMarket,
+        inputs: &mut I,
+        out: &mut S,
+        disk: &mut D,
+    ) -> Option<Ending>
+    where
+        J: Keeper<D>,
+        requires goes_on { GoesOn self.old.lines.last }
+        requires ready { (n : ℕ) × (n + 1 < 2 ^ 40) × J.is_ready self.old.keeper disk.old n }
         ensures market { market.new.market ≡ market.old.market }
         ensures goes_on { IfNone result (GoesOn self.new.lines.last) }
         ensures counts { IfNone result (self.new.lines.given ≡ self.old.lines.given + 1) }
         ensures within { IfNone result (self.new.lines.given ≤ max_stream_lines) }
+        ensures ready { (n : ℕ) → n + 1 < 2 ^ 40 → J.is_ready self.old.keeper disk.old n →
+            IfNone result (J.is_ready self.new.keeper disk.new (n + 1)) }
         ensures so_far { IfNone result ((all : List ℕ) (before : Option (List ℕ)) →
             IsSoFar market.old.market all self.old.lines (I.commands inputs.old)
             market.old.standing before (S.written out.old) self.old.waiting.bytes →
             IsSoFar market.old.market all self.new.lines (I.commands inputs.new)
             market.new.standing before (S.written out.new) self.new.waiting.bytes) }
-        ensures ended { IfSome result (λ status. (all : List ℕ) (before : Option (List ℕ)) →
+        ensures ended { IfSome result (λ end. (all : List ℕ) (before : Option (List ℕ)) →
             IsSoFar market.old.market all self.old.lines (I.commands inputs.old)
             market.old.standing before (S.written out.old) self.old.waiting.bytes →
-            IsEnded status market.old.market all (I.commands inputs.new) before
+            IsEnded (shown end) market.old.market all (I.commands inputs.new) before
             (S.written out.new)) }
+        ensures kept { (name bytes all : List ℕ) (before : Option (List ℕ))
+            (kept waiting : List (List ℕ)) →
+            IsHeldSoFar market.old.market all self.old.lines (I.commands inputs.old)
+            market.old.standing before (S.written out.old) self.old.waiting.bytes
+            (length kept) (λ n rs. Holds (J.holds self.old.keeper disk.old name bytes) n
+            ((kept ++ waiting) ++ rs)) →
+            MatchOption result
+            (IsHeldSoFar market.old.market all self.new.lines (I.commands inputs.new)
+            market.new.standing before (S.written out.new) self.new.waiting.bytes
+            (length kept) (λ n rs. Holds (J.holds self.new.keeper disk.new name bytes) n
+            ((kept ++ waiting) ++ rs)))
+            (λ end. IsLeft market.old.market all before (S.written out.new) (length kept)
+            (λ n rs. J.leaves disk.new name bytes ((kept ++ waiting) ++ rs) n)) }
         ensures opened { I.market inputs.new ≡ I.market inputs.old }
         ensures causes { MatchOption result
-            (CountsNone (I.faults inputs.old) (I.faults inputs.new)
-            (S.faults out.old) (S.faults out.new))
-            (λ status. HasCauses status (I.faults inputs.old) (I.faults inputs.new)
-            (S.faults out.old) (S.faults out.new)) }
-        ensures not_usage { IfSome result (λ status. status ≢ Status.Usage) }
+            (CountsNoFault (J.faults disk.old) (J.faults disk.new)
+            (I.faults inputs.old) (I.faults inputs.new) (S.faults out.old) (S.faults out.new))
+            (λ end. HasEndCauses end (J.faults disk.old) (J.faults disk.new)
+            (I.faults inputs.old) (I.faults inputs.new) (S.faults out.old) (S.faults out.new)) }
+        ensures not_usage { IfSome result (λ end. shown end ≢ Status.Usage) }
     {
-        match write_before_read(&self.lines, &mut self.waiting, out) {
-            Ok(()) => self.answer_next(alloc, market, inputs, out),
-            Err(SinkFailed) => Some(Status::WriteFault),
+        let told = write_before_read(&self.lines, &mut self.waiting, &mut self.keeper, out, disk);
+        match told {
+            Ok(()) => self.answer_next(alloc, market, inputs, out, disk),
+            Err(_) => end_after(told),
         }
     }
 
     /// Takes the next line of the stream and answers it. None where the run goes on; else how it
     /// ends.
-    fn answer_next<I: Inputs, S: Sink>(
+    fn answer_next<D, I: Inputs, S: Sink>(
         &mut self,
         alloc: Global,
         market: &mut TreeMarket,
         inputs: &mut I,
         out: &mut S,
-    ) -> Option<Status>
+        disk: &mut D,
+    ) -> Option<Ending>
+    where
+        J: Keeper<D>,
         requires goes_on { GoesOn self.old.lines.last }
-        requires ready { IsReady self.old.lines self.old.waiting.bytes }
+        requires none_waits { IsReady self.old.lines self.old.waiting.bytes }
+        requires ready { (n : ℕ) × (n + 1 < 2 ^ 40) × J.is_ready self.old.keeper disk.old n }
         ensures market { market.new.market ≡ market.old.market }
         ensures goes_on { IfNone result (GoesOn self.new.lines.last) }
         ensures counts { IfNone result (self.new.lines.given ≡ self.old.lines.given + 1) }
         ensures within { IfNone result (self.new.lines.given ≤ max_stream_lines) }
+        ensures ready { (n : ℕ) → n + 1 < 2 ^ 40 → J.is_ready self.old.keeper disk.old n →
+            IfNone result (J.is_ready self.new.keeper disk.new (n + 1)) }
         ensures so_far { IfNone result ((all : List ℕ) (before : Option (List ℕ)) →
             IsSoFar market.old.market all self.old.lines (I.commands inputs.old)
             market.old.standing before (S.written out.old) self.old.waiting.bytes →
             IsSoFar market.old.market all self.new.lines (I.commands inputs.new)
             market.new.standing before (S.written out.new) self.new.waiting.bytes) }
-        ensures ended { IfSome result (λ status. (all : List ℕ) (before : Option (List ℕ)) →
+        ensures ended { IfSome result (λ end. (all : List ℕ) (before : Option (List ℕ)) →
             IsSoFar market.old.market all self.old.lines (I.commands inputs.old)
             market.old.standing before (S.written out.old) self.old.waiting.bytes →
-            IsEnded status market.old.market all (I.commands inputs.new) before
+            IsEnded (shown end) market.old.market all (I.commands inputs.new) before
             (S.written out.new)) }
+        ensures kept { (name bytes all : List ℕ) (before : Option (List ℕ))
+            (kept waiting : List (List ℕ)) →
+            IsHeldSoFar market.old.market all self.old.lines (I.commands inputs.old)
+            market.old.standing before (S.written out.old) self.old.waiting.bytes
+            (length kept) (λ n rs. Holds (J.holds self.old.keeper disk.old name bytes) n
+            ((kept ++ waiting) ++ rs)) →
+            MatchOption result
+            (IsHeldSoFar market.old.market all self.new.lines (I.commands inputs.new)
+            market.new.standing before (S.written out.new) self.new.waiting.bytes
+            (length kept) (λ n rs. Holds (J.holds self.new.keeper disk.new name bytes) n
+            ((kept ++ waiting) ++ rs)))
+            (λ end. IsLeft market.old.market all before (S.written out.new) (length kept)
+            (λ n rs. J.leaves disk.new name bytes ((kept ++ waiting) ++ rs) n)) }
         ensures opened { I.market inputs.new ≡ I.market inputs.old }
         ensures causes { MatchOption result
-            (CountsNone (I.faults inputs.old) (I.faults inputs.new)
-            (S.faults out.old) (S.faults out.new))
-            (λ status. HasCauses status (I.faults inputs.old) (I.faults inputs.new)
-            (S.faults out.old) (S.faults out.new)) }
-        ensures not_usage { IfSome result (λ status. status ≢ Status.Usage) }
+            (CountsNoFault (J.faults disk.old) (J.faults disk.new)
+            (I.faults inputs.old) (I.faults inputs.new) (S.faults out.old) (S.faults out.new))
+            (λ end. HasEndCauses end (J.faults disk.old) (J.faults disk.new)
+            (I.faults inputs.old) (I.faults inputs.new) (S.faults out.old) (S.faults out.new)) }
+        ensures not_usage { IfSome result (λ end. shown end ≢ Status.Usage) }
     {
         match self.lines.next(inputs) {
-            Next::Line => end_after(self.answer_text(alloc, market, out)),
-            Next::Long => end_after(self.answer_long(out)),
-            Next::End => Some(Status::Done),
-            Next::ReadFault => Some(Status::ReadFault),
-            Next::TooMany => Some(Status::TooMany),
+            Next::Line => end_after(self.answer_text(alloc, market, out, disk)),
+            Next::Long => end_after(self.answer_long(out, disk)),
+            Next::End => Some(Ending::Told(Status::Done)),
+            Next::ReadFault => Some(Ending::Told(Status::ReadFault)),
+            Next::TooMany => Some(Ending::Told(Status::TooMany)),
         }
     }
 
     /// Answers a line that is not too long: a blank one has no answer.
-    fn answer_text<S: Sink>(
+    fn answer_text<D, S: Sink>(
         &mut self,
         alloc: Global,
         market: &mut TreeMarket,
         out: &mut S,
-    ) -> Result<(), SinkFailed>
+        disk: &mut D,
+    ) -> Result<(), TellFault>
+    where
+        J: Keeper<D>,
+        requires short { length self.old.lines.line ≤ max_line_bytes }
+        requires ready { (n : ℕ) × (n + 1 < 2 ^ 40) × J.is_ready self.old.keeper disk.old n }
         ensures market { market.new.market ≡ market.old.market }
         ensures lines { self.new.lines ≡ self.old.lines }
-        ensures cause { HasCause (S.faults out.old) (S.faults out.new) result }
+        ensures ready { (n : ℕ) → n + 1 < 2 ^ 40 → J.is_ready self.old.keeper disk.old n →
+            OnOk result (J.is_ready self.new.keeper disk.new (n + 1)) }
+        ensures cause { HasTellCause result (J.faults disk.old) (J.faults disk.new)
+            (S.faults out.old) (S.faults out.new) }
         ensures answered { OnOk result (AreGathered market.old.market market.old.standing
             (text self.old.lines.line ∷ []) market.new.standing
             (S.written out.old) (S.written out.new) self.old.waiting.bytes self.new.waiting.bytes) }
         ensures front { OnErr result
             (AddsFront (S.written out.old) (S.written out.new) self.old.waiting.bytes) }
+        ensures tells { (name bytes : List ℕ) (least : ℕ) (all : List (List ℕ)) →
+            Holds (J.holds self.old.keeper disk.old name bytes) least all →
+            SpeaksAndTells result market.old.market market.old.standing
+            (text self.old.lines.line ∷ []) market.new.standing (S.written out.old)
+            (S.written out.new) self.old.waiting.bytes self.new.waiting.bytes least all
+            (λ n all. Holds (J.holds self.new.keeper disk.new name bytes) n all)
+            (λ n all. J.leaves disk.new name bytes all n) }
     {
         if is_blank(self.lines.line()) {
             return Ok(());
         }
+        match self.make_answer(alloc, market, disk) {
+            Ok(()) => {
+                let line = self.line.as_str();
+                put_line(line, &mut self.waiting, &mut self.keeper, out, disk)
+            }
+            Err(DiskFailed) => Err(TellFault::Disk),
+        }
+    }
+
+    /// Prints the answer to a line that is neither too long nor blank, and takes the change that
+    /// the line made, if it made one.
+    fn make_answer<D>(
+        &mut self,
+        alloc: Global,
+        market: &mut TreeMarket,
+        disk: &mut D,
+    ) -> Result<(), DiskFailed>
+    where
+        J: Keeper<D>,
+        requires busy { list_all (λ b. b == 32) self.old.lines.line ≡ false }
+        requires short { length self.old.lines.line ≤ max_line_bytes }
+        requires ready { (n : ℕ) × (n < 2 ^ 40) × J.is_ready self.old.keeper disk.old n }
+        ensures market { market.new.market ≡ market.old.market }
+        ensures lines { self.new.lines ≡ self.old.lines }
+        ensures waiting { self.new.waiting ≡ self.old.waiting }
+        ensures ready { (n : ℕ) → n < 2 ^ 40 → J.is_ready self.old.keeper disk.old n →
+            OnOk result (J.is_ready self.new.keeper disk.new (n + 1)) }
+        ensures cause { HasDiskCause (J.faults disk.old) (J.faults disk.new) result }
+        ensures answered { IsSoundAt market.old.market market.old.standing →
+            AreAnswered market.old.market market.old.standing (text self.old.lines.line ∷ [])
+            market.new.standing self.new.line.bytes }
+        ensures spoken { (name bytes : List ℕ) (least : ℕ) (all : List (List ℕ)) →
+            Holds (J.holds self.old.keeper disk.old name bytes) least all →
+            AreSpoken market.old.market market.old.standing (text self.old.lines.line ∷ [])
+            market.new.standing (λ output records. (self.new.line.bytes ≡ output) ×
+            MatchResult result
+            (λ _. Holds (J.holds self.new.keeper disk.new name bytes) least (all ++ records))
+            (λ _. J.leaves disk.new name bytes (all ++ records) least)) }
+    {
+        let before = market.history().len();
         let words = &mut self.words;
         print_answer(alloc, market, self.lines.line(), words, &mut self.line);
-        put_line(self.line.as_str(), &mut self.waiting, out)
+        if self.keeper.keeps() {
+            if market.history().len() != before {
+                let line = self.lines.line();
+                let printed = self.line.as_str().as_bytes();
+                return take_change(line, printed, &mut self.room, &mut self.keeper, disk);
+            }
+        }
+        Ok(())
     }
 
     /// Answers a line that is too long, as any market does.
-    fn answer_long<S: Sink>(&mut self, out: &mut S) -> Result<(), SinkFailed>
+    fn answer_long<D, S: Sink>(&mut self, out: &mut S, disk: &mut D) -> Result<(), TellFault>
+    where
+        J: Keeper<D>,
+        requires { (n : ℕ) × (n < 2 ^ 40) × J.is_ready self.old.keeper disk.old n }
         ensures lines { self.new.lines ≡ self.old.lines }
-        ensures cause { HasCause (S.faults out.old) (S.faults out.new) result }
+        ensures ready { (n : ℕ) → n < 2 ^ 40 → J.is_ready self.old.keeper disk.old n →
+            OnOk result (J.is_ready self.new.keeper disk.new n) }
+        ensures cause { HasTellCause result (J.faults disk.old) (J.faults disk.new)
+            (S.faults out.old) (S.faults out.new) }
         ensures answered { (market : Market) (now : Standing) → OnOk result
             (AreGathered market now (long ∷ []) now (S.written out.old) (S.written out.new)
             self.old.waiting.bytes self.new.waiting.bytes) }
         ensures front { OnErr result
             (AddsFront (S.written out.old) (S.written out.new) self.old.waiting.bytes) }
+        ensures tells { (market : Market) (now : Standing) (name bytes : List ℕ) (least : ℕ)
+            (all : List (List ℕ)) → Holds (J.holds self.old.keeper disk.old name bytes) least all →
+            SpeaksAndTells result market now (long ∷ []) now (S.written out.old)
+            (S.written out.new) self.old.waiting.bytes self.new.waiting.bytes least all
+            (λ n all. Holds (J.holds self.new.keeper disk.new name bytes) n all)
+            (λ n all. J.leaves disk.new name bytes all n) }
     {
-        self.say(&Reply::Refused { why: Refusal::Long }, out)
+        self.say(&Reply::Refused { why: Refusal::Long }, out, disk)
     }
 
     /// Puts the line of a reply behind those that wait.
-    fn say<S: Sink>(&mut self, reply: &Reply, out: &mut S) -> Result<(), SinkFailed>
+    fn say<D, S: Sink>(&mut self, reply: &Reply, out: &mut S, disk: &mut D) -> Result<(), TellFault>
+    where
+        J: Keeper<D>,
+        requires { (n : ℕ) × (n < 2 ^ 40) × J.is_ready self.old.keeper disk.old n }
         ensures lines { self.new.lines ≡ self.old.lines }
-        ensures cause { HasCause (S.faults out.old) (S.faults out.new) result }
+        ensures ready { (n : ℕ) → n < 2 ^ 40 → J.is_ready self.old.keeper disk.old n →
+            OnOk result (J.is_ready self.new.keeper disk.new n) }
+        ensures cause { HasTellCause result (J.faults disk.old) (J.faults disk.new)
+            (S.faults out.old) (S.faults out.new) }
         ensures gathers { OnOk result (Gathers (S.written out.old) (S.written out.new)
             self.old.waiting.bytes (reply_line reply.now) self.new.waiting.bytes) }
         ensures front { OnErr result
             (AddsFront (S.written out.old) (S.written out.new) self.old.waiting.bytes) }
+        ensures tells { (name bytes : List ℕ) (least : ℕ) (all : List (List ℕ)) →
+            Holds (J.holds self.old.keeper disk.old name bytes) least all →
+            Tells result (S.written out.old) (S.written out.new) self.old.waiting.bytes
+            (reply_line reply.now) self.new.waiting.bytes least (length all)
+            (λ n. Holds (J.holds self.new.keeper disk.new name bytes) n all)
+            (λ n. J.leaves disk.new name bytes all n) }
     {
         print_reply_line(reply, &mut self.line);
-        put_line(self.line.as_str(), &mut self.waiting, out)
+        let line = self.line.as_str();
+        put_line(line, &mut self.waiting, &mut self.keeper, out, disk)
     }
 }
 
-/// The run goes on where a line was answered, and ends where its reply could not be written.
-fn end_after(said: Result<(), SinkFailed>) -> Option<Status>
-    ensures { MatchResult said (λ _. result ≡ None) (λ _. result ≡ Some Status.WriteFault) }
+/// The run goes on where a line was answered, and ends where its reply could not be told.
+fn end_after(told: Result<(), TellFault>) -> Option<Ending>
+    ensures { result ≡ ended_by told }
 {
-    match said {
+    match told {
         Ok(()) => None,
-        Err(SinkFailed) => Some(Status::WriteFault),
+        Err(TellFault::Disk) => Some(Ending::DiskFault),
+        Err(TellFault::Sink) => Some(Ending::Told(Status::WriteFault)),
     }
 }

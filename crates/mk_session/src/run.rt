@@ -22,6 +22,7 @@ use crate::market::{TreeMarket, open};
 use crate::print::{LineBuffer, print_fault_line};
 use mk_file::{FileFault, MarketFile, read_market};
 use mk_io::{InputFailed, Inputs, Sink, Status, write_all};
+use mk_journal::NoStore;
 use std::alloc::Global;
 use std::mem;
 
@@ -131,7 +132,7 @@ fn answer_file<I: Inputs, S: Sink>(
         (S.faults out.old) (S.faults out.new) }
     ensures not_usage { result ≢ Status.Usage }
 {
-    let mut conversation = Conversation::new();
+    let mut conversation = Conversation::new(NoStore);
     conversation.print_ready(&file);
     match open(alloc, file) {
         Ok(mut market) => {
@@ -148,7 +149,7 @@ fn answer_file<I: Inputs, S: Sink>(
 /// Writes the ready line of an opened market, which was printed last, and answers its commands.
 fn answer_opened<I: Inputs, S: Sink>(
     alloc: Global,
-    conversation: &mut Conversation,
+    conversation: &mut Conversation<NoStore>,
     market: &mut TreeMarket,
     inputs: &mut I,
     out: &mut S,

@@ -14,4 +14,4 @@ returns-else-size-remaining_capacity-clause-gathers g c = gathers_all c.write_wa
 pub returns-else-size-remaining_capacity-clause-room :
     goal.returns-else-size-remaining_capacity-clause-room
 returns-else-size-remaining_capacity-clause-room g c = room_of_none c.write_waiting.result _
-    c.args.size 32768 c.requires c.write_waiting.ensures.none
+    c.args.size 32768 c.requires.size c.write_waiting.ensures.none

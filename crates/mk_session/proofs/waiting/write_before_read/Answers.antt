@@ -9,6 +9,6 @@ pub returns-else-holds_line-clause-gathers : goal.returns-else-holds_line-clause
 returns-else-holds_line-clause-gathers g c = gathers_all c.write_waiting.result _ _ _ _
     c.write_waiting.ensures.whole c.write_waiting.ensures.none
 
-pub returns-else-holds_line-clause-ready : goal.returns-else-holds_line-clause-ready
-returns-else-holds_line-clause-ready g c = ready_of_none c.write_waiting.result c.args.lines.now _
-    c.write_waiting.ensures.none
+pub returns-else-holds_line-clause-none_waits : goal.returns-else-holds_line-clause-none_waits
+returns-else-holds_line-clause-none_waits g c = ready_of_none c.write_waiting.result
+    c.args.lines.now _ c.write_waiting.ensures.none

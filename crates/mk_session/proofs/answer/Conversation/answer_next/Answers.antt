@@ -1,10 +1,13 @@
-use Rattle.std.proofs.Common.{refl}
+use Rattle.std.proofs.Common.{◌++◌, length, refl}
 use Rattle.mk_io.specs.Stream.{text, long}
 use Rattle.mk_io.specs.declared.lines.Next.TheVariants.{Line, Long, End, ReadFault, TooMany}
 use Rattle.mk_session.proofs.Endings.{ended_done, ended_read_fault, ended_too_many, goes_on_after}
 use Rattle.mk_session.proofs.Endings.{breaks_after, causes_after, fresh_answer, none_stays}
 use Rattle.mk_session.proofs.Endings.{stays_at_end, none_left, steady, risen}
 use Rattle.mk_session.proofs.Gathering.{none_waits}
+use Rattle.mk_journal.specs.Keepers.{Holds}
+use Rattle.mk_session.proofs.Spoken.{left_as_held}
+use Rattle.mk_session.proofs.Turns.{kept_after, kept_now, fewer_kept}
 use Rattle.mk_session.proofs.answer.Conversation.answer_next.Goals as goal
 
 pub returns-in-Line-clause-so_far : goal.returns-in-Line-clause-so_far
@@ -41,7 +44,8 @@ returns-in-Line-clause-ended g c =
 
 pub returns-in-Line-clause-causes : goal.returns-in-Line-clause-causes
 returns-in-Line-clause-causes g c =
-    causes_after c.answer_text.result c.end_after.result (g.I.Inputs.faults c.args.inputs.now)
+    causes_after c.answer_text.result c.end_after.result (g.J.Keeper.faults c.args.disk.now)
+    (g.J.Keeper.faults c.answer_text.new.disk) (g.I.Inputs.faults c.args.inputs.now)
     (g.I.Inputs.faults c.next.new.inputs)
     (g.S.Sink.faults c.args.out.now) (g.S.Sink.faults c.answer_text.new.out) c.end_after.ensures
     (steady Line c.args.self.now.lines (g.I.Inputs.faults c.args.inputs.now)
@@ -84,6 +88,7 @@ returns-in-Long-clause-ended g c =
 pub returns-in-Long-clause-causes : goal.returns-in-Long-clause-causes
 returns-in-Long-clause-causes g c =
     causes_after c.answer_long.result c.end_after-in-Long.result
+    (g.J.Keeper.faults c.args.disk.now) (g.J.Keeper.faults c.answer_long.new.disk)
     (g.I.Inputs.faults c.args.inputs.now) (g.I.Inputs.faults c.next.new.inputs)
     (g.S.Sink.faults c.args.out.now) (g.S.Sink.faults c.answer_long.new.out)
     c.end_after-in-Long.ensures
@@ -103,14 +108,17 @@ returns-in-End-clause-ended g c = λ all before far.
     (g.I.Inputs.commands c.args.inputs.now) (g.I.Inputs.commands c.next.new.inputs)
     c.args.market.now.standing before (g.S.Sink.written c.args.out.now)
     (g.S.Sink.written c.args.out.now) c.args.self.now.waiting.bytes
-    (none_waits c.args.self.now.lines c.args.self.now.waiting.bytes c.requires.ready
+    (none_waits c.args.self.now.lines c.args.self.now.waiting.bytes c.requires.none_waits
     c.in-End.ensures.held) far empty stays refl
 
 pub returns-in-End-clause-causes : goal.returns-in-End-clause-causes
 returns-in-End-clause-causes g c = (
-  steady End c.args.self.now.lines (g.I.Inputs.faults c.args.inputs.now)
-      (g.I.Inputs.faults c.next.new.inputs) (λ e. (cc)) c.in-End.ensures.cause,
   refl,
+  (
+    steady End c.args.self.now.lines (g.I.Inputs.faults c.args.inputs.now)
+        (g.I.Inputs.faults c.next.new.inputs) (λ e. (cc)) c.in-End.ensures.cause,
+    refl,
+  ),
 )
 
 pub returns-in-TooMany-clause-ended : goal.returns-in-TooMany-clause-ended
@@ -126,14 +134,17 @@ returns-in-TooMany-clause-ended g c =
     (g.I.Inputs.commands c.next.new.inputs)
     c.args.market.now.standing before (g.S.Sink.written c.args.out.now)
     (g.S.Sink.written c.args.out.now) c.args.self.now.waiting.bytes
-    (none_waits c.args.self.now.lines c.args.self.now.waiting.bytes c.requires.ready
+    (none_waits c.args.self.now.lines c.args.self.now.waiting.bytes c.requires.none_waits
     c.in-TooMany.ensures.held) far none over refl
 
 pub returns-in-TooMany-clause-causes : goal.returns-in-TooMany-clause-causes
 returns-in-TooMany-clause-causes g c = (
-  steady TooMany c.args.self.now.lines (g.I.Inputs.faults c.args.inputs.now)
-      (g.I.Inputs.faults c.next.new.inputs) (λ e. (cc)) c.in-TooMany.ensures.cause,
   refl,
+  (
+    steady TooMany c.args.self.now.lines (g.I.Inputs.faults c.args.inputs.now)
+        (g.I.Inputs.faults c.next.new.inputs) (λ e. (cc)) c.in-TooMany.ensures.cause,
+    refl,
+  ),
 )
 
 pub returns-in-ReadFault-clause-ended : goal.returns-in-ReadFault-clause-ended
@@ -149,7 +160,7 @@ returns-in-ReadFault-clause-ended g c =
     (g.I.Inputs.commands c.next.new.inputs)
     c.args.market.now.standing before (g.S.Sink.written c.args.out.now)
     (g.S.Sink.written c.args.out.now) c.args.self.now.waiting.bytes
-    (none_waits c.args.self.now.lines c.args.self.now.waiting.bytes c.requires.ready
+    (none_waits c.args.self.now.lines c.args.self.now.waiting.bytes c.requires.none_waits
     c.in-ReadFault.ensures.held) far none stops refl
 
 pub returns-in-ReadFault-clause-causes : goal.returns-in-ReadFault-clause-causes
@@ -157,7 +168,97 @@ returns-in-ReadFault-clause-causes g c =
     let none = none_stays ReadFault c.args.self.now.lines c.next.new.self
     (g.I.Inputs.commands c.args.inputs.now) (g.I.Inputs.commands c.next.new.inputs) (λ e. (cc))
     c.requires.goes_on c.in-ReadFault.ensures.answer in (
-      risen c.args.self.now.lines (g.I.Inputs.faults c.args.inputs.now)
-          (g.I.Inputs.faults c.next.new.inputs) none c.in-ReadFault.ensures.cause,
       refl,
+      (
+        risen c.args.self.now.lines (g.I.Inputs.faults c.args.inputs.now)
+            (g.I.Inputs.faults c.next.new.inputs) none c.in-ReadFault.ensures.cause,
+        refl,
+      ),
     )
+
+pub returns-in-Line-clause-kept : goal.returns-in-Line-clause-kept
+returns-in-Line-clause-kept g c = λ name bytes all before kept waiting far.
+    let none = none_stays Line c.args.self.now.lines c.next.new.self
+    (g.I.Inputs.commands c.args.inputs.now) (g.I.Inputs.commands c.next.new.inputs) (λ e. (cc))
+    c.requires.goes_on c.in-Line.ensures.answer in
+    let gives = fresh_answer Line c.args.self.now.lines c.next.new.self
+    (g.I.Inputs.commands c.args.inputs.now) (g.I.Inputs.commands c.next.new.inputs) none
+    c.in-Line.ensures.answer in
+    kept_after c.answer_text.result c.end_after.result c.args.market.now.market
+    (text c.next.new.self.line) c.args.self.now.lines c.next.new.self
+    c.answer_text.new.self.lines all
+    (g.I.Inputs.commands c.args.inputs.now) (g.I.Inputs.commands c.next.new.inputs) before
+    (g.S.Sink.written c.args.out.now) (g.S.Sink.written c.answer_text.new.out)
+    c.args.market.now.standing c.answer_text.new.market.standing
+    c.args.self.now.waiting.bytes c.answer_text.new.self.waiting.bytes (length kept)
+    (kept ++ waiting)
+    c.end_after.ensures c.answer_text.ensures.lines none c.next.ensures.within gives
+    (fewer_kept kept waiting)
+    (λ n all. Holds (g.J.Keeper.holds c.args.self.now.keeper c.args.disk.now name bytes) n all)
+    (λ n all. Holds (g.J.Keeper.holds c.answer_text.new.self.keeper c.answer_text.new.disk name
+    bytes) n all)
+    (λ n all. g.J.Keeper.leaves c.answer_text.new.disk name bytes all n)
+    (c.answer_text.ensures.tells name bytes) far
+
+pub returns-in-Long-clause-kept : goal.returns-in-Long-clause-kept
+returns-in-Long-clause-kept g c = λ name bytes all before kept waiting far.
+    let none = none_stays Long c.args.self.now.lines c.next.new.self
+    (g.I.Inputs.commands c.args.inputs.now) (g.I.Inputs.commands c.next.new.inputs) (λ e. (cc))
+    c.requires.goes_on c.in-Long.ensures.answer in
+    let gives = fresh_answer Long c.args.self.now.lines c.next.new.self
+    (g.I.Inputs.commands c.args.inputs.now) (g.I.Inputs.commands c.next.new.inputs) none
+    c.in-Long.ensures.answer in
+    kept_after c.answer_long.result c.end_after-in-Long.result c.args.market.now.market
+    long c.args.self.now.lines c.next.new.self
+    c.answer_long.new.self.lines all
+    (g.I.Inputs.commands c.args.inputs.now) (g.I.Inputs.commands c.next.new.inputs) before
+    (g.S.Sink.written c.args.out.now) (g.S.Sink.written c.answer_long.new.out)
+    c.args.market.now.standing c.args.market.now.standing
+    c.args.self.now.waiting.bytes c.answer_long.new.self.waiting.bytes (length kept)
+    (kept ++ waiting)
+    c.end_after-in-Long.ensures c.answer_long.ensures.lines none c.next.ensures.within gives.0
+    (fewer_kept kept waiting)
+    (λ n all. Holds (g.J.Keeper.holds c.args.self.now.keeper c.args.disk.now name bytes) n all)
+    (λ n all. Holds (g.J.Keeper.holds c.answer_long.new.self.keeper c.answer_long.new.disk name
+    bytes) n all)
+    (λ n all. g.J.Keeper.leaves c.answer_long.new.disk name bytes all n)
+    (c.answer_long.ensures.tells c.args.market.now.market c.args.market.now.standing name bytes) far
+
+pub returns-in-End-clause-kept : goal.returns-in-End-clause-kept
+returns-in-End-clause-kept g c = λ name bytes all before kept waiting far.
+    kept_now c.args.market.now.market c.args.self.now.lines all
+    (g.I.Inputs.commands c.args.inputs.now) before (g.S.Sink.written c.args.out.now)
+    c.args.market.now.standing c.args.self.now.waiting.bytes (length kept)
+    (kept ++ waiting)
+    (λ n all. Holds (g.J.Keeper.holds c.args.self.now.keeper c.args.disk.now name bytes) n all)
+    (λ n all. g.J.Keeper.leaves c.args.disk.now name bytes all n)
+    (λ n all held. left_as_held (g.J.Keeper.holds c.args.self.now.keeper c.args.disk.now name bytes)
+    (g.J.Keeper.leaves c.args.disk.now name bytes)
+    (g.met.J.Keeper.fewer_are_left c.args.disk.now name bytes)
+    (g.met.J.Keeper.held_is_left c.args.self.now.keeper c.args.disk.now name bytes) n all held) far
+
+pub returns-in-TooMany-clause-kept : goal.returns-in-TooMany-clause-kept
+returns-in-TooMany-clause-kept g c = λ name bytes all before kept waiting far.
+    kept_now c.args.market.now.market c.args.self.now.lines all
+    (g.I.Inputs.commands c.args.inputs.now) before (g.S.Sink.written c.args.out.now)
+    c.args.market.now.standing c.args.self.now.waiting.bytes (length kept)
+    (kept ++ waiting)
+    (λ n all. Holds (g.J.Keeper.holds c.args.self.now.keeper c.args.disk.now name bytes) n all)
+    (λ n all. g.J.Keeper.leaves c.args.disk.now name bytes all n)
+    (λ n all held. left_as_held (g.J.Keeper.holds c.args.self.now.keeper c.args.disk.now name bytes)
+    (g.J.Keeper.leaves c.args.disk.now name bytes)
+    (g.met.J.Keeper.fewer_are_left c.args.disk.now name bytes)
+    (g.met.J.Keeper.held_is_left c.args.self.now.keeper c.args.disk.now name bytes) n all held) far
+
+pub returns-in-ReadFault-clause-kept : goal.returns-in-ReadFault-clause-kept
+returns-in-ReadFault-clause-kept g c = λ name bytes all before kept waiting far.
+    kept_now c.args.market.now.market c.args.self.now.lines all
+    (g.I.Inputs.commands c.args.inputs.now) before (g.S.Sink.written c.args.out.now)
+    c.args.market.now.standing c.args.self.now.waiting.bytes (length kept)
+    (kept ++ waiting)
+    (λ n all. Holds (g.J.Keeper.holds c.args.self.now.keeper c.args.disk.now name bytes) n all)
+    (λ n all. g.J.Keeper.leaves c.args.disk.now name bytes all n)
+    (λ n all held. left_as_held (g.J.Keeper.holds c.args.self.now.keeper c.args.disk.now name bytes)
+    (g.J.Keeper.leaves c.args.disk.now name bytes)
+    (g.met.J.Keeper.fewer_are_left c.args.disk.now name bytes)
+    (g.met.J.Keeper.held_is_left c.args.self.now.keeper c.args.disk.now name bytes) n all held) far

@@ -1,4 +1,10 @@
 use Rattle.std.proofs.Common.{◌≡◌, ◌==◌, ℕ, List, [], ◌∷◌, true, refl, sym, ap, subst, ◌∙◌}
+use Rattle.std.proofs.Common.{inl, OnOk}
+use Rattle.std.proofs.lemmas.List.{append-nil}
+use Rattle.arrayvec.specs.ArrayString.{ArrayString}
+use Rattle.mk_journal.specs.Keepers.{Holds}
+use Rattle.mk_session.specs.inner.Progress.{Gathers}
+use Rattle.mk_session.proofs.Spoken.{blank_spoken, text_tells, untaken}
 use Rattle.std.specs.List.{list_all}
 use Rattle.mk_io.specs.Stream.{text}
 use Rattle.mk_session.specs.Transcript.{AreAnswered}
@@ -18,14 +24,56 @@ returns-then-is_blank-clause-answered g c =
       gathers = gathers_none (g.S.Sink.written c.args.out.now) c.args.self.now.waiting.bytes;
     }
 
-pub returns-clause-answered : goal.returns-clause-answered
-returns-clause-answered g c =
+pub returns-in-Ok-clause-answered : goal.returns-in-Ok-clause-answered
+returns-in-Ok-clause-answered g c =
     let m = c.args.market.now in
     let line = c.args.self.now.lines.line in
     gathered_when_said c.put_line.result m.market m.standing (text line ∷ [])
-    c.print_answer.new.market.standing c.as_str.result.now _ _ _ _
+    c.make_answer.new.market.standing c.as_str-line.result.now _ _ _ _
     (λ sound. subst (AreAnswered m.market m.standing (text line ∷ [])
-    c.print_answer.new.market.standing) (sym c.as_str.ensures.value)
-    (subst (λ (l : List ℕ). AreAnswered m.market m.standing (text l ∷ [])
-    c.print_answer.new.market.standing c.print_answer.new.print.bytes) c.line-2.ensures
-    (c.print_answer.ensures.answered sound))) c.put_line.ensures.gathers
+    c.make_answer.new.market.standing) (sym c.as_str-line.ensures.value)
+    (c.in-Ok.ensures.answered sound))
+    (subst (λ (w : ArrayString). OnOk c.put_line.result (Gathers (g.S.Sink.written c.args.out.now)
+    (g.S.Sink.written c.put_line.new.out) w.bytes c.as_str-line.result.now
+    c.put_line.new.waiting.bytes)) c.in-Ok.ensures.waiting c.put_line.ensures.gathers)
+
+pub returns-then-is_blank-clause-tells : goal.returns-then-is_blank-clause-tells
+returns-then-is_blank-clause-tells g c = λ name bytes least all held.
+    let m = c.args.market.now in
+    let line = c.args.self.now.lines.line in
+    let blank : list_all (λ b. b == 32) line ≡ true = ap (λ (l : List ℕ). list_all (λ b. b == 32) l)
+    (sym c.line.ensures) ∙ sym c.is_blank.ensures ∙ c.if-is_blank.true in
+    blank_spoken m.market m.standing (text line) (rw blank refl) _
+    (inl (
+      refl,
+      sym (append-nil c.args.self.now.waiting.bytes),
+      subst (λ (l : List (List ℕ)). Holds (g.J.Keeper.holds c.args.self.now.keeper c.args.disk.now
+          name bytes) least l) (sym (append-nil all)) held,
+    ))
+
+pub returns-in-Ok-clause-tells : goal.returns-in-Ok-clause-tells
+returns-in-Ok-clause-tells g c = λ name bytes least all held.
+    text_tells c.put_line.result c.args.market.now.market (g.S.Sink.written c.args.out.now)
+    (g.S.Sink.written c.put_line.new.out) c.args.self.now.waiting.bytes
+    c.put_line.new.waiting.bytes least all
+    (λ n all. Holds (g.J.Keeper.holds c.put_line.new.keeper c.put_line.new.disk name bytes) n all)
+    (λ n all. g.J.Keeper.leaves c.put_line.new.disk name bytes all n)
+    c.args.market.now.standing c.make_answer.new.market.standing
+    (text c.args.self.now.lines.line ∷ []) c.make_answer.new.self.line.bytes
+    c.as_str-line.result.now c.make_answer.new.self.waiting.bytes
+    (λ all. Holds (g.J.Keeper.holds c.make_answer.new.self.keeper c.make_answer.new.disk name bytes)
+    least all) c.as_str-line.ensures.value
+    (ap (λ (w : ArrayString). w.bytes) c.in-Ok.ensures.waiting)
+    (λ all is. c.put_line.ensures.tells name bytes least all is)
+    (c.in-Ok.ensures.spoken name bytes least all held)
+
+pub returns-in-Err-clause-tells : goal.returns-in-Err-clause-tells
+returns-in-Err-clause-tells g c = λ name bytes least all held.
+    untaken c.args.market.now.market c.args.market.now.standing
+    c.make_answer.new.market.standing (text c.args.self.now.lines.line ∷ [])
+    (g.S.Sink.written c.args.out.now) c.args.self.now.waiting.bytes
+    c.make_answer.new.self.waiting.bytes c.make_answer.new.self.line.bytes least all
+    (λ n all. Holds (g.J.Keeper.holds c.make_answer.new.self.keeper c.make_answer.new.disk name
+    bytes) n all)
+    (λ n all. g.J.Keeper.leaves c.make_answer.new.disk name bytes all n)
+    (c.in-Err.ensures.spoken name bytes least all held)

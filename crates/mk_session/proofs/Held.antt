@@ -1,0 +1,240 @@
+-- What an answered line leaves of the changes that are held, and what a crash leaves of them.
+use Rattle.std.proofs.Common.{◌≡◌, ℕ, ◌+◌, ◌≤◌, List, ◌++◌, length, filter}
+use Rattle.std.proofs.Common.{Option, Result, Ok, Err, OnOk, OnErr}
+use Rattle.std.proofs.Common.{inl, inr, refl, sym, ap, subst, ◌∙◌, arith, append_assoc}
+use Rattle.std.proofs.Common.{length-append}
+use Rattle.std.specs.List.{flat_map, AllZip}
+use Rattle.std.proofs.lemmas.List.{length-map, map-append}
+use Rattle.std.proofs.lemmas.List.Elements.{filter-append}
+use Rattle.std.proofs.lemmas.Grind.{flat_map-append}
+use Rattle.mk_io.specs.Outside.{append_known, AddsFront}
+use Rattle.mk_io.specs.Stream.{StreamLine, stream_lines, is_not_blank}
+use Rattle.mk_io.specs.Cutting.{Cutting}
+use Rattle.mk_io.proofs.Told.{append_known_twice}
+use Rattle.mk_exact.specs.Market.{Market}
+use Rattle.mk_reply.specs.declared.reply.Reply.{Reply}
+use Rattle.mk_rules.specs.Transcript.{Standing, opening, Line, Run}
+use Rattle.mk_restore.specs.Restoring.{changes_of}
+use Rattle.mk_session.specs.declared.waiting.TellFault.{TellFault}
+use Rattle.mk_session.specs.declared.waiting.TellFault.TheVariants.{Disk, Sink}
+use Rattle.mk_session.specs.Texts.{reply_line}
+use Rattle.mk_session.specs.Transcript.{Asks}
+use Rattle.mk_session.specs.Outcome.{IsFrontOf}
+use Rattle.mk_session.specs.inner.Progress.{IsPlaced}
+use Rattle.mk_session.specs.inner.Keeping.{record_of, records_of, AreSpoken}
+use Rattle.mk_session.specs.inner.Keeping.{SpeaksAndTells, AreTold, AreHeld, AreLeft}
+use Rattle.mk_session.specs.inner.Keeping.{IsLeft}
+use Rattle.mk_session.proofs.Answering.{asks_behind, run_behind, sound_so_far}
+use Rattle.mk_session.proofs.Endings.{whole_or_none}
+use Rattle.mk_session.proofs.Keeping.{same_number, changes_behind, told_more, all_told}
+use Rattle.mk_session.proofs.Keeping.{told_in_front}
+
+module _ (market : Market) (lines more : List StreamLine) (now then : Standing)
+    (before written after : Option (List ℕ)) (waited waits : List ℕ) (first : ℕ)
+    (old : List (List ℕ)) (few : first ≤ length old)
+    (holds holds' leaves : ℕ → List (List ℕ) → Type 0)
+    (far : AreHeld market lines now before written waited first (λ n rs. holds n (old ++ rs))) where
+  abbrev records : List (List ℕ)
+  records = records_of (changes_of market opening far.asked far.replies)
+
+  module _ (P : List ℕ → List (List ℕ) → Type 0)
+      (said : AreSpoken market now more then P) where
+    abbrev asked : List Line
+    asked = far.asked ++ said.asked
+
+    abbrev replies : List Reply
+    replies = far.replies ++ said.replies
+
+    abbrev others : List (List ℕ)
+    others = records_of (changes_of market now said.asked said.replies)
+
+    run : Run market opening asked replies then
+    run = run_behind market far.asked said.asked far.replies said.replies opening now then far.run
+        (said.run (sound_so_far market far.is_market lines now far.replies
+        (record { asked = far.asked; asks = far.asks; run = far.run })))
+
+    asks : AllZip Asks (filter is_not_blank (lines ++ more)) asked
+    asks = subst (λ (qs : List StreamLine). AllZip Asks qs asked)
+        (sym (filter-append is_not_blank lines more))
+        (asks_behind (filter is_not_blank lines) (filter is_not_blank more) far.asked said.asked
+        far.asks said.asks)
+
+    all_records : old ++ records_of (changes_of market opening asked replies)
+        ≡ (old ++ records) ++ others
+    all_records =
+        ap (λ (rs : List (List ℕ)). old ++ rs)
+        (ap records_of (changes_behind market opening now far.asked said.asked far.replies
+        said.replies far.run)
+        ∙ map-append record_of (changes_of market opening far.asked far.replies)
+        (changes_of market now said.asked said.replies))
+        ∙ sym (append_assoc old records others)
+
+    all_count : first + length (changes_of market opening asked replies)
+        ≤ length ((old ++ records) ++ others)
+    all_count =
+        omega (
+          arith,
+          few,
+          ap (λ (rs : List (List ℕ)). length rs) all_records,
+          length-append old (records_of (changes_of market opening asked replies)),
+          length-map (changes_of market opening asked replies) record_of,
+        )
+
+    not_yet : AreTold market asked replies (λ text. length text ≤ length far.bytes) first far.least
+    not_yet = told_more market far.asked said.asked far.replies said.replies far.bytes waited first
+        far.least (same_number market opening now far.asked far.replies far.run) far.printed
+        far.told
+
+    abbrev output : List ℕ
+    output = flat_map reply_line said.replies
+
+    all_printed : (far.bytes ++ waited) ++ output ≡ flat_map reply_line replies
+    all_printed = ap (λ (text : List ℕ). text ++ output) far.printed
+        ∙ sym (flat_map-append reply_line far.replies said.replies)
+
+    held_stays : after ≡ written → waits ≡ waited ++ output
+        → holds' far.least ((old ++ records) ++ others)
+        → AreHeld market (lines ++ more) then before after waits first
+        (λ n rs. holds' n (old ++ rs))
+    held_stays still wait held = record {
+      is_market = far.is_market;
+      bytes = far.bytes;
+      added = still ∙ far.added;
+      asked = asked;
+      replies = replies;
+      asks = asks;
+      run = run;
+      printed = ap (λ (text : List ℕ). far.bytes ++ text) wait
+          ∙ sym (append_assoc far.bytes waited output) ∙ all_printed;
+      least = far.least;
+      told = not_yet;
+      held = subst (λ (rs : List (List ℕ)). holds' far.least rs) (sym all_records) held;
+    }
+
+    held_goes : after ≡ append_known written waited → waits ≡ output
+        → holds' (length ((old ++ records) ++ others)) ((old ++ records) ++ others)
+        → AreHeld market (lines ++ more) then before after waits first
+        (λ n rs. holds' n (old ++ rs))
+    held_goes gone wait held = record {
+      is_market = far.is_market;
+      bytes = far.bytes ++ waited;
+      added = gone ∙ ap (λ (w : Option (List ℕ)). append_known w waited) far.added
+          ∙ append_known_twice before far.bytes waited;
+      asked = asked;
+      replies = replies;
+      asks = asks;
+      run = run;
+      printed = ap (λ (text : List ℕ). (far.bytes ++ waited) ++ text) wait ∙ all_printed;
+      least = length ((old ++ records) ++ others);
+      told = all_told market asked replies
+          (λ text. length text ≤ length (far.bytes ++ waited)) first
+          (length ((old ++ records) ++ others)) all_count;
+      held = subst (λ (rs : List (List ℕ)). holds' (length ((old ++ records) ++ others)) rs)
+          (sym all_records) held;
+    }
+
+    left_before : after ≡ written → leaves far.least ((old ++ records) ++ others)
+        → AreLeft market (lines ++ more) before after first (λ n rs. leaves n (old ++ rs))
+    left_before still left = record {
+      bytes = far.bytes;
+      added = still ∙ far.added;
+      now = then;
+      asked = asked;
+      replies = replies;
+      asks = asks;
+      run = run;
+      least = far.least;
+      told = told_in_front market asked replies far.bytes first far.least not_yet;
+      left = subst (λ (rs : List (List ℕ)). leaves far.least rs) (sym all_records) left;
+    }
+
+    left_behind : AddsFront written after waited
+        → leaves (length ((old ++ records) ++ others)) ((old ++ records) ++ others)
+        → AreLeft market (lines ++ more) before after first (λ n rs. leaves n (old ++ rs))
+    left_behind cut left = record {
+      bytes = far.bytes ++ cut.front;
+      added = cut.added ∙ ap (λ (w : Option (List ℕ)). append_known w cut.front) far.added
+          ∙ append_known_twice before far.bytes cut.front;
+      now = then;
+      asked = asked;
+      replies = replies;
+      asks = asks;
+      run = run;
+      least = length ((old ++ records) ++ others);
+      told = all_told market asked replies (IsFrontOf (far.bytes ++ cut.front)) first
+          (length ((old ++ records) ++ others)) all_count;
+      left = subst (λ (rs : List (List ℕ)). leaves (length ((old ++ records) ++ others)) rs)
+          (sym all_records) left;
+    }
+
+  -- the lines more are answered, and told of or wait
+  pub held_more : {T : Type 0} (said : Result T TellFault)
+      → SpeaksAndTells said market now more then written after waited waits far.least
+      (old ++ records) holds' leaves
+      → OnOk said (AreHeld market (lines ++ more) then before after waits first
+      (λ n rs. holds' n (old ++ rs)))
+  held_more (Ok v) spoken =
+      elim spoken.holds [
+        | inl stays ↦ held_stays _ spoken stays.0 stays.1 stays.2
+        | inr goes ↦ held_goes _ spoken goes.0 goes.1 goes.2
+      ]
+  held_more (Err fault) spoken = tt
+
+  -- telling of them failed
+  pub left_more : {T : Type 0} (said : Result T TellFault)
+      → SpeaksAndTells said market now more then written after waited waits far.least
+      (old ++ records) holds' leaves
+      → OnErr said (AreLeft market (lines ++ more) before after first
+      (λ n rs. leaves n (old ++ rs)))
+  left_more (Ok v) spoken = tt
+  left_more (Err Disk) spoken = left_before _ spoken spoken.holds.0 spoken.holds.1
+  left_more (Err Sink) spoken = left_behind _ spoken spoken.holds.0 spoken.holds.1
+
+-- what is held between two lines, a crash leaves
+pub left_now : (market : Market) (lines : List StreamLine) (now : Standing)
+    (before written : Option (List ℕ)) (waits : List ℕ) (first : ℕ)
+    (holds leaves : ℕ → List (List ℕ) → Type 0)
+    → ((n : ℕ) (rs : List (List ℕ)) → holds n rs → leaves n rs)
+    → AreHeld market lines now before written waits first holds
+    → AreLeft market lines before written first leaves
+left_now market lines now before written waits first holds leaves leave far = record {
+  bytes = far.bytes;
+  added = far.added;
+  now = now;
+  asked = far.asked;
+  replies = far.replies;
+  asks = far.asks;
+  run = far.run;
+  least = far.least;
+  told = told_in_front market far.asked far.replies far.bytes first far.least far.told;
+  left = leave far.least (records_of (changes_of market opening far.asked far.replies)) far.held;
+}
+
+-- at a place, one fact for another
+pub placed_same : (all : List ℕ) (cutting : Cutting) (source : Option (List ℕ))
+    (P Q : List StreamLine → Type 0) → ((lines : List StreamLine) → P lines → Q lines)
+    → IsPlaced all cutting source P → IsPlaced all cutting source Q
+placed_same all cutting source P Q step far = record {
+  done = far.done;
+  left = far.left;
+  bytes = far.bytes;
+  known = far.known;
+  between = far.between;
+  answers = step (stream_lines far.done) far.answers;
+  given = far.given;
+  spent = far.spent;
+  within = far.within;
+}
+
+pub left_of_placed : (market : Market) (all : List ℕ) (cutting : Cutting)
+    (source before written : Option (List ℕ)) (first : ℕ)
+    (leaves : ℕ → List (List ℕ) → Type 0)
+    → IsPlaced all cutting source (λ lines. AreLeft market lines before written first leaves)
+    → IsLeft market all before written first leaves
+left_of_placed market all cutting source before written first leaves far = record {
+  done = far.done;
+  rest = far.left;
+  bytes = far.bytes;
+  lines = whole_or_none cutting.last far.done far.left far.left refl far.between;
+  left = far.answers;
+}
