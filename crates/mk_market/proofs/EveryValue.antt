@@ -1,6 +1,6 @@
 -- What a market tells of every value of a variable, and of itself.
-use Rattle.std.specs.Prelude.{◌≡◌, ℕ, ◌+◌, ◌<◌, ◌≤◌, List, [], ◌∷◌, ◌++◌, length, map, Bool, true}
-use Rattle.std.specs.Prelude.{false, not, Option, Some, None, option_map, slice_get, IsSomeAnd}
+use Rattle.std.specs.Prelude.{◌≡◌, ℕ, ◌+◌, List, [], ◌∷◌, map, Bool, true}
+use Rattle.std.specs.Prelude.{false, Option, Some, None, option_map, slice_get, IsSomeAnd}
 use Rattle.std.specs.List.{count_by, range_with_len}
 use Rattle.std.proofs.Common.{zero, suc, cond, refl, sym, ap, ◌∙◌, subst, arith}
 use Rattle.std.proofs.lemmas.List.Sums.{sum_by-cons}
@@ -10,7 +10,6 @@ use Rattle.mk_net.specs.Firsts.{first_of}
 use Rattle.mk_net.specs.Network.{Variable}
 use Rattle.mk_exact.specs.Events.{holds}
 use Rattle.mk_exact.specs.History.{Entry}
-use Rattle.mk_exact.specs.States.{numbers_below}
 use Rattle.mk_exact.specs.Sound.{IsSound}
 use Rattle.mk_exact.specs.Weight.{cannot_come}
 use Rattle.mk_spread.specs.Spreads.{SpreadAsked}
@@ -26,13 +25,11 @@ use Rattle.mk_answers.proofs.Homes.{condition_is_held}
 use Rattle.mk_market.specs.inner.Stopped.{CanRefuseCondition}
 use Rattle.mk_file.specs.declared.market_file.MarketFile.{MarketFile}
 use Rattle.mk_file.specs.MarketOf.{market_of}
-use Rattle.mk_command.specs.declared.command.Command.{Command}
 use Rattle.mk_command.specs.declared.command.Command.TheVariants.{Prices, Position}
 use Rattle.mk_reply.specs.declared.refusal.Refusal.{Refusal}
-use Rattle.mk_reply.specs.declared.reply.Reply.{Reply}
 use Rattle.mk_reply.specs.declared.reply.Reply.TheVariants.{Refused, Prices as Told}
 use Rattle.mk_reply.specs.declared.reply.Reply.TheVariants.{Position as Sure}
-use Rattle.mk_rules.specs.Refusals.{spread_named, unknown, user_number, is_resolved}
+use Rattle.mk_rules.specs.Refusals.{spread_named, unknown, user_number}
 use Rattle.mk_rules.specs.Refusals.{refusals_by_record, impossible_together}
 use Rattle.mk_rules.specs.Told.{ArePrices, IsPosition}
 use Rattle.mk_rules.specs.Transcript.{Standing, OfCommand, IsAllowedFor}

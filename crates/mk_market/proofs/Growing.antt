@@ -1,5 +1,5 @@
 -- How a market is kept while its history grows, and while it stays.
-use Rattle.std.specs.Prelude.{◌≡◌, ℕ, ◌+◌, List, [], ◌∷◌, ◌++◌, map, length, false, Option, Some, option_map, slice_get}
+use Rattle.std.specs.Prelude.{◌≡◌, ℕ, ◌+◌, List, [], ◌∷◌, ◌++◌, length, false, Option, Some, slice_get}
 use Rattle.std.proofs.Common.{sym, ap, ◌∙◌, subst, arith}
 use Rattle.std.proofs.lemmas.List.{length_push}
 use Rattle.mk_net.specs.Network.{Variable, IsNetwork}
@@ -29,7 +29,7 @@ use Rattle.mk_record.specs.declared.users.Member.{Member}
 use Rattle.mk_record.specs.Journals.{JournalOf}
 use Rattle.mk_record.specs.Members.{names_of, assets_of, quotes_of}
 use Rattle.mk_market.specs.Points.{AreAccounts}
-use Rattle.mk_market.specs.inner.Keeping.{quoted, standing_of, IsKeptQuote, IsKept}
+use Rattle.mk_market.specs.inner.Keeping.{standing_of, IsKeptQuote, IsKept}
 
 -- the market of a file is one
 pub market_is : (file : MarketFile) → IsNetwork file.net → IsMarket (market_of file)

@@ -12,21 +12,16 @@ use Rattle.mk_beliefs.specs.Meanings.{weights_of}
 use Rattle.mk_assets.specs.declared.assets.Assets.{Assets}
 use Rattle.mk_assets.specs.Holdings.{Holding}
 use Rattle.mk_cash.specs.declared.ledger.Account.{Account}
-use Rattle.mk_command.specs.declared.command.Command.{Command}
 use Rattle.mk_reply.specs.declared.payments.Payment.{Payment}
-use Rattle.mk_reply.specs.declared.reply.Reply.{Reply}
 use Rattle.mk_rules.specs.Answers as rules
 use Rattle.mk_rules.specs.Refusals.{user_number}
 use Rattle.mk_rules.specs.Quotes.{Quoted, Quote, Quotes}
-use Rattle.mk_rules.specs.Transcript.{OfCommand}
-use Rattle.mk_rules.specs.Standings.{IsReady}
-use Rattle.mk_rules.proofs.Ready.{ready_keeps}
 use Rattle.mk_answers.specs.Open.{holding_of}
 use Rattle.mk_record.specs.declared.last_quote.LastQuote.{LastQuote}
 use Rattle.mk_record.specs.declared.users.Member.{Member}
 use Rattle.mk_record.specs.Journals.{JournalOf}
 use Rattle.mk_record.specs.Members.{names_of, assets_of, quotes_of, with_quote}
-use Rattle.mk_market.specs.Trading.{Trading, IsAnswered}
+use Rattle.mk_market.specs.Trading.{Trading}
 use Rattle.mk_market.specs.inner.Keeping.{quoted, standing_of, IsKeptQuote, AreKeptQuotes, IsKept}
 use Rattle.mk_market.specs.inner.Quoting.{OwnsAt}
 use Rattle.mk_market.proofs.Lent.{in_range, read_set, names_beside, assets_beside, quotes_set}

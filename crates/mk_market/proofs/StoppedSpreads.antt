@@ -1,7 +1,7 @@
 -- What stops a spread is refused, and leaves the market.
-use Rattle.std.specs.Prelude.{◌≡◌, ℕ, ◌+◌, ◌≤◌, ◌<◌, List, [], ◌∷◌, length, map, find, slice_index, Bool, true, false, Option, Some, None, option_map, Err}
+use Rattle.std.specs.Prelude.{◌≡◌, ℕ, ◌+◌, ◌≤◌, ◌<◌, List, [], ◌∷◌, length, map, find, slice_index, Bool, true, false, Option, Some, None, option_map}
 use Rattle.std.specs.List.{enumerate_from}
-use Rattle.std.proofs.Common.{refl, cond, sym, ap, ap₂, ◌∙◌, subst, arith}
+use Rattle.std.proofs.Common.{cond, sym, ap, ap₂, ◌∙◌, subst, arith}
 use Rattle.arrayvec.specs.ArrayVec.{ArrayVec}
 use Rattle.mk_net.specs.declared.words.PairText.{PairText}
 use Rattle.mk_net.specs.Firsts.{fault_if, first_of}

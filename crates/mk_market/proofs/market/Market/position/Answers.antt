@@ -1,4 +1,4 @@
-use Rattle.std.proofs.Common.{None, refl, sym, ap, ◌∙◌}
+use Rattle.std.proofs.Common.{refl, sym, ap, ◌∙◌}
 use Rattle.mk_command.specs.declared.command.Command.TheVariants.{Position}
 use Rattle.mk_reply.specs.declared.reply.Reply.TheVariants.{Refused, Position as Sure}
 use Rattle.mk_file.specs.MarketOf.{market_of}
