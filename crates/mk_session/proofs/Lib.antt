@@ -7,3 +7,4 @@ pub mod Going
 pub mod Serving
 pub mod Completing
 pub mod Counted
+pub mod Handing

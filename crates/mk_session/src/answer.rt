@@ -161,8 +161,9 @@ impl Conversation {
         requires opening { market.old.standing ≡ opening }
         requires unread { self.old.lines ≡ fresh }
         requires none_waits { self.old.waiting.bytes ≡ [] }
+        ensures market { market.new.market ≡ market.old.market }
         ensures ended { (all : List ℕ) → I.commands inputs.old ≡ Some all →
-            IsEnded result market.old.market all (I.commands inputs.new)
+            IsEnded result market.old.market market.new.standing all (I.commands inputs.new)
             (S.written out.old) (S.written out.new) }
         ensures opened { I.market inputs.new ≡ I.market inputs.old }
         ensures causes { HasCauses result (I.faults inputs.old) (I.faults inputs.new)
@@ -198,7 +199,7 @@ impl Conversation {
         ensures ended { IfSome result (λ status. (all : List ℕ) (before : Option (List ℕ)) →
             IsSoFar market.old.market all self.old.lines (I.commands inputs.old)
             market.old.standing before (S.written out.old) self.old.waiting.bytes →
-            IsEnded status market.old.market all (I.commands inputs.new) before
+            IsEnded status market.old.market market.new.standing all (I.commands inputs.new) before
             (S.written out.new)) }
         ensures opened { I.market inputs.new ≡ I.market inputs.old }
         ensures causes { MatchOption result
@@ -237,7 +238,7 @@ impl Conversation {
         ensures ended { IfSome result (λ status. (all : List ℕ) (before : Option (List ℕ)) →
             IsSoFar market.old.market all self.old.lines (I.commands inputs.old)
             market.old.standing before (S.written out.old) self.old.waiting.bytes →
-            IsEnded status market.old.market all (I.commands inputs.new) before
+            IsEnded status market.old.market market.new.standing all (I.commands inputs.new) before
             (S.written out.new)) }
         ensures opened { I.market inputs.new ≡ I.market inputs.old }
         ensures causes { MatchOption result

@@ -18,7 +18,7 @@ pub returns-in-Ok-clause-ended : goal.returns-in-Ok-clause-ended
 returns-in-Ok-clause-ended g c =
     ends_from c.answer_next.result c.args.market.now.market c.args.self.now.lines
     (g.I.Inputs.commands c.args.inputs.now) (g.I.Inputs.commands c.answer_next.new.inputs)
-    c.args.market.now.standing
+    c.args.market.now.standing c.answer_next.new.market.standing
     (g.S.Sink.written c.args.out.now) (g.S.Sink.written c.write_before_read.new.out)
     (g.S.Sink.written c.answer_next.new.out)
     c.args.self.now.waiting.bytes c.write_before_read.new.waiting.bytes c.in-Ok.ensures.gathers
@@ -36,7 +36,7 @@ pub returns-in-Err-clause-ended : goal.returns-in-Err-clause-ended
 returns-in-Err-clause-ended g c = λ all before far.
     ended_broken c.args.market.now.market all c.args.self.now.lines.left c.args.self.now.lines
     (g.I.Inputs.commands c.args.inputs.now) (g.I.Inputs.commands c.args.inputs.now)
-    c.args.market.now.standing before
+    c.args.market.now.standing c.args.market.now.standing before
     (g.S.Sink.written c.args.out.now) (g.S.Sink.written c.write_before_read.new.out)
     c.args.self.now.waiting.bytes refl c.in-Err.ensures.front far
 
