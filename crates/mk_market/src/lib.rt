@@ -10,6 +10,7 @@ mod opening;
 mod possible;
 mod pricing;
 mod quoting;
+mod reading;
 mod resolving;
 mod settling;
 mod spread_quoting;

@@ -150,3 +150,9 @@ transcript_of market is_market lines end answers answered = record {
   run = allowed_run_of market is_market lines end answered.replies answered.replied;
   printed = ap (λ (bytes : List ℕ). ready_line market ++ bytes) answered.printed;
 }
+
+pub transcript_stands : (market : Market) (is_market : IsMarket market) (lines : List StreamLine)
+    (end : Standing) (answers : List ℕ) (answered : AreAnswered market opening lines end answers)
+    → (transcript_of market is_market lines end answers answered).after ≡ end
+unfolding transcript_of
+transcript_stands market is_market lines end answers answered = refl

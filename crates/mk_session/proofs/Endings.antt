@@ -18,13 +18,14 @@ use Rattle.mk_rules.specs.Transcript.{Standing, opening}
 use Rattle.mk_session.specs.Texts.{ready_line}
 use Rattle.mk_session.specs.Transcript.{AreAnswered, Transcript}
 use Rattle.mk_session.specs.Complete.{AreWithin}
+use Rattle.mk_session.specs.Outcome.{HasCauses, CountsNone, IsWholeTo}
 use Rattle.mk_session.specs.inner.Progress.{Gathers, AreGathered, IsBetween, IsSoFar, IsEnded}
 use Rattle.mk_session.specs.declared.waiting.TellFault.{TellFault}
 use Rattle.mk_session.specs.declared.waiting.TellFault.TheVariants.{Disk, Sink}
 use Rattle.mk_session.specs.declared.answer.Ending.{Ending}
 use Rattle.mk_session.specs.inner.Telling.{HasTellCause, HasEndCauses, CountsNoFault}
 use Rattle.mk_session.specs.inner.Telling.{ended_by, shown}
-use Rattle.mk_session.proofs.Answering.{no_more, transcript_of}
+use Rattle.mk_session.proofs.Answering.{no_more, transcript_of, transcript_stands}
 use Rattle.mk_session.proofs.Underway.{rest_of, are_whole, so_far_next, still_so_far}
 
 -- the transcript of the lines that are done
@@ -41,6 +42,21 @@ transcript_so_far market all cutting source now before written waits empty far =
     (subst (λ (output : List ℕ). AreAnswered market opening (stream_lines far.done) now output)
     whole far.answers.holds)
 
+-- it leaves what stands
+so_far_stands : (market : Market) (all : List ℕ) (cutting : Cutting) (source : Option (List ℕ))
+    (now : Standing) (before written : Option (List ℕ))
+    (waits : List ℕ) → (empty : waits ≡ []) → (far : IsSoFar market all cutting source now before
+    written waits)
+    → (transcript_so_far market all cutting source now before written waits empty far).after ≡ now
+unfolding transcript_so_far
+so_far_stands market all cutting source now before written waits empty far =
+    let bytes = far.answers.bytes in
+    let whole : bytes ++ waits ≡ bytes = ap (λ (rest : List ℕ). bytes ++ rest) empty
+    ∙ no_more bytes in
+    transcript_stands market far.answers.is_market (stream_lines far.done) now bytes
+    (subst (λ (output : List ℕ). AreAnswered market opening (stream_lines far.done) now output)
+    whole far.answers.holds)
+
 pub second_empty : (xs ys : List ℕ) → xs ++ ys ≡ [] → ys ≡ []
 second_empty [] ys e = e
 second_empty (x ∷ xs) ys e = absurd (cc)
@@ -49,7 +65,7 @@ pub ended_done : (market : Market) (all : List ℕ) (old new : Cutting)
     (source rest : Option (List ℕ)) (now : Standing) (before written after : Option (List ℕ))
     (waits : List ℕ) → waits ≡ [] → (far : IsSoFar market all old source now before written waits)
     → far.left ≡ [] → Stays old new source rest End → after ≡ written
-    → IsEnded Done market all rest before after
+    → IsEnded Done market now all rest before after
 ended_done market all old new source rest now before written after waits none_waits far empty stays
     still =
     let r = rest_of old.left far.left source (sym far.known) in
@@ -61,13 +77,16 @@ ended_done market all old new source rest now before written after waits none_wa
       output = record {
         bytes = far.answers.bytes;
         added = still ∙ far.answers.added;
-        holds = record {
-          transcript = subst (λ (bytes : List ℕ). Transcript market (stream_lines bytes)
-              (ready_line market ++ far.answers.bytes)) (sym whole)
-              (transcript_so_far market all old source now before written waits none_waits far);
-          to_the_end = second_empty old.left r.rest (sym r.parts ∙ empty);
-          within = subst AreWithin (sym whole) far.within;
-        };
+        holds = subst (λ (bytes : List ℕ). IsWholeTo market now bytes r.rest
+            (ready_line market ++ far.answers.bytes)) (sym whole) (record {
+              whole = record {
+                transcript =
+                    transcript_so_far market all old source now before written waits none_waits far;
+                to_the_end = second_empty old.left r.rest (sym r.parts ∙ empty);
+                within = far.within;
+              };
+              stands = so_far_stands market all old source now before written waits none_waits far;
+            });
       };
     }
 
@@ -75,7 +94,7 @@ pub ended_read_fault : (market : Market) (all : List ℕ) (old new : Cutting)
     (source rest : Option (List ℕ)) (now : Standing) (before written after : Option (List ℕ))
     (waits : List ℕ) → waits ≡ [] → IsSoFar market all old source now before written waits
     → old.last ≡ None → StopsInLine new (stream_left old source) rest → after ≡ written
-    → IsEnded ReadFault market all rest before after
+    → IsEnded ReadFault market now all rest before after
 ended_read_fault market all old new source rest now before written after waits none_waits far none
     stops still =
     let r = rest_of stops.part far.left rest (sym far.known ∙ stops.taken) in
@@ -110,7 +129,7 @@ pub ended_too_many : (market : Market) (all : List ℕ) (old new : Cutting)
     (source rest : Option (List ℕ)) (now : Standing) (before written after : Option (List ℕ))
     (waits : List ℕ) → waits ≡ [] → IsSoFar market all old source now before written waits
     → old.last ≡ None → Overruns old new (stream_left old source) rest → after ≡ written
-    → IsEnded TooMany market all rest before after
+    → IsEnded TooMany market now all rest before after
 ended_too_many market all old new source rest now before written after waits none_waits far none
     over still =
     let r = rest_of over.part far.left rest (sym far.known ∙ over.taken) in
@@ -154,12 +173,13 @@ front_parts ready answers output front rest e =
 
 -- of what waited only a front was written
 pub ended_broken : (market : Market) (all part : List ℕ) (cutting : Cutting)
-    (source rest : Option (List ℕ)) (now : Standing)
+    (source rest : Option (List ℕ)) (now then : Standing)
     (before written after : Option (List ℕ)) (waited : List ℕ) → stream_left cutting source ≡
     prepend_known part rest
     → AddsFront written after waited → IsSoFar market all cutting source now before written waited
-    → IsEnded WriteFault market all rest before after
-ended_broken market all part cutting source rest now before written after waited taken cut far =
+    → IsEnded WriteFault market then all rest before after
+ended_broken market all part cutting source rest now then before written after waited taken cut
+    far =
     let r = rest_of part far.left rest (sym far.known ∙ taken) in
     let bytes = far.answers.bytes in
     record {
@@ -221,40 +241,40 @@ goes_on_after said ended market line old new kept source rest now then written a
 
 -- what waited was not told: the run is broken
 pub breaks_off : {T : Type 0} (said : Result T TellFault) (ended : Option Ending) (market : Market)
-    (cutting : Cutting) (part : List ℕ) (source rest : Option (List ℕ)) (now : Standing)
+    (cutting : Cutting) (part : List ℕ) (source rest : Option (List ℕ)) (now then : Standing)
     (written after : Option (List ℕ)) (waited : List ℕ)
     → ended ≡ ended_by said → stream_left cutting source ≡ prepend_known part rest
     → OnErr said (AddsFront written after waited)
     → IfSome ended (λ end. (all : List ℕ) (before : Option (List ℕ)) → IsSoFar market all cutting
-    source now before written waited → IsEnded (shown end) market all rest before after)
-breaks_off said ended market cutting part source rest now written after waited e taken cut =
+    source now before written waited → IsEnded (shown end) market then all rest before after)
+breaks_off said ended market cutting part source rest now then written after waited e taken cut =
     subst (λ (o : Option Ending). IfSome o (λ end. (all : List ℕ) (before : Option (List ℕ))
     → IsSoFar market all cutting source now before written waited
-    → IsEnded (shown end) market all rest before after))
+    → IsEnded (shown end) market then all rest before after))
     (sym e) (at said cut)
   where
     at : {T : Type 0} (said : Result T TellFault) → OnErr said (AddsFront written after waited)
         → IfSome (ended_by said) (λ end. (all : List ℕ) (before : Option (List ℕ))
         → IsSoFar market all cutting source now before written waited
-        → IsEnded (shown end) market all rest before after)
+        → IsEnded (shown end) market then all rest before after)
     at (Ok v) cut = tt
-    at (Err Disk) cut = λ all before far. ended_broken market all part cutting source rest now
+    at (Err Disk) cut = λ all before far. ended_broken market all part cutting source rest now then
         before written after waited taken cut far
-    at (Err Sink) cut = λ all before far. ended_broken market all part cutting source rest now
+    at (Err Sink) cut = λ all before far. ended_broken market all part cutting source rest now then
         before written after waited taken cut far
 
 -- the same where a line was given, whose reply was not told
 pub breaks_after : {T : Type 0} (said : Result T TellFault) (ended : Option Ending)
     (market : Market) (line : StreamLine) (old new : Cutting)
-    (source rest : Option (List ℕ)) (now : Standing) (written after : Option (List ℕ))
+    (source rest : Option (List ℕ)) (now then : Standing) (written after : Option (List ℕ))
     (waited : List ℕ)
     → ended ≡ ended_by said
     → GivesLine line old new (stream_left old source) (stream_left new rest)
     → OnErr said (AddsFront written after waited)
     → IfSome ended (λ end. (all : List ℕ) (before : Option (List ℕ)) → IsSoFar market all old
-    source now before written waited → IsEnded (shown end) market all rest before after)
-breaks_after said ended market line old new source rest now written after waited e gives cut =
-    breaks_off said ended market old (gives.piece ++ new.left) source rest now written after waited
+    source now before written waited → IsEnded (shown end) market then all rest before after)
+breaks_after said ended market line old new source rest now then written after waited e gives cut =
+    breaks_off said ended market old (gives.piece ++ new.left) source rest now then written after waited
     e (gives.taken ∙ prepend_known_twice gives.piece new.left rest) cut
 
 -- what waits was told before: the run goes on from there
@@ -274,15 +294,15 @@ goes_on_from (Some end) market old new source rest now then written mid after wa
     gathers next = tt
 
 pub ends_from : (ended : Option Ending) (market : Market) (cutting : Cutting)
-    (source rest : Option (List ℕ)) (now : Standing)
+    (source rest : Option (List ℕ)) (now then : Standing)
     (written mid after : Option (List ℕ)) (waited left : List ℕ) → Gathers written mid waited []
     left
     → IfSome ended (λ end. (all : List ℕ) (before : Option (List ℕ)) → IsSoFar market all cutting
-    source now before mid left → IsEnded (shown end) market all rest before after)
+    source now before mid left → IsEnded (shown end) market then all rest before after)
     → IfSome ended (λ end. (all : List ℕ) (before : Option (List ℕ)) → IsSoFar market all cutting
-    source now before written waited → IsEnded (shown end) market all rest before after)
-ends_from None market cutting source rest now written mid after waited left gathers next = tt
-ends_from (Some end) market cutting source rest now written mid after waited left gathers next =
+    source now before written waited → IsEnded (shown end) market then all rest before after)
+ends_from None market cutting source rest now then written mid after waited left gathers next = tt
+ends_from (Some end) market cutting source rest now then written mid after waited left gathers next =
     λ all before far. next all before (still_so_far market all cutting source now before written mid
     waited left gathers far)
 

@@ -11,3 +11,4 @@ pub mod Going
 pub mod Serving
 pub mod Completing
 pub mod Counted
+pub mod Handing

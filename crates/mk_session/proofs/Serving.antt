@@ -6,7 +6,7 @@ use Rattle.std.proofs.lemmas.List.{take_all, length-take}
 use Rattle.std.proofs.lemmas.Bool.{cases_lt, lt-ltb}
 use Rattle.mk_io.specs.declared.status.Status.{Status}
 use Rattle.mk_io.specs.declared.status.Status.TheVariants.{MarketRefused, ReadFault, WriteFault}
-use Rattle.mk_io.specs.declared.status.Status.TheVariants.{Memory}
+use Rattle.mk_io.specs.declared.status.Status.TheVariants.{Memory, Done, Usage, TooMany}
 use Rattle.mk_io.specs.Outside.{append_known, AddsFront}
 use Rattle.mk_io.proofs.Told.{append_known_none, append_known_twice}
 use Rattle.mk_exact.specs.Market.{Market}
@@ -15,9 +15,11 @@ use Rattle.mk_file.specs.declared.fault.FileFault.TheVariants.{TooLong}
 use Rattle.mk_file.specs.File.{file_of, of_document, document_of}
 use Rattle.mk_session.specs.Texts.{ready_line, fault_line}
 use Rattle.mk_rules.specs.Standings.{IsMarket}
-use Rattle.mk_rules.specs.Transcript.{opening}
+use Rattle.mk_rules.specs.Transcript.{Standing, opening}
+use Rattle.mk_market.specs.Trading.{Trading}
 use Rattle.mk_session.specs.Outcome.{Adds, Ends, Serves, Refuses, NotOpened, Opened, IsTurnedAway}
-use Rattle.mk_session.specs.inner.Progress.{IsEnded}
+use Rattle.mk_session.specs.Outcome.{IsRunTo, IsHandedBack}
+use Rattle.mk_session.specs.inner.Progress.{IsEnded, ServesTo}
 use Rattle.mk_session.specs.inner.Loading.{opened_part}
 use Rattle.mk_session.proofs.Answering.{no_more, none_answered, transcript_of}
 use Rattle.mk_session.proofs.Completing.{none_within_stream}
@@ -110,24 +112,61 @@ turned_from status fault source mid left before after same turned = record {
   output = turned.output;
 }
 
+-- whatever it leaves, a run serves
+serves_anyhow : (status : Status) (market : Market) (now : Standing) (all rest output : List ℕ)
+    → ServesTo status market now all rest output → Serves status market all rest output
+serves_anyhow Done market now all rest output serves = serves.whole
+serves_anyhow ReadFault market now all rest output serves = serves
+serves_anyhow WriteFault market now all rest output serves = serves
+serves_anyhow TooMany market now all rest output serves = serves
+serves_anyhow Memory market now all rest output serves = serves
+serves_anyhow MarketRefused market now all rest output serves = serves
+serves_anyhow Usage market now all rest output serves = serves
+
+-- the ready line and the lines behind it
+ready_then : (market : Market) (line bytes : List ℕ) (before ready after : Option (List ℕ))
+    → line ≡ ready_line market → ready ≡ append_known before line
+    → after ≡ append_known ready bytes
+    → after ≡ append_known before (ready_line market ++ bytes)
+ready_then market line bytes before ready after is added more =
+    more ∙ ap (λ (w : Option (List ℕ)). append_known w bytes) (added ∙ ap (append_known before) is)
+    ∙ append_known_twice before (ready_line market) bytes
+
 -- a run that ended behind its ready line
-pub served_when_ended : (status : Status) (market file : Market) (all line : List ℕ)
-    (source before ready after : Option (List ℕ)) → market ≡ file
-    → line ≡ ready_line market → ready ≡ append_known before line → IsEnded status market all source
-    ready after
-    → Opened status (Ok file) all source before after
-served_when_ended status market file all line source before ready after same is added ended =
-    let bytes = ended.output.bytes in
+pub served_when_ended : (status : Status) (market : Market) (now : Standing) (all line : List ℕ)
+    (source before ready after : Option (List ℕ))
+    → line ≡ ready_line market → ready ≡ append_known before line
+    → IsEnded status market now all source ready after
+    → Opened status (Ok market) all source before after
+served_when_ended status market now all line source before ready after is added ended = record {
+  rest = ended.rest;
+  told = ended.told;
+  output = record {
+    bytes = ready_line market ++ ended.output.bytes;
+    added = ready_then market line ended.output.bytes before ready after is added
+        ended.output.added;
+    holds = serves_anyhow status market now all ended.rest
+        (ready_line market ++ ended.output.bytes) ended.output.holds;
+  };
+}
+
+-- one that came to its end can hand its market back
+pub handed_when_done : (status : Status) (market : Market) (now : Standing) (all line : List ℕ)
+    (source before ready after : Option (List ℕ))
+    → line ≡ ready_line market → ready ≡ append_known before line
+    → IsEnded status market now all source ready after → status ≡ Done
+    → IsRunTo market now all source before after
+handed_when_done status market now all line source before ready after is added ended done =
+    let whole : IsEnded Done market now all source ready after =
+    subst (λ (s : Status). IsEnded s market now all source ready after) done ended in
     record {
-      rest = ended.rest;
-      told = ended.told;
+      rest = whole.rest;
+      told = whole.told;
       output = record {
-        bytes = ready_line market ++ bytes;
-        added = ended.output.added ∙ ap (λ (w : Option (List ℕ)). append_known w bytes) (added
-            ∙ ap (append_known before) is)
-            ∙ append_known_twice before (ready_line market) bytes;
-        holds = subst (λ (m : Market). Serves status m all ended.rest (ready_line market ++ bytes))
-            same ended.output.holds;
+        bytes = ready_line market ++ whole.output.bytes;
+        added = ready_then market line whole.output.bytes before ready after is added
+            whole.output.added;
+        holds = whole.output.holds;
       };
     }
 

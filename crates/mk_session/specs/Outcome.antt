@@ -10,6 +10,8 @@ use Rattle.mk_io.specs.Cutting.{first_size}
 use Rattle.mk_exact.specs.Market.{Market}
 use Rattle.mk_file.specs.declared.fault.FileFault.{FileFault}
 use Rattle.mk_file.specs.File.{file_of}
+use Rattle.mk_rules.specs.Transcript.{Standing}
+use Rattle.mk_market.specs.Trading.{Trading}
 use Rattle.mk_session.specs.Texts.{fault_line}
 use Rattle.mk_session.specs.Complete.{AreWithin}
 use Rattle.mk_session.specs.Transcript.{Transcript}
@@ -30,6 +32,11 @@ pub record IsWhole (market : Market) (all rest output : List ℕ) : Type 0 where
   pub transcript : Transcript market (stream_lines all) output
   pub to_the_end : rest ≡ []
   pub within : AreWithin all
+
+-- the same, and this is the standing behind the replies
+pub record IsWholeTo (market : Market) (after : Standing) (all rest output : List ℕ) : Type 0 where
+  pub whole : IsWhole market all rest output
+  pub stands : whole.transcript.after ≡ after
 
 -- reading failed: the whole lines that were read are answered, and the part of a line behind them
 -- is not
@@ -109,6 +116,20 @@ pub record Opened (status : Status) (given : Result Market FileFault) (all : Lis
   pub told : source ≡ Some rest
   pub output : Adds before written (Ends status given all rest)
 
+-- a whole run, which leaves this standing
+pub record IsRunTo (market : Market) (after : Standing) (all : List ℕ)
+    (source before written : Option (List ℕ)) : Type 0 where
+  pub rest : List ℕ
+  pub told : source ≡ Some rest
+  pub output : Adds before written (IsWholeTo market after all rest)
+
+-- a market is handed back behind a whole run: it is the file's, and stands as the replies that were
+-- written leave it
+pub record IsHandedBack (back : Trading) (given : Result Market FileFault) (all : List ℕ)
+    (source before written : Option (List ℕ)) : Type 0 where
+  pub accepted : given ≡ Ok back.market
+  pub run : IsRunTo back.market back.standing all source before written
+
 -- the run of a refused file, whatever is told of the commands, of which none is read: the file
 -- could not be read and nothing was written, or what was written is its one line
 pub record IsTurnedAway (status : Status) (fault : FileFault)
@@ -124,6 +145,11 @@ abbrev pub Outcome : Status → List ℕ → List ℕ → Option (List ℕ) → 
 Outcome status file all source before written =
     NotOpened status all source before written
     ⊎ Opened status (file_of file) all source before written
+
+-- the status of a run that hands its market back where it is done
+abbrev pub status_of : {M : Type 0} → Result M Status → Status
+status_of (Ok market) = Done
+status_of (Err status) = status
 
 -- no fault was counted
 abbrev pub CountsNone : ℕ → ℕ → ℕ → ℕ → Type 0

@@ -149,8 +149,9 @@ impl Conversation<NoStore> {
         requires opening { market.old.standing ≡ opening }
         requires unread { self.old.lines ≡ fresh }
         requires none_waits { self.old.waiting.bytes ≡ [] }
+        ensures market { market.new.market ≡ market.old.market }
         ensures ended { (all : List ℕ) → I.commands inputs.old ≡ Some all →
-            IsEnded result market.old.market all (I.commands inputs.new)
+            IsEnded result market.old.market market.new.standing all (I.commands inputs.new)
             (S.written out.old) (S.written out.new) }
         ensures opened { I.market inputs.new ≡ I.market inputs.old }
         ensures causes { HasCauses result (I.faults inputs.old) (I.faults inputs.new)
@@ -222,8 +223,9 @@ impl<J> Conversation<J> {
         requires none_waits { self.old.waiting.bytes ≡ [] }
         requires ready { (n : ℕ) × (n + max_stream_lines + 1 < 2 ^ 40)
             × J.is_ready self.old.keeper disk.old n }
+        ensures market { market.new.market ≡ market.old.market }
         ensures ended { (all : List ℕ) → I.commands inputs.old ≡ Some all →
-            IsEnded (shown result) market.old.market all (I.commands inputs.new)
+            IsEnded (shown result) market.old.market market.new.standing all (I.commands inputs.new)
             (S.written out.old) (S.written out.new) }
         ensures left { (all name bytes : List ℕ) (kept waiting : List (List ℕ)) →
             I.commands inputs.old ≡ Some all →
@@ -270,7 +272,8 @@ impl<J> Conversation<J> {
         ensures ended { IfSome result (λ end. (all : List ℕ) (before : Option (List ℕ)) →
             IsSoFar market.old.market all self.old.lines (I.commands inputs.old)
             market.old.standing before (S.written out.old) self.old.waiting.bytes →
-            IsEnded (shown end) market.old.market all (I.commands inputs.new) before
+            IsEnded (shown end) market.old.market market.new.standing all (I.commands inputs.new)
+            before
             (S.written out.new)) }
         ensures kept { (name bytes all : List ℕ) (before : Option (List ℕ))
             (kept waiting : List (List ℕ)) →
@@ -329,7 +332,8 @@ impl<J> Conversation<J> {
         ensures ended { IfSome result (λ end. (all : List ℕ) (before : Option (List ℕ)) →
             IsSoFar market.old.market all self.old.lines (I.commands inputs.old)
             market.old.standing before (S.written out.old) self.old.waiting.bytes →
-            IsEnded (shown end) market.old.market all (I.commands inputs.new) before
+            IsEnded (shown end) market.old.market market.new.standing all (I.commands inputs.new)
+            before
             (S.written out.new)) }
         ensures kept { (name bytes all : List ℕ) (before : Option (List ℕ))
             (kept waiting : List (List ℕ)) →

@@ -15,6 +15,7 @@ mod waiting;
 pub use counting::tally;
 pub use counts::{Tally, TallyFault};
 pub use laws::ends_safely;
+pub use market::TreeMarket;
 pub use print::{LineBuffer, print_fault_line, print_reply_line};
 pub use quiet::serve_quiet;
-pub use run::serve;
+pub use run::{run_market, serve};

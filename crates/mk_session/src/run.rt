@@ -1,7 +1,7 @@
 //! A whole run.
 
 ghost use Rattle.std.specs.Prelude.{◌≡◌, ◌≢◌, ◌+◌, ◌<◌, ◌≤◌, ℕ, List, [], Some, Ok, Err, Result};
-ghost use Rattle.std.specs.Prelude.{length, ◌⊎◌, IsOk, IfOk, IfErr};
+ghost use Rattle.std.specs.Prelude.{length, ◌⊎◌, IsOk, IfOk, IfErr, MatchResult};
 ghost use Rattle.mk_io.specs.Outside.{Rose, IsAtEnd, CountsFault};
 ghost use Rattle.mk_io.specs.Cutting.{fresh};
 ghost use Rattle.mk_file.specs.File.{file_of};
@@ -12,6 +12,7 @@ ghost use Rattle.mk_rules.specs.Standings.{IsMarket};
 ghost use Rattle.mk_rules.specs.Transcript.{opening};
 ghost use Rattle.mk_file.specs.declared.fault.FileFault.{FileFault};
 ghost use Rattle.mk_session.specs.Outcome.{Adds, Ends, Opened, Outcome, IsTurnedAway, HasCauses};
+ghost use Rattle.mk_session.specs.Outcome.{IsRunTo, IsHandedBack, status_of};
 ghost use Rattle.mk_session.specs.Texts.{ready_line};
 ghost use Rattle.mk_session.specs.Complete.{AreWithin};
 ghost use Rattle.mk_session.specs.Opening.{IsTakenWithin, IsReadWithin};
@@ -60,36 +61,89 @@ pub fn serve<I: Inputs, S: Sink>(alloc: Global, name: &str, inputs: &mut I, out:
         (S.faults out.old) (S.faults out.new) }
     ensures not_usage { result ≢ Status.Usage }
 {
+    match run_market(alloc, name, inputs, out) {
+        Ok(market) => {
+            // The process ends next, and gives all memory back at once: one by one, the many small
+            // tables of a chain take long.
+            mem::forget(market);
+            Status::Done
+        }
+        Err(status) => status,
+    }
+}
+
+/// Runs the market of the file `name` over all commands, as `serve` does, and hands it back where
+/// the run is done. It fails with each other status of a run, and then the market's memory is not
+/// given back.
+pub fn run_market<I: Inputs, S: Sink>(
+    alloc: Global,
+    name: &str,
+    inputs: &mut I,
+    out: &mut S,
+) -> Result<TreeMarket, Status>
+    requires { I.admits name.now }
+    ensures outcome { (file all : List ℕ) →
+        I.file inputs.old name.now ≡ Some file → I.commands inputs.old ≡ Some all →
+        MatchResult result
+        (λ market. IsHandedBack market (file_of file) all (I.commands inputs.new)
+        (S.written out.old) (S.written out.new))
+        (λ status. Outcome status file all (I.commands inputs.new)
+        (S.written out.old) (S.written out.new)) }
+    ensures is_market { IfOk result (λ market. IsMarket market.market) }
+    ensures refused { (file : List ℕ) (fault : FileFault) →
+        I.file inputs.old name.now ≡ Some file → file_of file ≡ Err fault →
+        MatchResult result (λ _. ⊥)
+        (λ status. IsTurnedAway status fault (I.commands inputs.old) (I.commands inputs.new)
+        (S.written out.old) (S.written out.new)) }
+    ensures complete { (file all : List ℕ) →
+        I.file inputs.old name.now ≡ Some file → I.commands inputs.old ≡ Some all →
+        IsOk (file_of file) → AreWithin all →
+        (Rose (I.faults inputs.old) (I.faults inputs.new) → ⊥) →
+        (Rose (S.faults out.old) (S.faults out.new) → ⊥) →
+        IfErr result (λ status. status ≡ Status.Memory) }
+    ensures opened { (file : List ℕ) → I.file inputs.old name.now ≡ Some file →
+        IsReadWithin file (I.market inputs.old) (I.market inputs.new) }
+    ensures causes { HasCauses (status_of result) (I.faults inputs.old) (I.faults inputs.new)
+        (S.faults out.old) (S.faults out.new) }
+    ensures not_done { IfErr result (λ status. status ≢ Status.Done) }
+    ensures not_usage { IfErr result (λ status. status ≢ Status.Usage) }
+{
     match load(alloc, name, inputs) {
-        Err(LoadFault::Input) => Status::ReadFault,
-        Err(LoadFault::Memory) => Status::Memory,
-        Ok(bytes) => serve_bytes(alloc, bytes, inputs, out),
+        Err(LoadFault::Input) => Err(Status::ReadFault),
+        Err(LoadFault::Memory) => Err(Status::Memory),
+        Ok(bytes) => run_bytes(alloc, bytes, inputs, out),
     }
 }
 
 /// Runs the market of these bytes of a file, and gives their memory back before the first command
 /// is read.
-fn serve_bytes<I: Inputs, S: Sink>(
+fn run_bytes<I: Inputs, S: Sink>(
     alloc: Global,
     bytes: Vec<u8>,
     inputs: &mut I,
     out: &mut S,
-) -> Status
+) -> Result<TreeMarket, Status>
     ensures outcome { (all : List ℕ) → I.commands inputs.old ≡ Some all →
-        Opened result (file_of bytes.items) all (I.commands inputs.new)
-        (S.written out.old) (S.written out.new) }
+        MatchResult result
+        (λ market. IsHandedBack market (file_of bytes.items) all (I.commands inputs.new)
+        (S.written out.old) (S.written out.new))
+        (λ status. Opened status (file_of bytes.items) all (I.commands inputs.new)
+        (S.written out.old) (S.written out.new)) }
+    ensures is_market { IfOk result (λ market. IsMarket market.market) }
     ensures refused { (fault : FileFault) → file_of bytes.items ≡ Err fault →
-        IsTurnedAway result fault (I.commands inputs.old) (I.commands inputs.new)
-        (S.written out.old) (S.written out.new) }
+        MatchResult result (λ _. ⊥)
+        (λ status. IsTurnedAway status fault (I.commands inputs.old) (I.commands inputs.new)
+        (S.written out.old) (S.written out.new)) }
     ensures opened { I.market inputs.new ≡ I.market inputs.old }
-    ensures causes { HasCauses result (I.faults inputs.old) (I.faults inputs.new)
+    ensures causes { HasCauses (status_of result) (I.faults inputs.old) (I.faults inputs.new)
         (S.faults out.old) (S.faults out.new) }
-    ensures not_usage { result ≢ Status.Usage }
+    ensures not_done { IfErr result (λ status. status ≢ Status.Done) }
+    ensures not_usage { IfErr result (λ status. status ≢ Status.Usage) }
 {
     let read = read_market(alloc, bytes.as_slice());
     drop(bytes);
     match read {
-        Err(fault) => refuse(fault, out),
+        Err(fault) => Err(refuse(fault, out)),
         Ok(file) => answer_file(alloc, file, inputs, out),
     }
 }
@@ -101,6 +155,7 @@ fn refuse<S: Sink>(fault: FileFault, out: &mut S) -> Status
         Adds (S.written out.old) (S.written out.new) (Ends result given all all) }
     ensures causes { (inputs : ℕ) → HasCauses result inputs inputs
         (S.faults out.old) (S.faults out.new) }
+    ensures not_done { result ≢ Status.Done }
     ensures not_usage { result ≢ Status.Usage }
 {
     match fault {
@@ -122,27 +177,62 @@ fn answer_file<I: Inputs, S: Sink>(
     file: MarketFile,
     inputs: &mut I,
     out: &mut S,
-) -> Status
+) -> Result<TreeMarket, Status>
     requires tree { IsTreeOf file.net file.tree }
     ensures outcome { (all : List ℕ) → I.commands inputs.old ≡ Some all →
-        Opened result (Ok (market_of file)) all (I.commands inputs.new)
-        (S.written out.old) (S.written out.new) }
+        MatchResult result
+        (λ market. IsHandedBack market (Ok (market_of file)) all (I.commands inputs.new)
+        (S.written out.old) (S.written out.new))
+        (λ status. Opened status (Ok (market_of file)) all (I.commands inputs.new)
+        (S.written out.old) (S.written out.new)) }
+    ensures is_market { IfOk result (λ market. IsMarket market.market) }
     ensures opened { I.market inputs.new ≡ I.market inputs.old }
-    ensures causes { HasCauses result (I.faults inputs.old) (I.faults inputs.new)
+    ensures causes { HasCauses (status_of result) (I.faults inputs.old) (I.faults inputs.new)
         (S.faults out.old) (S.faults out.new) }
-    ensures not_usage { result ≢ Status.Usage }
+    ensures not_done { IfErr result (λ status. status ≢ Status.Done) }
+    ensures not_usage { IfErr result (λ status. status ≢ Status.Usage) }
 {
     let mut conversation = Conversation::new(NoStore);
     conversation.print_ready(&file);
     match open(alloc, file) {
-        Ok(mut market) => {
-            let status = answer_opened(alloc, &mut conversation, &mut market, inputs, out);
-            // The process ends next, and gives all memory back at once, also where the ready line
-            // could not be written: one by one, the many small tables of a chain take long.
+        Ok(market) => answer_market(alloc, &mut conversation, market, inputs, out),
+        Err(_) => Err(Status::Memory),
+    }
+}
+
+/// Answers the commands of an opened market, and hands it back where all are answered.
+fn answer_market<I: Inputs, S: Sink>(
+    alloc: Global,
+    conversation: &mut Conversation<NoStore>,
+    mut market: TreeMarket,
+    inputs: &mut I,
+    out: &mut S,
+) -> Result<TreeMarket, Status>
+    requires is_market { IsMarket market.market }
+    requires opening { market.standing ≡ opening }
+    requires ready { conversation.old.line.bytes ≡ ready_line market.market }
+    requires unread { conversation.old.lines ≡ fresh }
+    requires none_waits { conversation.old.waiting.bytes ≡ [] }
+    ensures outcome { (all : List ℕ) → I.commands inputs.old ≡ Some all →
+        MatchResult result
+        (λ back. IsHandedBack back (Ok market.market) all (I.commands inputs.new)
+        (S.written out.old) (S.written out.new))
+        (λ status. Opened status (Ok market.market) all (I.commands inputs.new)
+        (S.written out.old) (S.written out.new)) }
+    ensures same { IfOk result (λ back. back.market ≡ market.market) }
+    ensures opened { I.market inputs.new ≡ I.market inputs.old }
+    ensures causes { HasCauses (status_of result) (I.faults inputs.old) (I.faults inputs.new)
+        (S.faults out.old) (S.faults out.new) }
+    ensures not_done { IfErr result (λ status. status ≢ Status.Done) }
+    ensures not_usage { IfErr result (λ status. status ≢ Status.Usage) }
+{
+    match answer_opened(alloc, conversation, &mut market, inputs, out) {
+        Status::Done => Ok(market),
+        status => {
+            // The process ends next, also where the ready line could not be written.
             mem::forget(market);
-            status
+            Err(status)
         }
-        Err(_) => Status::Memory,
     }
 }
 
@@ -159,8 +249,12 @@ fn answer_opened<I: Inputs, S: Sink>(
     requires ready { conversation.old.line.bytes ≡ ready_line market.old.market }
     requires unread { conversation.old.lines ≡ fresh }
     requires none_waits { conversation.old.waiting.bytes ≡ [] }
+    ensures market { market.new.market ≡ market.old.market }
     ensures outcome { (all : List ℕ) → I.commands inputs.old ≡ Some all →
         Opened result (Ok market.old.market) all (I.commands inputs.new)
+        (S.written out.old) (S.written out.new) }
+    ensures done { result ≡ Status.Done → (all : List ℕ) → I.commands inputs.old ≡ Some all →
+        IsRunTo market.old.market market.new.standing all (I.commands inputs.new)
         (S.written out.old) (S.written out.new) }
     ensures opened { I.market inputs.new ≡ I.market inputs.old }
     ensures causes { HasCauses result (I.faults inputs.old) (I.faults inputs.new)

@@ -1,6 +1,7 @@
 -- How far a run has come: what each line leaves, and what stands between two lines.
 use Rattle.std.specs.Prelude.{◌≡◌, ℕ, List, [], ◌++◌, length, Option, Some, None, ◌⊎◌}
 use Rattle.mk_io.specs.declared.status.Status.{Status}
+use Rattle.mk_io.specs.declared.status.Status.TheVariants.{Done}
 use Rattle.mk_io.specs.declared.lines.Next.{Next}
 use Rattle.mk_io.specs.Outside.{append_known}
 use Rattle.mk_io.specs.Stream.{StreamLine, stream_lines, AreWholeLines}
@@ -15,7 +16,7 @@ use Rattle.mk_market.specs.Trading.{Trading, IsAnswered}
 use Rattle.mk_session.specs.Texts.{ready_line, reply_line}
 use Rattle.mk_session.specs.Transcript.{AreAnswered}
 use Rattle.mk_session.specs.Complete.{AreWithin}
-use Rattle.mk_session.specs.Outcome.{Adds, Serves}
+use Rattle.mk_session.specs.Outcome.{Adds, Serves, IsWholeTo}
 
 -- some bytes came behind those that waited, and a first part of them all was written; the others
 -- wait
@@ -82,10 +83,15 @@ abbrev pub IsSoFar : Market → List ℕ → Cutting → Option (List ℕ) → S
 IsSoFar market all cutting source now before written waits =
     IsPlaced all cutting source (λ lines. AreSaid market lines now before written waits)
 
--- the end of a run whose ready line is written
-pub record IsEnded (status : Status) (market : Market) (all : List ℕ)
+-- the run of an accepted file, which leaves this standing where it is done
+abbrev pub ServesTo : Status → Market → Standing → List ℕ → List ℕ → List ℕ → Type 0
+ServesTo Done market now all rest output = IsWholeTo market now all rest output
+ServesTo status market now all rest output = Serves status market all rest output
+
+-- the end of a run whose ready line is written, and the standing that it leaves
+pub record IsEnded (status : Status) (market : Market) (now : Standing) (all : List ℕ)
     (source before written : Option (List ℕ)) : Type 0 where
   pub rest : List ℕ
   pub told : source ≡ Some rest
-  pub output : Adds before written (λ bytes. Serves status market all rest
+  pub output : Adds before written (λ bytes. ServesTo status market now all rest
       (ready_line market ++ bytes))

@@ -38,7 +38,7 @@ returns-in-Line-clause-ended g c =
     breaks_after c.answer_text.result c.end_after.result c.args.market.now.market
     (text c.next.new.self.line) c.args.self.now.lines c.next.new.self
     (g.I.Inputs.commands c.args.inputs.now) (g.I.Inputs.commands c.next.new.inputs)
-    c.args.market.now.standing
+    c.args.market.now.standing c.answer_text.new.market.standing
     (g.S.Sink.written c.args.out.now) (g.S.Sink.written c.answer_text.new.out)
     c.args.self.now.waiting.bytes c.end_after.ensures gives c.answer_text.ensures.front
 
@@ -80,7 +80,7 @@ returns-in-Long-clause-ended g c =
     breaks_after c.answer_long.result c.end_after-in-Long.result c.args.market.now.market long
     c.args.self.now.lines c.next.new.self
     (g.I.Inputs.commands c.args.inputs.now) (g.I.Inputs.commands c.next.new.inputs)
-    c.args.market.now.standing
+    c.args.market.now.standing c.args.market.now.standing
     (g.S.Sink.written c.args.out.now) (g.S.Sink.written c.answer_long.new.out)
     c.args.self.now.waiting.bytes c.end_after-in-Long.ensures gives.0
     c.answer_long.ensures.front

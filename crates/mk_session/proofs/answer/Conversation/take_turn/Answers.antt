@@ -21,7 +21,7 @@ pub returns-in-Ok-clause-ended : goal.returns-in-Ok-clause-ended
 returns-in-Ok-clause-ended g c =
     ends_from c.answer_next.result c.args.market.now.market c.args.self.now.lines
     (g.I.Inputs.commands c.args.inputs.now) (g.I.Inputs.commands c.answer_next.new.inputs)
-    c.args.market.now.standing
+    c.args.market.now.standing c.answer_next.new.market.standing
     (g.S.Sink.written c.args.out.now) (g.S.Sink.written c.write_before_read-told.new.out)
     (g.S.Sink.written c.answer_next.new.out)
     c.args.self.now.waiting.bytes c.write_before_read-told.new.waiting.bytes c.in-Ok.ensures.gathers
@@ -41,7 +41,7 @@ returns-in-Err-clause-ended g c =
     breaks_off c.write_before_read-told.result c.end_after.result c.args.market.now.market
     c.args.self.now.lines c.args.self.now.lines.left
     (g.I.Inputs.commands c.args.inputs.now) (g.I.Inputs.commands c.args.inputs.now)
-    c.args.market.now.standing
+    c.args.market.now.standing c.args.market.now.standing
     (g.S.Sink.written c.args.out.now) (g.S.Sink.written c.write_before_read-told.new.out)
     c.args.self.now.waiting.bytes c.end_after.ensures refl c.write_before_read-told.ensures.front
 

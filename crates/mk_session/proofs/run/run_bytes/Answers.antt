@@ -1,7 +1,8 @@
 use Rattle.std.proofs.Common.{[], Err, ap, sym, ◌∙◌}
 use Rattle.mk_file.specs.File.{file_of}
 use Rattle.mk_session.proofs.Serving.{turned_told}
-use Rattle.mk_session.proofs.run.serve_bytes.Goals as goal
+use Rattle.mk_session.proofs.Handing.{ends_back_at}
+use Rattle.mk_session.proofs.run.run_bytes.Goals as goal
 
 pub returns-in-Err-clause-outcome : goal.returns-in-Err-clause-outcome
 returns-in-Err-clause-outcome g c = λ all told. record {
@@ -22,3 +23,11 @@ pub returns-in-Ok-clause-refused : goal.returns-in-Ok-clause-refused
 returns-in-Ok-clause-refused g c = λ fault given.
     let both = sym given ∙ ap file_of (sym (c.as_slice.ensures.value)) ∙ c.in-Ok.ensures.accepted in
     absurd (cc)
+
+pub returns-in-Ok-clause-outcome : goal.returns-in-Ok-clause-outcome
+returns-in-Ok-clause-outcome g c = λ all told.
+    ends_back_at c.answer_file.result _ _ all
+    (g.I.Inputs.commands c.answer_file.new.inputs)
+    (g.S.Sink.written c.args.out.now) (g.S.Sink.written c.answer_file.new.out)
+    (sym (ap file_of (sym (c.as_slice.ensures.value)) ∙ c.in-Ok.ensures.accepted))
+    (c.answer_file.ensures.outcome all told)
