@@ -16,7 +16,7 @@ ghost use Rattle.mk_best.specs.inner.Picks.{IsBestLeft};
 
 use crate::chances::{ROOT, UNITS, chance_left};
 use crate::found::{Best, Chance, StateList};
-use crate::history::{engine_of, replay};
+use crate::history::engine_after;
 use crate::known::know_all;
 use crate::search::best_pairs;
 use mk_enclose::Enclosure;
@@ -85,8 +85,7 @@ fn engine_with<R: Semiring, E: Engine<R>>(
         (weights_of net.now tree.now (learned (changes history.now) given.now))) }
     ensures network { IfOk result (λ _. IsNetwork net.now) }
 {
-    let mut engine = engine_of::<R, E>(alloc, net, tree)?;
-    replay::<R, E>(&mut engine, tree, history);
+    let mut engine = engine_after::<R, E>(alloc, net, tree, history)?;
     know_all::<R, E>(&mut engine, tree, given);
     Ok(engine)
 }

@@ -13,7 +13,7 @@ ghost use Rattle.mk_best.specs.inner.Engines.{CanAsk, IsLeftFor, ArePartAndWhole
 ghost use Rattle.mk_beliefs.specs.Meanings.{weights_of};
 
 use crate::found::Chance;
-use crate::history::{engine_of, replay};
+use crate::history::engine_after;
 use crate::known::know_all;
 use crate::sure::are_sure;
 use mk_enclose::Enclosure;
@@ -69,8 +69,7 @@ pub fn chance_by<E: Engine<SumProd>>(
     requires given { ArePairsOf net.now given.now }
     ensures { IfOk result (IsChance net.now (changes history.now) want.now given.now) }
 {
-    let mut engine = engine_of::<SumProd, E>(alloc, net, tree)?;
-    replay::<SumProd, E>(&mut engine, tree, history);
+    let mut engine = engine_after::<SumProd, E>(alloc, net, tree, history)?;
     know_all::<SumProd, E>(&mut engine, tree, given);
     Ok(chance_left(&mut engine, net, tree, want))
 }

@@ -4,6 +4,7 @@ ghost use Rattle.mk_net.specs.Network.{Variable, IsNetwork};
 ghost use Rattle.mk_tree.specs.Checked.{IsTreeOf};
 ghost use Rattle.mk_beliefs.specs.Meanings.{weights_of};
 ghost use Rattle.mk_record.specs.Entries.{changes};
+ghost use Rattle.mk_best.specs.Chances.{IsPlaced};
 ghost use Rattle.mk_best.specs.inner.Engines.{CanReplay};
 
 use mk_engine::Engine;
@@ -13,8 +14,28 @@ use mk_semiring::Semiring;
 use mk_tree::Tree;
 use std::alloc::Global;
 
+/// An engine that has taken each entry of a history: it stands for the weights after it. All memory
+/// that it takes it gives back with the engine.
+pub fn engine_after<R: Semiring, E: Engine<R>>(
+    alloc: Global,
+    net: &Network,
+    tree: &Tree,
+    history: &[Entry],
+) -> Result<E, NoMemory>
+    requires suits { E.suits net.now tree.now }
+    requires tree { IsTreeOf net.now tree.now }
+    requires history { IsPlaced net.now tree.now (changes history.now) }
+    ensures stands { IfOk result (λ engine. E.stands_for engine
+        (weights_of net.now tree.now (changes history.now))) }
+    ensures network { IfOk result (λ _. IsNetwork net.now) }
+{
+    let mut engine = engine_of::<R, E>(alloc, net, tree)?;
+    replay::<R, E>(&mut engine, tree, history);
+    Ok(engine)
+}
+
 /// An engine with the rows of each variable, before any entry.
-pub(crate) fn engine_of<R: Semiring, E: Engine<R>>(
+fn engine_of<R: Semiring, E: Engine<R>>(
     alloc: Global,
     net: &Network,
     tree: &Tree,
@@ -33,7 +54,7 @@ pub(crate) fn engine_of<R: Semiring, E: Engine<R>>(
 }
 
 /// The engine takes each entry of a history, in its order.
-pub(crate) fn replay<R: Semiring, E: Engine<R>>(engine: &mut E, tree: &Tree, history: &[Entry])
+fn replay<R: Semiring, E: Engine<R>>(engine: &mut E, tree: &Tree, history: &[Entry])
     requires { CanReplay E.stands_for engine.old tree.now (changes history.now) }
     ensures { (network : List Variable) → E.stands_for engine.old (weights_of network tree.now [])
         → E.stands_for engine.new (weights_of network tree.now (changes history.now)) }

@@ -13,3 +13,4 @@ mod sure;
 pub use best_state::{best, best_by};
 pub use chances::{chance, chance_by};
 pub use found::{Best, Chance, StateList};
+pub use history::engine_after;

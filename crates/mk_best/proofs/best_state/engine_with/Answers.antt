@@ -4,4 +4,4 @@ use Rattle.mk_best.proofs.best_state.engine_with.Goals as goal
 pub returns-clause-stands : goal.returns-clause-stands
 returns-clause-stands g c =
     c.know_all.ensures c.args.net.now (changes c.args.history.now)
-    (c.replay.ensures c.args.net.now c.in_ok-engine.ensures.stands)
+    c.in_ok-engine.ensures.stands

@@ -8,7 +8,7 @@ chance_left-requires g c =
     let a = c.requires in let net = c.args.net.now in let H = changes c.args.history.now in
     record {
       history = learned H c.args.given.now;
-      stands = c.know_all.ensures net H (c.replay.ensures net c.in_ok-engine.ensures.stands);
+      stands = c.know_all.ensures net H c.in_ok-engine.ensures.stands;
       legal = c.in_ok-engine.ensures.network;
       tree_of_it = a.tree;
       few_trades = few_learned H c.args.given.now a.history.few_trades;
@@ -22,5 +22,5 @@ returns g c =
     chance_is net H c.args.want.now given c.chance_left.result c.in_ok-engine.ensures.network
     a.history.proper
     (c.chance_left.ensures (learned H given) (c.know_all.ensures net H
-    (c.replay.ensures net c.in_ok-engine.ensures.stands))
+    c.in_ok-engine.ensures.stands)
     (few_learned H given a.history.few_trades))

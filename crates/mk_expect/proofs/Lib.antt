@@ -1,0 +1,10 @@
+pub mod Powers
+pub mod Means
+pub mod Histories
+pub mod Covered
+pub mod Shares
+pub mod Tallied
+pub mod Transfers
+pub mod Added
+pub mod Prefixes
+pub mod Placed
