@@ -26,6 +26,7 @@ use Rattle.mk_session.specs.inner.Keeping.{SpeaksAndTells, AreTold, AreHeld, Are
 use Rattle.mk_session.specs.inner.Keeping.{IsLeft}
 use Rattle.mk_session.proofs.Answering.{asks_behind, run_behind, sound_so_far}
 use Rattle.mk_session.proofs.Endings.{whole_or_none}
+use Rattle.mk_session.proofs.Records.{are_recorded}
 use Rattle.mk_session.proofs.Keeping.{same_number, changes_behind, told_more, all_told}
 use Rattle.mk_session.proofs.Keeping.{told_in_front}
 
@@ -145,6 +146,7 @@ module _ (market : Market) (lines more : List StreamLine) (now then : Standing)
       run = run;
       least = far.least;
       told = told_in_front market asked replies far.bytes first far.least not_yet;
+      are = are_recorded market far.is_market (lines ++ more) then asked replies asks run;
       left = subst (λ (rs : List (List ℕ)). leaves far.least rs) (sym all_records) left;
     }
 
@@ -163,6 +165,7 @@ module _ (market : Market) (lines more : List StreamLine) (now then : Standing)
       least = length ((old ++ records) ++ others);
       told = all_told market asked replies (IsFrontOf (far.bytes ++ cut.front)) first
           (length ((old ++ records) ++ others)) all_count;
+      are = are_recorded market far.is_market (lines ++ more) then asked replies asks run;
       left = subst (λ (rs : List (List ℕ)). leaves (length ((old ++ records) ++ others)) rs)
           (sym all_records) left;
     }
@@ -207,6 +210,7 @@ left_now market lines now before written waits first holds leaves leave far = re
   run = far.run;
   least = far.least;
   told = told_in_front market far.asked far.replies far.bytes first far.least far.told;
+  are = are_recorded market far.is_market lines now far.asked far.replies far.asks far.run;
   left = leave far.least (records_of (changes_of market opening far.asked far.replies)) far.held;
 }
 

@@ -4,6 +4,7 @@ pub mod Gathering
 pub mod Underway
 pub mod Endings
 pub mod Spoken
+pub mod Records
 pub mod Keeping
 pub mod Held
 pub mod Turns

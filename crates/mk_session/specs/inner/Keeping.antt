@@ -13,6 +13,7 @@ use Rattle.mk_reply.specs.Replies.{reply_text}
 use Rattle.mk_rules.specs.Transcript.{Standing, opening, Line, IsAllowedFor, after, Run}
 use Rattle.mk_rules.specs.Standings.{IsMarket}
 use Rattle.mk_restore.specs.Restoring.{Changes, changes_of}
+use Rattle.mk_restore.specs.Restoring.{IsRecord}
 use Rattle.mk_session.specs.declared.waiting.TellFault.{TellFault}
 use Rattle.mk_session.specs.declared.waiting.TellFault.TheVariants.{Disk, Sink}
 use Rattle.mk_session.specs.Texts.{reply_line}
@@ -26,6 +27,10 @@ record_of change = command_text (change.0) ++ 10 ∷ reply_text (change.1)
 
 abbrev pub records_of : Changes → List (List ℕ)
 records_of changes = map record_of changes
+
+-- such a record is what a store's record is of a change
+abbrev pub IsRecordOf : List ℕ → Command × Reply → Type 0
+IsRecordOf bytes change = IsRecord bytes (change.0) (change.1)
 
 -- a line that is not blank got one reply, whose line this is
 pub record IsSpoken (market : Market) (old : Standing) (line : StreamLine) (new : Standing)
@@ -92,7 +97,8 @@ pub record AreHeld (market : Market) (lines : List StreamLine) (now : Standing)
   pub told : AreTold market asked replies (λ text. length text ≤ length bytes) first least
   pub held : holds least (records_of (changes_of market opening asked replies))
 
--- some lines were answered; a crash leaves a front of the changes with all that are told
+-- some lines were answered; a crash leaves a front of the records of their changes, with those of
+-- all changes that are told
 pub record AreLeft (market : Market) (lines : List StreamLine) (before written : Option (List ℕ))
     (first : ℕ) (leaves : ℕ → List (List ℕ) → Type 0) : Type 0 where
   pub bytes : List ℕ
@@ -104,6 +110,8 @@ pub record AreLeft (market : Market) (lines : List StreamLine) (before written :
   pub run : Run market opening asked replies now
   pub least : ℕ
   pub told : AreTold market asked replies (IsFrontOf bytes) first least
+  pub are : AllZip IsRecordOf (records_of (changes_of market opening asked replies))
+      (changes_of market opening asked replies)
   pub left : leaves least (records_of (changes_of market opening asked replies))
 
 -- so far, between two lines
