@@ -106,6 +106,20 @@ fn print_answer_to(
             return print_reply_line(&Reply::Price { low, high }, print);
         }
     }
+    print_applied(alloc, market, command, print)
+}
+
+/// Puts the line of the reply that the market makes to a command into `print`, in place of what it
+/// held. It is a call of its own, since a plain price needs no room for a reply.
+#[inline(never)]
+fn print_applied(
+    alloc: Global,
+    market: &mut TreeMarket,
+    command: &CommandRef,
+    print: &mut LineBuffer,
+)
+    ensures { IsPrinted market.old market.new (command_of command.now) print.new.bytes }
+{
     print_reply_line(&market.apply(alloc, command), print)
 }
 
