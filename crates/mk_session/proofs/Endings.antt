@@ -274,8 +274,8 @@ pub breaks_after : {T : Type 0} (said : Result T TellFault) (ended : Option Endi
     → IfSome ended (λ end. (all : List ℕ) (before : Option (List ℕ)) → IsSoFar market all old
     source now before written waited → IsEnded (shown end) market then all rest before after)
 breaks_after said ended market line old new source rest now then written after waited e gives cut =
-    breaks_off said ended market old (gives.piece ++ new.left) source rest now then written after waited
-    e (gives.taken ∙ prepend_known_twice gives.piece new.left rest) cut
+    breaks_off said ended market old (gives.piece ++ new.left) source rest now then written after
+    waited e (gives.taken ∙ prepend_known_twice gives.piece new.left rest) cut
 
 -- what waits was told before: the run goes on from there
 pub goes_on_from : (ended : Option Ending) (market : Market) (old new : Cutting)
@@ -302,7 +302,8 @@ pub ends_from : (ended : Option Ending) (market : Market) (cutting : Cutting)
     → IfSome ended (λ end. (all : List ℕ) (before : Option (List ℕ)) → IsSoFar market all cutting
     source now before written waited → IsEnded (shown end) market then all rest before after)
 ends_from None market cutting source rest now then written mid after waited left gathers next = tt
-ends_from (Some end) market cutting source rest now then written mid after waited left gathers next =
+ends_from (Some end) market cutting source rest now then written mid after waited left gathers
+    next =
     λ all before far. next all before (still_so_far market all cutting source now before written mid
     waited left gathers far)
 
