@@ -29,3 +29,7 @@ pub mod Resolved
 pub mod Paid
 pub mod Settlement
 pub mod Homes
+pub mod TakenBack
+pub mod TradesBack
+pub mod Booked
+pub mod Retold

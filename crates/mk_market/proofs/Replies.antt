@@ -113,7 +113,7 @@ answered_refused tell old known same command other why (Err found) e refusal =
     (subst (λ (t : Trading). IsAnswered t t command (Refused why)) same (refused_answered known command why other refusal))
 
 -- where no refusal meets a command the market is unsettled
-unsettled_first : (b : Bool) (why : Refusal) (later : Option Refusal) → None ≡ or_else (fault_if b why) later → b ≡ false
+pub unsettled_first : (b : Bool) (why : Refusal) (later : Option Refusal) → None ≡ or_else (fault_if b why) later → b ≡ false
 unsettled_first true why later none = absurd (cc)
 unsettled_first false why later none = refl
 

@@ -4,3 +4,4 @@ pub mod Quoting
 pub mod Paying
 pub mod Stopped
 pub mod Answering
+pub mod Restored

@@ -51,7 +51,7 @@ ghost use Rattle.mk_record.specs.Members.{names_of, quotes_of};
 ghost use Rattle.mk_market.specs.inner.Quoting.{OwnsAt, CanBeTold};
 
 /// The home of a pair of the network.
-fn home_of(file: &MarketFile, pair: Pair) -> u32
+pub(crate) fn home_of(file: &MarketFile, pair: Pair) -> u32
     requires { is_some (home file.now.tree (pair ∷ [])) ≡ true }
     ensures { home file.now.tree (pair ∷ []) ≡ Some result }
 {
@@ -62,7 +62,7 @@ fn home_of(file: &MarketFile, pair: Pair) -> u32
 }
 
 /// Every user's assets learn a pair, whose home this is.
-fn tell<A: Engine<MinProd>>(users: &mut Users<A>, home: u32, pair: Pair)
+pub(crate) fn tell<A: Engine<MinProd>>(users: &mut Users<A>, home: u32, pair: Pair)
     requires { CanBeTold A.stands_for users.old home pair }
     ensures assets { (u : ℕ) (h : Holding) → OwnsAt A.stands_for users.old u h → OwnsAt A.stands_for users.new u (with_known_pair pair h) }
     ensures names { names_of users.new ≡ names_of users.old }

@@ -1,0 +1,106 @@
+use Rattle.std.specs.Prelude.{[], ◌∷◌, ◌++◌}
+use Rattle.std.proofs.Common.{refl, sym, ap, ◌∙◌, subst}
+use Rattle.mk_net.specs.Asked.{TradeRatio}
+use Rattle.mk_net.specs.Trades.{trade_ratio}
+use Rattle.mk_exact.specs.History.{Trade}
+use Rattle.mk_exact.specs.Sides.{ratio_in}
+use Rattle.mk_command.specs.declared.command.Command.TheVariants.{Edit}
+use Rattle.mk_reply.specs.Replies.{IsReply}
+use Rattle.mk_rules.proofs.Traded.{ratio_fits}
+use Rattle.mk_market.specs.inner.Quoting.{CanBeMade}
+use Rattle.mk_market.proofs.TakenBack.{left_by_reply, left_by_refusal, tried_unfit}
+use Rattle.mk_market.proofs.Traded.{home_of_ratio}
+use Rattle.mk_market.proofs.Trades.{can_be_made, trade_kept}
+use Rattle.mk_market.proofs.TradesBack.{edit_fits, edit_unsettled, edit_units, edit_paid, edit_next}
+use Rattle.mk_market.proofs.market.Market.restore_edit.Goals as goal
+
+pub returns-in_default : goal.returns-in_default
+returns-in_default g c =
+    let wish = c.args.wish.now in
+    rw (← c.self.view_is) (left_by_reply _
+    (Edit c.args.name.now wish.question.now wish.to wish.at) c.args.reply.now
+    c.in_default.ensures.none)
+
+pub returns-in_err-request : goal.returns-in_err-request
+returns-in_err-request g c =
+    let wish = c.args.wish.now in
+    let command = Edit c.args.name.now wish.question.now wish.to wish.at in
+    rw (← c.self.view_is) (tried_unfit _ _ command c.args.reply.now c.from_residual.result
+    c.from_residual.ensures.1
+    (left_by_refusal _ command c.args.reply.now c.in_err-request.field-0.0
+    c.in_err-request.ensures.refusal))
+
+pub trade-requires : goal.trade-requires
+trade-requires g c =
+    let i = c.self.inside in
+    let found = c.in_ok-request in
+    let units = c.in-Some.units in
+    let are = subst IsReply c.in-Some.ensures.some c.requires in
+    subst (λ (r : TradeRatio). CanBeMade g.P.Engine.stands_for g.A.Engine.stands_for i.prices
+    i.users i.journal found.request.user found.request.home r)
+    (sym c.ratio_of_edit-ratio.ensures)
+    (can_be_made g.P.Engine.stands_for g.A.Engine.stands_for g.A.Engine.plan_for i.file i.prices
+    i.rows i.plan i.users i.ledger i.journal i.payments c.self.invariant found.request.user
+    found.ensures.user.within
+    (ratio_in i.file.net found.request.question (units.0) (units.1)) i.prices i.users
+    (λ m stands. stands) (λ u h owns. owns) refl
+    (ratio_fits i.file.net found.request.question (units.0) (units.1)
+    found.ensures.question.answered.in_order.in_range are.0.positive are.1.positive)
+    found.request.home (home_of_ratio i.file.net i.file.tree found.request.question
+    found.request.home found.ensures.home (units.0) (units.1)) found.ensures.room.few)
+
+pub invariant_of-self : goal.invariant_of-self
+invariant_of-self g c =
+    let i = c.self.inside in
+    let found = c.in_ok-request in
+    let wish = c.args.wish.now in
+    let units = c.in-Some.units in
+    let ratio = c.ratio_of_edit-ratio in
+    let told = c.in-Some.ensures.some in
+    let history = c.trade.ensures.history ∙ ap
+    (λ (r : TradeRatio). i.journal.history ++ Trade found.request.user r ∷ []) ratio.ensures in
+    trade_kept g.P.Engine.stands_for g.A.Engine.stands_for g.A.Engine.plan_for i.file i.prices
+    i.rows i.plan i.users i.ledger i.journal i.payments c.self.invariant found.request.user
+    found.ensures.user.within (trade_ratio ratio.result)
+    (Edit c.args.name.now wish.question.now wish.to wish.at) c.args.reply.now tt
+    (edit_units i.file i.journal c.args.name.now found.request.user found.ensures.user
+    wish.question.now found.request.question found.ensures.question wish.to wish.at
+    found.ensures.refusal (units.0) (units.1) c.args.reply.now told c.requires)
+    (edit_unsettled i.file i.journal c.args.name.now found.request.user found.ensures.user
+    wish.question.now found.request.question found.ensures.question wish.to wish.at
+    found.ensures.refusal (units.0) (units.1) c.args.reply.now told)
+    c.trade.new.users c.trade.new.journal
+    (edit_fits i.file i.journal c.args.name.now found.request.user found.ensures.user
+    wish.question.now found.request.question found.ensures.question wish.to wish.at
+    found.ensures.refusal (units.0) (units.1) c.args.reply.now told)
+    (edit_next i.file i.journal c.args.name.now found.request.user found.ensures.user
+    wish.question.now found.request.question found.ensures.question wish.to wish.at
+    found.ensures.refusal (units.0) (units.1) c.args.reply.now told i.users c.trade.new.users
+    c.trade.new.journal history c.trade.ensures.quotes)
+    c.trade.ensures.history c.trade.ensures.quotes
+    c.trade.new.prices c.trade.ensures.limit c.trade.ensures.prices c.trade.ensures.names
+    (c.trade.ensures.assets i.file.net i.file.tree c.self.invariant.owns)
+
+pub returns : goal.returns
+returns g c =
+    let i = c.self.inside in
+    let found = c.in_ok-request in
+    let wish = c.args.wish.now in
+    let units = c.in-Some.units in
+    let ratio = c.ratio_of_edit-ratio in
+    let told = c.in-Some.ensures.some in
+    let history = c.trade.ensures.history ∙ ap
+    (λ (r : TradeRatio). i.journal.history ++ Trade found.request.user r ∷ []) ratio.ensures in
+    rw (← c.self.view_is) (record {
+      same_market = refl;
+      fits = edit_fits i.file i.journal c.args.name.now found.request.user found.ensures.user
+          wish.question.now found.request.question found.ensures.question wish.to wish.at
+          found.ensures.refusal (units.0) (units.1) c.args.reply.now told;
+      next = edit_next i.file i.journal c.args.name.now found.request.user found.ensures.user
+          wish.question.now found.request.question found.ensures.question wish.to wish.at
+          found.ensures.refusal (units.0) (units.1) c.args.reply.now told i.users c.trade.new.users
+          c.trade.new.journal history c.trade.ensures.quotes;
+      paid = edit_paid i.file i.journal c.args.name.now found.request.user found.ensures.user
+          wish.question.now found.request.question found.ensures.question wish.to wish.at
+          found.ensures.refusal (units.0) (units.1) c.args.reply.now told i.ledger;
+    })

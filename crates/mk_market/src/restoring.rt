@@ -1,0 +1,202 @@
+//! Taking back the changes that a store gives.
+
+use crate::market::Market;
+use crate::possible::can_come;
+use crate::resolving::{home_of, tell};
+use crate::stored::{tells_deposit, tells_join, tells_resolution, tells_withdrawal};
+use mk_assets::Assets;
+use mk_command::CommandRef;
+use mk_engine::Engine;
+use mk_net::{Name, PairText};
+use mk_record::{EditWish, SpreadWish, refuse_resolve, refuse_transfer, refuse_user};
+use mk_reply::{Refusal, Reply};
+use mk_semiring::{MinProd, SumProd};
+use std::alloc::Global;
+
+/// Why a change is not taken back.
+#[derive(Clone, Copy, Debug, PartialEq, Eq)]
+pub enum RestoreFault {
+    /// The command and its reply do not fit the changes before them.
+    Unfit,
+    /// Memory was wanting.
+    Memory,
+}
+
+impl From<Refusal> for RestoreFault {
+    ghost use Rattle.std.specs.Prelude.{◌≡◌};
+    ghost use Rattle.mk_market.specs.declared.restoring.RestoreFault.TheVariants.{Unfit};
+
+    ghost from_gives = { λ _ e. e ≡ Unfit };
+
+    fn from(_: Refusal) -> RestoreFault {
+        RestoreFault::Unfit
+    }
+}
+
+impl<P: Engine<SumProd>, A: Engine<MinProd>> Market<P, A> {
+    ghost use Rattle.std.specs.Prelude.{◌≡◌, Err, IfOk, OnOk, OnErr};
+    ghost use Rattle.mk_command.specs.Commands.{command_of};
+    ghost use Rattle.mk_command.specs.declared.command.Command.TheVariants.{User, Deposit};
+    ghost use Rattle.mk_command.specs.declared.command.Command.TheVariants.{Withdraw, Resolve};
+    ghost use Rattle.mk_reply.specs.Replies.{IsReply};
+    ghost use Rattle.mk_rules.specs.Transcript.{OfCommand, after};
+    ghost use Rattle.mk_restore.specs.Restoring.{IsFit};
+    ghost use Rattle.mk_market.specs.Points.{ArePaidBy};
+    ghost use Rattle.mk_market.specs.declared.restoring.RestoreFault.TheVariants.{Unfit};
+    ghost use Rattle.mk_market.specs.inner.Restored.{IsTried};
+
+    /// Takes back a change that a store gives: a command with the reply that it had. Units and
+    /// payments are taken as they are, and no belief is asked but whether a resolution leaves a
+    /// possible state. Only a user who joins takes memory. After a fault the market is as before.
+    #[tactic(auto, unfolding(mk_command::specs::Commands::command_of))]
+    pub fn restore(
+        &mut self,
+        alloc: Global,
+        command: &CommandRef,
+        reply: &Reply,
+    ) -> Result<(), RestoreFault>
+        requires { IsReply reply.now }
+        ensures market { self.new.market ≡ self.old.market }
+        ensures fits { IfOk result (λ _. IsFit self.old.market (self.old.standing).history
+            (command_of command.now) reply.now) }
+        ensures unfit { result ≡ Err Unfit → IsFit self.old.market (self.old.standing).history
+            (command_of command.now) reply.now → ⊥ }
+        ensures next { OnOk result (self.new.standing ≡
+            after self.old.market self.old.standing (OfCommand (command_of command.now))
+            reply.now) }
+        ensures paid { OnOk result (ArePaidBy reply.now self.old.accounts self.new.accounts) }
+        ensures same { OnErr result (self.new ≡ self.old) }
+    {
+        self.take_back(alloc, command, reply)
+    }
+
+    /// Takes back a change, as its command does it.
+    #[tactic(auto, unfolding(mk_command::specs::Commands::command_of))]
+    fn take_back(
+        &mut self,
+        alloc: Global,
+        command: &CommandRef,
+        reply: &Reply,
+    ) -> Result<(), RestoreFault>
+        requires { IsReply reply.now }
+        ensures { IsTried self.old self.new (command_of command.now) reply.now result }
+    {
+        match command {
+            CommandRef::User { user } => self.restore_user(alloc, user, reply),
+            CommandRef::Deposit { user, bits } => self.restore_deposit(user, *bits, reply),
+            CommandRef::Withdraw { user, bits } => self.restore_withdrawal(user, *bits, reply),
+            CommandRef::Edit {
+                user,
+                question,
+                to,
+                at,
+            } => {
+                let wish = EditWish {
+                    question,
+                    to: *to,
+                    at: *at,
+                };
+                self.restore_edit(user, &wish, reply)
+            }
+            CommandRef::Spread {
+                user,
+                variable,
+                condition,
+                to,
+                at,
+            } => {
+                let wish = SpreadWish {
+                    variable,
+                    condition: condition.as_slice(),
+                    to: to.as_slice(),
+                    at: *at,
+                };
+                self.restore_spread(user, &wish, reply)
+            }
+            CommandRef::Resolve { pair } => self.restore_resolution(pair, reply),
+            CommandRef::Settle => self.restore_settlement(reply),
+            _ => Err(RestoreFault::Unfit),
+        }
+    }
+
+    /// A user joins again. All memory is taken before anything changes.
+    fn restore_user(
+        &mut self,
+        alloc: Global,
+        name: &Name,
+        reply: &Reply,
+    ) -> Result<(), RestoreFault>
+        ensures { IsTried self.old self.new (User name.now) reply.now result }
+    {
+        if !tells_join(&self.journal, name, reply) {
+            return Err(RestoreFault::Unfit);
+        }
+        refuse_user(&self.journal, &self.users, name)?;
+        let known = self.journal.known();
+        let Ok(assets) = Assets::start(alloc, &self.plan, &self.file.net, &self.file.tree, known)
+        else {
+            return Err(RestoreFault::Memory);
+        };
+        let Ok(()) = self.users.join(*name, assets) else {
+            return Err(RestoreFault::Memory);
+        };
+        let _ = name.bytes();
+        self.ledger.join();
+        self.journal.join(*name);
+        Ok(())
+    }
+
+    /// A user pays in again.
+    fn restore_deposit(&mut self, name: &Name, bits: u32, reply: &Reply) -> Result<(), RestoreFault>
+        ensures { IsTried self.old self.new (Deposit name.now bits) reply.now result }
+    {
+        if !tells_deposit(&self.journal, name, bits, reply) {
+            return Err(RestoreFault::Unfit);
+        }
+        let user = refuse_transfer(&self.journal, &self.users, name, bits)?;
+        self.users.assets(user).deposit(bits);
+        self.ledger
+            .deposit(user, self.file.points_per_bit as u64 * bits as u64);
+        self.journal.deposit(user, bits);
+        Ok(())
+    }
+
+    /// A user takes out again, covered or not.
+    fn restore_withdrawal(
+        &mut self,
+        name: &Name,
+        bits: u32,
+        reply: &Reply,
+    ) -> Result<(), RestoreFault>
+        ensures { IsTried self.old self.new (Withdraw name.now bits) reply.now result }
+    {
+        if !tells_withdrawal(&self.journal, name, bits, reply) {
+            return Err(RestoreFault::Unfit);
+        }
+        let user = refuse_transfer(&self.journal, &self.users, name, bits)?;
+        self.users.assets(user).withdraw(bits);
+        self.ledger
+            .withdraw(user, self.file.points_per_bit as u64 * bits as u64);
+        self.journal.withdraw(user, bits);
+        Ok(())
+    }
+
+    /// A variable has a value again.
+    fn restore_resolution(&mut self, words: &PairText, reply: &Reply) -> Result<(), RestoreFault>
+        ensures { IsTried self.old self.new (Resolve words.now) reply.now result }
+    {
+        if !tells_resolution(&self.journal, words, reply) {
+            return Err(RestoreFault::Unfit);
+        }
+        let pair = refuse_resolve(&self.file, &self.journal, words)?;
+        let home = home_of(&self.file, pair);
+        if !can_come(&mut self.prices, &self.file.net, home, pair) {
+            return Err(RestoreFault::Unfit);
+        }
+        self.prices.know(home, pair);
+        self.rows.know(home, pair);
+        tell(&mut self.users, home, pair);
+        self.journal.resolve(pair);
+        Ok(())
+    }
+}
