@@ -1,3 +1,11 @@
 pub mod Sampling
 pub mod SampleSizes
 pub mod SampleLengths
+pub mod Listing
+pub mod Wanting
+pub mod Many
+pub mod Knowing
+pub mod Stating
+pub mod Behind
+pub mod Calling
+pub mod Placing

@@ -1,2 +1,3 @@
--- What only private contracts cite.
+-- What only proofs and private contracts cite.
 pub mod Asking
+pub mod Printing

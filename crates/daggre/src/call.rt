@@ -1,7 +1,7 @@
 //! A call of the program, from its arguments to its exit status.
 
 ghost use Rattle.std.specs.Vec.Iter.{into_iter_items};
-ghost use Rattle.std.specs.Prelude.{◌≡◌, ◌≢◌, ◌⊎◌, ℕ, List, [], ◌∷◌, drop, map, string_bytes};
+ghost use Rattle.std.specs.Prelude.{◌≡◌, ◌≢◌, ◌≤◌, ◌⊎◌, ℕ, List, [], drop, map, string_bytes, length};
 ghost use Rattle.std.specs.Prelude.{None, Some, Err, IsOk, IfOk, IfErr, IfSome, IfNone};
 ghost use Rattle.mk_io.specs.Outside.{Rose};
 ghost use Rattle.mk_io.specs.Status.{code_of};
@@ -9,11 +9,14 @@ ghost use Rattle.mk_file.specs.File.{file_of};
 ghost use Rattle.mk_file.specs.declared.fault.FileFault.{FileFault};
 ghost use Rattle.mk_session.specs.Complete.{AreWithin};
 ghost use Rattle.mk_session.specs.Outcome.{Adds, Outcome, IsTurnedAway, HasCauses};
-ghost use Rattle.daggre.specs.Words.{Run, Sample, asked_of, EndsUsage};
-ghost use Rattle.daggre.specs.Called.{words_in, asked_by, Exits};
+ghost use Rattle.daggre.specs.Words.{Run, Sample, RunThen, asked_of, EndsUsage};
+ghost use Rattle.daggre.specs.AskOutcome.{AskOutcome};
+ghost use Rattle.daggre.specs.declared.ask.Ask.{Ask};
+ghost use Rattle.daggre.specs.Called.{words_in, asked_by, named_by, Exits};
 ghost use Rattle.daggre.specs.Sampled.{EndsSample};
 
 use crate::program::program;
+use arrayvec::ArrayVec;
 use mk_io::{Inputs, Sink, Status};
 use mk_net::NoMemory;
 use std::alloc::Global;
@@ -32,17 +35,22 @@ pub fn call<I: Inputs, S: Sink>(
     inputs: &mut I,
     out: &mut S,
 ) -> u8
-    requires { (name : List ℕ) → asked_by arguments ≡ Some (Some (Run name)) → I.admits name }
+    requires { (name : List ℕ) → named_by arguments ≡ Some (Some name) → I.admits name }
     ensures run { (name file all : List ℕ) → asked_by arguments ≡ Some (Some (Run name)) →
         I.file inputs.old name ≡ Some file → I.commands inputs.old ≡ Some all →
         Exits result (λ status. Outcome status file all (I.commands inputs.new)
         (S.written out.old) (S.written out.new)) }
+    ensures asks { (name file all : List ℕ) (ask : Ask) →
+        asked_by arguments ≡ Some (Some (RunThen name ask)) →
+        I.file inputs.old name ≡ Some file → I.commands inputs.old ≡ Some all →
+        Exits result (λ status. AskOutcome status ask file all (I.commands inputs.new)
+        (S.written out.old) (S.written out.new)) }
     ensures refused { (name file : List ℕ) (fault : FileFault) →
-        asked_by arguments ≡ Some (Some (Run name)) →
+        named_by arguments ≡ Some (Some name) →
         I.file inputs.old name ≡ Some file → file_of file ≡ Err fault →
         Exits result (λ status. IsTurnedAway status fault (I.commands inputs.old)
         (I.commands inputs.new) (S.written out.old) (S.written out.new)) }
-    ensures complete { (name file all : List ℕ) → asked_by arguments ≡ Some (Some (Run name)) →
+    ensures complete { (name file all : List ℕ) → named_by arguments ≡ Some (Some name) →
         I.file inputs.old name ≡ Some file → I.commands inputs.old ≡ Some all →
         IsOk (file_of file) → AreWithin all →
         (Rose (I.faults inputs.old) (I.faults inputs.new) → ⊥) →
@@ -53,7 +61,7 @@ pub fn call<I: Inputs, S: Sink>(
         Adds (S.written out.old) (S.written out.new) (EndsSample status n)) }
     ensures other_words { asked_by arguments ≡ Some None →
         Exits result (λ status. Adds (S.written out.old) (S.written out.new) (EndsUsage status)) }
-    ensures unread { ((name : List ℕ) → asked_by arguments ≢ Some (Some (Run name))) →
+    ensures unread { ((name : List ℕ) → named_by arguments ≢ Some (Some name)) →
         inputs.new ≡ inputs.old }
     ensures usage { result ≡ code_of Status.Usage → asked_by arguments ≡ Some None }
     ensures causes { Exits result (λ status. HasCauses status
@@ -61,24 +69,25 @@ pub fn call<I: Inputs, S: Sink>(
     ensures no_memory { asked_by arguments ≡ None →
         (result ≡ code_of Status.Memory) × (S.written out.new ≡ S.written out.old) }
 {
-    match two_words(arguments) {
-        Ok(Some((word, argument))) => {
-            program(alloc, &[word.as_str(), argument.as_str()], inputs, out).code()
-        }
+    match words_of(alloc, arguments) {
+        Ok(Some(words)) => program(alloc, lent(words.as_slice()).as_slice(), inputs, out).code(),
         Ok(None) => program(alloc, &[], inputs, out).code(),
         Err(NoMemory) => Status::Memory.code(),
     }
 }
 
-/// The words of a call, where there are two. Any other number of words asks for nothing.
-fn two_words(arguments: io::Result<Args>) -> Result<Option<(String, String)>, NoMemory>
-    ensures two { IfOk result (λ found. IfSome found (λ words.
-        words_in arguments ≡ Some (string_bytes words.0 ∷ string_bytes words.1 ∷ []))) }
+/// As many words as ask for something at most: a form, a name, two lists and the word between them.
+type WordList = ArrayVec<String, 131, Global>;
+
+/// The words of a call, where they are not too many. More words ask for nothing.
+fn words_of(alloc: Global, arguments: io::Result<Args>) -> Result<Option<WordList>, NoMemory>
+    ensures some { IfOk result (λ found. IfSome found (λ words.
+        words_in arguments ≡ Some (map string_bytes words.items))) }
     ensures others { IfOk result (λ found. IfNone found (asked_by arguments ≡ Some None)) }
     ensures unknown { IfErr result (λ _. words_in arguments ≡ None) }
 {
     match arguments {
-        Ok(mut arguments) => Ok(words_behind_name(&mut arguments)),
+        Ok(arguments) => Ok(words_behind_name(alloc, arguments)),
         Err(error) => match error.kind() {
             io::ErrorKind::InvalidData => Ok(None),
             _ => Err(NoMemory),
@@ -86,17 +95,32 @@ fn two_words(arguments: io::Result<Args>) -> Result<Option<(String, String)>, No
     }
 }
 
-/// The two words behind the program's own name, where there are just two.
-fn words_behind_name(arguments: &mut Args) -> Option<(String, String)>
-    ensures two { IfSome result (λ words.
-        drop 1 (map string_bytes (into_iter_items arguments.old)) ≡
-        string_bytes words.0 ∷ string_bytes words.1 ∷ []) }
+/// The words behind the program's own name, where they are not too many.
+fn words_behind_name(alloc: Global, mut arguments: Args) -> Option<WordList>
+    ensures some { IfSome result (λ words.
+        drop 1 (map string_bytes (into_iter_items arguments)) ≡ map string_bytes words.items) }
     ensures others { IfNone result
-        (asked_of (drop 1 (map string_bytes (into_iter_items arguments.old))) ≡ None) }
+        (asked_of (drop 1 (map string_bytes (into_iter_items arguments))) ≡ None) }
 {
     let _name = arguments.next();
-    match (arguments.next(), arguments.next(), arguments.next()) {
-        (Some(word), Some(argument), None) => Some((word, argument)),
-        _ => None,
+    let mut words = ArrayVec::new_in(alloc);
+    'words: while let Some(word) = arguments.next() {
+        if words.is_full() {
+            return None;
+        }
+        words.push(word);
     }
+    Some(words)
+}
+
+/// The words, lent.
+fn lent(words: &[String]) -> ArrayVec<&str, 131>
+    requires { length words.now ≤ 131 }
+    ensures { map (λ w. w.now) result.items ≡ map string_bytes words.now }
+{
+    let mut texts = ArrayVec::new();
+    for word in words {
+        texts.push(word.as_str());
+    }
+    texts
 }

@@ -1,7 +1,11 @@
 //! `daggre`: the verified core of a combinatorial prediction market.
 #![tactic(auto)]
 
+mod ask;
+mod asking;
+mod asks;
 mod call;
+mod last_line;
 mod program;
 mod sample;
 mod words;

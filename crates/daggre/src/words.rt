@@ -1,43 +1,64 @@
 //! What the words of a call ask for.
 
-ghost use Rattle.std.specs.Prelude.{◌≡◌, ◌≤◌, map, codes, decimal, None, Some, IfSome};
-ghost use Rattle.std.specs.Option.{option_copied};
+ghost use Rattle.std.specs.Prelude.{◌≡◌, ◌≤◌, [], ◌∷◌, map, codes, decimal, IfSome};
+ghost use Rattle.std.specs.Prelude.{option_map};
 ghost use Rattle.mk_net.specs.Texts.{same_text};
 ghost use Rattle.daggre.specs.Words.{max_sample, asked_of, size_of};
-ghost use Rattle.daggre.specs.inner.Asking.{name_in, size_in};
+ghost use Rattle.daggre.specs.inner.Asking.{asked_as, IsSized};
 
+use crate::ask::Ask;
+use crate::asks::ask_of;
 use itoa::Buffer;
 
 /// The greatest number of variables of a sample.
 const MAX_SAMPLE: u32 = 256;
 
-/// The name of the market that the words ask to run, if they do.
-pub fn market_name<'a>(words: &[&'a str]) -> Option<&'a str>
-    ensures { option_copied result ≡ name_in (asked_of (map (λ w. w.now) words.now)) }
+/// What the words of a call ask for, with the names that they lend.
+#[derive(Drop)]
+pub enum Asked<'a> {
+    /// To run a market.
+    Run { name: &'a str },
+    /// To run the sample market of so many variables.
+    Sample { size: u32 },
+    /// To run a market and then answer what is asked of its last history.
+    RunThen { name: &'a str, ask: Ask },
+}
+
+/// What the words ask for, if it is something that the program knows.
+pub fn read_words<'a>(words: &[&'a str]) -> Option<Asked<'a>>
+    ensures asked { option_map asked_as result ≡ asked_of (map (λ w. w.now) words.now) }
+    ensures sized { IfSome result IsSized }
 {
     match words {
-        [word, name] => { if is_run(word) { Some(*name) } else { None } }
+        [word, argument] => asked_by_two(word, argument),
+        [word, name, rest @ ..] => match ask_of(word, rest) {
+            Some(ask) => Some(Asked::RunThen { name, ask }),
+            None => None,
+        },
         _ => None,
     }
 }
 
-/// The number of variables of the sample that the words ask to run, if they do.
-pub fn sample_size(words: &[&str]) -> Option<u32>
-    ensures size { result ≡ size_in (asked_of (map (λ w. w.now) words.now)) }
-    ensures within { IfSome result (λ n. (2 ≤ n) × (n ≤ max_sample)) }
+/// What two words ask for.
+fn asked_by_two<'a>(word: &str, argument: &'a str) -> Option<Asked<'a>>
+    ensures asked { option_map asked_as result ≡ asked_of (word.now ∷ argument.now ∷ []) }
+    ensures sized { IfSome result IsSized }
 {
-    match words {
-        // As in the definition, a run is looked for first.
-        [word, size] => {
-            if is_run(word) {
-                None
-            } else if is_sample(word) {
-                size_named(size)
-            } else {
-                None
-            }
+    if is_run(word) {
+        Some(Asked::Run { name: argument })
+    } else if is_sample(word) {
+        match size_named(argument) {
+            Some(size) => Some(Asked::Sample { size }),
+            None => None,
         }
-        _ => None,
+    } else {
+        match ask_of(word, &[]) {
+            Some(ask) => Some(Asked::RunThen {
+                name: argument,
+                ask,
+            }),
+            None => None,
+        }
     }
 }
 

@@ -1,15 +1,16 @@
--- The parts of what the words ask.
-use Rattle.std.specs.Prelude.{ℕ, List, Option, Some, None}
-use Rattle.daggre.specs.Words.{Asked, Run, Sample}
+-- What the words ask, with the names that they lend.
+use Rattle.std.specs.Prelude.{ℕ, ◌≤◌, ⊤}
+use Rattle.daggre.specs.Words as words
+use Rattle.daggre.specs.declared.words.Asked.{Asked}
+use Rattle.daggre.specs.declared.words.Asked.TheVariants as lent
 
--- the name of the market to run, where the words ask for one
-abbrev pub name_in : Option Asked → Option (List ℕ)
-name_in None = None
-name_in (Some (Run name)) = Some name
-name_in (Some (Sample n)) = None
+abbrev pub asked_as : Asked → words.Asked
+asked_as (lent.Run name) = words.Run name.now
+asked_as (lent.Sample size) = words.Sample size
+asked_as (lent.RunThen name ask) = words.RunThen name.now ask
 
--- the number of variables of the sample, where they ask for one
-abbrev pub size_in : Option Asked → Option ℕ
-size_in None = None
-size_in (Some (Run name)) = None
-size_in (Some (Sample n)) = Some n
+-- a sample has as many variables as one may have
+abbrev pub IsSized : Asked → Type 0
+IsSized (lent.Run name) = ⊤
+IsSized (lent.Sample size) = (2 ≤ size) × (size ≤ words.max_sample)
+IsSized (lent.RunThen name ask) = ⊤

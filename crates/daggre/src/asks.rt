@@ -1,0 +1,123 @@
+//! The words that ask something of a market's last history.
+
+ghost use Rattle.std.specs.Prelude.{◌≡◌, ◌==◌, map, codes, position, Some, None, if◌then◌else◌};
+ghost use Rattle.std.specs.Prelude.{option_map, option_and_then, length, IfSome, ◌<◌};
+ghost use Rattle.mk_net.specs.Name.{is_name};
+ghost use Rattle.mk_net.specs.Texts.{same_text};
+ghost use Rattle.daggre.specs.Words.{pair_of, listed, ask_of, chance_in, best_in, chance_around};
+
+use crate::ask::{Ask, MAX_LISTED, PairList};
+use mk_net::{Name, PairText};
+
+/// What a word asks, by the words behind the name of the market.
+#[tactic(auto, unfolding(crate::specs::Words::ask_of))]
+pub fn ask_of(word: &str, words: &[&str]) -> Option<Ask>
+    ensures { result ≡ ask_of word.now (map (λ w. w.now) words.now) }
+{
+    if is_chance(word) {
+        chance_in(words)
+    } else if is_best(word) {
+        best_in(words)
+    } else {
+        None
+    }
+}
+
+fn is_chance(word: &str) -> bool
+    ensures { result ≡ same_text word.now (codes "chance") }
+{
+    word == "chance"
+}
+
+fn is_best(word: &str) -> bool
+    ensures { result ≡ same_text word.now (codes "best") }
+{
+    word == "best"
+}
+
+/// The chance that some words ask for.
+#[tactic(auto, unfolding(crate::specs::Words::chance_in))]
+fn chance_in(words: &[&str]) -> Option<Ask>
+    ensures { result ≡ chance_in (map (λ w. w.now) words.now) }
+{
+    match given_place(words) {
+        None => chance_of(words, &[], 0),
+        Some(place) => chance_of(&words[..place], &words[place + 1..], 1),
+    }
+}
+
+/// The chance of pairs, where others are given.
+fn chance_of(want: &[&str], given: &[&str], least: usize) -> Option<Ask>
+    ensures { result ≡ option_and_then (λ want. option_map (Ask.Chance want)
+        (listed least (map (λ w. w.now) given.now))) (listed 1 (map (λ w. w.now) want.now)) }
+{
+    let want = listed(1, want)?;
+    let given = listed(least, given)?;
+    Some(Ask::Chance { want, given })
+}
+
+/// The place of the first word `given`.
+fn given_place(words: &[&str]) -> Option<usize>
+    ensures place { result ≡ position (λ w. same_text (codes "given") w.now) words.now }
+    ensures within { IfSome result (λ place. place < length words.now) }
+{
+    words.iter().position(|word| is_given(word))
+}
+
+fn is_given(word: &str) -> bool
+    ensures { result ≡ same_text (codes "given") word.now }
+{
+    "given" == word
+}
+
+/// The best state that some words ask for.
+#[tactic(auto, unfolding(crate::specs::Words::best_in))]
+fn best_in(words: &[&str]) -> Option<Ask>
+    ensures { result ≡ best_in (map (λ w. w.now) words.now) }
+{
+    let given = listed(0, words)?;
+    Some(Ask::Best { given })
+}
+
+/// The pairs that some words write, one each, if there are neither too few words nor too many.
+#[tactic(auto, unfolding(crate::specs::Words::listed))]
+fn listed(least: usize, words: &[&str]) -> Option<PairList>
+    ensures { result ≡ listed least (map (λ w. w.now) words.now) }
+{
+    if words.len() < least || words.len() > MAX_LISTED {
+        return None;
+    }
+    let mut pairs = PairList::new();
+    for word in words {
+        let pair = pair_of(word)?;
+        pairs.push(pair);
+    }
+    Some(pairs)
+}
+
+/// The pair that a word writes.
+#[tactic(auto, unfolding(crate::specs::Words::pair_of))]
+fn pair_of(word: &str) -> Option<PairText>
+    ensures { result ≡ pair_of word.now }
+{
+    let bytes = word.as_bytes();
+    let place = equals_place(bytes)?;
+    let variable = name_of(&bytes[..place])?;
+    let value = name_of(&bytes[place + 1..])?;
+    Some(PairText { variable, value })
+}
+
+/// The place of the first `=`.
+fn equals_place(bytes: &[u8]) -> Option<usize>
+    ensures place { result ≡ position (λ b. b == 61) bytes.now }
+    ensures within { IfSome result (λ place. place < length bytes.now) }
+{
+    bytes.iter().position(|byte| *byte == b'=')
+}
+
+/// The name that some bytes are.
+fn name_of(bytes: &[u8]) -> Option<Name>
+    ensures { result ≡ (if is_name bytes.now then Some bytes.now else None) }
+{
+    Name::read(bytes)
+}
