@@ -13,7 +13,7 @@ use Rattle.mk_file.specs.declared.fault.FileFault.{FileFault}
 use Rattle.mk_rules.specs.Transcript.{Standing}
 use Rattle.mk_market.specs.Trading.{Trading}
 use Rattle.mk_session.specs.Outcome.{Adds, Opened, NotOpened, IsWhole, IsWholeTo, IsHandedBack}
-use Rattle.mk_session.specs.Outcome.{Serves, Ends, HasCauses}
+use Rattle.mk_session.specs.Outcome.{Serves, Ends, HasCauses, CountsNone}
 use Rattle.daggre.specs.declared.ask.Ask.{Ask}
 use Rattle.daggre.specs.LastLine.{IsLastLine}
 use Rattle.daggre.specs.AskOutcome.{IsAnswered, IsCut, ServesAsk, EndsAsk, OpenedAsk}
@@ -135,3 +135,12 @@ pub never_usage : (status : Status) (market : Market) (H : List Entry) (ask : As
     (bytes : List ℕ) → SaysLast status market H ask bytes → status ≡ Usage → ⊥
 never_usage status market H ask bytes says e =
     subst (λ (s : Status). SaysLast s market H ask bytes) e says
+
+-- what fails behind a run in which nothing failed is all that failed
+pub causes_behind : (status : Status) (inputs inputs_mid inputs_now sink sink_mid sink_now : ℕ)
+    → CountsNone inputs inputs_mid sink sink_mid
+    → HasCauses status inputs_mid inputs_now sink_mid sink_now
+    → HasCauses status inputs inputs_now sink sink_now
+causes_behind status inputs inputs_mid inputs_now sink sink_mid sink_now steady causes =
+    subst (λ (n : ℕ). HasCauses status n inputs_now sink sink_now) steady.0
+    (subst (λ (n : ℕ). HasCauses status inputs_mid inputs_now n sink_now) steady.1 causes)

@@ -9,8 +9,8 @@ use Rattle.mk_net.specs.Texts.{same_text}
 use Rattle.mk_net.specs.declared.words.PairText.{PairText}
 use Rattle.daggre.specs.declared.ask.Ask.{Ask}
 use Rattle.daggre.specs.declared.ask.Ask.TheVariants.{Chance, Best}
-use Rattle.daggre.specs.Words.{listed, chance_in, chance_around, best_in, ask_of, asked_of}
-use Rattle.daggre.specs.Words.{RunThen}
+use Rattle.daggre.specs.Words.{listed, chance_in, chance_around, best_in, expect_in, ask_of}
+use Rattle.daggre.specs.Words.{RunThen, asked_of}
 
 listed_long : (least : ℕ) (words : List (List ℕ)) → 64 < length words → listed least words ≡ None
 unfolding listed
@@ -38,9 +38,16 @@ around_long words h (Some k) = at (cases_lt 64 (length (take k words)))
         (listed_long 1 (drop (k + 1) words)
         (omega (arith, length-drop (k + 1) words, length-take k words)))
 
+expect_long : (words : List (List ℕ)) → 129 < length words → expect_in words ≡ None
+unfolding expect_in
+expect_long [] h = absurd (omega (arith, h))
+expect_long (word ∷ []) h = absurd (omega (arith, h))
+expect_long (word ∷ more ∷ rest) h = refl
+
 ask_long : (word : List ℕ) (words : List (List ℕ)) → 129 < length words → ask_of word words ≡ None
 unfolding ask_of chance_in best_in
 ask_long word words h = at (same_text word (codes "chance")) (same_text word (codes "best"))
+    (same_text word (codes "expect"))
   where
     chance_none : chance_around words (position (same_text (codes "given")) words) ≡ None
     chance_none = around_long words h (position (same_text (codes "given")) words)
@@ -49,12 +56,13 @@ ask_long word words h = at (same_text word (codes "chance")) (same_text word (co
     best_none = ap (λ (l : Option (List PairText)). option_map Best l)
         (listed_long 0 words (omega arith))
 
-    at : (chance best : Bool)
+    at : (chance best expect : Bool)
         → cond chance (chance_around words (position (same_text (codes "given")) words))
-        (cond best (option_map Best (listed 0 words)) None) ≡ None
-    at true best = chance_none
-    at false true = best_none
-    at false false = refl
+        (cond best (option_map Best (listed 0 words)) (cond expect (expect_in words) None)) ≡ None
+    at true best expect = chance_none
+    at false true expect = best_none
+    at false false true = expect_long words h
+    at false false false = refl
 
 pub too_many : (words : List (List ℕ)) → 131 < length words → asked_of words ≡ None
 too_many [] h = absurd (omega arith)

@@ -1,6 +1,7 @@
 //! The line behind the replies of a run, which answers what is asked of the last history.
 
-ghost use Rattle.std.specs.Prelude.{◌≡◌, ◌++◌, ◌<◌, ◌≤◌, None, IfOk, length, codes, slice_index};
+ghost use Rattle.std.specs.Prelude.{◌≡◌, ◌+◌, ◌++◌, ◌<◌, ◌≤◌, None, IfOk, length, codes};
+ghost use Rattle.std.specs.Prelude.{slice_index};
 ghost use Rattle.arrayvec.specs.ArrayString.{array_string_len};
 ghost use Rattle.mk_net.specs.Network.{sizes};
 ghost use Rattle.mk_exact.specs.States.{IsState};

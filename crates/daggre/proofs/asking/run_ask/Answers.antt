@@ -1,7 +1,7 @@
 use Rattle.std.proofs.Common.{inr}
 use Rattle.mk_file.specs.File.{file_of}
-use Rattle.mk_session.proofs.Going.{causes_of_turn}
 use Rattle.daggre.proofs.Behind.{opened_behind, stops_still, written_or_short, never_usage}
+use Rattle.daggre.proofs.Behind.{causes_behind}
 use Rattle.daggre.proofs.asking.run_ask.Goals as goal
 
 pub returns-in-Ok-clause-outcome : goal.returns-in-Ok-clause-outcome
@@ -28,7 +28,7 @@ returns-in-Ok-clause-complete g c = λ file all told_file told_all ok within ste
 
 pub returns-in-Ok-clause-causes : goal.returns-in-Ok-clause-causes
 returns-in-Ok-clause-causes g c =
-    causes_of_turn c.say_last-status.result (g.I.Inputs.faults c.args.inputs.now)
+    causes_behind c.say_last-status.result (g.I.Inputs.faults c.args.inputs.now)
     (g.I.Inputs.faults c.run_market.new.inputs) (g.I.Inputs.faults c.run_market.new.inputs)
     (g.S.Sink.faults c.args.out.now) (g.S.Sink.faults c.run_market.new.out)
     (g.S.Sink.faults c.say_last-status.new.out) c.in-Ok.ensures.causes
