@@ -61,8 +61,13 @@ any_at p a (suc n) e = at (or_cases (p a) (list_any p (range_with_len (a + 1) n)
     at (inl here) ih = record { number = a; low = omega arith; high = omega arith; passes = here }
     at (inr later) ih =
         let found = ih later in
-        record { number = found.number; low = omega (arith, found.low); high = omega
-            (arith, found.high); passes = found.passes }
+        record {
+          number = found.number;
+          low = omega (arith, found.low);
+          high = omega
+              (arith, found.high);
+          passes = found.passes;
+        }
 
 -- a clique behind another one of the variable is no top where it goes on
 no_later_top : (t : GivenTree) (x j k : ℕ) → 1 ≤ j → j < k → holds t j x ≡ true
@@ -70,15 +75,15 @@ no_later_top : (t : GivenTree) (x j k : ℕ) → 1 ≤ j → j < k → holds t j
 no_later_top t x j k first later held on top =
     let parts = and_parts (holds t k x) ((k == 1) || not (holds t (link_of t k) x)) top in
     let before : is_held_before t x k ≡ true = any_from (λ (i : ℕ). holds t i x) 1 (k - 1) j first
-        (omega (arith, first, later)) held in
+    (omega (arith, first, later)) held in
     at (and_from (holds t k x) (is_held_before t x k) parts.0 before)
-        (or_cases (k == 1) (not (holds t (link_of t k) x)) parts.1)
+    (or_cases (k == 1) (not (holds t (link_of t k) x)) parts.1)
     (or_cases (not (holds t k x && is_held_before t x k)) (holds t (link_of t k) x) on)
   where
     at : holds t k x && is_held_before t x k ≡ true → (((k == 1) ≡ true) ⊎
         (not (holds t (link_of t k) x) ≡ true))
         → ((not (holds t k x && is_held_before t x k) ≡ true) ⊎ (holds t (link_of t k) x ≡ true))
-            → ⊥
+        → ⊥
     at both above (inl none) = both_ways (holds t k x && is_held_before t x k)
         (not-true (holds t k x && is_held_before t x k) none) both
     at both (inl root) (inr linked) = omega (arith, first, later, eqb-true k 1 root)
@@ -117,13 +122,18 @@ top_at t linked x (suc n) j few low high held = at (cases_eq j 1)
     (cases_Bool (holds t (link_of t j) x)) (top_at t linked x n (link_of t j))
   where
     here : ((j == 1) || not (holds t (link_of t j) x)) ≡ true → HasTop t x j
-    here e = record { place = j; low = low; high = omega arith; top = and_from (holds t j x)
-        ((j == 1) || not (holds t (link_of t j) x)) held e }
+    here e = record {
+      place = j;
+      low = low;
+      high = omega arith;
+      top = and_from (holds t j x)
+          ((j == 1) || not (holds t (link_of t j) x)) held e;
+    }
 
     at : ((j ≡ 1) ⊎ (j ≡ 1 → ⊥)) → ((holds t (link_of t j) x ≡ true) ⊎
         (holds t (link_of t j) x ≡ false))
         → (link_of t j ≤ n → 1 ≤ link_of t j → link_of t j ≤ length t.cliques
-            → holds t (link_of t j) x ≡ true → HasTop t x (link_of t j)) → HasTop t x j
+        → holds t (link_of t j) x ≡ true → HasTop t x (link_of t j)) → HasTop t x j
     at (inl root) other ih = here (or_left (j == 1) (not (holds t (link_of t j) x))
         (eq-eqb j 1 root))
     at (inr later) (inr lacks) ih = here (or_right (j == 1) (not (holds t (link_of t j) x))
@@ -131,9 +141,14 @@ top_at t linked x (suc n) j few low high held = at (cases_eq j 1)
     at (inr later) (inl holds_too) ih =
         let link = linked.earlier j (omega (arith, low, later)) high in
         let found = ih (omega (arith, few, link.1)) link.0
-            (omega (arith, high, link.1)) holds_too in
-        record { place = found.place; low = found.low; high = omega
-            (arith, found.high, link.1); top = found.top }
+        (omega (arith, high, link.1)) holds_too in
+        record {
+          place = found.place;
+          low = found.low;
+          high = omega
+              (arith, found.high, link.1);
+          top = found.top;
+        }
 
 -- a clique behind the first that goes on to none has a top of its own
 no_way : (t : GivenTree) → AreLinked t → (x k : ℕ) → has_one_top t x ≡ true → 1 ≤ k
@@ -144,27 +159,27 @@ no_way t linked x k e low high later lacks =
     let parts = and_parts (holds t k x) (is_held_before t x k) later in
     let before = any_at (λ (j : ℕ). holds t j x) 1 (k - 1) parts.1 in
     let first = top_at t linked x before.number before.number (omega arith) before.low
-        (omega (arith, low, high, before.high)) before.passes in
+    (omega (arith, low, high, before.high)) before.passes in
     let own : is_top t x k ≡ true = and_from (holds t k x)
-        ((k == 1) || not (holds t (link_of t k) x)) parts.0
+    ((k == 1) || not (holds t (link_of t k) x)) parts.0
     (or_right (k == 1) (not (holds t (link_of t k) x)) (not_from_false
-        (holds t (link_of t k) x) lacks)) in
+    (holds t (link_of t k) x) lacks)) in
     let same = same_counted (is_top t x) 1 (length t.cliques) few first.place k first.low
-        (omega (arith, first.high, before.high, low, high)) low
-        (omega (arith, high)) first.top own in
+    (omega (arith, first.high, before.high, low, high)) low
+    (omega (arith, high)) first.top own in
     omega (arith, same, first.high, before.high, low)
 
 test_of_one_top : (t : GivenTree) → AreLinked t → (x : ℕ) → has_one_top t x ≡ true
     → are_connected t x ≡ true
 test_of_one_top t linked x e = all_from (goes_on t x) 1 (length t.cliques) (λ k low high.
     at k low (omega (arith, high)) (cases_Bool (holds t k x && is_held_before t x k))
-        (cases_Bool (holds t (link_of t k) x)))
+    (cases_Bool (holds t (link_of t k) x)))
   where
     at : (k : ℕ) → 1 ≤ k → k ≤ length t.cliques
         → ((holds t k x && is_held_before t x k ≡ true) ⊎
-            (holds t k x && is_held_before t x k ≡ false))
+        (holds t k x && is_held_before t x k ≡ false))
         → ((holds t (link_of t k) x ≡ true) ⊎ (holds t (link_of t k) x ≡ false))
-            → goes_on t x k ≡ true
+        → goes_on t x k ≡ true
     at k low high (inr none) other = or_left (not (holds t k x && is_held_before t x k))
         (holds t (link_of t k) x) (not_from_false (holds t k x && is_held_before t x k) none)
     at k low high (inl later) (inl linked_to) = or_right
@@ -196,5 +211,5 @@ pub connected_where_none : (t : GivenTree) (x : ℕ) → ((k : ℕ) → 1 ≤ k 
 connected_where_none t x none = all_from (goes_on t x) 1 (length t.cliques) (λ k low high.
     or_left (not (holds t k x && is_held_before t x k)) (holds t (link_of t k) x)
     (not_from_false (holds t k x && is_held_before t x k)
-        (false_from_ne_true (holds t k x && is_held_before t x k) (λ e.
+    (false_from_ne_true (holds t k x && is_held_before t x k) (λ e.
     none k low high ((and_parts (holds t k x) (is_held_before t x k) e).0)))))
