@@ -8,4 +8,4 @@ pub mod Knowing
 pub mod Stating
 pub mod Behind
 pub mod Calling
-pub mod Placing
+pub mod Transferred

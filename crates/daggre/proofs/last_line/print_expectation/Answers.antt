@@ -1,4 +1,4 @@
-use Rattle.daggre.proofs.Placing.{few_bits}
+use Rattle.daggre.proofs.Transferred.{few_bits}
 use Rattle.daggre.proofs.last_line.print_expectation.Goals as goal
 
 pub expect-requires-clause-few_bits : goal.expect-requires-clause-few_bits
