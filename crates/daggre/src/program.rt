@@ -18,16 +18,16 @@ use mk_io::{Inputs, Sink, Status, write_all};
 use mk_session::serve;
 use std::alloc::Global;
 
-/// Does what the words ask: `run NAME` serves the market of that file, `sample N` runs the sample
-/// market of `N` variables, and `chance NAME PAIR.. [given PAIR..]` and `best NAME [PAIR..]` serve
-/// the market of a file and then answer what they ask of its last history.
+/// Does what the words ask: `run NAME` serves the market of that file, and `sample N` runs the
+/// sample market of `N` variables. `chance NAME PAIR.. [given PAIR..]`, `best NAME [PAIR..]` and
+/// `expect NAME USER` serve the market of a file, and then answer what they ask of its history.
 ///
 /// Where the bytes of the file and of the commands are told, the status says what was written: with
 /// `Done` the transcript of the whole stream, one that the exact joint table allows, and behind it
 /// the one line that answers what is asked. It is `Done` for each accepted market and each stream
 /// within the limits, unless reading, writing or memory fails. Of a sample the counts of such a
-/// run's replies are written, and its last reply. For other words the usage line is written. But
-/// for a run nothing is opened or read.
+/// run's replies are written, and its last reply. For other words the usage line is written. Where
+/// no market is named, nothing is opened or read.
 pub fn program<I: Inputs, S: Sink>(
     alloc: Global,
     words: &[&str],
