@@ -1,0 +1,150 @@
+-- What the comparisons of a price are together.
+use Rattle.std.proofs.Common.{◌≡◌, ℕ, zero, suc, ◌+◌, ◌-◌, ◌*◌, ◌^◌, ◌<◌, ◌≤◌, inl, inr, refl, arith}
+use Rattle.std.specs.Bool.{⊤}
+use Rattle.std.proofs.lemmas.Bool.{cases_lt}
+use Rattle.std.proofs.Math.Nat.{mul-le-mul_right}
+use Rattle.mk_scaled.specs.Range.{IsInRange}
+use Rattle.mk_exact.specs.Factors.{Fraction}
+use Rattle.mk_exact.specs.Prices.{CoversPrice}
+
+-- the four comparisons, as they are made
+pub record AreClose (price : Fraction) (low high : ℕ) : Type 0 where
+  pub below : low * (price.den * 1) ≤ price.num * 10 ^ 10
+  pub above : price.num * 10 ^ 10 ≤ high * (price.den * 1)
+  pub low_near : 10 ^ 10 * price.num * (2 ^ 42 - 1) < (low + 1) * price.den * 2 ^ 42
+  pub high_near : (high - 1) * price.den * (2 ^ 42 - 1) < 10 ^ 10 * price.num * 2 ^ 42
+
+pub record AreRounded (price : Fraction) (low high : ℕ) : Type 0 where
+  pub below : low * (price.den * 1) ≤ price.num * 10 ^ 10
+  pub above : price.num * 10 ^ 10 ≤ high * (price.den * 1)
+  pub floor : price.num * 10 ^ 10 < (low + 1) * (price.den * 1)
+  pub ceiling : (high - 1) * (price.den * 1) < price.num * 10 ^ 10
+
+module _ (price : Fraction) (low high : ℕ) (some : 1 ≤ price.num) (less : price.num < price.den) where
+  -- what is printed above a price that is something is something
+  pub high_some : price.num * 10 ^ 10 ≤ high * (price.den * 1) → 1 ≤ high
+  high_some above = at high above
+    where
+      at : (h : ℕ) → price.num * 10 ^ 10 ≤ h * (price.den * 1) → 1 ≤ h
+      at zero l = absurd (omega (arith, l, some))
+      at (suc h) l = omega arith
+
+  one_before : 1 ≤ high → high * price.den ≡ (high - 1) * price.den + price.den
+  one_before one = at high one
+    where
+      at : (h : ℕ) → 1 ≤ h → h * price.den ≡ (h - 1) * price.den + price.den
+      at zero l = absurd (omega arith)
+      at (suc h) l = let e : suc h - 1 ≡ h = omega arith in rw e (omega arith)
+
+  pub close_covers : high ≤ 10 ^ 10 → AreClose price low high → CoversPrice ⊥ price low high
+  close_covers most h =
+      let one = one_before (high_some h.above) in
+      record {
+        below = omega (arith, h.below);
+        above = omega (arith, h.above);
+        at_most_one = most;
+        low_near = h.low_near;
+        high_near = let near = h.high_near in omega (arith, one, near);
+        never = λ nothing. absurd (omega (arith, nothing, some));
+        sure = λ all. absurd (omega (arith, all, less));
+        floor = λ no. absurd no;
+        ceiling = λ no. absurd no;
+      }
+
+  pub covers_close : CoversPrice ⊥ price low high → AreClose price low high
+  covers_close h =
+      let above : price.num * 10 ^ 10 ≤ high * (price.den * 1) = omega (arith, h.above) in
+      let one = one_before (high_some above) in
+      let near = h.high_near in
+      record { below = omega (arith, h.below); above = above; low_near = h.low_near; high_near = omega (arith, one, near) }
+
+  pub rounded_covers : high ≤ 10 ^ 10 → AreRounded price low high → CoversPrice ⊤ price low high
+  rounded_covers most h =
+      let one = one_before (high_some h.above) in
+      let floor : 10 ^ 10 * price.num < (low + 1) * price.den = omega (arith, h.floor) in
+      let ceiling : high * price.den < 10 ^ 10 * price.num + price.den = omega (arith, one, h.ceiling) in
+      record {
+        below = omega (arith, h.below);
+        above = omega (arith, h.above);
+        at_most_one = most;
+        low_near = omega (arith, floor);
+        high_near = omega (arith, ceiling);
+        never = λ nothing. absurd (omega (arith, nothing, some));
+        sure = λ all. absurd (omega (arith, all, less));
+        floor = λ _. floor;
+        ceiling = λ _. ceiling;
+      }
+
+  pub covers_rounded : CoversPrice ⊤ price low high → AreRounded price low high
+  covers_rounded h =
+      let above : price.num * 10 ^ 10 ≤ high * (price.den * 1) = omega (arith, h.above) in
+      let one = one_before (high_some above) in
+      let ceiling = h.ceiling tt in
+      record { below = omega (arith, h.below); above = above; floor = omega (arith, h.floor tt); ceiling = omega (arith, one, ceiling) }
+
+-- the small case is the same as another where both hold or neither does
+pub covers_for : (small other : Type 0) (price : Fraction) (low high : ℕ) → (other → small) → CoversPrice small price low high → CoversPrice other price low high
+covers_for small other price low high to h = record {
+  below = h.below;
+  above = h.above;
+  at_most_one = h.at_most_one;
+  low_near = h.low_near;
+  high_near = h.high_near;
+  never = h.never;
+  sure = h.sure;
+  floor = λ o. h.floor (to o);
+  ceiling = λ o. h.ceiling (to o);
+}
+
+-- an interval in order, at most at one
+pub covers_in_order : (small : Type 0) (price : Fraction) (low high : ℕ) → 1 ≤ price.den → CoversPrice small price low high → low ≤ high
+covers_in_order small price low high some h = elim (cases_lt high low) [ inl more ↦ absurd (past more) | inr le ↦ le ]
+  where
+    past : high < low → ⊥
+    past more =
+        let l : low * price.den ≤ high * price.den = omega (arith, h.below, h.above) in
+        let m : (high + 1) * price.den ≤ low * price.den = mul-le-mul_right price.den (omega arith) in
+        omega arith
+
+-- what costs nothing, and what costs all
+pub only_nothing : (small : Type 0) (price : Fraction) (low high : ℕ) → price.num ≡ 0 → 1 ≤ price.den → CoversPrice small price low high → (low ≡ 0) × (high ≡ 0)
+only_nothing small price low high nothing some h =
+    let high_is = h.never nothing in
+    let order = covers_in_order small price low high some h in
+    (omega arith, high_is)
+
+pub only_all : (small : Type 0) (price : Fraction) (low high : ℕ) → price.num ≡ price.den → 1 ≤ price.den → CoversPrice small price low high → (low ≡ 10 ^ 10) × (high ≡ 10 ^ 10)
+only_all small price low high all some h =
+    let low_is = h.sure all in
+    let order = covers_in_order small price low high some h in
+    (low_is, omega (arith, h.at_most_one))
+
+pub nothing_covers : (small : Type 0) (price : Fraction) (low high : ℕ) → price.num ≡ 0 → 1 ≤ price.den → (low ≡ 0) × (high ≡ 0) → CoversPrice small price low high
+nothing_covers small price low high nothing some are = rw (are.0, are.1) (record {
+  below = omega arith;
+  above = omega (arith, nothing);
+  at_most_one = omega arith;
+  low_near = omega (arith, nothing, some);
+  high_near = omega (arith, nothing, some);
+  never = λ _. refl;
+  sure = λ all. absurd (omega (arith, nothing, all, some));
+  floor = λ _. omega (arith, nothing, some);
+  ceiling = λ _. omega (arith, nothing, some);
+})
+
+pub all_covers : (small : Type 0) (price : Fraction) (low high : ℕ) → price.num ≡ price.den → 1 ≤ price.den → (low ≡ 10 ^ 10) × (high ≡ 10 ^ 10) → CoversPrice small price low high
+all_covers small price low high all some are = rw (are.0, are.1) (record {
+  below = omega (arith, all);
+  above = omega (arith, all);
+  at_most_one = omega arith;
+  low_near = omega (arith, all, some);
+  high_near = omega (arith, all, some);
+  never = λ nothing. absurd (omega (arith, nothing, all, some));
+  sure = λ _. refl;
+  floor = λ _. omega (arith, all, some);
+  ceiling = λ _. omega (arith, all, some);
+})
+
+-- what is multiplied by less than 2 ^ 42 stays in range
+pub less_in_range : (n : ℕ) → IsInRange (n * 2 ^ 42) → IsInRange (n * (2 ^ 42 - 1))
+less_in_range n h = omega (arith, h)

@@ -1,0 +1,56 @@
+use Rattle.std.proofs.Common.{◌^◌, arith, le_refl}
+use Rattle.mk_exact.specs.Factors.{Fraction}
+use Rattle.mk_exact.specs.Existing.{IsSafeFactor}
+use Rattle.mk_enclose.specs.declared.factor.Factor.{Factor}
+use Rattle.mk_judge.specs.Cash.{IsOwned}
+use Rattle.mk_judge.proofs.Cashing.{idle_scaled, idle_covers, covers_idle, ends_cover, cover_ends}
+use Rattle.mk_judge.proofs.cash.judge_cash.Goals as goal
+
+safe_of : (factor : Factor) (q : Fraction) → IsOwned factor q → IsSafeFactor q
+safe_of factor q owned = record { divides = owned.held.stands.positive; at_least_one = owned.one }
+
+pub returns-then-factor-eq0-clause-allowed : goal.returns-then-factor-eq0-clause-allowed
+returns-then-factor-eq0-clause-allowed c e q owned =
+    let told = rw e at c.idle.ensures in
+    idle_covers q c.args.points_per_bit c.of.result.gained c.of.result.owed (safe_of c.args.factor.now q owned)
+    (idle_scaled c.args.factor.now q c.args.points_per_bit c.of.result owned c.if-factor-eq0.true c.of.ensures.gained c.of.ensures.owed)
+    _ _ c.args.low c.args.high (told.0) (told.1)
+
+pub returns-then-factor-eq0-clause-wrong : goal.returns-then-factor-eq0-clause-wrong
+returns-then-factor-eq0-clause-wrong c e q owned covers =
+    let told = rw e at c.idle.ensures in
+    told (covers_idle q c.args.points_per_bit c.of.result.gained c.of.result.owed (safe_of c.args.factor.now q owned)
+    (idle_scaled c.args.factor.now q c.args.points_per_bit c.of.result owned c.if-factor-eq0.true c.of.ensures.gained c.of.ensures.owed)
+    _ _ c.args.low c.args.high c.if-factor-eq0.true covers)
+
+pub returns-then-small-clause-allowed : goal.returns-then-small-clause-allowed
+returns-then-small-clause-allowed c e q owned =
+    ends_cover q c.args.points_per_bit c.args.low c.args.high _ _ (2 ^ 59) (omega arith) (λ _. le_refl (2 ^ 59)) c.if-factor-eq0.false (safe_of c.args.factor.now q owned)
+    (rw e at (c.traded.ensures q owned))
+
+pub returns-then-small-clause-wrong : goal.returns-then-small-clause-wrong
+returns-then-small-clause-wrong c e q owned covers =
+    let told = rw e at (c.traded.ensures q owned) in
+    told (cover_ends q c.args.points_per_bit c.args.low c.args.high _ _ (2 ^ 59) (covers.nearer c.if-small.true) covers)
+
+pub returns-then-small-clause-unclear : goal.returns-then-small-clause-unclear
+returns-then-small-clause-unclear c e q owned = record {
+  traded = c.if-factor-eq0.false;
+  near = rw c.if-small.true (rw e at (c.traded.ensures q owned));
+}
+
+pub returns-else-small-clause-allowed : goal.returns-else-small-clause-allowed
+returns-else-small-clause-allowed c e q owned =
+    ends_cover q c.args.points_per_bit c.args.low c.args.high _ _ (2 ^ 42) (omega arith) (λ yes. absurd (let no = c.if-small.false in cc)) c.if-factor-eq0.false (safe_of c.args.factor.now q owned)
+    (rw e at (c.traded-else-small.ensures q owned))
+
+pub returns-else-small-clause-wrong : goal.returns-else-small-clause-wrong
+returns-else-small-clause-wrong c e q owned covers =
+    let told = rw e at (c.traded-else-small.ensures q owned) in
+    told (cover_ends q c.args.points_per_bit c.args.low c.args.high _ _ (2 ^ 42) covers.near covers)
+
+pub returns-else-small-clause-unclear : goal.returns-else-small-clause-unclear
+returns-else-small-clause-unclear c e q owned = record {
+  traded = c.if-factor-eq0.false;
+  near = rw c.if-small.false (rw e at (c.traded-else-small.ensures q owned));
+}

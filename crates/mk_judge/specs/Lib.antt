@@ -1,0 +1,9 @@
+pub mod Judged
+pub mod Compared
+pub mod Prices
+pub mod Powers
+pub mod Cash
+pub mod Losses
+pub mod Units
+pub mod Limits
+pub mod inner
