@@ -17,6 +17,9 @@ SECTIONS = [
         "daggre/src/ask.rt", "daggre/specs/AskOutcome.antt", "daggre/specs/LastLine.antt", "mk_best/src/found.rt", "mk_best/specs/Chances.antt",
         "mk_best/specs/BestStates.antt", "mk_enclose/src/enclosure.rt", "mk_enclose/specs/Enclosure.antt", "mk_scaled/src/scaled.rt",
         "mk_expect/specs/Expectation.antt"]),
+    ("A market that is kept", [
+        "mk_durable/specs/KeepOutcome.antt", "mk_durable/src/fault.rt", "mk_durable/specs/Resuming.antt", "mk_durable/specs/Recovery.antt",
+        "mk_session/specs/Left.antt", "mk_journal/specs/Market.antt", "mk_restore/specs/Restoring.antt", "mk_journal/specs/Store.antt"]),
     ("The transcript", [
         "mk_session/specs/Transcript.antt", "mk_session/specs/Passed.antt", "mk_rules/specs/Transcript.antt", "mk_rules/specs/Standings.antt",
         "mk_io/specs/Stream.antt", "mk_io/specs/Cutting.antt"]),
@@ -44,7 +47,9 @@ SECTIONS = [
         "mk_tree/specs/Tests.antt", "mk_net/src/sets.rt", "mk_net/specs/Sets.antt"]),
     ("The sample", [
         "daggre/specs/Sampled.antt", "mk_session/src/counts.rt", "mk_session/specs/Tally.antt", "mk_make/specs/Sample.antt", "mk_make/specs/Lines.antt"]),
-    ("The outside", ["mk_io/src/outside.rt", "mk_io/specs/Outside.antt", "mk_io/src/standard.rt"]),
+    ("The outside", [
+        "mk_io/src/outside.rt", "mk_io/specs/Outside.antt", "mk_io/src/standard.rt", "mk_disk/src/disk.rt", "mk_disk/specs/Disk.antt",
+        "mk_disk/src/standard.rt", "mk_disk/specs/Standard.antt"]),
 ]
 
 HEAD = """# Statement
@@ -111,6 +116,11 @@ WORDS = {
     "ℤ": "whole numbers, also below 0: `pos n` is n and `negsuc n` is -1 - n",
     "pos": "a whole number from 0 on, as one of `ℤ`",
     "negsuc": "-1 - n, as one of `ℤ`",
+    "to_be_bytes": "the bytes of a number, the highest first, as many as a width has",
+    "w32": "a width of four bytes",
+    "w64": "a width of eight bytes",
+    "is_some": "whether there is one",
+    "unwrap_or": "the thing that there is, else the other",
     "zero": "0",
     "suc": "the number plus 1",
     "nat_abs": "a whole number of `ℤ` without its sign",

@@ -1,10 +1,11 @@
 -- A run, and what is written behind it.
-use Rattle.std.proofs.Common.{◌≡◌, ◌≢◌, ℕ, List, [], ◌++◌, Option, Result, Ok, Err, ◌⊎◌, inl, inr}
+use Rattle.std.proofs.Common.{◌≡◌, ℕ, List, ◌++◌, Option, Result, Ok, Err, ◌⊎◌, inl, inr}
 use Rattle.std.proofs.Common.{refl, sym, ap, subst, ◌∙◌, append_assoc}
 use Rattle.std.proofs.lemmas.List.{append-nil}
 use Rattle.mk_io.specs.declared.status.Status.{Status}
 use Rattle.mk_io.specs.declared.status.Status.TheVariants.{Done, Usage, MarketRefused, ReadFault}
 use Rattle.mk_io.specs.declared.status.Status.TheVariants.{WriteFault, Memory, TooMany}
+use Rattle.mk_io.specs.declared.status.Status.TheVariants.{DiskFault, StoreRefused}
 use Rattle.mk_io.specs.Outside.{append_known, Rose}
 use Rattle.mk_io.proofs.Told.{append_known_twice}
 use Rattle.mk_exact.specs.Market.{Market}
@@ -14,14 +15,15 @@ use Rattle.mk_rules.specs.Transcript.{Standing}
 use Rattle.mk_market.specs.Trading.{Trading}
 use Rattle.mk_session.specs.Outcome.{Adds, Opened, NotOpened, IsWhole, IsWholeTo, IsHandedBack}
 use Rattle.mk_session.specs.Outcome.{Serves, Ends, HasCauses, CountsNone}
+use Rattle.mk_session.specs.Transcript.{from_opening}
 use Rattle.daggre.specs.declared.ask.Ask.{Ask}
 use Rattle.daggre.specs.LastLine.{IsLastLine}
-use Rattle.daggre.specs.AskOutcome.{IsAnswered, IsCut, ServesAsk, EndsAsk, OpenedAsk}
+use Rattle.daggre.specs.AskOutcome.{IsAnswered, ServesAsk, EndsAsk, OpenedAsk}
 use Rattle.daggre.specs.inner.Printing.{SaysLast}
 
 -- a run that is not done ends as one behind which nothing is asked
 serves_still : (status : Status) (ask : Ask) (market : Market) (all rest output : List ℕ)
-    → (status ≡ Done → ⊥) → Serves status market all rest output
+    → (status ≡ Done → ⊥) → Serves status (from_opening market) all rest output
     → ServesAsk status ask market all rest output
 serves_still Done ask market all rest output stops serves = absurd (stops refl)
 serves_still ReadFault ask market all rest output stops serves = serves
@@ -30,6 +32,8 @@ serves_still TooMany ask market all rest output stops serves = serves
 serves_still Memory ask market all rest output stops serves = inl serves
 serves_still MarketRefused ask market all rest output stops serves = serves
 serves_still Usage ask market all rest output stops serves = serves
+serves_still DiskFault ask market all rest output stops serves = serves
+serves_still StoreRefused ask market all rest output stops serves = serves
 
 ends_still : (status : Status) (ask : Ask) (given : Result Market FileFault)
     (all rest output : List ℕ) → (status ≡ Done → ⊥) → Ends status given all rest output
@@ -57,7 +61,8 @@ stops_still status ask given all source before written stops (inr opened) = inr 
 
 -- the last line behind a whole run
 answered : (market : Market) (after : Standing) (ask : Ask) (all rest transcript last : List ℕ)
-    → IsWholeTo market after all rest transcript → IsLastLine market after.history ask last
+    → IsWholeTo (from_opening market) after all rest transcript
+    → IsLastLine market after.history ask last
     → IsAnswered market ask all rest (transcript ++ last)
 answered market after ask all rest transcript last run answers = record {
   transcript = transcript;
@@ -68,7 +73,7 @@ answered market after ask all rest transcript last run answers = record {
 }
 
 serves_behind : (status : Status) (market : Market) (after : Standing) (ask : Ask)
-    (all rest transcript bytes : List ℕ) → IsWholeTo market after all rest transcript
+    (all rest transcript bytes : List ℕ) → IsWholeTo (from_opening market) after all rest transcript
     → SaysLast status market after.history ask bytes
     → ServesAsk status ask market all rest (transcript ++ bytes)
 serves_behind Done market after ask all rest transcript bytes run says =
@@ -83,12 +88,14 @@ serves_behind WriteFault market after ask all rest transcript bytes run says = i
   };
 })
 serves_behind Memory market after ask all rest transcript bytes run says =
-    inr (subst (λ (output : List ℕ). IsWhole market all rest output)
+    inr (subst (λ (output : List ℕ). IsWhole (from_opening market) all rest output)
     (sym (ap (λ (more : List ℕ). transcript ++ more) says ∙ append-nil transcript)) run.whole)
 serves_behind Usage market after ask all rest transcript bytes run says = absurd says
 serves_behind MarketRefused market after ask all rest transcript bytes run says = absurd says
 serves_behind ReadFault market after ask all rest transcript bytes run says = absurd says
 serves_behind TooMany market after ask all rest transcript bytes run says = absurd says
+serves_behind DiskFault market after ask all rest transcript bytes run says = absurd says
+serves_behind StoreRefused market after ask all rest transcript bytes run says = absurd says
 
 pub opened_behind : (status : Status) (back : Trading) (ask : Ask) (given : Result Market FileFault)
     (all : List ℕ) (source before middle written : Option (List ℕ))
@@ -130,6 +137,10 @@ written_or_short ReadFault market H ask bytes inputs before middle sink says cau
     absurd says
 written_or_short TooMany market H ask bytes inputs before middle sink says causes same steady =
     absurd says
+written_or_short DiskFault market H ask bytes inputs before middle sink says causes same steady =
+    absurd says
+written_or_short StoreRefused market H ask bytes inputs before middle sink says causes same
+    steady = absurd says
 
 pub never_usage : (status : Status) (market : Market) (H : List Entry) (ask : Ask)
     (bytes : List ℕ) → SaysLast status market H ask bytes → status ≡ Usage → ⊥

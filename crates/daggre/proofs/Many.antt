@@ -1,5 +1,5 @@
 -- More words than any form has ask for nothing.
-use Rattle.std.proofs.Common.{◌≡◌, ℕ, ◌+◌, ◌-◌, ◌<◌, ◌≤◌, List, [], ◌∷◌, length, take, drop, codes}
+use Rattle.std.proofs.Common.{◌≡◌, ℕ, ◌+◌, ◌<◌, ◌≤◌, List, [], ◌∷◌, length, take, drop, codes}
 use Rattle.std.proofs.Common.{Option, Some, None, option_map, option_and_then, position, cond, Bool}
 use Rattle.std.proofs.Common.{true, false, refl, ap, ◌⊎◌, inl, inr, arith, length-drop}
 use Rattle.std.proofs.lemmas.List.{length-take}
@@ -10,7 +10,7 @@ use Rattle.mk_net.specs.declared.words.PairText.{PairText}
 use Rattle.daggre.specs.declared.ask.Ask.{Ask}
 use Rattle.daggre.specs.declared.ask.Ask.TheVariants.{Chance, Best}
 use Rattle.daggre.specs.Words.{listed, chance_in, chance_around, best_in, expect_in, ask_of}
-use Rattle.daggre.specs.Words.{RunThen, asked_of}
+use Rattle.daggre.specs.Words.{RunThen, asked_of, kept_in}
 
 listed_long : (least : ℕ) (words : List (List ℕ)) → 64 < length words → listed least words ≡ None
 unfolding listed
@@ -68,5 +68,11 @@ pub too_many : (words : List (List ℕ)) → 131 < length words → asked_of wor
 too_many [] h = absurd (omega arith)
 too_many (word ∷ []) h = absurd (omega arith)
 too_many (word ∷ name ∷ []) h = absurd (omega arith)
-too_many (word ∷ name ∷ more ∷ rest) h =
-    ap (λ (o : Option Ask). option_map (RunThen name) o) (ask_long word (more ∷ rest) (omega arith))
+too_many (word ∷ name ∷ more ∷ []) h = absurd (omega arith)
+too_many (word ∷ name ∷ more ∷ other ∷ rest) h = at (same_text word (codes "keep"))
+  where
+    at : (keeps : Bool) → cond keeps (kept_in name (more ∷ other ∷ rest))
+        (option_map (RunThen name) (ask_of word (more ∷ other ∷ rest))) ≡ None
+    at true = refl
+    at false = ap (λ (o : Option Ask). option_map (RunThen name) o)
+        (ask_long word (more ∷ other ∷ rest) (omega arith))

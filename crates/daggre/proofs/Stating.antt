@@ -1,9 +1,6 @@
 -- The pairs of a state, one written behind another.
-use Rattle.std.proofs.Common.{◌≡◌, ℕ, ◌+◌, ◌*◌, ◌<◌, ◌≤◌, List, [], ◌∷◌, ◌++◌, length, drop, get_or}
-use Rattle.std.proofs.Common.{zero, suc, codes, refl, sym, ap, ◌∙◌, append_assoc, add-one, arith}
-use Rattle.std.specs.Prelude.{slice_index_or}
-use Rattle.std.proofs.lemmas.List.{drop_all, append-nil}
-use Rattle.mk_net.specs.declared.words.PairText.{PairText}
+use Rattle.std.proofs.Common.{◌≡◌, ℕ, ◌+◌, ◌*◌, ◌≤◌, List, ◌++◌, length, drop}
+use Rattle.std.proofs.Common.{codes}
 use Rattle.mk_net.specs.Network.{Variable}
 use Rattle.mk_text.specs.Joined.{items_text}
 use Rattle.mk_text.specs.Texts.{pair_text}

@@ -6,7 +6,6 @@ use Rattle.std.proofs.lemmas.List.{take-map, drop-map, take_all}
 use Rattle.mk_net.proofs.Mapped.{position_of_map}
 use Rattle.mk_net.specs.Texts.{same_text}
 use Rattle.mk_net.specs.declared.words.PairText.{PairText}
-use Rattle.daggre.specs.declared.ask.Ask.{Ask}
 use Rattle.daggre.specs.declared.ask.Ask.TheVariants.{Chance}
 use Rattle.daggre.specs.Words.{listed, chance_in, chance_around}
 

@@ -3,10 +3,12 @@ use Rattle.std.specs.Prelude.{◌≡◌, ℕ, List, ◌++◌, Option, Some, Resu
 use Rattle.mk_io.specs.declared.status.Status.{Status}
 use Rattle.mk_io.specs.declared.status.Status.TheVariants.{Done, Usage, MarketRefused, ReadFault}
 use Rattle.mk_io.specs.declared.status.Status.TheVariants.{WriteFault, Memory, TooMany}
+use Rattle.mk_io.specs.declared.status.Status.TheVariants.{DiskFault, StoreRefused}
 use Rattle.mk_exact.specs.Market.{Market}
 use Rattle.mk_file.specs.declared.fault.FileFault.{FileFault}
 use Rattle.mk_file.specs.File.{file_of}
 use Rattle.mk_session.specs.Outcome.{Adds, IsFrontOf, IsWhole, IsStopped, IsOverrun, IsBroken}
+use Rattle.mk_session.specs.Transcript.{from_opening}
 use Rattle.mk_session.specs.Outcome.{IsUnanswered, Refuses, NotOpened}
 use Rattle.daggre.specs.declared.ask.Ask.{Ask}
 use Rattle.daggre.specs.LastLine.{IsLastLine}
@@ -15,7 +17,7 @@ use Rattle.daggre.specs.LastLine.{IsLastLine}
 -- about the history that this very transcript leaves
 pub record IsAnswered (market : Market) (ask : Ask) (all rest output : List ℕ) : Type 0 where
   pub transcript : List ℕ
-  pub run : IsWhole market all rest transcript
+  pub run : IsWhole (from_opening market) all rest transcript
   pub last : List ℕ
   pub answers : IsLastLine market run.transcript.after.history ask last
   pub printed : output ≡ transcript ++ last
@@ -30,14 +32,16 @@ pub record IsCut (market : Market) (ask : Ask) (all rest output : List ℕ) : Ty
 -- that line, and memory may be wanting for it, behind the whole transcript
 abbrev pub ServesAsk : Status → Ask → Market → List ℕ → List ℕ → List ℕ → Type 0
 ServesAsk Done ask market all rest output = IsAnswered market ask all rest output
-ServesAsk ReadFault ask market all rest output = IsStopped market all rest output
+ServesAsk ReadFault ask market all rest output = IsStopped (from_opening market) all rest output
 ServesAsk WriteFault ask market all rest output =
-    IsBroken market all rest output ⊎ IsCut market ask all rest output
-ServesAsk TooMany ask market all rest output = IsOverrun market all rest output
+    IsBroken (from_opening market) all rest output ⊎ IsCut market ask all rest output
+ServesAsk TooMany ask market all rest output = IsOverrun (from_opening market) all rest output
 ServesAsk Memory ask market all rest output =
-    IsUnanswered all rest output ⊎ IsWhole market all rest output
+    IsUnanswered all rest output ⊎ IsWhole (from_opening market) all rest output
 ServesAsk MarketRefused ask market all rest output = ⊥
 ServesAsk Usage ask market all rest output = ⊥
+ServesAsk DiskFault ask market all rest output = IsBroken (from_opening market) all rest output
+ServesAsk StoreRefused ask market all rest output = ⊥
 
 -- the run of an accepted file, or of a refused one, of which no command is read
 abbrev pub EndsAsk : Status → Ask → Result Market FileFault → List ℕ → List ℕ → List ℕ → Type 0

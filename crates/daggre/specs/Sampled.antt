@@ -4,6 +4,7 @@ use Rattle.std.specs.Prelude.{Err, ◌⊎◌}
 use Rattle.mk_io.specs.declared.status.Status.{Status}
 use Rattle.mk_io.specs.declared.status.Status.TheVariants.{Done, Usage, MarketRefused, ReadFault}
 use Rattle.mk_io.specs.declared.status.Status.TheVariants.{WriteFault, Memory, TooMany}
+use Rattle.mk_io.specs.declared.status.Status.TheVariants.{DiskFault, StoreRefused}
 use Rattle.mk_file.specs.declared.fault.FileFault.{FileFault}
 use Rattle.mk_file.specs.File.{file_of}
 use Rattle.mk_reply.specs.declared.reply.Reply.{Reply}
@@ -57,6 +58,8 @@ EndsSample Memory n output = output ≡ []
 EndsSample Usage n output = ⊥
 EndsSample ReadFault n output = ⊥
 EndsSample TooMany n output = ⊥
+EndsSample DiskFault n output = ⊥
+EndsSample StoreRefused n output = ⊥
 
 -- the commands of every sample are no more than a stream may hold
 abbrev pub SamplesAreWithin : Type 0

@@ -6,6 +6,7 @@ use Rattle.std.specs.List.{find, range_with_len}
 use Rattle.mk_io.specs.declared.status.Status.{Status}
 use Rattle.mk_io.specs.declared.status.Status.TheVariants.{Done, Usage, MarketRefused, ReadFault}
 use Rattle.mk_io.specs.declared.status.Status.TheVariants.{WriteFault, Memory, TooMany}
+use Rattle.mk_io.specs.declared.status.Status.TheVariants.{DiskFault, StoreRefused}
 use Rattle.mk_net.specs.Name.{is_name}
 use Rattle.mk_net.specs.Texts.{same_text}
 use Rattle.mk_net.specs.declared.words.PairText.{PairText}
@@ -21,12 +22,14 @@ max_sample = 256
 abbrev pub max_listed : ℕ
 max_listed = 64
 
--- to run the market of a name, to run the sample market of so many variables, or to run the market
--- of a name and then answer what is asked of its last history
+-- to run the market of a name, to run the sample market of so many variables, to run the market of
+-- a name and then answer what is asked of its last history, or to run the market of a name and keep
+-- its changes in a store
 pub data Asked : Type 0 where
   Run : (name : List ℕ) → Asked
   Sample : (n : ℕ) → Asked
   RunThen : (name : List ℕ) (ask : Ask) → Asked
+  Keep : (name store : List ℕ) → Asked
 
 -- the numbers of variables that a sample may have, from 2 on
 abbrev pub sample_sizes : List ℕ
@@ -86,8 +89,14 @@ ask_of word words =
     else if same_text word (codes "expect") then expect_in words
     else None
 
+-- the store is the one word behind the market's name
+abbrev pub kept_in : List ℕ → List (List ℕ) → Option Asked
+kept_in name [] = None
+kept_in name (store ∷ []) = Some (Keep name store)
+kept_in name (store ∷ more ∷ rest) = None
+
 -- what the words ask: they are `run` and a name; or `sample` and a number; or `chance` or `best`, a
--- name, and pairs; or `expect` and two names
+-- name, and pairs; or `expect` and two names; or `keep` and the names of a market file and a store
 abbrev pub asked_of : List (List ℕ) → Option Asked
 asked_of [] = None
 asked_of (word ∷ []) = None
@@ -95,7 +104,9 @@ asked_of (word ∷ argument ∷ []) =
     if same_text word (codes "run") then Some (Run argument)
     else if same_text word (codes "sample") then option_map Sample (size_of argument)
     else option_map (RunThen argument) (ask_of word [])
-asked_of (word ∷ argument ∷ more ∷ rest) = option_map (RunThen argument) (ask_of word (more ∷ rest))
+asked_of (word ∷ argument ∷ more ∷ rest) =
+    if same_text word (codes "keep") then kept_in argument (more ∷ rest)
+    else option_map (RunThen argument) (ask_of word (more ∷ rest))
 
 -- the name of the market to run, where the words ask for one
 abbrev pub market_named : Option Asked → Option (List ℕ)
@@ -103,12 +114,22 @@ market_named None = None
 market_named (Some (Run name)) = Some name
 market_named (Some (Sample n)) = None
 market_named (Some (RunThen name ask)) = Some name
+market_named (Some (Keep name store)) = Some name
+
+-- the name of the store, where the words ask to keep changes in one
+abbrev pub store_named : Option Asked → Option (List ℕ)
+store_named None = None
+store_named (Some (Run name)) = None
+store_named (Some (Sample n)) = None
+store_named (Some (RunThen name ask)) = None
+store_named (Some (Keep name store)) = Some store
 
 -- the line that is written for other words
 abbrev pub usage_line : List ℕ
 usage_line =
     codes "usage: daggre run NAME | daggre sample N | daggre chance NAME PAIR.. [given PAIR..]"
-    ++ codes " | daggre best NAME [PAIR..] | daggre expect NAME USER" ++ 10 ∷ []
+    ++ codes " | daggre best NAME [PAIR..] | daggre expect NAME USER | daggre keep NAME STORE"
+    ++ 10 ∷ []
 
 -- other words end with that line, or a front of it where writing fails
 abbrev pub EndsUsage : Status → List ℕ → Type 0
@@ -119,3 +140,5 @@ EndsUsage MarketRefused output = ⊥
 EndsUsage ReadFault output = ⊥
 EndsUsage Memory output = ⊥
 EndsUsage TooMany output = ⊥
+EndsUsage DiskFault output = ⊥
+EndsUsage StoreRefused output = ⊥

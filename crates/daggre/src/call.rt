@@ -9,15 +9,18 @@ ghost use Rattle.mk_io.specs.Status.{code_of};
 ghost use Rattle.mk_file.specs.File.{file_of};
 ghost use Rattle.mk_file.specs.declared.fault.FileFault.{FileFault};
 ghost use Rattle.mk_session.specs.Complete.{AreWithin};
-ghost use Rattle.mk_session.specs.Outcome.{Adds, Outcome, IsTurnedAway, HasCauses};
-ghost use Rattle.daggre.specs.Words.{Run, Sample, RunThen, asked_of, EndsUsage};
+ghost use Rattle.mk_session.specs.Outcome.{Adds, Outcome, IsTurnedAway, HasCauses, HasKeepCauses};
+ghost use Rattle.mk_durable.specs.KeepOutcome.{KeepOutcome, KeepsChanges};
+ghost use Rattle.mk_durable.specs.KeepOutcome.{IsSoundStore, IsHonestStore, AreHonest};
+ghost use Rattle.daggre.specs.Words.{Run, Sample, RunThen, Keep, asked_of, EndsUsage};
 ghost use Rattle.daggre.specs.AskOutcome.{AskOutcome};
 ghost use Rattle.daggre.specs.declared.ask.Ask.{Ask};
-ghost use Rattle.daggre.specs.Called.{words_in, asked_by, named_by, Exits};
+ghost use Rattle.daggre.specs.Called.{words_in, asked_by, named_by, kept_by, Exits};
 ghost use Rattle.daggre.specs.Sampled.{EndsSample};
 
 use crate::program::program;
 use arrayvec::ArrayVec;
+use mk_disk::Disk;
 use mk_io::{Inputs, Sink, Status};
 use mk_net::NoMemory;
 use std::alloc::Global;
@@ -30,13 +33,15 @@ use std::io;
 /// The first argument is the program's own name, and is no word. Where an argument is no text, the
 /// words ask for nothing that the program knows. Where memory was wanting for them, nothing is read
 /// or written.
-pub fn call<I: Inputs, S: Sink>(
+pub fn call<I: Inputs, S: Sink, K: Disk>(
     alloc: Global,
     arguments: io::Result<Args>,
     inputs: &mut I,
     out: &mut S,
+    disk: &mut K,
 ) -> u8
-    requires { (name : List ℕ) → named_by arguments ≡ Some (Some name) → I.admits name }
+    requires market { (name : List ℕ) → named_by arguments ≡ Some (Some name) → I.admits name }
+    requires store { (store : List ℕ) → kept_by arguments ≡ Some (Some store) → K.admits store }
     ensures run { (name file all : List ℕ) → asked_by arguments ≡ Some (Some (Run name)) →
         I.file inputs.old name ≡ Some file → I.commands inputs.old ≡ Some all →
         Exits result (λ status. Outcome status file all (I.commands inputs.new)
@@ -46,14 +51,37 @@ pub fn call<I: Inputs, S: Sink>(
         I.file inputs.old name ≡ Some file → I.commands inputs.old ≡ Some all →
         Exits result (λ status. AskOutcome status ask file all (I.commands inputs.new)
         (S.written out.old) (S.written out.new)) }
+    ensures keep { (name store file stored all : List ℕ) →
+        asked_by arguments ≡ Some (Some (Keep name store)) →
+        I.file inputs.old name ≡ Some file → I.commands inputs.old ≡ Some all →
+        K.file disk.old store ≡ Some stored → IsSoundStore file stored →
+        Exits result (λ status. KeepOutcome status file stored all (I.commands inputs.new)
+        (S.written out.old) (S.written out.new)) }
+    ensures kept { (name store file stored all : List ℕ) →
+        asked_by arguments ≡ Some (Some (Keep name store)) →
+        I.file inputs.old name ≡ Some file → I.commands inputs.old ≡ Some all →
+        K.file disk.old store ≡ Some stored → AreHonest file (K.may_leave disk.old store) →
+        KeepsChanges (file_of file) file stored all (S.written out.old) (S.written out.new)
+        (K.may_leave disk.old store) (K.may_leave disk.new store)
+        (λ P. (c : List ℕ) → K.left_since disk.new store (K.moment disk.old) c → P c) }
     ensures refused { (name file : List ℕ) (fault : FileFault) →
         named_by arguments ≡ Some (Some name) →
         I.file inputs.old name ≡ Some file → file_of file ≡ Err fault →
         Exits result (λ status. IsTurnedAway status fault (I.commands inputs.old)
         (I.commands inputs.new) (S.written out.old) (S.written out.new)) }
     ensures complete { (name file all : List ℕ) → named_by arguments ≡ Some (Some name) →
-        I.file inputs.old name ≡ Some file → I.commands inputs.old ≡ Some all →
+        kept_by arguments ≡ Some None → I.file inputs.old name ≡ Some file →
+        I.commands inputs.old ≡ Some all →
         IsOk (file_of file) → AreWithin all →
+        (Rose (I.faults inputs.old) (I.faults inputs.new) → ⊥) →
+        (Rose (S.faults out.old) (S.faults out.new) → ⊥) →
+        (result ≡ code_of Status.Done) ⊎ (result ≡ code_of Status.Memory) }
+    ensures keep_complete { (name store file stored all : List ℕ) →
+        asked_by arguments ≡ Some (Some (Keep name store)) →
+        I.file inputs.old name ≡ Some file → I.commands inputs.old ≡ Some all →
+        K.file disk.old store ≡ Some stored → IsHonestStore file stored →
+        IsOk (file_of file) → AreWithin all →
+        (Rose (K.faults disk.old) (K.faults disk.new) → ⊥) →
         (Rose (I.faults inputs.old) (I.faults inputs.new) → ⊥) →
         (Rose (S.faults out.old) (S.faults out.new) → ⊥) →
         (result ≡ code_of Status.Done) ⊎ (result ≡ code_of Status.Memory) }
@@ -64,15 +92,23 @@ pub fn call<I: Inputs, S: Sink>(
         Exits result (λ status. Adds (S.written out.old) (S.written out.new) (EndsUsage status)) }
     ensures unread { ((name : List ℕ) → named_by arguments ≢ Some (Some name)) →
         inputs.new ≡ inputs.old }
+    ensures unkept { ((store : List ℕ) → kept_by arguments ≢ Some (Some store)) →
+        disk.new ≡ disk.old }
     ensures usage { result ≡ code_of Status.Usage → asked_by arguments ≡ Some None }
-    ensures causes { Exits result (λ status. HasCauses status
+    ensures causes { ((store : List ℕ) → kept_by arguments ≢ Some (Some store)) →
+        Exits result (λ status. HasCauses status
         (I.faults inputs.old) (I.faults inputs.new) (S.faults out.old) (S.faults out.new)) }
+    ensures keep_causes { Exits result (λ status. HasKeepCauses status
+        (K.faults disk.old) (K.faults disk.new) (I.faults inputs.old) (I.faults inputs.new)
+        (S.faults out.old) (S.faults out.new)) }
     ensures no_memory { asked_by arguments ≡ None →
         (result ≡ code_of Status.Memory) × (S.written out.new ≡ S.written out.old) }
 {
     match words_of(alloc, arguments) {
-        Ok(Some(words)) => program(alloc, lent(words.as_slice()).as_slice(), inputs, out).code(),
-        Ok(None) => program(alloc, &[], inputs, out).code(),
+        Ok(Some(words)) => {
+            program(alloc, lent(words.as_slice()).as_slice(), inputs, out, disk).code()
+        }
+        Ok(None) => program(alloc, &[], inputs, out, disk).code(),
         Err(NoMemory) => Status::Memory.code(),
     }
 }

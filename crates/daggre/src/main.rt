@@ -11,6 +11,7 @@ mod sample;
 mod words;
 
 use call::call;
+use mk_disk::StdDisk;
 use mk_io::{StdInputs, StdSink};
 use std::env;
 use std::process::ExitCode;
@@ -18,5 +19,6 @@ use std::process::ExitCode;
 fn main(rt: HostRuntime) -> ExitCode {
     let mut inputs = StdInputs::new(&rt);
     let mut out = StdSink::new(&rt);
-    ExitCode::from(call(rt.alloc(), env::args(&rt), &mut inputs, &mut out))
+    let mut disk = StdDisk::new(&rt);
+    ExitCode::from(call(rt.alloc(), env::args(&rt), &mut inputs, &mut out, &mut disk))
 }

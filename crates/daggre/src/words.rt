@@ -1,9 +1,9 @@
 //! What the words of a call ask for.
 
 ghost use Rattle.std.specs.Prelude.{◌≡◌, ◌≤◌, [], ◌∷◌, map, codes, decimal, IfSome};
-ghost use Rattle.std.specs.Prelude.{option_map};
+ghost use Rattle.std.specs.Prelude.{option_map, length};
 ghost use Rattle.mk_net.specs.Texts.{same_text};
-ghost use Rattle.daggre.specs.Words.{max_sample, asked_of, size_of};
+ghost use Rattle.daggre.specs.Words.{max_sample, asked_of, kept_in, size_of};
 ghost use Rattle.daggre.specs.inner.Asking.{asked_as, IsSized};
 
 use crate::ask::Ask;
@@ -22,6 +22,8 @@ pub enum Asked<'a> {
     Sample { size: u32 },
     /// To run a market and then answer what is asked of its last history.
     RunThen { name: &'a str, ask: Ask },
+    /// To run a market and keep its changes in a store.
+    Keep { name: &'a str, store: &'a str },
 }
 
 /// What the words ask for, if it is something that the program knows.
@@ -31,10 +33,34 @@ pub fn read_words<'a>(words: &[&'a str]) -> Option<Asked<'a>>
 {
     match words {
         [word, argument] => asked_by_two(word, argument),
-        [word, name, rest @ ..] => match ask_of(word, rest) {
-            Some(ask) => Some(Asked::RunThen { name, ask }),
-            None => None,
-        },
+        [word, name, rest @ ..] => asked_by_more(word, name, rest),
+        _ => None,
+    }
+}
+
+/// What three words or more ask for, by those behind the first two.
+fn asked_by_more<'a>(word: &str, name: &'a str, rest: &[&'a str]) -> Option<Asked<'a>>
+    requires { 1 ≤ length rest.now }
+    ensures asked { option_map asked_as result
+        ≡ asked_of (word.now ∷ name.now ∷ map (λ w. w.now) rest.now) }
+    ensures sized { IfSome result IsSized }
+{
+    if is_keep(word) {
+        return kept_in(name, rest);
+    }
+    match ask_of(word, rest) {
+        Some(ask) => Some(Asked::RunThen { name, ask }),
+        None => None,
+    }
+}
+
+/// To keep changes in a store, where it is the one word behind the market's name.
+fn kept_in<'a>(name: &'a str, rest: &[&'a str]) -> Option<Asked<'a>>
+    ensures asked { option_map asked_as result ≡ kept_in name.now (map (λ w. w.now) rest.now) }
+    ensures sized { IfSome result IsSized }
+{
+    match rest {
+        [store] => Some(Asked::Keep { name, store }),
         _ => None,
     }
 }
@@ -66,6 +92,12 @@ fn is_run(word: &str) -> bool
     ensures { result ≡ same_text word.now (codes "run") }
 {
     word == "run"
+}
+
+fn is_keep(word: &str) -> bool
+    ensures { result ≡ same_text word.now (codes "keep") }
+{
+    word == "keep"
 }
 
 fn is_sample(word: &str) -> bool

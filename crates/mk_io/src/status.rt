@@ -20,10 +20,15 @@ pub enum Status {
     Memory,
     /// The commands have more lines or bytes than a stream may have; the lines before are answered.
     TooMany,
+    /// A call of the disk that holds the store failed; a front of the output was written.
+    DiskFault,
+    /// The store is another's, or holds what was never written there; the one line written says
+    /// where.
+    StoreRefused,
 }
 
 impl Status {
-    /// The exit status of the process, from 0 for `Done` to 6 for `TooMany`, in the order of the variants.
+    /// The exit status of the process, from 0 for `Done` to 8 for `StoreRefused`, in the order of the variants.
     pub fn code(self) -> u8
         ensures { result ≡ code_of self }
     {
@@ -35,6 +40,8 @@ impl Status {
             Status::WriteFault => 4,
             Status::Memory => 5,
             Status::TooMany => 6,
+            Status::DiskFault => 7,
+            Status::StoreRefused => 8,
         }
     }
 }

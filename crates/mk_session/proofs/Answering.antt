@@ -10,10 +10,14 @@ use Rattle.mk_exact.specs.Market.{Market}
 use Rattle.mk_reply.specs.declared.reply.Reply.{Reply}
 use Rattle.mk_rules.specs.Transcript.{Standing, opening, Line, IsAllowedFor, after, Run}
 use Rattle.mk_rules.specs.Standings.{IsMarket, Stands}
-use Rattle.mk_rules.proofs.Keeps.{opening_stands, run_keeps}
+use Rattle.mk_rules.proofs.Keeps.{run_keeps}
+use Rattle.mk_rules.proofs.Ready.{opening_is_ready}
+use Rattle.mk_rules.proofs.Follows.{opening_is_bounded}
 use Rattle.mk_rules.proofs.Settling.{run_settles}
-use Rattle.mk_session.specs.Texts.{ready_line, reply_line}
-use Rattle.mk_session.specs.Transcript.{Asks, AreReplied, AreAnswered, IsAllowedRun, Transcript}
+use Rattle.mk_session.specs.Texts.{reply_line}
+use Rattle.mk_session.specs.Transcript.{Start, Asks, AreReplied, AreAnswered, IsAllowedRun}
+use Rattle.mk_session.specs.Transcript.{Transcript}
+use Rattle.mk_session.specs.Begins.{CanBegin}
 use Rattle.mk_session.specs.inner.Progress.{IsSoundAt}
 use Rattle.mk_session.proofs.Passing.{safe_on_way}
 
@@ -119,40 +123,58 @@ then_answered market old mid new ls ms a b first second = record {
       ∙ sym (flat_map-append reply_line first.replies second.replies);
 }
 
--- lines that are answered from the opening on leave a sound history
-pub sound_so_far : (market : Market) → IsMarket market → (lines : List StreamLine)
-    (now : Standing) (replies : List Reply) → AreReplied market opening lines now replies
-    → IsSoundAt market now
-sound_so_far market is_market lines now replies replied =
-    let stands = run_keeps market opening now replied.asked replies
-    (opening_stands market is_market) replied.run in
-    stands.sound
-
--- what lines that are answered from the opening on keep
-pub allowed_run_of : (market : Market) → IsMarket market → (lines : List StreamLine)
-    (end : Standing) (replies : List Reply) → AreReplied market opening lines end replies
-    → IsAllowedRun market lines end replies
-allowed_run_of market is_market lines end replies replied =
-    let stands : Stands market opening.history = opening_stands market is_market in
-    record {
-      replied = replied;
-      safe = safe_on_way market opening end replied.asked replies stands replied.run;
-      settled = run_settles market opening end replied.asked replies stands replied.run;
-    }
-
--- behind the ready line they are a transcript
-pub transcript_of : (market : Market) → IsMarket market → (lines : List StreamLine) (end : Standing)
-    (answers : List ℕ) → AreAnswered market opening lines end answers
-    → Transcript market lines (ready_line market ++ answers)
-transcript_of market is_market lines end answers answered = record {
-  after = end;
-  replies = answered.replies;
-  run = allowed_run_of market is_market lines end answered.replies answered.replied;
-  printed = ap (λ (bytes : List ℕ). ready_line market ++ bytes) answered.printed;
+-- a market can begin at its opening
+pub opening_begins : (market : Market) → IsMarket market → CanBegin market opening
+opening_begins market is_market = record {
+  is_market = is_market;
+  ready = opening_is_ready market is_market;
+  bounded = opening_is_bounded market;
 }
 
-pub transcript_stands : (market : Market) (is_market : IsMarket market) (lines : List StreamLine)
-    (end : Standing) (answers : List ℕ) (answered : AreAnswered market opening lines end answers)
-    → (transcript_of market is_market lines end answers answered).after ≡ end
+pub can_begin : (market : Market) (standing : Standing) → IsMarket market → standing ≡ opening
+    → CanBegin market standing
+can_begin market standing is_market begins =
+    subst (λ (s : Standing). CanBegin market s) (sym begins) (opening_begins market is_market)
+
+-- the lines of a run leave a sound history
+pub sound_so_far : (start : Start) → CanBegin start.market start.standing
+    → (lines : List StreamLine) (now : Standing) (replies : List Reply)
+    → AreReplied start.market start.standing lines now replies → IsSoundAt start.market now
+sound_so_far start begins lines now replies replied =
+    let stands = run_keeps start.market start.standing now replied.asked replies
+    begins.ready.stands replied.run in
+    stands.sound
+
+-- what the lines of a run keep
+pub allowed_run_of : (start : Start) → CanBegin start.market start.standing
+    → (lines : List StreamLine) (end : Standing) (replies : List Reply)
+    → AreReplied start.market start.standing lines end replies
+    → IsAllowedRun start lines end replies
+allowed_run_of start begins lines end replies replied =
+    let stands : Stands start.market start.standing.history = begins.ready.stands in
+    record {
+      replied = replied;
+      safe = safe_on_way start.market start.standing end replied.asked replies stands replied.run;
+      settled = run_settles start.market start.standing end replied.asked replies stands
+          replied.run;
+    }
+
+-- behind what is written before them they are a transcript
+pub transcript_of : (start : Start) → CanBegin start.market start.standing
+    → (lines : List StreamLine) (end : Standing) (answers output : List ℕ)
+    → AreAnswered start.market start.standing lines end answers → output ≡ start.head ++ answers
+    → Transcript start lines output
+transcript_of start begins lines end answers output answered printed = record {
+  after = end;
+  replies = answered.replies;
+  run = allowed_run_of start begins lines end answered.replies answered.replied;
+  printed = printed ∙ ap (λ (bytes : List ℕ). start.head ++ bytes) answered.printed;
+}
+
+pub transcript_stands : (start : Start) (begins : CanBegin start.market start.standing)
+    (lines : List StreamLine) (end : Standing) (answers output : List ℕ)
+    (answered : AreAnswered start.market start.standing lines end answers)
+    (printed : output ≡ start.head ++ answers)
+    → (transcript_of start begins lines end answers output answered printed).after ≡ end
 unfolding transcript_of
-transcript_stands market is_market lines end answers answered = refl
+transcript_stands start begins lines end answers output answered printed = refl

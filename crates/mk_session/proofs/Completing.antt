@@ -7,6 +7,7 @@ use Rattle.std.proofs.lemmas.List.{length-map}
 use Rattle.mk_io.specs.declared.status.Status.{Status}
 use Rattle.mk_io.specs.declared.status.Status.TheVariants.{Done, Usage, MarketRefused, ReadFault}
 use Rattle.mk_io.specs.declared.status.Status.TheVariants.{WriteFault, Memory, TooMany}
+use Rattle.mk_io.specs.declared.status.Status.TheVariants.{DiskFault, StoreRefused}
 use Rattle.mk_io.specs.Outside.{Rose}
 use Rattle.mk_io.specs.Stream.{StreamLine, parts, line_of, stream_lines, AreWholeLines}
 use Rattle.mk_io.specs.Stream.{max_stream_lines, max_stream_bytes}
@@ -14,6 +15,7 @@ use Rattle.mk_io.specs.Cutting.{first_size}
 use Rattle.mk_exact.specs.Market.{Market}
 use Rattle.mk_file.specs.declared.fault.FileFault.{FileFault}
 use Rattle.mk_io.proofs.WholeLines.{some_part, whole_lines-append}
+use Rattle.mk_session.specs.Transcript.{Start, from_opening}
 use Rattle.mk_session.specs.Outcome.{Adds, Refuses, Ends, Opened, IsTurnedAway, IsOverrun}
 use Rattle.mk_session.specs.Outcome.{HasCauses}
 use Rattle.mk_session.specs.Complete.{AreWithin}
@@ -58,25 +60,29 @@ past_limits all whole rest bytes lines more past within = at past
     at (inl e) = omega (arith, count, within.lines, some_line rest more)
     at (inr p) = omega (arith, size, within.bytes, first_size_within rest)
 
-not_overrun : (market : Market) (all rest output : List ℕ) → IsOverrun market all rest output
+not_overrun : (start : Start) (all rest output : List ℕ) → IsOverrun start all rest output
     → AreWithin all → ⊥
-not_overrun market all rest output over within =
+not_overrun start all rest output over within =
     past_limits all over.whole (over.part ++ rest) over.bytes over.lines over.more over.past within
 
 ends_well : (status : Status) (given : Result Market FileFault) (all rest output : List ℕ)
     → Ends status given all rest output → IsOk given → AreWithin all
-    → (status ≡ ReadFault → ⊥) → (status ≡ WriteFault → ⊥) → (status ≡ Done) ⊎ (status ≡ Memory)
-ends_well Done given all rest output ends ok within read written = inl refl
-ends_well Memory given all rest output ends ok within read written = inr refl
-ends_well ReadFault given all rest output ends ok within read written = absurd (read refl)
-ends_well WriteFault given all rest output ends ok within read written = absurd (written refl)
-ends_well TooMany (Ok market) all rest output ends ok within read written =
-    absurd (not_overrun market all rest output ends within)
-ends_well TooMany (Err fault) all rest output ends ok within read written = absurd ends.0
-ends_well MarketRefused (Ok market) all rest output ends ok within read written = absurd ends
-ends_well MarketRefused (Err fault) all rest output ends ok within read written = absurd (cc)
-ends_well Usage (Ok market) all rest output ends ok within read written = absurd ends
-ends_well Usage (Err fault) all rest output ends ok within read written = absurd ends.0
+    → (status ≡ ReadFault → ⊥) → (status ≡ WriteFault → ⊥) → (status ≡ DiskFault → ⊥)
+    → (status ≡ Done) ⊎ (status ≡ Memory)
+ends_well Done given all rest output ends ok within read written kept = inl refl
+ends_well Memory given all rest output ends ok within read written kept = inr refl
+ends_well ReadFault given all rest output ends ok within read written kept = absurd (read refl)
+ends_well WriteFault given all rest output ends ok within read written kept = absurd (written refl)
+ends_well TooMany (Ok market) all rest output ends ok within read written kept =
+    absurd (not_overrun (from_opening market) all rest output ends within)
+ends_well TooMany (Err fault) all rest output ends ok within read written kept = absurd ends.0
+ends_well MarketRefused (Ok market) all rest output ends ok within read written kept = absurd ends
+ends_well MarketRefused (Err fault) all rest output ends ok within read written kept = absurd (cc)
+ends_well Usage (Ok market) all rest output ends ok within read written kept = absurd ends
+ends_well Usage (Err fault) all rest output ends ok within read written kept = absurd ends.0
+ends_well DiskFault given all rest output ends ok within read written kept = absurd (kept refl)
+ends_well StoreRefused (Ok market) all rest output ends ok within read written kept = absurd ends
+ends_well StoreRefused (Err fault) all rest output ends ok within read written kept = absurd ends.0
 
 read_cause : (status : Status) (inputs inputs_now sink sink_now : ℕ) → HasCauses status inputs
     inputs_now sink sink_now → status ≡ ReadFault → Rose inputs inputs_now
@@ -89,6 +95,11 @@ write_cause : (status : Status) (inputs inputs_now sink sink_now : ℕ) → HasC
 write_cause status inputs inputs_now sink sink_now causes e =
     let fault = subst (λ (s : Status). HasCauses s inputs inputs_now sink sink_now) e causes in
     fault.1.rose
+
+no_disk : (status : Status) (inputs inputs_now sink sink_now : ℕ) → HasCauses status inputs
+    inputs_now sink sink_now → status ≡ DiskFault → ⊥
+no_disk status inputs inputs_now sink sink_now causes e =
+    subst (λ (s : Status). HasCauses s inputs inputs_now sink sink_now) e causes
 
 -- the same of a run, where each failure has its cause and no count rose
 pub completes : (status : Status) (given : Result Market FileFault) (all : List ℕ)
@@ -103,6 +114,7 @@ completes status given all source before written inputs inputs_now sink sink_now
     ends_well status given all opened.rest opened.output.bytes opened.output.holds ok within
     (λ e. steady_inputs (read_cause status inputs inputs_now sink sink_now causes e))
     (λ e. steady_sink (write_cause status inputs inputs_now sink sink_now causes e))
+    (no_disk status inputs inputs_now sink sink_now causes)
 
 refuses_well : (status : Status) (fault : FileFault) (output : List ℕ) → Refuses status fault output
     → (status ≡ WriteFault → ⊥)
@@ -114,6 +126,8 @@ refuses_well ReadFault fault output ends written = absurd ends
 refuses_well Done fault output ends written = absurd ends
 refuses_well TooMany fault output ends written = absurd ends
 refuses_well Usage fault output ends written = absurd ends
+refuses_well DiskFault fault output ends written = absurd ends
+refuses_well StoreRefused fault output ends written = absurd ends
 
 -- a run of a refused file in which nothing failed says so, or is out of memory
 pub refused_so : (status : Status) (fault : FileFault) (source left before written : Option

@@ -17,14 +17,14 @@ use Rattle.mk_rules.specs.Transcript.{Standing, opening}
 use Rattle.mk_session.specs.declared.counts.Tally.{Tally}
 use Rattle.mk_session.specs.declared.counts.TallyFault.{TallyFault}
 use Rattle.mk_session.specs.declared.counts.TallyFault.TheVariants.{Memory}
-use Rattle.mk_session.specs.Transcript.{AreReplied}
+use Rattle.mk_session.specs.Transcript.{from_opening, AreReplied}
 use Rattle.mk_session.specs.Complete.{AreWithin}
 use Rattle.mk_session.specs.Tally.{is_trade, is_refusal, last_reply, IsRemembered, AreCounted}
 use Rattle.mk_session.specs.Tally.{IsTally, TallyEnds}
 use Rattle.mk_session.specs.inner.Counting.{uncounted, is_want, IsWithin, IsCounted, CountsLine}
 use Rattle.mk_session.specs.inner.Counting.{IsCountedSoFar, IsCounting}
 use Rattle.mk_session.proofs.Answering.{no_more, none_replied, then_replied, sound_so_far}
-use Rattle.mk_session.proofs.Answering.{allowed_run_of}
+use Rattle.mk_session.proofs.Answering.{allowed_run_of, opening_begins}
 use Rattle.mk_session.proofs.Underway.{are_whole, placed_next}
 use Rattle.mk_session.proofs.Endings.{past_of, risen}
 use Rattle.mk_session.proofs.Completing.{past_limits, none_rose, none_within_stream}
@@ -81,8 +81,8 @@ counted_next market lines line now then before after more counted = record {
   is_market = counted.is_market;
   replies = counted.replies ++ more.replies;
   replied = then_replied market opening now then lines (line ∷ []) counted.replies more.replies
-      counted.replied (more.replied (sound_so_far market counted.is_market lines now
-      counted.replies counted.replied));
+      counted.replied (more.replied (sound_so_far (from_opening market)
+      (opening_begins market counted.is_market) lines now counted.replies counted.replied));
   remembered = All-append IsRemembered counted.replies more.replies counted.remembered
       more.remembered;
   counts = more.counts counted.replies counted.counts;
@@ -144,7 +144,8 @@ tally_of market all cutting source now tally far empty =
     record {
       after = now;
       replies = counted.replies;
-      run = allowed_run_of market counted.is_market (stream_lines all) now counted.replies
+      run = allowed_run_of (from_opening market) (opening_begins market counted.is_market)
+          (stream_lines all) now counted.replies
           (subst (λ (bytes : List ℕ). AreReplied market opening (stream_lines bytes) now
           counted.replies) (sym whole) counted.replied);
       remembered = counted.remembered;

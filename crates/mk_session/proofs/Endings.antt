@@ -2,7 +2,8 @@
 use Rattle.std.proofs.Common.{◌≡◌, ℕ, ◌<◌, ◌+◌, List, [], ◌∷◌, ◌++◌, length, Option, Some}
 use Rattle.std.proofs.Common.{None, Result, Ok, Err, MatchOption, OnOk, OnErr, IfSome}
 use Rattle.std.proofs.Common.{IfNone, ◌⊎◌, inl, inr, refl, sym, ap, subst, ◌∙◌, append_assoc}
-use Rattle.mk_io.specs.declared.status.Status.TheVariants.{Done, ReadFault, WriteFault, TooMany}
+use Rattle.mk_io.specs.declared.status.Status.{Status}
+use Rattle.mk_io.specs.declared.status.Status.TheVariants.{Done, ReadFault, TooMany}
 use Rattle.mk_io.specs.declared.lines.Next.{Next}
 use Rattle.mk_io.specs.declared.lines.Next.TheVariants.{Line, Long, End, ReadFault as Unread}
 use Rattle.mk_io.specs.declared.lines.Next.TheVariants.{TooMany as Overrun}
@@ -14,59 +15,51 @@ use Rattle.mk_io.specs.Cutting.{IsAnswer, IsFreshAnswer, StopsInLine, Overruns, 
 use Rattle.mk_io.specs.Cutting.{IsWithinLimits, CountsReadFault, HasReadCause}
 use Rattle.mk_io.proofs.Told.{append_known_twice, prepend_known_twice}
 use Rattle.mk_exact.specs.Market.{Market}
-use Rattle.mk_rules.specs.Transcript.{Standing, opening}
-use Rattle.mk_session.specs.Texts.{ready_line}
-use Rattle.mk_session.specs.Transcript.{AreAnswered, Transcript}
-use Rattle.mk_session.specs.Complete.{AreWithin}
-use Rattle.mk_session.specs.Outcome.{HasCauses, CountsNone, IsWholeTo}
+use Rattle.mk_rules.specs.Transcript.{Standing}
+use Rattle.mk_session.specs.Transcript.{Start, Transcript}
+use Rattle.mk_session.specs.Outcome.{Adds, IsBroken, IsWholeTo, HasKeepCauses}
 use Rattle.mk_session.specs.inner.Progress.{Gathers, AreGathered, IsBetween, IsSoFar, IsEnded}
 use Rattle.mk_session.specs.declared.waiting.TellFault.{TellFault}
 use Rattle.mk_session.specs.declared.waiting.TellFault.TheVariants.{Disk, Sink}
-use Rattle.mk_session.specs.declared.answer.Ending.{Ending}
-use Rattle.mk_session.specs.inner.Telling.{HasTellCause, HasEndCauses, CountsNoFault}
-use Rattle.mk_session.specs.inner.Telling.{ended_by, shown}
+use Rattle.mk_session.specs.inner.Telling.{HasTellCause, CountsNoFault, ended_by}
 use Rattle.mk_session.proofs.Answering.{no_more, transcript_of, transcript_stands}
 use Rattle.mk_session.proofs.Underway.{rest_of, are_whole, so_far_next, still_so_far}
 
 -- the transcript of the lines that are done
-transcript_so_far : (market : Market) (all : List ℕ) (cutting : Cutting) (source : Option (List ℕ))
+transcript_so_far : (start : Start) (all : List ℕ) (cutting : Cutting) (source : Option (List ℕ))
     (now : Standing) (before written : Option (List ℕ))
-    (waits : List ℕ) → waits ≡ [] → (far : IsSoFar market all cutting source now before written
+    (waits : List ℕ) → waits ≡ [] → (far : IsSoFar start all cutting source now before written
     waits)
-    → Transcript market (stream_lines far.done) (ready_line market ++ far.answers.bytes)
-transcript_so_far market all cutting source now before written waits empty far =
-    let bytes = far.answers.bytes in
-    let whole : bytes ++ waits ≡ bytes = ap (λ (rest : List ℕ). bytes ++ rest) empty
-    ∙ no_more bytes in
-    transcript_of market far.answers.is_market (stream_lines far.done) now bytes
-    (subst (λ (output : List ℕ). AreAnswered market opening (stream_lines far.done) now output)
-    whole far.answers.holds)
+    → Transcript start (stream_lines far.done) far.answers.bytes
+transcript_so_far start all cutting source now before written waits empty far =
+    let said = far.answers in
+    transcript_of start said.begins (stream_lines far.done) now said.answers said.bytes
+    said.answered (sym (no_more said.bytes)
+    ∙ ap (λ (rest : List ℕ). said.bytes ++ rest) (sym empty) ∙ said.printed)
 
 -- it leaves what stands
-so_far_stands : (market : Market) (all : List ℕ) (cutting : Cutting) (source : Option (List ℕ))
+so_far_stands : (start : Start) (all : List ℕ) (cutting : Cutting) (source : Option (List ℕ))
     (now : Standing) (before written : Option (List ℕ))
-    (waits : List ℕ) → (empty : waits ≡ []) → (far : IsSoFar market all cutting source now before
+    (waits : List ℕ) → (empty : waits ≡ []) → (far : IsSoFar start all cutting source now before
     written waits)
-    → (transcript_so_far market all cutting source now before written waits empty far).after ≡ now
+    → (transcript_so_far start all cutting source now before written waits empty far).after ≡ now
 unfolding transcript_so_far
-so_far_stands market all cutting source now before written waits empty far =
-    let bytes = far.answers.bytes in
-    let whole : bytes ++ waits ≡ bytes = ap (λ (rest : List ℕ). bytes ++ rest) empty
-    ∙ no_more bytes in
-    transcript_stands market far.answers.is_market (stream_lines far.done) now bytes
-    (subst (λ (output : List ℕ). AreAnswered market opening (stream_lines far.done) now output)
-    whole far.answers.holds)
+so_far_stands start all cutting source now before written waits empty far =
+    let said = far.answers in
+    transcript_stands start said.begins (stream_lines far.done) now said.answers said.bytes
+    said.answered (sym (no_more said.bytes)
+    ∙ ap (λ (rest : List ℕ). said.bytes ++ rest) (sym empty) ∙ said.printed)
 
 pub second_empty : (xs ys : List ℕ) → xs ++ ys ≡ [] → ys ≡ []
 second_empty [] ys e = e
 second_empty (x ∷ xs) ys e = absurd (cc)
 
-pub ended_done : (market : Market) (all : List ℕ) (old new : Cutting)
+pub ended_done : (start : Start) (all : List ℕ) (old new : Cutting)
     (source rest : Option (List ℕ)) (now : Standing) (before written after : Option (List ℕ))
-    (waits : List ℕ) → waits ≡ [] → (far : IsSoFar market all old source now before written waits)
+    (waits : List ℕ) → waits ≡ [] → (far : IsSoFar start all old source now before written waits)
     → far.left ≡ [] → Stays old new source rest End → after ≡ written
-    → IsEnded Done market now all rest before after
-ended_done market all old new source rest now before written after waits none_waits far empty stays
+    → IsEnded Done start now all rest before after
+ended_done start all old new source rest now before written after waits none_waits far empty stays
     still =
     let r = rest_of old.left far.left source (sym far.known) in
     let whole : all ≡ far.done = far.bytes ∙ ap (λ (left : List ℕ). far.done ++ left) empty
@@ -77,25 +70,25 @@ ended_done market all old new source rest now before written after waits none_wa
       output = record {
         bytes = far.answers.bytes;
         added = still ∙ far.answers.added;
-        holds = subst (λ (bytes : List ℕ). IsWholeTo market now bytes r.rest
-            (ready_line market ++ far.answers.bytes)) (sym whole) (record {
+        holds = subst (λ (bytes : List ℕ). IsWholeTo start now bytes r.rest
+            far.answers.bytes) (sym whole) (record {
               whole = record {
                 transcript =
-                    transcript_so_far market all old source now before written waits none_waits far;
+                    transcript_so_far start all old source now before written waits none_waits far;
                 to_the_end = second_empty old.left r.rest (sym r.parts ∙ empty);
                 within = far.within;
               };
-              stands = so_far_stands market all old source now before written waits none_waits far;
+              stands = so_far_stands start all old source now before written waits none_waits far;
             });
       };
     }
 
-pub ended_read_fault : (market : Market) (all : List ℕ) (old new : Cutting)
+pub ended_read_fault : (start : Start) (all : List ℕ) (old new : Cutting)
     (source rest : Option (List ℕ)) (now : Standing) (before written after : Option (List ℕ))
-    (waits : List ℕ) → waits ≡ [] → IsSoFar market all old source now before written waits
+    (waits : List ℕ) → waits ≡ [] → IsSoFar start all old source now before written waits
     → old.last ≡ None → StopsInLine new (stream_left old source) rest → after ≡ written
-    → IsEnded ReadFault market now all rest before after
-ended_read_fault market all old new source rest now before written after waits none_waits far none
+    → IsEnded ReadFault start now all rest before after
+ended_read_fault start all old new source rest now before written after waits none_waits far none
     stops still =
     let r = rest_of stops.part far.left rest (sym far.known ∙ stops.taken) in
     record {
@@ -111,7 +104,7 @@ ended_read_fault market all old new source rest now before written after waits n
           lines = are_whole old.last far.done far.left none far.between;
           no_lf = stops.no_lf;
           within = far.within;
-          transcript = transcript_so_far market all old source now before written waits none_waits
+          transcript = transcript_so_far start all old source now before written waits none_waits
               far;
         };
       };
@@ -125,12 +118,12 @@ past_of given lines spent bytes most_lines most_bytes size e f (inl full) = inl 
 past_of given lines spent bytes most_lines most_bytes size e f (inr past) =
     inr (subst (λ (n : ℕ). most_bytes < n + size) f past)
 
-pub ended_too_many : (market : Market) (all : List ℕ) (old new : Cutting)
+pub ended_too_many : (start : Start) (all : List ℕ) (old new : Cutting)
     (source rest : Option (List ℕ)) (now : Standing) (before written after : Option (List ℕ))
-    (waits : List ℕ) → waits ≡ [] → IsSoFar market all old source now before written waits
+    (waits : List ℕ) → waits ≡ [] → IsSoFar start all old source now before written waits
     → old.last ≡ None → Overruns old new (stream_left old source) rest → after ≡ written
-    → IsEnded TooMany market now all rest before after
-ended_too_many market all old new source rest now before written after waits none_waits far none
+    → IsEnded TooMany start now all rest before after
+ended_too_many start all old new source rest now before written after waits none_waits far none
     over still =
     let r = rest_of over.part far.left rest (sym far.known ∙ over.taken) in
     let much : IsTooMuch old (over.part ++ r.rest) =
@@ -152,7 +145,7 @@ ended_too_many market all old new source rest now before written after waits non
               max_stream_lines max_stream_bytes
               (first_size (over.part ++ r.rest)) far.given far.spent much.past;
           within = far.within;
-          transcript = transcript_so_far market all old source now before written waits none_waits
+          transcript = transcript_so_far start all old source now before written waits none_waits
               far;
         };
       };
@@ -164,51 +157,42 @@ pub whole_or_none : (last : Option Next) (done left left_parts : List ℕ) → l
 whole_or_none None done left left_parts e whole = inl whole
 whole_or_none (Some last) done left left_parts e none = inr (sym e ∙ none)
 
-front_parts : (ready answers output front rest : List ℕ) → output ≡ front ++ rest
-    → ready ++ (answers ++ output) ≡ (ready ++ (answers ++ front)) ++ rest
-front_parts ready answers output front rest e =
-    ap (λ (bytes : List ℕ). ready ++ (answers ++ bytes)) e ∙ ap (λ (bytes : List ℕ). ready ++ bytes)
-    (sym (append_assoc answers front rest))
-    ∙ sym (append_assoc ready (answers ++ front) rest)
-
 -- of what waited only a front was written
-pub ended_broken : (market : Market) (all part : List ℕ) (cutting : Cutting)
-    (source rest : Option (List ℕ)) (now then : Standing)
-    (before written after : Option (List ℕ)) (waited : List ℕ) → stream_left cutting source ≡
-    prepend_known part rest
-    → AddsFront written after waited → IsSoFar market all cutting source now before written waited
-    → IsEnded WriteFault market then all rest before after
-ended_broken market all part cutting source rest now then before written after waited taken cut
-    far =
+broken : (start : Start) (all part : List ℕ) (cutting : Cutting)
+    (source rest : Option (List ℕ)) (now : Standing)
+    (before written after : Option (List ℕ)) (waited : List ℕ)
+    → stream_left cutting source ≡ prepend_known part rest → AddsFront written after waited
+    → IsSoFar start all cutting source now before written waited
+    → (r : List ℕ) × (rest ≡ Some r) × Adds before after (IsBroken start all r)
+broken start all part cutting source rest now before written after waited taken cut far =
     let r = rest_of part far.left rest (sym far.known ∙ taken) in
-    let bytes = far.answers.bytes in
-    record {
-      rest = r.rest;
-      told = r.told;
-      output = record {
-        bytes = bytes ++ cut.front;
-        added = cut.added ∙ ap (λ (w : Option (List ℕ)). append_known w cut.front) far.answers.added
-            ∙ append_known_twice before bytes cut.front;
+    let said = far.answers in (
+      r.rest,
+      r.told,
+      record {
+        bytes = said.bytes ++ cut.front;
+        added = cut.added ∙ ap (λ (w : Option (List ℕ)). append_known w cut.front) said.added
+            ∙ append_known_twice before said.bytes cut.front;
         holds = record {
           done = far.done;
           part = part;
           bytes = far.bytes ∙ ap (λ (left : List ℕ). far.done ++ left) r.parts;
           lines = whole_or_none cutting.last far.done far.left (part ++ r.rest) r.parts far.between;
           within = far.within;
-          text = ready_line market ++ (bytes ++ waited);
-          transcript = transcript_of market far.answers.is_market (stream_lines far.done) now
-              (bytes ++ waited) far.answers.holds;
+          text = said.bytes ++ waited;
+          transcript = transcript_of start said.begins (stream_lines far.done) now said.answers
+              (said.bytes ++ waited) said.answered said.printed;
           front = record {
             rest = cut.rest;
-            parts = front_parts (ready_line market) bytes waited
-                cut.front cut.rest cut.parts;
+            parts = ap (λ (bytes : List ℕ). said.bytes ++ bytes) cut.parts
+                ∙ sym (append_assoc said.bytes cut.front cut.rest);
           };
         };
-      };
-    }
+      },
+    )
 
 -- a line that was answered: the run goes on, one line further
-pub goes_on_after : {T : Type 0} (said : Result T TellFault) (ended : Option Ending)
+pub goes_on_after : {T : Type 0} (said : Result T TellFault) (ended : Option Status)
     (market : Market) (line : StreamLine) (old new kept : Cutting) (source rest : Option (List ℕ))
     (now then : Standing)
     (written after : Option (List ℕ)) (waited waits : List ℕ)
@@ -216,129 +200,142 @@ pub goes_on_after : {T : Type 0} (said : Result T TellFault) (ended : Option End
     → old.last ≡ None → IsWithinLimits new
     → GivesLine line old new (stream_left old source) (stream_left new rest)
     → OnOk said (AreGathered market now (line ∷ []) then written after waited waits)
-    → IfNone ended ((all : List ℕ) (before : Option (List ℕ))
-    → IsSoFar market all old source now before written waited
-    → IsSoFar market all kept rest then before after waits)
+    → IfNone ended ((start : Start) (all : List ℕ) (before : Option (List ℕ))
+    → market ≡ start.market → IsSoFar start all old source now before written waited
+    → IsSoFar start all kept rest then before after waits)
 goes_on_after said ended market line old new kept source rest now then written after waited waits
     e same none limits gives answered =
-    subst (λ (o : Option Ending). IfNone o ((all : List ℕ) (before : Option (List ℕ))
-    → IsSoFar market all old source now before written waited
-    → IsSoFar market all kept rest then before after waits)) (sym e) (at said answered)
+    subst (λ (o : Option Status). IfNone o ((start : Start) (all : List ℕ)
+    (before : Option (List ℕ)) → market ≡ start.market
+    → IsSoFar start all old source now before written waited
+    → IsSoFar start all kept rest then before after waits)) (sym e) (at said answered)
   where
     at : {T : Type 0} (said : Result T TellFault)
         → OnOk said (AreGathered market now (line ∷ []) then written after waited waits)
-        → IfNone (ended_by said) ((all : List ℕ) (before : Option (List ℕ))
-        → IsSoFar market all old source now before written waited
-        → IsSoFar market all kept rest then before after waits)
+        → IfNone (ended_by said) ((start : Start) (all : List ℕ) (before : Option (List ℕ))
+        → market ≡ start.market → IsSoFar start all old source now before written waited
+        → IsSoFar start all kept rest then before after waits)
     at (Ok v) answered =
-        λ all before far.
-        subst (λ (cutting : Cutting). IsSoFar market all cutting rest then before after waits)
+        λ start all before here far.
+        subst (λ (cutting : Cutting). IsSoFar start all cutting rest then before after waits)
         (sym same)
-        (so_far_next market all line old new source rest now then before written after waited
-        waits none limits gives answered far)
+        (so_far_next start all line old new source rest now then before written after waited
+        waits none limits gives (subst (λ (m : Market). AreGathered m now (line ∷ []) then
+        written after waited waits) here answered) far)
     at (Err Disk) answered = tt
     at (Err Sink) answered = tt
 
 -- what waited was not told: the run is broken
-pub breaks_off : {T : Type 0} (said : Result T TellFault) (ended : Option Ending) (market : Market)
+pub breaks_off : {T : Type 0} (said : Result T TellFault) (ended : Option Status) (market : Market)
     (cutting : Cutting) (part : List ℕ) (source rest : Option (List ℕ)) (now then : Standing)
     (written after : Option (List ℕ)) (waited : List ℕ)
     → ended ≡ ended_by said → stream_left cutting source ≡ prepend_known part rest
     → OnErr said (AddsFront written after waited)
-    → IfSome ended (λ end. (all : List ℕ) (before : Option (List ℕ)) → IsSoFar market all cutting
-    source now before written waited → IsEnded (shown end) market then all rest before after)
+    → IfSome ended (λ end. (start : Start) (all : List ℕ) (before : Option (List ℕ))
+    → market ≡ start.market → IsSoFar start all cutting source now before written waited
+    → IsEnded end start then all rest before after)
 breaks_off said ended market cutting part source rest now then written after waited e taken cut =
-    subst (λ (o : Option Ending). IfSome o (λ end. (all : List ℕ) (before : Option (List ℕ))
-    → IsSoFar market all cutting source now before written waited
-    → IsEnded (shown end) market then all rest before after))
-    (sym e) (at said cut)
+    subst (λ (o : Option Status). IfSome o (λ end. (start : Start) (all : List ℕ)
+    (before : Option (List ℕ)) → market ≡ start.market
+    → IsSoFar start all cutting source now before written waited
+    → IsEnded end start then all rest before after)) (sym e) (at said cut)
   where
     at : {T : Type 0} (said : Result T TellFault) → OnErr said (AddsFront written after waited)
-        → IfSome (ended_by said) (λ end. (all : List ℕ) (before : Option (List ℕ))
-        → IsSoFar market all cutting source now before written waited
-        → IsEnded (shown end) market then all rest before after)
+        → IfSome (ended_by said) (λ end. (start : Start) (all : List ℕ)
+        (before : Option (List ℕ)) → market ≡ start.market
+        → IsSoFar start all cutting source now before written waited
+        → IsEnded end start then all rest before after)
     at (Ok v) cut = tt
-    at (Err Disk) cut = λ all before far. ended_broken market all part cutting source rest now then
-        before written after waited taken cut far
-    at (Err Sink) cut = λ all before far. ended_broken market all part cutting source rest now then
-        before written after waited taken cut far
+    at (Err Disk) cut = λ start all before here far.
+        let b = broken start all part cutting source rest now before written after waited taken cut
+        far in
+        record { rest = b.0; told = b.1; output = b.2 }
+    at (Err Sink) cut = λ start all before here far.
+        let b = broken start all part cutting source rest now before written after waited taken cut
+        far in
+        record { rest = b.0; told = b.1; output = b.2 }
 
 -- the same where a line was given, whose reply was not told
-pub breaks_after : {T : Type 0} (said : Result T TellFault) (ended : Option Ending)
+pub breaks_after : {T : Type 0} (said : Result T TellFault) (ended : Option Status)
     (market : Market) (line : StreamLine) (old new : Cutting)
     (source rest : Option (List ℕ)) (now then : Standing) (written after : Option (List ℕ))
     (waited : List ℕ)
     → ended ≡ ended_by said
     → GivesLine line old new (stream_left old source) (stream_left new rest)
     → OnErr said (AddsFront written after waited)
-    → IfSome ended (λ end. (all : List ℕ) (before : Option (List ℕ)) → IsSoFar market all old
-    source now before written waited → IsEnded (shown end) market then all rest before after)
+    → IfSome ended (λ end. (start : Start) (all : List ℕ) (before : Option (List ℕ))
+    → market ≡ start.market → IsSoFar start all old source now before written waited
+    → IsEnded end start then all rest before after)
 breaks_after said ended market line old new source rest now then written after waited e gives cut =
     breaks_off said ended market old (gives.piece ++ new.left) source rest now then written after
     waited e (gives.taken ∙ prepend_known_twice gives.piece new.left rest) cut
 
 -- what waits was told before: the run goes on from there
-pub goes_on_from : (ended : Option Ending) (market : Market) (old new : Cutting)
+pub goes_on_from : (ended : Option Status) (market : Market) (old new : Cutting)
     (source rest : Option (List ℕ)) (now then : Standing)
     (written mid after : Option (List ℕ)) (waited left waits : List ℕ) → Gathers written mid waited
     [] left
-    → IfNone ended ((all : List ℕ) (before : Option (List ℕ)) → IsSoFar market all old source now
-    before mid left → IsSoFar market all new rest then before after waits)
-    → IfNone ended ((all : List ℕ) (before : Option (List ℕ)) → IsSoFar market all old source now
-    before written waited → IsSoFar market all new rest then before after waits)
+    → IfNone ended ((start : Start) (all : List ℕ) (before : Option (List ℕ))
+    → market ≡ start.market → IsSoFar start all old source now before mid left
+    → IsSoFar start all new rest then before after waits)
+    → IfNone ended ((start : Start) (all : List ℕ) (before : Option (List ℕ))
+    → market ≡ start.market → IsSoFar start all old source now before written waited
+    → IsSoFar start all new rest then before after waits)
 goes_on_from None market old new source rest now then written mid after waited left waits gathers
     next =
-    λ all before far. next all before (still_so_far market all old source now before written mid
-    waited left gathers far)
+    λ start all before here far. next start all before here (still_so_far start all old source now
+    before written mid waited left gathers far)
 goes_on_from (Some end) market old new source rest now then written mid after waited left waits
     gathers next = tt
 
-pub ends_from : (ended : Option Ending) (market : Market) (cutting : Cutting)
+pub ends_from : (ended : Option Status) (market : Market) (cutting : Cutting)
     (source rest : Option (List ℕ)) (now then : Standing)
     (written mid after : Option (List ℕ)) (waited left : List ℕ) → Gathers written mid waited []
     left
-    → IfSome ended (λ end. (all : List ℕ) (before : Option (List ℕ)) → IsSoFar market all cutting
-    source now before mid left → IsEnded (shown end) market then all rest before after)
-    → IfSome ended (λ end. (all : List ℕ) (before : Option (List ℕ)) → IsSoFar market all cutting
-    source now before written waited → IsEnded (shown end) market then all rest before after)
+    → IfSome ended (λ end. (start : Start) (all : List ℕ) (before : Option (List ℕ))
+    → market ≡ start.market → IsSoFar start all cutting source now before mid left
+    → IsEnded end start then all rest before after)
+    → IfSome ended (λ end. (start : Start) (all : List ℕ) (before : Option (List ℕ))
+    → market ≡ start.market → IsSoFar start all cutting source now before written waited
+    → IsEnded end start then all rest before after)
 ends_from None market cutting source rest now then written mid after waited left gathers next = tt
 ends_from (Some end) market cutting source rest now then written mid after waited left gathers
     next =
-    λ all before far. next all before (still_so_far market all cutting source now before written mid
-    waited left gathers far)
+    λ start all before here far. next start all before here (still_so_far start all cutting source
+    now before written mid waited left gathers far)
 
-pub causes_from : (ended : Option Ending)
+pub causes_from : (ended : Option Status)
     (disk disk_mid disk_now inputs inputs_now sink sink_mid sink_now : ℕ)
     → disk_mid ≡ disk → sink_mid ≡ sink
     → MatchOption ended (CountsNoFault disk_mid disk_now inputs inputs_now sink_mid sink_now)
-    (λ end. HasEndCauses end disk_mid disk_now inputs inputs_now sink_mid sink_now)
+    (λ end. HasKeepCauses end disk_mid disk_now inputs inputs_now sink_mid sink_now)
     → MatchOption ended (CountsNoFault disk disk_now inputs inputs_now sink sink_now)
-    (λ end. HasEndCauses end disk disk_now inputs inputs_now sink sink_now)
+    (λ end. HasKeepCauses end disk disk_now inputs inputs_now sink sink_now)
 causes_from ended disk disk_mid disk_now inputs inputs_now sink sink_mid sink_now same_disk
     same_sink causes =
     subst (λ (n : ℕ). MatchOption ended (CountsNoFault n disk_now inputs inputs_now sink sink_now)
-    (λ end. HasEndCauses end n disk_now inputs inputs_now sink sink_now)) same_disk
+    (λ end. HasKeepCauses end n disk_now inputs inputs_now sink sink_now)) same_disk
     (subst (λ (n : ℕ). MatchOption ended
     (CountsNoFault disk_mid disk_now inputs inputs_now n sink_now)
-    (λ end. HasEndCauses end disk_mid disk_now inputs inputs_now n sink_now)) same_sink causes)
+    (λ end. HasKeepCauses end disk_mid disk_now inputs inputs_now n sink_now)) same_sink causes)
 
 -- the causes of a turn that read a line and said what it answers
-pub causes_after : {T : Type 0} (said : Result T TellFault) (ended : Option Ending)
+pub causes_after : {T : Type 0} (said : Result T TellFault) (ended : Option Status)
     (disk disk_now inputs inputs_now sink sink_now : ℕ)
     → ended ≡ ended_by said → inputs_now ≡ inputs
     → HasTellCause said disk disk_now sink sink_now
     → MatchOption ended (CountsNoFault disk disk_now inputs inputs_now sink sink_now)
-    (λ end. HasEndCauses end disk disk_now inputs inputs_now sink sink_now)
+    (λ end. HasKeepCauses end disk disk_now inputs inputs_now sink sink_now)
 causes_after said ended disk disk_now inputs inputs_now sink sink_now e same cause =
-    subst (λ (o : Option Ending). MatchOption o
+    subst (λ (o : Option Status). MatchOption o
     (CountsNoFault disk disk_now inputs inputs_now sink sink_now)
-    (λ end. HasEndCauses end disk disk_now inputs inputs_now sink sink_now)) (sym e)
+    (λ end. HasKeepCauses end disk disk_now inputs inputs_now sink sink_now)) (sym e)
     (at said cause)
   where
     at : {T : Type 0} (said : Result T TellFault) → HasTellCause said disk disk_now sink sink_now
         → MatchOption (ended_by said)
         (CountsNoFault disk disk_now inputs inputs_now sink sink_now)
-        (λ end. HasEndCauses end disk disk_now inputs inputs_now sink sink_now)
+        (λ end. HasKeepCauses end disk disk_now inputs inputs_now sink sink_now)
     at (Ok v) cause = (cause.0, (same, cause.1))
     at (Err Disk) cause = (cause.0, (same, cause.1))
     at (Err Sink) cause = (cause.0, (same, cause.1))

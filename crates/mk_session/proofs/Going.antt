@@ -4,54 +4,57 @@ use Rattle.std.proofs.Common.{take, Option, Some, None, inl}
 use Rattle.std.proofs.Common.{refl, sym, ap, subst, ◌∙◌, arith, append_assoc}
 use Rattle.std.proofs.lemmas.List.{take_all}
 use Rattle.std.proofs.Math.Seq.{take-append_seam}
+use Rattle.mk_io.specs.declared.status.Status.{Status}
 use Rattle.mk_io.specs.Outside.{prepend_known, IsAtEnd}
 use Rattle.mk_io.specs.Stream.{max_stream_lines}
 use Rattle.mk_io.specs.Cutting.{Cutting, fresh, GoesOn}
-use Rattle.mk_io.proofs.Told.{append_known_none, prepend_known_none}
+use Rattle.mk_io.proofs.Told.{prepend_known_none}
 use Rattle.mk_exact.specs.Market.{Market}
-use Rattle.mk_rules.specs.Standings.{IsMarket}
-use Rattle.mk_rules.specs.Transcript.{Standing, opening}
-use Rattle.mk_session.specs.Transcript.{AreAnswered}
-use Rattle.mk_session.specs.inner.Progress.{IsSoFar}
+use Rattle.mk_rules.specs.Transcript.{Standing}
+use Rattle.mk_market.specs.Trading.{Trading}
+use Rattle.mk_session.specs.Transcript.{Start}
+use Rattle.mk_session.specs.Outcome.{HasKeepCauses}
+use Rattle.mk_session.specs.inner.Progress.{IsSoFar, IsBegun}
 use Rattle.mk_session.specs.Opening.{IsTakenWithin}
-use Rattle.mk_session.specs.declared.answer.Ending.{Ending}
-use Rattle.mk_session.specs.inner.Telling.{HasEndCauses, CountsNoFault}
+use Rattle.mk_session.specs.inner.Telling.{CountsNoFault}
 use Rattle.mk_session.specs.inner.Loading.{IsTaken}
 use Rattle.mk_session.proofs.Answering.{no_more, none_answered}
 use Rattle.mk_session.proofs.Completing.{none_within_stream}
 
 -- between two lines: the market is the same, the lines go on, no fault was counted, the keeper is
 -- ready, and the run is so far
-pub record IsGoing (start market : Market) (commands : Option (List ℕ)) (lines : Cutting)
-    (source : Option (List ℕ)) (now : Standing)
-    (before written : Option (List ℕ)) (waits : List ℕ) (opened_before opened : Option (List ℕ))
+pub record IsGoing (begun : Trading) (market : Market) (commands : Option (List ℕ))
+    (lines : Cutting) (source : Option (List ℕ)) (now : Standing)
+    (headed written : Option (List ℕ)) (waits : List ℕ) (opened_before opened : Option (List ℕ))
     (disk_before disk inputs_before inputs sink_before sink : ℕ)
     (begins is_ready : ℕ → Type 0) : Type 0 where
-  pub same : market ≡ start
+  pub same : market ≡ begun.market
   pub stays : opened ≡ opened_before
   pub goes_on : GoesOn lines.last
   pub within : lines.given ≤ max_stream_lines
   pub counts : CountsNoFault disk_before disk inputs_before inputs sink_before sink
   pub ready : (n : ℕ) → n + max_stream_lines + 1 < 2 ^ 40 → begins n → is_ready (n + lines.given)
-  pub far : (all : List ℕ) → commands ≡ Some all → IsSoFar start all lines source now before written
-      waits
+  pub far : (start : Start) (all : List ℕ) (before : Option (List ℕ))
+      → IsBegun start begun all commands before headed
+      → IsSoFar start all lines source now before written waits
 
-pub far_at_start : (market : Market) → IsMarket market → (all : List ℕ) (source : Option (List ℕ))
-    (now : Standing) (before : Option (List ℕ)) (waits : List ℕ)
-    → source ≡ Some all → now ≡ opening → waits ≡ [] → IsSoFar market all fresh source now before
-    before waits
-far_at_start market is_market all source now before waits told begins empty = record {
+pub far_at_start : (start : Start) (trading : Trading) (all : List ℕ)
+    (source before written : Option (List ℕ)) (waits : List ℕ)
+    → IsBegun start trading all source before written → waits ≡ []
+    → IsSoFar start all fresh source trading.standing before written waits
+far_at_start start trading all source before written waits begun empty = record {
   done = [];
   left = all;
   bytes = refl;
-  known = prepend_known_none source ∙ told;
+  known = prepend_known_none source ∙ begun.told;
   between = inl refl;
   answers = record {
-    is_market = is_market;
-    bytes = [];
-    added = append_known_none before;
-    holds = subst (λ (output : List ℕ). AreAnswered market opening [] now output) (sym empty)
-        (none_answered market opening now begins);
+    begins = begun.begins;
+    bytes = start.head;
+    added = begun.headed;
+    answers = [];
+    answered = none_answered start.market start.standing trading.standing begun.standing;
+    printed = ap (λ (rest : List ℕ). start.head ++ rest) empty;
   };
   given = refl;
   spent = refl;
@@ -59,17 +62,17 @@ far_at_start market is_market all source now before waits told begins empty = re
 }
 
 -- what a turn counts is what the run has counted, since no fault was counted before
-pub causes_of_turn : (end : Ending) (disk_before disk disk_now inputs_before inputs inputs_now
+pub causes_of_turn : (end : Status) (disk_before disk disk_now inputs_before inputs inputs_now
     sink_before sink sink_now : ℕ)
     → CountsNoFault disk_before disk inputs_before inputs sink_before sink
-    → HasEndCauses end disk disk_now inputs inputs_now sink sink_now
-    → HasEndCauses end disk_before disk_now inputs_before inputs_now sink_before sink_now
+    → HasKeepCauses end disk disk_now inputs inputs_now sink sink_now
+    → HasKeepCauses end disk_before disk_now inputs_before inputs_now sink_before sink_now
 causes_of_turn end disk_before disk disk_now inputs_before inputs inputs_now sink_before sink
     sink_now none causes =
-    subst (λ (n : ℕ). HasEndCauses end n disk_now inputs_before inputs_now sink_before sink_now)
+    subst (λ (n : ℕ). HasKeepCauses end n disk_now inputs_before inputs_now sink_before sink_now)
     none.0
-    (subst (λ (n : ℕ). HasEndCauses end disk disk_now n inputs_now sink_before sink_now) none.1.0
-    (subst (λ (n : ℕ). HasEndCauses end disk disk_now inputs inputs_now n sink_now) none.1.1
+    (subst (λ (n : ℕ). HasKeepCauses end disk disk_now n inputs_now sink_before sink_now) none.1.0
+    (subst (λ (n : ℕ). HasKeepCauses end disk disk_now inputs inputs_now n sink_now) none.1.1
     causes))
 
 -- between two pieces of a file: what was read so far, at most `most` bytes

@@ -4,7 +4,6 @@ use Rattle.std.proofs.Common.{◌⊎◌, inl, inr, sym, ap, subst}
 use Rattle.mk_io.specs.declared.status.Status.{Status}
 use Rattle.mk_io.specs.declared.status.Status.TheVariants.{Done, Memory}
 use Rattle.mk_exact.specs.Market.{Market}
-use Rattle.mk_rules.specs.Transcript.{Standing}
 use Rattle.mk_file.specs.declared.fault.FileFault.{FileFault}
 use Rattle.mk_file.specs.File.{file_of}
 use Rattle.mk_market.specs.Trading.{Trading}

@@ -11,35 +11,32 @@ use Rattle.mk_io.specs.Outside.{append_known, AddsFront}
 use Rattle.mk_io.specs.Stream.{StreamLine, stream_lines, is_not_blank}
 use Rattle.mk_io.specs.Cutting.{Cutting}
 use Rattle.mk_io.proofs.Told.{append_known_twice}
-use Rattle.mk_exact.specs.Market.{Market}
 use Rattle.mk_reply.specs.declared.reply.Reply.{Reply}
-use Rattle.mk_rules.specs.Transcript.{Standing, opening, Line, Run}
+use Rattle.mk_rules.specs.Transcript.{Standing, Line, Run}
 use Rattle.mk_restore.specs.Restoring.{changes_of}
 use Rattle.mk_session.specs.declared.waiting.TellFault.{TellFault}
 use Rattle.mk_session.specs.declared.waiting.TellFault.TheVariants.{Disk, Sink}
 use Rattle.mk_session.specs.Texts.{reply_line}
-use Rattle.mk_session.specs.Transcript.{Asks}
+use Rattle.mk_session.specs.Transcript.{Start, Asks}
 use Rattle.mk_session.specs.Outcome.{IsFrontOf}
 use Rattle.mk_session.specs.inner.Progress.{IsPlaced}
-use Rattle.mk_session.specs.inner.Keeping.{record_of, records_of, AreSpoken}
-use Rattle.mk_session.specs.inner.Keeping.{SpeaksAndTells, AreTold, AreHeld, AreLeft}
-use Rattle.mk_session.specs.inner.Keeping.{IsLeft}
+use Rattle.mk_session.specs.Left.{record_of, records_of, changes_from, AreTold, IsLeft}
+use Rattle.mk_session.specs.inner.Keeping.{AreSpoken, SpeaksAndTells, AreHeld, AreLeft}
 use Rattle.mk_session.proofs.Answering.{asks_behind, run_behind, sound_so_far}
 use Rattle.mk_session.proofs.Endings.{whole_or_none}
 use Rattle.mk_session.proofs.Records.{are_recorded}
 use Rattle.mk_session.proofs.Keeping.{same_number, changes_behind, told_more, all_told}
 use Rattle.mk_session.proofs.Keeping.{told_in_front}
 
-module _ (market : Market) (lines more : List StreamLine) (now then : Standing)
-    (before written after : Option (List ℕ)) (waited waits : List ℕ) (first : ℕ)
-    (old : List (List ℕ)) (few : first ≤ length old)
-    (holds holds' leaves : ℕ → List (List ℕ) → Type 0)
-    (far : AreHeld market lines now before written waited first (λ n rs. holds n (old ++ rs))) where
+module _ (start : Start) (lines more : List StreamLine) (now then : Standing)
+    (before written after : Option (List ℕ)) (waited waits : List ℕ) (old : List (List ℕ))
+    (holds holds' : ℕ → List (List ℕ) → Type 0) (leaves : List (List ℕ) → ℕ → Type 0)
+    (far : AreHeld start lines now before written waited old holds) where
   abbrev records : List (List ℕ)
-  records = records_of (changes_of market opening far.asked far.replies)
+  records = records_of (changes_from start far.asked far.replies)
 
   module _ (P : List ℕ → List (List ℕ) → Type 0)
-      (said : AreSpoken market now more then P) where
+      (said : AreSpoken start.market now more then P) where
     abbrev asked : List Line
     asked = far.asked ++ said.asked
 
@@ -47,11 +44,11 @@ module _ (market : Market) (lines more : List StreamLine) (now then : Standing)
     replies = far.replies ++ said.replies
 
     abbrev others : List (List ℕ)
-    others = records_of (changes_of market now said.asked said.replies)
+    others = records_of (changes_of start.market now said.asked said.replies)
 
-    run : Run market opening asked replies then
-    run = run_behind market far.asked said.asked far.replies said.replies opening now then far.run
-        (said.run (sound_so_far market far.is_market lines now far.replies
+    run : Run start.market start.standing asked replies then
+    run = run_behind start.market far.asked said.asked far.replies said.replies start.standing now
+        then far.run (said.run (sound_so_far start far.begins lines now far.replies
         (record { asked = far.asked; asks = far.asks; run = far.run })))
 
     asks : AllZip Asks (filter is_not_blank (lines ++ more)) asked
@@ -60,45 +57,50 @@ module _ (market : Market) (lines more : List StreamLine) (now then : Standing)
         (asks_behind (filter is_not_blank lines) (filter is_not_blank more) far.asked said.asked
         far.asks said.asks)
 
-    all_records : old ++ records_of (changes_of market opening asked replies)
+    all_records : old ++ records_of (changes_from start asked replies)
         ≡ (old ++ records) ++ others
     all_records =
         ap (λ (rs : List (List ℕ)). old ++ rs)
-        (ap records_of (changes_behind market opening now far.asked said.asked far.replies
-        said.replies far.run)
-        ∙ map-append record_of (changes_of market opening far.asked far.replies)
-        (changes_of market now said.asked said.replies))
+        (ap records_of (changes_behind start.market start.standing now far.asked said.asked
+        far.replies said.replies far.run)
+        ∙ map-append record_of (changes_from start far.asked far.replies)
+        (changes_of start.market now said.asked said.replies))
         ∙ sym (append_assoc old records others)
 
-    all_count : first + length (changes_of market opening asked replies)
+    all_count : length old + length (changes_from start asked replies)
         ≤ length ((old ++ records) ++ others)
     all_count =
         omega (
           arith,
-          few,
           ap (λ (rs : List (List ℕ)). length rs) all_records,
-          length-append old (records_of (changes_of market opening asked replies)),
-          length-map (changes_of market opening asked replies) record_of,
+          length-append old (records_of (changes_from start asked replies)),
+          length-map (changes_from start asked replies) record_of,
         )
 
-    not_yet : AreTold market asked replies (λ text. length text ≤ length far.bytes) first far.least
-    not_yet = told_more market far.asked said.asked far.replies said.replies far.bytes waited first
-        far.least (same_number market opening now far.asked far.replies far.run) far.printed
+    no_fewer : length old ≤ length ((old ++ records) ++ others)
+    no_fewer = omega (arith, length-append old records, length-append (old ++ records) others)
+
+    not_yet : AreTold start asked replies (λ text. length text ≤ length far.bytes) (length old)
+        far.least
+    not_yet = told_more start far.asked said.asked far.replies said.replies far.bytes waited
+        (length old) far.least
+        (same_number start.market start.standing now far.asked far.replies far.run) far.printed
         far.told
 
     abbrev output : List ℕ
     output = flat_map reply_line said.replies
 
-    all_printed : (far.bytes ++ waited) ++ output ≡ flat_map reply_line replies
+    all_printed : (far.bytes ++ waited) ++ output ≡ start.head ++ flat_map reply_line replies
     all_printed = ap (λ (text : List ℕ). text ++ output) far.printed
-        ∙ sym (flat_map-append reply_line far.replies said.replies)
+        ∙ append_assoc start.head (flat_map reply_line far.replies) output
+        ∙ ap (λ (text : List ℕ). start.head ++ text)
+        (sym (flat_map-append reply_line far.replies said.replies))
 
     held_stays : after ≡ written → waits ≡ waited ++ output
         → holds' far.least ((old ++ records) ++ others)
-        → AreHeld market (lines ++ more) then before after waits first
-        (λ n rs. holds' n (old ++ rs))
+        → AreHeld start (lines ++ more) then before after waits old holds'
     held_stays still wait held = record {
-      is_market = far.is_market;
+      begins = far.begins;
       bytes = far.bytes;
       added = still ∙ far.added;
       asked = asked;
@@ -108,16 +110,16 @@ module _ (market : Market) (lines more : List StreamLine) (now then : Standing)
       printed = ap (λ (text : List ℕ). far.bytes ++ text) wait
           ∙ sym (append_assoc far.bytes waited output) ∙ all_printed;
       least = far.least;
+      no_fewer = far.no_fewer;
       told = not_yet;
       held = subst (λ (rs : List (List ℕ)). holds' far.least rs) (sym all_records) held;
     }
 
     held_goes : after ≡ append_known written waited → waits ≡ output
         → holds' (length ((old ++ records) ++ others)) ((old ++ records) ++ others)
-        → AreHeld market (lines ++ more) then before after waits first
-        (λ n rs. holds' n (old ++ rs))
+        → AreHeld start (lines ++ more) then before after waits old holds'
     held_goes gone wait held = record {
-      is_market = far.is_market;
+      begins = far.begins;
       bytes = far.bytes ++ waited;
       added = gone ∙ ap (λ (w : Option (List ℕ)). append_known w waited) far.added
           ∙ append_known_twice before far.bytes waited;
@@ -127,15 +129,16 @@ module _ (market : Market) (lines more : List StreamLine) (now then : Standing)
       run = run;
       printed = ap (λ (text : List ℕ). (far.bytes ++ waited) ++ text) wait ∙ all_printed;
       least = length ((old ++ records) ++ others);
-      told = all_told market asked replies
-          (λ text. length text ≤ length (far.bytes ++ waited)) first
+      no_fewer = no_fewer;
+      told = all_told start asked replies
+          (λ text. length text ≤ length (far.bytes ++ waited)) (length old)
           (length ((old ++ records) ++ others)) all_count;
       held = subst (λ (rs : List (List ℕ)). holds' (length ((old ++ records) ++ others)) rs)
           (sym all_records) held;
     }
 
-    left_before : after ≡ written → leaves far.least ((old ++ records) ++ others)
-        → AreLeft market (lines ++ more) before after first (λ n rs. leaves n (old ++ rs))
+    left_before : after ≡ written → leaves ((old ++ records) ++ others) far.least
+        → AreLeft start (lines ++ more) before after old leaves
     left_before still left = record {
       bytes = far.bytes;
       added = still ∙ far.added;
@@ -144,15 +147,16 @@ module _ (market : Market) (lines more : List StreamLine) (now then : Standing)
       replies = replies;
       asks = asks;
       run = run;
+      are = are_recorded start far.begins (lines ++ more) then asked replies asks run;
       least = far.least;
-      told = told_in_front market asked replies far.bytes first far.least not_yet;
-      are = are_recorded market far.is_market (lines ++ more) then asked replies asks run;
-      left = subst (λ (rs : List (List ℕ)). leaves far.least rs) (sym all_records) left;
+      no_fewer = far.no_fewer;
+      told = told_in_front start asked replies far.bytes (length old) far.least not_yet;
+      left = subst (λ (rs : List (List ℕ)). leaves rs far.least) (sym all_records) left;
     }
 
     left_behind : AddsFront written after waited
-        → leaves (length ((old ++ records) ++ others)) ((old ++ records) ++ others)
-        → AreLeft market (lines ++ more) before after first (λ n rs. leaves n (old ++ rs))
+        → leaves ((old ++ records) ++ others) (length ((old ++ records) ++ others))
+        → AreLeft start (lines ++ more) before after old leaves
     left_behind cut left = record {
       bytes = far.bytes ++ cut.front;
       added = cut.added ∙ ap (λ (w : Option (List ℕ)). append_known w cut.front) far.added
@@ -162,20 +166,20 @@ module _ (market : Market) (lines more : List StreamLine) (now then : Standing)
       replies = replies;
       asks = asks;
       run = run;
+      are = are_recorded start far.begins (lines ++ more) then asked replies asks run;
       least = length ((old ++ records) ++ others);
-      told = all_told market asked replies (IsFrontOf (far.bytes ++ cut.front)) first
+      no_fewer = no_fewer;
+      told = all_told start asked replies (IsFrontOf (far.bytes ++ cut.front)) (length old)
           (length ((old ++ records) ++ others)) all_count;
-      are = are_recorded market far.is_market (lines ++ more) then asked replies asks run;
-      left = subst (λ (rs : List (List ℕ)). leaves (length ((old ++ records) ++ others)) rs)
+      left = subst (λ (rs : List (List ℕ)). leaves rs (length ((old ++ records) ++ others)))
           (sym all_records) left;
     }
 
   -- the lines more are answered, and told of or wait
   pub held_more : {T : Type 0} (said : Result T TellFault)
-      → SpeaksAndTells said market now more then written after waited waits far.least
+      → SpeaksAndTells said start.market now more then written after waited waits far.least
       (old ++ records) holds' leaves
-      → OnOk said (AreHeld market (lines ++ more) then before after waits first
-      (λ n rs. holds' n (old ++ rs)))
+      → OnOk said (AreHeld start (lines ++ more) then before after waits old holds')
   held_more (Ok v) spoken =
       elim spoken.holds [
         | inl stays ↦ held_stays _ spoken stays.0 stays.1 stays.2
@@ -185,22 +189,21 @@ module _ (market : Market) (lines more : List StreamLine) (now then : Standing)
 
   -- telling of them failed
   pub left_more : {T : Type 0} (said : Result T TellFault)
-      → SpeaksAndTells said market now more then written after waited waits far.least
+      → SpeaksAndTells said start.market now more then written after waited waits far.least
       (old ++ records) holds' leaves
-      → OnErr said (AreLeft market (lines ++ more) before after first
-      (λ n rs. leaves n (old ++ rs)))
+      → OnErr said (AreLeft start (lines ++ more) before after old leaves)
   left_more (Ok v) spoken = tt
   left_more (Err Disk) spoken = left_before _ spoken spoken.holds.0 spoken.holds.1
   left_more (Err Sink) spoken = left_behind _ spoken spoken.holds.0 spoken.holds.1
 
 -- what is held between two lines, a crash leaves
-pub left_now : (market : Market) (lines : List StreamLine) (now : Standing)
-    (before written : Option (List ℕ)) (waits : List ℕ) (first : ℕ)
-    (holds leaves : ℕ → List (List ℕ) → Type 0)
-    → ((n : ℕ) (rs : List (List ℕ)) → holds n rs → leaves n rs)
-    → AreHeld market lines now before written waits first holds
-    → AreLeft market lines before written first leaves
-left_now market lines now before written waits first holds leaves leave far = record {
+pub left_now : (start : Start) (lines : List StreamLine) (now : Standing)
+    (before written : Option (List ℕ)) (waits : List ℕ) (old : List (List ℕ))
+    (holds : ℕ → List (List ℕ) → Type 0) (leaves : List (List ℕ) → ℕ → Type 0)
+    → ((n : ℕ) (rs : List (List ℕ)) → holds n rs → leaves rs n)
+    → AreHeld start lines now before written waits old holds
+    → AreLeft start lines before written old leaves
+left_now start lines now before written waits old holds leaves leave far = record {
   bytes = far.bytes;
   added = far.added;
   now = now;
@@ -208,10 +211,11 @@ left_now market lines now before written waits first holds leaves leave far = re
   replies = far.replies;
   asks = far.asks;
   run = far.run;
+  are = are_recorded start far.begins lines now far.asked far.replies far.asks far.run;
   least = far.least;
-  told = told_in_front market far.asked far.replies far.bytes first far.least far.told;
-  are = are_recorded market far.is_market lines now far.asked far.replies far.asks far.run;
-  left = leave far.least (records_of (changes_of market opening far.asked far.replies)) far.held;
+  no_fewer = far.no_fewer;
+  told = told_in_front start far.asked far.replies far.bytes (length old) far.least far.told;
+  left = leave far.least (old ++ records_of (changes_from start far.asked far.replies)) far.held;
 }
 
 -- at a place, one fact for another
@@ -230,15 +234,28 @@ placed_same all cutting source P Q step far = record {
   within = far.within;
 }
 
-pub left_of_placed : (market : Market) (all : List ℕ) (cutting : Cutting)
-    (source before written : Option (List ℕ)) (first : ℕ)
-    (leaves : ℕ → List (List ℕ) → Type 0)
-    → IsPlaced all cutting source (λ lines. AreLeft market lines before written first leaves)
-    → IsLeft market all before written first leaves
-left_of_placed market all cutting source before written first leaves far = record {
-  done = far.done;
-  rest = far.left;
-  bytes = far.bytes;
-  lines = whole_or_none cutting.last far.done far.left far.left refl far.between;
-  left = far.answers;
-}
+pub left_of_placed : (start : Start) (all : List ℕ) (cutting : Cutting)
+    (source before written : Option (List ℕ)) (old : List (List ℕ))
+    (leaves : List (List ℕ) → ℕ → Type 0)
+    → IsPlaced all cutting source (λ lines. AreLeft start lines before written old leaves)
+    → IsLeft start all before written old leaves
+left_of_placed start all cutting source before written old leaves far =
+    let left = far.answers in
+    record {
+      done = far.done;
+      rest = far.left;
+      bytes = far.bytes;
+      lines = whole_or_none cutting.last far.done far.left far.left refl far.between;
+      output = left.bytes;
+      added = left.added;
+      now = left.now;
+      asked = left.asked;
+      replies = left.replies;
+      asks = left.asks;
+      run = left.run;
+      are = left.are;
+      least = left.least;
+      no_fewer = left.no_fewer;
+      told = left.told;
+      left = left.left;
+    }

@@ -5,11 +5,11 @@ use Rattle.mk_io.specs.Stream.{StreamLine}
 use Rattle.mk_exact.specs.Market.{Market, network_of}
 use Rattle.mk_exact.proofs.Gains.{gains_bounded}
 use Rattle.mk_reply.specs.declared.reply.Reply.{Reply}
-use Rattle.mk_rules.specs.Transcript.{Standing, opening, Line, after, Run}
+use Rattle.mk_rules.specs.Transcript.{Standing, Line, after, Run}
 use Rattle.mk_rules.specs.Standings.{Stands}
 use Rattle.mk_rules.proofs.Keeps.{allowed_keeps}
 use Rattle.mk_session.specs.Passed.{standings, IsSafe}
-use Rattle.mk_session.specs.Transcript.{IsAllowedRun}
+use Rattle.mk_session.specs.Transcript.{Start, IsAllowedRun}
 
 safe_where_stands : (market : Market) (now : Standing) → Stands market now.history
     → IsSafe market now
@@ -44,7 +44,7 @@ last_on_way market old new (line ∷ lines) (reply ∷ replies) run safe =
     (All-tail (IsSafe market) old (standings market (after market old line reply) lines replies)
     safe)
 
-pub ends_safe : (market : Market) (lines : List StreamLine) (last : Standing) (replies : List Reply)
-    → IsAllowedRun market lines last replies → IsSafe market last
-ends_safe market lines last replies run = last_on_way market opening last run.replied.asked replies
-    run.replied.run run.safe
+pub ends_safe : (start : Start) (lines : List StreamLine) (last : Standing) (replies : List Reply)
+    → IsAllowedRun start lines last replies → IsSafe start.market last
+ends_safe start lines last replies run = last_on_way start.market start.standing last
+    run.replied.asked replies run.replied.run run.safe

@@ -10,14 +10,15 @@ use Rattle.mk_reply.specs.Replies.{IsReply}
 use Rattle.mk_rules.specs.Answers.{entry_of}
 use Rattle.mk_rules.specs.Bounded.{IsLine, IsBounded}
 use Rattle.mk_rules.specs.Standings.{IsMarket, IsReady}
-use Rattle.mk_rules.specs.Transcript.{Standing, opening, Line, OfCommand, NoCommand, LongLine}
+use Rattle.mk_rules.specs.Transcript.{Standing, Line, OfCommand, NoCommand, LongLine}
 use Rattle.mk_rules.specs.Transcript.{after, Run}
-use Rattle.mk_rules.proofs.Ready.{ready_keeps, opening_is_ready}
-use Rattle.mk_rules.proofs.Follows.{bounded_keeps, opening_is_bounded}
+use Rattle.mk_rules.proofs.Ready.{ready_keeps}
+use Rattle.mk_rules.proofs.Follows.{bounded_keeps}
 use Rattle.mk_rules.proofs.Texts.{replies_have_texts}
 use Rattle.mk_restore.specs.Restoring.{Changes, IsChange, change_of, changes_of}
-use Rattle.mk_session.specs.Transcript.{Asks}
-use Rattle.mk_session.specs.inner.Keeping.{records_of, IsRecordOf}
+use Rattle.mk_session.specs.Transcript.{Start, Asks}
+use Rattle.mk_session.specs.Begins.{CanBegin}
+use Rattle.mk_session.specs.Left.{records_of, IsRecordOf, changes_from}
 
 line_asked : (line : StreamLine) (asked : Line) → Asks line asked → IsLine asked
 line_asked (text bytes) (OfCommand command) asks = asks.0
@@ -72,14 +73,14 @@ each_recorded [] has = tt
 each_recorded (c ∷ changes) has =
     (record { has_texts = has.0; text = refl }, each_recorded changes has.1)
 
--- each change of a run from the opening on has its record
-pub are_recorded : (market : Market) → IsMarket market → (lines : List StreamLine)
-    (now : Standing) (asked : List Line) (replies : List Reply)
-    → AllZip Asks (filter is_not_blank lines) asked → Run market opening asked replies now
-    → AllZip IsRecordOf (records_of (changes_of market opening asked replies))
-    (changes_of market opening asked replies)
-are_recorded market is_market lines now asked replies asks run =
-    each_recorded (changes_of market opening asked replies)
-    (changes_have_texts market is_market opening now asked replies
-    (opening_is_ready market is_market) (opening_is_bounded market)
-    (lines_asked (filter is_not_blank lines) asked asks) run)
+-- each change of a run has its record
+pub are_recorded : (start : Start) → CanBegin start.market start.standing
+    → (lines : List StreamLine) (now : Standing) (asked : List Line) (replies : List Reply)
+    → AllZip Asks (filter is_not_blank lines) asked
+    → Run start.market start.standing asked replies now
+    → AllZip IsRecordOf (records_of (changes_from start asked replies))
+    (changes_from start asked replies)
+are_recorded start begins lines now asked replies asks run =
+    each_recorded (changes_from start asked replies)
+    (changes_have_texts start.market begins.is_market start.standing now asked replies
+    begins.ready begins.bounded (lines_asked (filter is_not_blank lines) asked asks) run)

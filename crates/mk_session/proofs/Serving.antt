@@ -1,28 +1,31 @@
 -- The opening of a run, and what its end says of the whole run.
-use Rattle.std.proofs.Common.{◌≡◌, ℕ, ◌<◌, ◌≤◌, List, [], ◌++◌, length, take, Option, Some, Result}
+use Rattle.std.proofs.Common.{◌≡◌, ℕ, ◌<◌, ◌≤◌, List, [], length, take, Option, Some, None, Result}
 use Rattle.std.proofs.Common.{Ok, Err, inl, inr, refl, sym, ap, subst, ◌∙◌, arith, nat_lt, ◌⊎◌}
 use Rattle.std.specs.Prelude.{if◌then◌else◌}
 use Rattle.std.proofs.lemmas.List.{take_all, length-take}
 use Rattle.std.proofs.lemmas.Bool.{cases_lt, lt-ltb}
 use Rattle.mk_io.specs.declared.status.Status.{Status}
 use Rattle.mk_io.specs.declared.status.Status.TheVariants.{MarketRefused, ReadFault, WriteFault}
-use Rattle.mk_io.specs.declared.status.Status.TheVariants.{Memory, Done, Usage, TooMany}
+use Rattle.mk_io.specs.declared.status.Status.TheVariants.{Memory, Done, Usage, TooMany, DiskFault}
+use Rattle.mk_io.specs.declared.status.Status.TheVariants.{StoreRefused}
 use Rattle.mk_io.specs.Outside.{append_known, AddsFront}
-use Rattle.mk_io.proofs.Told.{append_known_none, append_known_twice}
+use Rattle.mk_io.proofs.Told.{append_known_none}
 use Rattle.mk_exact.specs.Market.{Market}
 use Rattle.mk_file.specs.declared.fault.FileFault.{FileFault}
 use Rattle.mk_file.specs.declared.fault.FileFault.TheVariants.{TooLong}
 use Rattle.mk_file.specs.File.{file_of, of_document, document_of}
-use Rattle.mk_session.specs.Texts.{ready_line, fault_line}
-use Rattle.mk_rules.specs.Standings.{IsMarket}
+use Rattle.mk_session.specs.Texts.{head_of, fault_line}
 use Rattle.mk_rules.specs.Transcript.{Standing, opening}
 use Rattle.mk_market.specs.Trading.{Trading}
+use Rattle.mk_session.specs.Transcript.{Start, started, from_opening}
+use Rattle.mk_session.specs.Begins.{CanBegin}
 use Rattle.mk_session.specs.Outcome.{Adds, Ends, Serves, Refuses, NotOpened, Opened, IsTurnedAway}
-use Rattle.mk_session.specs.Outcome.{IsRunTo, IsHandedBack}
-use Rattle.mk_session.specs.inner.Progress.{IsEnded, ServesTo}
-use Rattle.mk_session.specs.inner.Loading.{opened_part}
+use Rattle.mk_session.specs.Outcome.{IsServed, IsRunFrom, IsRunTo, HasCauses, HasKeepCauses}
+use Rattle.mk_session.specs.Outcome.{EndsRun}
+use Rattle.mk_session.specs.inner.Progress.{IsBegun, IsEnded, ServesTo}
+use Rattle.mk_session.specs.Opening.{opened_part}
 use Rattle.mk_session.proofs.Answering.{no_more, none_answered, transcript_of}
-use Rattle.mk_session.proofs.Completing.{none_within_stream}
+use Rattle.mk_session.proofs.Completing.{none_within_stream, none_rose}
 
 memory_ends : (given : Result Market FileFault) (all : List ℕ) → Ends Memory given all all []
 memory_ends (Ok market) all = record { nothing = refl; unread = refl }
@@ -112,93 +115,114 @@ turned_from status fault source mid left before after same turned = record {
   output = turned.output;
 }
 
+-- where the head of a run was written, it has begun
+pub begun_at : (trading : Trading) (recovered : Option ℕ) (all line : List ℕ)
+    (source before written : Option (List ℕ)) → CanBegin trading.market trading.standing
+    → source ≡ Some all → written ≡ append_known before line
+    → line ≡ head_of trading.market recovered
+    → IsBegun (started trading.market trading.standing recovered) trading all source before written
+begun_at trading recovered all line source before written begins told added is = record {
+  market = refl;
+  standing = refl;
+  begins = begins;
+  told = told;
+  headed = added ∙ ap (append_known before) is;
+}
+
 -- whatever it leaves, a run serves
-serves_anyhow : (status : Status) (market : Market) (now : Standing) (all rest output : List ℕ)
-    → ServesTo status market now all rest output → Serves status market all rest output
-serves_anyhow Done market now all rest output serves = serves.whole
-serves_anyhow ReadFault market now all rest output serves = serves
-serves_anyhow WriteFault market now all rest output serves = serves
-serves_anyhow TooMany market now all rest output serves = serves
-serves_anyhow Memory market now all rest output serves = serves
-serves_anyhow MarketRefused market now all rest output serves = serves
-serves_anyhow Usage market now all rest output serves = serves
+serves_anyhow : (status : Status) (start : Start) (now : Standing) (all rest output : List ℕ)
+    → ServesTo status start now all rest output → Serves status start all rest output
+serves_anyhow Done start now all rest output serves = serves.whole
+serves_anyhow ReadFault start now all rest output serves = serves
+serves_anyhow WriteFault start now all rest output serves = serves
+serves_anyhow TooMany start now all rest output serves = serves
+serves_anyhow Memory start now all rest output serves = serves
+serves_anyhow MarketRefused start now all rest output serves = serves
+serves_anyhow Usage start now all rest output serves = serves
+serves_anyhow DiskFault start now all rest output serves = serves
+serves_anyhow StoreRefused start now all rest output serves = serves
 
--- the ready line and the lines behind it
-ready_then : (market : Market) (line bytes : List ℕ) (before ready after : Option (List ℕ))
-    → line ≡ ready_line market → ready ≡ append_known before line
-    → after ≡ append_known ready bytes
-    → after ≡ append_known before (ready_line market ++ bytes)
-ready_then market line bytes before ready after is added more =
-    more ∙ ap (λ (w : Option (List ℕ)). append_known w bytes) (added ∙ ap (append_known before) is)
-    ∙ append_known_twice before (ready_line market) bytes
-
--- a run that ended behind its ready line
-pub served_when_ended : (status : Status) (market : Market) (now : Standing) (all line : List ℕ)
-    (source before ready after : Option (List ℕ))
-    → line ≡ ready_line market → ready ≡ append_known before line
-    → IsEnded status market now all source ready after
-    → Opened status (Ok market) all source before after
-served_when_ended status market now all line source before ready after is added ended = record {
+pub served_when_ended : (status : Status) (start : Start) (now : Standing) (all : List ℕ)
+    (source before after : Option (List ℕ)) → IsEnded status start now all source before after
+    → IsServed status start all source before after
+served_when_ended status start now all source before after ended = record {
   rest = ended.rest;
   told = ended.told;
   output = record {
-    bytes = ready_line market ++ ended.output.bytes;
-    added = ready_then market line ended.output.bytes before ready after is added
-        ended.output.added;
-    holds = serves_anyhow status market now all ended.rest
-        (ready_line market ++ ended.output.bytes) ended.output.holds;
+    bytes = ended.output.bytes;
+    added = ended.output.added;
+    holds = serves_anyhow status start now all ended.rest ended.output.bytes ended.output.holds;
   };
 }
 
--- one that came to its end can hand its market back
-pub handed_when_done : (status : Status) (market : Market) (now : Standing) (all line : List ℕ)
-    (source before ready after : Option (List ℕ))
-    → line ≡ ready_line market → ready ≡ append_known before line
-    → IsEnded status market now all source ready after → status ≡ Done
-    → IsRunTo market now all source before after
-handed_when_done status market now all line source before ready after is added ended done =
-    let whole : IsEnded Done market now all source ready after =
-    subst (λ (s : Status). IsEnded s market now all source ready after) done ended in
-    record {
-      rest = whole.rest;
-      told = whole.told;
-      output = record {
-        bytes = ready_line market ++ whole.output.bytes;
-        added = ready_then market line whole.output.bytes before ready after is added
-            whole.output.added;
-        holds = whole.output.holds;
-      };
-    }
+-- one that came to its end leaves a standing
+pub whole_when_done : (status : Status) (start : Start) (now : Standing) (all : List ℕ)
+    (source before after : Option (List ℕ)) → status ≡ Done
+    → IsEnded status start now all source before after
+    → IsRunFrom start now all source before after
+whole_when_done status start now all source before after done ended =
+    let whole : IsEnded Done start now all source before after =
+    subst (λ (s : Status). IsEnded s start now all source before after) done ended in
+    record { rest = whole.rest; told = whole.told; output = whole.output }
 
--- a run whose ready line was cut off
-pub broken_at_ready : (market file : Market) → IsMarket market
-    → (all line : List ℕ) (source before after : Option (List ℕ)) → market ≡ file
-    → line ≡ ready_line market → source ≡ Some all → AddsFront before after line
-    → Opened WriteFault (Ok file) all source before after
-broken_at_ready market file is_market all line source before after same is told front =
-    record {
-      rest = all;
-      told = told;
-      output = record {
-        bytes = front.front;
-        added = front.added;
-        holds = subst (λ (m : Market). Serves WriteFault m all all front.front) same (record {
-          done = [];
-          part = [];
-          bytes = refl;
-          lines = inl (inl refl);
-          within = none_within_stream;
-          text = ready_line market ++ [];
-          transcript = transcript_of market is_market [] opening [] (none_answered market opening
-              opening refl);
-          front = record {
-            rest = front.rest;
-            parts = no_more (ready_line market) ∙ sym is
-                ∙ front.parts;
-          };
-        });
-      };
-    }
+-- a run of which only a front of what stands before the first reply was written
+pub broken_at_head : (start : Start) → CanBegin start.market start.standing
+    → (all : List ℕ) (source before after : Option (List ℕ)) → source ≡ Some all
+    → AddsFront before after start.head → IsServed WriteFault start all source before after
+broken_at_head start begins all source before after told front = record {
+  rest = all;
+  told = told;
+  output = record {
+    bytes = front.front;
+    added = front.added;
+    holds = record {
+      done = [];
+      part = [];
+      bytes = refl;
+      lines = inl (inl refl);
+      within = none_within_stream;
+      text = start.head;
+      transcript = transcript_of start begins [] start.standing [] start.head
+          (none_answered start.market start.standing start.standing refl)
+          (sym (no_more start.head));
+      front = record { rest = front.rest; parts = front.parts };
+    };
+  };
+}
+
+-- a run that begins at the opening is that of the file
+pub opened_when_served : (status : Status) (market : Market) (standing : Standing) (all : List ℕ)
+    (source before after : Option (List ℕ)) → standing ≡ opening
+    → IsServed status (started market standing None) all source before after
+    → Opened status (Ok market) all source before after
+opened_when_served status market standing all source before after begins served =
+    let opened : IsServed status (from_opening market) all source before after =
+    subst (λ (s : Standing). IsServed status (started market s None) all source before after)
+    begins served in
+    record { rest = opened.rest; told = opened.told; output = opened.output }
+
+pub run_to_when_from : (market : Market) (standing now : Standing) (all : List ℕ)
+    (source before after : Option (List ℕ)) → standing ≡ opening
+    → IsRunFrom (started market standing None) now all source before after
+    → IsRunTo market now all source before after
+run_to_when_from market standing now all source before after begins run =
+    subst (λ (s : Standing). IsRunFrom (started market s None) now all source before after)
+    begins run
+
+-- where nothing is kept, there is no fault of a disk
+pub causes_of_no_disk : (status : Status) (inputs inputs_now sink sink_now : ℕ) → EndsRun status
+    → HasKeepCauses status 0 0 inputs inputs_now sink sink_now
+    → HasCauses status inputs inputs_now sink sink_now
+causes_of_no_disk Done inputs inputs_now sink sink_now ends causes = causes.1
+causes_of_no_disk ReadFault inputs inputs_now sink sink_now ends causes = causes.1
+causes_of_no_disk WriteFault inputs inputs_now sink sink_now ends causes = causes.1
+causes_of_no_disk TooMany inputs inputs_now sink sink_now ends causes = causes.1
+causes_of_no_disk DiskFault inputs inputs_now sink sink_now ends causes =
+    absurd (none_rose causes.0.rose)
+causes_of_no_disk Memory inputs inputs_now sink sink_now ends causes = absurd ends
+causes_of_no_disk MarketRefused inputs inputs_now sink sink_now ends causes = absurd ends
+causes_of_no_disk Usage inputs inputs_now sink sink_now ends causes = absurd ends
+causes_of_no_disk StoreRefused inputs inputs_now sink sink_now ends causes = absurd ends
 
 -- the opened part of a file gives what the file gives: a longer file is too long by that part
 gate : ℕ → List ℕ → Result Market FileFault

@@ -24,7 +24,8 @@ use Rattle.mk_restore.specs.Restoring.{Changes, change_of}
 use Rattle.mk_session.specs.Texts.{reply_line}
 use Rattle.mk_session.specs.Transcript.{Asks, AreAnswered}
 use Rattle.mk_session.specs.inner.Progress.{IsSoundAt}
-use Rattle.mk_session.specs.inner.Keeping.{records_of, IsSpoken, AreSpoken, Tells}
+use Rattle.mk_session.specs.Left.{records_of, LeavesSince}
+use Rattle.mk_session.specs.inner.Keeping.{IsSpoken, AreSpoken, HoldsSince, Tells}
 use Rattle.mk_session.specs.inner.Keeping.{SpeaksAndTells}
 use Rattle.mk_session.specs.declared.waiting.TellFault.{TellFault}
 use Rattle.mk_session.specs.declared.waiting.TellFault.TheVariants.{Disk}
@@ -156,6 +157,21 @@ spared holds spares least all (r ∷ records) held =
       held = spares r held.kept held.waiting held.held;
     }))
 
+-- and a crash leaves a front of them
+pub spared_since : (holds : List (List ℕ) → List (List ℕ) → Type 0)
+    (passes : List (List ℕ) → ℕ → Type 0)
+    → ((change : List ℕ) (kept waiting : List (List ℕ)) → holds kept waiting
+    → holds kept (waiting ++ change ∷ []))
+    → ((all more : List (List ℕ)) (least fewer : ℕ) → fewer ≤ least → passes all least
+    → passes (all ++ more) fewer)
+    → (first least : ℕ) (all records : List (List ℕ)) → HoldsSince holds passes first least all
+    → HoldsSince holds passes first least (all ++ records)
+spared_since holds passes spares fewer first least all records since = record {
+  held = spared holds spares least all records since.held;
+  no_fewer = since.no_fewer;
+  passed = fewer all records first first (omega arith) since.passed;
+}
+
 -- a line that is too long makes no change
 pub long_spoken : (market : Market) (now : Standing) (all : List (List ℕ))
     (Q : List ℕ → List (List ℕ) → Type 0) → Q (reply_line (Refused Long)) all
@@ -175,34 +191,39 @@ long_spoken market now all Q holds =
 
 -- what is held, a crash leaves
 pub left_as_held : (holds : List (List ℕ) → List (List ℕ) → Type 0)
-    (leaves : List (List ℕ) → ℕ → Type 0)
+    (leaves passes : List (List ℕ) → ℕ → Type 0)
     → ((all more : List (List ℕ)) (least fewer : ℕ) → fewer ≤ least → leaves all least
     → leaves (all ++ more) fewer)
     → ((kept waiting : List (List ℕ)) → holds kept waiting
     → leaves (kept ++ waiting) (length kept))
-    → (least : ℕ) (all : List (List ℕ)) → Holds holds least all → leaves all least
-left_as_held holds leaves fewer leave least all held =
-    still leaves fewer held.kept held.waiting all all [] least held.parts held.no_fewer
-    (same_list all all refl) (leave held.kept held.waiting held.held)
+    → (first least : ℕ) (all : List (List ℕ)) → HoldsSince holds passes first least all
+    → LeavesSince leaves passes first all least
+left_as_held holds leaves passes fewer leave first least all since =
+    let held = since.held in
+    record {
+      now = still leaves fewer held.kept held.waiting all all [] least held.parts held.no_fewer
+          (same_list all all refl) (leave held.kept held.waiting held.held);
+      any_moment = since.passed;
+    }
 
 module _ {T : Type 0} (said : Result T TellFault) (market : Market)
     (before after : Option (List ℕ)) (waited waits : List ℕ) (least : ℕ) (all : List (List ℕ))
-    (holds leaves : ℕ → List (List ℕ) → Type 0) where
+    (holds : ℕ → List (List ℕ) → Type 0) (leaves : List (List ℕ) → ℕ → Type 0) where
   -- a line that is too long was told of, or waits
   pub long_tells : (now : Standing)
       → Tells said before after waited (reply_line (Refused Long)) waits least (length all)
-      (λ n. holds n all) (λ n. leaves n all)
+      (λ n. holds n all) (leaves all)
       → SpeaksAndTells said market now (long ∷ []) now before after waited waits least all holds
       leaves
   long_tells now tells = long_spoken market now all
       (λ output l. Tells said before after waited output waits least (length l) (λ n. holds n l)
-      (λ n. leaves n l)) tells
+      (leaves l)) tells
 
   -- the line of a reply was, whose change is held
   pub text_tells : (old new : Standing) (lines : List StreamLine) (printed line mid : List ℕ)
       (held : List (List ℕ) → Type 0) → line ≡ printed → mid ≡ waited
       → ((all : List (List ℕ)) → held all → Tells said before after mid line waits least
-      (length all) (λ n. holds n all) (λ n. leaves n all))
+      (length all) (λ n. holds n all) (leaves all))
       → AreSpoken market old lines new
       (λ output records. (printed ≡ output) × held (all ++ records))
       → SpeaksAndTells said market old lines new before after waited waits least all holds leaves
@@ -210,18 +231,18 @@ module _ {T : Type 0} (said : Result T TellFault) (market : Market)
       spoken_also market old lines new _ _
       (λ output records p.
       subst (λ (w : List ℕ). Tells said before after w output waits least
-      (length (all ++ records)) (λ n. holds n (all ++ records)) (λ n. leaves n (all ++ records)))
+      (length (all ++ records)) (λ n. holds n (all ++ records)) (leaves (all ++ records)))
       still
       (subst (λ (more : List ℕ). Tells said before after mid more waits least
-      (length (all ++ records)) (λ n. holds n (all ++ records)) (λ n. leaves n (all ++ records)))
+      (length (all ++ records)) (λ n. holds n (all ++ records)) (leaves (all ++ records)))
       (same ∙ p.0) (tells (all ++ records) p.1))) spoken
 
 -- the disk failed before a line was told of
 pub untaken : (market : Market) (old new : Standing) (lines : List StreamLine)
     (written : Option (List ℕ)) (waited waits printed : List ℕ) (least : ℕ)
-    (all : List (List ℕ)) (holds leaves : ℕ → List (List ℕ) → Type 0)
+    (all : List (List ℕ)) (holds : ℕ → List (List ℕ) → Type 0) (leaves : List (List ℕ) → ℕ → Type 0)
     → AreSpoken market old lines new
-    (λ output records. (printed ≡ output) × leaves least (all ++ records))
+    (λ output records. (printed ≡ output) × leaves (all ++ records) least)
     → SpeaksAndTells {T = Unit {0}} (Err Disk) market old lines new written written waited waits
     least all holds leaves
 untaken market old new lines written waited waits printed least all holds leaves spoken =

@@ -1,37 +1,34 @@
 -- What a turn of a run leaves of the changes that are held.
-use Rattle.std.proofs.Common.{◌≡◌, ℕ, ◌≤◌, List, [], ◌∷◌, ◌++◌, length, Option, Some, None}
-use Rattle.std.proofs.Common.{Result, Ok, Err, OnOk, OnErr, MatchOption, refl, sym, subst}
+use Rattle.std.proofs.Common.{◌≡◌, ℕ, List, [], ◌∷◌, ◌++◌, length, Option, None}
+use Rattle.std.proofs.Common.{Result, Ok, Err, OnOk, OnErr, MatchOption, refl, sym, ap, subst}
 use Rattle.std.proofs.Common.{inl}
-use Rattle.std.proofs.Common.{◌∙◌, arith, length-append}
+use Rattle.std.proofs.Common.{◌∙◌, arith}
 use Rattle.std.proofs.lemmas.List.{append-nil}
+use Rattle.mk_io.specs.declared.status.Status.{Status}
+use Rattle.mk_io.specs.Outside.{AddsFront}
 use Rattle.mk_io.specs.Stream.{StreamLine}
-use Rattle.mk_io.proofs.Told.{append_known_none, prepend_known_none}
-use Rattle.mk_journal.specs.Keepers.{Holds}
+use Rattle.mk_io.proofs.Told.{prepend_known_none}
 use Rattle.mk_io.specs.Cutting.{Cutting, fresh, stream_left, GivesLine, IsWithinLimits}
 use Rattle.mk_exact.specs.Market.{Market}
-use Rattle.mk_rules.specs.Standings.{IsMarket}
-use Rattle.mk_rules.specs.Transcript.{Standing, opening}
-use Rattle.mk_restore.specs.Restoring.{changes_of}
+use Rattle.mk_rules.specs.Transcript.{Standing}
+use Rattle.mk_market.specs.Trading.{Trading}
 use Rattle.mk_session.specs.declared.waiting.TellFault.{TellFault}
 use Rattle.mk_session.specs.declared.waiting.TellFault.TheVariants.{Disk, Sink}
-use Rattle.mk_session.specs.declared.answer.Ending.{Ending}
+use Rattle.mk_session.specs.Transcript.{Start}
+use Rattle.mk_session.specs.Left.{records_of, changes_from, IsLeft}
+use Rattle.mk_session.specs.inner.Progress.{IsBegun}
 use Rattle.mk_session.specs.inner.Telling.{ended_by}
-use Rattle.mk_session.specs.inner.Keeping.{records_of, Tells, SpeaksAndTells}
-use Rattle.mk_session.specs.inner.Keeping.{AreHeld, AreLeft, IsHeldSoFar, IsLeft}
+use Rattle.mk_session.specs.inner.Keeping.{HoldsSince, Tells, SpeaksAndTells}
+use Rattle.mk_session.specs.inner.Keeping.{AreHeld, AreLeft, IsHeldSoFar}
 use Rattle.mk_session.proofs.Underway.{placed_next}
 use Rattle.mk_session.proofs.Completing.{none_within_stream}
 use Rattle.mk_session.proofs.Held.{held_more, left_more, left_now, placed_same, left_of_placed}
 
--- what is kept is part of what is held
-pub fewer_kept : (kept waiting : List (List ℕ)) → length kept ≤ length (kept ++ waiting)
-fewer_kept kept waiting = omega (arith, length-append kept waiting)
-
 -- no line more is answered
 none_spoken : {T : Type 0} (said : Result T TellFault) (market : Market) (now : Standing)
     (before after : Option (List ℕ)) (waited waits : List ℕ) (least : ℕ) (all : List (List ℕ))
-    (holds leaves : ℕ → List (List ℕ) → Type 0)
-    → Tells said before after waited [] waits least (length all) (λ n. holds n all)
-    (λ n. leaves n all)
+    (holds : ℕ → List (List ℕ) → Type 0) (leaves : List (List ℕ) → ℕ → Type 0)
+    → Tells said before after waited [] waits least (length all) (λ n. holds n all) (leaves all)
     → SpeaksAndTells said market now [] now before after waited waits least all holds leaves
 none_spoken said market now before after waited waits least all holds leaves tells = record {
   asked = [];
@@ -39,228 +36,242 @@ none_spoken said market now before after waited waits least all holds leaves tel
   asks = tt;
   run = λ sound. refl;
   holds = subst (λ (l : List (List ℕ)). Tells said before after waited [] waits least (length l)
-      (λ n. holds n l) (λ n. leaves n l)) (sym (append-nil all)) tells;
+      (λ n. holds n l) (leaves l)) (sym (append-nil all)) tells;
 }
 
-module _ {T : Type 0} (said : Result T TellFault) (market : Market) (now : Standing)
-    (before written after : Option (List ℕ)) (waited waits : List ℕ) (first : ℕ)
-    (base : List (List ℕ)) (few : first ≤ length base)
-    (holds holds' leaves : ℕ → List (List ℕ) → Type 0)
+module _ {T : Type 0} (said : Result T TellFault) (start : Start) (now : Standing)
+    (before written after : Option (List ℕ)) (waited waits : List ℕ) (old : List (List ℕ))
+    (holds holds' : ℕ → List (List ℕ) → Type 0) (leaves : List (List ℕ) → ℕ → Type 0)
     (tells : (least : ℕ) (all : List (List ℕ)) → holds least all
     → Tells said written after waited [] waits least (length all) (λ n. holds' n all)
-    (λ n. leaves n all)) (lines : List StreamLine)
-    (far : AreHeld market lines now before written waited first
-    (λ n rs. holds n (base ++ rs))) where
-  abbrev told : SpeaksAndTells said market now [] now written after waited waits far.least
-      (base ++ records_of (changes_of market opening far.asked far.replies)) holds' leaves
-  told = none_spoken said market now written after waited waits far.least
-      (base ++ records_of (changes_of market opening far.asked far.replies)) holds' leaves
-      (tells far.least (base ++ records_of (changes_of market opening far.asked far.replies))
-      far.held)
+    (leaves all)) (lines : List StreamLine)
+    (far : AreHeld start lines now before written waited old holds) where
+  abbrev all : List (List ℕ)
+  all = old ++ records_of (changes_from start far.asked far.replies)
+
+  abbrev told : SpeaksAndTells said start.market now [] now written after waited waits far.least
+      all holds' leaves
+  told = none_spoken said start.market now written after waited waits far.least all holds' leaves
+      (tells far.least all far.held)
 
   -- what waits was told, or waits
-  pub still_held : OnOk said (AreHeld market lines now before after waits first
-      (λ n rs. holds' n (base ++ rs)))
-  still_held = subst (λ (ls : List StreamLine). OnOk said (AreHeld market ls now before after
-      waits first (λ n rs. holds' n (base ++ rs)))) (append-nil lines)
-      (held_more market lines [] now now before written after waited waits first base few holds
-      holds' leaves far said told)
+  pub still_held : OnOk said (AreHeld start lines now before after waits old holds')
+  still_held = subst (λ (ls : List StreamLine). OnOk said (AreHeld start ls now before after
+      waits old holds')) (append-nil lines)
+      (held_more start lines [] now now before written after waited waits old holds holds' leaves
+      far said told)
 
   -- telling of it failed
-  pub still_left : OnErr said (AreLeft market lines before after first
-      (λ n rs. leaves n (base ++ rs)))
-  still_left = subst (λ (ls : List StreamLine). OnErr said (AreLeft market ls before after first
-      (λ n rs. leaves n (base ++ rs)))) (append-nil lines)
-      (left_more market lines [] now now before written after waited waits first base few holds
-      holds' leaves far said told)
+  pub still_left : OnErr said (AreLeft start lines before after old leaves)
+  still_left = subst (λ (ls : List StreamLine). OnErr said (AreLeft start ls before after old
+      leaves)) (append-nil lines)
+      (left_more start lines [] now now before written after waited waits old holds holds' leaves
+      far said told)
 
 -- the run goes on from there
-pub held_from : (market : Market) (cutting : Cutting) (all : List ℕ)
+pub held_from : (start : Start) (cutting : Cutting) (all : List ℕ)
     (source before written after : Option (List ℕ)) (now : Standing)
-    (waited waits : List ℕ) (first : ℕ) (base : List (List ℕ)) → first ≤ length base
-    → (holds holds' leaves : ℕ → List (List ℕ) → Type 0)
+    (waited waits : List ℕ) (old : List (List ℕ))
+    (holds holds' : ℕ → List (List ℕ) → Type 0) (leaves : List (List ℕ) → ℕ → Type 0)
     → ((least : ℕ) (all : List (List ℕ)) → holds least all
     → Tells {T = Unit {0}} (Ok tt) written after waited [] waits least (length all)
-    (λ n. holds' n all) (λ n. leaves n all))
-    → IsHeldSoFar market all cutting source now before written waited first
-    (λ n rs. holds n (base ++ rs))
-    → IsHeldSoFar market all cutting source now before after waits first
-    (λ n rs. holds' n (base ++ rs))
-held_from market cutting all source before written after now waited waits first base few holds
-    holds' leaves tells far =
+    (λ n. holds' n all) (leaves all))
+    → IsHeldSoFar start all cutting source now before written waited old holds
+    → IsHeldSoFar start all cutting source now before after waits old holds'
+held_from start cutting all source before written after now waited waits old holds holds' leaves
+    tells far =
     let told : Result (Unit {0}) TellFault = Ok tt in
     placed_same all cutting source
-    (λ lines. AreHeld market lines now before written waited first (λ n rs. holds n (base ++ rs)))
-    (λ lines. AreHeld market lines now before after waits first (λ n rs. holds' n (base ++ rs)))
-    (still_held told market now before written after waited waits first base few holds holds'
-    leaves tells) far
+    (λ lines. AreHeld start lines now before written waited old holds)
+    (λ lines. AreHeld start lines now before after waits old holds')
+    (still_held told start now before written after waited waits old holds holds' leaves tells) far
 
 -- or ends
-pub kept_from : {T : Type 0} (said : Result T TellFault) (ended : Option Ending) (market : Market)
+pub kept_from : {T : Type 0} (said : Result T TellFault) (ended : Option Status) (start : Start)
     (cutting : Cutting) (all : List ℕ) (source before written after : Option (List ℕ))
-    (now : Standing) (waited waits : List ℕ) (first : ℕ) (base : List (List ℕ))
-    → ended ≡ ended_by said → first ≤ length base
-    → (holds holds' leaves : ℕ → List (List ℕ) → Type 0)
+    (now : Standing) (waited waits : List ℕ) (old : List (List ℕ))
+    → ended ≡ ended_by said
+    → (holds holds' : ℕ → List (List ℕ) → Type 0) (leaves : List (List ℕ) → ℕ → Type 0)
     → ((least : ℕ) (all : List (List ℕ)) → holds least all
     → Tells said written after waited [] waits least (length all) (λ n. holds' n all)
-    (λ n. leaves n all))
-    → IsHeldSoFar market all cutting source now before written waited first
-    (λ n rs. holds n (base ++ rs))
-    → MatchOption ended (IsHeldSoFar market all cutting source now before after waits first
-    (λ n rs. holds' n (base ++ rs)))
-    (λ end. IsLeft market all before after first (λ n rs. leaves n (base ++ rs)))
-kept_from said ended market cutting all source before written after now waited waits first base e
-    few holds holds' leaves tells far =
-    subst (λ (o : Option Ending). MatchOption o (IsHeldSoFar market all cutting source now before
-    after waits first (λ n rs. holds' n (base ++ rs)))
-    (λ end. IsLeft market all before after first (λ n rs. leaves n (base ++ rs)))) (sym e)
+    (leaves all))
+    → IsHeldSoFar start all cutting source now before written waited old holds
+    → MatchOption ended (IsHeldSoFar start all cutting source now before after waits old holds')
+    (λ end. IsLeft start all before after old leaves)
+kept_from said ended start cutting all source before written after now waited waits old e holds
+    holds' leaves tells far =
+    subst (λ (o : Option Status). MatchOption o (IsHeldSoFar start all cutting source now before
+    after waits old holds') (λ end. IsLeft start all before after old leaves)) (sym e)
     (at said tells)
   where
     leave : ((lines : List StreamLine)
-        → AreHeld market lines now before written waited first (λ n rs. holds n (base ++ rs))
-        → AreLeft market lines before after first (λ n rs. leaves n (base ++ rs)))
-        → IsLeft market all before after first (λ n rs. leaves n (base ++ rs))
-    leave step = left_of_placed market all cutting source before after first
-        (λ n rs. leaves n (base ++ rs)) (placed_same all cutting source
-        (λ lines. AreHeld market lines now before written waited first
-        (λ n rs. holds n (base ++ rs)))
-        (λ lines. AreLeft market lines before after first (λ n rs. leaves n (base ++ rs)))
+        → AreHeld start lines now before written waited old holds
+        → AreLeft start lines before after old leaves)
+        → IsLeft start all before after old leaves
+    leave step = left_of_placed start all cutting source before after old leaves
+        (placed_same all cutting source
+        (λ lines. AreHeld start lines now before written waited old holds)
+        (λ lines. AreLeft start lines before after old leaves)
         step far)
 
     at : {T : Type 0} (said : Result T TellFault)
         → ((least : ℕ) (all : List (List ℕ)) → holds least all
         → Tells said written after waited [] waits least (length all) (λ n. holds' n all)
-        (λ n. leaves n all))
-        → MatchOption (ended_by said) (IsHeldSoFar market all cutting source now before
-        after waits first (λ n rs. holds' n (base ++ rs)))
-        (λ end. IsLeft market all before after first (λ n rs. leaves n (base ++ rs)))
-    at (Ok v) tells = held_from market cutting all source before written after now waited waits
-        first base few holds holds' leaves tells far
+        (leaves all))
+        → MatchOption (ended_by said) (IsHeldSoFar start all cutting source now before
+        after waits old holds') (λ end. IsLeft start all before after old leaves)
+    at (Ok v) tells = held_from start cutting all source before written after now waited waits
+        old holds holds' leaves tells far
     at {T} (Err Disk) tells =
         let failed : Result T TellFault = Err Disk in
-        leave (still_left failed market now before written after waited waits first base few
-        holds holds' leaves tells)
+        leave (still_left failed start now before written after waited waits old holds holds'
+        leaves tells)
     at {T} (Err Sink) tells =
         let failed : Result T TellFault = Err Sink in
-        leave (still_left failed market now before written after waited waits first base few
-        holds holds' leaves tells)
+        leave (still_left failed start now before written after waited waits old holds holds'
+        leaves tells)
 
 -- a run that ends where nothing more is told
-pub kept_now : (market : Market) (cutting : Cutting) (all : List ℕ)
-    (source before written : Option (List ℕ)) (now : Standing) (waited : List ℕ) (first : ℕ)
-    (base : List (List ℕ)) (holds leaves : ℕ → List (List ℕ) → Type 0)
-    → ((n : ℕ) (rs : List (List ℕ)) → holds n rs → leaves n rs)
-    → IsHeldSoFar market all cutting source now before written waited first
-    (λ n rs. holds n (base ++ rs))
-    → IsLeft market all before written first (λ n rs. leaves n (base ++ rs))
-kept_now market cutting all source before written now waited first base holds leaves leave far =
-    left_of_placed market all cutting source before written first (λ n rs. leaves n (base ++ rs))
+pub kept_now : (start : Start) (cutting : Cutting) (all : List ℕ)
+    (source before written : Option (List ℕ)) (now : Standing) (waited : List ℕ)
+    (old : List (List ℕ)) (holds : ℕ → List (List ℕ) → Type 0)
+    (leaves : List (List ℕ) → ℕ → Type 0)
+    → ((n : ℕ) (rs : List (List ℕ)) → holds n rs → leaves rs n)
+    → IsHeldSoFar start all cutting source now before written waited old holds
+    → IsLeft start all before written old leaves
+kept_now start cutting all source before written now waited old holds leaves leave far =
+    left_of_placed start all cutting source before written old leaves
     (placed_same all cutting source
-    (λ lines. AreHeld market lines now before written waited first (λ n rs. holds n (base ++ rs)))
-    (λ lines. AreLeft market lines before written first (λ n rs. leaves n (base ++ rs)))
-    (λ lines. left_now market lines now before written waited first (λ n rs. holds n (base ++ rs))
-    (λ n rs. leaves n (base ++ rs)) (λ n rs. leave n (base ++ rs))) far)
+    (λ lines. AreHeld start lines now before written waited old holds)
+    (λ lines. AreLeft start lines before written old leaves)
+    (λ lines. left_now start lines now before written waited old holds leaves leave) far)
 
 -- a line that was answered: the run goes on behind it, or ends there
-pub kept_after : {T : Type 0} (said : Result T TellFault) (ended : Option Ending)
-    (market : Market) (line : StreamLine) (old new kept : Cutting) (all : List ℕ)
+pub kept_after : {T : Type 0} (said : Result T TellFault) (ended : Option Status)
+    (start : Start) (market : Market) (line : StreamLine) (old new kept : Cutting) (all : List ℕ)
     (source rest before written after : Option (List ℕ)) (now then : Standing)
-    (waited waits : List ℕ) (first : ℕ) (base : List (List ℕ))
+    (waited waits : List ℕ) (base : List (List ℕ))
     → ended ≡ ended_by said → kept ≡ new
     → old.last ≡ None → IsWithinLimits new
-    → GivesLine line old new (stream_left old source) (stream_left new rest) → first ≤ length base
-    → (holds holds' leaves : ℕ → List (List ℕ) → Type 0)
+    → GivesLine line old new (stream_left old source) (stream_left new rest)
+    → (holds holds' : ℕ → List (List ℕ) → Type 0) (leaves : List (List ℕ) → ℕ → Type 0)
     → ((least : ℕ) (all : List (List ℕ)) → holds least all
     → SpeaksAndTells said market now (line ∷ []) then written after waited waits least all holds'
-    leaves)
-    → IsHeldSoFar market all old source now before written waited first
-    (λ n rs. holds n (base ++ rs))
-    → MatchOption ended (IsHeldSoFar market all kept rest then before after waits first
-    (λ n rs. holds' n (base ++ rs)))
-    (λ end. IsLeft market all before after first (λ n rs. leaves n (base ++ rs)))
-kept_after said ended market line old new kept all source rest before written after now then waited
-    waits first base e same none limits gives few holds holds' leaves tells far =
-    subst (λ (o : Option Ending). MatchOption o (IsHeldSoFar market all kept rest then before after
-    waits first (λ n rs. holds' n (base ++ rs)))
-    (λ end. IsLeft market all before after first (λ n rs. leaves n (base ++ rs)))) (sym e)
-    (at said tells)
+    leaves) → market ≡ start.market
+    → IsHeldSoFar start all old source now before written waited base holds
+    → MatchOption ended (IsHeldSoFar start all kept rest then before after waits base holds')
+    (λ end. IsLeft start all before after base leaves)
+kept_after said ended start market line old new kept all source rest before written after now then
+    waited waits base e same none limits gives holds holds' leaves tells here far =
+    subst (λ (o : Option Status). MatchOption o (IsHeldSoFar start all kept rest then before after
+    waits base holds') (λ end. IsLeft start all before after base leaves)) (sym e)
+    (at said (λ least rs held. subst (λ (m : Market). SpeaksAndTells said m now (line ∷ []) then
+    written after waited waits least rs holds' leaves) here (tells least rs held)))
   where
     leave : ((lines : List StreamLine)
-        → AreHeld market lines now before written waited first (λ n rs. holds n (base ++ rs))
-        → AreLeft market (lines ++ line ∷ []) before after first (λ n rs. leaves n (base ++ rs)))
-        → IsLeft market all before after first (λ n rs. leaves n (base ++ rs))
-    leave step = left_of_placed market all new rest before after first
-        (λ n rs. leaves n (base ++ rs)) (placed_next all line old new source rest
-        (λ lines. AreHeld market lines now before written waited first
-        (λ n rs. holds n (base ++ rs)))
-        (λ lines. AreLeft market lines before after first (λ n rs. leaves n (base ++ rs))) none
+        → AreHeld start lines now before written waited base holds
+        → AreLeft start (lines ++ line ∷ []) before after base leaves)
+        → IsLeft start all before after base leaves
+    leave step = left_of_placed start all new rest before after base leaves
+        (placed_next all line old new source rest
+        (λ lines. AreHeld start lines now before written waited base holds)
+        (λ lines. AreLeft start lines before after base leaves) none
         limits gives step far)
 
     at : {T : Type 0} (said : Result T TellFault)
         → ((least : ℕ) (all : List (List ℕ)) → holds least all
-        → SpeaksAndTells said market now (line ∷ []) then written after waited waits least all
-        holds' leaves)
-        → MatchOption (ended_by said) (IsHeldSoFar market all kept rest then before after
-        waits first (λ n rs. holds' n (base ++ rs)))
-        (λ end. IsLeft market all before after first (λ n rs. leaves n (base ++ rs)))
+        → SpeaksAndTells said start.market now (line ∷ []) then written after waited waits least
+        all holds' leaves)
+        → MatchOption (ended_by said) (IsHeldSoFar start all kept rest then before after
+        waits base holds') (λ end. IsLeft start all before after base leaves)
     at (Ok v) tells =
-        subst (λ (cutting : Cutting). IsHeldSoFar market all cutting rest then before after waits
-        first (λ n rs. holds' n (base ++ rs))) (sym same)
+        subst (λ (cutting : Cutting). IsHeldSoFar start all cutting rest then before after waits
+        base holds') (sym same)
         (placed_next all line old new source rest
-        (λ lines. AreHeld market lines now before written waited first
-        (λ n rs. holds n (base ++ rs)))
-        (λ lines. AreHeld market lines then before after waits first
-        (λ n rs. holds' n (base ++ rs))) none limits gives
-        (λ lines held. held_more market lines (line ∷ []) now then before written after waited
-        waits first base few holds holds' leaves held (Ok v) (tells held.least
-        (base ++ records_of (changes_of market opening held.asked held.replies)) held.held)) far)
+        (λ lines. AreHeld start lines now before written waited base holds)
+        (λ lines. AreHeld start lines then before after waits base holds') none limits gives
+        (λ lines held. held_more start lines (line ∷ []) now then before written after waited
+        waits base holds holds' leaves held (Ok v)
+        (tells held.least
+        (base ++ records_of (changes_from start held.asked held.replies)) held.held)) far)
     at {T} (Err Disk) tells =
         let failed : Result T TellFault = Err Disk in
-        leave (λ lines held. left_more market lines (line ∷ []) now then
-        before written after waited waits first base few holds holds' leaves held
-        failed (tells held.least (base ++ records_of (changes_of market opening
-        held.asked held.replies)) held.held))
+        leave (λ lines held. left_more start lines (line ∷ []) now then
+        before written after waited waits base holds holds' leaves held
+        failed (tells held.least
+        (base ++ records_of (changes_from start held.asked held.replies)) held.held))
     at {T} (Err Sink) tells =
         let failed : Result T TellFault = Err Sink in
-        leave (λ lines held. left_more market lines (line ∷ []) now then
-        before written after waited waits first base few holds holds' leaves held
-        failed (tells held.least (base ++ records_of (changes_of market opening
-        held.asked held.replies)) held.held))
+        leave (λ lines held. left_more start lines (line ∷ []) now then
+        before written after waited waits base holds holds' leaves held
+        failed (tells held.least
+        (base ++ records_of (changes_from start held.asked held.replies)) held.held))
 
 -- before the first line
-pub held_at_start : (market : Market) → IsMarket market → (all : List ℕ)
-    (source : Option (List ℕ)) (now : Standing) (before : Option (List ℕ)) (waits : List ℕ)
-    (kept waiting : List (List ℕ)) (holds : List (List ℕ) → List (List ℕ) → Type 0)
-    → source ≡ Some all → now ≡ opening → waits ≡ [] → holds kept waiting
-    → IsHeldSoFar market all fresh source now before before waits (length kept)
-    (λ n rs. Holds holds n ((kept ++ waiting) ++ rs))
-held_at_start market is_market all source now before waits kept waiting holds told begins empty
-    held = record {
+pub held_at_start : (start : Start) (trading : Trading) (all : List ℕ)
+    (source before written : Option (List ℕ)) (waits : List ℕ)
+    (kept : List (List ℕ)) (holds : List (List ℕ) → List (List ℕ) → Type 0)
+    (passes : List (List ℕ) → ℕ → Type 0)
+    → IsBegun start trading all source before written → waits ≡ [] → holds kept []
+    → passes (kept ++ []) (length kept)
+    → IsHeldSoFar start all fresh source trading.standing before written waits kept
+    (HoldsSince holds passes (length kept))
+held_at_start start trading all source before written waits kept holds passes begun empty held
+    passed = record {
       done = [];
       left = all;
       bytes = refl;
-      known = prepend_known_none source ∙ told;
+      known = prepend_known_none source ∙ begun.told;
       between = inl refl;
       answers = record {
-        is_market = is_market;
-        bytes = [];
-        added = append_known_none before;
+        begins = begun.begins;
+        bytes = start.head;
+        added = begun.headed;
         asked = [];
         replies = [];
         asks = tt;
-        run = begins;
-        printed = empty;
+        run = begun.standing;
+        printed = ap (λ (rest : List ℕ). start.head ++ rest) empty;
         least = length kept;
+        no_fewer = omega arith;
         told = λ n few whole. omega arith;
         held = record {
-          kept = kept;
-          waiting = waiting;
+          held = record {
+            kept = kept;
+            waiting = [];
+            no_fewer = omega arith;
+            parts = refl;
+            held = held;
+          };
           no_fewer = omega arith;
-          parts = append-nil (kept ++ waiting);
-          held = held;
+          passed = passed;
         };
       };
       given = refl;
       spent = refl;
       within = none_within_stream;
     }
+
+-- nothing was answered, and of the head a front was written
+pub left_at_head : (start : Start) (all : List ℕ) (before after : Option (List ℕ))
+    (kept : List (List ℕ)) (leaves : List (List ℕ) → ℕ → Type 0)
+    → AddsFront before after start.head → leaves (kept ++ []) (length kept)
+    → IsLeft start all before after kept leaves
+left_at_head start all before after kept leaves cut left = record {
+  done = [];
+  rest = all;
+  bytes = refl;
+  lines = inl (inl refl);
+  output = cut.front;
+  added = cut.added;
+  now = start.standing;
+  asked = [];
+  replies = [];
+  asks = tt;
+  run = refl;
+  are = tt;
+  least = length kept;
+  no_fewer = omega arith;
+  told = λ n few whole. omega arith;
+  left = left;
+}

@@ -8,9 +8,8 @@ use Rattle.mk_io.specs.Stream.{StreamLine, stream_lines, EndsInLf, AreWholeLines
 use Rattle.mk_io.specs.Cutting.{Cutting, stream_left, TakesPiece, GivesLine, IsWithinLimits}
 use Rattle.mk_io.proofs.Told.{append_known_twice}
 use Rattle.mk_io.proofs.WholeLines.{whole_lines-append}
-use Rattle.mk_exact.specs.Market.{Market}
-use Rattle.mk_rules.specs.Transcript.{Standing, opening}
-use Rattle.mk_session.specs.Transcript.{AreAnswered}
+use Rattle.mk_rules.specs.Transcript.{Standing}
+use Rattle.mk_session.specs.Transcript.{Start}
 use Rattle.mk_session.specs.inner.Progress.{Gathers, AreGathered, IsBetween, IsPlaced, AreSaid}
 use Rattle.mk_session.specs.inner.Progress.{IsSoFar}
 use Rattle.mk_session.proofs.Answering.{no_more, then_answered, sound_so_far}
@@ -122,40 +121,41 @@ placed_next all line old new source rest P Q none limits gives step far =
     }
 
 -- a line was given and answered: the run has come one line further
-pub so_far_next : (market : Market) (all : List ℕ) (line : StreamLine) (old new : Cutting)
+pub so_far_next : (start : Start) (all : List ℕ) (line : StreamLine) (old new : Cutting)
     (source rest : Option (List ℕ)) (now then : Standing)
     (before written after : Option (List ℕ)) (waited waits : List ℕ) → old.last ≡ None
     → IsWithinLimits new
     → GivesLine line old new (stream_left old source) (stream_left new rest)
-    → AreGathered market now (line ∷ []) then written after waited waits → IsSoFar market all old
-    source now before written waited
-    → IsSoFar market all new rest then before after waits
-so_far_next market all line old new source rest now then before written after waited waits none
+    → AreGathered start.market now (line ∷ []) then written after waited waits
+    → IsSoFar start all old source now before written waited
+    → IsSoFar start all new rest then before after waits
+so_far_next start all line old new source rest now then before written after waited waits none
     limits gives said far =
     let gone = said.gathers.gone in
-    placed_next all line old new source rest (λ lines. AreSaid market lines now before written
+    placed_next all line old new source rest (λ lines. AreSaid start lines now before written
     waited)
-    (λ lines. AreSaid market lines then before after waits) none limits gives
-    (λ lines answers. record {
-      is_market = answers.is_market;
-      bytes = answers.bytes ++ gone;
-      added = said.gathers.added ∙ ap (λ (w : Option (List ℕ)). append_known w gone) answers.added
-          ∙ append_known_twice before answers.bytes gone;
-      holds = subst (λ (output : List ℕ). AreAnswered market opening (lines ++ line ∷ []) then
-          output)
-          (parts_behind answers.bytes waited said.output gone waits said.gathers.parts)
-          (then_answered market opening now then lines (line ∷ []) (answers.bytes ++ waited)
-          said.output answers.holds (said.answered (sound_so_far market answers.is_market lines now
-          answers.holds.replies answers.holds.replied)));
+    (λ lines. AreSaid start lines then before after waits) none limits gives
+    (λ lines saying. record {
+      begins = saying.begins;
+      bytes = saying.bytes ++ gone;
+      added = said.gathers.added ∙ ap (λ (w : Option (List ℕ)). append_known w gone) saying.added
+          ∙ append_known_twice before saying.bytes gone;
+      answers = saying.answers ++ said.output;
+      answered = then_answered start.market start.standing now then lines (line ∷ [])
+          saying.answers said.output saying.answered (said.answered (sound_so_far start
+          saying.begins lines now saying.answered.replies saying.answered.replied));
+      printed = sym (parts_behind saying.bytes waited said.output gone waits said.gathers.parts)
+          ∙ ap (λ (bytes : List ℕ). bytes ++ said.output) saying.printed
+          ∙ append_assoc start.head saying.answers said.output;
     }) far
 
 -- some of what waits was written
-pub still_so_far : (market : Market) (all : List ℕ) (cutting : Cutting) (source : Option (List ℕ))
+pub still_so_far : (start : Start) (all : List ℕ) (cutting : Cutting) (source : Option (List ℕ))
     (now : Standing) (before written after : Option (List ℕ))
-    (waited waits : List ℕ) → Gathers written after waited [] waits → IsSoFar market all cutting
+    (waited waits : List ℕ) → Gathers written after waited [] waits → IsSoFar start all cutting
     source now before written waited
-    → IsSoFar market all cutting source now before after waits
-still_so_far market all cutting source now before written after waited waits gathers far =
+    → IsSoFar start all cutting source now before after waits
+still_so_far start all cutting source now before written after waited waits gathers far =
     let bytes = far.answers.bytes in
     record {
       done = far.done;
@@ -164,15 +164,15 @@ still_so_far market all cutting source now before written after waited waits gat
       known = far.known;
       between = far.between;
       answers = record {
-        is_market = far.answers.is_market;
+        begins = far.answers.begins;
         bytes = bytes ++ gathers.gone;
         added = gathers.added ∙ ap (λ (w : Option (List ℕ)). append_known w gathers.gone)
             far.answers.added
             ∙ append_known_twice before bytes gathers.gone;
-        holds = subst (λ (output : List ℕ). AreAnswered market opening (stream_lines far.done) now
-            output)
-            (sym (no_more (bytes ++ waited)) ∙ parts_behind bytes waited [] gathers.gone waits
-            gathers.parts) far.answers.holds;
+        answers = far.answers.answers;
+        answered = far.answers.answered;
+        printed = sym (parts_behind bytes waited [] gathers.gone waits gathers.parts)
+            ∙ no_more (bytes ++ waited) ∙ far.answers.printed;
       };
       given = far.given;
       spent = far.spent;

@@ -4,6 +4,8 @@ pub mod Transcript
 pub mod Opening
 pub mod Outcome
 pub mod Complete
+pub mod Begins
+pub mod Left
 pub mod Tally
 pub mod Laws
 pub mod inner

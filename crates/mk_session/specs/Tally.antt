@@ -14,7 +14,7 @@ use Rattle.mk_session.specs.declared.counts.Tally.{Tally}
 use Rattle.mk_session.specs.declared.counts.TallyFault.{TallyFault}
 use Rattle.mk_session.specs.declared.counts.TallyFault.TheVariants.{Market as Refuses, TooMany}
 use Rattle.mk_session.specs.declared.counts.TallyFault.TheVariants.{Memory}
-use Rattle.mk_session.specs.Transcript.{IsAllowedRun}
+use Rattle.mk_session.specs.Transcript.{from_opening, IsAllowedRun}
 use Rattle.mk_session.specs.Complete.{AreWithin}
 
 -- an edit of a question or of a whole distribution was made
@@ -47,7 +47,7 @@ pub record AreCounted (replies : List Reply) (tally : Tally) : Type 0 where
 pub record IsTally (market : Market) (all : List ℕ) (tally : Tally) : Type 0 where
   pub after : Standing
   pub replies : List Reply
-  pub run : IsAllowedRun market (stream_lines all) after replies
+  pub run : IsAllowedRun (from_opening market) (stream_lines all) after replies
   pub remembered : All IsRemembered replies
   pub counts : AreCounted replies tally
   pub within : AreWithin all

@@ -1,39 +1,35 @@
 //! Answering the lines of a stream, one after another.
 
-ghost use Rattle.std.specs.Prelude.{◌≡◌, ◌≢◌, ◌+◌, ◌^◌, ◌<◌, ◌≤◌, ◌==◌, ℕ, List, [], ◌∷◌};
-ghost use Rattle.std.specs.Prelude.{◌++◌, MatchResult};
-ghost use Rattle.std.specs.Prelude.{length, true, false, Option, None, Some, OnOk, OnErr};
-ghost use Rattle.std.specs.Prelude.{IfNone, IfSome, MatchOption};
+ghost use Rattle.std.specs.Prelude.{◌≡◌, ℕ, ◌+◌, ◌^◌, ◌<◌, ◌≤◌, ◌==◌, List, [], ◌∷◌, ◌++◌, length};
+ghost use Rattle.std.specs.Prelude.{true, false, Option, None, Some, OnOk, OnErr};
+ghost use Rattle.std.specs.Prelude.{IfNone, IfSome, MatchOption, MatchResult};
 ghost use Rattle.std.specs.List.{list_all};
-ghost use Rattle.mk_io.specs.Outside.{HasCause, AddsFront, append_known};
-ghost use Rattle.mk_journal.specs.Keepers.{Holds};
-ghost use Rattle.mk_disk.specs.Disk.{HasCause as HasDiskCause};
+ghost use Rattle.mk_io.specs.Outside.{AddsFront};
+ghost use Rattle.mk_disk.specs.Disk.{HasCause};
 ghost use Rattle.mk_io.specs.Stream.{text, long, max_line_bytes, max_stream_lines};
 ghost use Rattle.mk_io.specs.Cutting.{fresh, GoesOn};
-ghost use Rattle.mk_file.specs.MarketOf.{market_of};
-ghost use Rattle.mk_session.specs.Texts.{ready_line, reply_line};
+ghost use Rattle.mk_session.specs.Texts.{head_of, reply_line};
 ghost use Rattle.mk_exact.specs.Market.{Market};
-ghost use Rattle.mk_rules.specs.Standings.{IsMarket};
-ghost use Rattle.mk_rules.specs.Transcript.{Standing, opening};
+ghost use Rattle.mk_rules.specs.Transcript.{Standing};
 ghost use Rattle.mk_command.specs.Commands.{command_of};
-ghost use Rattle.mk_session.specs.Transcript.{AreReplied, AreAnswered};
-ghost use Rattle.mk_session.specs.Outcome.{HasCauses};
-ghost use Rattle.mk_session.specs.inner.Progress.{Gathers, AreGathered, IsReady, IsSoFar, IsEnded};
-ghost use Rattle.mk_session.specs.inner.Progress.{IsSoundAt, IsPrinted};
-ghost use Rattle.mk_session.specs.inner.Telling.{HasTellCause, HasEndCauses, CountsNoFault};
-ghost use Rattle.mk_session.specs.inner.Telling.{ended_by, shown};
+ghost use Rattle.mk_session.specs.Transcript.{Start, started, AreReplied, AreAnswered};
+ghost use Rattle.mk_session.specs.Begins.{CanBegin};
+ghost use Rattle.mk_session.specs.Outcome.{IsServed, IsRunFrom, HasKeepCauses, EndsRun};
+ghost use Rattle.mk_session.specs.Left.{LeavesSince, IsLeft};
+ghost use Rattle.mk_session.specs.inner.Progress.{Gathers, AreGathered, IsReady, IsSoFar};
+ghost use Rattle.mk_session.specs.inner.Progress.{IsBegun, IsEnded, IsSoundAt, IsPrinted};
+ghost use Rattle.mk_session.specs.inner.Telling.{HasTellCause, CountsNoFault, ended_by};
 ghost use Rattle.mk_session.specs.inner.Keeping.{IsSpoken, AreSpoken, Tells, SpeaksAndTells};
-ghost use Rattle.mk_session.specs.inner.Keeping.{IsHeldSoFar, IsLeft};
+ghost use Rattle.mk_session.specs.inner.Keeping.{HoldsSince, IsHeldSoFar};
 
 use crate::change::{RecordBuffer, take_change};
 use crate::market::TreeMarket;
-use crate::print::{LineBuffer, print_ready, print_reply_line};
+use crate::print::{LineBuffer, print_head, print_reply_line};
 use crate::waiting::{TellFault, put_line, write_before_read};
 use mk_command::{CommandRef, Words, read_command};
 use mk_disk::DiskFailed;
-use mk_file::MarketFile;
-use mk_io::{Inputs, Lines, Next, Sink, SinkFailed, Status, write_all};
-use mk_journal::{Keeper, NoStore};
+use mk_io::{Inputs, Lines, Next, Sink, Status, write_all};
+use mk_journal::Keeper;
 use mk_reply::{Refusal, Reply};
 use std::alloc::Global;
 
@@ -123,26 +119,71 @@ fn print_applied(
     print_reply_line(&market.apply(alloc, command), print)
 }
 
-/// How a run over a keeper ends.
-#[derive(Clone, Copy)]
-pub enum Ending {
-    /// As its status says.
-    Told(Status),
-    /// The keeper's disk failed; a front of the output was written.
-    DiskFault,
+/// Who keeps the changes of a run, and how many of them a store gave back before.
+#[derive(Drop)]
+pub struct Kept<J> {
+    pub keeper: J,
+    /// None where the run begins at the opening of its market.
+    pub recovered: Option<u64>,
+}
+
+/// Answers all commands from the standing of a market on, behind its ready line, and the line
+/// `resumed R` where a store gave R changes back. It ends where they do, or where reading, keeping
+/// or writing fails.
+///
+/// The keeper holds all changes before, and none waits. Each change is taken before its reply
+/// waits, and all that were taken are kept before any line is written: so a crash leaves each
+/// change whose reply stands in the output. At any moment before, it leaves all that were held.
+pub fn serve_from<D, J: Keeper<D> + Drop, I: Inputs, S: Sink>(
+    alloc: Global,
+    keeping: Kept<J>,
+    market: &mut TreeMarket,
+    inputs: &mut I,
+    out: &mut S,
+    disk: &mut D,
+) -> Status
+    requires ready { (n : ℕ) × (n + max_stream_lines + 1 < 2 ^ 40)
+        × J.is_ready keeping.keeper disk.old n }
+    ensures market { market.new.market ≡ market.old.market }
+    ensures served { (all : List ℕ) → I.commands inputs.old ≡ Some all →
+        CanBegin market.old.market market.old.standing →
+        IsServed result (started market.old.market market.old.standing keeping.recovered) all
+        (I.commands inputs.new) (S.written out.old) (S.written out.new) }
+    ensures done { result ≡ Status.Done → (all : List ℕ) → I.commands inputs.old ≡ Some all →
+        CanBegin market.old.market market.old.standing →
+        IsRunFrom (started market.old.market market.old.standing keeping.recovered)
+        market.new.standing all (I.commands inputs.new) (S.written out.old) (S.written out.new) }
+    ensures left { (all name bytes : List ℕ) (kept : List (List ℕ)) →
+        I.commands inputs.old ≡ Some all → CanBegin market.old.market market.old.standing →
+        J.holds keeping.keeper disk.old name bytes kept [] →
+        IsLeft (started market.old.market market.old.standing keeping.recovered) all
+        (S.written out.old) (S.written out.new) kept
+        (LeavesSince (J.leaves disk.new name bytes) (J.passes disk.old disk.new name bytes)
+        (length kept)) }
+    ensures opened { I.market inputs.new ≡ I.market inputs.old }
+    ensures causes { HasKeepCauses result (J.faults disk.old) (J.faults disk.new)
+        (I.faults inputs.old) (I.faults inputs.new) (S.faults out.old) (S.faults out.new) }
+    ensures ends { EndsRun result }
+{
+    let mut conversation = Conversation::new(keeping.keeper);
+    print_head(market, keeping.recovered, &mut conversation.line);
+    match write_all(out, conversation.line.as_bytes()) {
+        Ok(()) => conversation.keep_lines(alloc, market, inputs, out, disk),
+        Err(_) => Status::WriteFault,
+    }
 }
 
 /// What stands between a market and who talks to it: what was read and not answered, and what was
 /// answered and not kept or not written.
 #[derive(Drop)]
-pub(crate) struct Conversation<J> {
+struct Conversation<J> {
     /// Reads the commands and cuts them into lines.
     lines: Lines,
     /// Where the longer words of a command are put.
     words: Words,
-    /// The last line that was printed: the ready line, then that of a reply.
+    /// What was printed last: the lines before the first reply, then the line of a reply.
     line: LineBuffer,
-    /// The lines behind the ready line that wait to be written.
+    /// The lines of replies that wait to be written.
     waiting: LineBuffer,
     /// Where the record of a change is put for the keeper.
     room: RecordBuffer,
@@ -150,39 +191,9 @@ pub(crate) struct Conversation<J> {
     keeper: J,
 }
 
-impl Conversation<NoStore> {
-    /// Answers the commands to their end, or until reading or writing fails, and keeps nothing.
-    pub(crate) fn answer_lines<I: Inputs, S: Sink>(
-        &mut self,
-        alloc: Global,
-        market: &mut TreeMarket,
-        inputs: &mut I,
-        out: &mut S,
-    ) -> Status
-        requires is_market { IsMarket market.old.market }
-        requires opening { market.old.standing ≡ opening }
-        requires unread { self.old.lines ≡ fresh }
-        requires none_waits { self.old.waiting.bytes ≡ [] }
-        ensures market { market.new.market ≡ market.old.market }
-        ensures ended { (all : List ℕ) → I.commands inputs.old ≡ Some all →
-            IsEnded result market.old.market market.new.standing all (I.commands inputs.new)
-            (S.written out.old) (S.written out.new) }
-        ensures opened { I.market inputs.new ≡ I.market inputs.old }
-        ensures causes { HasCauses result (I.faults inputs.old) (I.faults inputs.new)
-            (S.faults out.old) (S.faults out.new) }
-        ensures not_usage { result ≢ Status.Usage }
-    {
-        match self.keep_lines(alloc, market, inputs, out, &mut ()) {
-            Ending::Told(status) => status,
-            // Nothing is kept, so there is no disk that could fail.
-            Ending::DiskFault => unreachable!(),
-        }
-    }
-}
-
 impl<J> Conversation<J> {
     /// Nothing was read, and nothing waits.
-    pub(crate) fn new(keeper: J) -> Conversation<J>
+    fn new(keeper: J) -> Conversation<J>
         ensures lines { result.lines ≡ fresh }
         ensures waiting { result.waiting.bytes ≡ [] }
         ensures keeper { result.keeper ≡ keeper }
@@ -192,64 +203,43 @@ impl<J> Conversation<J> {
             words: Words::default(),
             line: LineBuffer::new(),
             waiting: LineBuffer::new(),
-            room: RecordBuffer::new(),
+            room: [0; 34000],
             keeper,
         }
     }
 
-    /// Prints the ready line of this file's market.
-    pub(crate) fn print_ready(&mut self, file: &MarketFile)
-        ensures printed { self.new.line.bytes ≡ ready_line (market_of file.now) }
-        ensures lines { self.new.lines ≡ self.old.lines }
-        ensures waiting { self.new.waiting ≡ self.old.waiting }
-        ensures keeper { self.new.keeper ≡ self.old.keeper }
-    {
-        print_ready(file, &mut self.line);
-    }
-
-    /// Writes the line that was printed last. Only the ready line is written so, before others
-    /// wait.
-    pub(crate) fn write_ready<S: Sink>(&self, out: &mut S) -> Result<(), SinkFailed>
-        ensures cause { HasCause (S.faults out.old) (S.faults out.new) result }
-        ensures whole { OnOk result
-            (S.written out.new ≡ append_known (S.written out.old) self.now.line.bytes) }
-        ensures front { OnErr result
-            (AddsFront (S.written out.old) (S.written out.new) self.now.line.bytes) }
-    {
-        write_all(out, self.line.as_bytes())
-    }
-
     /// Answers the commands to their end, or until reading, keeping or writing fails. No line is
     /// written before the changes of all lines up to it are kept.
-    pub(crate) fn keep_lines<D, I: Inputs, S: Sink>(
+    fn keep_lines<D, I: Inputs, S: Sink>(
         &mut self,
         alloc: Global,
         market: &mut TreeMarket,
         inputs: &mut I,
         out: &mut S,
         disk: &mut D,
-    ) -> Ending
+    ) -> Status
     where
         J: Keeper<D>,
-        requires is_market { IsMarket market.old.market }
-        requires opening { market.old.standing ≡ opening }
         requires unread { self.old.lines ≡ fresh }
         requires none_waits { self.old.waiting.bytes ≡ [] }
         requires ready { (n : ℕ) × (n + max_stream_lines + 1 < 2 ^ 40)
             × J.is_ready self.old.keeper disk.old n }
         ensures market { market.new.market ≡ market.old.market }
-        ensures ended { (all : List ℕ) → I.commands inputs.old ≡ Some all →
-            IsEnded (shown result) market.old.market market.new.standing all (I.commands inputs.new)
-            (S.written out.old) (S.written out.new) }
-        ensures left { (all name bytes : List ℕ) (kept waiting : List (List ℕ)) →
-            I.commands inputs.old ≡ Some all →
-            J.holds self.old.keeper disk.old name bytes kept waiting →
-            IsLeft market.old.market all (S.written out.old) (S.written out.new) (length kept)
-            (λ n rs. J.leaves disk.new name bytes ((kept ++ waiting) ++ rs) n) }
+        ensures ended { (start : Start) (all : List ℕ) (before : Option (List ℕ)) →
+            IsBegun start market.old all (I.commands inputs.old) before (S.written out.old) →
+            IsEnded result start market.new.standing all (I.commands inputs.new) before
+            (S.written out.new) }
+        ensures left { (start : Start) (all name bytes : List ℕ) (before : Option (List ℕ))
+            (kept : List (List ℕ)) →
+            IsBegun start market.old all (I.commands inputs.old) before (S.written out.old) →
+            J.holds self.old.keeper disk.old name bytes kept [] →
+            IsLeft start all before (S.written out.new) kept
+            (LeavesSince (J.leaves disk.new name bytes) (J.passes disk.old disk.new name bytes)
+            (length kept)) }
         ensures opened { I.market inputs.new ≡ I.market inputs.old }
-        ensures causes { HasEndCauses result (J.faults disk.old) (J.faults disk.new)
+        ensures causes { HasKeepCauses result (J.faults disk.old) (J.faults disk.new)
             (I.faults inputs.old) (I.faults inputs.new) (S.faults out.old) (S.faults out.new) }
-        ensures not_usage { shown result ≢ Status.Usage }
+        ensures ends { EndsRun result }
     {
         loop {
             if let Some(end) = self.take_turn(alloc, market, inputs, out, disk) {
@@ -267,7 +257,7 @@ impl<J> Conversation<J> {
         inputs: &mut I,
         out: &mut S,
         disk: &mut D,
-    ) -> Option<Ending>
+    ) -> Option<Status>
     where
         J: Keeper<D>,
         requires goes_on { GoesOn self.old.lines.last }
@@ -278,37 +268,39 @@ impl<J> Conversation<J> {
         ensures within { IfNone result (self.new.lines.given ≤ max_stream_lines) }
         ensures ready { (n : ℕ) → n + 1 < 2 ^ 40 → J.is_ready self.old.keeper disk.old n →
             IfNone result (J.is_ready self.new.keeper disk.new (n + 1)) }
-        ensures so_far { IfNone result ((all : List ℕ) (before : Option (List ℕ)) →
-            IsSoFar market.old.market all self.old.lines (I.commands inputs.old)
+        ensures so_far { IfNone result ((start : Start) (all : List ℕ) (before : Option (List ℕ)) →
+            market.old.market ≡ start.market →
+            IsSoFar start all self.old.lines (I.commands inputs.old)
             market.old.standing before (S.written out.old) self.old.waiting.bytes →
-            IsSoFar market.old.market all self.new.lines (I.commands inputs.new)
+            IsSoFar start all self.new.lines (I.commands inputs.new)
             market.new.standing before (S.written out.new) self.new.waiting.bytes) }
-        ensures ended { IfSome result (λ end. (all : List ℕ) (before : Option (List ℕ)) →
-            IsSoFar market.old.market all self.old.lines (I.commands inputs.old)
+        ensures ended { IfSome result (λ end. (start : Start) (all : List ℕ)
+            (before : Option (List ℕ)) → market.old.market ≡ start.market →
+            IsSoFar start all self.old.lines (I.commands inputs.old)
             market.old.standing before (S.written out.old) self.old.waiting.bytes →
-            IsEnded (shown end) market.old.market market.new.standing all (I.commands inputs.new)
-            before
+            IsEnded end start market.new.standing all (I.commands inputs.new) before
             (S.written out.new)) }
-        ensures kept { (name bytes all : List ℕ) (before : Option (List ℕ))
-            (kept waiting : List (List ℕ)) →
-            IsHeldSoFar market.old.market all self.old.lines (I.commands inputs.old)
+        ensures kept { (start : Start) (begun : D) (name bytes all : List ℕ)
+            (before : Option (List ℕ)) (kept : List (List ℕ)) → market.old.market ≡ start.market →
+            IsHeldSoFar start all self.old.lines (I.commands inputs.old)
             market.old.standing before (S.written out.old) self.old.waiting.bytes
-            (length kept) (λ n rs. Holds (J.holds self.old.keeper disk.old name bytes) n
-            ((kept ++ waiting) ++ rs)) →
+            kept (HoldsSince (J.holds self.old.keeper disk.old name bytes)
+            (J.passes begun disk.old name bytes) (length kept)) →
             MatchOption result
-            (IsHeldSoFar market.old.market all self.new.lines (I.commands inputs.new)
+            (IsHeldSoFar start all self.new.lines (I.commands inputs.new)
             market.new.standing before (S.written out.new) self.new.waiting.bytes
-            (length kept) (λ n rs. Holds (J.holds self.new.keeper disk.new name bytes) n
-            ((kept ++ waiting) ++ rs)))
-            (λ end. IsLeft market.old.market all before (S.written out.new) (length kept)
-            (λ n rs. J.leaves disk.new name bytes ((kept ++ waiting) ++ rs) n)) }
+            kept (HoldsSince (J.holds self.new.keeper disk.new name bytes)
+            (J.passes begun disk.new name bytes) (length kept)))
+            (λ end. IsLeft start all before (S.written out.new) kept
+            (LeavesSince (J.leaves disk.new name bytes) (J.passes begun disk.new name bytes)
+            (length kept))) }
         ensures opened { I.market inputs.new ≡ I.market inputs.old }
         ensures causes { MatchOption result
             (CountsNoFault (J.faults disk.old) (J.faults disk.new)
             (I.faults inputs.old) (I.faults inputs.new) (S.faults out.old) (S.faults out.new))
-            (λ end. HasEndCauses end (J.faults disk.old) (J.faults disk.new)
+            (λ end. HasKeepCauses end (J.faults disk.old) (J.faults disk.new)
             (I.faults inputs.old) (I.faults inputs.new) (S.faults out.old) (S.faults out.new)) }
-        ensures not_usage { IfSome result (λ end. shown end ≢ Status.Usage) }
+        ensures ends { IfSome result EndsRun }
     {
         let told = write_before_read(&self.lines, &mut self.waiting, &mut self.keeper, out, disk);
         match told {
@@ -326,7 +318,7 @@ impl<J> Conversation<J> {
         inputs: &mut I,
         out: &mut S,
         disk: &mut D,
-    ) -> Option<Ending>
+    ) -> Option<Status>
     where
         J: Keeper<D>,
         requires goes_on { GoesOn self.old.lines.last }
@@ -338,44 +330,46 @@ impl<J> Conversation<J> {
         ensures within { IfNone result (self.new.lines.given ≤ max_stream_lines) }
         ensures ready { (n : ℕ) → n + 1 < 2 ^ 40 → J.is_ready self.old.keeper disk.old n →
             IfNone result (J.is_ready self.new.keeper disk.new (n + 1)) }
-        ensures so_far { IfNone result ((all : List ℕ) (before : Option (List ℕ)) →
-            IsSoFar market.old.market all self.old.lines (I.commands inputs.old)
+        ensures so_far { IfNone result ((start : Start) (all : List ℕ) (before : Option (List ℕ)) →
+            market.old.market ≡ start.market →
+            IsSoFar start all self.old.lines (I.commands inputs.old)
             market.old.standing before (S.written out.old) self.old.waiting.bytes →
-            IsSoFar market.old.market all self.new.lines (I.commands inputs.new)
+            IsSoFar start all self.new.lines (I.commands inputs.new)
             market.new.standing before (S.written out.new) self.new.waiting.bytes) }
-        ensures ended { IfSome result (λ end. (all : List ℕ) (before : Option (List ℕ)) →
-            IsSoFar market.old.market all self.old.lines (I.commands inputs.old)
+        ensures ended { IfSome result (λ end. (start : Start) (all : List ℕ)
+            (before : Option (List ℕ)) → market.old.market ≡ start.market →
+            IsSoFar start all self.old.lines (I.commands inputs.old)
             market.old.standing before (S.written out.old) self.old.waiting.bytes →
-            IsEnded (shown end) market.old.market market.new.standing all (I.commands inputs.new)
-            before
+            IsEnded end start market.new.standing all (I.commands inputs.new) before
             (S.written out.new)) }
-        ensures kept { (name bytes all : List ℕ) (before : Option (List ℕ))
-            (kept waiting : List (List ℕ)) →
-            IsHeldSoFar market.old.market all self.old.lines (I.commands inputs.old)
+        ensures kept { (start : Start) (begun : D) (name bytes all : List ℕ)
+            (before : Option (List ℕ)) (kept : List (List ℕ)) → market.old.market ≡ start.market →
+            IsHeldSoFar start all self.old.lines (I.commands inputs.old)
             market.old.standing before (S.written out.old) self.old.waiting.bytes
-            (length kept) (λ n rs. Holds (J.holds self.old.keeper disk.old name bytes) n
-            ((kept ++ waiting) ++ rs)) →
+            kept (HoldsSince (J.holds self.old.keeper disk.old name bytes)
+            (J.passes begun disk.old name bytes) (length kept)) →
             MatchOption result
-            (IsHeldSoFar market.old.market all self.new.lines (I.commands inputs.new)
+            (IsHeldSoFar start all self.new.lines (I.commands inputs.new)
             market.new.standing before (S.written out.new) self.new.waiting.bytes
-            (length kept) (λ n rs. Holds (J.holds self.new.keeper disk.new name bytes) n
-            ((kept ++ waiting) ++ rs)))
-            (λ end. IsLeft market.old.market all before (S.written out.new) (length kept)
-            (λ n rs. J.leaves disk.new name bytes ((kept ++ waiting) ++ rs) n)) }
+            kept (HoldsSince (J.holds self.new.keeper disk.new name bytes)
+            (J.passes begun disk.new name bytes) (length kept)))
+            (λ end. IsLeft start all before (S.written out.new) kept
+            (LeavesSince (J.leaves disk.new name bytes) (J.passes begun disk.new name bytes)
+            (length kept))) }
         ensures opened { I.market inputs.new ≡ I.market inputs.old }
         ensures causes { MatchOption result
             (CountsNoFault (J.faults disk.old) (J.faults disk.new)
             (I.faults inputs.old) (I.faults inputs.new) (S.faults out.old) (S.faults out.new))
-            (λ end. HasEndCauses end (J.faults disk.old) (J.faults disk.new)
+            (λ end. HasKeepCauses end (J.faults disk.old) (J.faults disk.new)
             (I.faults inputs.old) (I.faults inputs.new) (S.faults out.old) (S.faults out.new)) }
-        ensures not_usage { IfSome result (λ end. shown end ≢ Status.Usage) }
+        ensures ends { IfSome result EndsRun }
     {
         match self.lines.next(inputs) {
             Next::Line => end_after(self.answer_text(alloc, market, out, disk)),
             Next::Long => end_after(self.answer_long(out, disk)),
-            Next::End => Some(Ending::Told(Status::Done)),
-            Next::ReadFault => Some(Ending::Told(Status::ReadFault)),
-            Next::TooMany => Some(Ending::Told(Status::TooMany)),
+            Next::End => Some(Status::Done),
+            Next::ReadFault => Some(Status::ReadFault),
+            Next::TooMany => Some(Status::TooMany),
         }
     }
 
@@ -402,13 +396,16 @@ impl<J> Conversation<J> {
             (S.written out.old) (S.written out.new) self.old.waiting.bytes self.new.waiting.bytes) }
         ensures front { OnErr result
             (AddsFront (S.written out.old) (S.written out.new) self.old.waiting.bytes) }
-        ensures tells { (name bytes : List ℕ) (least : ℕ) (all : List (List ℕ)) →
-            Holds (J.holds self.old.keeper disk.old name bytes) least all →
+        ensures tells { (begun : D) (name bytes : List ℕ) (first least : ℕ)
+            (all : List (List ℕ)) → HoldsSince (J.holds self.old.keeper disk.old name bytes)
+            (J.passes begun disk.old name bytes) first least all →
             SpeaksAndTells result market.old.market market.old.standing
             (text self.old.lines.line ∷ []) market.new.standing (S.written out.old)
             (S.written out.new) self.old.waiting.bytes self.new.waiting.bytes least all
-            (λ n all. Holds (J.holds self.new.keeper disk.new name bytes) n all)
-            (λ n all. J.leaves disk.new name bytes all n) }
+            (HoldsSince (J.holds self.new.keeper disk.new name bytes)
+            (J.passes begun disk.new name bytes) first)
+            (LeavesSince (J.leaves disk.new name bytes) (J.passes begun disk.new name bytes)
+            first) }
     {
         if is_blank(self.lines.line()) {
             return Ok(());
@@ -440,17 +437,20 @@ impl<J> Conversation<J> {
         ensures waiting { self.new.waiting ≡ self.old.waiting }
         ensures ready { (n : ℕ) → n < 2 ^ 40 → J.is_ready self.old.keeper disk.old n →
             OnOk result (J.is_ready self.new.keeper disk.new (n + 1)) }
-        ensures cause { HasDiskCause (J.faults disk.old) (J.faults disk.new) result }
+        ensures cause { HasCause (J.faults disk.old) (J.faults disk.new) result }
         ensures answered { IsSoundAt market.old.market market.old.standing →
             AreAnswered market.old.market market.old.standing (text self.old.lines.line ∷ [])
             market.new.standing self.new.line.bytes }
-        ensures spoken { (name bytes : List ℕ) (least : ℕ) (all : List (List ℕ)) →
-            Holds (J.holds self.old.keeper disk.old name bytes) least all →
+        ensures spoken { (begun : D) (name bytes : List ℕ) (first least : ℕ)
+            (all : List (List ℕ)) → HoldsSince (J.holds self.old.keeper disk.old name bytes)
+            (J.passes begun disk.old name bytes) first least all →
             AreSpoken market.old.market market.old.standing (text self.old.lines.line ∷ [])
             market.new.standing (λ output records. (self.new.line.bytes ≡ output) ×
             MatchResult result
-            (λ _. Holds (J.holds self.new.keeper disk.new name bytes) least (all ++ records))
-            (λ _. J.leaves disk.new name bytes (all ++ records) least)) }
+            (λ _. HoldsSince (J.holds self.new.keeper disk.new name bytes)
+            (J.passes begun disk.new name bytes) first least (all ++ records))
+            (λ _. LeavesSince (J.leaves disk.new name bytes) (J.passes begun disk.new name bytes)
+            first (all ++ records) least)) }
     {
         let before = market.history().len();
         let words = &mut self.words;
@@ -480,12 +480,16 @@ impl<J> Conversation<J> {
             self.old.waiting.bytes self.new.waiting.bytes) }
         ensures front { OnErr result
             (AddsFront (S.written out.old) (S.written out.new) self.old.waiting.bytes) }
-        ensures tells { (market : Market) (now : Standing) (name bytes : List ℕ) (least : ℕ)
-            (all : List (List ℕ)) → Holds (J.holds self.old.keeper disk.old name bytes) least all →
+        ensures tells { (market : Market) (now : Standing) (begun : D) (name bytes : List ℕ)
+            (first least : ℕ) (all : List (List ℕ)) →
+            HoldsSince (J.holds self.old.keeper disk.old name bytes)
+            (J.passes begun disk.old name bytes) first least all →
             SpeaksAndTells result market now (long ∷ []) now (S.written out.old)
             (S.written out.new) self.old.waiting.bytes self.new.waiting.bytes least all
-            (λ n all. Holds (J.holds self.new.keeper disk.new name bytes) n all)
-            (λ n all. J.leaves disk.new name bytes all n) }
+            (HoldsSince (J.holds self.new.keeper disk.new name bytes)
+            (J.passes begun disk.new name bytes) first)
+            (LeavesSince (J.leaves disk.new name bytes) (J.passes begun disk.new name bytes)
+            first) }
     {
         self.say(&Reply::Refused { why: Refusal::Long }, out, disk)
     }
@@ -504,12 +508,15 @@ impl<J> Conversation<J> {
             self.old.waiting.bytes (reply_line reply.now) self.new.waiting.bytes) }
         ensures front { OnErr result
             (AddsFront (S.written out.old) (S.written out.new) self.old.waiting.bytes) }
-        ensures tells { (name bytes : List ℕ) (least : ℕ) (all : List (List ℕ)) →
-            Holds (J.holds self.old.keeper disk.old name bytes) least all →
+        ensures tells { (begun : D) (name bytes : List ℕ) (first least : ℕ)
+            (all : List (List ℕ)) → HoldsSince (J.holds self.old.keeper disk.old name bytes)
+            (J.passes begun disk.old name bytes) first least all →
             Tells result (S.written out.old) (S.written out.new) self.old.waiting.bytes
             (reply_line reply.now) self.new.waiting.bytes least (length all)
-            (λ n. Holds (J.holds self.new.keeper disk.new name bytes) n all)
-            (λ n. J.leaves disk.new name bytes all n) }
+            (λ n. HoldsSince (J.holds self.new.keeper disk.new name bytes)
+            (J.passes begun disk.new name bytes) first n all)
+            (LeavesSince (J.leaves disk.new name bytes) (J.passes begun disk.new name bytes) first
+            all) }
     {
         print_reply_line(reply, &mut self.line);
         let line = self.line.as_str();
@@ -518,12 +525,12 @@ impl<J> Conversation<J> {
 }
 
 /// The run goes on where a line was answered, and ends where its reply could not be told.
-fn end_after(told: Result<(), TellFault>) -> Option<Ending>
+fn end_after(told: Result<(), TellFault>) -> Option<Status>
     ensures { result ≡ ended_by told }
 {
     match told {
         Ok(()) => None,
-        Err(TellFault::Disk) => Some(Ending::DiskFault),
-        Err(TellFault::Sink) => Some(Ending::Told(Status::WriteFault)),
+        Err(TellFault::Disk) => Some(Status::DiskFault),
+        Err(TellFault::Sink) => Some(Status::WriteFault),
     }
 }

@@ -3,36 +3,35 @@
 ghost use Rattle.std.specs.Prelude.{◌≡◌, ℕ, ◌+◌, ◌-◌, ◌^◌, ◌<◌, ◌≤◌, List, [], ◌∷◌, ◌++◌};
 ghost use Rattle.std.specs.Prelude.{length, take, OnOk, MatchResult};
 ghost use Rattle.mk_disk.specs.Disk.{HasCause};
-ghost use Rattle.mk_journal.specs.Keepers.{Holds};
+ghost use Rattle.mk_session.specs.Left.{LeavesSince};
+ghost use Rattle.mk_session.specs.inner.Keeping.{HoldsSince};
 
-use arrayvec::ArrayVec;
 use mk_disk::DiskFailed;
 use mk_journal::Keeper;
 
 /// Room for the record of any change: a line, LF and the text of a reply.
-pub type RecordBuffer = ArrayVec<u8, 34000>;
+pub type RecordBuffer = [u8; 34000];
 
-/// Puts a line, LF and the text of a reply into `room`, in place of what it held.
-fn put_record(line: &[u8], reply: &[u8], room: &mut ArrayVec<u8, 34000>)
+/// Puts a line, LF and the text of a reply at the front of `room`, and gives their length.
+fn put_record(line: &[u8], reply: &[u8], room: &mut [u8; 34000]) -> usize
     requires line { length line.now ≤ 1024 }
     requires reply { length reply.now < 32768 }
-    ensures { room.new.items ≡ line.now ++ 10 ∷ reply.now }
+    ensures size { result ≡ length line.now + 1 + length reply.now }
+    ensures bytes { take result room.new ≡ line.now ++ 10 ∷ reply.now }
 {
-    room.clear();
-    let Ok(()) = room.try_extend_from_slice(line) else {
-        unreachable!()
-    };
-    room.push(b'\n');
-    let Ok(()) = room.try_extend_from_slice(reply) else {
-        unreachable!()
-    };
+    let size = line.len();
+    let end = size + 1 + reply.len();
+    room[..size].copy_from_slice(line);
+    room[size] = b'\n';
+    room[size + 1..end].copy_from_slice(reply);
+    end
 }
 
 /// Takes the change that a line made, by the printed line of its reply.
 pub fn take_change<D, J: Keeper<D>>(
     line: &[u8],
     printed: &[u8],
-    room: &mut ArrayVec<u8, 34000>,
+    room: &mut [u8; 34000],
     keeper: &mut J,
     disk: &mut D,
 ) -> Result<(), DiskFailed>
@@ -43,13 +42,16 @@ pub fn take_change<D, J: Keeper<D>>(
     ensures ready { (n : ℕ) → n < 2 ^ 40 → J.is_ready keeper.old disk.old n →
         OnOk result (J.is_ready keeper.new disk.new (n + 1)) }
     ensures cause { HasCause (J.faults disk.old) (J.faults disk.new) result }
-    ensures taken { (name market : List ℕ) (least : ℕ) (all : List (List ℕ)) →
-        Holds (J.holds keeper.old disk.old name market) least all →
+    ensures taken { (begun : D) (name market : List ℕ) (first least : ℕ)
+        (all : List (List ℕ)) → HoldsSince (J.holds keeper.old disk.old name market)
+        (J.passes begun disk.old name market) first least all →
         let record_is = line.now ++ 10 ∷ take (length printed.now - 1) printed.now in
         MatchResult result
-        (λ _. Holds (J.holds keeper.new disk.new name market) least (all ++ record_is ∷ []))
-        (λ _. J.leaves disk.new name market (all ++ record_is ∷ []) least) }
+        (λ _. HoldsSince (J.holds keeper.new disk.new name market)
+        (J.passes begun disk.new name market) first least (all ++ record_is ∷ []))
+        (λ _. LeavesSince (J.leaves disk.new name market) (J.passes begun disk.new name market)
+        first (all ++ record_is ∷ []) least) }
 {
-    put_record(line, &printed[..printed.len() - 1], room);
-    keeper.take(disk, room.as_slice())
+    let size = put_record(line, &printed[..printed.len() - 1], room);
+    keeper.take(disk, &room[..size])
 }

@@ -12,10 +12,11 @@ mod quiet;
 mod run;
 mod waiting;
 
+pub use answer::{Kept, serve_from};
 pub use counting::tally;
 pub use counts::{Tally, TallyFault};
 pub use laws::ends_safely;
-pub use market::TreeMarket;
+pub use market::{TreeMarket, open};
 pub use print::{LineBuffer, print_fault_line, print_reply_line};
 pub use quiet::serve_quiet;
-pub use run::{run_market, serve};
+pub use run::{LoadFault, load, refuse, run_market, serve};

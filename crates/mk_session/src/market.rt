@@ -19,7 +19,7 @@ pub type TreeMarket = Market<TreeEngine<SumProd>, TreeEngine<MinProd>>;
 
 /// The market of an accepted file, before any command. Its engines share one plan, since that of a
 /// long chain takes long to make.
-pub(crate) fn open(alloc: Global, file: MarketFile) -> Result<TreeMarket, NoMemory>
+pub fn open(alloc: Global, file: MarketFile) -> Result<TreeMarket, NoMemory>
     requires { IsTreeOf file.net file.tree }
     ensures opened { IfOk result (λ market. market ≡ record {
       market = market_of file;

@@ -1,28 +1,52 @@
 //! The lines of the output: the text of each stands in a buffer of fixed size, and its LF is put
 //! behind.
 
-ghost use Rattle.std.specs.Prelude.{◌≡◌, ◌≢◌};
-ghost use Rattle.mk_file.specs.MarketOf.{market_of};
+ghost use Rattle.std.specs.Prelude.{◌≡◌, ◌≢◌, ◌≤◌, ◌++◌};
+ghost use Rattle.arrayvec.specs.ArrayString.{array_string_len};
 ghost use Rattle.mk_file.specs.declared.fault.FileFault.TheVariants.{Memory};
-ghost use Rattle.mk_session.specs.Texts.{ready_line, reply_line, fault_line};
+ghost use Rattle.mk_session.specs.Texts.{head_of, ready_line, resumed_line};
+ghost use Rattle.mk_session.specs.Texts.{reply_line, fault_line};
 
+use crate::market::TreeMarket;
 use arrayvec::ArrayString;
-use mk_file::{FileFault, MarketFile, print_fault};
+use mk_file::{FileFault, print_fault};
 use mk_reply::{Reply, print_reply};
 use mk_text::put_number;
 
 /// A line of the output, its LF included.
 pub type LineBuffer = ArrayString<32768>;
 
-/// Puts the first line of a run of this file's market into `line`, in place of what it held.
-pub fn print_ready(file: &MarketFile, line: &mut ArrayString<32768>)
-    ensures { line.new.bytes ≡ ready_line (market_of file.now) }
+/// Puts what a run writes before its first reply into `line`, in place of what it held: the ready
+/// line of its market, and how many changes a store gave back, where one did.
+pub fn print_head(market: &TreeMarket, recovered: Option<u64>, line: &mut ArrayString<32768>)
+    ensures { line.new.bytes ≡ head_of market.now.market recovered }
+{
+    print_ready(market, line);
+    if let Some(revision) = recovered {
+        put_resumed(revision, line);
+    }
+}
+
+/// Puts the first line of a run of this market into `line`, in place of what it held.
+fn print_ready(market: &TreeMarket, line: &mut ArrayString<32768>)
+    ensures bytes { line.new.bytes ≡ ready_line market.now.market }
+    ensures short { array_string_len line.new ≤ 128 }
 {
     line.clear();
     line.push_str("ready ");
-    put_number(line, file.net.variables() as u64);
+    put_number(line, market.variables() as u64);
     line.push_str(" ");
-    put_number(line, file.points_per_bit as u64);
+    put_number(line, market.points_per_bit() as u64);
+    line.push_str("\n");
+}
+
+/// Puts the number of changes that a store gave back behind the ready line.
+fn put_resumed(revision: u64, line: &mut ArrayString<32768>)
+    requires { array_string_len line.old ≤ 128 }
+    ensures { line.new.bytes ≡ line.old.bytes ++ resumed_line revision }
+{
+    line.push_str("resumed ");
+    put_number(line, revision);
     line.push_str("\n");
 }
 

@@ -3,7 +3,6 @@
 ghost use Rattle.std.specs.Prelude.{◌≡◌, ◌≢◌, ◌+◌, ◌<◌, ◌≤◌, ℕ, List, [], Some, Ok, Err, Result};
 ghost use Rattle.std.specs.Prelude.{length, ◌⊎◌, IsOk, IfOk, IfErr, MatchResult};
 ghost use Rattle.mk_io.specs.Outside.{Rose, IsAtEnd, CountsFault};
-ghost use Rattle.mk_io.specs.Cutting.{fresh};
 ghost use Rattle.mk_file.specs.File.{file_of};
 ghost use Rattle.mk_tree.specs.Checked.{IsTreeOf};
 ghost use Rattle.mk_file.specs.MarketOf.{market_of};
@@ -13,12 +12,12 @@ ghost use Rattle.mk_rules.specs.Transcript.{opening};
 ghost use Rattle.mk_file.specs.declared.fault.FileFault.{FileFault};
 ghost use Rattle.mk_session.specs.Outcome.{Adds, Ends, Opened, Outcome, IsTurnedAway, HasCauses};
 ghost use Rattle.mk_session.specs.Outcome.{IsRunTo, IsHandedBack, status_of};
-ghost use Rattle.mk_session.specs.Texts.{ready_line};
 ghost use Rattle.mk_session.specs.Complete.{AreWithin};
-ghost use Rattle.mk_session.specs.Opening.{IsTakenWithin, IsReadWithin};
-ghost use Rattle.mk_session.specs.inner.Loading.{opened_part, IsTaken, HasLoadCause};
+ghost use Rattle.mk_session.specs.Opening.{opened_part, IsTakenWithin, IsReadWithin};
+ghost use Rattle.mk_session.specs.Opening.{HasLoadCause};
+ghost use Rattle.mk_session.specs.inner.Loading.{IsTaken};
 
-use crate::answer::Conversation;
+use crate::answer::{Kept, serve_from};
 use crate::market::{TreeMarket, open};
 use crate::print::{LineBuffer, print_fault_line};
 use mk_file::{FileFault, MarketFile, read_market};
@@ -33,7 +32,9 @@ const READ_AT_MOST: usize = 1_048_577;
 /// Why a market file could not be read.
 #[derive(Clone, Copy)]
 pub enum LoadFault {
+    /// The file could not be opened, or a read of it failed.
     Input,
+    /// Memory was wanting.
     Memory,
 }
 
@@ -149,7 +150,7 @@ fn run_bytes<I: Inputs, S: Sink>(
 }
 
 /// Writes the one line of a refused file, unless memory was wanting.
-fn refuse<S: Sink>(fault: FileFault, out: &mut S) -> Status
+pub fn refuse<S: Sink>(fault: FileFault, out: &mut S) -> Status
     ensures output { (given : Result Market FileFault) (all : List ℕ) →
         (fault ≢ FileFault.Memory → given ≡ Err fault) →
         Adds (S.written out.old) (S.written out.new) (Ends result given all all) }
@@ -192,27 +193,22 @@ fn answer_file<I: Inputs, S: Sink>(
     ensures not_done { IfErr result (λ status. status ≢ Status.Done) }
     ensures not_usage { IfErr result (λ status. status ≢ Status.Usage) }
 {
-    let mut conversation = Conversation::new(NoStore);
-    conversation.print_ready(&file);
     match open(alloc, file) {
-        Ok(market) => answer_market(alloc, &mut conversation, market, inputs, out),
+        Ok(market) => answer_market(alloc, market, inputs, out),
         Err(_) => Err(Status::Memory),
     }
 }
 
-/// Answers the commands of an opened market, and hands it back where all are answered.
+/// Answers the commands of an opened market, and hands it back where all are answered. Nothing is
+/// kept.
 fn answer_market<I: Inputs, S: Sink>(
     alloc: Global,
-    conversation: &mut Conversation<NoStore>,
     mut market: TreeMarket,
     inputs: &mut I,
     out: &mut S,
 ) -> Result<TreeMarket, Status>
     requires is_market { IsMarket market.market }
     requires opening { market.standing ≡ opening }
-    requires ready { conversation.old.line.bytes ≡ ready_line market.market }
-    requires unread { conversation.old.lines ≡ fresh }
-    requires none_waits { conversation.old.waiting.bytes ≡ [] }
     ensures outcome { (all : List ℕ) → I.commands inputs.old ≡ Some all →
         MatchResult result
         (λ back. IsHandedBack back (Ok market.market) all (I.commands inputs.new)
@@ -226,7 +222,11 @@ fn answer_market<I: Inputs, S: Sink>(
     ensures not_done { IfErr result (λ status. status ≢ Status.Done) }
     ensures not_usage { IfErr result (λ status. status ≢ Status.Usage) }
 {
-    match answer_opened(alloc, conversation, &mut market, inputs, out) {
+    let keeping = Kept {
+        keeper: NoStore,
+        recovered: None,
+    };
+    match serve_from(alloc, keeping, &mut market, inputs, out, &mut ()) {
         Status::Done => Ok(market),
         status => {
             // The process ends next, also where the ready line could not be written.
@@ -236,39 +236,8 @@ fn answer_market<I: Inputs, S: Sink>(
     }
 }
 
-/// Writes the ready line of an opened market, which was printed last, and answers its commands.
-fn answer_opened<I: Inputs, S: Sink>(
-    alloc: Global,
-    conversation: &mut Conversation<NoStore>,
-    market: &mut TreeMarket,
-    inputs: &mut I,
-    out: &mut S,
-) -> Status
-    requires is_market { IsMarket market.old.market }
-    requires opening { market.old.standing ≡ opening }
-    requires ready { conversation.old.line.bytes ≡ ready_line market.old.market }
-    requires unread { conversation.old.lines ≡ fresh }
-    requires none_waits { conversation.old.waiting.bytes ≡ [] }
-    ensures market { market.new.market ≡ market.old.market }
-    ensures outcome { (all : List ℕ) → I.commands inputs.old ≡ Some all →
-        Opened result (Ok market.old.market) all (I.commands inputs.new)
-        (S.written out.old) (S.written out.new) }
-    ensures done { result ≡ Status.Done → (all : List ℕ) → I.commands inputs.old ≡ Some all →
-        IsRunTo market.old.market market.new.standing all (I.commands inputs.new)
-        (S.written out.old) (S.written out.new) }
-    ensures opened { I.market inputs.new ≡ I.market inputs.old }
-    ensures causes { HasCauses result (I.faults inputs.old) (I.faults inputs.new)
-        (S.faults out.old) (S.faults out.new) }
-    ensures not_usage { result ≢ Status.Usage }
-{
-    match conversation.write_ready(out) {
-        Ok(()) => conversation.answer_lines(alloc, market, inputs, out),
-        Err(_) => Status::WriteFault,
-    }
-}
-
 /// The first bytes of the market file of a name, at most one byte more than a market file may have.
-fn load<I: Inputs>(alloc: Global, name: &str, inputs: &mut I) -> Result<Vec<u8>, LoadFault>
+pub fn load<I: Inputs>(alloc: Global, name: &str, inputs: &mut I) -> Result<Vec<u8>, LoadFault>
     requires { I.admits name.now }
     ensures bytes { IfOk result (λ bytes. (file : List ℕ) → I.file inputs.old name.now ≡ Some file
         → bytes.items ≡ opened_part file) }

@@ -7,9 +7,9 @@ ghost use Rattle.std.specs.Prelude.{OnOk, OnErr};
 ghost use Rattle.arrayvec.specs.ArrayString.{array_string_len};
 ghost use Rattle.mk_io.specs.Outside.{AddsFront, append_known};
 ghost use Rattle.mk_session.specs.inner.Progress.{Gathers, IsReady};
-ghost use Rattle.mk_journal.specs.Keepers.{Holds};
+ghost use Rattle.mk_session.specs.Left.{LeavesSince};
 ghost use Rattle.mk_session.specs.inner.Telling.{HasTellCause};
-ghost use Rattle.mk_session.specs.inner.Keeping.{Tells};
+ghost use Rattle.mk_session.specs.inner.Keeping.{HoldsSince, Tells};
 
 use crate::print::LineBuffer;
 use mk_io::{Lines, Sink, write_all};
@@ -42,12 +42,15 @@ fn write_waiting<D, J: Keeper<D>, S: Sink>(
     ensures none { OnOk result (waiting.new.bytes ≡ []) }
     ensures front { OnErr result
         (AddsFront (S.written out.old) (S.written out.new) waiting.old.bytes) }
-    ensures tells { (name market : List ℕ) (least : ℕ) (all : List (List ℕ)) →
-        Holds (J.holds keeper.old disk.old name market) least all →
+    ensures tells { (begun : D) (name market : List ℕ) (first least : ℕ)
+        (all : List (List ℕ)) → HoldsSince (J.holds keeper.old disk.old name market)
+        (J.passes begun disk.old name market) first least all →
         Tells result (S.written out.old) (S.written out.new) waiting.old.bytes []
         waiting.new.bytes least (length all)
-        (λ n. Holds (J.holds keeper.new disk.new name market) n all)
-        (λ n. J.leaves disk.new name market all n) }
+        (λ n. HoldsSince (J.holds keeper.new disk.new name market)
+        (J.passes begun disk.new name market) first n all)
+        (LeavesSince (J.leaves disk.new name market) (J.passes begun disk.new name market) first
+        all) }
 {
     match keeper.keep(disk) {
         Err(_) => Err(TellFault::Disk),
@@ -80,12 +83,15 @@ fn make_room<D, J: Keeper<D>, S: Sink>(
     ensures room { OnOk result (array_string_len waiting.new + size ≤ 32768) }
     ensures front { OnErr result
         (AddsFront (S.written out.old) (S.written out.new) waiting.old.bytes) }
-    ensures tells { (name market : List ℕ) (least : ℕ) (all : List (List ℕ)) →
-        Holds (J.holds keeper.old disk.old name market) least all →
+    ensures tells { (begun : D) (name market : List ℕ) (first least : ℕ)
+        (all : List (List ℕ)) → HoldsSince (J.holds keeper.old disk.old name market)
+        (J.passes begun disk.old name market) first least all →
         Tells result (S.written out.old) (S.written out.new) waiting.old.bytes []
         waiting.new.bytes least (length all)
-        (λ n. Holds (J.holds keeper.new disk.new name market) n all)
-        (λ n. J.leaves disk.new name market all n) }
+        (λ n. HoldsSince (J.holds keeper.new disk.new name market)
+        (J.passes begun disk.new name market) first n all)
+        (LeavesSince (J.leaves disk.new name market) (J.passes begun disk.new name market) first
+        all) }
 {
     if size <= waiting.remaining_capacity() {
         Ok(())
@@ -113,12 +119,15 @@ pub fn put_line<D, J: Keeper<D>, S: Sink>(
         line.now waiting.new.bytes) }
     ensures front { OnErr result
         (AddsFront (S.written out.old) (S.written out.new) waiting.old.bytes) }
-    ensures tells { (name market : List ℕ) (least : ℕ) (all : List (List ℕ)) →
-        Holds (J.holds keeper.old disk.old name market) least all →
+    ensures tells { (begun : D) (name market : List ℕ) (first least : ℕ)
+        (all : List (List ℕ)) → HoldsSince (J.holds keeper.old disk.old name market)
+        (J.passes begun disk.old name market) first least all →
         Tells result (S.written out.old) (S.written out.new) waiting.old.bytes line.now
         waiting.new.bytes least (length all)
-        (λ n. Holds (J.holds keeper.new disk.new name market) n all)
-        (λ n. J.leaves disk.new name market all n) }
+        (λ n. HoldsSince (J.holds keeper.new disk.new name market)
+        (J.passes begun disk.new name market) first n all)
+        (LeavesSince (J.leaves disk.new name market) (J.passes begun disk.new name market) first
+        all) }
 {
     match make_room(line.len(), waiting, keeper, out, disk) {
         Ok(()) => {
@@ -147,12 +156,15 @@ pub fn write_before_read<D, J: Keeper<D>, S: Sink>(
     ensures none_waits { OnOk result (IsReady lines.now waiting.new.bytes) }
     ensures front { OnErr result
         (AddsFront (S.written out.old) (S.written out.new) waiting.old.bytes) }
-    ensures tells { (name market : List ℕ) (least : ℕ) (all : List (List ℕ)) →
-        Holds (J.holds keeper.old disk.old name market) least all →
+    ensures tells { (begun : D) (name market : List ℕ) (first least : ℕ)
+        (all : List (List ℕ)) → HoldsSince (J.holds keeper.old disk.old name market)
+        (J.passes begun disk.old name market) first least all →
         Tells result (S.written out.old) (S.written out.new) waiting.old.bytes []
         waiting.new.bytes least (length all)
-        (λ n. Holds (J.holds keeper.new disk.new name market) n all)
-        (λ n. J.leaves disk.new name market all n) }
+        (λ n. HoldsSince (J.holds keeper.new disk.new name market)
+        (J.passes begun disk.new name market) first n all)
+        (LeavesSince (J.leaves disk.new name market) (J.passes begun disk.new name market) first
+        all) }
 {
     if lines.holds_line() {
         Ok(())

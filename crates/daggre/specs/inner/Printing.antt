@@ -3,6 +3,7 @@ use Rattle.std.specs.Prelude.{◌≡◌, ℕ, ⊤, List, [], slice_index_or}
 use Rattle.mk_io.specs.declared.status.Status.{Status}
 use Rattle.mk_io.specs.declared.status.Status.TheVariants.{Done, Usage, MarketRefused, ReadFault}
 use Rattle.mk_io.specs.declared.status.Status.TheVariants.{WriteFault, Memory, TooMany}
+use Rattle.mk_io.specs.declared.status.Status.TheVariants.{DiskFault, StoreRefused}
 use Rattle.mk_net.specs.declared.words.PairText.{PairText}
 use Rattle.mk_net.specs.Network.{Variable, sizes}
 use Rattle.mk_net.specs.Named.{variable_at}
@@ -42,3 +43,5 @@ SaysLast Usage market H ask bytes = ⊥
 SaysLast MarketRefused market H ask bytes = ⊥
 SaysLast ReadFault market H ask bytes = ⊥
 SaysLast TooMany market H ask bytes = ⊥
+SaysLast DiskFault market H ask bytes = ⊥
+SaysLast StoreRefused market H ask bytes = ⊥

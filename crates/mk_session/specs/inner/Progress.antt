@@ -8,13 +8,13 @@ use Rattle.mk_io.specs.Stream.{StreamLine, stream_lines, AreWholeLines}
 use Rattle.mk_io.specs.Cutting.{Cutting, HoldsLine, stream_left}
 use Rattle.mk_exact.specs.Market.{Market, network_of}
 use Rattle.mk_exact.specs.Sound.{IsSound}
-use Rattle.mk_rules.specs.Transcript.{Standing, opening}
-use Rattle.mk_rules.specs.Standings.{IsMarket}
+use Rattle.mk_rules.specs.Transcript.{Standing}
 use Rattle.mk_command.specs.declared.command.Command.{Command}
 use Rattle.mk_reply.specs.declared.reply.Reply.{Reply}
 use Rattle.mk_market.specs.Trading.{Trading, IsAnswered}
-use Rattle.mk_session.specs.Texts.{ready_line, reply_line}
-use Rattle.mk_session.specs.Transcript.{AreAnswered}
+use Rattle.mk_session.specs.Texts.{reply_line}
+use Rattle.mk_session.specs.Transcript.{Start, AreAnswered}
+use Rattle.mk_session.specs.Begins.{CanBegin}
 use Rattle.mk_session.specs.Complete.{AreWithin}
 use Rattle.mk_session.specs.Outcome.{Adds, Serves, IsWholeTo}
 
@@ -67,31 +67,42 @@ pub record IsPlaced (all : List ℕ) (cutting : Cutting) (source : Option (List 
   pub spent : cutting.spent ≡ length done
   pub within : AreWithin done
 
--- a market's lines from the opening on are answered, and the answers are written but for the last
--- bytes, which wait
-pub record AreSaid (market : Market) (lines : List StreamLine) (now : Standing)
+-- the lines of a run are answered, and the head and the answers are written but for the last bytes,
+-- which wait
+pub record AreSaid (start : Start) (lines : List StreamLine) (now : Standing)
     (before written : Option (List ℕ)) (waits : List ℕ) : Type 0 where
-  pub is_market : IsMarket market
+  pub begins : CanBegin start.market start.standing
   pub bytes : List ℕ
   pub added : written ≡ append_known before bytes
-  pub holds : AreAnswered market opening lines now (bytes ++ waits)
+  pub answers : List ℕ
+  pub answered : AreAnswered start.market start.standing lines now answers
+  pub printed : bytes ++ waits ≡ start.head ++ answers
 
 -- the lines before the place are answered, and the answers are written but for the last bytes,
 -- which wait
-abbrev pub IsSoFar : Market → List ℕ → Cutting → Option (List ℕ) → Standing → Option (List ℕ)
+abbrev pub IsSoFar : Start → List ℕ → Cutting → Option (List ℕ) → Standing → Option (List ℕ)
     → Option (List ℕ) → List ℕ → Type 0
-IsSoFar market all cutting source now before written waits =
-    IsPlaced all cutting source (λ lines. AreSaid market lines now before written waits)
+IsSoFar start all cutting source now before written waits =
+    IsPlaced all cutting source (λ lines. AreSaid start lines now before written waits)
 
--- the run of an accepted file, which leaves this standing where it is done
-abbrev pub ServesTo : Status → Market → Standing → List ℕ → List ℕ → List ℕ → Type 0
-ServesTo Done market now all rest output = IsWholeTo market now all rest output
-ServesTo status market now all rest output = Serves status market all rest output
+-- before the first line: a market stands as the run begins, all commands are told, and the head is
+-- written
+pub record IsBegun (start : Start) (trading : Trading) (all : List ℕ)
+    (source before written : Option (List ℕ)) : Type 0 where
+  pub market : trading.market ≡ start.market
+  pub standing : trading.standing ≡ start.standing
+  pub begins : CanBegin start.market start.standing
+  pub told : source ≡ Some all
+  pub headed : written ≡ append_known before start.head
 
--- the end of a run whose ready line is written, and the standing that it leaves
-pub record IsEnded (status : Status) (market : Market) (now : Standing) (all : List ℕ)
+-- the run of an opened market, which leaves this standing where it is done
+abbrev pub ServesTo : Status → Start → Standing → List ℕ → List ℕ → List ℕ → Type 0
+ServesTo Done start now all rest output = IsWholeTo start now all rest output
+ServesTo status start now all rest output = Serves status start all rest output
+
+-- the end of a run, and the standing that it leaves
+pub record IsEnded (status : Status) (start : Start) (now : Standing) (all : List ℕ)
     (source before written : Option (List ℕ)) : Type 0 where
   pub rest : List ℕ
   pub told : source ≡ Some rest
-  pub output : Adds before written (λ bytes. ServesTo status market now all rest
-      (ready_line market ++ bytes))
+  pub output : Adds before written (ServesTo status start now all rest)

@@ -1,13 +1,11 @@
--- Where telling what waits fails, and how a run over a keeper ends.
+-- Where telling what waits fails, and how a run ends by it.
 use Rattle.std.specs.Prelude.{◌≡◌, ℕ, Option, Some, None, Result, Ok, Err}
 use Rattle.mk_io.specs.declared.status.Status.{Status}
-use Rattle.mk_io.specs.declared.status.Status.TheVariants.{WriteFault}
+use Rattle.mk_io.specs.declared.status.Status.TheVariants.{WriteFault, DiskFault}
 use Rattle.mk_io.specs.Outside.{CountsFault}
 use Rattle.mk_session.specs.declared.waiting.TellFault.{TellFault}
 use Rattle.mk_session.specs.declared.waiting.TellFault.TheVariants.{Disk, Sink}
-use Rattle.mk_session.specs.declared.answer.Ending.{Ending}
-use Rattle.mk_session.specs.declared.answer.Ending.TheVariants.{Told, DiskFault}
-use Rattle.mk_session.specs.Outcome.{HasCauses, CountsNone}
+use Rattle.mk_session.specs.Outcome.{CountsNone}
 
 -- a fault of the disk or of the sink is counted where it is named, and there is no other
 abbrev pub HasTellCause : {T : Type 0} → Result T TellFault → ℕ → ℕ → ℕ → ℕ → Type 0
@@ -18,22 +16,10 @@ HasTellCause (Err Sink) disk disk_now sink sink_now =
     (disk_now ≡ disk) × CountsFault sink sink_now
 
 -- a run goes on where a line was told of, and ends where it could not be
-abbrev pub ended_by : {T : Type 0} → Result T TellFault → Option Ending
+abbrev pub ended_by : {T : Type 0} → Result T TellFault → Option Status
 ended_by (Ok value) = None
 ended_by (Err Disk) = Some DiskFault
-ended_by (Err Sink) = Some (Told WriteFault)
-
--- what the output shows of an ending: where the disk failed, it is cut off as where the sink did
-abbrev pub shown : Ending → Status
-shown (Told status) = status
-shown DiskFault = WriteFault
-
--- the causes of an ending: those of its status, or a fault of the disk and no other
-abbrev pub HasEndCauses : Ending → ℕ → ℕ → ℕ → ℕ → ℕ → ℕ → Type 0
-HasEndCauses (Told status) disk disk_now inputs inputs_now sink sink_now =
-    (disk_now ≡ disk) × HasCauses status inputs inputs_now sink sink_now
-HasEndCauses DiskFault disk disk_now inputs inputs_now sink sink_now =
-    CountsFault disk disk_now × CountsNone inputs inputs_now sink sink_now
+ended_by (Err Sink) = Some WriteFault
 
 -- no fault was counted, of the disk neither
 abbrev pub CountsNoFault : ℕ → ℕ → ℕ → ℕ → ℕ → ℕ → Type 0

@@ -1,5 +1,4 @@
 use Rattle.std.proofs.Common.{◌+◌, ap, sym, subst, ◌∙◌}
-use Rattle.mk_net.specs.declared.words.Pair.{Pair}
 use Rattle.mk_net.specs.Named.{pair_named}
 use Rattle.daggre.proofs.Knowing.{AreKnown, known_more}
 use Rattle.daggre.proofs.last_line.known.Goals as goal

@@ -1,6 +1,6 @@
 use Rattle.std.proofs.Common.{ℕ, ◌≤◌, length, arith, rules}
 use Rattle.std.proofs.lemmas.List.{length-take}
-use Rattle.mk_session.specs.inner.Loading.{opened_part}
+use Rattle.mk_session.specs.Opening.{opened_part}
 use Rattle.mk_session.proofs.Going.{whole_file, front_of_file, within_of, within_more}
 use Rattle.mk_session.proofs.run.read_opened.Goals as goal
 

@@ -7,6 +7,6 @@ returns-in-Ok-clause-gathers g c = gathers_line _ _ _ _ _ _ c.in-Ok.ensures.gath
     c.push_str.ensures.bytes
 
 pub returns-in-Err-clause-tells : goal.returns-in-Err-clause-tells
-returns-in-Err-clause-tells g c = λ name market least all held.
+returns-in-Err-clause-tells g c = λ begun name market first least all held.
     fails_alike (Unit {0}) (Unit {0}) c.in-Err.fault _ _ _ _ _ _ _ _ _ _ _ _
-    (c.in-Err.ensures.tells name market least all held)
+    (c.in-Err.ensures.tells begun name market first least all held)

@@ -1,6 +1,7 @@
 use Rattle.std.proofs.Common.{[], ◌∷◌, refl}
 use Rattle.mk_io.specs.Stream.{long}
-use Rattle.mk_journal.specs.Keepers.{Holds}
+use Rattle.mk_session.specs.Left.{LeavesSince}
+use Rattle.mk_session.specs.inner.Keeping.{HoldsSince}
 use Rattle.mk_reply.specs.declared.reply.Reply.TheVariants.{Refused}
 use Rattle.mk_reply.specs.declared.refusal.Refusal.TheVariants.{Long}
 use Rattle.mk_rules.specs.Transcript.{LongLine}
@@ -17,10 +18,12 @@ returns-clause-answered g c = λ market now.
     (one_replied market now long LongLine (Refused Long) refl tt refl)) c.say.ensures.gathers
 
 pub returns-clause-tells : goal.returns-clause-tells
-returns-clause-tells g c = λ market now name bytes least all held.
+returns-clause-tells g c = λ market now begun name bytes first least all held.
     long_tells c.say.result market (g.S.Sink.written c.args.out.now)
     (g.S.Sink.written c.say.new.out) c.args.self.now.waiting.bytes c.say.new.self.waiting.bytes
     least all
-    (λ n all. Holds (g.J.Keeper.holds c.say.new.self.keeper c.say.new.disk name bytes) n all)
-    (λ n all. g.J.Keeper.leaves c.say.new.disk name bytes all n) now
-    (c.say.ensures.tells name bytes least all held)
+    (HoldsSince (g.J.Keeper.holds c.say.new.self.keeper c.say.new.disk name bytes)
+    (g.J.Keeper.passes begun c.say.new.disk name bytes) first)
+    (LeavesSince (g.J.Keeper.leaves c.say.new.disk name bytes)
+    (g.J.Keeper.passes begun c.say.new.disk name bytes) first) now
+    (c.say.ensures.tells begun name bytes first least all held)

@@ -1,13 +1,14 @@
-use Rattle.std.proofs.Common.{◌++◌, length, refl}
+use Rattle.std.proofs.Common.{refl, length}
 use Rattle.mk_io.specs.Stream.{text, long}
 use Rattle.mk_io.specs.declared.lines.Next.TheVariants.{Line, Long, End, ReadFault, TooMany}
 use Rattle.mk_session.proofs.Endings.{ended_done, ended_read_fault, ended_too_many, goes_on_after}
 use Rattle.mk_session.proofs.Endings.{breaks_after, causes_after, fresh_answer, none_stays}
 use Rattle.mk_session.proofs.Endings.{stays_at_end, none_left, steady, risen}
 use Rattle.mk_session.proofs.Gathering.{none_waits}
-use Rattle.mk_journal.specs.Keepers.{Holds}
+use Rattle.mk_session.specs.Left.{LeavesSince}
+use Rattle.mk_session.specs.inner.Keeping.{HoldsSince}
 use Rattle.mk_session.proofs.Spoken.{left_as_held}
-use Rattle.mk_session.proofs.Turns.{kept_after, kept_now, fewer_kept}
+use Rattle.mk_session.proofs.Turns.{kept_after, kept_now}
 use Rattle.mk_session.proofs.answer.Conversation.answer_next.Goals as goal
 
 pub returns-in-Line-clause-so_far : goal.returns-in-Line-clause-so_far
@@ -97,14 +98,14 @@ returns-in-Long-clause-causes g c =
     c.answer_long.ensures.cause
 
 pub returns-in-End-clause-ended : goal.returns-in-End-clause-ended
-returns-in-End-clause-ended g c = λ all before far.
+returns-in-End-clause-ended g c = λ start all before here far.
     let stays = stays_at_end c.args.self.now.lines c.next.new.self
     (g.I.Inputs.commands c.args.inputs.now) (g.I.Inputs.commands c.next.new.inputs)
     c.requires.goes_on c.in-End.ensures.answer in
     let empty = none_left c.args.self.now.lines c.next.new.self
     (g.I.Inputs.commands c.args.inputs.now) (g.I.Inputs.commands c.next.new.inputs) far.done
     far.left c.requires.goes_on c.in-End.ensures.answer far.known far.between in
-    ended_done c.args.market.now.market all c.args.self.now.lines c.next.new.self
+    ended_done start all c.args.self.now.lines c.next.new.self
     (g.I.Inputs.commands c.args.inputs.now) (g.I.Inputs.commands c.next.new.inputs)
     c.args.market.now.standing before (g.S.Sink.written c.args.out.now)
     (g.S.Sink.written c.args.out.now) c.args.self.now.waiting.bytes
@@ -129,7 +130,7 @@ returns-in-TooMany-clause-ended g c =
     let over = fresh_answer TooMany c.args.self.now.lines c.next.new.self
     (g.I.Inputs.commands c.args.inputs.now) (g.I.Inputs.commands c.next.new.inputs) none
     c.in-TooMany.ensures.answer in
-    λ all before far. ended_too_many c.args.market.now.market all c.args.self.now.lines
+    λ start all before here far. ended_too_many start all c.args.self.now.lines
     c.next.new.self (g.I.Inputs.commands c.args.inputs.now)
     (g.I.Inputs.commands c.next.new.inputs)
     c.args.market.now.standing before (g.S.Sink.written c.args.out.now)
@@ -155,7 +156,7 @@ returns-in-ReadFault-clause-ended g c =
     let stops = fresh_answer ReadFault c.args.self.now.lines c.next.new.self
     (g.I.Inputs.commands c.args.inputs.now) (g.I.Inputs.commands c.next.new.inputs) none
     c.in-ReadFault.ensures.answer in
-    λ all before far. ended_read_fault c.args.market.now.market all c.args.self.now.lines
+    λ start all before here far. ended_read_fault start all c.args.self.now.lines
     c.next.new.self (g.I.Inputs.commands c.args.inputs.now)
     (g.I.Inputs.commands c.next.new.inputs)
     c.args.market.now.standing before (g.S.Sink.written c.args.out.now)
@@ -177,88 +178,98 @@ returns-in-ReadFault-clause-causes g c =
     )
 
 pub returns-in-Line-clause-kept : goal.returns-in-Line-clause-kept
-returns-in-Line-clause-kept g c = λ name bytes all before kept waiting far.
+returns-in-Line-clause-kept g c = λ start begun name bytes all before kept here far.
     let none = none_stays Line c.args.self.now.lines c.next.new.self
     (g.I.Inputs.commands c.args.inputs.now) (g.I.Inputs.commands c.next.new.inputs) (λ e. (cc))
     c.requires.goes_on c.in-Line.ensures.answer in
     let gives = fresh_answer Line c.args.self.now.lines c.next.new.self
     (g.I.Inputs.commands c.args.inputs.now) (g.I.Inputs.commands c.next.new.inputs) none
     c.in-Line.ensures.answer in
-    kept_after c.answer_text.result c.end_after.result c.args.market.now.market
+    kept_after c.answer_text.result c.end_after.result start c.args.market.now.market
     (text c.next.new.self.line) c.args.self.now.lines c.next.new.self
     c.answer_text.new.self.lines all
     (g.I.Inputs.commands c.args.inputs.now) (g.I.Inputs.commands c.next.new.inputs) before
     (g.S.Sink.written c.args.out.now) (g.S.Sink.written c.answer_text.new.out)
     c.args.market.now.standing c.answer_text.new.market.standing
-    c.args.self.now.waiting.bytes c.answer_text.new.self.waiting.bytes (length kept)
-    (kept ++ waiting)
+    c.args.self.now.waiting.bytes c.answer_text.new.self.waiting.bytes kept
     c.end_after.ensures c.answer_text.ensures.lines none c.next.ensures.within gives
-    (fewer_kept kept waiting)
-    (λ n all. Holds (g.J.Keeper.holds c.args.self.now.keeper c.args.disk.now name bytes) n all)
-    (λ n all. Holds (g.J.Keeper.holds c.answer_text.new.self.keeper c.answer_text.new.disk name
-    bytes) n all)
-    (λ n all. g.J.Keeper.leaves c.answer_text.new.disk name bytes all n)
-    (c.answer_text.ensures.tells name bytes) far
+    (HoldsSince (g.J.Keeper.holds c.args.self.now.keeper c.args.disk.now name bytes)
+    (g.J.Keeper.passes begun c.args.disk.now name bytes) (length kept))
+    (HoldsSince (g.J.Keeper.holds c.answer_text.new.self.keeper c.answer_text.new.disk name bytes)
+    (g.J.Keeper.passes begun c.answer_text.new.disk name bytes) (length kept))
+    (LeavesSince (g.J.Keeper.leaves c.answer_text.new.disk name bytes)
+    (g.J.Keeper.passes begun c.answer_text.new.disk name bytes) (length kept))
+    (c.answer_text.ensures.tells begun name bytes (length kept)) here far
 
 pub returns-in-Long-clause-kept : goal.returns-in-Long-clause-kept
-returns-in-Long-clause-kept g c = λ name bytes all before kept waiting far.
+returns-in-Long-clause-kept g c = λ start begun name bytes all before kept here far.
     let none = none_stays Long c.args.self.now.lines c.next.new.self
     (g.I.Inputs.commands c.args.inputs.now) (g.I.Inputs.commands c.next.new.inputs) (λ e. (cc))
     c.requires.goes_on c.in-Long.ensures.answer in
     let gives = fresh_answer Long c.args.self.now.lines c.next.new.self
     (g.I.Inputs.commands c.args.inputs.now) (g.I.Inputs.commands c.next.new.inputs) none
     c.in-Long.ensures.answer in
-    kept_after c.answer_long.result c.end_after-in-Long.result c.args.market.now.market
+    kept_after c.answer_long.result c.end_after-in-Long.result start c.args.market.now.market
     long c.args.self.now.lines c.next.new.self
     c.answer_long.new.self.lines all
     (g.I.Inputs.commands c.args.inputs.now) (g.I.Inputs.commands c.next.new.inputs) before
     (g.S.Sink.written c.args.out.now) (g.S.Sink.written c.answer_long.new.out)
     c.args.market.now.standing c.args.market.now.standing
-    c.args.self.now.waiting.bytes c.answer_long.new.self.waiting.bytes (length kept)
-    (kept ++ waiting)
+    c.args.self.now.waiting.bytes c.answer_long.new.self.waiting.bytes kept
     c.end_after-in-Long.ensures c.answer_long.ensures.lines none c.next.ensures.within gives.0
-    (fewer_kept kept waiting)
-    (λ n all. Holds (g.J.Keeper.holds c.args.self.now.keeper c.args.disk.now name bytes) n all)
-    (λ n all. Holds (g.J.Keeper.holds c.answer_long.new.self.keeper c.answer_long.new.disk name
-    bytes) n all)
-    (λ n all. g.J.Keeper.leaves c.answer_long.new.disk name bytes all n)
-    (c.answer_long.ensures.tells c.args.market.now.market c.args.market.now.standing name bytes) far
+    (HoldsSince (g.J.Keeper.holds c.args.self.now.keeper c.args.disk.now name bytes)
+    (g.J.Keeper.passes begun c.args.disk.now name bytes) (length kept))
+    (HoldsSince (g.J.Keeper.holds c.answer_long.new.self.keeper c.answer_long.new.disk name bytes)
+    (g.J.Keeper.passes begun c.answer_long.new.disk name bytes) (length kept))
+    (LeavesSince (g.J.Keeper.leaves c.answer_long.new.disk name bytes)
+    (g.J.Keeper.passes begun c.answer_long.new.disk name bytes) (length kept))
+    (c.answer_long.ensures.tells c.args.market.now.market c.args.market.now.standing begun name
+    bytes (length kept)) here far
 
 pub returns-in-End-clause-kept : goal.returns-in-End-clause-kept
-returns-in-End-clause-kept g c = λ name bytes all before kept waiting far.
-    kept_now c.args.market.now.market c.args.self.now.lines all
+returns-in-End-clause-kept g c = λ start begun name bytes all before kept here far.
+    kept_now start c.args.self.now.lines all
     (g.I.Inputs.commands c.args.inputs.now) before (g.S.Sink.written c.args.out.now)
-    c.args.market.now.standing c.args.self.now.waiting.bytes (length kept)
-    (kept ++ waiting)
-    (λ n all. Holds (g.J.Keeper.holds c.args.self.now.keeper c.args.disk.now name bytes) n all)
-    (λ n all. g.J.Keeper.leaves c.args.disk.now name bytes all n)
+    c.args.market.now.standing c.args.self.now.waiting.bytes kept
+    (HoldsSince (g.J.Keeper.holds c.args.self.now.keeper c.args.disk.now name bytes)
+    (g.J.Keeper.passes begun c.args.disk.now name bytes) (length kept))
+    (LeavesSince (g.J.Keeper.leaves c.args.disk.now name bytes)
+    (g.J.Keeper.passes begun c.args.disk.now name bytes) (length kept))
     (λ n all held. left_as_held (g.J.Keeper.holds c.args.self.now.keeper c.args.disk.now name bytes)
     (g.J.Keeper.leaves c.args.disk.now name bytes)
+    (g.J.Keeper.passes begun c.args.disk.now name bytes)
     (g.met.J.Keeper.fewer_are_left c.args.disk.now name bytes)
-    (g.met.J.Keeper.held_is_left c.args.self.now.keeper c.args.disk.now name bytes) n all held) far
+    (g.met.J.Keeper.held_is_left c.args.self.now.keeper c.args.disk.now name bytes) (length kept) n
+    all held) far
 
 pub returns-in-TooMany-clause-kept : goal.returns-in-TooMany-clause-kept
-returns-in-TooMany-clause-kept g c = λ name bytes all before kept waiting far.
-    kept_now c.args.market.now.market c.args.self.now.lines all
+returns-in-TooMany-clause-kept g c = λ start begun name bytes all before kept here far.
+    kept_now start c.args.self.now.lines all
     (g.I.Inputs.commands c.args.inputs.now) before (g.S.Sink.written c.args.out.now)
-    c.args.market.now.standing c.args.self.now.waiting.bytes (length kept)
-    (kept ++ waiting)
-    (λ n all. Holds (g.J.Keeper.holds c.args.self.now.keeper c.args.disk.now name bytes) n all)
-    (λ n all. g.J.Keeper.leaves c.args.disk.now name bytes all n)
+    c.args.market.now.standing c.args.self.now.waiting.bytes kept
+    (HoldsSince (g.J.Keeper.holds c.args.self.now.keeper c.args.disk.now name bytes)
+    (g.J.Keeper.passes begun c.args.disk.now name bytes) (length kept))
+    (LeavesSince (g.J.Keeper.leaves c.args.disk.now name bytes)
+    (g.J.Keeper.passes begun c.args.disk.now name bytes) (length kept))
     (λ n all held. left_as_held (g.J.Keeper.holds c.args.self.now.keeper c.args.disk.now name bytes)
     (g.J.Keeper.leaves c.args.disk.now name bytes)
+    (g.J.Keeper.passes begun c.args.disk.now name bytes)
     (g.met.J.Keeper.fewer_are_left c.args.disk.now name bytes)
-    (g.met.J.Keeper.held_is_left c.args.self.now.keeper c.args.disk.now name bytes) n all held) far
+    (g.met.J.Keeper.held_is_left c.args.self.now.keeper c.args.disk.now name bytes) (length kept) n
+    all held) far
 
 pub returns-in-ReadFault-clause-kept : goal.returns-in-ReadFault-clause-kept
-returns-in-ReadFault-clause-kept g c = λ name bytes all before kept waiting far.
-    kept_now c.args.market.now.market c.args.self.now.lines all
+returns-in-ReadFault-clause-kept g c = λ start begun name bytes all before kept here far.
+    kept_now start c.args.self.now.lines all
     (g.I.Inputs.commands c.args.inputs.now) before (g.S.Sink.written c.args.out.now)
-    c.args.market.now.standing c.args.self.now.waiting.bytes (length kept)
-    (kept ++ waiting)
-    (λ n all. Holds (g.J.Keeper.holds c.args.self.now.keeper c.args.disk.now name bytes) n all)
-    (λ n all. g.J.Keeper.leaves c.args.disk.now name bytes all n)
+    c.args.market.now.standing c.args.self.now.waiting.bytes kept
+    (HoldsSince (g.J.Keeper.holds c.args.self.now.keeper c.args.disk.now name bytes)
+    (g.J.Keeper.passes begun c.args.disk.now name bytes) (length kept))
+    (LeavesSince (g.J.Keeper.leaves c.args.disk.now name bytes)
+    (g.J.Keeper.passes begun c.args.disk.now name bytes) (length kept))
     (λ n all held. left_as_held (g.J.Keeper.holds c.args.self.now.keeper c.args.disk.now name bytes)
     (g.J.Keeper.leaves c.args.disk.now name bytes)
+    (g.J.Keeper.passes begun c.args.disk.now name bytes)
     (g.met.J.Keeper.fewer_are_left c.args.disk.now name bytes)
-    (g.met.J.Keeper.held_is_left c.args.self.now.keeper c.args.disk.now name bytes) n all held) far
+    (g.met.J.Keeper.held_is_left c.args.self.now.keeper c.args.disk.now name bytes) (length kept) n
+    all held) far

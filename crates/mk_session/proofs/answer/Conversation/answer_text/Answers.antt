@@ -2,7 +2,8 @@ use Rattle.std.proofs.Common.{◌≡◌, ◌==◌, ℕ, List, [], ◌∷◌, tru
 use Rattle.std.proofs.Common.{inl, OnOk}
 use Rattle.std.proofs.lemmas.List.{append-nil}
 use Rattle.arrayvec.specs.ArrayString.{ArrayString}
-use Rattle.mk_journal.specs.Keepers.{Holds}
+use Rattle.mk_session.specs.Left.{LeavesSince}
+use Rattle.mk_session.specs.inner.Keeping.{HoldsSince}
 use Rattle.mk_session.specs.inner.Progress.{Gathers}
 use Rattle.mk_session.proofs.Spoken.{blank_spoken, text_tells, untaken}
 use Rattle.std.specs.List.{list_all}
@@ -38,7 +39,7 @@ returns-in-Ok-clause-answered g c =
     c.put_line.new.waiting.bytes)) c.in-Ok.ensures.waiting c.put_line.ensures.gathers)
 
 pub returns-then-is_blank-clause-tells : goal.returns-then-is_blank-clause-tells
-returns-then-is_blank-clause-tells g c = λ name bytes least all held.
+returns-then-is_blank-clause-tells g c = λ begun name bytes first least all held.
     let m = c.args.market.now in
     let line = c.args.self.now.lines.line in
     let blank : list_all (λ b. b == 32) line ≡ true = ap (λ (l : List ℕ). list_all (λ b. b == 32) l)
@@ -47,33 +48,38 @@ returns-then-is_blank-clause-tells g c = λ name bytes least all held.
     (inl (
       refl,
       sym (append-nil c.args.self.now.waiting.bytes),
-      subst (λ (l : List (List ℕ)). Holds (g.J.Keeper.holds c.args.self.now.keeper c.args.disk.now
-          name bytes) least l) (sym (append-nil all)) held,
+      subst (λ (l : List (List ℕ)). HoldsSince (g.J.Keeper.holds c.args.self.now.keeper
+          c.args.disk.now name bytes) (g.J.Keeper.passes begun c.args.disk.now name bytes) first
+          least l) (sym (append-nil all)) held,
     ))
 
 pub returns-in-Ok-clause-tells : goal.returns-in-Ok-clause-tells
-returns-in-Ok-clause-tells g c = λ name bytes least all held.
+returns-in-Ok-clause-tells g c = λ begun name bytes first least all held.
     text_tells c.put_line.result c.args.market.now.market (g.S.Sink.written c.args.out.now)
     (g.S.Sink.written c.put_line.new.out) c.args.self.now.waiting.bytes
     c.put_line.new.waiting.bytes least all
-    (λ n all. Holds (g.J.Keeper.holds c.put_line.new.keeper c.put_line.new.disk name bytes) n all)
-    (λ n all. g.J.Keeper.leaves c.put_line.new.disk name bytes all n)
+    (HoldsSince (g.J.Keeper.holds c.put_line.new.keeper c.put_line.new.disk name bytes)
+    (g.J.Keeper.passes begun c.put_line.new.disk name bytes) first)
+    (LeavesSince (g.J.Keeper.leaves c.put_line.new.disk name bytes)
+    (g.J.Keeper.passes begun c.put_line.new.disk name bytes) first)
     c.args.market.now.standing c.make_answer.new.market.standing
     (text c.args.self.now.lines.line ∷ []) c.make_answer.new.self.line.bytes
     c.as_str-line.result.now c.make_answer.new.self.waiting.bytes
-    (λ all. Holds (g.J.Keeper.holds c.make_answer.new.self.keeper c.make_answer.new.disk name bytes)
-    least all) c.as_str-line.ensures.value
+    (HoldsSince (g.J.Keeper.holds c.make_answer.new.self.keeper c.make_answer.new.disk name bytes)
+    (g.J.Keeper.passes begun c.make_answer.new.disk name bytes) first least)
+    c.as_str-line.ensures.value
     (ap (λ (w : ArrayString). w.bytes) c.in-Ok.ensures.waiting)
-    (λ all is. c.put_line.ensures.tells name bytes least all is)
-    (c.in-Ok.ensures.spoken name bytes least all held)
+    (λ all is. c.put_line.ensures.tells begun name bytes first least all is)
+    (c.in-Ok.ensures.spoken begun name bytes first least all held)
 
 pub returns-in-Err-clause-tells : goal.returns-in-Err-clause-tells
-returns-in-Err-clause-tells g c = λ name bytes least all held.
+returns-in-Err-clause-tells g c = λ begun name bytes first least all held.
     untaken c.args.market.now.market c.args.market.now.standing
     c.make_answer.new.market.standing (text c.args.self.now.lines.line ∷ [])
     (g.S.Sink.written c.args.out.now) c.args.self.now.waiting.bytes
     c.make_answer.new.self.waiting.bytes c.make_answer.new.self.line.bytes least all
-    (λ n all. Holds (g.J.Keeper.holds c.make_answer.new.self.keeper c.make_answer.new.disk name
-    bytes) n all)
-    (λ n all. g.J.Keeper.leaves c.make_answer.new.disk name bytes all n)
-    (c.in-Err.ensures.spoken name bytes least all held)
+    (HoldsSince (g.J.Keeper.holds c.make_answer.new.self.keeper c.make_answer.new.disk name
+    bytes) (g.J.Keeper.passes begun c.make_answer.new.disk name bytes) first)
+    (LeavesSince (g.J.Keeper.leaves c.make_answer.new.disk name bytes)
+    (g.J.Keeper.passes begun c.make_answer.new.disk name bytes) first)
+    (c.in-Err.ensures.spoken begun name bytes first least all held)

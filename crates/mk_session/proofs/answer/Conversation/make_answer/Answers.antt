@@ -2,12 +2,12 @@ use Rattle.std.proofs.Common.{◌≡◌, ℕ, List, [], ◌∷◌, ◌++◌, len
 use Rattle.std.proofs.Common.{ap, ap₂, subst, ◌∙◌, MatchResult, true}
 use Rattle.std.proofs.lemmas.List.{append-nil, length-map}
 use Rattle.mk_io.specs.Stream.{text, is_not_blank}
-use Rattle.mk_journal.specs.Keepers.{Holds}
 use Rattle.mk_exact.specs.History.{Entry}
 use Rattle.mk_record.specs.Entries.{change_of as entry_of_record}
 use Rattle.mk_restore.specs.Restoring.{change_of}
-use Rattle.mk_session.specs.inner.Keeping.{records_of, IsSpoken}
-use Rattle.mk_session.proofs.Spoken.{answered_when_spoken, one_spoken, spared, no_change}
+use Rattle.mk_session.specs.Left.{records_of, LeavesSince}
+use Rattle.mk_session.specs.inner.Keeping.{IsSpoken, HoldsSince}
+use Rattle.mk_session.proofs.Spoken.{answered_when_spoken, one_spoken, spared_since, no_change}
 use Rattle.mk_session.proofs.Spoken.{one_record, text_of_line}
 use Rattle.mk_session.proofs.answer.Conversation.make_answer.Goals as goal
 
@@ -48,7 +48,7 @@ returns-else-keeps-clause-answered g c =
     answered_when_spoken m.market m.standing (text line) new printed busy spoken
 
 pub returns-else-keeps-clause-spoken : goal.returns-else-keeps-clause-spoken
-returns-else-keeps-clause-spoken g c = λ name bytes least all held.
+returns-else-keeps-clause-spoken g c = λ begun name bytes first least all held.
     let m = c.args.market.now in
     let line = c.args.self.now.lines.line in
     let new = c.print_answer.new.market.standing in
@@ -58,16 +58,19 @@ returns-else-keeps-clause-spoken g c = λ name bytes least all held.
     subst (λ (l : List ℕ). IsSpoken m.market m.standing (text l) new printed) c.line.ensures
     c.print_answer.ensures.spoken in
     let holds = g.J.Keeper.holds c.args.self.now.keeper c.args.disk.now name bytes in
+    let passes = g.J.Keeper.passes begun c.args.disk.now name bytes in
     let records = records_of (change_of m.market m.standing.history spoken.asked spoken.reply) in
     one_spoken m.market m.standing (text line) new printed busy spoken
-    (λ output records. (printed ≡ output) × Holds holds least (all ++ records)) (
+    (λ output records. (printed ≡ output) × HoldsSince holds passes first least (all ++ records)) (
       refl,
-      spared holds (λ change kept waiting h. c.keeps.ensures c.if-keeps.false c.args.disk.now
-          name bytes change kept waiting h) least all records held,
+      spared_since holds passes (λ change kept waiting h. c.keeps.ensures c.if-keeps.false
+          c.args.disk.now name bytes change kept waiting h)
+          (g.met.J.Keeper.fewer_pass begun c.args.disk.now name bytes) first least all records
+          held,
     )
 
 pub returns-else-history-before-clause-spoken : goal.returns-else-history-before-clause-spoken
-returns-else-history-before-clause-spoken g c = λ name bytes least all held.
+returns-else-history-before-clause-spoken g c = λ begun name bytes first least all held.
     let m = c.args.market.now in
     let line = c.args.self.now.lines.line in
     let new = c.print_answer.new.market.standing in
@@ -83,17 +86,19 @@ returns-else-history-before-clause-spoken g c = λ name bytes least all held.
     sym (length-map c.history.result.now entry_of_record)
     ∙ ap (λ (l : List Entry). length l) c.history.ensures.same in
     let holds = g.J.Keeper.holds c.args.self.now.keeper c.args.disk.now name bytes in
+    let passes = g.J.Keeper.passes begun c.args.disk.now name bytes in
     let none = ap records_of (no_change m.market m.standing new spoken.asked spoken.reply
     spoken.next (sym is ∙ c.if-history-before.false ∙ was)) in
     one_spoken m.market m.standing (text line) new printed busy spoken
-    (λ output records. (printed ≡ output) × Holds holds least (all ++ records)) (
+    (λ output records. (printed ≡ output) × HoldsSince holds passes first least (all ++ records)) (
       refl,
-      subst (λ (rs : List (List ℕ)). Holds holds least (all ++ rs)) (sym none)
-          (subst (λ (l : List (List ℕ)). Holds holds least l) (sym (append-nil all)) held),
+      subst (λ (rs : List (List ℕ)). HoldsSince holds passes first least (all ++ rs)) (sym none)
+          (subst (λ (l : List (List ℕ)). HoldsSince holds passes first least l)
+          (sym (append-nil all)) held),
     )
 
 pub returns-then-history-before-clause-spoken : goal.returns-then-history-before-clause-spoken
-returns-then-history-before-clause-spoken g c = λ name bytes least all held.
+returns-then-history-before-clause-spoken g c = λ begun name bytes first least all held.
     let m = c.args.market.now in
     let line = c.args.self.now.lines.line in
     let new = c.print_answer.new.market.standing in
@@ -110,6 +115,7 @@ returns-then-history-before-clause-spoken g c = λ name bytes least all held.
     ∙ ap (λ (l : List Entry). length l) c.history.ensures.same in
     let holds = g.J.Keeper.holds c.take_change.new.keeper c.take_change.new.disk name bytes in
     let leaves = g.J.Keeper.leaves c.take_change.new.disk name bytes in
+    let passes = g.J.Keeper.passes begun c.take_change.new.disk name bytes in
     let said = c.take_change.result in
     let one = one_record m.market m.standing new line spoken.asked spoken.reply spoken.asks
     spoken.next (λ same. c.if-history-before.true (is ∙ same ∙ sym was)) in
@@ -118,9 +124,11 @@ returns-then-history-before-clause-spoken g c = λ name bytes least all held.
     let same = ap₂ (λ (l t : List ℕ). (l ++ 10 ∷ t) ∷ []) c.line-line.ensures text_is ∙ sym one in
     one_spoken m.market m.standing (text line) new printed busy spoken
     (λ output records. (printed ≡ output) × MatchResult said
-    (λ _. Holds holds least (all ++ records)) (λ _. leaves (all ++ records) least)) (
+    (λ _. HoldsSince holds passes first least (all ++ records))
+    (λ _. LeavesSince leaves passes first (all ++ records) least)) (
       refl,
       subst (λ (rs : List (List ℕ)). MatchResult said
-          (λ _. Holds holds least (all ++ rs)) (λ _. leaves (all ++ rs) least)) same
-          (c.take_change.ensures.taken name bytes least all held),
+          (λ _. HoldsSince holds passes first least (all ++ rs))
+          (λ _. LeavesSince leaves passes first (all ++ rs) least)) same
+          (c.take_change.ensures.taken begun name bytes first least all held),
     )

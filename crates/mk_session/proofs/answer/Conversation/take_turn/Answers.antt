@@ -1,8 +1,9 @@
-use Rattle.std.proofs.Common.{◌++◌, length, refl}
+use Rattle.std.proofs.Common.{refl, length}
 use Rattle.mk_session.proofs.Endings.{goes_on_from, ends_from, causes_from, breaks_off}
 use Rattle.mk_session.proofs.Endings.{causes_after}
-use Rattle.mk_journal.specs.Keepers.{Holds}
-use Rattle.mk_session.proofs.Turns.{held_from, kept_from, fewer_kept}
+use Rattle.mk_session.specs.Left.{LeavesSince}
+use Rattle.mk_session.specs.inner.Keeping.{HoldsSince}
+use Rattle.mk_session.proofs.Turns.{held_from, kept_from}
 use Rattle.mk_session.proofs.answer.Conversation.take_turn.Goals as goal
 
 pub returns-in-Ok-clause-so_far : goal.returns-in-Ok-clause-so_far
@@ -54,29 +55,34 @@ returns-in-Err-clause-causes g c =
     c.end_after.ensures refl c.write_before_read-told.ensures.cause
 
 pub returns-in-Ok-clause-kept : goal.returns-in-Ok-clause-kept
-returns-in-Ok-clause-kept g c = λ name bytes all before kept waiting far.
-    c.answer_next.ensures.kept name bytes all before kept waiting
-    (held_from c.args.market.now.market c.args.self.now.lines all
+returns-in-Ok-clause-kept g c = λ start begun name bytes all before kept here far.
+    c.answer_next.ensures.kept start begun name bytes all before kept here
+    (held_from start c.args.self.now.lines all
     (g.I.Inputs.commands c.args.inputs.now) before (g.S.Sink.written c.args.out.now)
     (g.S.Sink.written c.write_before_read-told.new.out) c.args.market.now.standing
-    c.args.self.now.waiting.bytes c.write_before_read-told.new.waiting.bytes (length kept)
-    (kept ++ waiting) (fewer_kept kept waiting)
-    (λ n all. Holds (g.J.Keeper.holds c.args.self.now.keeper c.args.disk.now name bytes) n all)
-    (λ n all. Holds (g.J.Keeper.holds c.write_before_read-told.new.keeper
-    c.write_before_read-told.new.disk name bytes) n all)
-    (λ n all. g.J.Keeper.leaves c.write_before_read-told.new.disk name bytes all n)
-    (c.in-Ok.ensures.tells name bytes) far)
+    c.args.self.now.waiting.bytes c.write_before_read-told.new.waiting.bytes kept
+    (HoldsSince (g.J.Keeper.holds c.args.self.now.keeper c.args.disk.now name bytes)
+    (g.J.Keeper.passes begun c.args.disk.now name bytes) (length kept))
+    (HoldsSince (g.J.Keeper.holds c.write_before_read-told.new.keeper
+    c.write_before_read-told.new.disk name bytes)
+    (g.J.Keeper.passes begun c.write_before_read-told.new.disk name bytes) (length kept))
+    (LeavesSince (g.J.Keeper.leaves c.write_before_read-told.new.disk name bytes)
+    (g.J.Keeper.passes begun c.write_before_read-told.new.disk name bytes) (length kept))
+    (c.in-Ok.ensures.tells begun name bytes (length kept)) far)
 
 pub returns-in-Err-clause-kept : goal.returns-in-Err-clause-kept
-returns-in-Err-clause-kept g c = λ name bytes all before kept waiting far.
-    kept_from c.write_before_read-told.result c.end_after.result c.args.market.now.market
+returns-in-Err-clause-kept g c = λ start begun name bytes all before kept here far.
+    kept_from c.write_before_read-told.result c.end_after.result start
     c.args.self.now.lines all
     (g.I.Inputs.commands c.args.inputs.now) before (g.S.Sink.written c.args.out.now)
     (g.S.Sink.written c.write_before_read-told.new.out) c.args.market.now.standing
-    c.args.self.now.waiting.bytes c.write_before_read-told.new.waiting.bytes (length kept)
-    (kept ++ waiting) c.end_after.ensures (fewer_kept kept waiting)
-    (λ n all. Holds (g.J.Keeper.holds c.args.self.now.keeper c.args.disk.now name bytes) n all)
-    (λ n all. Holds (g.J.Keeper.holds c.write_before_read-told.new.keeper
-    c.write_before_read-told.new.disk name bytes) n all)
-    (λ n all. g.J.Keeper.leaves c.write_before_read-told.new.disk name bytes all n)
-    (c.write_before_read-told.ensures.tells name bytes) far
+    c.args.self.now.waiting.bytes c.write_before_read-told.new.waiting.bytes kept
+    c.end_after.ensures
+    (HoldsSince (g.J.Keeper.holds c.args.self.now.keeper c.args.disk.now name bytes)
+    (g.J.Keeper.passes begun c.args.disk.now name bytes) (length kept))
+    (HoldsSince (g.J.Keeper.holds c.write_before_read-told.new.keeper
+    c.write_before_read-told.new.disk name bytes)
+    (g.J.Keeper.passes begun c.write_before_read-told.new.disk name bytes) (length kept))
+    (LeavesSince (g.J.Keeper.leaves c.write_before_read-told.new.disk name bytes)
+    (g.J.Keeper.passes begun c.write_before_read-told.new.disk name bytes) (length kept))
+    (c.write_before_read-told.ensures.tells begun name bytes (length kept)) far

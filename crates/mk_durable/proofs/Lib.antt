@@ -1,0 +1,11 @@
+pub mod Readings
+pub mod Histories
+pub mod Refusing
+pub mod Staying
+pub mod Taking
+pub mod Numbers
+pub mod Keeping
+pub mod Found
+pub mod Steps
+pub mod Applied
+pub mod Carrying

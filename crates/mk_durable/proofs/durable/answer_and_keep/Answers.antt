@@ -1,0 +1,106 @@
+use Rattle.std.proofs.Common.{◌≡◌, ℕ, List, [], ◌++◌, length, refl, sym, subst, ◌∙◌, arith}
+use Rattle.std.proofs.lemmas.Result.{err_from_is_err_and}
+use Rattle.mk_exact.specs.History.{revision}
+use Rattle.mk_command.specs.declared.command.Command.{Command}
+use Rattle.mk_journal.specs.Keepers.{IsHeld, IsReady}
+use Rattle.mk_journal.specs.Market.{IsFront}
+use Rattle.mk_journal.specs.Moments.{LeavesOnly}
+use Rattle.mk_market.specs.Trading.{IsAnswered}
+use Rattle.mk_durable.proofs.Numbers.{few_changes}
+use Rattle.mk_durable.proofs.Found.{as_told}
+use Rattle.mk_durable.proofs.Applied.{none_made, one_made, next_revision, held_still, left_still}
+use Rattle.mk_durable.proofs.durable.answer_and_keep.Goals as goal
+
+pub keep_change-requires-clause-ready : goal.keep_change-requires-clause-ready
+keep_change-requires-clause-ready g c =
+    let few = few_changes c.args.market.now.market c.args.market.now.standing.history
+    c.requires.is_market c.history-before.ensures.safe in
+    (revision c.args.market.now.standing.history, omega (arith, few), c.requires.ready)
+
+pub returns-then-history-before-clause-kept : goal.returns-then-history-before-clause-kept
+returns-then-history-before-clause-kept g c n bytes records named held =
+    let answered = subst (λ (x : Command). IsAnswered c.args.market.now c.apply-reply.new.self x
+    c.apply-reply.result) c.lend.ensures c.apply-reply.ensures in
+    let same : length c.apply-reply.new.self.standing.history
+    ≡ length c.args.market.now.standing.history =
+    sym (as_told c.history.result.now _ c.history.ensures.same) ∙ c.if-history-before.true
+    ∙ as_told c.history-before.result.now _ c.history-before.ensures.same in
+    let none = none_made c.args.market.now c.apply-reply.new.self c.args.command.now
+    c.apply-reply.result answered same in
+    record {
+      reply = c.apply-reply.result;
+      answered = answered;
+      holds = (
+        refl,
+        held_still _ _ c.args.store.now bytes records _ none held,
+        left_still _ _ c.args.store.now bytes records _ none held
+            (g.met.K.Disk.only_now c.args.disk.now n),
+      );
+    }
+
+pub returns-clause-ready : goal.returns-clause-ready
+returns-clause-ready g c =
+    let answered = subst (λ (x : Command). IsAnswered c.args.market.now c.apply-reply.new.self x
+    c.apply-reply.result) c.lend.ensures c.apply-reply.ensures in
+    let few = few_changes c.args.market.now.market c.args.market.now.standing.history
+    c.requires.is_market c.history-before.ensures.safe in
+    let next = next_revision c.args.market.now c.apply-reply.new.self c.args.command.now
+    c.apply-reply.result answered
+    (λ same. c.if-history-before.false
+    (as_told c.history.result.now _ c.history.ensures.same ∙ same
+    ∙ sym (as_told c.history-before.result.now _ c.history-before.ensures.same))) in
+    subst (λ (count : ℕ). IsReady (g.K.Disk.is_open c.keep_change.new.disk)
+    (g.K.Disk.file c.keep_change.new.disk (g.K.Disk.open_name c.keep_change.new.disk))
+    c.keep_change.new.store count) (sym next)
+    (c.in_ok-keep_change.ensures.ready (revision c.args.market.now.standing.history)
+    (omega (arith, few)) c.requires.ready)
+
+pub returns-clause-kept : goal.returns-clause-kept
+returns-clause-kept g c n bytes records named held =
+    let answered = subst (λ (x : Command). IsAnswered c.args.market.now c.apply-reply.new.self x
+    c.apply-reply.result) c.lend.ensures c.apply-reply.ensures in
+    let one = one_made c.args.market.now c.apply-reply.new.self c.args.command.now
+    c.apply-reply.result answered
+    (λ same. c.if-history-before.false
+    (as_told c.history.result.now _ c.history.ensures.same ∙ same
+    ∙ sym (as_told c.history-before.result.now _ c.history-before.ensures.same))) in
+    record {
+      reply = c.apply-reply.result;
+      answered = answered;
+      holds = (
+        refl,
+        subst (λ (made : List (List ℕ)). IsHeld (g.K.Disk.file c.keep_change.new.disk n)
+            (g.K.Disk.may_leave c.keep_change.new.disk n) c.keep_change.new.store bytes
+            (records ++ made) []) (sym one)
+            (c.in_ok-keep_change.ensures.kept n bytes records named held),
+        subst (λ (made : List (List ℕ)). LeavesOnly (g.K.Disk.moment c.args.disk.now)
+            (g.K.Disk.moment c.keep_change.new.disk) (g.K.Disk.left_since c.args.disk.now n)
+            (g.K.Disk.left_since c.keep_change.new.disk n)
+            (IsFront bytes (records ++ made) (length records))) (sym one)
+            (c.keep_change.ensures.any_moment n bytes records named held),
+      );
+    }
+
+pub returns-in_err-keep_change-clause-kept : goal.returns-in_err-keep_change-clause-kept
+returns-in_err-keep_change-clause-kept g c n bytes records named held =
+    let answered = subst (λ (x : Command). IsAnswered c.args.market.now c.apply-reply.new.self x
+    c.apply-reply.result) c.lend.ensures c.apply-reply.ensures in
+    let one = one_made c.args.market.now c.apply-reply.new.self c.args.command.now
+    c.apply-reply.result answered
+    (λ same. c.if-history-before.false
+    (as_told c.history.result.now _ c.history.ensures.same ∙ same
+    ∙ sym (as_told c.history-before.result.now _ c.history-before.ensures.same))) in
+    let p = err_from_is_err_and c.from_residual.result c.from_residual.ensures.1 in
+    rw p.1 (record {
+      reply = c.apply-reply.result;
+      answered = answered;
+      holds = (
+        tt,
+        tt,
+        subst (λ (made : List (List ℕ)). LeavesOnly (g.K.Disk.moment c.args.disk.now)
+            (g.K.Disk.moment c.keep_change.new.disk) (g.K.Disk.left_since c.args.disk.now n)
+            (g.K.Disk.left_since c.keep_change.new.disk n)
+            (IsFront bytes (records ++ made) (length records))) (sym one)
+            (c.keep_change.ensures.any_moment n bytes records named held),
+      );
+    })

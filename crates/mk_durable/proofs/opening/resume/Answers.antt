@@ -1,0 +1,151 @@
+use Rattle.std.proofs.Common.{◌≡◌, inl, ℕ, ◌<◌, List, length, IsTrue, IfSome, refl, sym}
+use Rattle.std.proofs.Common.{ap, subst, ◌∙◌, arith}
+use Rattle.std.proofs.lemmas.List.{length-map}
+use Rattle.std.proofs.lemmas.List.Elements.{All-nil}
+use Rattle.std.proofs.lemmas.Result.{err_from_is_err_and}
+use Rattle.mk_rules.specs.Standings.{IsMarket}
+use Rattle.mk_rules.specs.Transcript.{Standing}
+use Rattle.mk_journal.specs.Opening.{contents}
+use Rattle.mk_journal.specs.Store.{IsLength}
+use Rattle.mk_journal.specs.Keepers.{StoreOf, IsReady}
+use Rattle.mk_durable.specs.Resuming.{IsResumed}
+use Rattle.mk_durable.proofs.Numbers.{few_changes}
+use Rattle.mk_durable.proofs.Found.{has_records, records_refused, from_opening}
+use Rattle.mk_durable.proofs.Found.{fault_from_opening, as_many, as_told}
+use Rattle.mk_durable.proofs.opening.resume.Goals as goal
+
+pub overflow_add-result : goal.overflow_add-result
+overflow_add-result g c =
+    let size : length c.history.result.now ≡ length c.restore_all.new.market.standing.history =
+    as_told c.history.result.now _ c.history.ensures.same in
+    let few = few_changes c.restore_all.new.market.market
+    c.restore_all.new.market.standing.history
+    (subst IsMarket (sym c.restore_all.ensures.market) c.requires.is_market)
+    c.history.ensures.safe in
+    omega (arith, few, size)
+
+pub returns-in-Gate-clause-few : goal.returns-in-Gate-clause-few
+returns-in-Gate-clause-few g c =
+    let size : length c.history.result.now ≡ length c.restore_all.new.market.standing.history =
+    as_told c.history.result.now _ c.history.ensures.same in
+    let few = few_changes c.restore_all.new.market.market
+    c.restore_all.new.market.standing.history
+    (subst IsMarket (sym c.restore_all.ensures.market) c.requires.is_market)
+    c.history.ensures.safe in
+    omega (arith, few, size)
+
+pub returns-in_err-restore_all-clause-refused : goal.returns-in_err-restore_all-clause-refused
+returns-in_err-restore_all-clause-refused g c n bytes f named is told =
+    let market = c.args.market.now.market in
+    let found = c.in_ok-found.found in
+    let p = err_from_is_err_and c.from_residual-in_err-restore_all.result
+    c.from_residual-in_err-restore_all.ensures.1 in
+    rw (p.1, p.2) (records_refused market bytes f (contents found.records.items)
+    c.in_err-restore_all.field-0.0
+    (has_records bytes f (contents found.records.items) found.end
+    (c.in_ok-found.ensures.stands n bytes f named is told)
+    (c.in_ok-found.ensures.broken n bytes f named is told))
+    (fault_from_opening market c.args.market.now.standing.history
+    found.records.items c.deref.result.now c.in_err-restore_all.field-0.0
+    (ap (λ (s : Standing). s.history) c.requires.opening) c.deref.ensures.value
+    c.in_err-restore_all.ensures.fault))
+
+pub returns-in-Gate-clause-resumed : goal.returns-in-Gate-clause-resumed
+returns-in-Gate-clause-resumed g c n bytes f named is told =
+    let size : length c.history.result.now ≡ length c.restore_all.new.market.standing.history =
+    as_told c.history.result.now _ c.history.ensures.same in
+    let market = c.args.market.now.market in
+    let now = c.restore_all.new.market.standing.history in
+    let found = c.in_ok-found.found in
+    let taken = from_opening market c.args.market.now.standing.history now
+    found.records.items c.deref.result.now
+    (ap (λ (s : Standing). s.history) c.requires.opening) c.deref.ensures.value
+    c.in_ok-restore_all.ensures.taken in
+    let number : length c.history.result.now ≡ length (contents found.records.items) =
+    size ∙ as_many market now found.records.items taken
+    ∙ sym (length-map found.records.items (λ (v : _). v.items)) in
+    subst (λ (store : StoreOf). IsResumed market bytes f now
+    (g.K.Disk.file c.open_store.new.disk n) (g.K.Disk.may_leave c.open_store.new.disk n) store
+    (length c.history.result.now)) (sym c.new.ensures) (record {
+      records = contents found.records.items;
+      gives = record {
+        stands_for = rw c.in-Gate.is at (c.in_ok-found.ensures.stands n bytes f named is told);
+        taken = taken;
+      };
+      number = number;
+      held = record {
+        settled = rw c.in-Gate.is at (c.in_ok-found.ensures.settled n bytes f named is told);
+        bytes = refl;
+        are = All-nil (λ (r : List ℕ). IsLength (length r));
+      };
+    })
+
+pub returns-in-Gate-clause-ready : goal.returns-in-Gate-clause-ready
+returns-in-Gate-clause-ready g c =
+    let size : length c.history.result.now ≡ length c.restore_all.new.market.standing.history =
+    as_told c.history.result.now _ c.history.ensures.same in
+    let market = c.args.market.now.market in
+    let now = c.restore_all.new.market.standing.history in
+    let found = c.in_ok-found.found in
+    let taken = from_opening market c.args.market.now.standing.history now
+    found.records.items c.deref.result.now
+    (ap (λ (s : Standing). s.history) c.requires.opening) c.deref.ensures.value
+    c.in_ok-restore_all.ensures.taken in
+    let number : length c.history.result.now ≡ length found.records.items =
+    size ∙ as_many market now found.records.items taken in
+    let near = rw c.in-Gate.is at c.in_ok-found.ensures.near in
+    subst (λ (store : StoreOf). IsReady (g.K.Disk.is_open c.open_store.new.disk)
+    (g.K.Disk.file c.open_store.new.disk (g.K.Disk.open_name c.open_store.new.disk)) store
+    (length c.history.result.now)) (sym c.new.ensures) (record {
+      open_file = subst IsTrue (sym c.open_store.ensures.stays) c.requires.is_open;
+      place = subst (λ (name : List ℕ). IfSome (g.K.Disk.file c.open_store.new.disk name)
+          (λ f. c.in-Gate.gate < length f)) (sym c.open_store.ensures.stays_name)
+          (rw c.in-Gate.is at c.in_ok-found.ensures.place);
+      near = omega (arith, near, number, c.requires.size);
+    })
+
+pub returns-in-Malformed-clause-refused : goal.returns-in-Malformed-clause-refused
+returns-in-Malformed-clause-refused g c n bytes f named is told =
+    let size : length c.history.result.now ≡ length c.restore_all.new.market.standing.history =
+    as_told c.history.result.now _ c.history.ensures.same in
+    let market = c.args.market.now.market in
+    let now = c.restore_all.new.market.standing.history in
+    let found = c.in_ok-found.found in
+    let taken = from_opening market c.args.market.now.standing.history now
+    found.records.items c.deref.result.now
+    (ap (λ (s : Standing). s.history) c.requires.opening) c.deref.ensures.value
+    c.in_ok-restore_all.ensures.taken in
+    let number : length c.history.result.now ≡ length (contents found.records.items) =
+    size ∙ as_many market now found.records.items taken
+    ∙ sym (length-map found.records.items (λ (v : _). v.items)) in
+    inl (record {
+      before = contents found.records.items;
+      broken = rw c.in-Malformed.is at (c.in_ok-found.ensures.broken n bytes f named is told);
+      place = omega (arith, number);
+      history = now;
+      taken = taken;
+    })
+
+pub returns-in_err-found-clause-images : goal.returns-in_err-found-clause-images
+returns-in_err-found-clause-images g c n bytes f image named is told left =
+    let moments = c.open_store.ensures.any_moment n bytes f named is told in
+    moments.each image (g.met.K.Disk.counts_now c.open_store.new.disk n
+    (g.K.Disk.moment c.args.disk.now) image moments.later left)
+
+pub returns-in_err-restore_all-clause-images : goal.returns-in_err-restore_all-clause-images
+returns-in_err-restore_all-clause-images g c n bytes f image named is told left =
+    let moments = c.open_store.ensures.any_moment n bytes f named is told in
+    moments.each image (g.met.K.Disk.counts_now c.open_store.new.disk n
+    (g.K.Disk.moment c.args.disk.now) image moments.later left)
+
+pub returns-in-Gate-clause-images : goal.returns-in-Gate-clause-images
+returns-in-Gate-clause-images g c n bytes f image named is told left =
+    let moments = c.open_store.ensures.any_moment n bytes f named is told in
+    moments.each image (g.met.K.Disk.counts_now c.open_store.new.disk n
+    (g.K.Disk.moment c.args.disk.now) image moments.later left)
+
+pub returns-in-Malformed-clause-images : goal.returns-in-Malformed-clause-images
+returns-in-Malformed-clause-images g c n bytes f image named is told left =
+    let moments = c.open_store.ensures.any_moment n bytes f named is told in
+    moments.each image (g.met.K.Disk.counts_now c.open_store.new.disk n
+    (g.K.Disk.moment c.args.disk.now) image moments.later left)

@@ -1,0 +1,6 @@
+pub mod Recovery
+pub mod Resuming
+pub mod KeepOutcome
+pub mod Laws
+pub mod Applying
+pub mod inner
