@@ -11,7 +11,7 @@ from pathlib import Path
 
 ROOT = Path(__file__).resolve().parent.parent.parent
 ENDS = {3: "something could not be read", 4: "its output could not be written", 5: "memory was wanting", 6: "there are too many lines",
-        70: "the program could not be built"}
+        7: "the store could not be opened, or a call of its disk failed; what was told is kept", 70: "the program could not be built"}
 
 
 class Ended(Exception):
@@ -23,12 +23,14 @@ def is_blank(line):
 
 
 class Process:
-    """A market that runs. `greeting` is its first line. One that is apart does not get the signals of a terminal."""
+    """A market that runs, or is kept in a store. `greeting` is its first line, and `resumed` that of a store. One that is apart does not get
+    the signals of a terminal."""
 
-    def __init__(self, file, is_apart=False):
+    def __init__(self, file, is_apart=False, store=None):
         words = shlex.split(os.environ.get("DAGGRE", "")) or [str(ROOT / "bin/daggre")]
+        call = ["run", str(file)] if store is None else ["keep", str(file), str(store)]
         try:
-            self.child = subprocess.Popen([*words, "run", str(file)], stdin=subprocess.PIPE, stdout=subprocess.PIPE, encoding="utf-8",
+            self.child = subprocess.Popen([*words, *call], stdin=subprocess.PIPE, stdout=subprocess.PIPE, encoding="utf-8",
                                           errors="surrogateescape", start_new_session=is_apart)
         except OSError as error:
             raise Ended(f"the program {words[0]} cannot be started: {error.strerror}")
@@ -36,6 +38,7 @@ class Process:
         if not self.greeting.startswith("ready "):
             self.close()
             raise Ended(f"the program answers to {file}: {self.greeting}")
+        self.resumed = None if store is None else self.read()
 
     def read(self):
         line = self.child.stdout.readline()

@@ -8,7 +8,7 @@
         print(market.price("ferry=sails | storm=yes").low)
 
 Replies are dataclasses (`daggre.replies`), a refusal raises `daggre.Refused`, whose `cause` is one of `daggre.refusals`.
-`daggre.AsyncMarket` is the same for asyncio, and `daggre.exchange` drives many markets side by side. `daggre.chance`, `daggre.best` and
+`Market(file, store=name)` keeps each change in a file, and goes on from there. `daggre.AsyncMarket` is the same for asyncio, and `daggre.exchange` drives many markets side by side. `daggre.chance`, `daggre.best` and
 `daggre.expect` ask what a market comes to behind lines that were kept.
 """
 from . import commands, refusals, replies
@@ -16,7 +16,7 @@ from .aio import AsyncMarket
 from .amounts import MILLION, PRICE_UNITS, RATIO_UNIT, Interval, Points
 from .asking import Best, Chance, Contradiction, Expectation, best, chance, expect
 from .commands import Command
-from .errors import Ended, FileFault, FileRefused, MarketError, NotALine, ProgramMissing, Refused, Silent, UnknownLine
+from .errors import Ended, FileFault, FileRefused, MarketError, NotALine, ProgramMissing, Refused, Silent, StoreRefused, UnknownLine
 from .market import Exchanged, Market, Ready, exchange
 from .questions import Distribution, Pair, Question
 from .refusals import Refusal
@@ -25,5 +25,5 @@ from .replies import Reply, read_reply
 __all__ = [
     "MILLION", "PRICE_UNITS", "RATIO_UNIT", "AsyncMarket", "Best", "Chance", "Command", "Contradiction", "Distribution", "Ended", "Exchanged", "Expectation",
     "FileFault", "FileRefused", "Interval", "Market", "MarketError", "NotALine", "Pair", "Points", "ProgramMissing", "Question", "Ready", "Refusal", "Refused",
-    "Reply", "Silent", "UnknownLine", "best", "chance", "commands", "exchange", "expect", "read_reply", "refusals", "replies",
+    "Reply", "Silent", "StoreRefused", "UnknownLine", "best", "chance", "commands", "exchange", "expect", "read_reply", "refusals", "replies",
 ]

@@ -11,7 +11,7 @@ from typing import TypeVar
 from . import commands, replies
 from .commands import Command
 from .errors import Ended, ProgramMissing, Refused
-from .market import SECONDS_TO_END, Ready
+from .market import SECONDS_TO_END, Ready, read_resumed, words_of
 from .process import LONGEST_REPLY, checked_line, find_program
 from .questions import Distribution, Pair, Question
 from .refusals import Refusal
@@ -45,13 +45,17 @@ class AsyncMarket:
     """A market of a file, in a process of its own: `async with AsyncMarket("ferry.toml") as market:`.
 
     Commands are sent in the order in which they are called. Giving up on one, as `asyncio.timeout` does, leaves it sent; its reply is
-    read and dropped. Nothing is started again.
+    read and dropped. Nothing is started again. With a `store` each change is kept in that file before its reply comes, and `resumed` is
+    how many changes it had.
     """
 
     ready: Ready
+    resumed: int | None
 
-    def __init__(self, file: str | os.PathLike[str], *, program: str | os.PathLike[str] | None = None) -> None:
-        self._words = [find_program(program), "run", os.fspath(file)]
+    def __init__(self, file: str | os.PathLike[str], *, store: str | os.PathLike[str] | None = None,
+                 program: str | os.PathLike[str] | None = None) -> None:
+        self._words = words_of(find_program(program), file, store)
+        self._has_store = store is not None
         self._waiting: deque[_Waiting] = deque()
         self._status: int | None = None
 
@@ -63,11 +67,19 @@ class AsyncMarket:
             raise ProgramMissing(f"{self._words[0]} cannot be started: {fault.strerror}") from None
         assert self._process.stdin is not None and self._process.stdout is not None
         self._sink, self._source = self._process.stdin, self._process.stdout
-        greeting = _Waiting(1)
+        greeting = _Waiting(2 if self._has_store else 1)
         self._waiting.append(greeting)
         self._reader = asyncio.create_task(self._read())
         try:
-            self.ready = Ready.read((await greeting.done)[0])
+            try:
+                lines = await greeting.done
+            except Ended as fault:
+                # a refusal comes alone
+                for line in fault.replies[:1]:
+                    Ready.read(line)
+                raise
+            self.ready = Ready.read(lines[0])
+            self.resumed = read_resumed(lines[1]) if self._has_store else None
         except BaseException:
             await self.close()
             raise

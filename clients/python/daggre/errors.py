@@ -14,6 +14,8 @@ STATUSES = {
     4: "its replies could not be written",
     5: "memory was wanting",
     6: "the stream has too many lines or bytes",
+    7: "the store could not be opened, or a call of its disk failed; what was told is kept",
+    8: "the store is refused",
     70: "the program could not be built",
 }
 
@@ -58,6 +60,15 @@ class FileRefused(MarketError):
         self.fault = fault
 
 
+class StoreRefused(MarketError):
+    """The store is not this market's, from a byte on (`kind` is foreign), or has a record that this market never wrote (`kind` is record)."""
+
+    def __init__(self, kind: str, number: int) -> None:
+        super().__init__(f"refused store {kind} {number}")
+        self.kind = kind
+        self.number = number
+
+
 class Refused(MarketError):
     """The program refuses a command; nothing changed. `cause` is one of `daggre.refusals`."""
 
@@ -78,7 +89,7 @@ class UnknownLine(MarketError):
 
 class Ended(MarketError):
     """The program ended before it had answered everything. `replies` are those that came; whether the line behind them was
-    taken in cannot be known, and what the market was told is gone with the process."""
+    taken in cannot be known. What a market without a store was told is gone with the process."""
 
     def __init__(self, status: int, replies: tuple[str, ...] = ()) -> None:
         meaning = f"signal {-status}" if status < 0 else STATUSES.get(status, "which it never gives")

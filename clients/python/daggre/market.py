@@ -2,6 +2,7 @@
 from __future__ import annotations
 
 import os
+import re
 import threading
 from collections.abc import Iterable, Mapping, Sequence
 from contextlib import ExitStack
@@ -11,7 +12,7 @@ from typing import TypeVar
 
 from . import commands, replies
 from .commands import Command
-from .errors import Ended, FileFault, FileRefused, MarketError, Refused, Silent, UnknownLine
+from .errors import Ended, FileFault, FileRefused, MarketError, Refused, Silent, StoreRefused, UnknownLine
 from .process import Channel, checked_line, drive, find_program, memory_file
 from .questions import Distribution, Pair, Question
 from .refusals import Refusal
@@ -33,6 +34,8 @@ class Ready:
         words = line.split(" ")
         if len(words) == 3 and words[0] == "ready" and words[1].isdecimal() and words[2].isdecimal():
             return cls(int(words[1]), int(words[2]))
+        if found := re.fullmatch(r"refused store (foreign|record) ([0-9]+)", line):
+            raise StoreRefused(found[1], int(found[2]))
         try:
             fault = FileFault.read(line)
         except ValueError:
@@ -40,17 +43,32 @@ class Ready:
         raise FileRefused(fault)
 
 
+def words_of(program: str, file: str | os.PathLike[str], store: str | os.PathLike[str] | None) -> list[str]:
+    """The words of a call that runs a market, or keeps it in a store."""
+    return [program, "run", os.fspath(file)] if store is None else [program, "keep", os.fspath(file), os.fspath(store)]
+
+
+def read_resumed(line: str) -> int:
+    """How many changes a store had, as this line says."""
+    found = re.fullmatch(r"resumed ([0-9]+)", line)
+    if found is None:
+        raise UnknownLine("", line)
+    return int(found[1])
+
+
 class Market:
     """A market of a file, in a process of its own; a context manager, at whose end the process is ended.
 
     Each method of a command sends its line and gives its reply, or raises Refused. Several threads may share a market. Nothing is
-    started again: where the process ends, what the market was told is gone, and each call raises Ended.
+    started again: where the process ends each call raises Ended, and what a market without a store was told is gone.
     """
 
-    def __init__(self, file: str | os.PathLike[str], *, program: str | os.PathLike[str] | None = None, timeout: float | None = None) -> None:
-        """Starts the program and waits for its greeting. `timeout`: after how many seconds without a reply the process is ended and
-        Silent raised; None waits for ever."""
-        self._start([find_program(program), "run", os.fspath(file)], (), timeout)
+    def __init__(self, file: str | os.PathLike[str], *, store: str | os.PathLike[str] | None = None, program: str | os.PathLike[str] | None = None,
+                 timeout: float | None = None) -> None:
+        """Starts the program and waits for its greeting. `store`: a file in which each change is kept before its reply comes, and from
+        which the market goes on; `resumed` is then how many changes it had. `timeout`: after how many seconds without a reply the
+        process is ended and Silent raised; None waits for ever."""
+        self._start(words_of(find_program(program), file, store), (), timeout, store is not None)
 
     @classmethod
     def of_text(cls, text: str, *, program: str | os.PathLike[str] | None = None, timeout: float | None = None) -> Market:
@@ -63,15 +81,19 @@ class Market:
             os.close(number)
         return market
 
-    def _start(self, words: Sequence[str], kept: Sequence[int], timeout: float | None) -> None:
+    def _start(self, words: Sequence[str], kept: Sequence[int], timeout: float | None, has_store: bool = False) -> None:
         self._turn = threading.Lock()
         self._timeout = timeout
         self._status: int | None = None
         self._channel = Channel(words, kept)
         try:
-            self._begin(b"", 1)
+            self._begin(b"", 2 if has_store else 1)
             drive([self._channel], timeout)
-            self.ready = Ready.read(self._lines(timeout)[0])
+            # a refusal comes alone
+            for line in self._channel.lines[:1]:
+                self.ready = Ready.read(line)
+            lines = self._lines(timeout)
+            self.resumed = read_resumed(lines[1]) if has_store else None
         except BaseException:
             self.close()
             raise
