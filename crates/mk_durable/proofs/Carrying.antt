@@ -108,6 +108,7 @@ left_since_call start all before written old leaves passes leaves' passes' now m
       replies = left.replies;
       asks = left.asks;
       run = left.run;
+      shown = left.shown;
       are = left.are;
       least = left.least;
       no_fewer = left.no_fewer;

@@ -147,6 +147,10 @@ module _ (start : Start) (lines more : List StreamLine) (now then : Standing)
       replies = replies;
       asks = asks;
       run = run;
+      shown = record {
+        rest = waited ++ output;
+        parts = sym all_printed ∙ append_assoc far.bytes waited output;
+      };
       are = are_recorded start far.begins (lines ++ more) then asked replies asks run;
       least = far.least;
       no_fewer = far.no_fewer;
@@ -166,6 +170,14 @@ module _ (start : Start) (lines more : List StreamLine) (now then : Standing)
       replies = replies;
       asks = asks;
       run = run;
+      shown = record {
+        rest = cut.rest ++ output;
+        parts = sym all_printed
+            ∙ ap (λ (text : List ℕ). (far.bytes ++ text) ++ output) cut.parts
+            ∙ ap (λ (text : List ℕ). text ++ output)
+            (sym (append_assoc far.bytes cut.front cut.rest))
+            ∙ append_assoc (far.bytes ++ cut.front) cut.rest output;
+      };
       are = are_recorded start far.begins (lines ++ more) then asked replies asks run;
       least = length ((old ++ records) ++ others);
       no_fewer = no_fewer;
@@ -211,6 +223,7 @@ left_now start lines now before written waits old holds leaves leave far = recor
   replies = far.replies;
   asks = far.asks;
   run = far.run;
+  shown = record { rest = waits; parts = sym far.printed };
   are = are_recorded start far.begins lines now far.asked far.replies far.asks far.run;
   least = far.least;
   no_fewer = far.no_fewer;
@@ -253,6 +266,7 @@ left_of_placed start all cutting source before written old leaves far =
       replies = left.replies;
       asks = left.asks;
       run = left.run;
+      shown = left.shown;
       are = left.are;
       least = left.least;
       no_fewer = left.no_fewer;

@@ -269,6 +269,7 @@ left_at_head start all before after kept leaves cut left = record {
   replies = [];
   asks = tt;
   run = refl;
+  shown = record { rest = cut.rest; parts = append-nil start.head ∙ cut.parts };
   are = tt;
   least = length kept;
   no_fewer = omega arith;

@@ -43,9 +43,10 @@ pub record LeavesSince (leaves passes : List (List ℕ) → ℕ → Type 0) (fir
   pub now : leaves all least
   pub any_moment : passes all first
 
--- a run answered the first lines of some bytes by allowed replies, and wrote an output. Of the old
--- records and those of its changes, in their order, a crash leaves a front: with all that are old,
--- and with each whose reply stands whole in the output
+-- a run answered the first lines of some bytes by allowed replies, and wrote an output: a front of
+-- its head and the lines of these replies. Of the old records and those of its changes, in their
+-- order, a crash leaves a front: with all that are old, and with each whose reply stands whole in
+-- the output
 pub record IsLeft (start : Start) (all : List ℕ) (before written : Option (List ℕ))
     (old : List (List ℕ)) (leaves : List (List ℕ) → ℕ → Type 0) : Type 0 where
   pub done : List ℕ
@@ -59,6 +60,7 @@ pub record IsLeft (start : Start) (all : List ℕ) (before written : Option (Lis
   pub replies : List Reply
   pub asks : AllZip Asks (filter is_not_blank (stream_lines done)) asked
   pub run : Run start.market start.standing asked replies now
+  pub shown : IsFrontOf (start.head ++ flat_map reply_line replies) output
   pub are : AllZip IsRecordOf (records_of (changes_from start asked replies))
       (changes_from start asked replies)
   pub least : ℕ

@@ -96,6 +96,7 @@ pub record AreLeft (start : Start) (lines : List StreamLine) (before written : O
   pub replies : List Reply
   pub asks : AllZip Asks (filter is_not_blank lines) asked
   pub run : Run start.market start.standing asked replies now
+  pub shown : IsFrontOf (start.head ++ flat_map reply_line replies) bytes
   pub are : AllZip IsRecordOf (records_of (changes_from start asked replies))
       (changes_from start asked replies)
   pub least : ℕ
