@@ -1,5 +1,7 @@
 //! A coin's market whose run is stopped at each call of its disk, and crashed.
 
+ghost use Rattle.std.specs.Prelude.{◌≤◌};
+
 use mk_disk::{Choice, MemoryDisk};
 use mk_durable::keep;
 use mk_io::{MemorySink, NamedFile, QuietInputs, Status};
