@@ -14,7 +14,7 @@ use Rattle.mk_judge.proofs.Fairness.{fair_for}
 graded : (e : Enclosure) → IsExact e → IsGradedWithin e (2 ^ 17)
 graded e exact = record { grade = 0; small = omega arith; has = record { near = rw exact.same (near_same e.hi) } }
 
-side_graded : (bounds : SideBounds) → AreExact bounds → AreGraded bounds
+pub side_graded : (bounds : SideBounds) → AreExact bounds → AreGraded bounds
 side_graded bounds exact = record { part = graded bounds.part exact.part; whole = graded bounds.whole exact.whole; gain = graded bounds.factor.gain exact.gain }
 
 all_graded : (bounds : Bounds) → AreAllExact bounds → AreAllGraded bounds

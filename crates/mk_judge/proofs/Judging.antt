@@ -1,5 +1,5 @@
 -- Judgements of single comparisons, and of several together.
-use Rattle.std.proofs.Common.{◌≡◌, ℕ, ◌*◌, ◌^◌, ◌<◌, ◌≤◌, ◌⊎◌, inl, inr, arith}
+use Rattle.std.proofs.Common.{◌≡◌, ℕ, ◌*◌, ◌^◌, ◌<◌, ◌≤◌, ◌⊎◌, refl, inl, inr, arith}
 use Rattle.std.proofs.Math.Nat.{pow-zero}
 use Rattle.mk_judge.specs.declared.comparing.Compared.{Compared}
 use Rattle.mk_judge.specs.declared.comparing.Compared.TheVariants.{AtMost, Above, Unsure}
@@ -68,3 +68,10 @@ judges_pair j k P Q N p q = judges_as (both j k) (P × Q) (P × Q) (N ⊎ N) N (
     either : N ⊎ N → N
     either (inl n) = n
     either (inr n) = n
+
+-- by the three clauses of a judge
+pub judges_of : (j : Judged) (P N : Type 0) → (j ≡ Allowed → P) → (j ≡ Wrong → P → ⊥)
+    → (j ≡ Unclear → N) → Judges j P N
+judges_of Allowed P N allowed wrong unclear = allowed refl
+judges_of Wrong P N allowed wrong unclear = wrong refl
+judges_of Unclear P N allowed wrong unclear = unclear refl

@@ -9,3 +9,10 @@ pub mod Solving
 pub mod Fairness
 pub mod Trading
 pub mod Exactly
+pub mod Sharing
+pub mod Multiplying
+pub mod Ending
+pub mod Lying
+pub mod Righting
+pub mod Spacing
+pub mod Placing

@@ -6,4 +6,7 @@ pub mod Cash
 pub mod Losses
 pub mod Units
 pub mod Limits
+pub mod Wanted
+pub mod Questions
+pub mod Distributions
 pub mod inner

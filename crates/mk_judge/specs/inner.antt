@@ -1,3 +1,6 @@
 -- What only proofs and private contracts cite.
 pub mod Ends
 pub mod Solvency
+pub mod Products
+pub mod Within
+pub mod Absent

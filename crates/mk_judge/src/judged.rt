@@ -1,7 +1,7 @@
 //! What a judge answers.
 ghost use Rattle.std.specs.Prelude.{◌≡◌};
 ghost use Rattle.mk_judge.specs.Compared.{where_at_most, where_above};
-ghost use Rattle.mk_judge.specs.Judged.{both};
+ghost use Rattle.mk_judge.specs.Judged.{both, one_of, where_true};
 
 use crate::comparing::Compared;
 
@@ -45,5 +45,23 @@ impl Judged {
             (Judged::Unclear, _) | (_, Judged::Unclear) => Judged::Unclear,
             (Judged::Allowed, Judged::Allowed) => Judged::Allowed,
         }
+    }
+
+    /// Where one of both has to be allowed: one that is decides.
+    pub(crate) fn or(self, other: Judged) -> Judged
+        ensures { result ≡ one_of self other }
+    {
+        match (self, other) {
+            (Judged::Allowed, _) | (_, Judged::Allowed) => Judged::Allowed,
+            (Judged::Unclear, _) | (_, Judged::Unclear) => Judged::Unclear,
+            (Judged::Wrong, Judged::Wrong) => Judged::Wrong,
+        }
+    }
+
+    /// Where a test has to be true.
+    pub(crate) fn where_true(test: bool) -> Judged
+        ensures { result ≡ where_true test }
+    {
+        if test { Judged::Allowed } else { Judged::Wrong }
     }
 }

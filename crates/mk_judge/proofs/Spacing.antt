@@ -1,0 +1,149 @@
+-- Right intervals of one value by what is judged of them.
+use Rattle.std.proofs.Common.{◌≡◌, ℕ, ◌≤◌, ◌↔◌, Option, Some, None, arith, le_refl}
+use Rattle.std.specs.Bool.{⊤}
+use Rattle.mk_exact.specs.Limits.{Side, IsWanted, IsFloorSolvent, Inside, IsWithinRange}
+use Rattle.mk_spread.specs.Bounds.{IsRightInterval, NoShare}
+use Rattle.mk_quote.specs.declared.side.SideBounds.{SideBounds}
+use Rattle.mk_quote.specs.Sides.{AreBoundsOf, AreExact, ratio_for, Serves}
+use Rattle.mk_quote.proofs.Serving.{served_is_fair, wanted_serves, exactly_serves}
+use Rattle.mk_quote.proofs.Rightness.{within}
+use Rattle.mk_judge.specs.declared.wanted.Wanted.{Wanted}
+use Rattle.mk_judge.specs.Limits.{CanBeTraded}
+use Rattle.mk_judge.specs.Wanted.{LieInside, SomeShare, HasEnds}
+use Rattle.mk_judge.specs.inner.Within.{SomeOutside}
+use Rattle.mk_judge.proofs.Exactly.{side_graded}
+use Rattle.mk_judge.proofs.Righting.{traded_for}
+
+-- the small case is the same as another where both hold or neither does
+pub interval_for_case : (small other : Type 0) (side : Side) (interval : ℕ × ℕ) → (other → small)
+    → IsRightInterval small side interval → IsRightInterval other side interval
+interval_for_case small other side interval to right = record {
+  in_range = right.in_range;
+  sound = λ X inside. let at = right.sound X inside in (
+    at.0,
+    traded_for small other side X
+        (at.0) to (at.1),
+  );
+  near_complete = right.near_complete;
+  exact = λ is. right.exact (to is);
+}
+
+-- ---- outside of the small case
+
+pub interval_right : (side : Side) (low high : ℕ) → IsWithinRange (Some (low, high))
+    → CanBeTraded side low high → LieInside (IsWanted side) (Some (low, high))
+    → IsRightInterval ⊥ side (low, high)
+interval_right side low high range trade lie = record {
+  in_range = range;
+  sound = λ X inside. trade X (inside.0) (inside.1);
+  near_complete = lie;
+  exact = λ none. absurd none;
+}
+
+pub interval_traded : (side : Side) (low high : ℕ) → IsRightInterval ⊥ side (low, high)
+    → CanBeTraded side low high
+interval_traded side low high right X from to = right.sound X (from, to)
+
+-- a share within the inner ends is wanted
+pub wanted_within : (wanted : Wanted) (side : Side) (otherwise : Type 0)
+    → HasEnds wanted (IsWanted side) otherwise → SomeOutside wanted.inner_low wanted.inner_high None
+    → SomeShare IsWanted side
+wanted_within wanted side otherwise ends outside =
+    let X = outside.0 in
+    let from = outside.1 in
+    let to = outside.2 in
+    let p = wanted.positive in
+    let o = wanted.low in
+    let h = wanted.high in
+    let m = wanted.high_at_most in
+    (X, omega (arith, p, o, from), omega (arith, to, h, m), ends.inner X from to)
+
+-- ---- in the small case
+
+abbrev pub HoldsServed : SideBounds → Option (ℕ × ℕ) → Type 0
+HoldsServed bounds interval = (X : ℕ) → 1 ≤ X → X ≤ 999999 → Inside interval X ↔ Serves bounds X
+
+pub served_right : (bounds : SideBounds) (side : Side) (low high : ℕ)
+    → IsWithinRange (Some (low, high)) → HoldsServed bounds (Some (low, high))
+    → AreBoundsOf bounds side → AreExact bounds
+    → IsRightInterval ⊤ side (low, high)
+served_right bounds side low high range serves of exact = record {
+  in_range = range;
+  sound = λ X inside.
+      let w = within (Some (low, high)) range X inside in (
+        ratio_for bounds X,
+        traded_for (AreExact bounds) ⊤ side X (ratio_for bounds X) (λ _. exact)
+            (served_is_fair bounds side of (side_graded bounds exact) X (w.0)
+            ((serves X (w.0) (w.1)).0 inside)),
+      );
+  near_complete = λ X from to wanted. (serves X from to).1 (wanted_serves bounds side of
+      (side_graded bounds exact) X from wanted);
+  exact = λ _ X from to. (
+    λ inside. (exactly_serves bounds side of exact X).0 ((serves X from to).0 inside),
+    λ floor. (serves X from to).1 ((exactly_serves bounds side of exact X).1 floor),
+  );
+}
+
+pub none_served : (bounds : SideBounds) (side : Side) → HoldsServed bounds None
+    → AreBoundsOf bounds side → AreExact bounds → NoShare IsWanted (Some side)
+    × NoShare IsFloorSolvent (Some side)
+none_served bounds side serves of exact = (
+  λ X from to wanted. (serves X from to).1 (wanted_serves bounds side of (side_graded bounds exact)
+      X from wanted),
+  λ X from to floor. (serves X from to).1 ((exactly_serves bounds side of exact X).1 floor),
+)
+
+pub some_served : (bounds : SideBounds) (side : Side) (low high : ℕ)
+    → IsWithinRange (Some (low, high)) → HoldsServed bounds (Some (low, high))
+    → AreBoundsOf bounds side → AreExact bounds
+    → SomeShare IsFloorSolvent side
+some_served bounds side low high range serves of exact =
+    let from = range.0 in
+    let order = range.1 in
+    let to = range.2 in
+    let share : low ≤ 999999 = omega (arith, order, to) in (
+      low,
+      from,
+      share,
+      (exactly_serves bounds side of exact low).0 ((serves low from share).0
+          (le_refl low, order)),
+    )
+
+-- one interval alone is right
+pub one_right : (side : Side) (least greatest low high : ℕ) → IsRightInterval ⊤ side
+    (least, greatest) → IsRightInterval ⊤ side (low, high) → (least ≡ low) × (greatest ≡ high)
+one_right side least greatest low high own other =
+    let a = own.in_range in
+    let b = other.in_range in
+    let a0 = a.0 in
+    let a1 = a.1 in
+    let a2 = a.2 in
+    let b0 = b.0 in
+    let b1 = b.1 in
+    let b2 = b.2 in
+    let p = into own other least a0 (omega arith) (le_refl least, a1) in
+    let q = into own other greatest (omega arith) a2 (a1, le_refl greatest) in
+    let r = into other own low b0 (omega arith) (le_refl low, b1) in
+    let s = into other own high (omega arith) b2 (b1, le_refl high) in
+    let p0 = p.0 in
+    let q1 = q.1 in
+    let r0 = r.0 in
+    let s1 = s.1 in
+    (omega arith, omega arith)
+  where
+    into : {i j : ℕ × ℕ} → IsRightInterval ⊤ side i → IsRightInterval ⊤ side j → (X : ℕ) → 1 ≤ X
+        → X ≤ 999999 → Inside (Some i) X → Inside (Some j) X
+    into of_own of_other X from to inside = (of_other.exact tt X from to).1
+        ((of_own.exact tt X from to).0 inside)
+
+-- an interval is not right where no share serves
+pub not_none : (bounds : SideBounds) (side : Side) (low high : ℕ) → HoldsServed bounds None
+    → AreBoundsOf bounds side → AreExact bounds → IsRightInterval ⊤ side (low, high) → ⊥
+not_none bounds side low high serves of exact right =
+    let range = right.in_range in
+    let from = range.0 in
+    let order = range.1 in
+    let to = range.2 in
+    let share : low ≤ 999999 = omega (arith, order, to) in
+    (none_served bounds side serves of exact).1 low from share ((right.exact tt low from share).0
+    (le_refl low, order))

@@ -1,0 +1,40 @@
+use Rattle.std.proofs.Common.{refl}
+use Rattle.mk_judge.proofs.Multiplying.{stored_written, product_fits, up_above, up_near, up_few}
+use Rattle.mk_judge.proofs.multiply.product_up.Goals as goal
+
+pub mul_up-number-requires : goal.mul_up-number-requires
+mul_up-number-requires c =
+    rw (c.of_whole.ensures, c.of_whole-2.ensures) (product_fits c.args.left.now c.mantissa.result _
+    c.args.right.now c.mantissa-2.result _
+    (stored_written _ _ _ c.mantissa.ensures.stored c.mantissa.ensures.value refl)
+    (stored_written _ _ _ c.mantissa-2.ensures.stored c.mantissa-2.ensures.value refl))
+
+pub invariant_of-result-clause-few_digits : goal.invariant_of-result-clause-few_digits
+invariant_of-result-clause-few_digits c =
+    up_few c.args.left.now c.mantissa.result _ c.args.right.now c.mantissa-2.result _
+    (stored_written _ _ _ c.mantissa.ensures.stored c.mantissa.ensures.value refl)
+    (stored_written _ _ _ c.mantissa-2.ensures.stored c.mantissa-2.ensures.value refl)
+    c.mul_up-number.result (rw (c.of_whole.ensures, c.of_whole-2.ensures) at
+    c.mul_up-number.ensures)
+
+pub returns-clause-above : goal.returns-clause-above
+returns-clause-above c =
+    up_above c.args.left.now c.mantissa.result c.exponent.result c.args.right.now
+    c.mantissa-2.result c.exponent-2.result
+    (stored_written _ _ _ c.mantissa.ensures.stored c.mantissa.ensures.value
+    c.exponent.ensures.value)
+    (stored_written _ _ _ c.mantissa-2.ensures.stored c.mantissa-2.ensures.value
+    c.exponent-2.ensures.value)
+    c.mul_up-number.result (rw (c.of_whole.ensures, c.of_whole-2.ensures) at
+    c.mul_up-number.ensures)
+
+pub returns-clause-near : goal.returns-clause-near
+returns-clause-near c =
+    up_near c.args.left.now c.mantissa.result c.exponent.result c.args.right.now c.mantissa-2.result
+    c.exponent-2.result
+    (stored_written _ _ _ c.mantissa.ensures.stored c.mantissa.ensures.value
+    c.exponent.ensures.value)
+    (stored_written _ _ _ c.mantissa-2.ensures.stored c.mantissa-2.ensures.value
+    c.exponent-2.ensures.value)
+    c.mul_up-number.result (rw (c.of_whole.ensures, c.of_whole-2.ensures) at
+    c.mul_up-number.ensures)
