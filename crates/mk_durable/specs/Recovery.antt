@@ -11,11 +11,11 @@ use Rattle.mk_rules.specs.Standings.{Stands}
 use Rattle.mk_rules.specs.Transcript.{Standing, OfCommand, after}
 use Rattle.mk_restore.specs.Restoring.{Changes, IsRecord, IsFit, Restores}
 use Rattle.mk_journal.specs.Store.{StandsFor, IsBroken}
+use Rattle.mk_session.specs.Left.{IsRecordOf}
 
 -- each record is that of one change
 abbrev pub AreRecordsOf : List (List ℕ) → Changes → Type 0
-AreRecordsOf records changes =
-    AllZip (λ bytes change. IsRecord bytes (change.0) (change.1)) records changes
+AreRecordsOf records changes = AllZip IsRecordOf records changes
 
 -- the change of a record is taken back, and the standing moves on by it
 pub record IsTakenBack (market : Market) (old : Standing) (bytes : List ℕ)

@@ -13,14 +13,14 @@ use mk_semiring::{MinProd, SumProd};
 use std::alloc::Global;
 
 /// What stands before the first LF, and what stands behind it.
-fn split_at_end_of_line(record: &[u8]) -> Option<(&[u8], &[u8])>
-    ensures { MatchOption result (All (λ b. b ≢ 10) record.now)
+fn split_at_end_of_line(bytes: &[u8]) -> Option<(&[u8], &[u8])>
+    ensures { MatchOption result (All (λ b. b ≢ 10) bytes.now)
         (λ parts. All (λ b. b ≢ 10) parts.0.now
-        × (record.now ≡ parts.0.now ++ 10 ∷ parts.1.now)) }
+        × (bytes.now ≡ parts.0.now ++ 10 ∷ parts.1.now)) }
 {
-    for (i, byte) in record.iter().enumerate() {
+    for (i, byte) in bytes.iter().enumerate() {
         if *byte == b'\n' {
-            return Some((&record[..i], &record[i + 1..]));
+            return Some((&bytes[..i], &bytes[i + 1..]));
         }
     }
     None
@@ -31,17 +31,17 @@ fn split_at_end_of_line(record: &[u8]) -> Option<(&[u8], &[u8])>
 pub fn take_back<P: Engine<SumProd>, A: Engine<MinProd>>(
     alloc: Global,
     market: &mut Market<P, A>,
-    record: &[u8],
+    bytes: &[u8],
     words: &mut Words,
 ) -> Result<(), RestoreFault>
     ensures market { market.new.market ≡ market.old.market }
-    ensures taken { OnOk result (IsTakenBack market.old.market market.old.standing record.now
+    ensures taken { OnOk result (IsTakenBack market.old.market market.old.standing bytes.now
         market.new.standing) }
     ensures unfit { result ≡ Err Unfit →
-        IsUnfit market.old.market (market.old.standing).history record.now }
+        IsUnfit market.old.market (market.old.standing).history bytes.now }
     ensures same { OnErr result (market.new ≡ market.old) }
 {
-    let Some((line, text)) = split_at_end_of_line(record) else {
+    let Some((line, text)) = split_at_end_of_line(bytes) else {
         return Err(RestoreFault::Unfit);
     };
     let Ok(command) = read_command(line, words) else {

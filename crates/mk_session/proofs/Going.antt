@@ -77,10 +77,12 @@ causes_of_turn end disk_before disk disk_now inputs_before inputs inputs_now sin
 
 -- between two pieces of a file: what was read so far, at most `most` bytes
 pub record IsLoading (most : ℕ) (opened : Option (List ℕ)) (bytes : List ℕ)
-    (source commands_before commands : Option (List ℕ)) (before now : ℕ) : Type 0 where
+    (source commands_before commands : Option (List ℕ))
+    (files_before files : List ℕ → Option (List ℕ)) (before now : ℕ) : Type 0 where
   pub short : length bytes ≤ most
   pub taken : (file : List ℕ) → opened ≡ Some file → IsTaken file bytes source
   pub commands_stay : commands ≡ commands_before
+  pub files_stay : files ≡ files_before
   pub kept : now ≡ before
 
 pub taken_at_start : (file : List ℕ) (source : Option (List ℕ)) → source ≡ Some file

@@ -1,4 +1,4 @@
--- What a run reads of a market file.
+-- What is read of a file.
 use Rattle.std.specs.Prelude.{◌≡◌, ℕ, ◌+◌, ◌≤◌, List, ◌++◌, length, take, Option, Some, ◌⊎◌}
 use Rattle.std.specs.Prelude.{Result, Ok, Err}
 use Rattle.mk_io.specs.Outside.{CountsFault}
@@ -18,10 +18,13 @@ pub record IsTakenWithin (most : ℕ) (file : List ℕ) (left : Option (List ℕ
   pub parts : file ≡ taken ++ rest
   pub few : length taken ≤ most
 
--- a file was not opened, or it was and at most one byte more than a market file may have was read
--- of it
+-- a file was not opened, or it was and at most so many bytes of it were read
+abbrev pub IsPartRead : ℕ → List ℕ → Option (List ℕ) → Option (List ℕ) → Type 0
+IsPartRead most file before left = (left ≡ before) ⊎ IsTakenWithin most file left
+
+-- the same of a market file: at most one byte more than it may have
 abbrev pub IsReadWithin : List ℕ → Option (List ℕ) → Option (List ℕ) → Type 0
-IsReadWithin file before left = (left ≡ before) ⊎ IsTakenWithin (max_file_bytes + 1) file left
+IsReadWithin file before left = IsPartRead (max_file_bytes + 1) file before left
 
 -- the inputs failed where a fault was counted, and nowhere else
 abbrev pub HasLoadCause : {T : Type 0} → Result T LoadFault → ℕ → ℕ → Type 0

@@ -22,7 +22,7 @@ ghost use Rattle.mk_session.specs.inner.Telling.{HasTellCause, CountsNoFault, en
 ghost use Rattle.mk_session.specs.inner.Keeping.{IsSpoken, AreSpoken, Tells, SpeaksAndTells};
 ghost use Rattle.mk_session.specs.inner.Keeping.{HoldsSince, IsHeldSoFar};
 
-use crate::change::{RecordBuffer, take_change};
+use crate::change::take_change;
 use crate::market::TreeMarket;
 use crate::print::{LineBuffer, print_head, print_reply_line};
 use crate::waiting::{TellFault, put_line, write_before_read};
@@ -185,8 +185,6 @@ struct Conversation<J> {
     line: LineBuffer,
     /// The lines of replies that wait to be written.
     waiting: LineBuffer,
-    /// Where the record of a change is put for the keeper.
-    room: RecordBuffer,
     /// Keeps the changes of all lines before these lines are written.
     keeper: J,
 }
@@ -203,7 +201,6 @@ impl<J> Conversation<J> {
             words: Words::default(),
             line: LineBuffer::new(),
             waiting: LineBuffer::new(),
-            room: [0; 34000],
             keeper,
         }
     }
@@ -459,7 +456,7 @@ impl<J> Conversation<J> {
             if market.history().len() != before {
                 let line = self.lines.line();
                 let printed = self.line.as_str().as_bytes();
-                return take_change(line, printed, &mut self.room, &mut self.keeper, disk);
+                return take_change(line, printed, &mut self.keeper, disk);
             }
         }
         Ok(())

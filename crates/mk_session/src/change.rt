@@ -6,32 +6,68 @@ ghost use Rattle.mk_disk.specs.Disk.{HasCause};
 ghost use Rattle.mk_session.specs.Left.{LeavesSince};
 ghost use Rattle.mk_session.specs.inner.Keeping.{HoldsSince};
 
+use arrayvec::ArrayVec;
 use mk_disk::DiskFailed;
 use mk_journal::Keeper;
 
-/// Room for the record of any change: a line, LF and the text of a reply.
-pub type RecordBuffer = [u8; 34000];
+/// The bytes of a short record. Most have fewer than a hundred, and a room for any would take
+/// longer to clear than all else that a change takes.
+const SHORT: usize = 1024;
 
-/// Puts a line, LF and the text of a reply at the front of `room`, and gives their length.
-fn put_record(line: &[u8], reply: &[u8], room: &mut [u8; 34000]) -> usize
-    requires line { length line.now ≤ 1024 }
-    requires reply { length reply.now < 32768 }
-    ensures size { result ≡ length line.now + 1 + length reply.now }
-    ensures bytes { take result room.new ≡ line.now ++ 10 ∷ reply.now }
+/// Room for the record of any change: a line, LF and the text of a reply.
+const LONG: usize = 34000;
+
+/// Puts a line, LF and the text of a reply into `made`, in place of what it held.
+fn put_record<const ROOM: usize>(line: &[u8], reply: &[u8], made: &mut ArrayVec<u8, ROOM>)
+    requires { length line.now + 1 + length reply.now ≤ ROOM }
+    ensures { made.new.items ≡ line.now ++ 10 ∷ reply.now }
 {
-    let size = line.len();
-    let end = size + 1 + reply.len();
-    room[..size].copy_from_slice(line);
-    room[size] = b'\n';
-    room[size + 1..end].copy_from_slice(reply);
-    end
+    made.clear();
+    let Ok(()) = made.try_extend_from_slice(line) else {
+        unreachable!()
+    };
+    made.push(b'\n');
+    let Ok(()) = made.try_extend_from_slice(reply) else {
+        unreachable!()
+    };
+}
+
+/// Takes the change that a line made, by the printed line of its reply. Its record has at most so
+/// many bytes.
+fn take_within<const ROOM: usize, D, J: Keeper<D>>(
+    line: &[u8],
+    printed: &[u8],
+    keeper: &mut J,
+    disk: &mut D,
+) -> Result<(), DiskFailed>
+    requires room { ROOM ≤ 34000 }
+    requires within { length line.now + length printed.now ≤ ROOM }
+    requires line { length line.now ≤ 1024 }
+    requires some { 1 ≤ length printed.now }
+    requires most { length printed.now ≤ 32768 }
+    requires ready { (n : ℕ) × (n < 2 ^ 40) × J.is_ready keeper.old disk.old n }
+    ensures ready { (n : ℕ) → n < 2 ^ 40 → J.is_ready keeper.old disk.old n →
+        OnOk result (J.is_ready keeper.new disk.new (n + 1)) }
+    ensures cause { HasCause (J.faults disk.old) (J.faults disk.new) result }
+    ensures taken { (begun : D) (name market : List ℕ) (first least : ℕ)
+        (all : List (List ℕ)) → HoldsSince (J.holds keeper.old disk.old name market)
+        (J.passes begun disk.old name market) first least all →
+        let record_is = line.now ++ 10 ∷ take (length printed.now - 1) printed.now in
+        MatchResult result
+        (λ _. HoldsSince (J.holds keeper.new disk.new name market)
+        (J.passes begun disk.new name market) first least (all ++ record_is ∷ []))
+        (λ _. LeavesSince (J.leaves disk.new name market) (J.passes begun disk.new name market)
+        first (all ++ record_is ∷ []) least) }
+{
+    let mut made = ArrayVec::<u8, ROOM>::new();
+    put_record(line, &printed[..printed.len() - 1], &mut made);
+    keeper.take(disk, made.as_slice())
 }
 
 /// Takes the change that a line made, by the printed line of its reply.
 pub fn take_change<D, J: Keeper<D>>(
     line: &[u8],
     printed: &[u8],
-    room: &mut [u8; 34000],
     keeper: &mut J,
     disk: &mut D,
 ) -> Result<(), DiskFailed>
@@ -52,6 +88,9 @@ pub fn take_change<D, J: Keeper<D>>(
         (λ _. LeavesSince (J.leaves disk.new name market) (J.passes begun disk.new name market)
         first (all ++ record_is ∷ []) least) }
 {
-    let size = put_record(line, &printed[..printed.len() - 1], room);
-    keeper.take(disk, &room[..size])
+    if line.len() + printed.len() <= SHORT {
+        take_within::<SHORT, D, J>(line, printed, keeper, disk)
+    } else {
+        take_within::<LONG, D, J>(line, printed, keeper, disk)
+    }
 }

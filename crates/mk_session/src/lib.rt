@@ -19,4 +19,4 @@ pub use laws::ends_safely;
 pub use market::{TreeMarket, open};
 pub use print::{LineBuffer, print_fault_line, print_reply_line};
 pub use quiet::serve_quiet;
-pub use run::{LoadFault, load, refuse, run_market, serve};
+pub use run::{LoadFault, load, load_within, refuse, run_market, serve};

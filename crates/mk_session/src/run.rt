@@ -1,7 +1,7 @@
 //! A whole run.
 
 ghost use Rattle.std.specs.Prelude.{◌≡◌, ◌≢◌, ◌+◌, ◌<◌, ◌≤◌, ℕ, List, [], Some, Ok, Err, Result};
-ghost use Rattle.std.specs.Prelude.{length, ◌⊎◌, IsOk, IfOk, IfErr, MatchResult};
+ghost use Rattle.std.specs.Prelude.{length, take, ◌⊎◌, IsOk, IfOk, IfErr, MatchResult};
 ghost use Rattle.mk_io.specs.Outside.{Rose, IsAtEnd, CountsFault};
 ghost use Rattle.mk_file.specs.File.{file_of};
 ghost use Rattle.mk_tree.specs.Checked.{IsTreeOf};
@@ -13,7 +13,7 @@ ghost use Rattle.mk_file.specs.declared.fault.FileFault.{FileFault};
 ghost use Rattle.mk_session.specs.Outcome.{Adds, Ends, Opened, Outcome, IsTurnedAway, HasCauses};
 ghost use Rattle.mk_session.specs.Outcome.{IsRunTo, IsHandedBack, status_of};
 ghost use Rattle.mk_session.specs.Complete.{AreWithin};
-ghost use Rattle.mk_session.specs.Opening.{opened_part, IsTakenWithin, IsReadWithin};
+ghost use Rattle.mk_session.specs.Opening.{opened_part, IsTakenWithin, IsPartRead, IsReadWithin};
 ghost use Rattle.mk_session.specs.Opening.{HasLoadCause};
 ghost use Rattle.mk_session.specs.inner.Loading.{IsTaken};
 
@@ -29,7 +29,10 @@ use std::mem;
 /// One byte more than a market file may have.
 const READ_AT_MOST: usize = 1_048_577;
 
-/// Why a market file could not be read.
+/// The room for the bytes of a file, before it grows. Most market files have no more.
+const FIRST_ROOM: usize = 65_536;
+
+/// Why a file could not be read.
 #[derive(Clone, Copy)]
 pub enum LoadFault {
     /// The file could not be opened, or a read of it failed.
@@ -62,14 +65,66 @@ pub fn serve<I: Inputs, S: Sink>(alloc: Global, name: &str, inputs: &mut I, out:
         (S.faults out.old) (S.faults out.new) }
     ensures not_usage { result ≢ Status.Usage }
 {
-    match run_market(alloc, name, inputs, out) {
-        Ok(market) => {
+    match load(alloc, name, inputs) {
+        Err(LoadFault::Input) => Status::ReadFault,
+        Err(LoadFault::Memory) => Status::Memory,
+        Ok(bytes) => serve_bytes(alloc, bytes, inputs, out),
+    }
+}
+
+/// Runs the market of these bytes of a file, and gives their memory back before the first command
+/// is read. `run_bytes` does the same, and hands the market back: a market has some 17,000 bytes,
+/// which each call on the way would clear and copy.
+fn serve_bytes<I: Inputs, S: Sink>(
+    alloc: Global,
+    bytes: Vec<u8>,
+    inputs: &mut I,
+    out: &mut S,
+) -> Status
+    ensures outcome { (all : List ℕ) → I.commands inputs.old ≡ Some all →
+        Opened result (file_of bytes.items) all (I.commands inputs.new)
+        (S.written out.old) (S.written out.new) }
+    ensures refused { (fault : FileFault) → file_of bytes.items ≡ Err fault →
+        IsTurnedAway result fault (I.commands inputs.old) (I.commands inputs.new)
+        (S.written out.old) (S.written out.new) }
+    ensures opened { I.market inputs.new ≡ I.market inputs.old }
+    ensures causes { HasCauses result (I.faults inputs.old) (I.faults inputs.new)
+        (S.faults out.old) (S.faults out.new) }
+    ensures not_usage { result ≢ Status.Usage }
+{
+    let read = read_market(alloc, bytes.as_slice());
+    drop(bytes);
+    match read {
+        Err(fault) => refuse(fault, out),
+        Ok(file) => serve_file(alloc, file, inputs, out),
+    }
+}
+
+/// Opens the market of an accepted file, and answers its commands.
+fn serve_file<I: Inputs, S: Sink>(
+    alloc: Global,
+    file: MarketFile,
+    inputs: &mut I,
+    out: &mut S,
+) -> Status
+    requires tree { IsTreeOf file.net file.tree }
+    ensures outcome { (all : List ℕ) → I.commands inputs.old ≡ Some all →
+        Opened result (Ok (market_of file)) all (I.commands inputs.new)
+        (S.written out.old) (S.written out.new) }
+    ensures opened { I.market inputs.new ≡ I.market inputs.old }
+    ensures causes { HasCauses result (I.faults inputs.old) (I.faults inputs.new)
+        (S.faults out.old) (S.faults out.new) }
+    ensures not_usage { result ≢ Status.Usage }
+{
+    match open(alloc, file) {
+        Ok(mut market) => {
+            let status = answer_market(alloc, &mut market, inputs, out);
             // The process ends next, and gives all memory back at once: one by one, the many small
             // tables of a chain take long.
             mem::forget(market);
-            Status::Done
+            status
         }
-        Err(status) => status,
+        Err(_) => Status::Memory,
     }
 }
 
@@ -172,7 +227,8 @@ pub fn refuse<S: Sink>(fault: FileFault, out: &mut S) -> Status
     }
 }
 
-/// Opens the market of an accepted file, and answers its commands.
+/// Opens the market of an accepted file, answers its commands, and hands it back where all are
+/// answered.
 fn answer_file<I: Inputs, S: Sink>(
     alloc: Global,
     file: MarketFile,
@@ -194,46 +250,44 @@ fn answer_file<I: Inputs, S: Sink>(
     ensures not_usage { IfErr result (λ status. status ≢ Status.Usage) }
 {
     match open(alloc, file) {
-        Ok(market) => answer_market(alloc, market, inputs, out),
         Err(_) => Err(Status::Memory),
+        Ok(mut market) => match answer_market(alloc, &mut market, inputs, out) {
+            Status::Done => Ok(market),
+            status => {
+                // The process ends next, also where the ready line could not be written.
+                mem::forget(market);
+                Err(status)
+            }
+        },
     }
 }
 
-/// Answers the commands of an opened market, and hands it back where all are answered. Nothing is
-/// kept.
+/// Answers the commands of an opened market. Nothing is kept.
 fn answer_market<I: Inputs, S: Sink>(
     alloc: Global,
-    mut market: TreeMarket,
+    market: &mut TreeMarket,
     inputs: &mut I,
     out: &mut S,
-) -> Result<TreeMarket, Status>
-    requires is_market { IsMarket market.market }
-    requires opening { market.standing ≡ opening }
+) -> Status
+    requires is_market { IsMarket market.old.market }
+    requires opening { market.old.standing ≡ opening }
     ensures outcome { (all : List ℕ) → I.commands inputs.old ≡ Some all →
-        MatchResult result
-        (λ back. IsHandedBack back (Ok market.market) all (I.commands inputs.new)
-        (S.written out.old) (S.written out.new))
-        (λ status. Opened status (Ok market.market) all (I.commands inputs.new)
-        (S.written out.old) (S.written out.new)) }
-    ensures same { IfOk result (λ back. back.market ≡ market.market) }
+        Opened result (Ok market.old.market) all (I.commands inputs.new)
+        (S.written out.old) (S.written out.new) }
+    ensures done { result ≡ Status.Done → (all : List ℕ) → I.commands inputs.old ≡ Some all →
+        IsHandedBack market.new (Ok market.old.market) all (I.commands inputs.new)
+        (S.written out.old) (S.written out.new) }
+    ensures same { market.new.market ≡ market.old.market }
     ensures opened { I.market inputs.new ≡ I.market inputs.old }
-    ensures causes { HasCauses (status_of result) (I.faults inputs.old) (I.faults inputs.new)
+    ensures causes { HasCauses result (I.faults inputs.old) (I.faults inputs.new)
         (S.faults out.old) (S.faults out.new) }
-    ensures not_done { IfErr result (λ status. status ≢ Status.Done) }
-    ensures not_usage { IfErr result (λ status. status ≢ Status.Usage) }
+    ensures not_usage { result ≢ Status.Usage }
 {
     let keeping = Kept {
         keeper: NoStore,
         recovered: None,
     };
-    match serve_from(alloc, keeping, &mut market, inputs, out, &mut ()) {
-        Status::Done => Ok(market),
-        status => {
-            // The process ends next, also where the ready line could not be written.
-            mem::forget(market);
-            Err(status)
-        }
-    }
+    serve_from(alloc, keeping, market, inputs, out, &mut ())
 }
 
 /// The first bytes of the market file of a name, at most one byte more than a market file may have.
@@ -244,27 +298,51 @@ pub fn load<I: Inputs>(alloc: Global, name: &str, inputs: &mut I) -> Result<Vec<
     ensures opened { (file : List ℕ) → I.file inputs.old name.now ≡ Some file →
         IsReadWithin file (I.market inputs.old) (I.market inputs.new) }
     ensures commands { I.commands inputs.new ≡ I.commands inputs.old }
+    ensures files { I.file inputs.new ≡ I.file inputs.old }
+    ensures cause { HasLoadCause result (I.faults inputs.old) (I.faults inputs.new) }
+{
+    load_within(alloc, name, READ_AT_MOST, inputs)
+}
+
+/// The first bytes of the file of a name, at most `most` of them. It fails where the file could not
+/// be opened, where a read of it failed, and where memory was wanting.
+pub fn load_within<I: Inputs>(
+    alloc: Global,
+    name: &str,
+    most: usize,
+    inputs: &mut I,
+) -> Result<Vec<u8>, LoadFault>
+    requires { I.admits name.now }
+    ensures bytes { IfOk result (λ bytes. (file : List ℕ) → I.file inputs.old name.now ≡ Some file
+        → bytes.items ≡ take most file) }
+    ensures opened { (file : List ℕ) → I.file inputs.old name.now ≡ Some file →
+        IsPartRead most file (I.market inputs.old) (I.market inputs.new) }
+    ensures commands { I.commands inputs.new ≡ I.commands inputs.old }
+    ensures files { I.file inputs.new ≡ I.file inputs.old }
     ensures cause { HasLoadCause result (I.faults inputs.old) (I.faults inputs.new) }
 {
     match inputs.open_market(name) {
-        Ok(()) => read_opened(alloc, inputs),
+        Ok(()) => read_opened(alloc, most, inputs),
         Err(InputFailed) => Err(LoadFault::Input),
     }
 }
 
-/// The first bytes of the opened market file.
-fn read_opened<I: Inputs>(alloc: Global, inputs: &mut I) -> Result<Vec<u8>, LoadFault>
+/// The first bytes of the opened file, at most `most` of them.
+fn read_opened<I: Inputs>(alloc: Global, most: usize, inputs: &mut I) -> Result<Vec<u8>, LoadFault>
     ensures bytes { IfOk result (λ bytes. (file : List ℕ) → I.market inputs.old ≡ Some file
-        → bytes.items ≡ opened_part file) }
+        → bytes.items ≡ take most file) }
     ensures few { (file : List ℕ) → I.market inputs.old ≡ Some file →
-        IsTakenWithin 1048577 file (I.market inputs.new) }
+        IsTakenWithin most file (I.market inputs.new) }
     ensures commands { I.commands inputs.new ≡ I.commands inputs.old }
+    ensures files { I.file inputs.new ≡ I.file inputs.old }
     ensures cause { HasLoadCause result (I.faults inputs.old) (I.faults inputs.new) }
 {
-    let mut bytes = Vec::new(alloc);
+    let Ok(mut bytes) = Vec::with_capacity(alloc, FIRST_ROOM) else {
+        return Err(LoadFault::Memory);
+    };
     let mut buffer = [0u8; 4096];
-    'pieces: while bytes.len() < READ_AT_MOST {
-        let room = (READ_AT_MOST - bytes.len()).min(4096);
+    'pieces: while bytes.len() < most {
+        let room = (most - bytes.len()).min(4096);
         match read_piece(inputs, &mut buffer[..room], &mut bytes) {
             Ok(0) => return Ok(bytes),
             Ok(_) => {}
@@ -274,7 +352,7 @@ fn read_opened<I: Inputs>(alloc: Global, inputs: &mut I) -> Result<Vec<u8>, Load
     Ok(bytes)
 }
 
-/// Reads the next piece of the opened market file behind the bytes before, and says how long it is.
+/// Reads the next piece of the opened file behind the bytes before, and says how long it is.
 fn read_piece<I: Inputs>(
     inputs: &mut I,
     piece: &mut [u8],
@@ -290,6 +368,7 @@ fn read_piece<I: Inputs>(
         IsTakenWithin (length bytes.old.items + length piece.old) file (I.market inputs.new) }
     ensures at_end { IfOk result (λ count. count ≡ 0 → IsAtEnd (I.market inputs.new)) }
     ensures commands { I.commands inputs.new ≡ I.commands inputs.old }
+    ensures files { I.file inputs.new ≡ I.file inputs.old }
     ensures cause { HasLoadCause result (I.faults inputs.old) (I.faults inputs.new) }
 {
     match inputs.read_market(piece) {

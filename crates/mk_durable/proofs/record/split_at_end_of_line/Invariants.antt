@@ -2,4 +2,4 @@ use Rattle.std.proofs.Common.{◌≢◌, take, All}
 use Rattle.mk_durable.proofs.record.split_at_end_of_line.Given as goal
 
 abbrev pub invariant-loop-i : goal.invariant-loop-i
-invariant-loop-i l = All (λ b. b ≢ 10) (take l.i l.record)
+invariant-loop-i l = All (λ b. b ≢ 10) (take l.i l.bytes)

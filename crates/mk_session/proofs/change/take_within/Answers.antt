@@ -1,5 +1,6 @@
+use Rattle.std.proofs.Common.{◌∙◌}
 use Rattle.mk_session.proofs.Keeping.{passes_on, taken_or_left}
-use Rattle.mk_session.proofs.change.take_change.Goals as goal
+use Rattle.mk_session.proofs.change.take_within.Goals as goal
 
 pub returns-clause-taken : goal.returns-clause-taken
 returns-clause-taken g c = λ begun name market first least all since.
@@ -11,7 +12,7 @@ returns-clause-taken g c = λ begun name market first least all since.
     taken_or_left c.take.result (g.J.Keeper.holds c.args.keeper.now c.args.disk.now name market)
     (g.J.Keeper.holds c.take.new.self c.take.new.disk name market) past passes
     (g.J.Keeper.leaves c.take.new.disk name market) first least all _ _
-    c.put_record-size.ensures.bytes
+    (c.as_slice.ensures.value ∙ c.put_record.ensures)
     (g.met.J.Keeper.fewer_are_left c.take.new.disk name market) since
     (c.take.ensures.taken name market held.kept held.waiting held.held)
     (g.met.J.Keeper.last_is_left c.args.disk.now c.take.new.disk name market _ _ moved)
