@@ -82,7 +82,7 @@ sum_is_whole network H asked hit miss whole hit_in miss_in is =
 -- ---- one side
 
 -- a side's own price and factor
-side_parts : (network : List Variable) (H : List Entry) (u : ℕ) (asked : Asked) (test : List ℕ → Bool) (side : Side) → IsSide network H u asked test side
+pub side_parts : (network : List Variable) (H : List Entry) (u : ℕ) (asked : Asked) (test : List ℕ → Bool) (side : Side) → IsSide network H u asked test side
     → (g : ℕ) × (least_gain network H u test ≡ Some g) × (side ≡ record { price = price_where network H asked.condition test; least = factor_with H u g })
 side_parts network H u asked test side h = at (least_gain network H u test) h
   where

@@ -30,7 +30,9 @@ use Rattle.mk_beliefs.proofs.Grown.{factors_are_few}
 use Rattle.mk_cash.specs.Factors.{HasPowersInRange}
 use Rattle.mk_cash.specs.inner.Within.{powers_in_range}
 use Rattle.mk_assets.specs.Holdings.{Holding, IsNet, IsLeastFactor, max_bits}
+use Rattle.mk_judge.specs.Powers.{HasCashRange}
 use Rattle.mk_answers.specs.Open.{IsOpen, IsFactorFor, holding_of}
+use Rattle.mk_answers.specs.inner.Found.{IsCounted}
 
 -- a least value that is present is the number itself
 pub present_is : (n g : ℕ) → if_present n ≡ Some g → (n ≡ g) × (1 ≤ n)
@@ -114,6 +116,35 @@ module _ (network : List Variable) (tree : GivenTree) (H : List Entry) (u : ℕ)
         let own = length-map (trades_of H u) (λ (t : UserTrade). RatioOf t.ratio) in
         omega (arith, all, own, few)
 
+    -- it counts the user's trades and bits
+    pub is_counted : deposited H u ≤ max_bits → withdrawn H u ≤ max_bits → IsCounted H u f
+    is_counted few_in few_out =
+        let paid = paid_few f.net (deposited H u) (withdrawn H u) its.net in
+        let taken = taken_few f.net (deposited H u) (withdrawn H u) its.net in
+        record {
+          trades = counted;
+          net = its.net;
+          range = record {
+            above = omega (arith, paid, few_in);
+            below = omega (arith, taken, few_out, counted, own_few);
+          };
+        }
+
+    -- and what its cash is compared with has few enough bits
+    pub cash_in_range : deposited H u ≤ max_bits → withdrawn H u ≤ max_bits → (b : ℕ)
+        → b ≤ max_points_per_bit → HasCashRange f b
+    cash_in_range few_in few_out b h =
+        let paid = paid_few f.net (deposited H u) (withdrawn H u) its.net in
+        let taken = taken_few f.net (deposited H u) (withdrawn H u) its.net in
+        record {
+          bits = 192 * (most + 1);
+          gain = its.grade.1;
+          above = product_small b (paid_in f.net + (192 * (most + 1) + 59)) h
+              (omega (arith, paid, few_in, close, few));
+          below = product_small b (40 * f.trades + taken_out f.net) h
+              (omega (arith, taken, few_out, counted, own_few));
+        }
+
     -- and its powers are in range
     pub factor_in_range : deposited H u ≤ max_bits → withdrawn H u ≤ max_bits → (b : ℕ) → b ≤ max_points_per_bit → HasPowersInRange f b
     factor_in_range few_in few_out b h =
@@ -164,6 +195,15 @@ module _ (network : List Variable) (tree : GivenTree) (H : List Entry) (u : ℕ)
       pub worst_idle : HoldsNoTrade H u → Encloses f.gain 1
       worst_idle none = encloses_least (exact_belief least (gains_of network tree H u) []) most
           result f is over_all close 1 (always_one none)
+
+      pub worst_counted : deposited H u ≤ max_bits → withdrawn H u ≤ max_bits → IsCounted H u f
+      worst_counted few_in few_out = is_counted (exact_belief least (gains_of network tree H u) [])
+          most result f is over_all close few_in few_out
+
+      pub worst_cash : deposited H u ≤ max_bits → withdrawn H u ≤ max_bits → (b : ℕ)
+          → b ≤ max_points_per_bit → HasCashRange f b
+      worst_cash few_in few_out = cash_in_range (exact_belief least (gains_of network tree H u) [])
+          most result f is over_all close few_in few_out
 
       pub worst_in_range : deposited H u ≤ max_bits → withdrawn H u ≤ max_bits → (b : ℕ) → b ≤ max_points_per_bit → HasPowersInRange f b
       worst_in_range few_in few_out = factor_in_range (exact_belief least (gains_of network tree H u) []) most result f is over_all close few_in few_out

@@ -14,3 +14,6 @@ pub mod Told
 pub mod NoZeros
 pub mod Searching
 pub mod Losing
+pub mod Counted
+pub mod Priced
+pub mod Sure

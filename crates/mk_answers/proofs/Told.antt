@@ -1,7 +1,7 @@
 -- What is told of every value: its price, and what a user is sure of where it comes.
 use Rattle.std.proofs.Common.{◌≡◌, ℕ, zero, suc, ◌+◌, ◌<◌, ◌≤◌, Bool, true, false}
 use Rattle.std.proofs.Common.{List, [], ◌∷◌, ◌++◌, length, slice_index, Option, Some, None}
-use Rattle.std.proofs.Common.{IsSome, IsNone, IfSome, ◌↔◌, ◌^◌, refl, sym, ap, subst, ◌∙◌, arith}
+use Rattle.std.proofs.Common.{IsNone, IfSome, ◌↔◌, ◌^◌, refl, sym, ap, subst, ◌∙◌, arith}
 use Rattle.std.specs.List.{AllZip, AllByRecursion, range_with_len}
 use Rattle.mk_net.specs.declared.words.Pair.{Pair}
 use Rattle.mk_net.specs.Asked.{Asked}
@@ -10,7 +10,7 @@ use Rattle.mk_net.specs.Events.{pairs_asked}
 use Rattle.mk_net.specs.Network.{Variable, sizes}
 use Rattle.mk_exact.specs.Cash.{CoversCash}
 use Rattle.mk_exact.specs.Events.{holds, with_target}
-use Rattle.mk_exact.specs.Existing.{IsInOrder, IsSafeFactor}
+use Rattle.mk_exact.specs.Existing.{IsInOrder}
 use Rattle.mk_exact.specs.Factors.{Fraction, HoldsNoTrade, gain, factor_with, least_gain}
 use Rattle.mk_exact.specs.Factors.{IsAtLeastOne}
 use Rattle.mk_exact.specs.History.{Entry, deposited, withdrawn}
@@ -32,7 +32,7 @@ use Rattle.mk_beliefs.proofs.Gained.{belief_is_least, target_is_least}
 use Rattle.mk_cash.specs.Factors.{HasPowersInRange}
 use Rattle.mk_assets.specs.Holdings.{IsLeastFactor, max_bits}
 use Rattle.mk_answers.specs.Open.{IsOpen, CanBeAnswered, CanBeSpreadHere, IsFactorFor, holding_of}
-use Rattle.mk_answers.proofs.Least.{present_is, idle_gain, factor_for, encloses_least}
+use Rattle.mk_answers.proofs.Least.{idle_gain, factor_for, encloses_least}
 use Rattle.mk_answers.proofs.Least.{factor_in_range}
 use Rattle.mk_answers.proofs.Valued.{range_more}
 

@@ -3,4 +3,5 @@ pub mod Results
 pub mod Calls
 pub mod Laws
 pub mod Telling
+pub mod Evidence
 pub mod inner

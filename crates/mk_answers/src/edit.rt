@@ -12,7 +12,8 @@ ghost use Rattle.mk_assets.specs.Holdings.{Holding, Owns};
 ghost use Rattle.mk_answers.specs.Open.{IsOpen, CanBeAnswered, AreBoundsFor, holding_of};
 ghost use Rattle.mk_answers.specs.Calls.{CanBound};
 ghost use Rattle.mk_answers.specs.Results.{AreBothLeft, AreSidesFor};
-ghost use Rattle.mk_answers.specs.inner.Found.{CanOpen, IsPartFor, IsRestFor};
+ghost use Rattle.mk_answers.specs.Evidence.{AreSidesBounded};
+ghost use Rattle.mk_answers.specs.inner.Found.{CanOpen, IsPartFor, IsRestFor, IsCounted};
 
 use crate::found::factor_of;
 use mk_assets::Assets;
@@ -50,6 +51,10 @@ pub fn bounds_of<P: Engine<SumProd>, A: Engine<MinProd>>(
     ensures sides { (tree : GivenTree) (H : List Entry) (u : ℕ)
         → P.stands_for prices.old (weights_of net.now tree H) → Owns A.stands_for assets.old (holding_of net.now tree H u)
         → IsOpen net.now tree H → CanBeAnswered net.now tree H asked.now → AreSidesFor net.now H u asked.now result }
+    ensures bounded { (tree : GivenTree) (H : List Entry) (u : ℕ)
+        → P.stands_for prices.old (weights_of net.now tree H)
+        → Owns A.stands_for assets.old (holding_of net.now tree H u) → IsOpen net.now tree H
+        → CanBeAnswered net.now tree H asked.now → AreSidesBounded net.now H u asked.now result }
 {
     let values = net.values(asked.target().variable);
     let hit = prices.belief(at, &asked.event());
@@ -81,6 +86,13 @@ fn open_bounds<A: Engine<MinProd>>(
         → values ≡ slice_index (sizes network) asked.now.target.variable
         → IsPartFor network H asked.now hit.now → IsRestFor network H asked.now miss.now
         → AreSides network H u asked.now on_hit on_miss → AreBoundsFor result (IsSmall network H) on_hit on_miss }
+    ensures hit_counted { (network : List Variable) (tree : GivenTree) (H : List Entry) (u : ℕ)
+        → Owns A.stands_for assets.old (holding_of network tree H u) → IsOpen network tree H
+        → IsCounted H u result.hit_factor }
+    ensures miss_counted { (network : List Variable) (tree : GivenTree) (H : List Entry) (u : ℕ)
+        → Owns A.stands_for assets.old (holding_of network tree H u) → IsOpen network tree H
+        → values ≡ slice_index (sizes network) asked.now.target.variable
+        → IsCounted H u result.miss_factor }
 {
     let hit_factor = assets.least(at, &asked.event());
     let miss_factor = assets.least_of_others(at, asked, values);

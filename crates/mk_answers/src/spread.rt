@@ -11,7 +11,8 @@ ghost use Rattle.mk_quote.specs.Questions.{spread_in};
 ghost use Rattle.mk_answers.specs.Open.{IsOpen, CanBeSpreadHere, holding_of};
 ghost use Rattle.mk_answers.specs.Calls.{CanBoundSpread};
 ghost use Rattle.mk_answers.specs.Results.{AreSpreadSidesFor};
-ghost use Rattle.mk_answers.specs.inner.Found.{IsValueFound, CanFindValue};
+ghost use Rattle.mk_answers.specs.Evidence.{AreSpreadSidesBounded};
+ghost use Rattle.mk_answers.specs.inner.Found.{IsValueFound, IsValueCounted, CanFindValue};
 ghost use Rattle.mk_answers.specs.inner.Alone.{alone_in};
 
 use crate::found::factor_of;
@@ -50,6 +51,11 @@ pub fn spread_bounds_of<P: Engine<SumProd>, A: Engine<MinProd>>(
     ensures sides { (tree : GivenTree) (H : List Entry) (u : ℕ)
         → P.stands_for prices.old (weights_of net.now tree H) → Owns A.stands_for assets.old (holding_of net.now tree H u)
         → IsOpen net.now tree H → CanBeSpreadHere net.now tree H (spread_in asked.now) → AreSpreadSidesFor net.now H u (spread_in asked.now) result }
+    ensures bounded { (tree : GivenTree) (H : List Entry) (u : ℕ)
+        → P.stands_for prices.old (weights_of net.now tree H)
+        → Owns A.stands_for assets.old (holding_of net.now tree H u) → IsOpen net.now tree H
+        → CanBeSpreadHere net.now tree H (spread_in asked.now)
+        → AreSpreadSidesBounded net.now H u (spread_in asked.now) result }
 {
     let Held::Present(whole) = prices.belief(at, &asked.condition) else {
         return SpreadSides::Impossible;
@@ -112,6 +118,9 @@ fn value_bounds_of<P: Engine<SumProd>, A: Engine<MinProd>>(
     ensures found { (tree : GivenTree) (H : List Entry) (u : ℕ)
         → P.stands_for prices.old (weights_of net.now tree H) → Owns A.stands_for assets.old (holding_of net.now tree H u)
         → IsOpen net.now tree H → IsValueFound net.now H u asked.now result }
+    ensures counted { (tree : GivenTree) (H : List Entry) (u : ℕ)
+        → Owns A.stands_for assets.old (holding_of net.now tree H u) → IsOpen net.now tree H
+        → IsValueCounted H u result }
 {
     let event = asked.event();
     match prices.belief(at, &event) {

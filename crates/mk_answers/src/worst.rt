@@ -1,5 +1,5 @@
 //! The least that a user owns, whatever comes.
-ghost use Rattle.std.specs.Prelude.{◌≡◌, ℕ, ◌≤◌, List, Some};
+ghost use Rattle.std.specs.Prelude.{◌≡◌, ℕ, ◌^◌, ◌≤◌, List, Some};
 ghost use Rattle.mk_net.specs.Bounds.{max_points_per_bit};
 ghost use Rattle.mk_net.specs.Network.{Variable};
 ghost use Rattle.mk_exact.specs.Accepted.{Covers, IsMost};
@@ -14,6 +14,7 @@ ghost use Rattle.mk_cash.specs.Factors.{HasPowersInRange};
 ghost use Rattle.mk_assets.specs.Holdings.{Holding, Owns};
 ghost use Rattle.mk_answers.specs.Open.{IsOpen, IsFactorFor, holding_of};
 ghost use Rattle.mk_answers.specs.Calls.{CanFindWorst};
+ghost use Rattle.mk_answers.specs.Evidence.{IsLeastFactorOf};
 
 use crate::found::{ROOT, factor_of};
 use mk_assets::Assets;
@@ -34,6 +35,9 @@ pub fn least_of<A: Engine<MinProd>>(assets: &mut Assets<A>) -> Factor
         → Owns A.stands_for assets.old (holding_of network tree H u) → IsOpen network tree H
         → HoldsNoTrade H u → Encloses result.gain 1 }
     ensures range { (b : ℕ) → b ≤ max_points_per_bit → HasPowersInRange result b }
+    ensures judged { (network : List Variable) (tree : GivenTree) (H : List Entry) (u : ℕ)
+        → Owns A.stands_for assets.old (holding_of network tree H u) → IsOpen network tree H
+        → IsLeastFactorOf (2 ^ 17) network H u always result }
 {
     factor_of(assets.least(ROOT, &Event::empty()))
 }

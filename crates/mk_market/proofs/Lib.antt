@@ -33,3 +33,5 @@ pub mod TakenBack
 pub mod TradesBack
 pub mod Booked
 pub mod Retold
+pub mod Evidenced
+pub mod EvidencedSpreads

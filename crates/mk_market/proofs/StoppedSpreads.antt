@@ -105,7 +105,7 @@ module _ (network : List Variable) (tree : GivenTree) (H : List Entry) (v : List
 
 -- ---- what may stop a spread
 
-first_below : (test : ℕ × ℕ → Bool) (a : ℕ) (Xs : List ℕ) (value : ℕ) → option_map (λ (numbered : ℕ × ℕ). numbered.0) (find test (enumerate_from a Xs)) ≡ Some value → value < a + length Xs
+pub first_below : (test : ℕ × ℕ → Bool) (a : ℕ) (Xs : List ℕ) (value : ℕ) → option_map (λ (numbered : ℕ × ℕ). numbered.0) (find test (enumerate_from a Xs)) ≡ Some value → value < a + length Xs
 first_below test a [] value e = cc
 first_below test a (X ∷ Xs) value e = at (test (a, X)) e (first_below test (a + 1) Xs value)
   where

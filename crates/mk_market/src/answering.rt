@@ -54,7 +54,7 @@ impl<P: Engine<SumProd>, A: Engine<MinProd>> Market<P, A> {
                 variable,
                 condition,
             } => self.answer_position(user, variable, condition),
-            CommandRef::Status => self.answer_status(),
+            CommandRef::Status => self.status(),
         }
     }
 }

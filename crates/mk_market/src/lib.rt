@@ -3,6 +3,9 @@
 
 mod answering;
 mod editing;
+mod evidence;
+mod evidence_of_edits;
+mod evidence_of_spreads;
 mod joining;
 mod laws;
 mod market;
@@ -11,6 +14,7 @@ mod possible;
 mod pricing;
 mod quoting;
 mod reading;
+mod refused;
 mod resolving;
 mod restoring;
 mod restoring_trades;
@@ -23,6 +27,8 @@ mod trading;
 mod transfers;
 mod withdrawing;
 
+pub use evidence_of_edits::EditEvidence;
+pub use evidence_of_spreads::SpreadEvidence;
 pub use laws::{safe_has_homes, settlement_pays_off};
 pub use market::Market;
 pub use mk_record::Entry;

@@ -38,7 +38,8 @@ impl<P: Engine<SumProd>, A: Engine<MinProd>> Model for Market<P, A> {
 }
 
 impl<P: Engine<SumProd>, A: Engine<MinProd>> Market<P, A> {
-    ghost use Rattle.std.specs.Prelude.{◌≡◌, length};
+    ghost use Rattle.std.specs.Prelude.{◌≡◌, ◌≤◌, length};
+    ghost use Rattle.mk_net.specs.Bounds.{max_variables, max_points_per_bit};
     ghost use Rattle.mk_file.specs.MarketOf.{market_of};
     ghost use Rattle.mk_record.specs.Entries.{changes};
     ghost use Rattle.mk_restore.specs.Laws.{IsSafe};
@@ -46,14 +47,18 @@ impl<P: Engine<SumProd>, A: Engine<MinProd>> Market<P, A> {
 
     /// How many variables the market has.
     pub fn variables(&self) -> u32
-        ensures { result ≡ length (self.now.market).network }
+        ensures count { result ≡ length (self.now.market).network }
+        ensures some { 1 ≤ result }
+        ensures few { result ≤ max_variables }
     {
         self.file.net.variables()
     }
 
     /// The points of one bit.
     pub fn points_per_bit(&self) -> u32
-        ensures { result ≡ (self.now.market).points_per_bit }
+        ensures points { result ≡ (self.now.market).points_per_bit }
+        ensures some { 1 ≤ result }
+        ensures few { result ≤ max_points_per_bit }
     {
         self.file.points_per_bit
     }

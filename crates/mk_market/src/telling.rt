@@ -100,8 +100,8 @@ impl<P: Engine<SumProd>, A: Engine<MinProd>> Market<P, A> {
         }
     }
 
-    /// Answers how far the market is, and what is left of its limits.
-    pub(crate) fn answer_status(&self) -> Reply
+    /// How far the market is, and what is left of its limits, as `apply` answers it.
+    pub fn status(&self) -> Reply
         ensures { IsAnswered self.now self.now Status result }
     {
         if let Err(why) = not_settled(&self.journal) {

@@ -7,10 +7,11 @@ use Rattle.mk_net.specs.Asked.{Asked}
 use Rattle.mk_net.specs.Events.{pairs_asked}
 use Rattle.mk_exact.specs.Events.{holds, with_target, without_target}
 use Rattle.mk_exact.specs.Existing.{IsInOrder}
-use Rattle.mk_exact.specs.Factors.{factor_with, least_gain}
-use Rattle.mk_exact.specs.History.{Entry}
+use Rattle.mk_exact.specs.Factors.{factor_with, least_gain, trade_count}
+use Rattle.mk_exact.specs.History.{Entry, deposited, withdrawn}
 use Rattle.mk_exact.specs.Weight.{total, IsSmall, cannot_come}
 use Rattle.mk_enclose.specs.declared.enclosure.Enclosure.{Enclosure}
+use Rattle.mk_enclose.specs.declared.factor.Factor.{Factor}
 use Rattle.mk_enclose.specs.Enclosure.{Encloses, IsExact, IsGradedWithin}
 use Rattle.mk_semiring.specs.declared.held.Held.{Held}
 use Rattle.mk_semiring.specs.declared.held.Held.TheVariants.{Present}
@@ -20,8 +21,9 @@ use Rattle.mk_tree.specs.Held.{IsHeldAt}
 use Rattle.mk_engine.specs.Meaning.{Meaning, max_factors, max_grade}
 use Rattle.mk_beliefs.specs.Meanings.{weights_of}
 use Rattle.mk_assets.specs.declared.assets.Assets.{Assets}
-use Rattle.mk_assets.specs.Holdings.{Owns}
+use Rattle.mk_assets.specs.Holdings.{IsNet, Owns}
 use Rattle.mk_quote.specs.declared.values.ValueBounds.{ValueBounds}
+use Rattle.mk_judge.specs.Units.{HasTradeRange}
 use Rattle.mk_answers.specs.Open.{IsOpen, CanBeAnswered, IsFactorFor, holding_of}
 
 -- the belief encloses a number that is not zero
@@ -39,6 +41,12 @@ pub record IsBeliefIn (belief : Held) (small : Type 0) (number : ℕ) : Type 0 w
   pub encloses : HeldEncloses belief number
   pub grade : HasHeldGrade belief max_side_grade
   pub exact : small → IsHeldExact belief
+
+-- a factor counts a user's trades and bits, few enough for one trade more
+pub record IsCounted (H : List Entry) (u : ℕ) (factor : Factor) : Type 0 where
+  pub trades : factor.trades ≡ trade_count H u
+  pub net : IsNet factor.net (deposited H u) (withdrawn H u)
+  pub range : HasTradeRange factor
 
 -- an enclosure of a number, with its grade, and exact in the small case
 pub record IsFoundOf (e : Enclosure) (small : Type 0) (number : ℕ) : Type 0 where
@@ -124,3 +132,7 @@ pub record CanFindSure {A P : Type 0} (owned_for : A → Meaning
     pub owns : Owns owned_for assets (holding_of network tree history user)
     pub is_open : IsOpen network tree history
     pub valued : CanBeValuedHere network tree history at asked
+
+-- a value's bounds, where it can come, count the user's trades and bits
+abbrev pub IsValueCounted : List Entry → ℕ → Option ValueBounds → Type 0
+IsValueCounted H u found = IfSome found (λ value. IsCounted H u value.factor)

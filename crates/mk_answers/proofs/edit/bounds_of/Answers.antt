@@ -3,7 +3,9 @@ use Rattle.mk_net.specs.declared.words.Pair.{Pair}
 use Rattle.mk_net.specs.Asked.{Asked}
 use Rattle.mk_net.specs.Events.{pairs_asked}
 use Rattle.mk_net.specs.Network.{Variable, sizes}
+use Rattle.mk_exact.specs.Events.{with_target, without_target}
 use Rattle.mk_exact.specs.History.{Entry}
+use Rattle.mk_quote.specs.Bounds.{hit_side, miss_side}
 use Rattle.mk_semiring.specs.declared.held.Held.{Held}
 use Rattle.mk_semiring.specs.Held.{HeldEncloses, HasHeldGrade, IsHeldExact}
 use Rattle.mk_tree.specs.Given.{GivenTree}
@@ -14,6 +16,7 @@ use Rattle.mk_answers.specs.inner.Found.{AreSidesIn}
 use Rattle.mk_answers.proofs.Weights.{IsWeightOf, hit_in, miss_in}
 use Rattle.mk_answers.proofs.Bounding.{can_ask, room_of_weights}
 use Rattle.mk_answers.proofs.Coming.{hit_present, miss_present, both_come, neither_comes, target_never, target_sure}
+use Rattle.mk_answers.proofs.Counted.{side_bounded}
 use Rattle.mk_answers.proofs.edit.bounds_of.Goals as goal
 
 -- the values of the target that was asked for are those of the question's variable
@@ -75,6 +78,37 @@ returns-in-Present-Present-clause-sides g c = λ tree H u stands owns is_open an
           (hit_present network H asked c.belief-hit.result c.belief_of_others-miss.result sides hit c.in-Present-Present.is-0)
           (miss_present network H asked c.belief-hit.result c.belief_of_others-miss.result sides miss c.in-Present-Present.is-1) both,
     )
+
+pub returns-in-Present-Present-clause-bounded : goal.returns-in-Present-Present-clause-bounded
+returns-in-Present-Present-clause-bounded g c = λ tree H u stands owns is_open answered.
+    let network = c.args.net.now in let asked = c.args.asked.now in
+    let m = weights_of network tree H in
+    let sized = sized_as network asked c.target.result c.values-values.result c.target.ensures
+    c.values-values.ensures in
+    let sides = found_in network tree H is_open asked answered c.event.result c.belief-hit.result
+    c.belief_of_others-miss.result c.values-values.result c.event.ensures.pairs sized
+    (c.belief-hit.ensures.belief m stands)
+    (c.belief_of_others-miss.ensures.belief m (c.belief-hit.ensures.kept m stands) sized) in
+    let hit = hit_present network H asked c.belief-hit.result c.belief_of_others-miss.result sides
+    c.in-Present-Present.hit c.in-Present-Present.is-0 in
+    let miss = miss_present network H asked c.belief-hit.result c.belief_of_others-miss.result sides
+    c.in-Present-Present.miss c.in-Present-Present.is-1 in
+    let bounds = c.open_bounds.result in
+    record {
+      hit = λ on_hit on_miss both.
+          let are = c.open_bounds.ensures.bounds network tree H u on_hit on_miss owns is_open
+          answered sized hit miss both in
+          side_bounded network H u asked (with_target asked) (hit_side bounds) on_hit both.hit_side
+          (c.open_bounds.ensures.hit_counted network tree H u owns is_open) are.sides.of_hit
+          are.graded.hit (λ s. (are.exact s).hit);
+      miss = λ on_hit on_miss both.
+          let are = c.open_bounds.ensures.bounds network tree H u on_hit on_miss owns is_open
+          answered sized hit miss both in
+          side_bounded network H u asked (without_target asked) (miss_side bounds) on_miss
+          both.miss_side
+          (c.open_bounds.ensures.miss_counted network tree H u owns is_open sized)
+          are.sides.of_miss are.graded.miss (λ s. (are.exact s).miss);
+    }
 
 pub returns-in-Present-Absent-clause-sides : goal.returns-in-Present-Absent-clause-sides
 returns-in-Present-Absent-clause-sides g c = λ tree H u stands owns is_open answered.

@@ -7,6 +7,7 @@ use Rattle.mk_answers.proofs.Homes.{question_is_held}
 use Rattle.mk_answers.proofs.Weights.{event_fits}
 use Rattle.mk_answers.proofs.Presence.{present_comes}
 use Rattle.mk_answers.proofs.Bounding.{can_ask, room_of_gains, sum_fits, some_hit, some_miss, hit_for, miss_for, are_bounds}
+use Rattle.mk_answers.proofs.Least.{is_counted}
 use Rattle.mk_answers.proofs.edit.open_bounds.Goals as goal
 
 pub least-hit_factor-requires-clause-held : goal.least-hit_factor-requires-clause-held
@@ -65,3 +66,18 @@ returns-clause-bounds g c = λ network tree H u on_hit on_miss owns is_open answ
     (miss_for network tree H u is_open asked answered c.args.values sized _ c.least_of_others-miss_factor.result
     (c.least_of_others-miss_factor.ensures.least h (c.least-hit_factor.ensures.kept h owns) sized) c.factor_of-2.result c.factor_of-2.ensures (omega arith))
     on_hit on_miss sides
+
+pub returns-clause-hit_counted : goal.returns-clause-hit_counted
+returns-clause-hit_counted g c = λ network tree H u owns is_open.
+    let h = holding_of network tree H u in
+    is_counted network tree H u is_open _ _ c.least-hit_factor.result c.factor_of.result
+    c.factor_of.ensures (c.least-hit_factor.ensures.least h owns) (omega arith) owns.few_in
+    owns.few_out
+
+pub returns-clause-miss_counted : goal.returns-clause-miss_counted
+returns-clause-miss_counted g c = λ network tree H u owns is_open sized.
+    let h = holding_of network tree H u in
+    is_counted network tree H u is_open _ _ c.least_of_others-miss_factor.result
+    c.factor_of-2.result c.factor_of-2.ensures
+    (c.least_of_others-miss_factor.ensures.least h (c.least-hit_factor.ensures.kept h owns) sized)
+    (omega arith) owns.few_in owns.few_out

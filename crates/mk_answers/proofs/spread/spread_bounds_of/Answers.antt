@@ -1,12 +1,16 @@
-use Rattle.std.proofs.Common.{◌≡◌, Some, None, refl, arith}
+use Rattle.std.proofs.Common.{◌≡◌, [], ◌∷◌, Some, None, refl, arith}
 use Rattle.std.specs.Prelude.{slice_index}
 use Rattle.mk_net.specs.Network.{sizes}
 use Rattle.mk_exact.proofs.Positive.{few_values_at}
+use Rattle.mk_exact.proofs.Sums.{each-append}
 use Rattle.mk_spread.specs.Spreads.{asked_of}
 use Rattle.mk_beliefs.specs.Meanings.{weights_of}
+use Rattle.mk_quote.specs.declared.values.SpreadBounds.{SpreadBounds}
 use Rattle.mk_quote.specs.Questions.{spread_in}
 use Rattle.mk_answers.specs.Open.{holding_of}
 use Rattle.mk_answers.specs.inner.Alone.{alone_in}
+use Rattle.mk_answers.specs.inner.Found.{IsValueCounted}
+use Rattle.mk_answers.proofs.Counted.{each_bounded}
 use Rattle.mk_answers.proofs.Homes.{condition_is_held}
 use Rattle.mk_answers.proofs.Valued.{AreFirstFound, one_value_more, valued_at, condition_never, condition_comes, whole_for, alone_is_left, two_are_left, are_side_bounds}
 use Rattle.mk_answers.proofs.spread.spread_bounds_of.Goals as goal
@@ -55,6 +59,11 @@ loop-value-preserved g c =
           rw c.push.ensures.items (one_value_more c.args.net.now H u spread value c.loop-value.parts.items c.value_bounds_of.result
           (so_far.parts tree H u stands owns is_open)
           (rw c.question_at-question.ensures at (c.value_bounds_of.ensures.found tree H u (so_far.kept _ stands) (so_far.kept_assets _ owns) is_open)));
+      counted = λ tree H u owns is_open.
+          rw c.push.ensures.items
+          (each-append (IsValueCounted H u) c.loop-value.parts.items
+          (c.value_bounds_of.result ∷ []) (so_far.counted tree H u owns is_open)
+          (c.value_bounds_of.ensures.counted tree H u (so_far.kept_assets _ owns) is_open, tt));
     }
 
 pub returns-in-Some-clause-sides : goal.returns-in-Some-clause-sides
@@ -79,3 +88,23 @@ returns-in-None-clause-sides g c = λ tree H u stands owns is_open answered.
           (whole_for network tree H is_open spread condition c.belief.result refl b whole c.in-Present.is)
           (slice_index (sizes network) spread.variable) 0 c.loop-value.parts.items sides found are,
     )
+
+pub returns-in-None-clause-bounded : goal.returns-in-None-clause-bounded
+returns-in-None-clause-bounded g c = λ tree H u stands owns is_open answered sides are.
+    let spread = spread_in c.args.asked.now in let network = c.args.net.now in
+    let condition = c.args.asked.now.condition in
+    let n = slice_index (sizes network) spread.variable in
+    let all : c.loop-value.value ≡ n =
+    omega (arith, c.values-value-end.ensures, c.loop-value-test.false, c.loop-value.auto.value-end)
+    in
+    let b = c.belief.ensures.belief (weights_of network tree H) stands in
+    let whole = c.in-Present.whole in
+    let parts = c.loop-value.parts.items in
+    let bounds : SpreadBounds = record { whole = whole; parts = c.loop-value.parts } in
+    let found : AreFirstFound network H u spread n parts =
+    rw all at (c.loop-value.invariant.parts tree H u stands owns is_open) in
+    let both = are_side_bounds network H u spread bounds
+    (whole_for network tree H is_open spread condition c.belief.result refl b whole
+    c.in-Present.is) n 0 parts sides found are in
+    each_bounded network H u spread bounds n 0 parts sides
+    (c.loop-value.invariant.counted tree H u owns is_open) are both.sides both.graded both.exact

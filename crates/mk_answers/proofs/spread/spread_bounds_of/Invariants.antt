@@ -1,4 +1,5 @@
 use Rattle.std.proofs.Common.{◌≡◌, ℕ, List, length}
+use Rattle.std.specs.List.{AllByRecursion}
 use Rattle.mk_exact.specs.History.{Entry}
 use Rattle.mk_tree.specs.Given.{GivenTree}
 use Rattle.mk_engine.specs.Meaning.{Meaning}
@@ -6,6 +7,7 @@ use Rattle.mk_beliefs.specs.Meanings.{weights_of}
 use Rattle.mk_assets.specs.Holdings.{Holding, Owns}
 use Rattle.mk_quote.specs.Questions.{spread_in}
 use Rattle.mk_answers.specs.Open.{IsOpen, holding_of}
+use Rattle.mk_answers.specs.inner.Found.{IsValueCounted}
 use Rattle.mk_answers.proofs.Valued.{AreFirstFound}
 use Rattle.mk_answers.proofs.spread.spread_bounds_of.Given as goal
 
@@ -17,4 +19,7 @@ invariant-loop-value g l = record {
   parts : (tree : GivenTree) (H : List Entry) (u : ℕ) → g.P.Engine.stands_for l.fn.prices (weights_of l.net tree H)
       → Owns g.A.Engine.stands_for l.fn.assets (holding_of l.net tree H u) → IsOpen l.net tree H
       → AreFirstFound l.net H u (spread_in l.asked) l.value (l.parts).items;
+  counted : (tree : GivenTree) (H : List Entry) (u : ℕ)
+      → Owns g.A.Engine.stands_for l.fn.assets (holding_of l.net tree H u) → IsOpen l.net tree H
+      → AllByRecursion (IsValueCounted H u) (l.parts).items;
 }

@@ -1,6 +1,7 @@
 use Rattle.std.proofs.Common.{arith}
 use Rattle.mk_beliefs.specs.Meanings.{weights_of}
 use Rattle.mk_answers.specs.Open.{holding_of}
+use Rattle.mk_answers.proofs.Least.{is_counted}
 use Rattle.mk_answers.proofs.Weights.{event_fits}
 use Rattle.mk_answers.proofs.Valued.{none_found, some_value, value_found}
 use Rattle.mk_answers.proofs.spread.value_bounds_of.Goals as goal
@@ -31,3 +32,9 @@ returns-in-Present-clause-found g c = λ tree H u stands owns is_open.
     value_found c.args.net.now tree H u is_open c.args.asked.now c.event-event.result c.event-event.ensures.pairs
     c.belief.result c.in-Present.part c.in-Present.is (c.belief.ensures.belief (weights_of c.args.net.now tree H) stands)
     _ c.least.result (c.least.ensures.least (holding_of c.args.net.now tree H u) owns) c.factor_of.result c.factor_of.ensures (omega arith)
+
+pub returns-in-Present-clause-counted : goal.returns-in-Present-clause-counted
+returns-in-Present-clause-counted g c = λ tree H u owns is_open.
+    is_counted c.args.net.now tree H u is_open _ _ c.least.result c.factor_of.result
+    c.factor_of.ensures (c.least.ensures.least (holding_of c.args.net.now tree H u) owns)
+    (omega arith) owns.few_in owns.few_out

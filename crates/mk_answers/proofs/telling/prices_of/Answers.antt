@@ -1,4 +1,4 @@
-use Rattle.std.proofs.Common.{◌≡◌, ℕ, ◌<◌, Bool, true, false, slice_index, refl, subst, arith}
+use Rattle.std.proofs.Common.{◌≡◌, ℕ, ◌<◌, slice_index, refl, subst, arith}
 use Rattle.std.specs.List.{AllZip, range_with_len}
 use Rattle.mk_net.specs.Named.{nobody}
 use Rattle.mk_net.specs.Network.{sizes}

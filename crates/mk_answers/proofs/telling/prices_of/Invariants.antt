@@ -1,4 +1,4 @@
-use Rattle.std.proofs.Common.{◌≡◌, ℕ, ◌<◌, List, length, false}
+use Rattle.std.proofs.Common.{◌≡◌, ◌<◌, List, length, false}
 use Rattle.std.specs.List.{AllZip, range_with_len}
 use Rattle.mk_exact.specs.Events.{holds}
 use Rattle.mk_exact.specs.History.{Entry}

@@ -1,8 +1,12 @@
 use Rattle.std.proofs.Common.{arith}
+use Rattle.mk_exact.specs.Events.{always}
+use Rattle.mk_exact.proofs.ExistMarkets.{least_gain_exists}
 use Rattle.mk_beliefs.specs.Meanings.{gains_of}
 use Rattle.mk_answers.specs.Open.{holding_of}
+use Rattle.mk_answers.proofs.Counted.{least_factor}
 use Rattle.mk_answers.proofs.Homes.{nothing_at_root}
-use Rattle.mk_answers.proofs.Least.{some_worst, worst_for, worst_idle, worst_in_range}
+use Rattle.mk_answers.proofs.Least.{some_worst, worst_for, worst_idle, worst_counted, worst_cash}
+use Rattle.mk_answers.proofs.Least.{worst_in_range}
 use Rattle.mk_answers.proofs.worst.least_of.Goals as goal
 
 pub least-requires-clause-held : goal.least-requires-clause-held
@@ -33,3 +37,15 @@ returns-clause-range g c =
     let a = c.requires in
     worst_in_range a.network a.tree a.history a.user a.is_open c.empty.result c.empty.ensures _ c.least.result (c.least.ensures.least (holding_of a.network a.tree a.history a.user) a.owns)
     c.factor_of.result c.factor_of.ensures (omega arith) a.owns.few_in a.owns.few_out
+
+pub returns-clause-judged : goal.returns-clause-judged
+returns-clause-judged g c = λ network tree H u owns is_open.
+    let has = least_gain_exists network H u is_open.legal is_open.proper in
+    let least = c.least.ensures.least (holding_of network tree H u) owns in
+    least_factor network H u always has.least has.is_least c.factor_of.result
+    (worst_counted network tree H u is_open c.empty.result c.empty.ensures _ c.least.result least
+    c.factor_of.result c.factor_of.ensures (omega arith) owns.few_in owns.few_out)
+    (worst_for network tree H u is_open c.empty.result c.empty.ensures _ c.least.result least
+    c.factor_of.result c.factor_of.ensures (omega arith) has.least has.is_least)
+    (worst_cash network tree H u is_open c.empty.result c.empty.ensures _ c.least.result least
+    c.factor_of.result c.factor_of.ensures (omega arith) owns.few_in owns.few_out)

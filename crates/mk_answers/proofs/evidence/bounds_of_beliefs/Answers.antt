@@ -1,0 +1,52 @@
+use Rattle.std.proofs.Common.{◌≡◌, ℕ, subst}
+use Rattle.mk_exact.specs.Weight.{IsSmall}
+use Rattle.mk_semiring.specs.declared.held.Held.{Held}
+use Rattle.mk_answers.specs.inner.Found.{IsBeliefIn}
+use Rattle.mk_answers.proofs.Presence.{some_weight}
+use Rattle.mk_answers.proofs.Bounding.{sum_fits, sum_is_whole}
+use Rattle.mk_answers.proofs.Priced.{sum_is_few, unbounded, bounded_never, bounded_always}
+use Rattle.mk_answers.proofs.Priced.{bounded_between}
+use Rattle.mk_answers.proofs.evidence.bounds_of_beliefs.Goals as goal
+
+-- a belief whose value is known
+at_value : (small : _) (n : ℕ) (a b : Held) → a ≡ b → IsBeliefIn a small n → IsBeliefIn b small n
+at_value small n a b e h = subst (λ (x : Held). IsBeliefIn x small n) e h
+
+pub add-requires : goal.add-requires
+add-requires c =
+    let a = c.requires in let w = c.in-Present-Present in
+    sum_fits w.part w.rest (IsSmall a.network a.history) _ _
+    (at_value _ _ _ _ w.is-0 a.sides.hit) (at_value _ _ _ _ w.is-1 a.sides.miss)
+
+pub returns-in-Absent-Absent : goal.returns-in-Absent-Absent
+returns-in-Absent-Absent c = λ network H asked net proper sides.
+    let w = c.in-Absent-Absent in
+    unbounded network H asked net proper (at_value _ _ _ _ w.is-0 sides.hit).encloses
+    (at_value _ _ _ _ w.is-1 sides.miss).encloses
+
+pub returns-in-Absent-Present : goal.returns-in-Absent-Present
+returns-in-Absent-Present c = λ network H asked net proper sides.
+    let w = c.in-Absent-Present in
+    bounded_never network H asked (at_value _ _ _ _ w.is-0 sides.hit).encloses
+    (some_weight w.field-0-1 _ (at_value _ _ _ _ w.is-1 sides.miss).encloses)
+
+pub returns-in-Present-Absent : goal.returns-in-Present-Absent
+returns-in-Present-Absent c = λ network H asked net proper sides.
+    let w = c.in-Present-Absent in
+    bounded_always network H asked
+    (some_weight w.field-0-0 _ (at_value _ _ _ _ w.is-0 sides.hit).encloses)
+    (at_value _ _ _ _ w.is-1 sides.miss).encloses
+
+pub returns-in-Present-Present : goal.returns-in-Present-Present
+returns-in-Present-Present c = λ network H asked net proper sides.
+    let w = c.in-Present-Present in
+    let hit = at_value _ _ _ _ w.is-0 sides.hit in let miss = at_value _ _ _ _ w.is-1 sides.miss in
+    bounded_between network H asked w.part c.add.result hit
+    (sum_is_whole network H asked w.part w.rest c.add.result hit miss
+    (record {
+      encloses = c.add.ensures.encloses;
+      grade = c.add.ensures.grade;
+      exact = c.add.ensures.exact;
+    }))
+    (some_weight w.rest _ miss.encloses)
+    (sum_is_few (IsSmall network H) _ _ w.part w.rest c.add.result hit miss c.add.ensures.upper)

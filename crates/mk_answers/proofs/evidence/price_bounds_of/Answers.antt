@@ -1,0 +1,115 @@
+use Rattle.std.proofs.Common.{◌≡◌, [], refl, subst}
+use Rattle.std.specs.Prelude.{slice_index}
+use Rattle.mk_net.specs.Network.{sizes}
+use Rattle.mk_net.specs.Zeros.{with_zeros}
+use Rattle.mk_exact.specs.Events.{holds, with_target}
+use Rattle.mk_exact.specs.Weight.{IsSmall, total}
+use Rattle.mk_semiring.specs.declared.held.Held.{Held}
+use Rattle.mk_semiring.specs.declared.held.Held.TheVariants.{Present}
+use Rattle.mk_beliefs.specs.Meanings.{weights_of}
+use Rattle.mk_answers.specs.inner.Found.{IsBeliefIn}
+use Rattle.mk_answers.proofs.Bounding.{can_ask, room_of_weights, found_of}
+use Rattle.mk_answers.proofs.Homes.{condition_is_held}
+use Rattle.mk_answers.proofs.NoZeros.{hit_some, miss_some, condition_some, none_of}
+use Rattle.mk_answers.proofs.Priced.{bounded_between, belief_is_few}
+use Rattle.mk_answers.proofs.Weights.{is_there, hit_in, part_in, miss_in, condition_in}
+use Rattle.mk_answers.proofs.evidence.price_bounds_of.Goals as goal
+
+pub belief_of_others-rest-requires : goal.belief_of_others-rest-requires
+belief_of_others-rest-requires g c =
+    let a = c.requires in let network = c.args.net.now in let asked = c.args.asked.now in
+    let m = weights_of network a.tree a.history in
+    let sized : c.values-values.result ≡ slice_index (sizes network) asked.target.variable =
+    rw c.target.ensures at c.values-values.ensures in
+    can_ask network a.tree a.history 0 a.is_open asked a.answered g.P.Engine.stands_for
+    c.belief-part.new.self m c.args.at c.values-values.result
+    (c.belief-part.ensures.kept m a.stands) refl refl a.held
+    (room_of_weights network a.tree a.history 0 a.is_open asked a.answered) sized
+
+pub bounds_of_beliefs-requires : goal.bounds_of_beliefs-requires
+bounds_of_beliefs-requires g c =
+    let a = c.requires in let network = c.args.net.now in let asked = c.args.asked.now in
+    let m = weights_of network a.tree a.history in
+    let sized : c.values-values.result ≡ slice_index (sizes network) asked.target.variable =
+    rw c.target.ensures at c.values-values.ensures in
+    record {
+      network = network;
+      history = a.history;
+      asked = asked;
+      sides = record {
+        hit = hit_in network a.tree a.history a.is_open asked c.event.result c.belief-part.result
+            c.event.ensures.pairs (c.belief-part.ensures.belief m a.stands);
+        miss = miss_in network a.tree a.history a.is_open asked c.values-values.result
+            c.belief_of_others-rest.result a.answered.in_order.in_range sized
+            (c.belief_of_others-rest.ensures.belief m (c.belief-part.ensures.kept m a.stands)
+            sized);
+      };
+    }
+
+pub returns-then-not-is_empty-clause-bounds : goal.returns-then-not-is_empty-clause-bounds
+returns-then-not-is_empty-clause-bounds g c = λ tree H stands is_open answered.
+    let network = c.args.net.now in let asked = c.args.asked.now in
+    let m = weights_of network tree H in
+    let sized : c.values-values.result ≡ slice_index (sizes network) asked.target.variable =
+    rw c.target.ensures at c.values-values.ensures in
+    c.bounds_of_beliefs.ensures network H asked is_open.legal is_open.proper (record {
+      hit = hit_in network tree H is_open asked c.event.result c.belief-part.result
+          c.event.ensures.pairs (c.belief-part.ensures.belief m stands);
+      miss = miss_in network tree H is_open asked c.values-values.result
+          c.belief_of_others-rest.result answered.in_order.in_range sized
+          (c.belief_of_others-rest.ensures.belief m (c.belief-part.ensures.kept m stands) sized);
+    })
+
+pub belief-whole-requires-clause-held : goal.belief-whole-requires-clause-held
+belief-whole-requires-clause-held g c =
+    let a = c.requires in let m = weights_of c.args.net.now a.tree a.history in
+    g.met.P.Engine.held_is_answered c.belief-part.new.self m c.args.at
+    c.condition-condition.result (c.belief-part.ensures.kept m a.stands)
+    (condition_is_held a.tree c.args.at c.args.asked.now c.condition-condition.result
+    c.condition-condition.ensures.condition a.held)
+
+pub enclosure_of-requires : goal.enclosure_of-requires
+enclosure_of-requires g c =
+    let a = c.requires in let network = c.args.net.now in let asked = c.args.asked.now in
+    let no_shares : with_zeros network ≡ [] = none_of c.with_zeros.result.now (with_zeros network)
+    c.is_empty.result c.if-not-is_empty.false c.is_empty.ensures c.with_zeros.ensures in
+    is_there c.belief-part.result (IsSmall network a.history)
+    (total network a.history (with_target asked))
+    (hit_in network a.tree a.history a.is_open asked c.event.result c.belief-part.result
+    c.event.ensures.pairs
+    (c.belief-part.ensures.belief (weights_of network a.tree a.history) a.stands))
+    (hit_some network a.tree a.history a.is_open asked a.answered no_shares)
+
+pub enclosure_of-requires-2 : goal.enclosure_of-requires-2
+enclosure_of-requires-2 g c =
+    let a = c.requires in let network = c.args.net.now in let asked = c.args.asked.now in
+    let m = weights_of network a.tree a.history in
+    let no_shares : with_zeros network ≡ [] = none_of c.with_zeros.result.now (with_zeros network)
+    c.is_empty.result c.if-not-is_empty.false c.is_empty.ensures c.with_zeros.ensures in
+    is_there c.belief-whole.result (IsSmall network a.history)
+    (total network a.history (holds asked.condition))
+    (condition_in network a.tree a.history a.is_open asked c.condition-condition.result
+    c.belief-whole.result c.condition-condition.ensures.condition
+    (c.belief-whole.ensures.belief m (c.belief-part.ensures.kept m a.stands)))
+    (condition_some network a.tree a.history a.is_open asked a.answered no_shares)
+
+pub returns-clause-bounds : goal.returns-clause-bounds
+returns-clause-bounds g c = λ tree H stands is_open answered.
+    let network = c.args.net.now in let asked = c.args.asked.now in
+    let m = weights_of network tree H in let small = IsSmall network H in
+    let no_shares : with_zeros network ≡ [] = none_of c.with_zeros.result.now (with_zeros network)
+    c.is_empty.result c.if-not-is_empty.false c.is_empty.ensures c.with_zeros.ensures in
+    let whole : IsBeliefIn (Present c.enclosure_of-2.result) small
+    (total network H (holds asked.condition)) =
+    subst (λ (b : Held). IsBeliefIn b small (total network H (holds asked.condition)))
+    c.enclosure_of-2.ensures
+    (condition_in network tree H is_open asked c.condition-condition.result c.belief-whole.result
+    c.condition-condition.ensures.condition
+    (c.belief-whole.ensures.belief m (c.belief-part.ensures.kept m stands))) in
+    bounded_between network H asked c.enclosure_of.result c.enclosure_of-2.result
+    (part_in network tree H is_open asked c.event.result c.belief-part.result
+    c.enclosure_of.result c.event.ensures.pairs c.enclosure_of.ensures
+    (c.belief-part.ensures.belief m stands))
+    (found_of c.enclosure_of-2.result small _ whole)
+    (miss_some network tree H is_open asked answered no_shares)
+    (belief_is_few small _ c.enclosure_of-2.result whole)

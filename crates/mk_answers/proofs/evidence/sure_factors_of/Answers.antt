@@ -1,0 +1,90 @@
+use Rattle.std.proofs.Common.{◌≡◌, ℕ, ◌^◌, Option, slice_index, refl, subst, arith}
+use Rattle.std.specs.List.{AllZip, range_with_len}
+use Rattle.mk_net.specs.Network.{sizes}
+use Rattle.mk_exact.proofs.Positive.{few_values_at}
+use Rattle.mk_exact.specs.Events.{with_target}
+use Rattle.mk_spread.specs.Spreads.{asked_of}
+use Rattle.mk_enclose.specs.declared.factor.Factor.{Factor}
+use Rattle.mk_beliefs.specs.Meanings.{gains_of}
+use Rattle.mk_quote.specs.Questions.{spread_in}
+use Rattle.mk_answers.specs.Open.{holding_of}
+use Rattle.mk_answers.specs.Evidence.{IsSureFactor}
+use Rattle.mk_answers.proofs.Homes.{condition_is_held}
+use Rattle.mk_answers.proofs.Told.{zip_more, only_none, none_comes, comes}
+use Rattle.mk_answers.proofs.Valued.{valued_at}
+use Rattle.mk_answers.proofs.evidence.sure_factors_of.Goals as goal
+
+pub least-requires-clause-held : goal.least-requires-clause-held
+least-requires-clause-held g c =
+    let a = c.requires in let condition = c.args.asked.now.condition in
+    let m = gains_of c.args.net.now a.tree a.history a.user in
+    g.met.A.Engine.held_is_answered c.args.assets.now.engine m c.args.at condition a.owns.stands
+    (condition_is_held a.tree c.args.at (asked_of (spread_in c.args.asked.now) 0) condition refl
+    (a.held 0))
+
+pub returns-in_default-clause-factors : goal.returns-in_default-clause-factors
+returns-in_default-clause-factors g c = λ tree H u owns is_open answered.
+    let net = c.args.net.now in
+    none_comes net tree H u is_open c.args.asked.now.condition _ c.least.result
+    (c.least.ensures.least (holding_of net tree H u) owns)
+    (only_none c.least.result c.in_default.not-Some)
+
+pub sure_factor_of-requires : goal.sure_factor_of-requires
+sure_factor_of-requires g c =
+    let a = c.requires in let net = c.args.net.now in
+    let value = c.loop-value.value in
+    rw c.question_at-question.ensures (record {
+      tree = a.tree;
+      history = a.history;
+      user = a.user;
+      owns = c.loop-value.invariant.kept_assets (holding_of net a.tree a.history a.user) a.owns;
+      is_open = a.is_open;
+      valued = valued_at net a.tree a.history (spread_in c.args.asked.now) a.answered c.args.at
+          value (a.held value)
+          (omega (arith, c.values-value-end.ensures, c.loop-value-test.true));
+    })
+
+pub push-requires : goal.push-requires
+push-requires g c =
+    let a = c.requires in
+    let few = few_values_at c.args.net.now a.is_open.legal c.args.asked.now.variable
+    a.answered.in_order.in_range.variable in (
+      omega arith,
+      omega (
+        arith,
+        c.values-value-end.ensures,
+        c.loop-value-test.true,
+        c.loop-value.invariant.long,
+        few,
+      ),
+    )
+
+pub loop-value-preserved : goal.loop-value-preserved
+loop-value-preserved g c =
+    let so_far = c.loop-value.invariant in let net = c.args.net.now in
+    let spread = spread_in c.args.asked.now in
+    record {
+      kept_assets = λ h owns. c.sure_factor_of.ensures.kept_assets h (so_far.kept_assets h owns);
+      long = omega (arith, so_far.long, c.push.ensures.len);
+      sure = λ tree H u owns is_open.
+          rw c.push.ensures.items
+          (zip_more (λ value (factor : Option Factor). IsSureFactor (2 ^ 17) net H u
+          (with_target (asked_of spread value)) factor) c.loop-value.value
+          c.loop-value.factors.items c.sure_factor_of.result (so_far.sure tree H u owns is_open)
+          (rw c.question_at-question.ensures at
+          (c.sure_factor_of.ensures.factor tree H u (so_far.kept_assets _ owns) is_open)));
+    }
+
+pub returns-clause-factors : goal.returns-clause-factors
+returns-clause-factors g c = λ tree H u owns is_open answered.
+    let net = c.args.net.now in let spread = spread_in c.args.asked.now in
+    let all : c.loop-value.value ≡ slice_index (sizes net) spread.variable =
+    omega (arith, c.values-value-end.ensures, c.loop-value-test.false, c.loop-value.auto.value-end)
+    in
+    let items = c.loop-value.factors.items in (
+      comes net tree H u is_open c.args.asked.now.condition _ c.least.result
+          (c.least.ensures.least (holding_of net tree H u) owns) c.in-Some.field-0 c.in-Some.is,
+      subst (λ (n : ℕ). AllZip (λ value (factor : Option Factor). IsSureFactor (2 ^ 17) net H u
+          (with_target (asked_of spread value)) factor) (range_with_len 0 n) items) all
+          (c.loop-value.invariant.sure tree H u owns is_open),
+    )
