@@ -1,0 +1,86 @@
+-- Judgements of the replies to `limits` and `edit`.
+use Rattle.std.proofs.Common.{◌≡◌, ℕ, ◌-◌, ◌≤◌, Bool, List, Option, None, MatchOption, sym, ap₂, subst, ◌∙◌}
+use Rattle.mk_net.specs.Bounds.{million}
+use Rattle.mk_net.specs.declared.words.QuestionText.{QuestionText}
+use Rattle.mk_exact.specs.History.{Entry, revision}
+use Rattle.mk_exact.specs.Market.{Market, network_of}
+use Rattle.mk_exact.specs.Sides.{AreSides}
+use Rattle.mk_command.specs.declared.command.Command.TheVariants.{Edit, Limits}
+use Rattle.mk_reply.specs.declared.refusal.Refusal.TheVariants.{Beyond}
+use Rattle.mk_reply.specs.declared.reply.Reply.{Reply}
+use Rattle.mk_reply.specs.declared.reply.Reply.TheVariants as reply
+use Rattle.mk_quote.specs.declared.bounds.Bounds.{Bounds}
+use Rattle.mk_rules.specs.Refusals.{user_number, first_refusal, refusals}
+use Rattle.mk_rules.specs.Quotes.{Interval, Quotes, last_quote, current_limits}
+use Rattle.mk_rules.specs.Answers.{IsLimits, IsJudged, IsJudgedAfresh, IsAllowed}
+use Rattle.mk_rules.proofs.Unrefused.{none_applies, number_in_range}
+use Rattle.mk_judge.specs.declared.judged.Judged.{Judged}
+use Rattle.mk_judge.specs.Judged.{Judges}
+use Rattle.mk_judge.proofs.Judging.{judges_as}
+use Rattle.mk_answers.specs.Evidence.{AreBoundsOfBoth}
+use Rattle.mk_market.specs.Evidence.{IsEditEvidence}
+use Rattle.mk_market.specs.declared.evidence_of_edits.EditEvidence.{EditEvidence}
+use Rattle.mk_verify.specs.Clear.{IsOpen}
+use Rattle.mk_verify.specs.inner.Judging.{TellsSmall}
+use Rattle.mk_verify.specs.inner.Editing.{AreEditBounds, AreLimitsLeftOpen, IsEditLeftOpen}
+use Rattle.mk_verify.proofs.Verdicts.{judges_answer}
+
+-- evidence by the name of its user
+pub edit_bounds : (market : Market) (H : List Entry) (name : List ℕ) (q : QuestionText) (evidence : EditEvidence) (small : Bool) (now : ℕ)
+    → IsEditEvidence market H name q evidence → TellsSmall small market H → now ≡ revision H → AreEditBounds market H name q evidence.bounds small now
+edit_bounds market H name q evidence small now of tells present = record {
+  tells = tells;
+  present = present;
+  asked = evidence.question;
+  named = of.named;
+  hit = of.sides.hit;
+  miss = of.sides.miss;
+  exist = subst (λ (u : ℕ). AreSides (network_of market H) H u evidence.question of.sides.hit of.sides.miss) of.user of.sides.exist;
+  both = subst (λ (u : ℕ). AreBoundsOfBoth (network_of market H) H u evidence.question evidence.bounds) of.user
+      (record { hit = of.sides.hit_bounds; miss = of.sides.miss_bounds });
+}
+
+-- limits that were quoted to this user for this question
+pub edit_quoted : (market : Market) (H : List Entry) (quotes : Quotes) (name : List ℕ) (q : QuestionText) (evidence : EditEvidence) (small : Bool) (now : ℕ) (quoted : Option Interval)
+    → (of : IsEditEvidence market H name q evidence) (tells : TellsSmall small market H) (present : now ≡ revision H) → quoted ≡ current_limits (last_quote quotes evidence.user) evidence.question now
+    → quoted ≡ current_limits (last_quote quotes (user_number H name)) (edit_bounds market H name q evidence small now of tells present).asked (revision H)
+unfolding edit_bounds
+edit_quoted market H quotes name q evidence small now quoted of tells present is =
+    is ∙ ap₂ (λ (u n : ℕ). current_limits (last_quote quotes u) evidence.question n) of.user present
+
+-- the share of an edit that nothing refuses
+pub edit_share : (market : Market) (H : List Entry) (name : List ℕ) (q : QuestionText) (X : ℕ) (seen : Option ℕ) → first_refusal market H (Edit name q X seen) ≡ None
+    → (1 ≤ X) × (X ≤ 999999)
+edit_share market H name q X seen none = number_in_range (million - 1) X (none_applies (refusals market H (Edit name q X seen)) none).1.1.1.1.1.1.1.1.0
+
+module _ (market : Market) (H : List Entry) (quotes : Quotes) (name : List ℕ) (q : QuestionText) (bounds : Bounds) (small : Bool) (now : ℕ)
+    (its : AreEditBounds market H name q bounds small now) where
+  limits_left : (told : Reply) → AreLimitsLeftOpen market H (user_number H name) its.asked told → IsOpen market H quotes (Limits name q) told
+  limits_left (reply.Limits limits at) o = rw its.named o
+  limits_left told o = absurd o
+
+  pub limits_allowed : (told : Reply) (j : Judged) → first_refusal market H (Limits name q) ≡ None
+      → Judges j (IsLimits (network_of market H) H (user_number H name) its.asked told) (AreLimitsLeftOpen market H (user_number H name) its.asked told)
+      → Judges j (IsAllowed market H quotes (Limits name q) told) (IsOpen market H quotes (Limits name q) told)
+  limits_allowed told j none judged = judges_answer market H quotes (Limits name q) told j _ none
+      (judges_as j _ _ _ _ (λ h. rw its.named h) (λ h. rw its.named at h) (limits_left told) judged)
+
+  edit_left : (X : ℕ) (seen : Option ℕ) (quoted : Option Interval) → quoted ≡ current_limits (last_quote quotes (user_number H name)) its.asked (revision H)
+      → (told : Reply) → IsEditLeftOpen market H (user_number H name) its.asked X quoted told → IsOpen market H quotes (Edit name q X seen) told
+  edit_left X seen quoted is (reply.Traded hit miss at) o = rw its.named o
+  edit_left X seen quoted is (reply.Refused (Beyond limits)) o = rw its.named (sym is ∙ o.0, o.1)
+  edit_left X seen quoted is told o = absurd o
+
+  pub edit_allowed : (X : ℕ) (seen : Option ℕ) (quoted : Option Interval) (told : Reply) (j : Judged)
+      → quoted ≡ current_limits (last_quote quotes (user_number H name)) its.asked (revision H) → first_refusal market H (Edit name q X seen) ≡ None
+      → Judges j
+      (MatchOption quoted (IsJudgedAfresh (network_of market H) H (user_number H name) its.asked X told)
+      (λ limits. IsJudged (network_of market H) H (user_number H name) its.asked X limits told))
+      (IsEditLeftOpen market H (user_number H name) its.asked X quoted told)
+      → Judges j (IsAllowed market H quotes (Edit name q X seen) told) (IsOpen market H quotes (Edit name q X seen) told)
+  edit_allowed X seen quoted told j is none judged = judges_answer market H quotes (Edit name q X seen) told j _ none
+      (judges_as j _ _ _ _ (λ h. rw its.named (subst answers is h)) (λ h. subst answers (sym is) (rw its.named at h)) (edit_left X seen quoted is told) judged)
+    where
+      answers : Option Interval → Type 0
+      answers o = MatchOption o (IsJudgedAfresh (network_of market H) H (user_number H name) its.asked X told)
+          (λ limits. IsJudged (network_of market H) H (user_number H name) its.asked X limits told)

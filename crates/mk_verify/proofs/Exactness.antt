@@ -1,0 +1,192 @@
+-- Judgements of printed numbers, by evidence of the exact ones.
+use Rattle.std.proofs.Common.{◌≡◌, ℕ, ◌^◌, ◌⊎◌, ◌↔◌, inl, inr, Bool, true, false, IsTrue, refl, sym, subst, ◌∙◌, List, arith}
+use Rattle.std.proofs.lemmas.Bool.{false≢true}
+use Rattle.mk_net.specs.Asked.{Asked}
+use Rattle.mk_exact.specs.History.{Entry}
+use Rattle.mk_exact.specs.Market.{Market, network_of}
+use Rattle.mk_exact.specs.Weight.{IsSmall}
+use Rattle.mk_exact.specs.Factors.{Fraction, HoldsNoTrade, factor_with}
+use Rattle.mk_exact.specs.Prices.{exact_price, CoversPrice}
+use Rattle.mk_exact.specs.Cash.{CoversCash}
+use Rattle.mk_exact.specs.Accepted.{Covers, IsMost}
+use Rattle.mk_exact.specs.Sound.{IsSound}
+use Rattle.mk_enclose.specs.declared.factor.Factor.{Factor}
+use Rattle.mk_enclose.specs.Enclosure.{IsExact}
+use Rattle.mk_judge.specs.declared.judged.Judged.{Judged}
+use Rattle.mk_judge.specs.declared.judged.Judged.TheVariants.{Allowed, Wrong, Unclear}
+use Rattle.mk_judge.specs.declared.price.PriceBounds.{PriceBounds}
+use Rattle.mk_judge.specs.Judged.{Judges}
+use Rattle.mk_judge.specs.Prices.{ArePriceBounds, IsPriceNear}
+use Rattle.mk_judge.specs.Cash.{IsOwned, IsCashNear, IsBitsNear, AreBitsNear, ArePowersNear, nearness}
+use Rattle.mk_answers.specs.Evidence.{AreBoundsOfPrice, IsFactorOf}
+use Rattle.mk_verify.specs.Clear.{IsPriceOpen, IsCashOpen, AreBitsOpen, IsMostOpen, near_steps}
+use Rattle.mk_verify.proofs.Nearer.{price_nearer, cash_nearer, bits_nearer, most_nearer}
+use Rattle.mk_verify.proofs.Verdicts.{judges_by}
+
+-- ---- prices
+
+-- what the judge of a price says
+pub record JudgesPrice (j : Judged) (bounds : PriceBounds) (small : Bool) (low high : ℕ) : Type 0
+  where
+    pub allowed : j ≡ Allowed → (price : Fraction) → ArePriceBounds bounds small price
+        → CoversPrice (IsTrue small) price low high
+    pub wrong : j ≡ Wrong → (price : Fraction) → ArePriceBounds bounds small price
+        → CoversPrice (IsTrue small) price low high → ⊥
+    pub unclear : j ≡ Unclear → (price : Fraction) → ArePriceBounds bounds small price
+        → IsPriceNear bounds price low high
+    pub clear : j ≡ Unclear → (price : Fraction) → ArePriceBounds bounds small price
+        → small ≡ false
+
+price_for : (small large : Type 0) (price : Fraction) (low high : ℕ) → (large → small)
+    → CoversPrice small price low high → CoversPrice large price low high
+price_for small large price low high to h = record {
+  below = h.below;
+  above = h.above;
+  at_most_one = h.at_most_one;
+  low_near = h.low_near;
+  high_near = h.high_near;
+  never = h.never;
+  sure = h.sure;
+  floor = λ s. h.floor (to s);
+  ceiling = λ s. h.ceiling (to s);
+}
+
+-- what is not told to be small is not
+pub not_small : (small : Bool) (S : Type 0) → ((small ≡ true) ↔ S) → small ≡ false → ¬ S
+not_small small S tells large is = false≢true (sym large ∙ tells.1 is)
+
+pub price_judged : (market : Market) (H : List Entry) (asked : Asked) (bounds : PriceBounds)
+    (small : Bool) (low high : ℕ) (j : Judged) → ((small ≡ true) ↔ IsSmall (network_of market H) H)
+    → AreBoundsOfPrice (2 ^ 17) (network_of market H) H asked bounds
+    → JudgesPrice j bounds small low high
+    → Judges j
+    (CoversPrice (IsSmall (network_of market H) H) (exact_price (network_of market H) H asked) low
+    high) (IsPriceOpen market H asked (low, high))
+price_judged market H asked bounds small low high j tells evidence says =
+    let price = exact_price (network_of market H) H asked in
+    let its = evidence.bounds_of small tells.0 in
+    judges_by j _ _
+    (λ e. price_for (IsTrue small) _ price low high tells.1 (says.allowed e price its))
+    (λ e h. says.wrong e price its (price_for _ (IsTrue small) price low high tells.0 h))
+    (λ e. record {
+      large = not_small small _ tells (says.clear e price its);
+      near = price_nearer bounds price low high (2 ^ 17) (near_steps market H) (omega arith)
+          evidence.graded (says.unclear e price its);
+    })
+
+-- ---- cash
+
+pub record JudgesCash (j : Judged) (factor : Factor) (small : Bool) (b low high : ℕ) : Type 0 where
+  pub allowed : j ≡ Allowed → (q : Fraction) → IsOwned factor q
+      → CoversCash (IsTrue small) (factor.trades ≡ 0) q b low high
+  pub wrong : j ≡ Wrong → (q : Fraction) → IsOwned factor q
+      → CoversCash (IsTrue small) (factor.trades ≡ 0) q b low high → ⊥
+  pub unclear : j ≡ Unclear → (q : Fraction) → IsOwned factor q
+      → IsCashNear small factor q b low high
+
+cash_for : (small large idle alone : Type 0) (q : Fraction) (b low high : ℕ) → (large → small)
+    → (alone → idle) → CoversCash small idle q b low high → CoversCash large alone q b low high
+cash_for small large idle alone q b low high to by h = record {
+  cash = h.cash;
+  is_cash = h.is_cash;
+  above = h.above;
+  below = h.below;
+  near = h.near;
+  nearer = λ s. h.nearer (to s);
+  exact = λ i. h.exact (by i);
+}
+
+near_powers : (small : Bool) (S : Type 0) (q : Fraction) (b low high steps : ℕ)
+    → ((small ≡ true) ↔ S) → ArePowersNear (nearness small) q b low high steps
+    → ArePowersNear (2 ^ 42) q b low high steps
+    ⊎ S × ArePowersNear (2 ^ 59) q b low high steps
+near_powers true S q b low high steps tells near = inr (tells.0 refl, near)
+near_powers false S q b low high steps tells near = inl near
+
+pub cash_judged : (market : Market) (H : List Entry) (u g : ℕ) (factor : Factor) (small : Bool)
+    (b low high : ℕ) (j : Judged) → ((small ≡ true) ↔ IsSmall (network_of market H) H)
+    → IsSound (network_of market H) H → IsFactorOf (2 ^ 17) (network_of market H) H u g factor
+    → b ≡ market.points_per_bit → JudgesCash j factor small b low high
+    → Judges j
+    (CoversCash (IsSmall (network_of market H) H) (HoldsNoTrade H u) (factor_with H u g)
+    market.points_per_bit low high) (IsCashOpen market H u (factor_with H u g) (low, high))
+cash_judged market H u g factor small b low high j tells sound evidence points says =
+    let q = factor_with H u g in
+    let k = market.points_per_bit in
+    let said : JudgesCash j factor small k low high =
+    subst (λ (n : ℕ). JudgesCash j factor small n low high) points says in
+    let its = evidence.owned sound in
+    let idle : HoldsNoTrade H u → factor.trades ≡ 0 = (λ none. evidence.traded ∙ none) in
+    let alone : factor.trades ≡ 0 → HoldsNoTrade H u = (λ none. sym evidence.traded ∙ none) in
+    judges_by j _ _
+    (λ e. cash_for (IsTrue small) _ (factor.trades ≡ 0) _ q k low high tells.1 idle
+    (said.allowed e q its))
+    (λ e h. said.wrong e q its
+    (cash_for _ (IsTrue small) _ (factor.trades ≡ 0) q k low high tells.0 alone h))
+    (λ e. let near = said.unclear e q its in record {
+      traded = λ none. near.traded (idle none);
+      near = near_powers small _ q k low high _ tells
+          (cash_nearer small factor q k low high (2 ^ 17) (near_steps market H) (omega arith)
+          evidence.graded near);
+    })
+
+-- ---- bits
+
+pub record JudgesCovered (j : Judged) (factor : Factor) (bits : ℕ) : Type 0 where
+  pub allowed : j ≡ Allowed → (q : Fraction) → IsOwned factor q → Covers q bits
+  pub wrong : j ≡ Wrong → (q : Fraction) → IsOwned factor q → Covers q bits → ⊥
+  pub unclear : j ≡ Unclear → (q : Fraction) → IsOwned factor q → IsBitsNear factor q bits
+
+pub covered_judged : (market : Market) (H : List Entry) (u g : ℕ) (factor : Factor) (bits : ℕ)
+    (j : Judged) → IsSound (network_of market H) H
+    → IsFactorOf (2 ^ 17) (network_of market H) H u g factor → JudgesCovered j factor bits
+    → Judges j (Covers (factor_with H u g) bits) (AreBitsOpen market H u (factor_with H u g) bits)
+covered_judged market H u g factor bits j sound evidence says =
+    let q = factor_with H u g in
+    let its = evidence.owned sound in
+    judges_by j _ _ (λ e. says.allowed e q its) (λ e. says.wrong e q its)
+    (λ e. let near = says.unclear e q its in record {
+      large = λ small. near.rounded (evidence.exact small);
+      traded = λ none. near.traded (evidence.traded ∙ none);
+      near = bits_nearer factor q bits (2 ^ 17) (near_steps market H) (omega arith) evidence.graded
+          near;
+    })
+
+pub record JudgesMost (j : Judged) (factor : Factor) (small : Bool) (most : ℕ) : Type 0 where
+  pub allowed : j ≡ Allowed → (q : Fraction) → IsOwned factor q
+      → (IsTrue small → IsExact factor.gain) → IsMost (IsTrue small) (factor.trades ≡ 0) q most
+  pub wrong : j ≡ Wrong → (q : Fraction) → IsOwned factor q
+      → (IsTrue small → IsExact factor.gain) → IsMost (IsTrue small) (factor.trades ≡ 0) q most
+      → ⊥
+  pub unclear : j ≡ Unclear → (q : Fraction) → IsOwned factor q
+      → (IsTrue small → IsExact factor.gain) → AreBitsNear small factor q most
+
+most_for : (small large idle alone : Type 0) (q : Fraction) (k : ℕ) → (large → small)
+    → (alone → idle) → IsMost small idle q k → IsMost large alone q k
+most_for small large idle alone q k to by h = record {
+  within = h.within;
+  nearly = h.nearly;
+  exactly = λ either. h.exactly (elim either [ inl s ↦ inl (to s) | inr i ↦ inr (by i) ]);
+}
+
+pub most_judged : (market : Market) (H : List Entry) (u g : ℕ) (factor : Factor) (small : Bool)
+    (most : ℕ) (j : Judged) → ((small ≡ true) ↔ IsSmall (network_of market H) H)
+    → IsSound (network_of market H) H → IsFactorOf (2 ^ 17) (network_of market H) H u g factor
+    → JudgesMost j factor small most
+    → Judges j (IsMost (IsSmall (network_of market H) H) (HoldsNoTrade H u) (factor_with H u g)
+    most) (IsMostOpen market H u (factor_with H u g) most)
+most_judged market H u g factor small most j tells sound evidence says =
+    let q = factor_with H u g in
+    let its = evidence.owned sound in
+    let exact : IsTrue small → IsExact factor.gain = (λ s. evidence.exact (tells.0 s)) in
+    judges_by j _ _
+    (λ e. most_for (IsTrue small) _ (factor.trades ≡ 0) _ q most tells.1
+    (λ none. evidence.traded ∙ none) (says.allowed e q its exact))
+    (λ e h. says.wrong e q its exact (most_for _ (IsTrue small) _ (factor.trades ≡ 0) q most
+    tells.0 (λ none. sym evidence.traded ∙ none) h))
+    (λ e. let near = says.unclear e q its exact in record {
+      large = not_small small _ tells near.large;
+      traded = λ none. near.traded (evidence.traded ∙ none);
+      near = most_nearer small factor q most (2 ^ 17) (near_steps market H) (omega arith)
+          evidence.graded near;
+    })

@@ -1,0 +1,86 @@
+-- Numbers that are near by some steps are near by more; so is what a judge of mk_judge leaves open
+-- of enclosures that have at most a grade.
+use Rattle.std.proofs.Common.{ℕ, ◌+◌, ◌-◌, ◌*◌, ◌^◌, ◌≤◌, ◌⊎◌, inl, inr, Bool, arith}
+use Rattle.std.proofs.Math.Nat.{mul-le-mul_left}
+use Rattle.mk_exact.specs.Factors.{Fraction}
+use Rattle.mk_exact.specs.Risk.{nearness}
+use Rattle.mk_net.specs.Bounds.{million}
+use Rattle.mk_scaled.specs.Near.{near_more}
+use Rattle.mk_enclose.specs.declared.enclosure.Enclosure.{Enclosure}
+use Rattle.mk_enclose.specs.declared.factor.Factor.{Factor}
+use Rattle.mk_enclose.specs.Enclosure.{IsGradedWithin}
+use Rattle.mk_judge.specs.declared.price.PriceBounds.{PriceBounds}
+use Rattle.mk_judge.specs.declared.price.PriceBounds.TheVariants.{Never, Always, Between}
+use Rattle.mk_judge.specs.Compared.{AreNear}
+use Rattle.mk_judge.specs.Prices.{AreNearUnits, IsPriceNear}
+use Rattle.mk_judge.specs.Cash.{ArePowersNear, IsCashNear, IsBitsNear, AreBitsNear, nearness as cash_nearness}
+use Rattle.mk_judge.specs.Losses.{quotient, IsBoundNear}
+use Rattle.mk_answers.specs.Evidence.{ArePriceGraded}
+
+pub nearer : (a b i j : ℕ) → i ≤ j → AreNear a b i → AreNear a b j
+nearer a b i j more near = record {
+  upward = near_more a b i j more near.upward;
+  downward = near_more b a i j more near.downward;
+}
+
+-- one of two, or of four
+pub either_of : {A B C D : Type 0} → (A → C) → (B → D) → A ⊎ B → C ⊎ D
+either_of first second (inl a) = inl (first a)
+either_of first second (inr b) = inr (second b)
+
+pub units_nearer : (price : Fraction) (low high i j : ℕ) → i ≤ j → AreNearUnits price low high i
+    → AreNearUnits price low high j
+units_nearer price low high i j more =
+    either_of (nearer _ _ i j more) (either_of (nearer _ _ i j more)
+    (either_of (nearer _ _ i j more) (nearer _ _ i j more)))
+
+pub powers_nearer : (near : ℕ) (q : Fraction) (b low high i j : ℕ) → i ≤ j
+    → ArePowersNear near q b low high i → ArePowersNear near q b low high j
+powers_nearer near q b low high i j more =
+    either_of (nearer _ _ i j more) (either_of (nearer _ _ i j more)
+    (either_of (nearer _ _ i j more) (nearer _ _ i j more)))
+
+-- ---- by a greatest grade
+
+pub price_nearer : (bounds : PriceBounds) (price : Fraction) (low high most steps : ℕ)
+    → most + most + 2 ≤ steps → ArePriceGraded most bounds → IsPriceNear bounds price low high
+    → AreNearUnits price low high steps
+price_nearer Never price low high most steps room graded near = absurd near
+price_nearer Always price low high most steps room graded near = absurd near
+price_nearer (Between part whole) price low high most steps room graded near =
+    let g = graded.0 in
+    let h = graded.1 in
+    units_nearer price low high (g.grade + h.grade + 2) steps
+    (omega (arith, g.small, h.small, room)) (near g.grade h.grade g.has h.has)
+
+pub cash_nearer : (small : Bool) (factor : Factor) (q : Fraction) (b low high most steps : ℕ)
+    → most + 8 ≤ steps → IsGradedWithin factor.gain most → IsCashNear small factor q b low high
+    → ArePowersNear (cash_nearness small) q b low high (b * steps)
+cash_nearer small factor q b low high most steps room graded near =
+    powers_nearer (cash_nearness small) q b low high (b * (graded.grade + 8)) (b * steps)
+    (mul-le-mul_left b (omega (arith, graded.small, room))) (near.near graded.grade graded.has)
+
+pub bits_nearer : (factor : Factor) (q : Fraction) (bits most steps : ℕ) → most ≤ steps
+    → IsGradedWithin factor.gain most → IsBitsNear factor q bits → AreNear (2 ^ bits * q.den) q.num steps
+bits_nearer factor q bits most steps room graded near =
+    nearer _ _ graded.grade steps (omega (arith, graded.small, room))
+    (near.near graded.grade graded.has)
+
+pub most_nearer : (small : Bool) (factor : Factor) (q : Fraction) (bits most steps : ℕ)
+    → most + 1 ≤ steps → IsGradedWithin factor.gain most → AreBitsNear small factor q bits
+    → AreNear (2 ^ bits * q.den) q.num steps
+    ⊎ AreNear (2 ^ (bits + 1) * 2 ^ 43 * q.den) (q.num * (2 ^ 43 - 1)) steps
+most_nearer small factor q bits most steps room graded near =
+    let more : graded.grade + 1 ≤ steps = omega (arith, graded.small, room) in
+    either_of (nearer _ _ (graded.grade + 1) steps more) (nearer _ _ (graded.grade + 1) steps more)
+    (near.near graded.grade graded.has)
+
+pub bound_nearer : (least : Enclosure) (variables m b low high most steps : ℕ)
+    → most + 4 * variables + 9 ≤ steps → IsGradedWithin least most
+    → IsBoundNear least variables m b low high
+    → ArePowersNear (nearness (million ^ variables)) (quotient (million ^ variables) m) b low high
+    (b * steps)
+bound_nearer least variables m b low high most steps room graded near =
+    powers_nearer (nearness (million ^ variables)) (quotient (million ^ variables) m) b low high
+    (b * (graded.grade + 4 * variables + 9)) (b * steps)
+    (mul-le-mul_left b (omega (arith, graded.small, room))) (near graded.grade graded.has)

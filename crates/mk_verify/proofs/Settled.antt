@@ -1,0 +1,142 @@
+-- Judgements of settlements.
+use Rattle.std.proofs.Common.{◌≡◌, ℕ, ◌+◌, ◌^◌, ◌<◌, ◌↔◌, Bool, List, [], ◌∷◌, length, map, Option, Some, None, slice_get, refl, sym, ap, subst, ◌∙◌, arith}
+use Rattle.std.proofs.lemmas.Option.{slice_get_within}
+use Rattle.std.specs.List.{AllZip, enumerate_from}
+use Rattle.mk_net.specs.Network.{Variable}
+use Rattle.mk_exact.specs.Events.{always}
+use Rattle.mk_exact.specs.Existing.{HasOutcome}
+use Rattle.mk_exact.specs.History.{Entry, users, revision}
+use Rattle.mk_exact.specs.Market.{Market, network_of}
+use Rattle.mk_exact.specs.Sound.{IsSound}
+use Rattle.mk_exact.specs.Weight.{possible_states}
+use Rattle.mk_command.specs.declared.command.Command.TheVariants.{Settle}
+use Rattle.mk_reply.specs.declared.payments.Payment.{Payment}
+use Rattle.mk_reply.specs.declared.reply.Reply.{Reply}
+use Rattle.mk_reply.specs.declared.reply.Reply.TheVariants.{Settled}
+use Rattle.mk_rules.specs.Answers.{IsPayment, IsSettlement}
+use Rattle.mk_rules.specs.Refusals.{first_refusal}
+use Rattle.mk_judge.specs.declared.judged.Judged.{Judged}
+use Rattle.mk_judge.specs.declared.judged.Judged.TheVariants.{Wrong}
+use Rattle.mk_judge.specs.Judged.{Judges}
+use Rattle.mk_judge.proofs.Judging.{judges_as}
+use Rattle.mk_verify.specs.Clear.{IsOpen, IsPaymentOpen}
+use Rattle.mk_answers.specs.Evidence.{IsFactorOf}
+use Rattle.mk_exact.specs.Factors.{gain}
+use Rattle.mk_enclose.specs.declared.factor.Factor.{Factor}
+use Rattle.mk_verify.specs.inner.Judging.{TellsSmall, JudgesReply, PaysCash, PayEach, IsPaymentLeftOpen}
+use Rattle.mk_verify.proofs.Places.{numbered_of, numbered_at, numbered_names, JudgesBelow, IsOpenBelow, HoldBelow}
+use Rattle.mk_verify.proofs.Exactness.{JudgesCash, cash_judged}
+use Rattle.mk_verify.proofs.Verdicts.{judges_answer}
+
+module _ (market : Market) (H : List Entry) where
+  abbrev network : List Variable
+  network = network_of market H
+
+  abbrev named : Payment → List ℕ
+  named p = p.user
+
+  paid_listed : (state : List ℕ) (payments : List Payment) → map named payments ≡ users H
+      → PayEach market H state payments
+      → AllZip (IsPayment network H market.points_per_bit state) (enumerate_from 0 (users H))
+      payments
+  paid_listed state payments names each =
+      subst (λ (us : List (List ℕ)). AllZip (IsPayment network H market.points_per_bit state)
+      (enumerate_from 0 us) payments) names
+      (numbered_of (IsPayment network H market.points_per_bit state) named 0 payments
+      (λ k p at. let here : k ≡ 0 + k = omega arith in
+      subst (λ (u : ℕ). IsPayment network H market.points_per_bit state (u, named p) p) here
+      (let its = each k p at in
+      record { name = refl; covers = its.covers; low_end = its.low_end })))
+
+  paid_each : (state : List ℕ) (payments : List Payment)
+      → AllZip (IsPayment network H market.points_per_bit state) (enumerate_from 0 (users H))
+      payments → PayEach market H state payments
+  paid_each state payments listed u p at =
+      let found = numbered_at (IsPayment network H market.points_per_bit state) named 0 (users H)
+      payments listed u p at in
+      let here : 0 + u ≡ u = omega arith in
+      let its = subst (λ (k : ℕ). IsPayment network H market.points_per_bit state (k, found.0) p)
+      here (found.1) in
+      record { covers = its.covers; low_end = its.low_end }
+
+  same_state : (a b : List ℕ) → possible_states network H always ≡ a ∷ []
+      → possible_states network H always ≡ b ∷ [] → a ≡ b
+  same_state a b is also = let e : a ∷ [] ≡ b ∷ [] = sym is ∙ also in cc
+
+  module _ (none : first_refusal market H Settle ≡ None) where
+    pub settled_told : (payments : List Payment) (j : Judged) → HasOutcome network H
+        → map named payments ≡ users H
+        → ((state : List ℕ) → IsSound network H → possible_states network H always ≡ state ∷ []
+        → Judges j (PayEach market H state payments) (IsPaymentOpen market H payments))
+        → JudgesReply market H Settle (Settled (revision H + 1) payments) j
+    settled_told payments j outcome names judged quotes stands =
+        let told = Settled (revision H + 1) payments in
+        let state = outcome.state in
+        judges_answer market H quotes Settle told j _ none
+        (judges_as j (PayEach market H state payments) _ _ _
+        (λ each. record {
+          state = state;
+          one_state = outcome.one_state;
+          payments = payments;
+          printed = refl;
+          paid = paid_listed state payments names each;
+        }) from (λ o. o) (judged state stands.sound outcome.one_state))
+      where
+        from : IsSettlement network H market.points_per_bit (Settled (revision H + 1) payments)
+            → PayEach market H outcome.state payments
+        from h =
+            let e : Settled (revision H + 1) payments ≡ Settled (revision H + 1) h.payments
+            = h.printed in
+            let same : h.payments ≡ payments = cc in
+            let one = same_state h.state outcome.state h.one_state outcome.one_state in
+            subst (λ (ps : List Payment). PayEach market H outcome.state ps) same
+            (subst (λ (s : List ℕ). PayEach market H s h.payments) one
+            (paid_each h.state h.payments h.paid))
+
+    pub not_settled : (reply : Reply)
+        → ((payments : List Payment) → map named payments ≡ users H
+        → reply ≡ Settled (revision H + 1) payments → ⊥) → JudgesReply market H Settle reply Wrong
+    not_settled reply other quotes stands =
+        judges_answer market H quotes Settle reply Wrong (IsOpen market H quotes Settle reply) none
+        (λ h. other h.payments (numbered_names
+        (IsPayment network H market.points_per_bit h.state) named (λ k y p its. its.name) 0
+        (users H) h.payments h.paid) h.printed)
+
+  -- of the payments before a place
+  abbrev pub JudgesPaid : List ℕ → List Payment → Judged → ℕ → Type 0
+  JudgesPaid state payments j n = JudgesBelow payments (PaysCash market H state)
+      (IsPaymentLeftOpen market H state) j n
+
+  pub all_paid : (state : List ℕ) (payments : List Payment) (j : Judged) (n : ℕ)
+      → possible_states network H always ≡ state ∷ [] → length payments ≡ n
+      → JudgesPaid state payments j n
+      → Judges j (PayEach market H state payments) (IsPaymentOpen market H payments)
+  all_paid state payments j n one long below =
+      judges_as j (HoldBelow payments (PaysCash market H state) (IsPaymentLeftOpen market H state) n)
+      (PayEach market H state payments)
+      (IsOpenBelow payments (PaysCash market H state) (IsPaymentLeftOpen market H state) n)
+      (IsPaymentOpen market H payments)
+      (λ holds u p at. holds u p (let within = slice_get_within payments u p at in
+      omega (arith, long, within)) at)
+      (λ each k p less at. each k p at)
+      (λ h. record {
+        state = state;
+        one_state = one;
+        user = h.value;
+        payment = h.interval;
+        stands = h.stands;
+        is_open = h.is_open;
+      }) below
+
+  -- the payment to one user
+  pub payment_judged : (state : List ℕ) (u : ℕ) (payment : Payment) (factor : Factor)
+      (small : Bool) (b : ℕ) (j : Judged) → TellsSmall small market H → IsSound network H
+      → IsFactorOf (2 ^ 17) network H u (gain H u state) factor → b ≡ market.points_per_bit
+      → payment.paid ≡ payment.low
+      → JudgesCash j factor small b payment.low payment.high
+      → Judges j (PaysCash market H state u payment) (IsPaymentLeftOpen market H state u payment)
+  payment_judged state u payment factor small b j tells sound its points low says =
+      judges_as j _ (PaysCash market H state u payment) _ _
+      (λ covers. record { covers = covers; low_end = low }) (λ pays. pays.covers) (λ o. o)
+      (cash_judged market H u (gain H u state) factor small b payment.low payment.high j tells
+      sound its points says)

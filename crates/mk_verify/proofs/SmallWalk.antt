@@ -1,0 +1,82 @@
+-- The walk over all states, value by value.
+use Rattle.std.proofs.Common.{◌≡◌, ℕ, ◌+◌, ◌-◌, ◌*◌, ◌^◌, ◌<◌, ◌≤◌, min, List, [], ◌∷◌, ◌++◌, length, get_or, take, drop, slice_index, sum_by, sym, ap, ap₂, ◌∙◌, arith, append_assoc, append-nil, zero-mul, true, ltb, ◌↔◌}
+use Rattle.std.proofs.lemmas.Bool.{ltb-true, lt-ltb}
+use Rattle.std.proofs.Math.Path.{fun_ext}
+use Rattle.std.proofs.lemmas.List.{map_more, drop_more, drop_all}
+use Rattle.std.proofs.lemmas.List.Sums.{sum_by_push}
+use Rattle.mk_net.specs.Network.{Variable, sizes}
+use Rattle.mk_exact.specs.States.{states, numbers_below, plus_over, product_by}
+use Rattle.mk_exact.specs.InitialWeight.{all_states, initial_weight}
+use Rattle.mk_exact.specs.Ratios.{ratio_at}
+use Rattle.mk_exact.specs.History as history
+use Rattle.mk_exact.specs.Weight.{weight, IsSmall}
+use Rattle.mk_exact.proofs.Sums.{sum_by_is, plus_over-states, sums_are_plus}
+use Rattle.mk_exact.proofs.Single.{over_all}
+use Rattle.mk_walk.specs.Walked.{capped}
+use Rattle.mk_walk.proofs.Weights.{capped_times, numbers_more}
+use Rattle.mk_walk.proofs.Totals.{capped_plus}
+use Rattle.mk_record.specs.declared.entry.Entry.{Entry}
+use Rattle.mk_record.specs.Entries.{change_of, changes}
+use Rattle.mk_verify.specs.inner.Walks.{times, behind}
+use Rattle.mk_verify.proofs.SmallWeights.{weight_times}
+
+-- one change more
+pub more_weight : (network : List Variable) (s : List ℕ) (es : List Entry) (i : ℕ) (e : Entry) (w t w' : ℕ) → i < length es → e ≡ get_or es i e
+    → w ≡ capped (weight network (changes (take i es)) s) → t ≡ times (change_of e) s → w' ≡ min (w * t) (2 ^ 128 - 1)
+    → w' ≡ capped (weight network (changes (take (i + 1) es)) s)
+more_weight network s es i e w t w' h is p q r =
+    r ∙ ap (λ (n : ℕ). min (n * t) (2 ^ 128 - 1)) p
+    ∙ ap (λ (n : ℕ). min (capped (weight network (changes (take i es)) s) * n) (2 ^ 128 - 1)) q
+    ∙ capped_times (weight network (changes (take i es)) s) (times (change_of e) s)
+    ∙ ap capped (sym (weight_times network (changes (take i es)) (change_of e) s) ∙ sym (ap (λ (H : List history.Entry). weight network H s) taken))
+  where
+    taken : changes (take (i + 1) es) ≡ changes (take i es) ++ change_of e ∷ []
+    taken = map_more change_of es i e h ∙ ap (λ (x : Entry). changes (take i es) ++ change_of x ∷ []) (sym is)
+
+-- one value more
+pub more_behind : (f : ℕ → ℕ) (v sum w sum' : ℕ) → sum ≡ capped (sum_by f (numbers_below v)) → w ≡ capped (f v) → sum' ≡ min (sum + w) (2 ^ 128 - 1)
+    → sum' ≡ capped (sum_by f (numbers_below (v + 1)))
+more_behind f v sum w sum' p q r = r ∙ ap₂ (λ (a b : ℕ). min (a + b) (2 ^ 128 - 1)) p q ∙ capped_plus (sum_by f (numbers_below v)) (f v)
+    ∙ ap capped (sym (ap (sum_by f) (numbers_more v) ∙ sum_by_push f (numbers_below v) v))
+
+-- the states behind a front are those behind each value more
+pub behind_split : (f : List ℕ → ℕ) (sizes front : List ℕ) (k : ℕ) → k < length sizes
+    → sum_by (λ v. behind f (drop (k + 1) sizes) (front ++ v ∷ [])) (numbers_below (slice_index sizes k)) ≡ behind f (drop k sizes) front
+behind_split f sizes front k h = sym (ap (λ ns. sum_by (λ s. f (front ++ s)) (states ns)) (drop_more sizes k 0 h)
+    ∙ sum_by_is (λ s. f (front ++ s)) (states (slice_index sizes k ∷ drop (k + 1) sizes))
+    ∙ plus_over-states ◌+◌ 0 sums_are_plus (λ s. f (front ++ s)) (slice_index sizes k) (drop (k + 1) sizes)
+    ∙ ap (λ (g : ℕ → ℕ). plus_over ◌+◌ 0 g (numbers_below (slice_index sizes k))) (fun_ext each)
+    ∙ sym (sum_by_is (λ v. behind f (drop (k + 1) sizes) (front ++ v ∷ [])) (numbers_below (slice_index sizes k))))
+  where
+    each : (v : ℕ) → plus_over ◌+◌ 0 (λ s. f (front ++ v ∷ s)) (states (drop (k + 1) sizes)) ≡ behind f (drop (k + 1) sizes) (front ++ v ∷ [])
+    each v = sym (sum_by_is (λ s. f (front ++ v ∷ s)) (states (drop (k + 1) sizes)))
+        ∙ ap (λ (g : List ℕ → ℕ). sum_by g (states (drop (k + 1) sizes))) (fun_ext (λ s. ap f (sym (append_assoc front (v ∷ []) s))))
+
+-- so once each value was tried
+pub all_behind : (f : List ℕ → ℕ) (sizes front : List ℕ) (k v sum : ℕ) → k < length sizes → v ≡ slice_index sizes k
+    → sum ≡ capped (sum_by (λ x. behind f (drop (k + 1) sizes) (front ++ x ∷ [])) (numbers_below v)) → sum ≡ capped (behind f (drop k sizes) front)
+all_behind f sizes front k v sum h e p = p
+    ∙ ap (λ n. capped (sum_by (λ x. behind f (drop (k + 1) sizes) (front ++ x ∷ [])) (numbers_below n))) e
+    ∙ ap capped (behind_split f sizes front k h)
+
+-- behind a whole state there is that state alone
+pub behind_none : (f : List ℕ → ℕ) (sizes front : List ℕ) (k : ℕ) → length sizes ≤ k → f front ≡ behind f (drop k sizes) front
+behind_none f sizes front k h = sym (ap (λ ns. sum_by (λ s. f (front ++ s)) (states ns)) (drop_all k sizes h) ∙ alone)
+  where
+    alone : sum_by (λ s. f (front ++ s)) ([] ∷ []) ≡ f front
+    alone = let one : 0 + f (front ++ []) ≡ f (front ++ []) = omega arith in one ∙ ap f (append-nil front)
+
+-- all states together
+pub behind_nothing : (network : List Variable) (H : List history.Entry) → behind (weight network H) (sizes network) [] ≡ sum_by (weight network H) (all_states network)
+behind_nothing network H = sym (over_all network (weight network H) (λ s e. nothing s e))
+  where
+    nothing : (s : List ℕ) → initial_weight network s ≡ 0 → weight network H s ≡ 0
+    nothing s e = rw e (zero-mul (product_by (λ (t : history.UserTrade). ratio_at t.ratio s) (history.trades H)))
+
+-- the sum is below a limit exactly where it is as far as it goes
+pub small_test : (network : List Variable) (H : List history.Entry) (t : ℕ) → t ≡ capped (behind (weight network H) (sizes network) [])
+    → (ltb t (2 ^ 63) ≡ true) ↔ IsSmall network H
+small_test network H t is = (λ h. omega (arith, same, ltb-true t (2 ^ 63) h), λ small. lt-ltb t (2 ^ 63) (omega (arith, same)))
+  where
+    same : t ≡ min (sum_by (weight network H) (all_states network)) (2 ^ 128 - 1)
+    same = is ∙ ap capped (behind_nothing network H)

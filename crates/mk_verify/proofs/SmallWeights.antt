@@ -1,0 +1,84 @@
+-- Weights of all states: each change leaves them at least as great, and four variables weigh too much from the start.
+use Rattle.std.proofs.Common.{◌≡◌, ℕ, ◌*◌, ◌^◌, ◌<◌, ◌≤◌, List, [], ◌∷◌, ◌++◌, length, sum_by, refl, sym, ◌∙◌, subst, arith, mul-one, mul-le-mul_left, lt_of_le_of_lt}
+use Rattle.std.proofs.lemmas.List.Sums.{sum_by-cons}
+use Rattle.std.proofs.Math.Nat.{pow-le-pow_right}
+use Rattle.std.proofs.lemmas.List.Elements.{filter_map-append}
+use Rattle.std.specs.List.{AllByRecursion}
+use Rattle.mk_net.specs.Bounds.{million}
+use Rattle.mk_net.specs.Network.{Variable, sizes, IsNetwork}
+use Rattle.mk_exact.specs.States.{IsState, product_by}
+use Rattle.mk_exact.specs.InitialWeight.{all_states, initial_weight, initial_total}
+use Rattle.mk_exact.specs.Ratios.{ratio_at}
+use Rattle.mk_exact.specs.History.{Entry, Join, Deposit, Withdraw, Trade, Resolve, Settle, UserTrade, trade_in, trades, users}
+use Rattle.mk_exact.specs.Weight.{weight, IsSmall}
+use Rattle.mk_exact.specs.Proper.{IsTradeOf, IsProper}
+use Rattle.mk_exact.proofs.Sums.{product_by_pos, each_weaker}
+use Rattle.mk_exact.proofs.Positive.{ratio_pos}
+use Rattle.mk_exact.proofs.Listed.{all_are}
+use Rattle.mk_exact.proofs.Millions.{initial_total_is}
+use Rattle.mk_exact.proofs.After.{weight_kept, weight_traded}
+use Rattle.mk_verify.specs.inner.Walks.{times}
+
+-- a sum of terms that are greater one by one is greater
+sum_by_grows : {X : Type 0} (f g : X → ℕ) (xs : List X) → AllByRecursion (λ x. f x ≤ g x) xs → sum_by f xs ≤ sum_by g xs
+sum_by_grows f g [] h = omega arith
+sum_by_grows f g (x ∷ xs) h = omega (arith, sum_by-cons f x xs, sum_by-cons g x xs, h.0, sum_by_grows f g xs h.1)
+
+grown : (n m : ℕ) → 1 ≤ m → n ≤ n * m
+grown n m h = omega (arith, mul-le-mul_left n h)
+
+-- a weight is at least the initial one
+at_least_initial : (network : List Variable) (H : List Entry) (s : List ℕ) → IsProper network H → IsState (sizes network) s
+    → initial_weight network s ≤ weight network H s
+at_least_initial network H s proper is_state = grown (initial_weight network s) (product_by (λ (t : UserTrade). ratio_at t.ratio s) (trades H))
+    (product_by_pos (λ (t : UserTrade). ratio_at t.ratio s) (trades H)
+    (each_weaker (IsTradeOf network (length (users H))) (λ (t : UserTrade). 1 ≤ ratio_at t.ratio s) (ratio_pos network (length (users H)) s is_state) (trades H) proper.trades_fit))
+
+-- so with more than three variables no history is small
+pub many_are_large : (network : List Variable) (H : List Entry) → IsNetwork network → IsProper network H → 3 < length network → IsSmall network H → ⊥
+many_are_large network H net proper many small = omega (arith, small, initial, total, powers, much)
+  where
+    initial : initial_total network ≡ million ^ length network
+    initial = initial_total_is network net
+
+    total : initial_total network ≤ sum_by (weight network H) (all_states network)
+    total = sum_by_grows (initial_weight network) (weight network H) (all_states network)
+        (each_weaker (IsState (sizes network)) (λ s. initial_weight network s ≤ weight network H s) (λ s is_state. at_least_initial network H s proper is_state) (all_states network) (all_are network))
+
+    powers : million ^ 4 ≤ million ^ length network
+    powers = let q : 4 ≤ length network = omega arith in pow-le-pow_right {n = million} (omega arith) q
+
+    much : 2 ^ 63 ≤ million ^ 4
+    much = omega arith
+
+-- a change multiplies the weight of a state
+pub weight_times : (network : List Variable) (H : List Entry) (e : Entry) (s : List ℕ) → weight network (H ++ e ∷ []) s ≡ weight network H s * times e s
+weight_times network H (Join name) s = weight_kept network H (Join name) s refl ∙ sym (mul-one (weight network H s))
+weight_times network H (Deposit user bits) s = weight_kept network H (Deposit user bits) s refl ∙ sym (mul-one (weight network H s))
+weight_times network H (Withdraw user bits) s = weight_kept network H (Withdraw user bits) s refl ∙ sym (mul-one (weight network H s))
+weight_times network H (Trade user ratio) s = weight_traded network H user ratio s
+weight_times network H (Resolve pair) s = weight_kept network H (Resolve pair) s refl ∙ sym (mul-one (weight network H s))
+weight_times network H Settle s = weight_kept network H Settle s refl ∙ sym (mul-one (weight network H s))
+
+last_of : {X : Type 0} (P : X → Type 0) (xs ys : List X) → AllByRecursion P (xs ++ ys) → AllByRecursion P ys
+last_of P [] ys h = h
+last_of P (x ∷ xs) ys h = last_of P xs ys h.1
+
+-- in a state of the network by one at least, where it is in range
+times_positive : (network : List Variable) (joined : ℕ) (e : Entry) (s : List ℕ) → IsState (sizes network) s → AllByRecursion (IsTradeOf network joined) (trades (e ∷ [])) → 1 ≤ times e s
+times_positive network joined (Join name) s is_state h = omega arith
+times_positive network joined (Deposit user bits) s is_state h = omega arith
+times_positive network joined (Withdraw user bits) s is_state h = omega arith
+times_positive network joined (Trade user ratio) s is_state h = ratio_pos network joined s is_state (record { user = user; ratio = ratio }) h.0
+times_positive network joined (Resolve pair) s is_state h = omega arith
+times_positive network joined Settle s is_state h = omega arith
+
+-- a history that is small was small before its last change
+pub small_before : (network : List Variable) (H : List Entry) (e : Entry) → IsProper network (H ++ e ∷ []) → IsSmall network (H ++ e ∷ []) → IsSmall network H
+small_before network H e proper small = lt_of_le_of_lt (sum_by_grows (weight network H) (weight network (H ++ e ∷ [])) (all_states network)
+    (each_weaker (IsState (sizes network)) (λ s. weight network H s ≤ weight network (H ++ e ∷ []) s) at (all_states network) (all_are network))) small
+  where
+    at : (s : List ℕ) → IsState (sizes network) s → weight network H s ≤ weight network (H ++ e ∷ []) s
+    at s is_state = rw (weight_times network H e s) (grown (weight network H s) (times e s)
+        (times_positive network (length (users (H ++ e ∷ []))) e s is_state (last_of (IsTradeOf network (length (users (H ++ e ∷ [])))) (trades H) (trades (e ∷ []))
+        (subst (AllByRecursion (IsTradeOf network (length (users (H ++ e ∷ []))))) (filter_map-append trade_in H (e ∷ [])) proper.trades_fit))))

@@ -1,0 +1,105 @@
+-- Judgements of the replies to `bounds` and `spread`.
+use Rattle.std.proofs.Common.{◌≡◌, ℕ, ◌-◌, ◌^◌, ◌≤◌, Bool, List, Option, None, All, MatchOption, sym, ap₂, subst, ◌∙◌}
+use Rattle.std.specs.List.{AllZip}
+use Rattle.std.proofs.lemmas.List.Elements.{All-from_recursion}
+use Rattle.arrayvec.specs.ArrayVec.{ArrayVec}
+use Rattle.mk_net.specs.Bounds.{million}
+use Rattle.mk_net.specs.declared.words.PairText.{PairText}
+use Rattle.mk_exact.specs.History.{Entry, revision}
+use Rattle.mk_exact.specs.Limits.{Side}
+use Rattle.mk_exact.specs.Market.{Market, network_of}
+use Rattle.mk_exact.proofs.Sums.{each_weaker}
+use Rattle.mk_spread.specs.Bounds.{Intervals}
+use Rattle.mk_spread.specs.Markets.{AreValueSides}
+use Rattle.mk_command.specs.declared.command.Command.TheVariants.{Bounds, Spread}
+use Rattle.mk_reply.specs.declared.refusal.Refusal.TheVariants.{Outside}
+use Rattle.mk_reply.specs.declared.reply.Reply.{Reply}
+use Rattle.mk_reply.specs.declared.reply.Reply.TheVariants as reply
+use Rattle.mk_quote.specs.declared.values.SpreadBounds.{SpreadBounds}
+use Rattle.mk_quote.specs.Questions.{spread_in}
+use Rattle.mk_quote.specs.Values.{sides_in}
+use Rattle.mk_rules.specs.Refusals.{user_number, first_refusal, refusals, least_share}
+use Rattle.mk_rules.specs.Quotes.{Quotes, last_quote, current_bounds}
+use Rattle.mk_rules.specs.Answers.{IsBounds, IsSpreadJudged, IsSpreadJudgedAfresh, IsAllowed}
+use Rattle.mk_rules.proofs.Unrefused.{none_applies}
+use Rattle.mk_rules.proofs.Spreads.{numbers_in_range}
+use Rattle.mk_judge.specs.declared.judged.Judged.{Judged}
+use Rattle.mk_judge.specs.Judged.{Judges}
+use Rattle.mk_judge.specs.Distributions.{HaveTradeRange}
+use Rattle.mk_judge.proofs.Judging.{judges_as}
+use Rattle.mk_answers.specs.Evidence.{IsBoundedValue}
+use Rattle.mk_market.specs.Evidence.{IsSpreadEvidence}
+use Rattle.mk_market.specs.declared.evidence_of_spreads.SpreadEvidence.{SpreadEvidence}
+use Rattle.mk_verify.specs.Clear.{IsOpen}
+use Rattle.mk_verify.specs.inner.Judging.{TellsSmall}
+use Rattle.mk_verify.specs.inner.Spreading.{AreEachBounds, AreBoundsLeftOpen, IsSpreadLeftOpen}
+use Rattle.mk_verify.proofs.Verdicts.{judges_answer}
+use Rattle.mk_verify.proofs.SpreadingNear.{in_range}
+
+-- evidence by the name of its user
+pub each_bounds : (market : Market) (H : List Entry) (name v : List ℕ) (condition : ArrayVec PairText) (evidence : SpreadEvidence) (small : Bool) (now : ℕ)
+    → IsSpreadEvidence market H name v condition evidence → TellsSmall small market H → now ≡ revision H → AreEachBounds market H name v condition evidence.bounds small now
+each_bounds market H name v condition evidence small now of tells present = record {
+  tells = tells;
+  present = present;
+  spread = spread_in evidence.question;
+  named = of.named;
+  sides = of.sides.sides;
+  exist = subst (λ (u : ℕ). AreValueSides (network_of market H) H u (spread_in evidence.question) of.sides.sides) of.user of.sides.exist;
+  each = subst (λ (u : ℕ). (sides : List (Option Side)) → AreValueSides (network_of market H) H u (spread_in evidence.question) sides
+      → AllZip (IsBoundedValue (2 ^ 17) (network_of market H) H u) (sides_in evidence.bounds) sides) of.user of.sides.bounds_of;
+}
+
+-- bounds that were quoted to this user for this spread
+pub spread_quoted : (market : Market) (H : List Entry) (quotes : Quotes) (name v : List ℕ) (condition : ArrayVec PairText) (evidence : SpreadEvidence) (small : Bool) (now : ℕ) (quoted : Option Intervals)
+    → (of : IsSpreadEvidence market H name v condition evidence) (tells : TellsSmall small market H) (present : now ≡ revision H)
+    → quoted ≡ current_bounds (last_quote quotes evidence.user) (spread_in evidence.question) now
+    → quoted ≡ current_bounds (last_quote quotes (user_number H name)) (each_bounds market H name v condition evidence small now of tells present).spread (revision H)
+unfolding each_bounds
+spread_quoted market H quotes name v condition evidence small now quoted of tells present is =
+    is ∙ ap₂ (λ (u n : ℕ). current_bounds (last_quote quotes u) (spread_in evidence.question) n) of.user present
+
+-- its factors are in range for one trade more
+pub evidence_in_range : (market : Market) (H : List Entry) (name v : List ℕ) (condition : ArrayVec PairText) (evidence : SpreadEvidence)
+    → IsSpreadEvidence market H name v condition evidence → HaveTradeRange (sides_in evidence.bounds)
+evidence_in_range market H name v condition evidence of =
+    in_range (network_of market H) H evidence.user (sides_in evidence.bounds) of.sides.sides (of.sides.bounds_of of.sides.sides of.sides.exist)
+
+-- the shares of a spread that nothing refuses
+pub spread_shares : (market : Market) (H : List Entry) (name v : List ℕ) (condition : ArrayVec PairText) (to : ArrayVec ℕ) (seen : Option ℕ)
+    → first_refusal market H (Spread name v condition to seen) ≡ None → All (λ X. X ≤ 999999) to.items
+spread_shares market H name v condition to seen none = All-from_recursion (λ X. X ≤ 999999) to.items
+    (each_weaker (λ X. (least_share market ≤ X) × (X ≤ 999999)) (λ X. X ≤ 999999) (λ X inside. inside.1) to.items
+    (numbers_in_range (least_share market) (million - 1) to.items (none_applies (refusals market H (Spread name v condition to seen)) none).1.1.1.1.1.1.1.1.1.1.0))
+
+module _ (market : Market) (H : List Entry) (quotes : Quotes) (name v : List ℕ) (condition : ArrayVec PairText) (bounds : SpreadBounds) (small : Bool) (now : ℕ)
+    (its : AreEachBounds market H name v condition bounds small now) where
+  bounds_left : (told : Reply) → AreBoundsLeftOpen market H (user_number H name) its.spread told → IsOpen market H quotes (Bounds name v condition) told
+  bounds_left (reply.Bounded box at) o = rw its.named o
+  bounds_left told o = absurd o
+
+  pub bounds_allowed : (told : Reply) (j : Judged) → first_refusal market H (Bounds name v condition) ≡ None
+      → Judges j (IsBounds (network_of market H) H (user_number H name) its.spread told) (AreBoundsLeftOpen market H (user_number H name) its.spread told)
+      → Judges j (IsAllowed market H quotes (Bounds name v condition) told) (IsOpen market H quotes (Bounds name v condition) told)
+  bounds_allowed told j none judged = judges_answer market H quotes (Bounds name v condition) told j _ none
+      (judges_as j _ _ _ _ (λ h. rw its.named h) (λ h. rw its.named at h) (bounds_left told) judged)
+
+  spread_left_open : (to : ArrayVec ℕ) (seen : Option ℕ) (quoted : Option Intervals) → quoted ≡ current_bounds (last_quote quotes (user_number H name)) its.spread (revision H)
+      → (told : Reply) → IsSpreadLeftOpen market H (user_number H name) its.spread to.items quoted told → IsOpen market H quotes (Spread name v condition to seen) told
+  spread_left_open to seen quoted is (reply.Spreaded factors at) o = rw its.named o
+  spread_left_open to seen quoted is (reply.Refused (Outside box)) o = rw its.named (sym is ∙ o.0, o.1)
+  spread_left_open to seen quoted is told o = absurd o
+
+  pub spread_allowed : (to : ArrayVec ℕ) (seen : Option ℕ) (quoted : Option Intervals) (told : Reply) (j : Judged)
+      → quoted ≡ current_bounds (last_quote quotes (user_number H name)) its.spread (revision H) → first_refusal market H (Spread name v condition to seen) ≡ None
+      → Judges j
+      (MatchOption quoted (IsSpreadJudgedAfresh (network_of market H) H (user_number H name) its.spread to.items told)
+      (λ intervals. IsSpreadJudged (network_of market H) H (user_number H name) its.spread to.items intervals told))
+      (IsSpreadLeftOpen market H (user_number H name) its.spread to.items quoted told)
+      → Judges j (IsAllowed market H quotes (Spread name v condition to seen) told) (IsOpen market H quotes (Spread name v condition to seen) told)
+  spread_allowed to seen quoted told j is none judged = judges_answer market H quotes (Spread name v condition to seen) told j _ none
+      (judges_as j _ _ _ _ (λ h. rw its.named (subst answers is h)) (λ h. subst answers (sym is) (rw its.named at h)) (spread_left_open to seen quoted is told) judged)
+    where
+      answers : Option Intervals → Type 0
+      answers o = MatchOption o (IsSpreadJudgedAfresh (network_of market H) H (user_number H name) its.spread to.items told)
+          (λ intervals. IsSpreadJudged (network_of market H) H (user_number H name) its.spread to.items intervals told)

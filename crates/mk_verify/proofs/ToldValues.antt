@@ -1,0 +1,201 @@
+-- Judgements of replies that tell a number of each value of a variable.
+use Rattle.std.proofs.Common.{◌≡◌, ℕ, ◌^◌, List, Bool, ◌≤◌, Option, Some, None, IsSomeAnd, IfSome, refl, sym, subst}
+use Rattle.std.specs.List.{AllZip, All}
+use Rattle.arrayvec.specs.ArrayVec.{ArrayVec}
+use Rattle.mk_net.specs.declared.words.PairText.{PairText}
+use Rattle.mk_net.specs.Asked.{Asked}
+use Rattle.mk_net.specs.Network.{Variable}
+use Rattle.mk_exact.specs.Events.{with_target}
+use Rattle.mk_spread.specs.Spreads.{SpreadAsked, asked_of}
+use Rattle.mk_spread.specs.Told.{ArePricesOf, IsPositionOf}
+use Rattle.mk_command.specs.declared.command.Command.TheVariants.{Prices, Position}
+use Rattle.mk_reply.specs.declared.reply.Reply.{Reply}
+use Rattle.mk_reply.specs.declared.reply.Reply.TheVariants.{Prices as PricesTold, Position as PositionTold}
+use Rattle.mk_rules.specs.Refusals.{spread_named, user_number, first_refusal}
+use Rattle.mk_rules.specs.Told.{ArePrices, IsPosition}
+use Rattle.mk_judge.specs.declared.judged.Judged.TheVariants.{Wrong}
+use Rattle.mk_judge.specs.declared.price.PriceBounds.{PriceBounds}
+use Rattle.mk_judge.proofs.Judging.{judges_as}
+use Rattle.mk_exact.specs.History.{Entry}
+use Rattle.mk_exact.specs.Market.{Market, network_of}
+use Rattle.mk_exact.specs.Sound.{IsSound}
+use Rattle.mk_exact.specs.Weight.{IsSmall}
+use Rattle.mk_exact.specs.Cash.{CoversCash}
+use Rattle.mk_exact.specs.Factors.{HoldsNoTrade, factor_with, least_gain}
+use Rattle.mk_enclose.specs.declared.factor.Factor.{Factor}
+use Rattle.mk_spread.specs.Told.{CoversLeast}
+use Rattle.mk_judge.specs.declared.judged.Judged.{Judged}
+use Rattle.mk_judge.specs.Judged.{Judges}
+use Rattle.mk_answers.specs.Evidence.{IsLeastFactorOf, IsFactorOf}
+use Rattle.mk_verify.specs.Clear.{IsOpen, IsPlaceOpen, IsPriceOpen, IsCashOpen, IsLeastCashOpen}
+use Rattle.mk_verify.specs.inner.Judging.{TellsSmall, JudgesReply, AreBoundsOfPrices, AreSureFactorsOf}
+use Rattle.mk_verify.proofs.Exactness.{JudgesCash, cash_judged}
+use Rattle.mk_judge.specs.Powers.{HasCashRange}
+use Rattle.mk_judge.specs.Prices.{HavePriceRange}
+use Rattle.mk_net.specs.Bounds.{max_points_per_bit}
+use Rattle.mk_answers.specs.Evidence.{AreBoundsOfPrice, IsSureFactor}
+use Rattle.mk_verify.proofs.Places.{each_ranged}
+use Rattle.mk_verify.proofs.Verdicts.{judges_some, judges_answer}
+
+pub least_judged : (market : Market) (H : List Entry) (u : ℕ) (test : List ℕ → Bool)
+    (factor : Factor) (small : Bool) (b low high : ℕ) (j : Judged) → TellsSmall small market H
+    → IsSound (network_of market H) H → b ≡ market.points_per_bit
+    → IsLeastFactorOf (2 ^ 17) (network_of market H) H u test factor
+    → JudgesCash j factor small b low high
+    → Judges j (CoversLeast (network_of market H) H u market.points_per_bit test (low, high))
+    (IsLeastCashOpen market H u test (low, high))
+least_judged market H u test factor small b low high j tells sound points evidence says =
+    let network = network_of market H in
+    judges_some (least_gain network H u test)
+    (λ g. IsFactorOf (2 ^ 17) network H u g factor)
+    (λ g. CoversCash (IsSmall network H) (HoldsNoTrade H u) (factor_with H u g)
+    market.points_per_bit low high)
+    (λ g. IsCashOpen market H u (factor_with H u g) (low, high)) j evidence
+    (λ g its. cash_judged market H u g factor small b low high j tells sound its points says)
+
+-- ---- prices
+
+module _ (market : Market) (H : List Entry) (v : List ℕ) (condition : ArrayVec PairText)
+    (none : first_refusal market H (Prices v condition) ≡ None) where
+  pub prices_told : (bounds : List (Option PriceBounds)) (intervals : ArrayVec (ℕ × ℕ))
+      (small : Bool) (j : Judged) → TellsSmall small market H
+      → IsSomeAnd (spread_named (network_of market H) v condition.items)
+      (λ spread. AreBoundsOfPrices market H spread bounds)
+      → ((spread : SpreadAsked) → AreBoundsOfPrices market H spread bounds
+      → Judges j (ArePricesOf (network_of market H) H spread intervals.items)
+      (IsPlaceOpen intervals.items (λ value ends. IsPriceOpen market H (asked_of spread value) ends)))
+      → JudgesReply market H (Prices v condition) (PricesTold intervals) j
+  prices_told bounds intervals small j tells evidence judged quotes stands =
+      let network = network_of market H in
+      judges_answer market H quotes (Prices v condition) (PricesTold intervals) j _ none
+      (judges_some (spread_named network v condition.items)
+      (λ spread. AreBoundsOfPrices market H spread bounds)
+      (λ spread. ArePrices network H spread (PricesTold intervals))
+      (λ spread. IsPlaceOpen intervals.items
+      (λ value ends. IsPriceOpen market H (asked_of spread value) ends)) j evidence
+      (λ spread its. judges_as j (ArePricesOf network H spread intervals.items) _ _ _
+      (λ covers. record { intervals = intervals; printed = refl; covers = covers }) (from spread)
+      (λ o. o) (judged spread its)))
+    where
+      from : (spread : SpreadAsked) → ArePrices (network_of market H) H spread (PricesTold intervals)
+          → ArePricesOf (network_of market H) H spread intervals.items
+      from spread h =
+          let e : PricesTold intervals ≡ PricesTold h.intervals = h.printed in
+          let same : intervals ≡ h.intervals = cc in
+          let covers = h.covers in
+          rw same covers
+
+  pub no_prices : (reply : Reply)
+      → ((intervals : ArrayVec (ℕ × ℕ)) → reply ≡ PricesTold intervals → ⊥)
+      → JudgesReply market H (Prices v condition) reply Wrong
+  no_prices reply other quotes stands =
+      judges_answer market H quotes (Prices v condition) reply Wrong
+      (IsOpen market H quotes (Prices v condition) reply) none
+      (other_at (spread_named (network_of market H) v condition.items))
+    where
+      other_at : (o : Option SpreadAsked)
+          → IsSomeAnd o (λ spread. ArePrices (network_of market H) H spread reply) → ⊥
+      other_at None h = h
+      other_at (Some spread) h = other h.intervals h.printed
+
+-- ---- a position
+
+module _ (market : Market) (H : List Entry) (name v : List ℕ) (condition : ArrayVec PairText)
+    (none : first_refusal market H (Position name v condition) ≡ None) where
+  abbrev its_number : ℕ
+  its_number = user_number H name
+
+  abbrev IsTold : SpreadAsked → Reply → Type 0
+  IsTold spread reply =
+      IsPosition (network_of market H) H its_number market.points_per_bit spread reply
+
+  pub position_told : (factors : List (Option Factor)) (intervals : ArrayVec (Option (ℕ × ℕ)))
+      (j : Judged)
+      → IsSomeAnd (spread_named (network_of market H) v condition.items)
+      (λ spread. AreSureFactorsOf market H its_number spread factors)
+      → ((spread : SpreadAsked) → IsSound (network_of market H) H
+      → AreSureFactorsOf market H its_number spread factors
+      → Judges j (IsPositionOf (network_of market H) H its_number market.points_per_bit spread
+      intervals.items) (IsPlaceOpen intervals.items (λ value ends. IsSomeAnd ends
+      (IsLeastCashOpen market H its_number (with_target (asked_of spread value))))))
+      → JudgesReply market H (Position name v condition) (PositionTold intervals) j
+  position_told factors intervals j evidence judged quotes stands =
+      let network = network_of market H in
+      judges_answer market H quotes (Position name v condition) (PositionTold intervals) j _ none
+      (judges_some (spread_named network v condition.items)
+      (λ spread. AreSureFactorsOf market H its_number spread factors)
+      (λ spread. IsTold spread (PositionTold intervals))
+      (λ spread. IsPlaceOpen intervals.items (λ value ends. IsSomeAnd ends
+      (IsLeastCashOpen market H its_number (with_target (asked_of spread value))))) j evidence
+      (λ spread its. judges_as j (IsPositionOf network H its_number market.points_per_bit spread
+      intervals.items) _ _ _
+      (λ covers. record { intervals = intervals; printed = refl; covers = covers }) (from spread)
+      (λ o. o) (judged spread stands.sound its)))
+    where
+      from : (spread : SpreadAsked) → IsTold spread (PositionTold intervals)
+          → IsPositionOf (network_of market H) H its_number market.points_per_bit spread
+          intervals.items
+      from spread h =
+          let e : PositionTold intervals ≡ PositionTold h.intervals = h.printed in
+          let same : intervals ≡ h.intervals = cc in
+          let covers = h.covers in
+          rw same covers
+
+  pub no_position : (reply : Reply)
+      → ((intervals : ArrayVec (Option (ℕ × ℕ))) → reply ≡ PositionTold intervals → ⊥)
+      → JudgesReply market H (Position name v condition) reply Wrong
+  no_position reply other quotes stands =
+      judges_answer market H quotes (Position name v condition) reply Wrong
+      (IsOpen market H quotes (Position name v condition) reply) none
+      (other_at (spread_named (network_of market H) v condition.items))
+    where
+      other_at : (o : Option SpreadAsked) → IsSomeAnd o (λ spread. IsTold spread reply) → ⊥
+      other_at None h = h
+      other_at (Some spread) h = other h.intervals h.printed
+
+-- ---- ranges
+
+some_price : (network : List Variable) (H : List Entry) (asked : Asked) (found : Option PriceBounds)
+    → IsSomeAnd found (AreBoundsOfPrice (2 ^ 17) network H asked) → IfSome found HavePriceRange
+some_price network H asked None h = absurd h
+some_price network H asked (Some bounds) h = h.range
+
+pub prices_in_range : (market : Market) (H : List Entry) (o : Option SpreadAsked)
+    (bounds : List (Option PriceBounds)) → IsSomeAnd o (λ spread. AreBoundsOfPrices market H spread bounds)
+    → All (λ found. IfSome found HavePriceRange) bounds
+prices_in_range market H None bounds h = absurd h
+prices_in_range market H (Some spread) bounds h =
+    each_ranged (λ value price. IsSomeAnd price
+    (AreBoundsOfPrice (2 ^ 17) (network_of market H) H (asked_of spread value)))
+    (λ found. IfSome found HavePriceRange) 0 _ bounds h
+    (λ value found its. some_price (network_of market H) H (asked_of spread value) found its)
+
+least_range : (network : List Variable) (H : List Entry) (u : ℕ) (o : Option ℕ) (factor : Factor) (b : ℕ)
+    → b ≤ max_points_per_bit → IsSomeAnd o (λ g. IsFactorOf (2 ^ 17) network H u g factor)
+    → HasCashRange factor b
+least_range network H u None factor b few h = absurd h
+least_range network H u (Some g) factor b few h = h.cash b few
+
+pub worst_range : (market : Market) (H : List Entry) (u : ℕ) (test : List ℕ → Bool)
+    (factor : Factor) (b : ℕ) → b ≤ max_points_per_bit
+    → IsLeastFactorOf (2 ^ 17) (network_of market H) H u test factor → HasCashRange factor b
+worst_range market H u test factor b few h = least_range (network_of market H) H u
+    (least_gain (network_of market H) H u test) factor b few h
+
+some_sure : (market : Market) (H : List Entry) (u : ℕ) (test : List ℕ → Bool)
+    (found : Option Factor) (b : ℕ) → b ≤ max_points_per_bit
+    → IsSureFactor (2 ^ 17) (network_of market H) H u test found
+    → IfSome found (λ factor. HasCashRange factor b)
+some_sure market H u test None b few h = tt
+some_sure market H u test (Some factor) b few h = worst_range market H u test factor b few h
+
+pub position_in_range : (market : Market) (H : List Entry) (u : ℕ) (o : Option SpreadAsked)
+    (factors : List (Option Factor)) (b : ℕ) → b ≤ max_points_per_bit
+    → IsSomeAnd o (λ spread. AreSureFactorsOf market H u spread factors)
+    → All (λ found. IfSome found (λ factor. HasCashRange factor b)) factors
+position_in_range market H u None factors b few h = absurd h
+position_in_range market H u (Some spread) factors b few h =
+    each_ranged (λ value factor. IsSureFactor (2 ^ 17) (network_of market H) H u
+    (with_target (asked_of spread value)) factor)
+    (λ found. IfSome found (λ factor. HasCashRange factor b)) 0 _ factors h
+    (λ value found its. some_sure market H u (with_target (asked_of spread value)) found b few its)

@@ -1,0 +1,18 @@
+use Rattle.std.specs.Prelude.{◌≡◌, ℕ, List, [], ◌∷◌}
+use Rattle.mk_exact.specs.Events.{always}
+use Rattle.mk_exact.specs.Market.{network_of}
+use Rattle.mk_exact.specs.Sound.{IsSound}
+use Rattle.mk_exact.specs.Weight.{possible_states}
+use Rattle.mk_verify.proofs.Settled.{JudgesPaid}
+use Rattle.mk_verify.proofs.settlement.judge_payments.Given as goal
+
+abbrev pub invariant-loop-user : goal.invariant-loop-user
+invariant-loop-user g l =
+    let market = l.initial.market.market in
+    let H = l.initial.market.standing.history in
+    record {
+      same : l.market ≡ l.initial.market;
+      judged : (state : List ℕ) → IsSound (network_of market H) H
+          → possible_states (network_of market H) H always ≡ state ∷ []
+          → JudgesPaid market H state l.payments l.judged l.user;
+    }

@@ -1,0 +1,87 @@
+-- What the judge of one command's replies says.
+use Rattle.std.specs.Prelude.{◌≡◌, ℕ, ◌+◌, ◌^◌, Bool, true, false, List, Option, Some, IsSomeAnd}
+use Rattle.std.specs.Prelude.{slice_get, ◌↔◌, ◌⊎◌}
+use Rattle.std.specs.List.{AllZip}
+use Rattle.mk_exact.specs.Events.{with_target}
+use Rattle.mk_exact.specs.History.{Entry, revision}
+use Rattle.mk_exact.specs.Market.{Market, network_of}
+use Rattle.mk_exact.specs.Weight.{IsSmall}
+use Rattle.mk_exact.specs.Factors.{HoldsNoTrade, factor}
+use Rattle.mk_exact.specs.Cash.{CoversCash}
+use Rattle.mk_spread.specs.Spreads.{SpreadAsked, asked_of}
+use Rattle.mk_spread.specs.Markets.{values_of}
+use Rattle.mk_enclose.specs.declared.factor.Factor.{Factor}
+use Rattle.mk_command.specs.declared.command.Command.{Command}
+use Rattle.mk_command.specs.declared.command.Command.TheVariants.{User, Deposit, Resolve}
+use Rattle.mk_reply.specs.declared.refusal.Refusal.TheVariants.{Memory}
+use Rattle.mk_reply.specs.declared.payments.Payment.{Payment}
+use Rattle.mk_reply.specs.declared.reply.Reply.{Reply}
+use Rattle.mk_reply.specs.declared.reply.Reply.TheVariants.{Joined, Deposited, Resolved, Refused}
+use Rattle.mk_rules.specs.Answers.{IsAllowed}
+use Rattle.mk_rules.specs.Quotes.{Quotes}
+use Rattle.mk_rules.specs.Standings.{Stands}
+use Rattle.mk_judge.specs.declared.judged.Judged.{Judged}
+use Rattle.mk_judge.specs.declared.judged.Judged.TheVariants.{Allowed, Wrong}
+use Rattle.mk_judge.specs.Judged.{Judges}
+use Rattle.mk_judge.specs.declared.price.PriceBounds.{PriceBounds}
+use Rattle.mk_answers.specs.Evidence.{AreBoundsOfPrice, IsSureFactor}
+use Rattle.mk_verify.specs.Clear.{IsOpen, IsCashOpen}
+
+-- the flag is set exactly where the history is small
+abbrev pub TellsSmall : Bool → Market → List Entry → Type 0
+TellsSmall small market H = (small ≡ true) ↔ IsSmall (network_of market H) H
+
+-- the judgement of a reply to a command, whatever users were quoted
+abbrev pub JudgesReply : Market → List Entry → Command → Reply → Judged → Type 0
+JudgesReply market H command reply judged = (quotes : Quotes) → Stands market H
+    → Judges judged (IsAllowed market H quotes command reply)
+    (IsOpen market H quotes command reply)
+
+-- what is allowed or not, and never left open
+abbrev pub by_words : Bool → Judged
+by_words true = Allowed
+by_words false = Wrong
+
+-- the replies by words alone to a command that nothing of the table refuses
+abbrev pub IsPlainAnswer : List Entry → Command → Reply → Type 0
+IsPlainAnswer H (User u) reply =
+    (reply ≡ Joined u (revision H + 1)) ⊎ (reply ≡ Refused Memory)
+IsPlainAnswer H (Deposit u bits) reply = reply ≡ Deposited u bits (revision H + 1)
+IsPlainAnswer H (Resolve p) reply = reply ≡ Resolved p (revision H + 1)
+IsPlainAnswer H command reply = ⊥
+
+-- ---- lists of evidence
+
+-- bounds of the price of each value of a variable, in order: there are such bounds of each
+abbrev pub AreBoundsOfPrices :
+    Market → List Entry → SpreadAsked → List (Option PriceBounds) → Type 0
+AreBoundsOfPrices market H spread bounds =
+    AllZip (λ value price. IsSomeAnd price
+    (AreBoundsOfPrice (2 ^ 17) (network_of market H) H (asked_of spread value)))
+    (values_of (network_of market H) spread) bounds
+
+-- factors of what a user is sure of where each value comes, in order, and none where it cannot
+abbrev pub AreSureFactorsOf :
+    Market → List Entry → ℕ → SpreadAsked → List (Option Factor) → Type 0
+AreSureFactorsOf market H u spread factors =
+    AllZip (λ value factor. IsSureFactor (2 ^ 17) (network_of market H) H u
+    (with_target (asked_of spread value)) factor) (values_of (network_of market H) spread) factors
+
+-- ---- settlements
+
+-- a payment to a user covers the cash of its factor in a state, and is the low end
+pub record PaysCash (market : Market) (H : List Entry) (state : List ℕ) (u : ℕ)
+    (payment : Payment) : Type 0 where
+  pub covers : CoversCash (IsSmall (network_of market H) H) (HoldsNoTrade H u) (factor H u state)
+      market.points_per_bit payment.low payment.high
+  pub low_end : payment.paid ≡ payment.low
+
+-- each of some payments does so, to the user of its place
+abbrev pub PayEach : Market → List Entry → List ℕ → List Payment → Type 0
+PayEach market H state payments = (u : ℕ) (payment : Payment)
+    → slice_get payments u ≡ Some payment → PaysCash market H state u payment
+
+-- a payment may be left open
+abbrev pub IsPaymentLeftOpen : Market → List Entry → List ℕ → ℕ → Payment → Type 0
+IsPaymentLeftOpen market H state u payment =
+    IsCashOpen market H u (factor H u state) (payment.low, payment.high)

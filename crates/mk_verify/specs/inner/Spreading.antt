@@ -1,0 +1,80 @@
+-- What a judge of spreads is given, and what it leaves open.
+use Rattle.std.specs.Prelude.{◌≡◌, ℕ, ◌^◌, Bool, false, IsTrue, List, Option, Some, None}
+use Rattle.std.specs.List.{AllZip}
+use Rattle.arrayvec.specs.ArrayVec.{ArrayVec}
+use Rattle.mk_net.specs.declared.words.PairText.{PairText}
+use Rattle.mk_exact.specs.History.{Entry, revision}
+use Rattle.mk_exact.specs.Limits.{Side}
+use Rattle.mk_exact.specs.Market.{Market, network_of}
+use Rattle.mk_spread.specs.Spreads.{SpreadAsked}
+use Rattle.mk_spread.specs.Bounds.{Intervals, AreRightBounds}
+use Rattle.mk_spread.specs.Markets.{AreValueSides}
+use Rattle.mk_quote.specs.declared.values.SpreadBounds.{SpreadBounds}
+use Rattle.mk_quote.specs.Values.{sides_in}
+use Rattle.mk_judge.specs.declared.judged.Judged.{Judged}
+use Rattle.mk_judge.specs.declared.judged.Judged.TheVariants.{Allowed, Wrong, Unclear}
+use Rattle.mk_judge.specs.Distributions.{AreEachSideBounds, AreIntervalsNear}
+use Rattle.mk_reply.specs.declared.refusal.Refusal.TheVariants.{Outside}
+use Rattle.mk_reply.specs.declared.reply.Reply.{Reply}
+use Rattle.mk_reply.specs.declared.reply.Reply.TheVariants.{Spreaded, Bounded, Refused}
+use Rattle.mk_reply.specs.Refusals.{given_in}
+use Rattle.mk_rules.specs.Refusals.{spread_named, user_number}
+use Rattle.mk_answers.specs.Evidence.{IsBoundedValue}
+use Rattle.mk_verify.specs.Clear.{AreFactorsOpen, AreBoundsOpen}
+use Rattle.mk_verify.specs.inner.Judging.{TellsSmall}
+
+-- bounds of each value of a variable for a user, at the revision of a history
+pub record AreEachBounds (market : Market) (H : List Entry) (name v : List ℕ)
+    (condition : ArrayVec PairText) (bounds : SpreadBounds) (small : Bool) (now : ℕ) : Type 0 where
+  pub tells : TellsSmall small market H
+  pub present : now ≡ revision H
+  pub spread : SpreadAsked
+  pub named : spread_named (network_of market H) v condition.items ≡ Some spread
+  pub sides : List (Option Side)
+  pub exist : AreValueSides (network_of market H) H (user_number H name) spread sides
+  pub each : (sides : List (Option Side))
+      → AreValueSides (network_of market H) H (user_number H name) spread sides
+      → AllZip (IsBoundedValue (2 ^ 17) (network_of market H) H (user_number H name))
+      (sides_in bounds) sides
+
+-- a trade may be left open
+abbrev pub IsSpreadTradeLeftOpen :
+    Market → List Entry → ℕ → SpreadAsked → List ℕ → Reply → Type 0
+IsSpreadTradeLeftOpen market H u spread Xs (Spreaded factors at) =
+    AreFactorsOpen market H u spread Xs factors.items
+IsSpreadTradeLeftOpen market H u spread Xs reply = ⊥
+
+-- bounds that are told may be left open
+abbrev pub AreBoundsLeftOpen : Market → List Entry → ℕ → SpreadAsked → Reply → Type 0
+AreBoundsLeftOpen market H u spread (Bounded box at) =
+    AreBoundsOpen market H u spread (given_in box)
+AreBoundsLeftOpen market H u spread reply = ⊥
+
+-- the reply to a spread may be left open: a trade, or bounds of a refusal where none are current
+abbrev pub IsSpreadLeftOpen :
+    Market → List Entry → ℕ → SpreadAsked → List ℕ → Option Intervals → Reply → Type 0
+IsSpreadLeftOpen market H u spread Xs quoted (Spreaded factors at) =
+    AreFactorsOpen market H u spread Xs factors.items
+IsSpreadLeftOpen market H u spread Xs quoted (Refused (Outside box)) =
+    (quoted ≡ None) × AreBoundsOpen market H u spread (given_in box)
+IsSpreadLeftOpen market H u spread Xs quoted reply = ⊥
+
+-- a refusal by bounds that give these intervals
+abbrev pub IsSameBox : Intervals → Reply → Type 0
+IsSameBox intervals told = (box : Option (ArrayVec (ℕ × ℕ))) × (given_in box ≡ intervals)
+    × (told ≡ Refused (Outside box))
+
+-- what the judge of intervals says of them
+pub record SaysIntervals (j : Judged) (bounds : SpreadBounds) (small : Bool)
+    (intervals : Intervals) : Type 0 where
+  pub allowed : j ≡ Allowed → (sides : List (Option Side))
+      → AreEachSideBounds (sides_in bounds) small sides
+      → AreRightBounds (IsTrue small) sides intervals
+  pub wrong : j ≡ Wrong → (sides : List (Option Side))
+      → AreEachSideBounds (sides_in bounds) small sides
+      → AreRightBounds (IsTrue small) sides intervals → ⊥
+  pub unclear : j ≡ Unclear → (sides : List (Option Side))
+      → AreEachSideBounds (sides_in bounds) small sides
+      → AreIntervalsNear (sides_in bounds) sides intervals
+  pub clear : j ≡ Unclear → (sides : List (Option Side))
+      → AreEachSideBounds (sides_in bounds) small sides → small ≡ false

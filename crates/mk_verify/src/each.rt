@@ -1,0 +1,114 @@
+//! Judgements of lists of printed numbers, one place after another.
+ghost use Rattle.std.specs.Prelude.{◌≡◌, ℕ, ◌≤◌, ◌^◌, List, IfSome, IsSomeAnd, All};
+ghost use Rattle.std.specs.List.{AllZip};
+ghost use Rattle.mk_net.specs.Asked.{Asked};
+ghost use Rattle.mk_net.specs.Bounds.{max_points_per_bit};
+ghost use Rattle.mk_text.specs.Numbers.{AreEnds};
+ghost use Rattle.mk_exact.specs.Events.{with_target};
+ghost use Rattle.mk_exact.specs.History.{Entry};
+ghost use Rattle.mk_exact.specs.Market.{Market, network_of};
+ghost use Rattle.mk_exact.specs.Sound.{IsSound};
+ghost use Rattle.mk_exact.specs.Weight.{IsSmall};
+ghost use Rattle.mk_exact.specs.Prices.{exact_price, CoversPrice};
+ghost use Rattle.mk_spread.specs.Spreads.{SpreadAsked, asked_of};
+ghost use Rattle.mk_spread.specs.Told.{ArePricesOf, IsPositionOf, IsSureOf};
+ghost use Rattle.mk_judge.specs.Judged.{Judges};
+ghost use Rattle.mk_judge.specs.Powers.{HasCashRange};
+ghost use Rattle.mk_judge.specs.Prices.{HavePriceRange};
+ghost use Rattle.mk_answers.specs.Evidence.{AreBoundsOfPrice, IsSureFactor};
+ghost use Rattle.mk_verify.specs.Clear.{IsPriceOpen, IsPlaceOpen, IsLeastCashOpen};
+ghost use Rattle.mk_verify.specs.inner.Judging.{TellsSmall, AreBoundsOfPrices, AreSureFactorsOf};
+
+use mk_enclose::Factor;
+use mk_judge::{Judged, PriceBounds, judge_cash, judge_price};
+
+/// Judges the prices that are printed for the values of a variable, in order.
+pub fn judge_each_price(bounds: &[Option<PriceBounds>], small: bool, told: &[(u64, u64)]) -> Judged
+    requires range { All (λ found. IfSome found HavePriceRange) bounds.now }
+    ensures { (market : Market) (H : List Entry) (spread : SpreadAsked)
+        → TellsSmall small market H → AreBoundsOfPrices market H spread bounds.now
+        → Judges result (ArePricesOf (network_of market H) H spread told.now)
+        (IsPlaceOpen told.now (λ value ends. IsPriceOpen market H (asked_of spread value) ends)) }
+{
+    if bounds.len() != told.len() {
+        return Judged::Wrong;
+    }
+    let mut judged = Judged::Allowed;
+    for value in 0..bounds.len() {
+        judged = judged.and(judge_value_price(&bounds[value], small, told[value]));
+    }
+    judged
+}
+
+/// Judges the price of one value.
+fn judge_value_price(bounds: &Option<PriceBounds>, small: bool, told: (u64, u64)) -> Judged
+    requires range { IfSome bounds.now HavePriceRange }
+    ensures { (market : Market) (H : List Entry) (asked : Asked) → TellsSmall small market H
+        → IsSomeAnd bounds.now (AreBoundsOfPrice (2 ^ 17) (network_of market H) H asked)
+        → Judges result (CoversPrice (IsSmall (network_of market H) H)
+        (exact_price (network_of market H) H asked) told.0 told.1)
+        (IsPriceOpen market H asked told) }
+{
+    match bounds {
+        Some(bounds) => judge_price(bounds, small, told.0, told.1),
+        None => Judged::Wrong,
+    }
+}
+
+/// Judges what a user is said to be sure of where each value of a variable comes, in order.
+pub fn judge_each_position(
+    factors: &[Option<Factor>],
+    small: bool,
+    points_per_bit: u32,
+    told: &[Option<(u64, u64)>],
+) -> Judged
+    requires some_points { 1 ≤ points_per_bit }
+    requires few_points { points_per_bit ≤ max_points_per_bit }
+    requires range { All (λ found. IfSome found (λ factor. HasCashRange factor points_per_bit))
+        factors.now }
+    requires fits { All AreEnds told.now }
+    ensures { (market : Market) (H : List Entry) (u : ℕ) (spread : SpreadAsked)
+        → TellsSmall small market H → IsSound (network_of market H) H
+        → points_per_bit ≡ market.points_per_bit
+        → AreSureFactorsOf market H u spread factors.now
+        → Judges result
+        (IsPositionOf (network_of market H) H u market.points_per_bit spread told.now)
+        (IsPlaceOpen told.now (λ value ends. IsSomeAnd ends
+        (IsLeastCashOpen market H u (with_target (asked_of spread value))))) }
+{
+    if factors.len() != told.len() {
+        return Judged::Wrong;
+    }
+    let mut judged = Judged::Allowed;
+    for value in 0..factors.len() {
+        judged = judged.and(judge_value_cash(&factors[value], small, points_per_bit, told[value]));
+    }
+    judged
+}
+
+/// Judges what a user is said to be sure of where one value comes: none exactly where it cannot.
+fn judge_value_cash(
+    factor: &Option<Factor>,
+    small: bool,
+    points_per_bit: u32,
+    told: Option<(u64, u64)>,
+) -> Judged
+    requires some_points { 1 ≤ points_per_bit }
+    requires few_points { points_per_bit ≤ max_points_per_bit }
+    requires range { IfSome factor.now (λ factor. HasCashRange factor points_per_bit) }
+    requires fits { AreEnds told }
+    ensures { (market : Market) (H : List Entry) (u value : ℕ) (spread : SpreadAsked)
+        → TellsSmall small market H → IsSound (network_of market H) H
+        → points_per_bit ≡ market.points_per_bit
+        → IsSureFactor (2 ^ 17) (network_of market H) H u (with_target (asked_of spread value))
+        factor.now
+        → Judges result
+        (IsSureOf (network_of market H) H u market.points_per_bit spread value told)
+        (IsSomeAnd told (IsLeastCashOpen market H u (with_target (asked_of spread value)))) }
+{
+    match (factor, told) {
+        (None, None) => Judged::Allowed,
+        (Some(factor), Some((low, high))) => judge_cash(factor, small, points_per_bit, low, high),
+        (None, Some(_)) | (Some(_), None) => Judged::Wrong,
+    }
+}

@@ -1,0 +1,74 @@
+//! Judgements of the replies to `limits` and `edit`.
+
+ghost use Rattle.std.specs.Prelude.{◌≡◌};
+ghost use Rattle.mk_command.specs.declared.command.Command.TheVariants.{Limits, Edit};
+ghost use Rattle.mk_judge.specs.Judged.{Judges};
+ghost use Rattle.mk_rules.specs.Answers.{IsAllowed};
+ghost use Rattle.mk_rules.specs.Standings.{Stands};
+ghost use Rattle.mk_verify.specs.Clear.{IsOpen};
+ghost use Rattle.mk_verify.specs.Known.{IsKnown};
+
+use crate::edits::{judge_edit, judge_told_limits};
+use crate::known::Known;
+use crate::noting::revision_of;
+use crate::refused::judge_refused;
+use mk_engine::Engine;
+use mk_judge::Judged;
+use mk_market::Market;
+use mk_net::{Name, QuestionText};
+use mk_reply::Reply;
+use mk_semiring::{MinProd, SumProd};
+
+/// Judges a reply to `limits`.
+pub(crate) fn judge_limits_reply<P: Engine<SumProd>, A: Engine<MinProd>>(
+    market: &mut Market<P, A>,
+    known: &Known,
+    name: &Name,
+    question: &QuestionText,
+    reply: &Reply,
+) -> Judged
+    requires known { IsKnown market.old.market (market.old.standing).history known.now }
+    ensures same { market.new ≡ market.old }
+    ensures judged { Stands market.old.market (market.old.standing).history → Judges result
+        (IsAllowed market.old.market (market.old.standing).history known.now.quotes
+        (Limits name.now question.now) reply.now)
+        (IsOpen market.old.market (market.old.standing).history known.now.quotes
+        (Limits name.now question.now) reply.now) }
+{
+    match market.limits_evidence(name, question) {
+        Ok(evidence) => {
+            let now = revision_of(market);
+            judge_told_limits(&evidence.bounds, known.is_small(), now, reply)
+        }
+        Err(why) => judge_refused(&why, reply),
+    }
+}
+
+/// Judges a reply to `edit`, by the limits that were printed to the user last where they are of
+/// this question and of the present revision.
+pub(crate) fn judge_edit_reply<P: Engine<SumProd>, A: Engine<MinProd>>(
+    market: &mut Market<P, A>,
+    known: &Known,
+    name: &Name,
+    question: &QuestionText,
+    to: u32,
+    at: Option<u32>,
+    reply: &Reply,
+) -> Judged
+    requires known { IsKnown market.old.market (market.old.standing).history known.now }
+    ensures same { market.new ≡ market.old }
+    ensures judged { Stands market.old.market (market.old.standing).history → Judges result
+        (IsAllowed market.old.market (market.old.standing).history known.now.quotes
+        (Edit name.now question.now to at) reply.now)
+        (IsOpen market.old.market (market.old.standing).history known.now.quotes
+        (Edit name.now question.now to at) reply.now) }
+{
+    match market.edit_evidence(name, question, to, at) {
+        Ok(evidence) => {
+            let now = revision_of(market);
+            let quoted = known.limits_for(evidence.user, &evidence.question, now);
+            judge_edit(&evidence.bounds, known.is_small(), now, quoted, to, reply)
+        }
+        Err(why) => judge_refused(&why, reply),
+    }
+}

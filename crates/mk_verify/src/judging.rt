@@ -1,0 +1,117 @@
+//! The judge of a reply to any command.
+ghost use Rattle.std.specs.Prelude.{◌≡◌};
+ghost use Rattle.mk_command.specs.Commands.{command_of};
+ghost use Rattle.mk_command.specs.inner.Kinds.{IsOfValues};
+ghost use Rattle.mk_reply.specs.Replies.{IsReply};
+ghost use Rattle.mk_rules.specs.Answers.{IsAllowed};
+ghost use Rattle.mk_rules.specs.Standings.{Stands};
+ghost use Rattle.mk_judge.specs.Judged.{Judges};
+ghost use Rattle.mk_verify.specs.Clear.{IsOpen};
+ghost use Rattle.mk_verify.specs.Known.{IsKnown};
+
+use crate::editing::{judge_edit_reply, judge_limits_reply};
+use crate::known::Known;
+use crate::numbers::{judge_bound_reply, judge_price_reply, judge_withdrawal, judge_worst_reply};
+use crate::numbers_of_values::{judge_position, judge_prices};
+use crate::plain::{judge_deposit, judge_join, judge_resolution, judge_status};
+use crate::settlement::judge_settlement;
+use crate::spreading::{judge_bounds_reply, judge_spread_reply};
+use mk_command::CommandRef;
+use mk_engine::Engine;
+use mk_judge::Judged;
+use mk_market::Market;
+use mk_reply::Reply;
+use mk_semiring::{MinProd, SumProd};
+
+/// Judges a reply to a command.
+#[tactic(auto, unfolding(mk_command::specs::Commands::command_of))]
+pub fn judge<P: Engine<SumProd>, A: Engine<MinProd>>(
+    market: &mut Market<P, A>,
+    known: &Known,
+    command: &CommandRef,
+    reply: &Reply,
+) -> Judged
+    requires known { IsKnown market.old.market (market.old.standing).history known.now }
+    requires reply { IsReply reply.now }
+    ensures same { market.new ≡ market.old }
+    ensures judged { Stands market.old.market (market.old.standing).history
+        → Judges result
+        (IsAllowed market.old.market (market.old.standing).history known.now.quotes
+        (command_of command.now) reply.now)
+        (IsOpen market.old.market (market.old.standing).history known.now.quotes
+        (command_of command.now) reply.now) }
+{
+    let small = known.is_small();
+    match command {
+        CommandRef::User { user } => judge_join(market, user, reply),
+        CommandRef::Deposit { user, bits } => judge_deposit(market, user, *bits, reply),
+        CommandRef::Withdraw { user, bits } => {
+            judge_withdrawal(market, small, user, *bits, reply)
+        }
+        CommandRef::Price { question } => judge_price_reply(market, small, question, reply),
+        CommandRef::Limits { user, question } => {
+            judge_limits_reply(market, known, user, question, reply)
+        }
+        CommandRef::Edit {
+            user,
+            question,
+            to,
+            at,
+        } => judge_edit_reply(market, known, user, question, *to, *at, reply),
+        CommandRef::Worst { user } => judge_worst_reply(market, small, user, reply),
+        CommandRef::Resolve { pair } => judge_resolution(market, pair, reply),
+        CommandRef::Settle => judge_settlement(market, small, reply),
+        CommandRef::Bound => judge_bound_reply(market, reply),
+        CommandRef::Status => judge_status(market, reply),
+        CommandRef::Bounds { .. }
+        | CommandRef::Spread { .. }
+        | CommandRef::Prices { .. }
+        | CommandRef::Position { .. } => judge_of_values(market, known, command, reply),
+    }
+}
+
+/// The same of a command that speaks of every value of a variable.
+#[tactic(auto, unfolding(mk_command::specs::Commands::command_of))]
+fn judge_of_values<P: Engine<SumProd>, A: Engine<MinProd>>(
+    market: &mut Market<P, A>,
+    known: &Known,
+    command: &CommandRef,
+    reply: &Reply,
+) -> Judged
+    requires known { IsKnown market.old.market (market.old.standing).history known.now }
+    requires command { IsOfValues (command_of command.now) }
+    requires reply { IsReply reply.now }
+    ensures same { market.new ≡ market.old }
+    ensures judged { Stands market.old.market (market.old.standing).history
+        → Judges result
+        (IsAllowed market.old.market (market.old.standing).history known.now.quotes
+        (command_of command.now) reply.now)
+        (IsOpen market.old.market (market.old.standing).history known.now.quotes
+        (command_of command.now) reply.now) }
+{
+    let small = known.is_small();
+    match command {
+        CommandRef::Bounds {
+            user,
+            variable,
+            condition,
+        } => judge_bounds_reply(market, known, user, variable, condition, reply),
+        CommandRef::Spread {
+            user,
+            variable,
+            condition,
+            to,
+            at,
+        } => judge_spread_reply(market, known, user, variable, condition, to, *at, reply),
+        CommandRef::Prices {
+            variable,
+            condition,
+        } => judge_prices(market, small, variable, condition, reply),
+        CommandRef::Position {
+            user,
+            variable,
+            condition,
+        } => judge_position(market, small, user, variable, condition, reply),
+        _ => unreachable!(),
+    }
+}

@@ -1,0 +1,24 @@
+//! What an auditor holds against one line of a transcript: whether the reply to a command is
+//! allowed, by enclosures of the exact numbers.
+#![tactic(auto)]
+
+mod each;
+mod editing;
+mod edits;
+mod following;
+mod judging;
+mod known;
+mod noting;
+mod numbers;
+mod numbers_of_values;
+mod plain;
+mod refused;
+mod settlement;
+mod small;
+mod spreading;
+mod spreads;
+mod told;
+
+pub use following::follow;
+pub use judging::judge;
+pub use known::Known;

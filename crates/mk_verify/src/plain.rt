@@ -1,0 +1,138 @@
+//! Judgements of replies that are decided by their words alone.
+ghost use Rattle.std.specs.Prelude.{◌≡◌, ◌+◌, ◌↔◌, true};
+ghost use Rattle.mk_exact.specs.History.{revision};
+ghost use Rattle.mk_command.specs.declared.command.Command.TheVariants as command;
+ghost use Rattle.mk_verify.specs.inner.Judging.{JudgesReply, IsPlainAnswer, by_words};
+
+use crate::refused::judge_refused;
+use mk_engine::Engine;
+use mk_judge::Judged;
+use mk_market::Market;
+use mk_net::{Name, PairText};
+use mk_reply::{Refusal, Reply};
+use mk_semiring::{MinProd, SumProd};
+
+/// Whether a revision is that behind the next change.
+pub fn is_next<P: Engine<SumProd>, A: Engine<MinProd>>(market: &Market<P, A>, at: u64) -> bool
+    ensures { (result ≡ true) ↔ (at ≡ revision (market.now.standing).history + 1) }
+{
+    at > 0 && at - 1 == market.history().len() as u64
+}
+
+/// What is judged by words alone is never left open.
+fn judge_words(allowed: bool) -> Judged
+    ensures { result ≡ by_words allowed }
+{
+    if allowed {
+        Judged::Allowed
+    } else {
+        Judged::Wrong
+    }
+}
+
+/// Judges a reply to `user`: the user joined by the next change, or memory was wanting.
+pub fn judge_join<P: Engine<SumProd>, A: Engine<MinProd>>(
+    market: &Market<P, A>,
+    name: &Name,
+    reply: &Reply,
+) -> Judged
+    ensures { JudgesReply market.now.market (market.now.standing).history (command.User name.now)
+        reply.now result }
+{
+    match market.refused_join(name) {
+        Err(why) => judge_refused(&why, reply),
+        Ok(()) => judge_words(tells_join(market, name, reply)),
+    }
+}
+
+fn tells_join<P: Engine<SumProd>, A: Engine<MinProd>>(
+    market: &Market<P, A>,
+    name: &Name,
+    reply: &Reply,
+) -> bool
+    ensures { (result ≡ true) ↔ IsPlainAnswer (market.now.standing).history
+        (command.User name.now) reply.now }
+{
+    match reply {
+        Reply::Joined { user, at } => user == name && is_next(market, *at),
+        Reply::Refused { why } => matches!(why, Refusal::Memory),
+        _ => false,
+    }
+}
+
+/// Judges a reply to `deposit`: the user paid in these bits by the next change.
+pub fn judge_deposit<P: Engine<SumProd>, A: Engine<MinProd>>(
+    market: &Market<P, A>,
+    name: &Name,
+    bits: u32,
+    reply: &Reply,
+) -> Judged
+    ensures { JudgesReply market.now.market (market.now.standing).history
+        (command.Deposit name.now bits) reply.now result }
+{
+    match market.refused_deposit(name, bits) {
+        Err(why) => judge_refused(&why, reply),
+        Ok(()) => judge_words(tells_deposit(market, name, bits, reply)),
+    }
+}
+
+fn tells_deposit<P: Engine<SumProd>, A: Engine<MinProd>>(
+    market: &Market<P, A>,
+    name: &Name,
+    bits: u32,
+    reply: &Reply,
+) -> bool
+    ensures { (result ≡ true) ↔ IsPlainAnswer (market.now.standing).history
+        (command.Deposit name.now bits) reply.now }
+{
+    match reply {
+        Reply::Deposited {
+            user,
+            bits: told,
+            at,
+        } if *told == bits => user == name && is_next(market, *at),
+        _ => false,
+    }
+}
+
+/// Judges a reply to `resolve`: the variable was resolved by the next change.
+pub fn judge_resolution<P: Engine<SumProd>, A: Engine<MinProd>>(
+    market: &mut Market<P, A>,
+    words: &PairText,
+    reply: &Reply,
+) -> Judged
+    ensures same { market.new ≡ market.old }
+    ensures judged { JudgesReply market.old.market (market.old.standing).history
+        (command.Resolve words.now) reply.now result }
+{
+    match market.refused_resolution(words) {
+        Err(why) => judge_refused(&why, reply),
+        Ok(()) => judge_words(tells_resolution(market, words, reply)),
+    }
+}
+
+fn tells_resolution<P: Engine<SumProd>, A: Engine<MinProd>>(
+    market: &Market<P, A>,
+    words: &PairText,
+    reply: &Reply,
+) -> bool
+    ensures { (result ≡ true) ↔ IsPlainAnswer (market.now.standing).history
+        (command.Resolve words.now) reply.now }
+{
+    match reply {
+        Reply::Resolved { pair, at } => pair == words && is_next(market, *at),
+        _ => false,
+    }
+}
+
+/// Judges a reply to `status`: what the market itself would answer.
+pub fn judge_status<P: Engine<SumProd>, A: Engine<MinProd>>(
+    market: &Market<P, A>,
+    reply: &Reply,
+) -> Judged
+    ensures { JudgesReply market.now.market (market.now.standing).history command.Status reply.now
+        result }
+{
+    let expected = market.status();
+    judge_words(reply == &expected)
+}

@@ -1,0 +1,125 @@
+//! Judgements of replies to `settle`.
+ghost use Rattle.std.specs.Prelude.{◌≡◌, ◌<◌, ◌^◌, ◌↔◌, ℕ, List, [], ◌∷◌, true, length, map, All};
+ghost use Rattle.mk_exact.specs.Events.{always};
+ghost use Rattle.mk_exact.specs.Existing.{HasOutcome};
+ghost use Rattle.mk_exact.specs.History.{users};
+ghost use Rattle.mk_exact.specs.Market.{network_of};
+ghost use Rattle.mk_exact.specs.Sound.{IsSound};
+ghost use Rattle.mk_exact.specs.Weight.{possible_states};
+ghost use Rattle.mk_command.specs.declared.command.Command.TheVariants as command;
+ghost use Rattle.mk_record.specs.Entries.{changes};
+ghost use Rattle.mk_reply.specs.Replies.{IsReply, IsPayment as IsReadPayment};
+ghost use Rattle.mk_judge.specs.Judged.{Judges};
+ghost use Rattle.mk_verify.specs.Clear.{IsCashOpen, IsPaymentOpen};
+ghost use Rattle.mk_verify.specs.inner.Judging.{JudgesReply, TellsSmall, PaysCash, PayEach};
+ghost use Rattle.mk_verify.specs.inner.Judging.{IsPaymentLeftOpen};
+
+use crate::plain::is_next;
+use crate::refused::judge_refused;
+use mk_engine::Engine;
+use mk_judge::{Judged, judge_cash};
+use mk_market::{Entry, Market};
+use mk_reply::{Payment, Reply};
+use mk_semiring::{MinProd, SumProd};
+
+/// Judges a reply to `settle`: each user is paid in the order of joining, by the next change.
+pub fn judge_settlement<P: Engine<SumProd>, A: Engine<MinProd>>(
+    market: &mut Market<P, A>,
+    small: bool,
+    reply: &Reply,
+) -> Judged
+    requires small { TellsSmall small market.old.market (market.old.standing).history }
+    requires reply { IsReply reply.now }
+    ensures same { market.new ≡ market.old }
+    ensures judged { JudgesReply market.old.market (market.old.standing).history command.Settle
+        reply.now result }
+{
+    match market.refused_settlement() {
+        Err(why) => judge_refused(&why, reply),
+        Ok(()) => match reply {
+            Reply::Settled { at, payments }
+                if is_next(market, *at) && are_to_users(market.history(), payments.rows()) =>
+                judge_payments(market, small, payments.rows()),
+            _ => Judged::Wrong,
+        },
+    }
+}
+
+/// Whether there is one payment to each user, in the order of joining.
+fn are_to_users(history: &[Entry], payments: &[Payment]) -> bool
+    ensures { (result ≡ true) ↔ (map (λ p. p.user) payments.now ≡ users (changes history.now)) }
+{
+    let mut paid = 0;
+    for entry in history {
+        if let Entry::Join { user } = entry {
+            if paid >= payments.len() || payments[paid].user != *user {
+                return false;
+            }
+            paid += 1;
+        }
+    }
+    paid == payments.len()
+}
+
+/// Judges the payments to the first users.
+fn judge_payments<P: Engine<SumProd>, A: Engine<MinProd>>(
+    market: &mut Market<P, A>,
+    small: bool,
+    payments: &[Payment],
+) -> Judged
+    requires small { TellsSmall small market.old.market (market.old.standing).history }
+    requires outcome { HasOutcome (network_of market.old.market (market.old.standing).history)
+        (market.old.standing).history }
+    requires in_order { map (λ p. p.user) payments.now ≡ users (market.old.standing).history }
+    requires fits { All IsReadPayment payments.now }
+    requires few { length payments.now < 2 ^ 32 }
+    ensures same { market.new ≡ market.old }
+    ensures judged { (state : List ℕ)
+        → IsSound (network_of market.old.market (market.old.standing).history)
+        (market.old.standing).history
+        → possible_states (network_of market.old.market (market.old.standing).history)
+        (market.old.standing).history always ≡ state ∷ []
+        → Judges result (PayEach market.old.market (market.old.standing).history state payments.now)
+        (IsPaymentOpen market.old.market (market.old.standing).history payments.now) }
+{
+    let mut judged = Judged::Allowed;
+    for user in 0..payments.len() {
+        judged = judged.and(judge_payment(market, small, user as u32, &payments[user]));
+    }
+    judged
+}
+
+/// Judges the payment to one user: its low end is paid.
+fn judge_payment<P: Engine<SumProd>, A: Engine<MinProd>>(
+    market: &mut Market<P, A>,
+    small: bool,
+    user: u32,
+    payment: &Payment,
+) -> Judged
+    requires small { TellsSmall small market.old.market (market.old.standing).history }
+    requires outcome { HasOutcome (network_of market.old.market (market.old.standing).history)
+        (market.old.standing).history }
+    requires user { user < length (users (market.old.standing).history) }
+    requires fits { IsReadPayment payment.now }
+    ensures same { market.new ≡ market.old }
+    ensures judged { (state : List ℕ)
+        → IsSound (network_of market.old.market (market.old.standing).history)
+        (market.old.standing).history
+        → possible_states (network_of market.old.market (market.old.standing).history)
+        (market.old.standing).history always ≡ state ∷ []
+        → Judges result
+        (PaysCash market.old.market (market.old.standing).history state user payment.now)
+        (IsPaymentLeftOpen market.old.market (market.old.standing).history state user payment.now) }
+{
+    if payment.paid != payment.low {
+        return Judged::Wrong;
+    }
+    let factor = market.payment_evidence(user);
+    judge_cash(
+        &factor,
+        small,
+        market.points_per_bit(),
+        payment.low,
+        payment.high,
+    )
+}

@@ -1,0 +1,88 @@
+//! Whether a history is small: by the weights of all states, one after the other.
+
+ghost use Rattle.std.specs.Prelude.{◌≡◌, ℕ, ◌<◌, ◌≤◌, ◌↔◌, true, length, slice_index};
+ghost use Rattle.std.specs.Prelude.{take, drop};
+ghost use Rattle.mk_net.specs.Network.{sizes};
+ghost use Rattle.mk_net.specs.Trades.{trade_ratio};
+ghost use Rattle.mk_exact.specs.States.{IsState};
+ghost use Rattle.mk_exact.specs.Ratios.{ratio_at};
+ghost use Rattle.mk_exact.specs.Proper.{IsProper};
+ghost use Rattle.mk_exact.specs.Weight.{IsSmall, weight};
+ghost use Rattle.mk_walk.specs.Walked.{capped};
+ghost use Rattle.mk_record.specs.Entries.{changes, change_of};
+ghost use Rattle.mk_verify.specs.inner.Walks.{times, behind};
+
+use mk_net::{Network, Ratio};
+use mk_record::Entry;
+use mk_walk::{WalkTrade, holds, state_weight};
+
+/// What the weights of a small history are less than, together.
+const SMALL: u128 = 1 << 63;
+
+/// The most variables that a small history can have.
+const MOST_VARIABLES: u32 = 3;
+
+/// Whether the weights of all states together, possible or not, are below `2^63`. Four variables
+/// weigh more than that from the start, so at most 4,096 states are walked.
+pub(crate) fn is_small(net: &Network, history: &[Entry]) -> bool
+    requires proper { IsProper net.now (changes history.now) }
+    ensures { (result ≡ true) ↔ IsSmall net.now (changes history.now) }
+{
+    net.variables() <= MOST_VARIABLES && total_behind(net, history, [0; 3], 0) < SMALL
+}
+
+/// The weights of the states that begin with the first `done` of these values, together, or the
+/// greatest u128 where they are more.
+fn total_behind(net: &Network, history: &[Entry], front: [u32; 3], done: u32) -> u128
+    requires few { length net.now ≤ 3 }
+    requires done { done ≤ length net.now }
+    requires front { (k : ℕ) → k < done → slice_index front k < slice_index (sizes net.now) k }
+    ensures { result ≡ capped (behind (weight net.now (changes history.now))
+        (drop done (sizes net.now)) (take done front)) }
+{
+    if done >= net.variables() {
+        return weight_of(net, history, &front[..done as usize]);
+    }
+    let mut sum: u128 = 0;
+    for value in 0..net.values(done) {
+        let mut longer = front;
+        longer[done as usize] = value;
+        sum = sum.saturating_add(total_behind(net, history, longer, done + 1));
+    }
+    sum
+}
+
+/// The weight of a state, or the greatest u128 where it is more.
+fn weight_of(net: &Network, history: &[Entry], state: &[u32]) -> u128
+    requires { IsState (sizes net.now) state.now }
+    ensures { result ≡ capped (weight net.now (changes history.now) state.now) }
+{
+    let none: [WalkTrade; 0] = [];
+    let mut weight = state_weight(net, &none, state);
+    for entry in history {
+        weight = weight.saturating_mul(times(entry, state) as u128);
+    }
+    weight
+}
+
+/// By how much a change multiplies the weight of a state.
+fn times(entry: &Entry, state: &[u32]) -> u64
+    ensures { result ≡ times (change_of entry.now) state.now }
+{
+    match entry {
+        Entry::Trade { ratio, .. } => units_at(ratio, state),
+        _ => 1,
+    }
+}
+
+/// The units of a ratio in a state.
+fn units_at(ratio: &Ratio, state: &[u32]) -> u64
+    ensures { result ≡ ratio_at (trade_ratio ratio.now) state.now }
+{
+    if holds(ratio.condition.pairs(), state) {
+        let value = state.get(ratio.variable as usize).copied().unwrap_or(0);
+        ratio.factors.get(value as usize).copied().unwrap_or(0)
+    } else {
+        1 << 40
+    }
+}

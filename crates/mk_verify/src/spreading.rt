@@ -1,0 +1,84 @@
+//! Judgements of the replies to `bounds` and `spread`.
+
+ghost use Rattle.std.specs.Prelude.{◌≡◌};
+ghost use Rattle.mk_command.specs.declared.command.Command.TheVariants.{Bounds, Spread};
+ghost use Rattle.mk_judge.specs.Judged.{Judges};
+ghost use Rattle.mk_rules.specs.Answers.{IsAllowed};
+ghost use Rattle.mk_rules.specs.Standings.{Stands};
+ghost use Rattle.mk_verify.specs.Clear.{IsOpen};
+ghost use Rattle.mk_verify.specs.Known.{IsKnown};
+
+use crate::known::Known;
+use crate::noting::revision_of;
+use crate::refused::judge_refused;
+use crate::spreads::{judge_spread, judge_told_bounds};
+use arrayvec::ArrayVec;
+use mk_engine::Engine;
+use mk_judge::Judged;
+use mk_market::Market;
+use mk_net::{Name, PairText};
+use mk_reply::Reply;
+use mk_semiring::{MinProd, SumProd};
+
+/// Judges a reply to `bounds`.
+pub(crate) fn judge_bounds_reply<P: Engine<SumProd>, A: Engine<MinProd>>(
+    market: &mut Market<P, A>,
+    known: &Known,
+    name: &Name,
+    variable: &Name,
+    condition: &ArrayVec<PairText, 8>,
+    reply: &Reply,
+) -> Judged
+    requires known { IsKnown market.old.market (market.old.standing).history known.now }
+    ensures same { market.new ≡ market.old }
+    ensures judged { Stands market.old.market (market.old.standing).history → Judges result
+        (IsAllowed market.old.market (market.old.standing).history known.now.quotes
+        (Bounds name.now variable.now condition.now) reply.now)
+        (IsOpen market.old.market (market.old.standing).history known.now.quotes
+        (Bounds name.now variable.now condition.now) reply.now) }
+{
+    match market.bounds_evidence(name, variable, condition) {
+        Ok(evidence) => {
+            let now = revision_of(market);
+            judge_told_bounds(&evidence.bounds, known.is_small(), now, reply)
+        }
+        Err(why) => judge_refused(&why, reply),
+    }
+}
+
+/// Judges a reply to `spread`, by the bounds that were printed to the user last where they are of
+/// this variable and condition and of the present revision.
+pub(crate) fn judge_spread_reply<P: Engine<SumProd>, A: Engine<MinProd>>(
+    market: &mut Market<P, A>,
+    known: &Known,
+    name: &Name,
+    variable: &Name,
+    condition: &ArrayVec<PairText, 8>,
+    to: &ArrayVec<u32, 16>,
+    at: Option<u32>,
+    reply: &Reply,
+) -> Judged
+    requires known { IsKnown market.old.market (market.old.standing).history known.now }
+    ensures same { market.new ≡ market.old }
+    ensures judged { Stands market.old.market (market.old.standing).history → Judges result
+        (IsAllowed market.old.market (market.old.standing).history known.now.quotes
+        (Spread name.now variable.now condition.now to.now at) reply.now)
+        (IsOpen market.old.market (market.old.standing).history known.now.quotes
+        (Spread name.now variable.now condition.now to.now at) reply.now) }
+{
+    match market.spread_evidence(name, variable, condition, to, at) {
+        Ok(evidence) => {
+            let now = revision_of(market);
+            let quoted = known.bounds_for(evidence.user, &evidence.question, now);
+            judge_spread(
+                &evidence.bounds,
+                known.is_small(),
+                now,
+                quoted,
+                to.as_slice(),
+                reply,
+            )
+        }
+        Err(why) => judge_refused(&why, reply),
+    }
+}
