@@ -1,0 +1,7 @@
+pub mod OneLine
+pub mod OneRun
+pub mod Wrong
+pub mod Held
+pub mod Found
+pub mod Endings
+pub mod Telling

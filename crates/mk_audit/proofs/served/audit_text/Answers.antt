@@ -1,0 +1,33 @@
+use Rattle.std.proofs.Common.{ℕ, List, Result, ap, sym, subst, ◌∙◌, refl}
+use Rattle.mk_io.specs.Outside.{Rose}
+use Rattle.mk_file.specs.MarketOf.{market_of}
+use Rattle.mk_audit.specs.AuditOutcome.{AuditsTo}
+use Rattle.mk_io.specs.declared.status.Status.TheVariants.{TooMany}
+use Rattle.mk_audit.proofs.Telling.{none_added, ends_told}
+use Rattle.mk_audit.proofs.served.audit_text.Goals as goal
+
+pub returns-then-len-gt-MAX_TRANSCRIPT_BYTES-clause-complete :
+    goal.returns-then-len-gt-MAX_TRANSCRIPT_BYTES-clause-complete
+returns-then-len-gt-MAX_TRANSCRIPT_BYTES-clause-complete g c = λ all told within inputs_steady
+    sink_steady.
+    ends_told c.tell.result _ (g.S.Sink.written c.args.out.now) (g.S.Sink.written c.tell.new.out)
+    (g.S.Sink.faults c.args.out.now) (g.S.Sink.faults c.tell.new.out) c.tell.ensures.output
+    (c.tell.ensures.causes 0) sink_steady
+
+pub returns-in-Ok-clause-complete : goal.returns-in-Ok-clause-complete
+returns-in-Ok-clause-complete g c = λ all told within inputs_steady sink_steady.
+    ends_told c.tell-in-Ok.result _ (g.S.Sink.written c.args.out.now)
+    (g.S.Sink.written c.tell-in-Ok.new.out) (g.S.Sink.faults c.args.out.now)
+    (g.S.Sink.faults c.tell-in-Ok.new.out) c.tell-in-Ok.ensures.output
+    (c.tell-in-Ok.ensures.causes 0) sink_steady
+
+pub returns-in-Err-TooMany-clause-outcome : goal.returns-in-Err-TooMany-clause-outcome
+returns-in-Err-TooMany-clause-outcome g c = λ all told.
+    let ends = rw c.in-Err-TooMany.field-0-is at c.in-Err-TooMany.ensures.ends in
+    none_added (g.S.Sink.written c.args.out.now)
+    (AuditsTo TooMany (market_of c.args.file) all c.args.text.items) (refl, ends all told)
+
+pub returns-in-Err-TooMany-clause-complete : goal.returns-in-Err-TooMany-clause-complete
+returns-in-Err-TooMany-clause-complete g c = λ all told within inputs_steady sink_steady.
+    let ends = rw c.in-Err-TooMany.field-0-is at c.in-Err-TooMany.ensures.ends in
+    absurd (ends all told within)

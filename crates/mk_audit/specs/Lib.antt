@@ -1,0 +1,4 @@
+pub mod Verdicts
+pub mod AuditOutcome
+pub mod Laws
+pub mod inner
