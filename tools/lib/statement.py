@@ -20,6 +20,10 @@ SECTIONS = [
     ("A market that is kept", [
         "mk_durable/specs/KeepOutcome.antt", "mk_durable/src/fault.rt", "mk_durable/specs/Resuming.antt", "mk_durable/specs/Recovery.antt",
         "mk_session/specs/Left.antt", "mk_journal/specs/Market.antt", "mk_restore/specs/Restoring.antt", "mk_journal/specs/Store.antt"]),
+    ("The audit of a transcript", [
+        "mk_audit/specs/AuditOutcome.antt", "mk_audit/src/verdict.rt", "mk_audit/specs/Verdicts.antt", "mk_verify/specs/Clear.antt",
+        "mk_judge/specs/Compared.antt", "mk_judge/specs/Prices.antt", "mk_judge/specs/Cash.antt", "mk_judge/specs/Losses.antt",
+        "mk_judge/specs/Limits.antt", "mk_scaled/specs/Near.antt"]),
     ("The transcript", [
         "mk_session/specs/Transcript.antt", "mk_session/specs/Passed.antt", "mk_rules/specs/Transcript.antt", "mk_rules/specs/Standings.antt",
         "mk_io/specs/Stream.antt", "mk_io/specs/Cutting.antt"]),

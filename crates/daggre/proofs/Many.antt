@@ -10,7 +10,7 @@ use Rattle.mk_net.specs.declared.words.PairText.{PairText}
 use Rattle.daggre.specs.declared.ask.Ask.{Ask}
 use Rattle.daggre.specs.declared.ask.Ask.TheVariants.{Chance, Best}
 use Rattle.daggre.specs.Words.{listed, chance_in, chance_around, best_in, expect_in, ask_of}
-use Rattle.daggre.specs.Words.{RunThen, asked_of, kept_in}
+use Rattle.daggre.specs.Words.{RunThen, asked_of, kept_in, audited_in}
 
 listed_long : (least : ℕ) (words : List (List ℕ)) → 64 < length words → listed least words ≡ None
 unfolding listed
@@ -69,10 +69,13 @@ too_many [] h = absurd (omega arith)
 too_many (word ∷ []) h = absurd (omega arith)
 too_many (word ∷ name ∷ []) h = absurd (omega arith)
 too_many (word ∷ name ∷ more ∷ []) h = absurd (omega arith)
-too_many (word ∷ name ∷ more ∷ other ∷ rest) h = at (same_text word (codes "keep"))
+too_many (word ∷ name ∷ more ∷ other ∷ rest) h =
+    at (same_text word (codes "keep")) (same_text word (codes "audit"))
   where
-    at : (keeps : Bool) → cond keeps (kept_in name (more ∷ other ∷ rest))
-        (option_map (RunThen name) (ask_of word (more ∷ other ∷ rest))) ≡ None
-    at true = refl
-    at false = ap (λ (o : Option Ask). option_map (RunThen name) o)
+    at : (keeps audits : Bool) → cond keeps (kept_in name (more ∷ other ∷ rest))
+        (cond audits (audited_in name (more ∷ other ∷ rest))
+        (option_map (RunThen name) (ask_of word (more ∷ other ∷ rest)))) ≡ None
+    at true audits = refl
+    at false true = refl
+    at false false = ap (λ (o : Option Ask). option_map (RunThen name) o)
         (ask_long word (more ∷ other ∷ rest) (omega arith))

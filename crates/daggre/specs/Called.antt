@@ -9,7 +9,7 @@ use Rattle.std.specs.declared.io.ErrorKind.{ErrorKind}
 use Rattle.std.specs.declared.io.ErrorKind.TheVariants.{InvalidData}
 use Rattle.mk_io.specs.declared.status.Status.{Status}
 use Rattle.mk_io.specs.Status.{code_of}
-use Rattle.daggre.specs.Words.{Asked, asked_of, market_named, store_named}
+use Rattle.daggre.specs.Words.{Asked, asked_of, market_named, store_named, transcript_named}
 
 -- the words where the arguments could not be listed: none where one is no text; else memory was
 -- wanting, and they are not known
@@ -35,6 +35,11 @@ named_by arguments = option_map market_named (asked_by arguments)
 abbrev pub kept_by : {Z : Type 0} → Result (IntoIter (String Z) Z) Error
     → Option (Option (List ℕ))
 kept_by arguments = option_map store_named (asked_by arguments)
+
+-- the name of the transcript, if they ask to audit one
+abbrev pub audited_by : {Z : Type 0} → Result (IntoIter (String Z) Z) Error
+    → Option (Option (List ℕ))
+audited_by arguments = option_map transcript_named (asked_by arguments)
 
 -- a number is the exit status of a run of which something holds
 pub record Exits (code : ℕ) (P : Status → Type 0) : Type 0 where

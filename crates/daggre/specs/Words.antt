@@ -23,13 +23,14 @@ abbrev pub max_listed : ℕ
 max_listed = 64
 
 -- to run the market of a name, to run the sample market of so many variables, to run the market of
--- a name and then answer what is asked of its last history, or to run the market of a name and keep
--- its changes in a store
+-- a name and then answer what is asked of its last history, to run the market of a name and keep
+-- its changes in a store, or to audit a transcript of the market of a name
 pub data Asked : Type 0 where
   Run : (name : List ℕ) → Asked
   Sample : (n : ℕ) → Asked
   RunThen : (name : List ℕ) (ask : Ask) → Asked
   Keep : (name store : List ℕ) → Asked
+  Audit : (name transcript : List ℕ) → Asked
 
 -- the numbers of variables that a sample may have, from 2 on
 abbrev pub sample_sizes : List ℕ
@@ -95,8 +96,15 @@ kept_in name [] = None
 kept_in name (store ∷ []) = Some (Keep name store)
 kept_in name (store ∷ more ∷ rest) = None
 
+-- the transcript is the one word behind the market's name
+abbrev pub audited_in : List ℕ → List (List ℕ) → Option Asked
+audited_in name [] = None
+audited_in name (transcript ∷ []) = Some (Audit name transcript)
+audited_in name (transcript ∷ more ∷ rest) = None
+
 -- what the words ask: they are `run` and a name; or `sample` and a number; or `chance` or `best`, a
--- name, and pairs; or `expect` and two names; or `keep` and the names of a market file and a store
+-- name, and pairs; or `expect` and two names; or `keep` and the names of a market file and a store;
+-- or `audit` and the names of a market file and a transcript
 abbrev pub asked_of : List (List ℕ) → Option Asked
 asked_of [] = None
 asked_of (word ∷ []) = None
@@ -106,6 +114,7 @@ asked_of (word ∷ argument ∷ []) =
     else option_map (RunThen argument) (ask_of word [])
 asked_of (word ∷ argument ∷ more ∷ rest) =
     if same_text word (codes "keep") then kept_in argument (more ∷ rest)
+    else if same_text word (codes "audit") then audited_in argument (more ∷ rest)
     else option_map (RunThen argument) (ask_of word (more ∷ rest))
 
 -- the name of the market to run, where the words ask for one
@@ -115,6 +124,7 @@ market_named (Some (Run name)) = Some name
 market_named (Some (Sample n)) = None
 market_named (Some (RunThen name ask)) = Some name
 market_named (Some (Keep name store)) = Some name
+market_named (Some (Audit name transcript)) = Some name
 
 -- the name of the store, where the words ask to keep changes in one
 abbrev pub store_named : Option Asked → Option (List ℕ)
@@ -123,13 +133,23 @@ store_named (Some (Run name)) = None
 store_named (Some (Sample n)) = None
 store_named (Some (RunThen name ask)) = None
 store_named (Some (Keep name store)) = Some store
+store_named (Some (Audit name transcript)) = None
+
+-- the name of the transcript, where the words ask to audit one
+abbrev pub transcript_named : Option Asked → Option (List ℕ)
+transcript_named None = None
+transcript_named (Some (Run name)) = None
+transcript_named (Some (Sample n)) = None
+transcript_named (Some (RunThen name ask)) = None
+transcript_named (Some (Keep name store)) = None
+transcript_named (Some (Audit name transcript)) = Some transcript
 
 -- the line that is written for other words
 abbrev pub usage_line : List ℕ
 usage_line =
     codes "usage: daggre run NAME | daggre sample N | daggre chance NAME PAIR.. [given PAIR..]"
-    ++ codes " | daggre best NAME [PAIR..] | daggre expect NAME USER | daggre keep NAME STORE"
-    ++ 10 ∷ []
+    ++ codes " | daggre best NAME [PAIR..] | daggre expect NAME USER"
+    ++ codes " | daggre audit NAME TRANSCRIPT | daggre keep NAME STORE" ++ 10 ∷ []
 
 -- other words end with that line, or a front of it where writing fails
 abbrev pub EndsUsage : Status → List ℕ → Type 0

@@ -12,10 +12,11 @@ ghost use Rattle.mk_session.specs.Complete.{AreWithin};
 ghost use Rattle.mk_session.specs.Outcome.{Adds, Outcome, IsTurnedAway, HasCauses, HasKeepCauses};
 ghost use Rattle.mk_durable.specs.KeepOutcome.{KeepOutcome, KeepsChanges};
 ghost use Rattle.mk_durable.specs.KeepOutcome.{IsSoundStore, IsHonestStore, AreHonest};
-ghost use Rattle.daggre.specs.Words.{Run, Sample, RunThen, Keep, asked_of, EndsUsage};
+ghost use Rattle.mk_audit.specs.AuditOutcome.{AuditOutcome};
+ghost use Rattle.daggre.specs.Words.{Run, Sample, RunThen, Keep, Audit, asked_of, EndsUsage};
 ghost use Rattle.daggre.specs.AskOutcome.{AskOutcome};
 ghost use Rattle.daggre.specs.declared.ask.Ask.{Ask};
-ghost use Rattle.daggre.specs.Called.{words_in, asked_by, named_by, kept_by, Exits};
+ghost use Rattle.daggre.specs.Called.{words_in, asked_by, named_by, kept_by, audited_by, Exits};
 ghost use Rattle.daggre.specs.Sampled.{EndsSample};
 
 use crate::program::program;
@@ -42,6 +43,8 @@ pub fn call<I: Inputs, S: Sink, K: Disk>(
 ) -> u8
     requires market { (name : List ℕ) → named_by arguments ≡ Some (Some name) → I.admits name }
     requires store { (store : List ℕ) → kept_by arguments ≡ Some (Some store) → K.admits store }
+    requires transcript { (transcript : List ℕ) → audited_by arguments ≡ Some (Some transcript) →
+        I.admits transcript }
     ensures run { (name file all : List ℕ) → asked_by arguments ≡ Some (Some (Run name)) →
         I.file inputs.old name ≡ Some file → I.commands inputs.old ≡ Some all →
         Exits result (λ status. Outcome status file all (I.commands inputs.new)
@@ -50,6 +53,12 @@ pub fn call<I: Inputs, S: Sink, K: Disk>(
         asked_by arguments ≡ Some (Some (RunThen name ask)) →
         I.file inputs.old name ≡ Some file → I.commands inputs.old ≡ Some all →
         Exits result (λ status. AskOutcome status ask file all (I.commands inputs.new)
+        (S.written out.old) (S.written out.new)) }
+    ensures audit { (name transcript file text all : List ℕ) →
+        asked_by arguments ≡ Some (Some (Audit name transcript)) →
+        I.file inputs.old name ≡ Some file → I.file inputs.old transcript ≡ Some text →
+        I.commands inputs.old ≡ Some all →
+        Exits result (λ status. AuditOutcome status file text all (I.commands inputs.new)
         (S.written out.old) (S.written out.new)) }
     ensures keep { (name store file stored all : List ℕ) →
         asked_by arguments ≡ Some (Some (Keep name store)) →

@@ -8,8 +8,10 @@ ghost use Rattle.mk_session.specs.Complete.{AreWithin};
 ghost use Rattle.mk_session.specs.Outcome.{Adds, Outcome, IsTurnedAway, HasCauses, HasKeepCauses};
 ghost use Rattle.mk_durable.specs.KeepOutcome.{KeepOutcome, KeepsChanges};
 ghost use Rattle.mk_durable.specs.KeepOutcome.{IsSoundStore, IsHonestStore, AreHonest};
-ghost use Rattle.daggre.specs.Words.{Run, Sample, RunThen, Keep, asked_of, EndsUsage};
-ghost use Rattle.daggre.specs.Words.{market_named, store_named};
+ghost use Rattle.daggre.specs.Words.{Run, Sample, RunThen, Keep, Audit};
+ghost use Rattle.daggre.specs.Words.{asked_of, EndsUsage};
+ghost use Rattle.daggre.specs.Words.{market_named, store_named, transcript_named};
+ghost use Rattle.mk_audit.specs.AuditOutcome.{AuditOutcome};
 ghost use Rattle.daggre.specs.AskOutcome.{AskOutcome};
 ghost use Rattle.daggre.specs.declared.ask.Ask.{Ask};
 ghost use Rattle.daggre.specs.Sampled.{EndsSample};
@@ -17,6 +19,7 @@ ghost use Rattle.daggre.specs.Sampled.{EndsSample};
 use crate::asking::run_ask;
 use crate::sample::run_sample;
 use crate::words::{Asked, read_words};
+use mk_audit::audit_named;
 use mk_disk::Disk;
 use mk_durable::keep;
 use mk_io::{Inputs, Sink, Status, write_all};
@@ -27,7 +30,8 @@ use std::alloc::Global;
 /// sample market of `N` variables. `chance NAME PAIR.. [given PAIR..]`, `best NAME [PAIR..]` and
 /// `expect NAME USER` serve the market of a file, and then answer what they ask of its history.
 /// `keep NAME STORE` serves the market of a file from the changes on that a store gives back, and
-/// keeps each change there before its reply is written.
+/// keeps each change there before its reply is written. `audit NAME TRANSCRIPT` says whether the
+/// market of a file allows the transcript in another, beside the commands.
 ///
 /// Where the bytes of the file and of the commands are told, the status says what was written: with
 /// `Done` the transcript of the whole stream, one that the exact joint table allows, and behind it
@@ -50,6 +54,9 @@ pub fn program<I: Inputs, S: Sink, K: Disk>(
         market_named (asked_of (map (λ w. w.now) words.now)) ≡ Some name → I.admits name }
     requires store { (store : List ℕ) →
         store_named (asked_of (map (λ w. w.now) words.now)) ≡ Some store → K.admits store }
+    requires transcript { (transcript : List ℕ) →
+        transcript_named (asked_of (map (λ w. w.now) words.now)) ≡ Some transcript →
+        I.admits transcript }
     ensures run { (name file all : List ℕ) →
         asked_of (map (λ w. w.now) words.now) ≡ Some (Run name) →
         I.file inputs.old name ≡ Some file → I.commands inputs.old ≡ Some all →
@@ -58,6 +65,12 @@ pub fn program<I: Inputs, S: Sink, K: Disk>(
         asked_of (map (λ w. w.now) words.now) ≡ Some (RunThen name ask) →
         I.file inputs.old name ≡ Some file → I.commands inputs.old ≡ Some all →
         AskOutcome result ask file all (I.commands inputs.new)
+        (S.written out.old) (S.written out.new) }
+    ensures audit { (name transcript file text all : List ℕ) →
+        asked_of (map (λ w. w.now) words.now) ≡ Some (Audit name transcript) →
+        I.file inputs.old name ≡ Some file → I.file inputs.old transcript ≡ Some text →
+        I.commands inputs.old ≡ Some all →
+        AuditOutcome result file text all (I.commands inputs.new)
         (S.written out.old) (S.written out.new) }
     ensures keep { (name store file stored all : List ℕ) →
         asked_of (map (λ w. w.now) words.now) ≡ Some (Keep name store) →
@@ -113,6 +126,9 @@ pub fn program<I: Inputs, S: Sink, K: Disk>(
         Some(Asked::Run { name }) => serve(alloc, name, inputs, out),
         Some(Asked::RunThen { name, ask }) => run_ask(alloc, name, &ask, inputs, out),
         Some(Asked::Keep { name, store }) => keep(alloc, name, store, inputs, out, disk),
+        Some(Asked::Audit { name, transcript }) => {
+            audit_named(alloc, name, transcript, inputs, out)
+        }
         Some(Asked::Sample { size }) => run_sample(alloc, size, out),
         None => explain(out),
     }
@@ -126,7 +142,8 @@ fn explain<S: Sink>(out: &mut S) -> Status
 {
     let usage =
         b"usage: daggre run NAME | daggre sample N | daggre chance NAME PAIR.. [given PAIR..] \
-        | daggre best NAME [PAIR..] | daggre expect NAME USER | daggre keep NAME STORE\n";
+        | daggre best NAME [PAIR..] | daggre expect NAME USER | daggre audit NAME TRANSCRIPT \
+        | daggre keep NAME STORE\n";
     match write_all(out, usage) {
         Ok(()) => Status::Usage,
         Err(_) => Status::WriteFault,

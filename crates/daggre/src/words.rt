@@ -3,7 +3,7 @@
 ghost use Rattle.std.specs.Prelude.{◌≡◌, ◌≤◌, [], ◌∷◌, map, codes, decimal, IfSome};
 ghost use Rattle.std.specs.Prelude.{option_map, length};
 ghost use Rattle.mk_net.specs.Texts.{same_text};
-ghost use Rattle.daggre.specs.Words.{max_sample, asked_of, kept_in, size_of};
+ghost use Rattle.daggre.specs.Words.{max_sample, asked_of, kept_in, audited_in, size_of};
 ghost use Rattle.daggre.specs.inner.Asking.{asked_as, IsSized};
 
 use crate::ask::Ask;
@@ -24,6 +24,8 @@ pub enum Asked<'a> {
     RunThen { name: &'a str, ask: Ask },
     /// To run a market and keep its changes in a store.
     Keep { name: &'a str, store: &'a str },
+    /// To audit a transcript of a market.
+    Audit { name: &'a str, transcript: &'a str },
 }
 
 /// What the words ask for, if it is something that the program knows.
@@ -48,6 +50,9 @@ fn asked_by_more<'a>(word: &str, name: &'a str, rest: &[&'a str]) -> Option<Aske
     if is_keep(word) {
         return kept_in(name, rest);
     }
+    if is_audit(word) {
+        return audited_in(name, rest);
+    }
     match ask_of(word, rest) {
         Some(ask) => Some(Asked::RunThen { name, ask }),
         None => None,
@@ -61,6 +66,17 @@ fn kept_in<'a>(name: &'a str, rest: &[&'a str]) -> Option<Asked<'a>>
 {
     match rest {
         [store] => Some(Asked::Keep { name, store }),
+        _ => None,
+    }
+}
+
+/// To audit a transcript, where it is the one word behind the market's name.
+fn audited_in<'a>(name: &'a str, rest: &[&'a str]) -> Option<Asked<'a>>
+    ensures asked { option_map asked_as result ≡ audited_in name.now (map (λ w. w.now) rest.now) }
+    ensures sized { IfSome result IsSized }
+{
+    match rest {
+        [transcript] => Some(Asked::Audit { name, transcript }),
         _ => None,
     }
 }
@@ -98,6 +114,12 @@ fn is_keep(word: &str) -> bool
     ensures { result ≡ same_text word.now (codes "keep") }
 {
     word == "keep"
+}
+
+fn is_audit(word: &str) -> bool
+    ensures { result ≡ same_text word.now (codes "audit") }
+{
+    word == "audit"
 }
 
 fn is_sample(word: &str) -> bool

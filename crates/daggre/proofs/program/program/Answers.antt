@@ -72,3 +72,23 @@ returns-in-None-clause-keep_causes g c =
     (g.I.Inputs.faults c.args.inputs.now) (g.I.Inputs.faults c.args.inputs.now)
     (g.S.Sink.faults c.args.out.now) (g.S.Sink.faults c.explain.new.out)
     (c.explain.ensures.causes (g.I.Inputs.faults c.args.inputs.now))
+
+pub returns-in-Some-Audit-clause-refused : goal.returns-in-Some-Audit-clause-refused
+returns-in-Some-Audit-clause-refused g c = λ name file fault asked told given.
+    let read = rw c.in-Some-Audit.field-0-is at c.in-Some-Audit.ensures.asked in
+    let found : Some c.in-Some-Audit.name.now ≡ Some name =
+    ap (λ (o : Option Asked). market_named o) read ∙ asked in
+    let same : c.in-Some-Audit.name.now ≡ name = cc in
+    c.audit_named.ensures.refused file fault (ap (g.I.Inputs.file c.args.inputs.now) same ∙ told)
+    given
+
+pub returns-in-Some-Audit-clause-audit : goal.returns-in-Some-Audit-clause-audit
+returns-in-Some-Audit-clause-audit g c = λ name transcript file text all asked told_file told_text
+    told_all.
+    let read = rw c.in-Some-Audit.field-0-is at c.in-Some-Audit.ensures.asked in
+    let both = read ∙ asked in
+    let same : c.in-Some-Audit.name.now ≡ name = cc in
+    let other : c.in-Some-Audit.transcript.now ≡ transcript = cc in
+    c.audit_named.ensures.outcome file text all
+    (ap (g.I.Inputs.file c.args.inputs.now) same ∙ told_file)
+    (ap (g.I.Inputs.file c.args.inputs.now) other ∙ told_text) told_all
