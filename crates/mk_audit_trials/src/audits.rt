@@ -1,0 +1,246 @@
+//! Transcripts of a coin's market, right and wrong ones, and the transcript of a sample market.
+
+ghost use Rattle.std.specs.Prelude.{◌≤◌};
+
+use mk_audit::audit_named;
+use mk_io::{MemorySink, NamedFile, QuietInputs, Status};
+use mk_make::sample;
+use mk_session::serve;
+use std::alloc::{AllocError, Global};
+use std::process::Abort;
+use std::test::Fail;
+
+const COIN: &str = "points_per_bit = 100
+max_trades = 1000
+cliques = [['coin']]
+links = []
+
+[[variable]]
+name = 'coin'
+values = ['heads', 'tails']
+parents = []
+rows = [[500000, 500000]]
+";
+
+/// Commands to the coin, between which a blank line stands.
+const COMMANDS: &str = "user alice
+deposit alice 1
+
+limits alice coin=heads
+edit alice coin=heads to 600000 at 2
+";
+
+/// Transcripts, each with its verdict.
+const TRANSCRIPTS: [(&str, &str); 17] = [
+    (
+        "ready 1 100
+user alice at 1
+deposit alice 1 at 2
+limits 250000..750000 at 2
+trade 1319413953331 879609302220 at 3
+",
+        "audit yes 5\n",
+    ),
+    (
+        "ready 1 100
+user alice at 1
+deposit alice 1 at 2
+limits 250000..750001 at 2
+trade 1319413953331 879609302220 at 3
+",
+        "audit no 4\n",
+    ),
+    (
+        "ready 1 100
+user alice at 1
+deposit alice 1 at 2
+limits 250001..750000 at 2
+trade 1319413953331 879609302220 at 3
+",
+        "audit no 4\n",
+    ),
+    (
+        "ready 1 100
+user alice at 1
+deposit alice 1 at 2
+limits none at 2
+trade 1319413953331 879609302220 at 3
+",
+        "audit no 4\n",
+    ),
+    (
+        "ready 1 100
+user alice at 1
+deposit alice 1 at 2
+limits 250000..750000 at 2
+trade 1319413953330 879609302220 at 3
+",
+        "audit no 5\n",
+    ),
+    (
+        "ready 1 100
+user alice at 1
+deposit alice 1 at 2
+limits 250000..750000 at 2
+trade 1319413953331 879609302221 at 3
+",
+        "audit no 5\n",
+    ),
+    (
+        "ready 1 100
+user alice at 1
+deposit alice 1 at 2
+limits 250000..750000 at 2
+trade 1319413953331 879609302220 at 2
+",
+        "audit no 5\n",
+    ),
+    (
+        "ready 1 100
+user alice at 1
+deposit alice 1 at 2
+limits 250000..750000 at 2
+refused beyond 250000..750000
+",
+        "audit no 5\n",
+    ),
+    (
+        "ready 1 100
+user alice at 1
+deposit alice 1 at 2
+limits 250000..750000 at 2
+",
+        "audit no 5\n",
+    ),
+    (
+        "ready 1 100
+user alice at 1
+deposit alice 1 at 2
+limits 250000..750000 at 2
+trade 1319413953331 879609302220 at 3",
+        "audit no 5\n",
+    ),
+    (
+        "ready 1 100
+user alice at 1
+deposit alice 1 at 2
+limits 250000..750000 at 2
+trade 1319413953331 879609302220 at 3
+none
+",
+        "audit no 6\n",
+    ),
+    (
+        "ready 1 100
+user alice at 1
+deposit alice 1 at 2
+limits 250000..750000 at 2
+trade 1319413953331 879609302220 at 3
+
+",
+        "audit no 6\n",
+    ),
+    (
+        "ready 1 100
+user alice at 1
+deposit alice 1 at 2
+
+limits 250000..750000 at 2
+trade 1319413953331 879609302220 at 3
+",
+        "audit no 4\n",
+    ),
+    (
+        "ready 1 100
+refused memory
+refused user alice
+refused user alice
+refused user alice
+",
+        "audit yes 5\n",
+    ),
+    (
+        "ready 1 100\r
+user alice at 1
+",
+        "audit no 1\n",
+    ),
+    ("ready 1 100", "audit no 1\n"),
+    ("", "audit no 1\n"),
+];
+
+/// A file in memory.
+fn named(alloc: Global, name: &str, bytes: &[u8]) -> Result<NamedFile, AllocError> {
+    Ok(NamedFile {
+        name: String::from_str(alloc, name)?,
+        bytes: bytes.to_vec(alloc)?,
+    })
+}
+
+/// What is written of an audit that ends well.
+fn audited(
+    rt: &impl Abort,
+    alloc: Global,
+    market: &[u8],
+    commands: &[u8],
+    transcript: &[u8],
+) -> Result<Vec<u8>, AllocError> {
+    let market = named(alloc, "market", market)?;
+    let transcript = named(alloc, "transcript", transcript)?;
+    let files = vec![in alloc; market, transcript]?;
+    let mut inputs = QuietInputs::new(files, commands.to_vec(alloc)?, 4096);
+    let mut out = MemorySink::new(vec![in alloc; 0u8; 64]?, 64, Vec::new(alloc));
+    let status = audit_named(alloc, "market", "transcript", &mut inputs, &mut out);
+    let written = out.written().to_vec(alloc);
+    drop(inputs);
+    drop(out);
+    assert!(rt; status == Status::Done);
+    written
+}
+
+/// The transcript of a market's run.
+fn transcript_of(
+    rt: &impl Abort,
+    alloc: Global,
+    market: &[u8],
+    commands: &[u8],
+) -> Result<Vec<u8>, AllocError> {
+    let files = vec![in alloc; named(alloc, "market", market)?]?;
+    let mut inputs = QuietInputs::new(files, commands.to_vec(alloc)?, 4096);
+    let mut out = MemorySink::new(vec![in alloc; 0u8; 65536]?, 4096, Vec::new(alloc));
+    let status = serve(alloc, "market", &mut inputs, &mut out);
+    let written = out.written().to_vec(alloc);
+    drop(inputs);
+    drop(out);
+    assert!(rt; status == Status::Done);
+    written
+}
+
+#[test]
+fn transcripts_of_a_coin(rt: HostRuntime) -> Result<(), Fail> {
+    for (transcript, verdict) in TRANSCRIPTS {
+        let said = audited(
+            &rt,
+            rt.alloc(),
+            COIN.as_bytes(),
+            COMMANDS.as_bytes(),
+            transcript.as_bytes(),
+        )?;
+        assert!(rt; &said[..] == verdict.as_bytes(), "{transcript}");
+        drop(said);
+    }
+    Ok(())
+}
+
+#[test]
+fn transcript_of_a_sample(rt: HostRuntime) -> Result<(), Fail> {
+    let sample = sample(rt.alloc(), 200)?;
+    let file = sample.file.bytes();
+    let commands = sample.commands.bytes();
+    let transcript = transcript_of(&rt, rt.alloc(), file, commands)?;
+    let said = audited(&rt, rt.alloc(), file, commands, &transcript)?;
+    assert!(rt; &said[..] == b"audit yes 718\n".as_slice());
+    drop(said);
+    drop(transcript);
+    Ok(())
+}
