@@ -1,11 +1,13 @@
 //! One user's assets.
 
-ghost use Rattle.std.specs.Prelude.{◌≡◌, ℕ, ◌+◌, ◌≤◌, List, [], ◌∷◌, length, slice_index, true};
-ghost use Rattle.std.specs.Prelude.{is_some, Some, IfOk};
+ghost use Rattle.std.specs.Prelude.{◌≡◌, ℕ, ◌+◌, ◌-◌, ◌≤◌, List, [], ◌∷◌, length, slice_index, true};
+ghost use Rattle.std.specs.Prelude.{is_some, Some, IfOk, IfSome};
 ghost use Rattle.mk_net.specs.Network.{sizes};
 ghost use Rattle.mk_net.specs.Asked.{ratio_pairs};
 ghost use Rattle.mk_net.specs.Bounds.{max_values};
 ghost use Rattle.mk_net.specs.Trades.{trade_ratio};
+ghost use Rattle.mk_enclose.specs.Enclosure.{HasGrade};
+ghost use Rattle.mk_semiring.specs.Held.{HasHeldGrade};
 ghost use Rattle.mk_tree.specs.Given.{GivenTree, home};
 ghost use Rattle.mk_engine.specs.Meaning.{exact_belief, max_grade};
 ghost use Rattle.mk_engine.specs.Cases.{exact_others};
@@ -121,6 +123,8 @@ impl<E: Engine<MinProd>> Assets<E> {
         ensures kept { (h : Holding) → Owns E.stands_for self.old h → Owns E.stands_for self.new h }
         ensures least { (h : Holding) → Owns E.stands_for self.old h
             → IsLeastFactor h (exact_belief ⟦<MinProd as Semiring>⟧.plus_of h.meaning event.now) (length h.meaning.factors + max_grade) result }
+        ensures graded { (h : Holding) → Owns E.stands_for self.old h
+            → IfSome result (λ f. HasGrade f.gain (E.grade_of h.meaning)) }
     {
         let found = self.engine.belief(at, event);
         self.factor(&found)
@@ -134,6 +138,9 @@ impl<E: Engine<MinProd>> Assets<E> {
         ensures kept { (h : Holding) → Owns E.stands_for self.old h → Owns E.stands_for self.new h }
         ensures least { (h : Holding) → Owns E.stands_for self.old h → values ≡ slice_index (sizes h.meaning.network) asked.now.target.variable
             → IsLeastFactor h (exact_others ⟦<MinProd as Semiring>⟧.plus_of h.meaning asked.now values) (length h.meaning.factors + max_grade + max_values) result }
+        ensures graded { (h : Holding) → Owns E.stands_for self.old h
+            → values ≡ slice_index (sizes h.meaning.network) asked.now.target.variable
+            → IfSome result (λ f. HasGrade f.gain (E.grade_of h.meaning + (max_values - 1))) }
     {
         let found = belief_of_others::<MinProd, E>(&mut self.engine, at, asked, values);
         self.factor(&found)
@@ -141,7 +148,10 @@ impl<E: Engine<MinProd>> Assets<E> {
 
     /// The factor of the least gain that was found.
     fn factor(&self, found: &Held) -> Option<Factor>
-        ensures { (h : Holding) (least_gain most : ℕ) → Owns E.stands_for self.now h → IsFound h least_gain most found.now → IsLeastFactor h least_gain most result }
+        ensures least { (h : Holding) (least_gain most : ℕ) → Owns E.stands_for self.now h
+            → IsFound h least_gain most found.now → IsLeastFactor h least_gain most result }
+        ensures graded { (most : ℕ) → HasHeldGrade found.now most
+            → IfSome result (λ f. HasGrade f.gain most) }
     {
         match found {
             Held::Absent => None,

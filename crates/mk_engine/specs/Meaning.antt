@@ -1,15 +1,17 @@
 -- What an engine stands for: a network, a tree, the factors that were multiplied together, and the pairs that are known.
-use Rattle.std.specs.Prelude.{ℕ, ◌+◌, ◌-◌, ◌*◌, Bool, true, false, List, [], ◌∷◌, ◌++◌, map, sum_by, All}
+use Rattle.std.specs.Prelude.{ℕ, ◌+◌, ◌-◌, ◌*◌, max, Bool, true, false, List, [], ◌∷◌, ◌++◌, map}
+use Rattle.std.specs.Prelude.{length, sum_by, All}
 use Rattle.mk_net.specs.declared.words.Pair.{Pair}
 use Rattle.mk_net.specs.Asked.{TradeRatio}
 use Rattle.mk_net.specs.Bounds.{max_variables, max_cliques, max_clique_cells, max_cells, max_market_trades}
 use Rattle.mk_net.specs.Network.{Variable, sizes}
-use Rattle.mk_exact.specs.States.{states, product_by}
+use Rattle.mk_exact.specs.States.{states, plus_over, product_by}
 use Rattle.mk_exact.specs.InitialWeight.{value_at}
 use Rattle.mk_exact.specs.Proper.{IsPairOf}
 use Rattle.mk_sums.specs.There.{share_there, support_there, ratio_there}
 use Rattle.mk_sums.specs.Joint.{joint}
 use Rattle.mk_tree.specs.Given.{GivenTree}
+use Rattle.mk_tree.specs.Tests.{cells_of}
 
 -- the rows of a variable; its support, which is one where its share is not nothing; or the ratio of a trade
 pub data Factor : Type 0 where
@@ -66,6 +68,22 @@ max_separators = max_cliques + (max_variables - 1) - 1
 -- asked clique
 abbrev pub max_grade : ℕ
 max_grade = max_cells + 2 * max_separators + max_clique_cells
+
+-- the cells of all cliques of its tree, and those of the largest
+abbrev pub cells_of_all : Meaning → ℕ
+cells_of_all m = sum_by (cells_of m.network) m.tree.cliques
+
+abbrev pub cells_of_largest : Meaning → ℕ
+cells_of_largest m = plus_over max 0 (cells_of m.network) m.tree.cliques
+
+-- a tree has one separator fewer than cliques
+abbrev pub separators_in : Meaning → ℕ
+separators_in m = length m.tree.cliques - 1
+
+-- the grade of a belief by the sizes of its tree, whichever clique is asked: one for each factor, the
+-- cells of all cliques, two for each separator, and the cells of the largest clique
+abbrev pub tree_grade : Meaning → ℕ
+tree_grade m = length m.factors + cells_of_all m + 2 * separators_in m + cells_of_largest m
 
 -- the network's own pairs
 abbrev pub ArePairsOf : List Variable → List Pair → Type 0

@@ -1,14 +1,16 @@
 //! The trait.
 
-ghost use Rattle.std.specs.Prelude.{◌≡◌, ℕ, List, [], ◌∷◌, Some, IfOk};
+ghost use Rattle.std.specs.Prelude.{◌≡◌, ◌<◌, ℕ, List, [], ◌∷◌, Some, IfOk};
 ghost use Rattle.mk_net.specs.declared.words.Pair.{Pair};
 ghost use Rattle.mk_net.specs.Network.{Variable};
 ghost use Rattle.mk_net.specs.Asked.{ratio_pairs};
+ghost use Rattle.mk_net.specs.Bounds.{number_limit};
 ghost use Rattle.mk_net.specs.Trades.{trade_ratio};
 ghost use Rattle.mk_tree.specs.Given.{GivenTree, home};
 ghost use Rattle.mk_tree.specs.Checked.{IsTreeOf};
 ghost use Rattle.mk_tree.specs.Held.{IsHeldAt};
-ghost use Rattle.mk_engine.specs.Meaning.{Meaning, RowsOf, SupportOf, RatioOf, opening, with_factor, with_known};
+ghost use Rattle.mk_engine.specs.Meaning.{Meaning, RowsOf, SupportOf, RatioOf, opening, with_factor, with_known, whole_sum};
+ghost use Rattle.mk_engine.specs.Apart.{IsApart, without_ratios};
 ghost use Rattle.mk_engine.specs.Beliefs.{CanWeigh, CanMultiply, CanKnow, CanBelieve, IsBelief};
 
 use mk_net::{Event, Network, NoMemory, Pair, Ratio};
@@ -44,6 +46,9 @@ pub trait Engine<R: Semiring>: Sized + Drop {
     // The clique in which an engine places what speaks of the variables of an event.
     ghost places_at: { Self → ℕ → List Pair → Type 0 };
 
+    // The grade of each belief in a meaning that an engine stands for.
+    ghost grade_of: { Meaning → ℕ };
+
     /// The plan for a network and a tree of it.
     fn plan(alloc: Global, net: &Network, tree: &Tree) -> Result<Self::Plan, NoMemory>
         requires tree { IsTreeOf net.now tree.now }
@@ -78,12 +83,15 @@ pub trait Engine<R: Semiring>: Sized + Drop {
 
     /// The plus, over all states where the known pairs and the event hold, of the product of all
     /// factors, asked in a clique that holds the event. It leaves what the engine stands for as it
-    /// was.
+    /// was. Where one pair stands in the condition of every ratio and the event gives its variable
+    /// another value, the ratios take nothing from what is exact without them.
     fn belief(&mut self, at: u32, event: &Event) -> R::Value
         requires held { answers_at self.old at event.now }
         requires range { CanBelieve stands_for self.old event.now }
         ensures kept { (m : Meaning) → stands_for self.old m → stands_for self.new m }
-        ensures belief { (m : Meaning) → stands_for self.old m → IsBelief R.encloses R.has_grade R.is_exact R.plus_of m event.now result };
+        ensures belief { (m : Meaning) → stands_for self.old m → IsBelief R.encloses R.has_grade R.is_exact R.plus_of m event.now result }
+        ensures apart { (m : Meaning) → stands_for self.old m → IsApart m event.now → whole_sum (without_ratios m) < number_limit → R.is_exact result }
+        ensures graded { (m : Meaning) → stands_for self.old m → R.has_grade result (grade_of m) };
 
     // An event can be answered in each clique that holds it.
     ghost held_is_answered: { (engine : Self) (m : Meaning) (at : ℕ) (event : List Pair) → stands_for engine m → IsHeldAt m.tree at event → answers_at engine at event };

@@ -3,6 +3,8 @@
 
 mod engine;
 mod others;
+mod tree_graded;
 
 pub use engine::Engine;
 pub use others::belief_of_others;
+pub use tree_graded::TreeGraded;

@@ -1,6 +1,7 @@
 //! Beliefs in the other values of a question's variable.
 
-ghost use Rattle.std.specs.Prelude.{◌≡◌, slice_index};
+ghost use Rattle.std.specs.Prelude.{◌≡◌, ◌+◌, ◌-◌, slice_index};
+ghost use Rattle.mk_net.specs.Bounds.{max_values};
 ghost use Rattle.mk_net.specs.Network.{sizes};
 ghost use Rattle.mk_engine.specs.Meaning.{Meaning};
 ghost use Rattle.mk_engine.specs.Cases.{pairs_with, CanAskOthers, IsOthersBelief};
@@ -22,6 +23,9 @@ pub fn belief_of_others<R: Semiring, E: Engine<R>>(
     ensures kept { (m : Meaning) → E.stands_for engine.old m → E.stands_for engine.new m }
     ensures belief { (m : Meaning) → E.stands_for engine.old m → values ≡ slice_index (sizes m.network) asked.now.target.variable
         → IsOthersBelief R.encloses R.has_grade R.is_exact R.plus_of m asked.now values result }
+    ensures graded { (m : Meaning) → E.stands_for engine.old m
+        → values ≡ slice_index (sizes m.network) asked.now.target.variable
+        → R.has_grade result (E.grade_of m + (max_values - 1)) }
 {
     let target = asked.target();
     let mut others = R::absent();

@@ -1,6 +1,8 @@
 -- The total of the cells where an event holds is the exact belief.
-use Rattle.std.proofs.Common.{◌≡◌, ℕ, ◌+◌, ◌*◌, ◌<◌, ◌≤◌, Bool, true, false, cond, ◌&&◌, List, [], ◌∷◌, map, length, filter, refl, sym, ap, subst, ◌∙◌, arith}
+use Rattle.std.proofs.Common.{◌≡◌, ℕ, ◌+◌, ◌*◌, ◌^◌, ◌<◌, ◌≤◌, Bool, true, false, cond, ◌&&◌, List, [], ◌∷◌, map, length, filter, refl, sym, ap, subst, ◌∙◌, arith}
 use Rattle.std.proofs.Math.Path.{fun_ext}
+use Rattle.std.proofs.Math.Nat.{le_of_mul-le-mul_right, one-le-pow}
+use Rattle.std.proofs.lemmas.List.Elements.{All-contains}
 use Rattle.mk_net.specs.declared.words.Pair.{Pair}
 use Rattle.mk_net.specs.Bounds.{max_clique_cells, number_limit}
 use Rattle.mk_net.specs.Network.{sizes}
@@ -16,12 +18,15 @@ use Rattle.mk_sums.specs.There.{holds_there}
 use Rattle.mk_sums.proofs.Bounds.{sum_grows}
 use Rattle.mk_sums.proofs.States.{is_plus, plus_below_numbers}
 use Rattle.mk_sums.proofs.Grades.{sums_lawful}
-use Rattle.mk_table.specs.Scopes.{ScopeOf, cells_in}
+use Rattle.mk_table.specs.Scopes.{ScopeOf, HasEvent, cells_in, has_variable}
 use Rattle.mk_table.specs.Cells.{values_at, cells_where}
-use Rattle.mk_table.specs.Tables.{TableOf, HasNumbers}
+use Rattle.mk_table.specs.Tables.{TableOf, HasNumbers, is_untouched}
 use Rattle.mk_table.proofs.Owned.{own_more}
+use Rattle.mk_table.proofs.RatiosKept.{untouched_by}
 use Rattle.mk_engine.specs.Meaning.{Meaning, factor_there, exact_belief, whole_sum, max_grade}
 use Rattle.mk_engine.specs.Beliefs.{IsBelief}
+use Rattle.mk_engine.specs.Apart.{IsApart, without_ratios}
+use Rattle.mk_engine.proofs.Apart.{apart_at_most}
 use Rattle.mk_joint.specs.inner.Joints.{whole_scope, joint_there, HasJoint}
 use Rattle.mk_joint.proofs.Cells.{states_are_cells}
 use Rattle.mk_joint.proofs.Factors.{product_there, joint_at_most, whole_is}
@@ -106,6 +111,23 @@ module _ (plus : ℕ → ℕ → ℕ) (table : TableOf) (count : ℕ) (m : Meani
   total_own digits exponent total =
       own_more table.shift digits exponent totalled (length m.factors + 2 * cells_in table.scope) (3 * (count + max_clique_cells)) (omega (arith, h.counted, h.few_cells))
       (total (λ c. joint_there m (values_at table.scope c)) (length m.factors) h.numbers)
+
+  -- where one pair of all conditions contradicts the event
+  module _ (apart : IsApart m event) where
+    pub untouched_apart : HasEvent table.scope event → is_untouched table event ≡ true
+    untouched_apart there =
+        untouched_by table.touched event apart.pair apart.other
+        (h.ratios.kept apart.pair apart.in_each
+        (subst (λ x. has_variable table.scope x ≡ true) apart.same_variable (All-contains (λ (p : Pair). has_variable table.scope p.variable ≡ true) event apart.other there apart.in_event)))
+        apart.in_event apart.same_variable apart.another_value
+
+    -- what is left of the total under no shift is at most the sum without the ratios
+    pub own_at_most : Lawful plus → (own : ℕ) → totalled ≡ own * 2 ^ table.shift → own ≤ whole_sum (without_ratios m)
+    own_at_most law own e =
+        let b = belief_is plus law m event table.scope h.scope in let l = apart_at_most plus law m event apart in
+        let s = ap (λ n. whole_sum (without_ratios m) * 2 ^ n) h.ratios.shifted in
+        let scaled : own * 2 ^ table.shift ≤ whole_sum (without_ratios m) * 2 ^ table.shift = omega (arith, b, l, s, e) in
+        le_of_mul-le-mul_right scaled (one-le-pow table.shift 2 (omega arith))
 
   module _ {V : Type 0} (encloses : V → ℕ → Type 0) (has_grade : V → ℕ → Type 0) (is_exact : V → Type 0)
       (grade_more : (x : V) (g h : ℕ) → has_grade x g → g ≤ h → has_grade x h) where

@@ -1,8 +1,11 @@
 -- What the calls of a table do to the joint that it has.
-use Rattle.std.proofs.Common.{◌≡◌, ℕ, ◌+◌, ◌*◌, ◌<◌, ◌≤◌, ◌==◌, true, if◌then◌else◌, List, length, slice_index, slice_index_or, All, refl, sym, ap, subst, ◌∙◌, arith}
+use Rattle.std.proofs.Common.{◌≡◌, ℕ, ◌+◌, ◌*◌, ◌<◌, ◌≤◌, ◌==◌, Bool, true, false, cond, if◌then◌else◌, List, [], ◌∷◌, ◌++◌, count_by, length, slice_index, slice_index_or, All, refl, sym, ap, subst, ◌∙◌, arith}
+use Rattle.std.specs.Prelude.{Some, None}
+use Rattle.std.specs.List.{AllByRecursion}
 use Rattle.std.proofs.Math.Path.{fun_ext}
 use Rattle.std.proofs.lemmas.List.{length_push}
-use Rattle.std.proofs.lemmas.List.Elements.{All-push, All-weaker, All-from_recursion, All-nil}
+use Rattle.std.proofs.lemmas.List.Elements.{All-push, All-weaker, All-from_recursion, recursion_from_All, All-nil}
+use Rattle.std.proofs.lemmas.List.Sums.{sum_by_push}
 use Rattle.mk_net.specs.declared.words.Pair.{Pair}
 use Rattle.mk_net.specs.Bounds.{max_clique_cells}
 use Rattle.mk_net.specs.Network.{Variable, sizes, IsNetwork}
@@ -16,8 +19,11 @@ use Rattle.mk_tree.specs.Given.{GivenTree}
 use Rattle.mk_table.specs.Scopes.{ScopeOf, cells_in, has_variable, HasEvent, HasOneEach, HasSized}
 use Rattle.mk_table.specs.Cells.{values_at}
 use Rattle.mk_table.specs.Tables.{TableOf, HasNumbers, HasRoom}
-use Rattle.mk_engine.specs.Meaning.{Meaning, Factor, opening, with_factor, with_known, factor_there, max_factors, ArePairsOf}
-use Rattle.mk_joint.specs.inner.Joints.{whole_scope, joint_there, IsFactorOf, IsPlanFor, HasJoint}
+use Rattle.mk_table.specs.Ratios.{KeepsPairs, HasRatios}
+use Rattle.mk_table.proofs.RatiosKept.{no_ratios, same_ratios, ratios_restricted, one_ratio_more}
+use Rattle.mk_engine.specs.Meaning.{Meaning, Factor, RatioOf, opening, with_factor, with_known, factor_there, is_ratio, max_factors, ArePairsOf}
+use Rattle.mk_engine.specs.Apart.{HasCondition}
+use Rattle.mk_joint.specs.inner.Joints.{whole_scope, joint_there, IsFactorOf, IsPlanFor, IsCommon, HasJoint}
 use Rattle.mk_joint.proofs.Cells.{has_all, has_sized, states_counted}
 use Rattle.mk_joint.proofs.Factors.{sized_parents, joint_more, joint_known}
 
@@ -75,8 +81,8 @@ has_room table count m h more l = record {
 
 -- a table of ones has the joint of no factors
 pub begins : (table : TableOf) (plan : ScopeOf) (network : List Variable) (tree : GivenTree) → IsPlanFor plan network → table.scope ≡ plan → table.shift ≡ 0
-    → HasNumbers table (λ c. 1) 0 → HasJoint table 0 (opening network tree)
-begins table plan network tree p scope shift ones = record {
+    → HasNumbers table (λ c. 1) 0 → table.touched ≡ None → HasJoint table 0 (opening network tree)
+begins table plan network tree p scope shift ones touched = record {
   legal = p.legal;
   scope = scope ∙ p.scope;
   few_cells = let e = ap cells_in (scope ∙ p.scope) in omega (arith, e, states_counted network, p.few_states);
@@ -85,14 +91,15 @@ begins table plan network tree p scope shift ones = record {
   counted = refl;
   room = record { few_factors = omega arith; small_shift = omega arith };
   numbers = ones;
+  ratios = no_ratios table (IsCommon (opening network tree)) shift touched;
 }
 
 -- a factor more, at each meaning of the table
 pub factor_more : (old new : TableOf) (count : ℕ) (m : Meaning) (f : Factor) → HasJoint old count m → IsFactorOf m.network f → count < max_factors
     → new.scope ≡ old.scope → new.shift ≤ old.shift + 40
     → HasNumbers new (λ c. joint_there m (values_at old.scope c) * factor_there m.network f (values_at old.scope c)) (length m.factors + 1)
-    → HasJoint new (count + 1) (with_factor f m)
-factor_more old new count m f h fits few scope shift numbers = record {
+    → (HasRatios old (count_by is_ratio m.factors) (IsCommon m) → HasRatios new (count_by is_ratio (with_factor f m).factors) (IsCommon (with_factor f m))) → HasJoint new (count + 1) (with_factor f m)
+factor_more old new count m f h fits few scope shift numbers ratios = record {
   legal = h.legal;
   scope = scope ∙ h.scope;
   few_cells = subst (λ (s : ScopeOf). cells_in s ≤ max_clique_cells) (sym scope) h.few_cells;
@@ -104,14 +111,43 @@ factor_more old new count m f h fits few scope shift numbers = record {
       subst (λ (s : ScopeOf). HasNumbers new (λ c. joint_there (with_factor f m) (values_at s c)) (length (with_factor f m).factors)) (sym scope)
       (subst (λ n. HasNumbers new (λ c. joint_there (with_factor f m) (values_at old.scope c)) n) (sym (length_push m.factors f))
       (subst (λ (g : ℕ → ℕ). HasNumbers new g (length m.factors + 1)) (sym (fun_ext (λ c. joint_more m f (values_at old.scope c)))) numbers));
+  ratios = ratios h.ratios;
 }
+
+-- with its ratios
+module _ (m : Meaning) (f : Factor) where
+  counted_with : count_by is_ratio (with_factor f m).factors ≡ count_by is_ratio m.factors + cond (is_ratio f) 1 0
+  counted_with = sum_by_push (λ (g : Factor). cond (is_ratio g) 1 0) m.factors f
+
+  parted : (P : Factor → Type 0) (fs : List Factor) → AllByRecursion P (fs ++ f ∷ []) → AllByRecursion P fs × P f
+  parted P [] h = (tt, h.0)
+  parted P (g ∷ fs) h = let rest = parted P fs h.1 in ((h.0, rest.0), rest.1)
+
+  all_parted : (pair : Pair) → IsCommon (with_factor f m) pair → AllByRecursion (HasCondition pair) m.factors × HasCondition pair f
+  all_parted pair h = parted (HasCondition pair) m.factors (recursion_from_All (HasCondition pair) (m.factors ++ f ∷ []) h)
+
+  common_before : (pair : Pair) → IsCommon (with_factor f m) pair → IsCommon m pair
+  common_before pair h = All-from_recursion (HasCondition pair) m.factors (all_parted pair h).0
+
+  module _ (old new : TableOf) (scope : new.scope ≡ old.scope) where
+    pub no_ratio_more : is_ratio f ≡ false → new.shift ≡ old.shift → new.touched ≡ old.touched → HasRatios old (count_by is_ratio m.factors) (IsCommon m)
+        → HasRatios new (count_by is_ratio (with_factor f m).factors) (IsCommon (with_factor f m))
+    no_ratio_more none shift touched had =
+        same_ratios old new scope (count_by is_ratio m.factors) (IsCommon m) had shift touched (count_by is_ratio (with_factor f m).factors)
+        (let n = counted_with in let z = ap {B = ℕ} (λ (b : Bool). cond b 1 0) none in omega (arith, n, z)) (IsCommon (with_factor f m)) common_before
+
+pub ratio_more : (m : Meaning) (ratio : TradeRatio) (old new : TableOf) → new.scope ≡ old.scope → new.shift ≡ old.shift + 40 → KeepsPairs old.scope old.touched (Some ratio.condition) new.touched
+    → HasRatios old (count_by is_ratio m.factors) (IsCommon m) → HasRatios new (count_by is_ratio (with_factor (RatioOf ratio) m).factors) (IsCommon (with_factor (RatioOf ratio) m))
+ratio_more m ratio old new scope shift touched had =
+    one_ratio_more old new scope (count_by is_ratio m.factors) (IsCommon m) had shift ratio.condition touched (count_by is_ratio (with_factor (RatioOf ratio) m).factors)
+    (let n = counted_with m (RatioOf ratio) in omega (arith, n)) (IsCommon (with_factor (RatioOf ratio) m)) (common_before m (RatioOf ratio)) (λ pair h. (all_parted m (RatioOf ratio) pair h).1)
 
 -- a known pair more
 pub known_more : (old new : TableOf) (count : ℕ) (m : Meaning) (p : Pair) → HasJoint old count m → IsPairOf m.network p
     → new.scope ≡ old.scope → new.shift ≡ old.shift
     → HasNumbers new (λ c. if values_at old.scope c p.variable == p.value then joint_there m (values_at old.scope c) else 0) (length m.factors)
-    → HasJoint new count (with_known p m)
-known_more old new count m p h fits scope shift numbers = record {
+    → KeepsPairs old.scope old.touched None new.touched → HasJoint new count (with_known p m)
+known_more old new count m p h fits scope shift numbers touched = record {
   legal = h.legal;
   scope = scope ∙ h.scope;
   few_cells = subst (λ (s : ScopeOf). cells_in s ≤ max_clique_cells) (sym scope) h.few_cells;
@@ -122,4 +158,5 @@ known_more old new count m p h fits scope shift numbers = record {
   numbers =
       subst (λ (s : ScopeOf). HasNumbers new (λ c. joint_there (with_known p m) (values_at s c)) (length m.factors)) (sym scope)
       (subst (λ (g : ℕ → ℕ). HasNumbers new g (length m.factors)) (fun_ext (λ c. joint_known m p (values_at old.scope c))) numbers);
+  ratios = ratios_restricted old new scope (count_by is_ratio m.factors) (IsCommon m) h.ratios shift touched;
 }

@@ -1,10 +1,11 @@
 //! The engine.
 
 ghost use Rattle.std.specs.Prelude.{◌≡◌, ℕ, ◌+◌, ◌<◌, ◌≤◌, length, true, IfOk, ⊤};
-ghost use Rattle.mk_net.specs.Bounds.{max_clique_cells};
+ghost use Rattle.mk_net.specs.Bounds.{max_clique_cells, number_limit};
 ghost use Rattle.mk_net.specs.Sets.{is_member};
 ghost use Rattle.mk_net.specs.Network.{IsNetwork};
-ghost use Rattle.mk_engine.specs.Meaning.{Meaning};
+ghost use Rattle.mk_engine.specs.Meaning.{Meaning, whole_sum};
+ghost use Rattle.mk_engine.specs.Apart.{IsApart, without_ratios};
 ghost use Rattle.mk_engine.specs.Beliefs.{CanBelieve, IsBelief};
 ghost use Rattle.mk_joint.specs.inner.Joints.{HasJoint, IsPlanFor, joint_states};
 
@@ -43,6 +44,8 @@ impl<R: Semiring> Engine<R> for JointEngine<R> {
     ghost answers_at = { λ engine at event. ⊤ };
 
     ghost places_at = { λ engine at event. ⊤ };
+
+    ghost grade_of = { λ m. length m.factors + max_clique_cells };
 
     fn plan(alloc: Global, net: &Network, _tree: &Tree) -> Result<Rc<Scope>, NoMemory>
         requires { joint_states net.now ≤ max_clique_cells }
@@ -84,6 +87,8 @@ impl<R: Semiring> Engine<R> for JointEngine<R> {
     fn belief(&mut self, _at: u32, event: &Event) -> R::Value
         requires { CanBelieve ⟦<JointEngine<R> as Engine<R>>⟧.stands_for self.old event.now }
         ensures kept { (m : Meaning) → ⟦<JointEngine<R> as Engine<R>>⟧.stands_for self.old m → ⟦<JointEngine<R> as Engine<R>>⟧.stands_for self.new m }
+        ensures apart { (m : Meaning) → ⟦<JointEngine<R> as Engine<R>>⟧.stands_for self.old m → IsApart m event.now
+            → whole_sum (without_ratios m) < number_limit → R.is_exact result }
         ensures belief { (m : Meaning) → ⟦<JointEngine<R> as Engine<R>>⟧.stands_for self.old m
             → IsBelief R.encloses R.has_grade R.is_exact R.plus_of m event.now result }
         ensures grade { (m : Meaning) → ⟦<JointEngine<R> as Engine<R>>⟧.stands_for self.old m → R.has_grade result (length m.factors + max_clique_cells) }

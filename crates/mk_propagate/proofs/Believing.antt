@@ -1,10 +1,10 @@
 -- The plus, over the cells of an event, of a clique's table times the messages from all its neighbours is the exact belief, within the grade of a reading.
-use Rattle.std.proofs.Common.{◌≡◌, ℕ, ◌+◌, ◌-◌, ◌*◌, ◌<◌, ◌≤◌, Bool, true, false, cond, not, ◌&&◌, ◌||◌, List, length, None, slice_index, refl, sym, ap, subst, ◌∙◌, arith, mul-one, ne_eqb}
+use Rattle.std.proofs.Common.{◌≡◌, ℕ, ◌+◌, ◌-◌, ◌*◌, ◌<◌, ◌≤◌, Bool, true, false, cond, not, ◌&&◌, ◌||◌, ◌⊎◌, inl, inr, ◌^◌, List, [], ◌∷◌, map, length, None, slice_index, refl, sym, ap, subst, ◌∙◌, arith, mul-one, ne_eqb}
 use Rattle.std.proofs.Math.Path.{fun_ext}
-use Rattle.std.proofs.Math.Nat.{mul_assoc, mul_comm}
-use Rattle.std.specs.List.{list_all}
-use Rattle.std.proofs.lemmas.Bool.{and_parts, both_ways}
-use Rattle.std.proofs.lemmas.List.Elements.{All-weaker}
+use Rattle.std.proofs.Math.Nat.{mul_assoc, mul_comm, mul-le-mul_left, pow-le-pow_right}
+use Rattle.std.specs.List.{AllByRecursion, list_all}
+use Rattle.std.proofs.lemmas.Bool.{and_parts, both_ways, cases_Bool}
+use Rattle.std.proofs.lemmas.List.Elements.{All-weaker, All-contains, All-from_recursion, recursion_from_All}
 use Rattle.mk_net.specs.declared.words.Pair.{Pair}
 use Rattle.mk_net.specs.Bounds.{number_limit}
 use Rattle.mk_net.specs.Sets.{is_member, no_variables}
@@ -19,22 +19,27 @@ use Rattle.mk_sums.specs.Trees.{linked_to, times_of}
 use Rattle.mk_sums.proofs.Sets.{times_agree}
 use Rattle.mk_table.specs.Scopes.{ScopeOf, PlacesOf, cells_in, has_variable, HasEvent}
 use Rattle.mk_table.specs.Cells.{values_at, cell_in, cells_where}
-use Rattle.mk_table.specs.Tables.{TableOf, HasRoom}
+use Rattle.mk_table.specs.Tables.{TableOf, HasRoom, is_untouched}
+use Rattle.mk_table.specs.Ratios.{keeps, HasRatios}
+use Rattle.mk_table.proofs.RatiosKept.{all_kept, untouched_by}
 use Rattle.mk_table.proofs.Chosen.{chosen_pass}
 use Rattle.mk_table.proofs.Owned.{plus_scaled}
 use Rattle.mk_tree.proofs.Cells.{cells_positive}
 use Rattle.mk_tree.specs.Given.{GivenTree, clique_at, holds, link_of, holds_event}
-use Rattle.mk_engine.specs.Meaning.{exact_belief}
+use Rattle.mk_engine.specs.Meaning.{Factor, exact_belief, whole_sum}
+use Rattle.mk_engine.specs.Apart.{HasCondition, IsApart, without_ratios}
+use Rattle.mk_engine.proofs.Apart.{ratio_count, apart_at_most}
 use Rattle.mk_propagate.specs.Shapes.{ShapeOf, IsClique, clique_scope, core_scope, clique_cells, scope_within, in_core, neighbours}
-use Rattle.mk_propagate.specs.Placings.{Placing, placed_there, factors_in, meaning_of}
+use Rattle.mk_propagate.specs.Placings.{Placing, PlacedFactor, IsCommon, placed_there, factors_in, ratios_in, meaning_of}
 use Rattle.mk_propagate.specs.Flows.{FlowOf, HasCells, HasSums, HasPlaced, core_there, core_steps, AreRightInto, IsRight, IsReading, exact_message, all_cells, reading_grade, table_at}
 use Rattle.mk_propagate.specs.inner.Kept.{IsKept}
-use Rattle.mk_propagate.specs.inner.Gathered.{is_input, gathered, gathered_steps, HasGathered, HasInto}
+use Rattle.mk_propagate.specs.inner.Gathered.{is_input, gathered, gathered_steps, gathered_ratios, HasGathered, HasInto}
 use Rattle.mk_propagate.specs.inner.Totals.{HaveTotal}
 use Rattle.mk_propagate.proofs.Scopes.{has_within, clique_counted}
 use Rattle.mk_propagate.proofs.Cores.{core_part}
 use Rattle.mk_propagate.proofs.Margins.{apart, parted, total_over, values_of_part}
 use Rattle.mk_propagate.proofs.Inputs.{times_inputs, times_same}
+use Rattle.mk_propagate.proofs.Ratios.{ratios_counted, ratios_read, none_gathered}
 use Rattle.mk_propagate.proofs.Grading.{few_grades, reading_steps}
 use Rattle.mk_propagate.proofs.Readings.{pairs_read, read_there, belief_is_read, belief_at_most}
 use Rattle.mk_propagate.proofs.Messages.{message_within, shared_in_core, core_cells, core_room, few_core_steps, table_room, whole_room}
@@ -60,8 +65,8 @@ module _ (plus : ℕ → ℕ → ℕ) (law : Lawful plus) (flow : FlowOf) (produ
   abbrev tree : GivenTree
   tree = flow.shape.tree
 
-  pub placed : HasCells table (clique_scope flow.shape k) (placed_there p k) (factors_in p k) (factors_in p k)
-  placed = subst (λ (t : TableOf). HasCells t (clique_scope flow.shape k) (placed_there p k) (factors_in p k) (factors_in p k)) is (has.tables k clique)
+  pub placed : HasCells table (clique_scope flow.shape k) (placed_there p k) (factors_in p k) (factors_in p k) (ratios_in p k) (IsCommon p)
+  placed = subst (λ (t : TableOf). HasCells t (clique_scope flow.shape k) (placed_there p k) (factors_in p k) (factors_in p k) (ratios_in p k) (IsCommon p)) is (has.tables k clique)
 
   scope_is : table.scope ≡ scope_within p.network (holds tree k)
   scope_is = placed.scope_is ∙ has.shape_is.clique_scopes k clique
@@ -173,12 +178,67 @@ module _ (plus : ℕ → ℕ → ℕ) (law : Lawful plus) (flow : FlowOf) (produ
     within = few grade is;
   }
 
+  -- ---- an event that is apart
+
+  module _ (h : IsApart (meaning_of tree p) event) where
+    common : IsCommon p h.pair
+    common =
+        All-from_recursion (λ (f : PlacedFactor). HasCondition h.pair f.factor) p.factors
+        (each_of_map (HasCondition h.pair) p.factors (recursion_from_All (HasCondition h.pair) (meaning_of tree p).factors h.in_each))
+      where
+        each_of_map : (P : Factor → Type 0) (fs : List PlacedFactor) → AllByRecursion P (map (λ (f : PlacedFactor). f.factor) fs) → AllByRecursion (λ (f : PlacedFactor). P f.factor) fs
+        each_of_map P [] e = e
+        each_of_map P (f ∷ fs) e = (e.0, each_of_map P fs e.1)
+
+    -- the clique holds its pair's variable
+    held_here : holds tree k h.pair.variable ≡ true
+    held_here =
+        subst (λ x. holds tree k x ≡ true) h.same_variable
+        (All-contains (λ (q : Pair). is_member (clique_at tree k) q.variable ≡ true) event h.other (all_pass (λ (q : Pair). is_member (clique_at tree k) q.variable) event inside) h.in_event)
+
+    kept_untouched : (t : TableOf) → keeps t.touched h.pair ≡ true → is_untouched t event ≡ true
+    kept_untouched t kept = untouched_by t.touched event h.pair h.other kept h.in_event h.same_variable h.another_value
+
+    -- so no ratio of the clique or of a message touched the event
+    table_untouched : is_untouched table event ≡ true
+    table_untouched =
+        kept_untouched table
+        (placed.ratios.kept h.pair common
+        (subst (λ (s : ScopeOf). has_variable s h.pair.variable ≡ true) (sym scope_is)
+        (has_within p.network (holds tree k) h.pair.variable (has.shape_is.tree_is.of_network (k - 1) no_variables (omega (arith, clique.first, clique.last)) h.pair.variable held_here) held_here)))
+
+    core_untouched : (t : TableOf) (count : ℕ) → t.scope ≡ scope_within p.network (in_core tree k) → HasRatios t count (IsCommon p) → in_core tree k h.pair.variable ≡ true → is_untouched t event ≡ true
+    core_untouched t count e ratios inner =
+        kept_untouched t
+        (ratios.kept h.pair common
+        (subst (λ (s : ScopeOf). has_variable s h.pair.variable ≡ true) (sym e)
+        (has_within p.network (in_core tree k) h.pair.variable (has.shape_is.tree_is.of_network (k - 1) no_variables (omega (arith, clique.first, clique.last)) h.pair.variable held_here) inner)))
+
+    into_untouched : is_untouched into event ≡ true
+    into_untouched = at (cases_Bool (in_core tree k h.pair.variable))
+      where
+        at : ((in_core tree k h.pair.variable ≡ true) ⊎ (in_core tree k h.pair.variable ≡ false)) → is_untouched into event ≡ true
+        at (inl inner) = core_untouched into (gathered_ratios tree p k None (neighbours tree k)) core_is g.cells.ratios inner
+        at (inr outer) = kept_untouched into (all_kept into.touched h.pair (g.cells.ratios.none (none_gathered flow.shape p has.shape_is has.placing k clique h.pair common held_here outer)))
+
+    -- and what is left of the total under no shift is small where the sum without the ratios is
+    total_apart : (t : TableOf) → t.shift ≡ 40 * ratios_in p k → (total : ℕ) → total ≡ exact_belief plus (meaning_of tree p) event → total ≤ whole_sum (without_ratios (meaning_of tree p)) * 2 ^ (t.shift + into.shift)
+    total_apart t shift total e =
+        let l = apart_at_most plus law (meaning_of tree p) event h in
+        let c = ratios_counted flow.shape p has.shape_is has.placing in let r = ratios_read flow.shape p has.shape_is has.placing k clique in let s = g.cells.ratios.shifted in
+        let few : 40 * ratio_count (meaning_of tree p).factors ≤ t.shift + into.shift = omega (arith, c, r, s, shift) in
+        let m = mul-le-mul_left (whole_sum (without_ratios (meaning_of tree p))) (pow-le-pow_right {n = 2} (omega arith) few) in
+        omega (arith, l, m, e)
+
   pub reading_of : {V : Type 0} (encloses : V → ℕ → Type 0) (has_grade : V → ℕ → Type 0) (is_exact : V → Type 0) (r : V) (grade : ℕ) → grade ≡ counted_grade
-      → encloses r totalled → has_grade r grade → (totalled < number_limit → is_exact r) → IsReading encloses has_grade is_exact plus tree p k event r
-  reading_of encloses has_grade is_exact r grade is value graded exact = record {
+      → encloses r totalled → has_grade r grade → (totalled < number_limit → is_exact r)
+      → (is_untouched table event ≡ true → is_untouched into event ≡ true → (own : ℕ) → totalled ≤ own * 2 ^ (table.shift + into.shift) → own < number_limit → is_exact r)
+      → IsReading encloses has_grade is_exact plus tree p k event r
+  reading_of encloses has_grade is_exact r grade is value graded exact apart = record {
     enclosed = subst (encloses r) total_is value;
     grade = subst (has_grade r) (is ∙ grade_is) graded;
     exact = λ small. exact (let t = total_is in let l = belief_at_most plus law (meaning_of tree p) event in omega (arith, t, l, small));
+    apart = λ h. apart (table_untouched h) (into_untouched h) (whole_sum (without_ratios (meaning_of tree p))) (total_apart h table placed.ratios.shifted totalled total_is);
   }
 
   -- ---- read in the core, where it has the event and the sums
@@ -296,9 +356,20 @@ module _ (plus : ℕ → ℕ → ℕ) (law : Lawful plus) (flow : FlowOf) (produ
     }
 
     pub core_reading_of : {V : Type 0} (encloses : V → ℕ → Type 0) (has_grade : V → ℕ → Type 0) (is_exact : V → Type 0) (r : V) (grade : ℕ) → grade ≡ counted_grade
-        → encloses r core_totalled → has_grade r grade → (core_totalled < number_limit → is_exact r) → IsReading encloses has_grade is_exact plus tree p k event r
-    core_reading_of encloses has_grade is_exact r grade is value graded exact = record {
+        → encloses r core_totalled → has_grade r grade → (core_totalled < number_limit → is_exact r)
+        → (is_untouched core event ≡ true → is_untouched into event ≡ true → (own : ℕ) → core_totalled ≤ own * 2 ^ (core.shift + into.shift) → own < number_limit → is_exact r)
+        → IsReading encloses has_grade is_exact plus tree p k event r
+    core_reading_of encloses has_grade is_exact r grade is value graded exact apart = record {
       enclosed = subst (encloses r) core_total_is value;
       grade = subst (has_grade r) (is ∙ grade_is) graded;
       exact = λ small. exact (let t = core_total_is in let l = belief_at_most plus law (meaning_of tree p) event in omega (arith, t, l, small));
+      apart = λ h.
+          apart (core_untouched h core (ratios_in p k) core_scope_is core_placed.ratios (inner h)) (into_untouched h) (whole_sum (without_ratios (meaning_of tree p)))
+          (total_apart h core core_placed.ratios.shifted core_totalled core_total_is);
     }
+      where
+        -- the core has the pair's variable, as it has the event
+        inner : (h : IsApart (meaning_of tree p) event) → in_core tree k h.pair.variable ≡ true
+        inner h =
+            subst (λ x. in_core tree k x ≡ true) h.same_variable
+            (All-contains (λ (q : Pair). in_core tree k q.variable ≡ true) event h.other (all_pass (λ (q : Pair). in_core tree k q.variable) event within_core) h.in_event)

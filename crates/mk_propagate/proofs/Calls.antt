@@ -1,5 +1,6 @@
 -- A call that changes the table of one clique: `old` is the flow as its parts give it, and `now` as contracts see it.
 use Rattle.std.proofs.Common.{◌≡◌, ℕ, ◌+◌, ◌-◌, ◌*◌, ◌<◌, ◌≤◌, Bool, true, false, ◌==◌, if◌then◌else◌, List, length, All, get_or, slice_index_or, slice_set, refl, sym, ap, subst, ◌∙◌, arith}
+use Rattle.std.specs.Prelude.{Some, None}
 use Rattle.std.proofs.lemmas.Bool.{both_ways}
 use Rattle.std.proofs.lemmas.List.{get_or-set_same, get_or-set_other, length-set}
 use Rattle.mk_net.specs.declared.words.Pair.{Pair}
@@ -10,15 +11,18 @@ use Rattle.mk_exact.specs.Lawful.{Lawful}
 use Rattle.mk_table.specs.Scopes.{cells_in, has_variable, HasEvent, HasOneEach, HasSized}
 use Rattle.mk_table.specs.Cells.{values_at}
 use Rattle.mk_table.specs.Tables.{TableOf, HasNumbers, HasRoom}
+use Rattle.mk_table.specs.Ratios.{KeepsPairs, HasRatios}
+use Rattle.mk_table.proofs.RatiosKept.{same_ratios, one_ratio_more}
 use Rattle.mk_tree.specs.Given.{holds}
-use Rattle.mk_engine.specs.Meaning.{Factor, RowsOf, RatioOf, max_factors, factor_there}
+use Rattle.mk_engine.specs.Meaning.{Factor, RowsOf, RatioOf, is_ratio, max_factors, factor_there}
 use Rattle.mk_propagate.specs.declared.gathered.Gathered.{Gathered}
 use Rattle.mk_propagate.specs.declared.gathered.Gathered.TheVariants.{Nothing}
 use Rattle.mk_propagate.specs.Shapes.{ShapeOf, IsShapeFor, IsClique, clique_scope, scope_within, no_scope}
-use Rattle.mk_propagate.specs.Placings.{Placing, with_factor_in, with_pair_in, placed_there, factors_in, IsPlacedFactor, IsPlacedPair}
+use Rattle.mk_propagate.specs.Placings.{Placing, with_factor_in, with_pair_in, placed_there, factors_in, ratios_in, IsPlacedFactor, IsPlacedPair, IsCommon}
 use Rattle.mk_propagate.specs.Flows.{FlowOf, table_at, no_table, HasCells, HasSums, HasPlaced, Places}
 use Rattle.mk_propagate.specs.inner.Gathered.{IsFollowed, IsPlacedIn}
 use Rattle.mk_propagate.specs.inner.Kept.{IsKept, IsGathered, AreMarked, AreOverCores, IsFlow}
+use Rattle.mk_propagate.proofs.Ratios.{no_ratio_here, ratio_here, common_before, common_to_it}
 use Rattle.mk_propagate.proofs.Placed.{AreOthersKept, with_table, table_read, factor_placed, pair_placed, kept_with}
 use Rattle.mk_propagate.proofs.Messages.{core_room_one, table_room}
 use Rattle.mk_propagate.proofs.Sending.{core_is, core_put, cores_still, mark_is, mark_put, mark_within, others_set, read_back}
@@ -48,7 +52,7 @@ module _ (plus : ℕ → ℕ → ℕ) (old now : FlowOf) (view : old ≡ now) (p
   pub room : HasRoom read 1
   room =
       placed.has_room read _ p clique (subst (λ (u : TableOf). HasCells u (clique_scope old.shape clique) (placed_there p clique) (factors_in p clique)
-      (factors_in p clique)) reads (placed_old.tables clique clique_old)) h.placing.few
+      (factors_in p clique) (ratios_in p clique) (IsCommon p)) reads (placed_old.tables clique clique_old)) h.placing.few
 
   pub rows_family : (network : List Variable) → p.network ≡ network → (x : ℕ) → IsPlacedFactor network now.shape.tree (record { clique = clique; factor = RowsOf x }) → HasSized network read.scope x
   rows_family network e x f = required.has_family network now.shape.tree clique read.scope (scope_of_read network (subst (IsShapeFor now.shape) e h.shape_is)) x f.fits.0 f.fits.1
@@ -89,13 +93,14 @@ module _ (plus : ℕ → ℕ → ℕ) (old now : FlowOf) (view : old ≡ now) (p
 
       pub places_factor : (f : Factor) → IsPlacedFactor p.network now.shape.tree (record { clique = clique; factor = f }) → now.factors < max_factors → t.shift ≤ read.shift + 40
           → ((g : ℕ → ℕ) (n : ℕ) → HasNumbers read g n → HasNumbers t (λ c. g c * factor_there p.network f (values_at read.scope c)) (n + 1))
+          → (HasRatios read (ratios_in p clique) (IsCommon p) → HasRatios t (ratios_in (with_factor_in clique f p) clique) (IsCommon (with_factor_in clique f p)))
           → (slice_index_or summed (clique - 1) false ≡ true → HasSums plus old.shape (with_factor_in clique f p) clique (slice_index_or cores (clique - 1) no_table))
           → Places plus now (with_table old clique t cores summed (old.factors + 1)) clique p (with_factor_in clique f p)
-      places_factor f fits few shift numbers sums =
+      places_factor f fits few shift numbers ratios sums =
           subst (λ (o : FlowOf). Places plus o (with_table old clique t cores summed (old.factors + 1)) clique p (with_factor_in clique f p)) view
           (factor_placed plus old p clique read t cores summed placed_old clique_old within reads scope others f
           (subst (λ (o : FlowOf). IsPlacedFactor p.network o.shape.tree (record { clique = clique; factor = f })) (sym view) fits)
-          (let e = ap (λ (o : FlowOf). o.factors) view in omega (arith, few, e)) shift numbers sums)
+          (let e = ap (λ (o : FlowOf). o.factors) view in omega (arith, few, e)) shift numbers ratios sums)
 
     -- what is not summed
     not_summed : slice_index_or (slice_set old.summed (clique - 1) false) (clique - 1) false ≡ true → ⊥
@@ -111,28 +116,42 @@ module _ (plus : ℕ → ℕ → ℕ) (old now : FlowOf) (view : old ≡ now) (p
 
     pub places_unmarked : (f : Factor) → IsPlacedFactor p.network now.shape.tree (record { clique = clique; factor = f }) → now.factors < max_factors → t.shift ≤ read.shift + 40
         → ((g : ℕ → ℕ) (n : ℕ) → HasNumbers read g n → HasNumbers t (λ c. g c * factor_there p.network f (values_at read.scope c)) (n + 1))
+        → (HasRatios read (ratios_in p clique) (IsCommon p) → HasRatios t (ratios_in (with_factor_in clique f p) clique) (IsCommon (with_factor_in clique f p)))
         → Places plus now (with_table old clique t old.cores (slice_set old.summed (clique - 1) false) (old.factors + 1)) clique p (with_factor_in clique f p)
-    places_unmarked f fits few shift numbers = places_factor old.cores (slice_set old.summed (clique - 1) false) unmarked f fits few shift numbers (λ m. absurd (not_summed m))
+    places_unmarked f fits few shift numbers ratios = places_factor old.cores (slice_set old.summed (clique - 1) false) unmarked f fits few shift numbers ratios (λ m. absurd (not_summed m))
+
+    -- a factor that is no ratio leaves them as they were
+    pub no_ratio_more : (f : Factor) → is_ratio f ≡ false → t.shift ≡ read.shift → t.touched ≡ read.touched
+        → HasRatios read (ratios_in p clique) (IsCommon p) → HasRatios t (ratios_in (with_factor_in clique f p) clique) (IsCommon (with_factor_in clique f p))
+    no_ratio_more f none shift touched had =
+        same_ratios read t scope (ratios_in p clique) (IsCommon p) had shift touched (ratios_in (with_factor_in clique f p) clique) (no_ratio_here p clique f none) (IsCommon (with_factor_in clique f p)) (common_before p clique f)
+
+    pub ratio_more : (ratio : TradeRatio) → t.shift ≡ read.shift + 40 → KeepsPairs read.scope read.touched (Some ratio.condition) t.touched
+        → HasRatios read (ratios_in p clique) (IsCommon p) → HasRatios t (ratios_in (with_factor_in clique (RatioOf ratio) p) clique) (IsCommon (with_factor_in clique (RatioOf ratio) p))
+    ratio_more ratio shift touched had =
+        one_ratio_more read t scope (ratios_in p clique) (IsCommon p) had shift ratio.condition touched (ratios_in (with_factor_in clique (RatioOf ratio) p) clique) (ratio_here p clique (RatioOf ratio) refl)
+        (IsCommon (with_factor_in clique (RatioOf ratio) p)) (common_before p clique (RatioOf ratio)) (common_to_it p clique (RatioOf ratio))
 
     pub places_pair : (q : Pair) → IsPlacedPair p.network now.shape.tree (record { clique = clique; pair = q }) → t.shift ≡ read.shift
         → ((g : ℕ → ℕ) (n : ℕ) → HasNumbers read g n → HasNumbers t (λ c. if values_at read.scope c q.variable == q.value then g c else 0) n)
-        → Places plus now (with_table old clique t old.cores (slice_set old.summed (clique - 1) false) old.factors) clique p (with_pair_in clique q p)
-    places_pair q fits shift numbers =
+        → KeepsPairs read.scope read.touched None t.touched → Places plus now (with_table old clique t old.cores (slice_set old.summed (clique - 1) false) old.factors) clique p (with_pair_in clique q p)
+    places_pair q fits shift numbers touched =
         subst (λ (o : FlowOf). Places plus o (with_table old clique t old.cores (slice_set old.summed (clique - 1) false) old.factors) clique p (with_pair_in clique q p)) view
         (pair_placed plus old p clique read t old.cores (slice_set old.summed (clique - 1) false) placed_old clique_old within reads scope unmarked q
-        (subst (λ (o : FlowOf). IsPlacedPair p.network o.shape.tree (record { clique = clique; pair = q })) (sym view) fits) shift numbers not_summed)
+        (subst (λ (o : FlowOf). IsPlacedPair p.network o.shape.tree (record { clique = clique; pair = q })) (sym view) fits) shift numbers touched not_summed)
 
     -- with a factor more the table has what is placed there, and room to be summed
     module _ (law : Lawful plus) (f : Factor) (fits : IsPlacedFactor p.network now.shape.tree (record { clique = clique; factor = f })) (few : now.factors < max_factors) (shift : t.shift ≤ read.shift + 40)
-        (numbers : (g : ℕ → ℕ) (n : ℕ) → HasNumbers read g n → HasNumbers t (λ c. g c * factor_there p.network f (values_at read.scope c)) (n + 1)) where
+        (numbers : (g : ℕ → ℕ) (n : ℕ) → HasNumbers read g n → HasNumbers t (λ c. g c * factor_there p.network f (values_at read.scope c)) (n + 1))
+        (ratios : HasRatios read (ratios_in p clique) (IsCommon p) → HasRatios t (ratios_in (with_factor_in clique f p) clique) (IsCommon (with_factor_in clique f p))) where
       pub placed_with : IsPlacedIn old.shape (with_factor_in clique f p) clique t
       placed_with =
-          let has = (places_unmarked f fits few shift numbers).placed in
+          let has = (places_unmarked f fits few shift numbers ratios).placed in
           record {
             shape_is = has.shape_is;
             placing = has.placing;
             cells = subst (λ (u : TableOf). HasCells u (clique_scope old.shape clique) (placed_there (with_factor_in clique f p) clique) (factors_in (with_factor_in clique f p) clique)
-                (factors_in (with_factor_in clique f p) clique)) table_there (has.tables clique clique_old);
+                (factors_in (with_factor_in clique f p) clique) (ratios_in (with_factor_in clique f p) clique) (IsCommon (with_factor_in clique f p))) table_there (has.tables clique clique_old);
           }
 
       pub room_with : HasRoom t (2 * cells_in t.scope)
@@ -166,11 +185,12 @@ module _ (plus : ℕ → ℕ → ℕ) (old now : FlowOf) (view : old ≡ now) (p
       core_had_room law marked = core_room_one old.shape p placed_old.shape_is placed_old.placing plus law clique clique_old was (had_sums marked)
 
       module _ (law : Lawful plus) (ratio : TradeRatio) (fits : IsPlacedFactor p.network now.shape.tree (record { clique = clique; factor = RatioOf ratio })) (few : now.factors < max_factors) (shift : t.shift ≤ read.shift + 40)
-          (numbers : (g : ℕ → ℕ) (n : ℕ) → HasNumbers read g n → HasNumbers t (λ c. g c * factor_there p.network (RatioOf ratio) (values_at read.scope c)) (n + 1)) where
+          (numbers : (g : ℕ → ℕ) (n : ℕ) → HasNumbers read g n → HasNumbers t (λ c. g c * factor_there p.network (RatioOf ratio) (values_at read.scope c)) (n + 1))
+          (ratios : HasRatios read (ratios_in p clique) (IsCommon p) → HasRatios t (ratios_in (with_factor_in clique (RatioOf ratio) p) clique) (IsCommon (with_factor_in clique (RatioOf ratio) p))) where
         pub places_followed : (shape : ShapeOf) → shape ≡ old.shape → (mark ≡ true → mark_was ≡ true) → (mark ≡ true → IsFollowed plus shape clique ratio table was core)
             → Places plus now (with_table old clique t (slice_set old.cores (clique - 1) core) (slice_set old.summed (clique - 1) mark) (old.factors + 1)) clique p (with_factor_in clique (RatioOf ratio) p)
         places_followed shape s were followed =
-            places_factor (slice_set old.cores (clique - 1) core) (slice_set old.summed (clique - 1) mark) others (RatioOf ratio) fits few shift numbers (λ here. sums (sym mark_there ∙ here))
+            places_factor (slice_set old.cores (clique - 1) core) (slice_set old.summed (clique - 1) mark) others (RatioOf ratio) fits few shift numbers ratios (λ here. sums (sym mark_there ∙ here))
           where
             fits_old : IsPlacedFactor p.network old.shape.tree (record { clique = clique; factor = RatioOf ratio })
             fits_old = subst (λ (o : FlowOf). IsPlacedFactor p.network o.shape.tree (record { clique = clique; factor = RatioOf ratio })) (sym view) fits
@@ -183,7 +203,7 @@ module _ (plus : ℕ → ℕ → ℕ) (old now : FlowOf) (view : old ≡ now) (p
             sums : mark ≡ true → HasSums plus old.shape (with_factor_in clique (RatioOf ratio) p) clique (slice_index_or (slice_set old.cores (clique - 1) core) (clique - 1) no_table)
             sums marked =
                 subst (λ (u : TableOf). HasSums plus old.shape (with_factor_in clique (RatioOf ratio) p) clique u) (sym core_there)
-                (follows marked p fits_old (placed_with law (RatioOf ratio) fits few shift numbers) (had_sums (were marked)))
+                (follows marked p fits_old (placed_with law (RatioOf ratio) fits few shift numbers ratios) (had_sums (were marked)))
 
 -- what fits one placing of a flow fits each
 module _ (plus : ℕ → ℕ → ℕ) (now : FlowOf) (p q : Placing) (h : HasPlaced plus now p) (other : HasPlaced plus now q) where

@@ -1,5 +1,6 @@
 -- The sums over a core once a ratio multiplied the clique's table: the ratio goes out of each, or some are made anew.
 use Rattle.std.proofs.Common.{◌≡◌, ℕ, ◌+◌, ◌-◌, ◌*◌, ◌^◌, ◌<◌, Bool, true, false, cond, not, ◌&&◌, List, [], ◌∷◌, length, slice_index, All, refl, sym, ap, subst, ◌∙◌, arith, mul_comm}
+use Rattle.std.specs.Prelude.{Some}
 use Rattle.std.specs.List.{list_all}
 use Rattle.std.proofs.Math.Path.{fun_ext}
 use Rattle.std.proofs.lemmas.Bool.{both_ways, and_parts}
@@ -20,12 +21,14 @@ use Rattle.mk_sums.proofs.Sums.{over-times, Blind_within}
 use Rattle.mk_table.specs.Scopes.{ScopeOf, cells_in, has_variable, size_in, HasEvent, HasOneEach}
 use Rattle.mk_table.specs.Cells.{values_at, cells_onto, cells_beside}
 use Rattle.mk_table.specs.Tables.{TableOf, HasNumbers}
+use Rattle.mk_table.specs.Ratios.{KeepsPairs}
 use Rattle.mk_table.specs.Margins.{IsMarginBut}
 use Rattle.mk_table.proofs.Owned.{own_shifted, plus_scaled}
+use Rattle.mk_table.proofs.RatiosKept.{one_ratio_more}
 use Rattle.mk_tree.specs.Given.{holds}
 use Rattle.mk_engine.specs.Meaning.{RatioOf}
 use Rattle.mk_propagate.specs.Shapes.{ShapeOf, IsShapeFor, IsClique, core_scope, scope_within, in_core}
-use Rattle.mk_propagate.specs.Placings.{Placing, IsPlacedFactor, placed_there, factors_in, with_factor_in}
+use Rattle.mk_propagate.specs.Placings.{Placing, IsPlacedFactor, IsCommon, placed_there, factors_in, ratios_in, with_factor_in}
 use Rattle.mk_propagate.specs.Flows.{HasSums, core_there, core_steps}
 use Rattle.mk_propagate.specs.inner.Gathered.{IsPlacedIn, IsFollowed}
 use Rattle.mk_propagate.proofs.Scopes.{has_within, size_within}
@@ -33,7 +36,8 @@ use Rattle.mk_propagate.proofs.Cores.{core_part}
 use Rattle.mk_propagate.proofs.Required.{all_pass}
 use Rattle.mk_propagate.proofs.Readings.{ratio_reads}
 use Rattle.mk_propagate.proofs.Placed.{factor_here, counted_here}
-use Rattle.mk_propagate.proofs.Messages.{numbers_again, margin_onto_core, beside_core, sums_onto}
+use Rattle.mk_propagate.proofs.Ratios.{ratio_here, common_before, common_to_it}
+use Rattle.mk_propagate.proofs.Messages.{numbers_again, margin_onto_core, beside_core, in_clique, sums_onto}
 
 -- ---- a core that has each variable of a ratio
 
@@ -82,8 +86,8 @@ module _ (shape : ShapeOf) (k : ℕ) (clique : IsClique shape.tree k) (ratio : T
 
     pub followed_times : (table before after : TableOf) → after.scope ≡ before.scope → after.shift ≡ before.shift + 40
         → ((f : ℕ → ℕ) (n : ℕ) → HasNumbers before f n → HasNumbers after (λ c. f c * ratio_there ratio (values_at before.scope c)) (n + 1))
-        → IsFollowed plus shape k ratio table before after
-    followed_times table before after scope shift numbers = λ p fits placed had.
+        → KeepsPairs before.scope before.touched (Some ratio.condition) after.touched → IsFollowed plus shape k ratio table before after
+    followed_times table before after scope shift numbers touched = λ p fits placed had.
         let more = counted_here p k (RatioOf ratio) in
         record {
           scope_is = scope ∙ had.scope_is;
@@ -92,6 +96,8 @@ module _ (shape : ShapeOf) (k : ℕ) (clique : IsClique shape.tree k) (ratio : T
               (λ c l. ratio_out p (values_at before.scope c) ∙ ap (λ (s : ScopeOf). core_there plus shape.tree (with_factor_in k (RatioOf ratio) p) k (values_at s c)) (sym scope))
               (numbers (λ c. core_there plus shape.tree p k (values_at before.scope c)) (core_steps shape.tree p k) had.numbers);
           small_shift = omega (arith, more, shift, had.small_shift);
+          ratios = one_ratio_more before after scope (ratios_in p k) (IsCommon p) had.ratios shift ratio.condition touched (ratios_in (with_factor_in k (RatioOf ratio) p) k) (ratio_here p k (RatioOf ratio) refl)
+              (IsCommon (with_factor_in k (RatioOf ratio) p)) (common_before p k (RatioOf ratio)) (common_to_it p k (RatioOf ratio));
         }
 
 -- ---- a core whose sums are made anew where the condition of a ratio allows
@@ -144,7 +150,17 @@ module _ (plus : ℕ → ℕ → ℕ) (law : Lawful plus) (shape : ShapeOf) (k :
   pub followed_again : (after : TableOf) → after.scope ≡ before.scope → after.shift ≡ table.shift → length after.digits ≡ cells_in after.scope
       → ((f : ℕ → ℕ) (n : ℕ) → HasNumbers table f n → IsMarginBut plus ratio.condition table before f n
       → HasNumbers after (λ d. plus_over plus 0 f (cells_onto before.scope table.scope d)) (n + (2 * cells_beside before.scope table.scope - 1)))
-      → IsFollowed plus shape k ratio table before after
-  followed_again after scope shift long numbers = λ p fits placed had.
+      → KeepsPairs before.scope table.touched before.touched after.touched → IsFollowed plus shape k ratio table before after
+  followed_again after scope shift long numbers touched = λ p fits placed had.
       sums_onto shape (with_factor_in k (RatioOf ratio) p) placed.shape_is placed.placing plus law k clique table before after placed.cells had.scope_is scope shift long
       (numbers (λ c. placed_there (with_factor_in k (RatioOf ratio) p) k (values_at table.scope c)) (factors_in (with_factor_in k (RatioOf ratio) p) k) placed.cells.numbers (right_outside p placed had))
+      (record {
+        shifted = shift ∙ placed.cells.ratios.shifted;
+        none = λ z. absurd (let n = ratio_here p k (RatioOf ratio) refl in omega (arith, n, z));
+        kept = λ q common v.
+            let w : has_variable before.scope q.variable ≡ true = subst (λ (s : ScopeOf). has_variable s q.variable ≡ true) scope v in
+            touched.pairs q w
+            (placed.cells.ratios.kept q common
+            (in_clique shape (with_factor_in k (RatioOf ratio) p) placed.shape_is placed.placing plus law k clique before.scope table.scope had.scope_is placed.cells.scope_is q.variable w))
+            (had.ratios.kept q (common_before p k (RatioOf ratio) q common) w);
+      })

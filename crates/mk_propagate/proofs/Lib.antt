@@ -12,6 +12,7 @@ pub mod Passed
 pub mod Passes
 pub mod Margins
 pub mod Inputs
+pub mod Ratios
 pub mod Grading
 pub mod Readings
 pub mod Messages

@@ -2,13 +2,14 @@
 use Rattle.std.proofs.Common.{◌≡◌, ℕ, ◌+◌, ◌-◌, ◌*◌, ◌<◌, ◌≤◌, ◌==◌, Bool, true, false, cond, not, ◌&&◌, ◌||◌, ◌⊎◌, inl, inr, List, [], ◌∷◌, take, get_or, slice_index, length, max, Option, Some, None, eqb, sum_by, refl, sym, ap, subst, ◌∙◌, arith, mul-one, mul_comm}
 use Rattle.std.proofs.Math.Path.{fun_ext}
 use Rattle.std.proofs.Math.Nat.{one-mul}
-use Rattle.std.proofs.lemmas.Bool.{cases_Bool, both_ways, and_parts}
+use Rattle.std.proofs.lemmas.Bool.{cases_Bool, both_ways, and_parts, and_from}
 use Rattle.std.specs.List.{list_any}
 use Rattle.std.proofs.Math.Seq.{take-length}
 use Rattle.std.proofs.lemmas.List.{take_more}
 use Rattle.std.proofs.lemmas.List.Elements.{All-weaker}
 use Rattle.std.proofs.lemmas.List.FromFn.{length-range_with_len}
 use Rattle.std.proofs.lemmas.List.Sums.{sum_by_more, sum_by-take-le, sum_by_more_le, length-filter, count_by-le-length}
+use Rattle.mk_net.specs.declared.words.Pair.{Pair}
 use Rattle.mk_net.specs.Network.{Variable, sizes}
 use Rattle.mk_exact.specs.States.{plus_over, product_by, numbers_below}
 use Rattle.mk_exact.specs.Lawful.{Lawful}
@@ -24,24 +25,27 @@ use Rattle.mk_sums.proofs.Hops.{AreLinked, are_linked, linked_back, linked_from,
 use Rattle.mk_sums.proofs.Sums.{over-times, over-union, over_agree, Blind_within}
 use Rattle.mk_sums.proofs.Unread.{message_reads}
 use Rattle.mk_sums.proofs.Tables.{cell_of_place}
-use Rattle.mk_table.specs.Scopes.{ScopeOf, size_in, cells_in}
+use Rattle.mk_table.specs.Scopes.{ScopeOf, size_in, cells_in, has_variable}
 use Rattle.mk_table.specs.Cells.{values_at, cell_in, cells_onto, cells_beside}
 use Rattle.mk_table.specs.Tables.{TableOf, HasNumbers, HasRoom}
+use Rattle.mk_table.specs.Ratios.{keeps, KeepsPairs, HasRatios}
 use Rattle.mk_tree.proofs.Cells.{cells_positive}
 use Rattle.mk_tree.specs.Given.{GivenTree, clique_at, holds, link_of}
 use Rattle.mk_propagate.specs.Shapes.{ShapeOf, IsShapeFor, IsClique, clique_scope, core_scope, separator_scope, separator_between, scope_within, in_core, neighbours, clique_cells}
-use Rattle.mk_propagate.specs.Placings.{Placing, IsPlacing, placed_there, factors_in}
-use Rattle.mk_propagate.specs.Flows.{HasCells, core_there, core_steps, private_cells, exact_message, exact_message_grade}
-use Rattle.mk_propagate.specs.inner.Gathered.{is_taken, is_input, IsRightIn, HasOutgoing, gathered, gathered_steps, gathered_factors, HasGathered, IsMargin, IsMarginOfProduct, IsMessageAlone}
-use Rattle.mk_propagate.proofs.Scopes.{has_within, variable_of_network, part_has_fewer, clique_counted, clique_small}
+use Rattle.mk_propagate.specs.Placings.{Placing, IsPlacing, IsCommon, placed_there, factors_in, ratios_in}
+use Rattle.mk_propagate.specs.Flows.{HasCells, core_there, core_steps, private_cells, exact_message, exact_message_grade, message_ratios}
+use Rattle.mk_propagate.specs.inner.Gathered.{is_taken, is_input, IsRightIn, HasOutgoing, gathered, gathered_steps, gathered_factors, gathered_ratios, HasGathered, IsMargin, IsMarginOfProduct, IsMessageAlone}
+use Rattle.mk_propagate.proofs.Scopes.{has_within, within_network, within_set, variable_of_network, part_has_fewer, clique_counted, clique_small}
 use Rattle.mk_propagate.proofs.Cores.{core_has, core_part, neighbour_linked}
 use Rattle.mk_table.proofs.Chosen.{chosen_pass}
 use Rattle.mk_table.proofs.Members.{keep_rising, rising_apart}
 use Rattle.mk_table.proofs.Owned.{own_more, plus_scaled}
+use Rattle.mk_table.proofs.RatiosKept.{all_kept, no_ratios}
 use Rattle.mk_propagate.proofs.Margins.{margin_over, values_of_part}
 use Rattle.mk_propagate.proofs.Inputs.{times_inputs, sum_inputs, times_of_blind, times_parted, sum_parted, none_times, others_counted}
 use Rattle.mk_propagate.proofs.Grading.{few_steps, few_factors, message_steps, others_steps, message_factors, fewer_steps}
 use Rattle.mk_propagate.proofs.Placed.{few_in}
+use Rattle.mk_propagate.proofs.Ratios.{none_counted, none_summed, none_behind, ratios_sent}
 use Rattle.mk_propagate.proofs.Readings.{held_listed, is_tree}
 
 -- a table has other numbers that are the same at its cells, in more steps too
@@ -157,17 +161,42 @@ module _ (shape : ShapeOf) (p : Placing) (is : IsShapeFor shape p.network) (plac
             let n : x < length p.network = variable_of_network p.network x (held_listed shape p is placing i x sender.first sender.last both.0) in
             values_of_part plus law p.network (shared i k) whole inside c l x (has_within p.network (shared i k) x n q))
 
+    -- a message keeps each pair that is common to the ratios, whose variable its receiver holds
+    pub message_keeps : (i k : ℕ) → linked (link_of tree) count i k ≡ true → (message : TableOf) → IsRightIn plus shape p i k message → (pair : Pair) → IsCommon p pair → holds tree k pair.variable ≡ true → keeps message.touched pair ≡ true
+    message_keeps i k l message right pair common here = at (cases_Bool (holds tree i pair.variable))
+      where
+        at : ((holds tree i pair.variable ≡ true) ⊎ (holds tree i pair.variable ≡ false)) → keeps message.touched pair ≡ true
+        at (inl there) =
+            let receiver = (are_ends i k l).1 in
+            let n : pair.variable < length p.network = variable_of_network p.network pair.variable (held_listed shape p is placing k pair.variable receiver.first receiver.last here) in
+            right.ratios.kept pair common
+            (subst (λ (s : ScopeOf). has_variable s pair.variable ≡ true) (sym (right.scope_is ∙ separator_is i k l))
+            (has_within p.network (shared i k) pair.variable n (and_from (holds tree i pair.variable) (holds tree k pair.variable) there here)))
+        at (inr none) = all_kept message.touched pair (right.ratios.none (none_behind shape p is placing i k l pair common here none))
+
+    -- a core has variables of its clique
+    core_holds : (k x : ℕ) → IsClique tree k → (scope : ScopeOf) → scope ≡ core_scope shape k → has_variable scope x ≡ true → holds tree k x ≡ true
+    core_holds k x clique scope e v = core_part tree k x (within_set p.network (in_core tree k) x (subst (λ (s : ScopeOf). has_variable s x ≡ true) (e ∙ is.core_scopes k clique) v))
+
     -- a product over a core times one message more
-    pub times_right : (i k : ℕ) → linked (link_of tree) count i k ≡ true → (f h : (ℕ → ℕ) → ℕ) (n n_after m m_after : ℕ) (old new message : TableOf) → HasCells old (core_scope shape k) f n m → IsRightIn plus shape p i k message
+    pub times_right : (i k : ℕ) → linked (link_of tree) count i k ≡ true → (f h : (ℕ → ℕ) → ℕ) (n n_after m m_after r r_after : ℕ) (old new message : TableOf) → HasCells old (core_scope shape k) f n m r (IsCommon p) → IsRightIn plus shape p i k message
         → new.scope ≡ old.scope → new.shift ≡ old.shift + message.shift → length new.digits ≡ cells_in new.scope
         → ((f g : ℕ → ℕ) (n q : ℕ) → HasNumbers old f n → HasNumbers message g q → HasNumbers new (λ c. f c * g (cell_in message.scope old.scope c)) (n + q + 1))
-        → ((a : ℕ → ℕ) → f a * exact_message plus tree p i k a ≡ h a) → n + 3 * exact_message_grade tree p i k + 1 ≤ n_after → m + exact_message_grade tree p i k ≤ m_after
-        → HasCells new (core_scope shape k) h n_after m_after
-    times_right i k l f h n n_after m m_after old new message o right scope shift full numbers same steps factors = record {
+        → KeepsPairs old.scope old.touched message.touched new.touched
+        → ((a : ℕ → ℕ) → f a * exact_message plus tree p i k a ≡ h a) → n + 3 * exact_message_grade tree p i k + 1 ≤ n_after → m + exact_message_grade tree p i k ≤ m_after → r + message_ratios tree p i k ≡ r_after
+        → HasCells new (core_scope shape k) h n_after m_after r_after (IsCommon p)
+    times_right i k l f h n n_after m m_after r r_after old new message o right scope shift full numbers touched same steps factors ratios = record {
       scope_is = scope ∙ o.scope_is;
       numbers = numbers_again new (λ c. f (values_at old.scope c) * exact_message plus tree p i k (values_at message.scope (cell_in message.scope old.scope c))) (λ c. h (values_at new.scope c)) (n + 3 * exact_message_grade tree p i k + 1) n_after steps there
           (numbers (λ c. f (values_at old.scope c)) (λ c. exact_message plus tree p i k (values_at message.scope c)) n (3 * exact_message_grade tree p i k) o.numbers right.numbers);
       small_shift = let b = o.small_shift in let c = right.small_shift in omega (arith, b, c, shift, factors);
+      ratios = record {
+        shifted = let b = o.ratios.shifted in let c = right.ratios.shifted in omega (arith, b, c, shift, ratios);
+        none = λ z. touched.none (o.ratios.none (omega (arith, ratios, z))) (right.ratios.none (omega (arith, ratios, z)));
+        kept = λ q common v.
+            let w : has_variable old.scope q.variable ≡ true = subst (λ (s : ScopeOf). has_variable s q.variable ≡ true) scope v in
+            touched.pairs q w (o.ratios.kept q common w) (message_keeps i k l message right q common (core_holds k q.variable (are_ends i k l).1 old.scope o.scope_is w));
+      };
     }
       where
         there : (c : ℕ) → c < length new.digits → f (values_at old.scope c) * exact_message plus tree p i k (values_at message.scope (cell_in message.scope old.scope c)) ≡ h (values_at new.scope c)
@@ -177,14 +206,21 @@ module _ (shape : ShapeOf) (p : Placing) (is : IsShapeFor shape p.network) (plac
             ∙ same (values_at old.scope c) ∙ ap (λ (s : ScopeOf). h (values_at s c)) (sym scope)
 
     -- a message alone over a core
-    pub alone_right : (i k : ℕ) → linked (link_of tree) count i k ≡ true → (h : (ℕ → ℕ) → ℕ) (n_after m_after : ℕ) (old new message : TableOf) → old.scope ≡ core_scope shape k → IsRightIn plus shape p i k message → IsMessageAlone message old new
-        → ((a : ℕ → ℕ) → exact_message plus tree p i k a ≡ h a) → 3 * exact_message_grade tree p i k ≤ n_after → exact_message_grade tree p i k ≤ m_after
-        → HasCells new (core_scope shape k) h n_after m_after
-    alone_right i k l h n_after m_after old new message over_core right m same steps factors = record {
+    pub alone_right : (i k : ℕ) → linked (link_of tree) count i k ≡ true → (h : (ℕ → ℕ) → ℕ) (n_after m_after r_after : ℕ) (old new message : TableOf) → old.scope ≡ core_scope shape k → IsRightIn plus shape p i k message → IsMessageAlone message old new
+        → ((a : ℕ → ℕ) → exact_message plus tree p i k a ≡ h a) → 3 * exact_message_grade tree p i k ≤ n_after → exact_message_grade tree p i k ≤ m_after → message_ratios tree p i k ≡ r_after
+        → HasCells new (core_scope shape k) h n_after m_after r_after (IsCommon p)
+    alone_right i k l h n_after m_after r_after old new message over_core right m same steps factors ratios = record {
       scope_is = m.scope ∙ over_core;
       numbers = numbers_again new (λ c. exact_message plus tree p i k (values_at message.scope (cell_in message.scope old.scope c))) (λ c. h (values_at new.scope c)) (3 * exact_message_grade tree p i k) n_after steps there
           (m.numbers (λ c. exact_message plus tree p i k (values_at message.scope c)) (3 * exact_message_grade tree p i k) right.numbers);
       small_shift = let c = right.small_shift in omega (arith, c, m.shift, factors);
+      ratios = record {
+        shifted = let c = right.ratios.shifted in omega (arith, c, m.shift, ratios);
+        none = λ z. m.touched ∙ right.ratios.none (ratios ∙ z);
+        kept = λ q common v.
+            ap (λ (o : Option (List Pair)). keeps o q) m.touched
+            ∙ message_keeps i k l message right q common (core_holds k q.variable (are_ends i k l).1 new.scope (m.scope ∙ over_core) v);
+      };
     }
       where
         there : (c : ℕ) → c < length new.digits → exact_message plus tree p i k (values_at message.scope (cell_in message.scope old.scope c)) ≡ h (values_at new.scope c)
@@ -210,15 +246,19 @@ module _ (shape : ShapeOf) (p : Placing) (is : IsShapeFor shape p.network) (plac
       abbrev factors_of : ℕ → ℕ
       factors_of i = cond (is_taken receiver i) (exact_message_grade tree p i k) 0
 
+      abbrev ratios_of : ℕ → ℕ
+      ratios_of i = cond (is_taken receiver i) (message_ratios tree p i k) 0
+
       -- where no message is taken
       pub none_gathered : (listed : List ℕ) (table : TableOf) → list_any (is_taken receiver) listed ≡ false → table.scope ≡ core_scope shape k → table.shift ≡ 0 → HasNumbers table (λ c. 1) 0 → length table.digits ≡ cells_in table.scope
-          → HasGathered plus shape k receiver listed table p
-      none_gathered listed table none scope shift ones full = record {
+          → table.touched ≡ None → HasGathered plus shape k receiver listed table p
+      none_gathered listed table none scope shift ones full touched = record {
         cells = record {
           scope_is = scope;
           numbers = numbers_again table (λ c. 1) (λ c. gathered plus tree p k receiver listed (values_at table.scope c)) 0 (gathered_steps tree p k receiver listed) (omega arith)
               (λ c _. sym (none_listed (is_taken receiver) (λ i. exact_message plus tree p i k (values_at table.scope c)) listed none)) ones;
           small_shift = omega (arith, shift);
+          ratios = subst (λ n. HasRatios table n (IsCommon p)) (sym (none_counted (is_taken receiver) (λ i. message_ratios tree p i k) listed none)) (no_ratios table (IsCommon p) shift touched);
         };
         full = full;
       }
@@ -239,6 +279,9 @@ module _ (shape : ShapeOf) (p : Placing) (is : IsShapeFor shape p.network) (plac
         factors_more : gathered_factors tree p k receiver after ≡ gathered_factors tree p k receiver before + factors_of i
         factors_more = let s = sum_by_more factors_of (neighbours tree k) j 0 l in let q = ap factors_of e in omega (arith, s, q)
 
+        ratios_more : gathered_ratios tree p k receiver after ≡ gathered_ratios tree p k receiver before + ratios_of i
+        ratios_more = let s = sum_by_more ratios_of (neighbours tree k) j 0 l in let q = ap ratios_of e in omega (arith, s, q)
+
         -- a neighbour whose message is not taken
         pub passed_by : (table : TableOf) → is_taken receiver i ≡ false → HasGathered plus shape k receiver before table p → HasGathered plus shape k receiver after table p
         passed_by table h g = record {
@@ -247,6 +290,7 @@ module _ (shape : ShapeOf) (p : Placing) (is : IsShapeFor shape p.network) (plac
             numbers = numbers_again table (λ c. gathered plus tree p k receiver before (values_at table.scope c)) (λ c. gathered plus tree p k receiver after (values_at table.scope c)) (gathered_steps tree p k receiver before) (gathered_steps tree p k receiver after)
                 (let s = steps_more in omega (arith, s)) (λ c _. same (values_at table.scope c)) g.cells.numbers;
             small_shift = let s = factors_more in let b = g.cells.small_shift in omega (arith, s, b);
+            ratios = subst (λ n. HasRatios table n (IsCommon p)) (let s = ratios_more in let w = ap {B = ℕ} (λ t. cond t (message_ratios tree p i k) 0) h in omega (arith, s, w)) g.cells.ratios;
           };
           full = g.full;
         }
@@ -258,14 +302,15 @@ module _ (shape : ShapeOf) (p : Placing) (is : IsShapeFor shape p.network) (plac
         pub taken_too : (old new message : TableOf) → is_taken receiver i ≡ true → HasGathered plus shape k receiver before old p → IsRightIn plus shape p i k message
             → new.scope ≡ old.scope → new.shift ≡ old.shift + message.shift → length new.digits ≡ cells_in new.scope
             → ((f g : ℕ → ℕ) (n q : ℕ) → HasNumbers old f n → HasNumbers message g q → HasNumbers new (λ c. f c * g (cell_in message.scope old.scope c)) (n + q + 1))
-            → HasGathered plus shape k receiver after new p
-        taken_too old new message h g right scope shift full numbers = record {
+            → KeepsPairs old.scope old.touched message.touched new.touched → HasGathered plus shape k receiver after new p
+        taken_too old new message h g right scope shift full numbers touched = record {
           cells = times_right i k (neighbour_linked tree k j i l e) (gathered plus tree p k receiver before) (gathered plus tree p k receiver after)
-              (gathered_steps tree p k receiver before) (gathered_steps tree p k receiver after) (gathered_factors tree p k receiver before) (gathered_factors tree p k receiver after)
-              old new message g.cells right scope shift full numbers
+              (gathered_steps tree p k receiver before) (gathered_steps tree p k receiver after) (gathered_factors tree p k receiver before) (gathered_factors tree p k receiver after) (gathered_ratios tree p k receiver before) (gathered_ratios tree p k receiver after)
+              old new message g.cells right scope shift full numbers touched
               (λ a. ap (λ n. gathered plus tree p k receiver before a * n) (sym (ap (λ (t : Bool). cond t (exact_message plus tree p i k a) 1) h)) ∙ gathered_more a)
               (let s = steps_more in let w = ap {B = ℕ} (λ t. cond t (3 * exact_message_grade tree p i k + 1) 0) h in omega (arith, s, w))
-              (let s = factors_more in let w = ap {B = ℕ} (λ t. cond t (exact_message_grade tree p i k) 0) h in omega (arith, s, w));
+              (let s = factors_more in let w = ap {B = ℕ} (λ t. cond t (exact_message_grade tree p i k) 0) h in omega (arith, s, w))
+              (let s = ratios_more in let w = ap {B = ℕ} (λ t. cond t (message_ratios tree p i k) 0) h in omega (arith, s, w));
           full = full;
         }
 
@@ -273,13 +318,14 @@ module _ (shape : ShapeOf) (p : Placing) (is : IsShapeFor shape p.network) (plac
         pub first_taken : (old new message : TableOf) → is_taken receiver i ≡ true → list_any (is_taken receiver) before ≡ false → old.scope ≡ core_scope shape k → IsRightIn plus shape p i k message → IsMessageAlone message old new
             → HasGathered plus shape k receiver after new p
         first_taken old new message h none over_core right m = record {
-          cells = alone_right i k (neighbour_linked tree k j i l e) (gathered plus tree p k receiver after) (gathered_steps tree p k receiver after) (gathered_factors tree p k receiver after) old new message over_core right m
+          cells = alone_right i k (neighbour_linked tree k j i l e) (gathered plus tree p k receiver after) (gathered_steps tree p k receiver after) (gathered_factors tree p k receiver after) (gathered_ratios tree p k receiver after) old new message over_core right m
               (λ a.
               sym (one-mul (exact_message plus tree p i k a))
               ∙ ap (λ n. n * exact_message plus tree p i k a) (sym (none_listed (is_taken receiver) (λ i. exact_message plus tree p i k a) before none))
               ∙ ap (λ n. gathered plus tree p k receiver before a * n) (sym (ap (λ (t : Bool). cond t (exact_message plus tree p i k a) 1) h)) ∙ gathered_more a)
               (let s = steps_more in let w = ap {B = ℕ} (λ t. cond t (3 * exact_message_grade tree p i k + 1) 0) h in omega (arith, s, w))
-              (let s = factors_more in let w = ap {B = ℕ} (λ t. cond t (exact_message_grade tree p i k) 0) h in omega (arith, s, w));
+              (let s = factors_more in let w = ap {B = ℕ} (λ t. cond t (exact_message_grade tree p i k) 0) h in omega (arith, s, w))
+              (let s = ratios_more in let w = ap {B = ℕ} (λ t. cond t (message_ratios tree p i k) 0) h in let z = none_counted (is_taken receiver) (λ i. message_ratios tree p i k) before none in omega (arith, s, w, z));
           full = m.full;
         }
 
@@ -329,13 +375,14 @@ module _ (shape : ShapeOf) (p : Placing) (is : IsShapeFor shape p.network) (plac
       pub put_back : (old new message : TableOf) → HasGathered plus shape k (Some i) (neighbours tree k) old p → IsRightIn plus shape p i k message
           → new.scope ≡ old.scope → new.shift ≡ old.shift + message.shift → length new.digits ≡ cells_in new.scope
           → ((f g : ℕ → ℕ) (n q : ℕ) → HasNumbers old f n → HasNumbers message g q → HasNumbers new (λ c. f c * g (cell_in message.scope old.scope c)) (n + q + 1))
-          → HasGathered plus shape k None (neighbours tree k) new p
-      put_back old new message g right scope shift full numbers = record {
+          → KeepsPairs old.scope old.touched message.touched new.touched → HasGathered plus shape k None (neighbours tree k) new p
+      put_back old new message g right scope shift full numbers touched = record {
         cells = times_right i k l (gathered plus tree p k (Some i) (neighbours tree k)) (gathered plus tree p k None (neighbours tree k))
             (gathered_steps tree p k (Some i) (neighbours tree k)) (gathered_steps tree p k None (neighbours tree k)) (gathered_factors tree p k (Some i) (neighbours tree k)) (gathered_factors tree p k None (neighbours tree k))
-            old new message g.cells right scope shift full numbers product_back
+            (gathered_ratios tree p k (Some i) (neighbours tree k)) (gathered_ratios tree p k None (neighbours tree k))
+            old new message g.cells right scope shift full numbers touched product_back
             (let s = sum_back (λ j. 3 * exact_message_grade tree p j k + 1) in omega (arith, s))
-            (let s = sum_back (λ j. exact_message_grade tree p j k) in omega (arith, s));
+            (let s = sum_back (λ j. exact_message_grade tree p j k) in omega (arith, s)) (sym (sum_back (λ j. message_ratios tree p j k)));
         full = full;
       }
 
@@ -351,7 +398,7 @@ module _ (shape : ShapeOf) (p : Placing) (is : IsShapeFor shape p.network) (plac
     -- ---- what is placed in a clique, summed over its core
 
     -- a clique's table has room for a plus over its cells
-    pub table_room : (k : ℕ) → IsClique tree k → (table : TableOf) → HasCells table (clique_scope shape k) (placed_there p k) (factors_in p k) (factors_in p k) → HasRoom table (2 * cells_in table.scope)
+    pub table_room : (k : ℕ) → IsClique tree k → (table : TableOf) → HasCells table (clique_scope shape k) (placed_there p k) (factors_in p k) (factors_in p k) (ratios_in p k) (IsCommon p) → HasRoom table (2 * cells_in table.scope)
     table_room k clique table h = record {
       numbers = λ c. placed_there p k (values_at table.scope c);
       steps = factors_in p k;
@@ -360,11 +407,18 @@ module _ (shape : ShapeOf) (p : Placing) (is : IsShapeFor shape p.network) (plac
       small_shift = let n = few_in p k in omega (arith, n, placing.few, h.small_shift);
     }
 
+    -- a variable of a core is one of its clique's table
+    pub in_clique : (k : ℕ) → IsClique tree k → (core table : ScopeOf) → core ≡ core_scope shape k → table ≡ clique_scope shape k → (x : ℕ) → has_variable core x ≡ true → has_variable table x ≡ true
+    in_clique k clique core table e f x v =
+        let w : has_variable (scope_within p.network (in_core tree k)) x ≡ true = subst (λ (s : ScopeOf). has_variable s x ≡ true) (e ∙ is.core_scopes k clique) v in
+        subst (λ (s : ScopeOf). has_variable s x ≡ true) (sym (f ∙ is.clique_scopes k clique))
+        (has_within p.network (holds tree k) x (within_network p.network (in_core tree k) x w) (core_part tree k x (within_set p.network (in_core tree k) x w)))
+
     pub few_core_steps : (k : ℕ) → IsClique tree k → core_steps tree p k ≤ factors_in p k + 2 * clique_cells p.network tree k
     few_core_steps k clique = let l = beside_at_most (scope_within p.network (in_core tree k)) (scope_within p.network (holds tree k)) in omega (arith, l)
 
     -- and so has that plus, over the cells of the core
-    pub core_room : (k : ℕ) → IsClique tree k → (core : TableOf) → HasCells core (core_scope shape k) (core_there plus tree p k) (core_steps tree p k) (factors_in p k) → HasRoom core (2 * cells_in core.scope)
+    pub core_room : (k : ℕ) → IsClique tree k → (core : TableOf) → HasCells core (core_scope shape k) (core_there plus tree p k) (core_steps tree p k) (factors_in p k) (ratios_in p k) (IsCommon p) → HasRoom core (2 * cells_in core.scope)
     core_room k clique core h = record {
       numbers = λ d. core_there plus tree p k (values_at core.scope d);
       steps = core_steps tree p k;
@@ -376,11 +430,11 @@ module _ (shape : ShapeOf) (p : Placing) (is : IsShapeFor shape p.network) (plac
     }
 
     -- what has those pluses in its cells has the sums
-    pub sums_onto : (k : ℕ) → IsClique tree k → (table before after : TableOf) → HasCells table (clique_scope shape k) (placed_there p k) (factors_in p k) (factors_in p k) → before.scope ≡ core_scope shape k
+    pub sums_onto : (k : ℕ) → IsClique tree k → (table before after : TableOf) → HasCells table (clique_scope shape k) (placed_there p k) (factors_in p k) (factors_in p k) (ratios_in p k) (IsCommon p) → before.scope ≡ core_scope shape k
         → after.scope ≡ before.scope → after.shift ≡ table.shift → length after.digits ≡ cells_in after.scope
         → HasNumbers after (λ d. plus_over plus 0 (λ c. placed_there p k (values_at table.scope c)) (cells_onto before.scope table.scope d)) (factors_in p k + (2 * cells_beside before.scope table.scope - 1))
-        → HasCells after (core_scope shape k) (core_there plus tree p k) (core_steps tree p k) (factors_in p k)
-    sums_onto k clique table before after h e scope shift full numbers = record {
+        → HasRatios after (ratios_in p k) (IsCommon p) → HasCells after (core_scope shape k) (core_there plus tree p k) (core_steps tree p k) (factors_in p k) (ratios_in p k) (IsCommon p)
+    sums_onto k clique table before after h e scope shift full numbers ratios = record {
       scope_is = scope ∙ e;
       numbers = numbers_again after (λ d. plus_over plus 0 (λ c. placed_there p k (values_at table.scope c)) (cells_onto before.scope table.scope d)) (λ d. core_there plus tree p k (values_at after.scope d))
           (factors_in p k + (2 * cells_beside before.scope table.scope - 1)) (core_steps tree p k)
@@ -391,6 +445,7 @@ module _ (shape : ShapeOf) (p : Placing) (is : IsShapeFor shape p.network) (plac
           ∙ ap (λ (s : ScopeOf). core_there plus tree p k (values_at s d)) (sym scope))
           numbers;
       small_shift = omega (arith, h.small_shift, shift);
+      ratios = ratios;
     }
       where
         part_is : before.scope ≡ scope_within p.network (in_core tree k)
@@ -399,7 +454,7 @@ module _ (shape : ShapeOf) (p : Placing) (is : IsShapeFor shape p.network) (plac
         whole_is : table.scope ≡ scope_within p.network (holds tree k)
         whole_is = h.scope_is ∙ is.clique_scopes k clique
 
-    pub core_room_one : (k : ℕ) → IsClique tree k → (core : TableOf) → HasCells core (core_scope shape k) (core_there plus tree p k) (core_steps tree p k) (factors_in p k) → HasRoom core 1
+    pub core_room_one : (k : ℕ) → IsClique tree k → (core : TableOf) → HasCells core (core_scope shape k) (core_there plus tree p k) (core_steps tree p k) (factors_in p k) (ratios_in p k) (IsCommon p) → HasRoom core 1
     core_room_one k clique core h = record {
       numbers = λ d. core_there plus tree p k (values_at core.scope d);
       steps = core_steps tree p k;
@@ -408,10 +463,16 @@ module _ (shape : ShapeOf) (p : Placing) (is : IsShapeFor shape p.network) (plac
       small_shift = let n = few_in p k in omega (arith, n, placing.few, h.small_shift);
     }
 
-    pub core_sums : (k : ℕ) → IsClique tree k → (table before after : TableOf) → HasCells table (clique_scope shape k) (placed_there p k) (factors_in p k) (factors_in p k) → before.scope ≡ core_scope shape k → IsMargin plus table before after
-        → HasCells after (core_scope shape k) (core_there plus tree p k) (core_steps tree p k) (factors_in p k)
+    pub core_sums : (k : ℕ) → IsClique tree k → (table before after : TableOf) → HasCells table (clique_scope shape k) (placed_there p k) (factors_in p k) (factors_in p k) (ratios_in p k) (IsCommon p) → before.scope ≡ core_scope shape k → IsMargin plus table before after
+        → HasCells after (core_scope shape k) (core_there plus tree p k) (core_steps tree p k) (factors_in p k) (ratios_in p k) (IsCommon p)
     core_sums k clique table before after h e m =
-        sums_onto k clique table before after h e m.scope m.shift m.full (m.numbers (λ c. placed_there p k (values_at table.scope c)) (factors_in p k) h.numbers)
+        sums_onto k clique table before after h e m.scope m.shift m.full (m.numbers (λ c. placed_there p k (values_at table.scope c)) (factors_in p k) h.numbers) (record {
+          shifted = m.shift ∙ h.ratios.shifted;
+          none = λ z. m.touched.none (h.ratios.none z) refl;
+          kept = λ q common v.
+              let w : has_variable before.scope q.variable ≡ true = subst (λ (s : ScopeOf). has_variable s q.variable ≡ true) m.scope v in
+              m.touched.pairs q w (h.ratios.kept q common (in_clique k clique before.scope table.scope e h.scope_is q.variable w)) refl;
+        })
 
     -- ---- what a clique sends
 
@@ -505,8 +566,8 @@ module _ (shape : ShapeOf) (p : Placing) (is : IsShapeFor shape p.network) (plac
       -- what is made of a table over the core, cell by cell, is the message
       right_of : (core before after : TableOf) (v : ℕ → ℕ) (n : ℕ) → core.scope ≡ core_scope shape a → before.scope ≡ separator_between shape a b → after.scope ≡ before.scope → length after.digits ≡ cells_in after.scope → HasNumbers after v n
           → ((d : ℕ) → v d ≡ plus_over plus 0 (λ c. sent (values_at core.scope c)) (cells_onto before.scope core.scope d)) → n ≤ 3 * exact_message_grade tree p a b → after.shift ≤ 40 * exact_message_grade tree p a b
-          → IsRightIn plus shape p a b after
-      right_of core before after v n over_core e scope full numbers cells steps shift = record {
+          → HasRatios after (message_ratios tree p a b) (IsCommon p) → IsRightIn plus shape p a b after
+      right_of core before after v n over_core e scope full numbers cells steps shift ratios = record {
         scope_is = scope ∙ e;
         numbers = numbers_again after v (λ d. exact_message plus tree p a b (values_at after.scope d)) n (3 * exact_message_grade tree p a b) steps
             (λ d l.
@@ -517,6 +578,7 @@ module _ (shape : ShapeOf) (p : Placing) (is : IsShapeFor shape p.network) (plac
             ∙ margin d inside ∙ ap (λ (s : ScopeOf). exact_message plus tree p a b (values_at s d)) (sym (scope ∙ part_is)))
             numbers;
         small_shift = shift;
+        ratios = ratios;
       }
         where
           part_is : before.scope ≡ scope_within p.network (shared a b)
@@ -524,6 +586,14 @@ module _ (shape : ShapeOf) (p : Placing) (is : IsShapeFor shape p.network) (plac
 
           whole_is : core.scope ≡ scope_within p.network (in_core tree a)
           whole_is = over_core ∙ is.core_scopes a sender
+
+      -- a variable of the separator is one of the core
+      in_sender : (core separator : ScopeOf) → core ≡ core_scope shape a → separator ≡ separator_between shape a b → (x : ℕ) → has_variable separator x ≡ true → has_variable core x ≡ true
+      in_sender core separator e f x v =
+          let w : has_variable (scope_within p.network (shared a b)) x ≡ true = subst (λ (s : ScopeOf). has_variable s x ≡ true) (f ∙ separator_is a b h) v in
+          let both = and_parts (holds tree a x) (holds tree b x) (within_set p.network (shared a b) x w) in
+          subst (λ (s : ScopeOf). has_variable s x ≡ true) (sym (e ∙ is.core_scopes a sender))
+          (has_within p.network (in_core tree a) x (within_network p.network (shared a b) x w) (core_has tree is.tree_is.linked a b x back both.0 both.1))
 
       module _ (core product : TableOf) (out : HasOutgoing plus shape a b core product p) (before after : TableOf) (e : before.scope ≡ separator_between shape a b) where
         split : cells_in (scope_within p.network (in_core tree a)) * private_cells p.network tree a ≡ clique_cells p.network tree a
@@ -547,6 +617,12 @@ module _ (shape : ShapeOf) (p : Placing) (is : IsShapeFor shape p.network) (plac
             (times_inputs tree a (Some b) (λ i. exact_message plus tree p i a) t ∙ none_times (is_input tree a (Some b)) count (λ i. exact_message plus tree p i a) t (omega (arith, c, few)))
             ∙ mul-one (core_there plus tree p a t))
 
+        ratios_alone : length (neighbours tree a) < 2 → ratios_in p a ≡ message_ratios tree p a b
+        ratios_alone few =
+            let receiver = (are_ends a b h).1 in let c = others_counted tree a b receiver.first receiver.last back in
+            let z = sum_inputs tree a (Some b) (λ i. message_ratios tree p i a) ∙ none_summed (is_input tree a (Some b)) count (λ i. message_ratios tree p i a) (omega (arith, c, few)) in
+            let r = ratios_sent shape p is placing a b h in omega (arith, z, r)
+
         pub message_alone : length (neighbours tree a) < 2 → IsMargin plus core before after → IsRightIn plus shape p a b after
         message_alone few m =
             right_of core before after (λ d. plus_over plus 0 (λ c. core_there plus tree p a (values_at core.scope c)) (cells_onto before.scope core.scope d)) (core_steps tree p a + (2 * cells_beside before.scope core.scope - 1))
@@ -554,6 +630,13 @@ module _ (shape : ShapeOf) (p : Placing) (is : IsShapeFor shape p.network) (plac
             (λ d. ap (λ (f : (ℕ → ℕ) → ℕ). plus_over plus 0 (λ c. f (values_at core.scope c)) (cells_onto before.scope core.scope d)) (fun_ext (alone few)))
             (let l = sums_cost m.beside in let s = message_steps shape p is placing a b h sender in omega (arith, l, s))
             (let f = message_factors shape p is placing a b h sender in let s = out.sums.small_shift in omega (arith, f, s, m.shift))
+            (record {
+              shifted = let s = out.sums.ratios.shifted in let r = ratios_alone few in omega (arith, m.shift, s, r);
+              none = λ z. m.touched.none (out.sums.ratios.none (ratios_alone few ∙ z)) refl;
+              kept = λ q common v.
+                  let w : has_variable before.scope q.variable ≡ true = subst (λ (s : ScopeOf). has_variable s q.variable ≡ true) m.scope v in
+                  m.touched.pairs q w (out.sums.ratios.kept q common (in_sender core.scope before.scope out.sums.scope_is e q.variable w)) refl;
+            })
 
         -- a cell of the core is its own
         own_cell : (c : ℕ) → c < cells_in core.scope → cell_in core.scope core.scope c ≡ c
@@ -583,6 +666,15 @@ module _ (shape : ShapeOf) (p : Placing) (is : IsShapeFor shape p.network) (plac
             (λ d. product_there d others (g.cells.scope_is ∙ sym out.sums.scope_is) (λ t. refl))
             (let l = sums_cost m.beside in let s = others_steps shape p is placing a b h sender back (are_ends a b h).1 more in omega (arith, l, s))
             (let f = message_factors shape p is placing a b h sender in let s = out.sums.small_shift in let t = g.cells.small_shift in omega (arith, f, s, t, m.shift))
+            (let r = ratios_sent shape p is placing a b h in record {
+              shifted = let s = out.sums.ratios.shifted in let t = g.cells.ratios.shifted in omega (arith, m.shift, s, t, r);
+              none = λ z. m.touched.none (out.sums.ratios.none (omega (arith, r, z))) (g.cells.ratios.none (omega (arith, r, z)));
+              kept = λ q common v.
+                  let w : has_variable before.scope q.variable ≡ true = subst (λ (s : ScopeOf). has_variable s q.variable ≡ true) m.scope v in
+                  let x = in_sender core.scope before.scope out.sums.scope_is e q.variable w in
+                  m.touched.pairs q w (out.sums.ratios.kept q common x)
+                  (g.cells.ratios.kept q common (subst (λ (s : ScopeOf). has_variable s q.variable ≡ true) (out.sums.scope_is ∙ sym g.cells.scope_is) x));
+            })
 
         -- room for it
         pub core_room_there : HasRoom core (2 * cells_in core.scope)

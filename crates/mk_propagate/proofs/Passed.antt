@@ -69,7 +69,7 @@ module _ (plus : ℕ → ℕ → ℕ) (start now : FlowOf) (kept : KeepsTables p
 
     pub sent_still : (p : Placing) (i j : ℕ) → are_linked start.shape.tree i j ≡ true → ((i ≡ a) × (j ≡ b) → ⊥) → IsRight plus now p i j → IsRight plus new p i j
     sent_still p i j l d r =
-        right_kept plus now new p p i j sent.kept.same_shape (sent.others i j (subst (λ (t : GivenTree). are_linked t i j ≡ true) (sym (tree_kept plus start now kept)) l) d) refl refl r
+        right_kept plus now new p p i j sent.kept.same_shape (sent.others i j (subst (λ (t : GivenTree). are_linked t i j ≡ true) (sym (tree_kept plus start now kept)) l) d) refl refl refl (λ pair h. h) r
 
 -- ---- messages towards a root
 

@@ -1,6 +1,6 @@
 -- One factor or one known pair more in a clique.
 use Rattle.std.proofs.Common.{◌≡◌, ◌≢◌, ℕ, suc, zero, ◌+◌, ◌-◌, ◌*◌, ◌<◌, ◌≤◌, Bool, true, false, cond, not, ◌&&◌, ◌==◌, if◌then◌else◌, ◌⊎◌, inl, inr, List, [], ◌∷◌, ◌++◌, map, length, slice_index, slice_index_or, get_or, refl, sym, ap, subst, ◌∙◌, arith, mul_assoc, mul_comm, mul-one, eq-eqb, ne_eqb}
-use Rattle.std.specs.Prelude.{nat_lt, slice_set}
+use Rattle.std.specs.Prelude.{nat_lt, slice_set, None}
 use Rattle.std.proofs.Math.Path.{fun_ext}
 use Rattle.std.proofs.lemmas.Bool.{cases_eq, both_ways}
 use Rattle.std.proofs.lemmas.List.{length_push, map-append, length-set, get_or-set_same, get_or-set_other, get_or_default, get_or_push}
@@ -18,13 +18,16 @@ use Rattle.mk_sums.proofs.Stale.{change_leaves}
 use Rattle.mk_table.specs.Scopes.{ScopeOf, cells_in}
 use Rattle.mk_table.specs.Cells.{values_at}
 use Rattle.mk_table.specs.Tables.{TableOf, HasNumbers, HasRoom}
+use Rattle.mk_table.specs.Ratios.{KeepsPairs, HasRatios}
+use Rattle.mk_table.proofs.RatiosKept.{no_ratios, same_ratios, ratios_restricted}
 use Rattle.mk_tree.specs.Given.{GivenTree, AreLinked, holds, link_of}
 use Rattle.mk_engine.specs.Meaning.{Factor, factor_there, max_factors}
 use Rattle.mk_propagate.specs.Shapes.{ShapeOf, IsShapeFor, IsClique, is_behind, clique_scope, core_scope, separator_scope, separator_between, clique_cells, in_core}
-use Rattle.mk_propagate.specs.Placings.{Placing, PlacedFactor, PlacedPair, with_factor_in, with_pair_in, nothing_placed, factor_item, pair_item, placed_there, factors_in, IsPlacedFactor, IsPlacedPair, IsPlacing}
-use Rattle.mk_propagate.specs.Flows.{FlowOf, no_table, table_at, core_at, is_summed, message_at, HasCells, HasSums, HasPlaced, IsRight, KeepsMessages, Places, core_there, core_steps, private_cells, exact_message, exact_message_grade}
+use Rattle.mk_propagate.specs.Placings.{Placing, PlacedFactor, PlacedPair, with_factor_in, with_pair_in, nothing_placed, factor_item, pair_item, placed_there, factors_in, ratios_in, IsPlacedFactor, IsPlacedPair, IsPlacing, IsCommon}
+use Rattle.mk_propagate.specs.Flows.{FlowOf, no_table, table_at, core_at, is_summed, message_at, HasCells, HasSums, HasPlaced, IsRight, KeepsMessages, Places, core_there, core_steps, private_cells, exact_message, exact_message_grade, message_ratios}
 use Rattle.mk_propagate.specs.inner.Kept.{IsKept, AreOverCores}
 use Rattle.mk_propagate.specs.inner.Ones.{IsOnes, AreOnes}
+use Rattle.mk_propagate.proofs.Ratios.{ratios_elsewhere, common_before}
 
 -- ---- what is placed in each clique
 
@@ -97,24 +100,36 @@ sum_same set (suc k) f g h = at (set (suc k)) (h (suc k) (omega arith) (omega ar
     at true e ih = let x = e refl in omega (arith, x, ih)
     at false e ih = omega (arith, ih)
 
--- a message is right as before, where the exact one and its grade are
+-- a table with the same ratios, of which fewer pairs are common
+with_ratios : (t : TableOf) (scope : ScopeOf) (f : (ℕ → ℕ) → ℕ) (steps factors n m : ℕ) (common others : Pair → Type 0) → n ≡ m → ((pair : Pair) → others pair → common pair)
+    → HasCells t scope f steps factors n common → HasCells t scope f steps factors m others
+with_ratios t scope f steps factors n m common others e weaker h = record {
+  scope_is = h.scope_is;
+  numbers = h.numbers;
+  small_shift = h.small_shift;
+  ratios = same_ratios t t refl n common h.ratios refl refl m e others weaker;
+}
+
+-- a message is right as before, where the exact one, its grade and its ratios are
 pub right_kept : (plus : ℕ → ℕ → ℕ) (old new : FlowOf) (p q : Placing) (a b : ℕ) → new.shape ≡ old.shape → message_at new a b ≡ message_at old a b
     → exact_message plus old.shape.tree p a b ≡ exact_message plus old.shape.tree q a b → exact_message_grade old.shape.tree p a b ≡ exact_message_grade old.shape.tree q a b
-    → IsRight plus old p a b → IsRight plus new q a b
-right_kept plus old new p q a b shape message exact grade r = record {
+    → message_ratios old.shape.tree p a b ≡ message_ratios old.shape.tree q a b → ((pair : Pair) → IsCommon q pair → IsCommon p pair) → IsRight plus old p a b → IsRight plus new q a b
+right_kept plus old new p q a b shape message exact grade ratios common r = record {
   cells =
       subst (λ (t : TableOf). HasCells t (separator_between new.shape a b) (exact_message plus new.shape.tree q a b)
-      (3 * exact_message_grade new.shape.tree q a b) (exact_message_grade new.shape.tree q a b)) (sym message)
+      (3 * exact_message_grade new.shape.tree q a b) (exact_message_grade new.shape.tree q a b) (message_ratios new.shape.tree q a b) (IsCommon q)) (sym message)
       (subst (λ (s : ShapeOf). HasCells (message_at old a b) (separator_between s a b) (exact_message plus s.tree q a b)
-      (3 * exact_message_grade s.tree q a b) (exact_message_grade s.tree q a b)) (sym shape)
-      (subst (λ (n : ℕ). HasCells (message_at old a b) (separator_between old.shape a b) (exact_message plus old.shape.tree q a b) (3 * n) n) grade
+      (3 * exact_message_grade s.tree q a b) (exact_message_grade s.tree q a b) (message_ratios s.tree q a b) (IsCommon q)) (sym shape)
+      (subst (λ (n : ℕ). HasCells (message_at old a b) (separator_between old.shape a b) (exact_message plus old.shape.tree q a b) (3 * n) n (message_ratios old.shape.tree q a b) (IsCommon q)) grade
       (subst (λ (f : (ℕ → ℕ) → ℕ). HasCells (message_at old a b) (separator_between old.shape a b) f (3 * exact_message_grade old.shape.tree p a b)
-      (exact_message_grade old.shape.tree p a b)) exact r.cells)));
+      (exact_message_grade old.shape.tree p a b) (message_ratios old.shape.tree q a b) (IsCommon q)) exact
+      (with_ratios (message_at old a b) (separator_between old.shape a b) (exact_message plus old.shape.tree p a b) (3 * exact_message_grade old.shape.tree p a b)
+      (exact_message_grade old.shape.tree p a b) (message_ratios old.shape.tree p a b) (message_ratios old.shape.tree q a b) (IsCommon p) (IsCommon q) ratios common r.cells))));
 }
 
 -- where each message is as it was, what was right still is
 pub right_still : (plus : ℕ → ℕ → ℕ) (old new : FlowOf) (p : Placing) (a b : ℕ) → KeepsMessages old new → IsRight plus old p a b → IsRight plus new p a b
-right_still plus old new p a b kept r = right_kept plus old new p p a b kept.same_shape same_message refl refl r
+right_still plus old new p a b kept r = right_kept plus old new p p a b kept.same_shape same_message refl refl refl (λ pair h. h) r
   where
     same_message : message_at new a b ≡ message_at old a b
     same_message =
@@ -145,7 +160,8 @@ AreOthersKept old clique cores summed =
 
 module _ (tree : GivenTree) (p : Placing) (fs : List PlacedFactor) (ks : List PlacedPair) (clique : ℕ)
     (same : (k : ℕ) → k ≢ clique → (s : ℕ → ℕ) → placed_there p k s ≡ placed_there (changed p fs ks) k s)
-    (counts : (k : ℕ) → k ≢ clique → factors_in p k ≡ factors_in (changed p fs ks) k) (a b : ℕ) (apart : is_behind tree a b clique ≡ false) where
+    (counts : (k : ℕ) → k ≢ clique → factors_in p k ≡ factors_in (changed p fs ks) k) (ratios : (k : ℕ) → k ≢ clique → ratios_in p k ≡ ratios_in (changed p fs ks) k)
+    (a b : ℕ) (apart : is_behind tree a b clique ≡ false) where
   exact_kept : (plus : ℕ → ℕ → ℕ) → exact_message plus tree p a b ≡ exact_message plus tree (changed p fs ks) a b
   exact_kept plus =
       fun_ext (λ s. change_leaves plus (slice_index (sizes p.network)) (variables (sizes p.network)) (holds tree) (placed_there p) (placed_there
@@ -159,30 +175,38 @@ module _ (tree : GivenTree) (p : Placing) (fs : List PlacedFactor) (ks : List Pl
       (λ j. factors_in (changed p fs ks) j + clique_cells p.network tree j + 2)
       (λ j l n e. ap (λ (i : ℕ). i + clique_cells p.network tree j + 2) (counts j (λ f. both_ways (is_behind tree a b j) (ap (is_behind tree a b) f ∙ apart) e))))
 
+  ratios_kept : message_ratios tree p a b ≡ message_ratios tree (changed p fs ks) a b
+  ratios_kept =
+      sum_same (behind (link_of tree) (length tree.cliques) a b) (length tree.cliques) (ratios_in p) (ratios_in (changed p fs ks))
+      (λ j l n e. ratios j (λ f. both_ways (is_behind tree a b j) (ap (is_behind tree a b) f ∙ apart) e))
+
 module _ (plus : ℕ → ℕ → ℕ) (old : FlowOf) (p : Placing) (fs : List PlacedFactor) (ks : List PlacedPair) (clique : ℕ) (t : TableOf) (cores : List TableOf) (summed : List Bool) (count : ℕ)
     (h : HasPlaced plus old p) (is : IsClique old.shape.tree clique) (within : clique - 1 < length old.tables)
     (same : (k : ℕ) → k ≢ clique → (s : ℕ → ℕ) → placed_there p k s ≡ placed_there (changed p fs ks) k s)
     (counts : (k : ℕ) → k ≢ clique → factors_in p k ≡ factors_in (changed p fs ks) k)
-    (here : HasCells t (clique_scope old.shape clique) (placed_there (changed p fs ks) clique) (factors_in (changed p fs ks) clique) (factors_in (changed p fs ks) clique))
+    (ratios : (k : ℕ) → k ≢ clique → ratios_in p k ≡ ratios_in (changed p fs ks) k) (common : (pair : Pair) → IsCommon (changed p fs ks) pair → IsCommon p pair)
+    (here : HasCells t (clique_scope old.shape clique) (placed_there (changed p fs ks) clique) (factors_in (changed p fs ks) clique) (factors_in (changed p fs ks) clique) (ratios_in (changed p fs ks) clique) (IsCommon (changed p fs ks)))
     (others : AreOthersKept old clique cores summed) (sums_here : slice_index_or summed (clique - 1) false ≡ true → HasSums plus old.shape (changed p fs ks) clique (slice_index_or cores (clique - 1) no_table)) where
   other_table : (k : ℕ) → IsClique old.shape.tree k → k ≢ clique → table_at (with_table old clique t cores summed count) k ≡ table_at old k
   other_table k at d = get_or-set_other old.tables (clique - 1) (k - 1) t no_table (λ e. d (omega (arith, e, at.first, is.first)))
 
   tables_more : (k : ℕ) → IsClique old.shape.tree k
-      → HasCells (table_at (with_table old clique t cores summed count) k) (clique_scope old.shape k) (placed_there (changed p fs ks) k) (factors_in (changed p fs ks) k) (factors_in (changed p fs ks) k)
+      → HasCells (table_at (with_table old clique t cores summed count) k) (clique_scope old.shape k) (placed_there (changed p fs ks) k) (factors_in (changed p fs ks) k) (factors_in (changed p fs ks) k) (ratios_in (changed p fs ks) k) (IsCommon (changed p fs ks))
   tables_more k at = from (cases_eq k clique)
     where
       from : ((k ≡ clique) ⊎ (k ≡ clique → ⊥)) → HasCells (table_at (with_table old clique t cores summed count) k) (clique_scope old.shape k) (placed_there
-          (changed p fs ks) k) (factors_in (changed p fs ks) k) (factors_in (changed p fs ks) k)
+          (changed p fs ks) k) (factors_in (changed p fs ks) k) (factors_in (changed p fs ks) k) (ratios_in (changed p fs ks) k) (IsCommon (changed p fs ks))
       from (inl e) =
           subst (λ (j : ℕ). HasCells (table_at (with_table old clique t cores summed count) j) (clique_scope old.shape j) (placed_there (changed p fs ks) j) (factors_in
-          (changed p fs ks) j) (factors_in (changed p fs ks) j)) (sym e)
-          (subst (λ (u : TableOf). HasCells u (clique_scope old.shape clique) (placed_there (changed p fs ks) clique) (factors_in (changed p fs ks) clique) (factors_in (changed p fs ks) clique))
+          (changed p fs ks) j) (factors_in (changed p fs ks) j) (ratios_in (changed p fs ks) j) (IsCommon (changed p fs ks))) (sym e)
+          (subst (λ (u : TableOf). HasCells u (clique_scope old.shape clique) (placed_there (changed p fs ks) clique) (factors_in (changed p fs ks) clique) (factors_in (changed p fs ks) clique) (ratios_in (changed p fs ks) clique) (IsCommon (changed p fs ks)))
           (sym (get_or-set_same old.tables (clique - 1) t no_table within)) here)
       from (inr d) =
-          subst (λ (u : TableOf). HasCells u (clique_scope old.shape k) (placed_there (changed p fs ks) k) (factors_in (changed p fs ks) k) (factors_in (changed p fs ks) k)) (sym (other_table k at d))
-          (subst (λ (n : ℕ). HasCells (table_at old k) (clique_scope old.shape k) (placed_there (changed p fs ks) k) n n) (counts k d)
-          (subst (λ (f : (ℕ → ℕ) → ℕ). HasCells (table_at old k) (clique_scope old.shape k) f (factors_in p k) (factors_in p k)) (fun_ext (same k d)) (h.tables k at)))
+          subst (λ (u : TableOf). HasCells u (clique_scope old.shape k) (placed_there (changed p fs ks) k) (factors_in (changed p fs ks) k) (factors_in (changed p fs ks) k) (ratios_in (changed p fs ks) k) (IsCommon (changed p fs ks))) (sym (other_table k at d))
+          (subst (λ (n : ℕ). HasCells (table_at old k) (clique_scope old.shape k) (placed_there (changed p fs ks) k) n n (ratios_in (changed p fs ks) k) (IsCommon (changed p fs ks))) (counts k d)
+          (subst (λ (f : (ℕ → ℕ) → ℕ). HasCells (table_at old k) (clique_scope old.shape k) f (factors_in p k) (factors_in p k) (ratios_in (changed p fs ks) k) (IsCommon (changed p fs ks))) (fun_ext (same k d))
+          (with_ratios (table_at old k) (clique_scope old.shape k) (placed_there p k) (factors_in p k) (factors_in p k) (ratios_in p k) (ratios_in (changed p fs ks) k) (IsCommon p) (IsCommon (changed p fs ks))
+          (ratios k d) common (h.tables k at))))
 
   sums_more : (k : ℕ) → IsClique old.shape.tree k → is_summed (with_table old clique t cores summed count) k ≡ true → HasSums plus old.shape (changed p fs ks) k (core_at (with_table old clique t cores summed count) k)
   sums_more k at marked = from (cases_eq k clique)
@@ -193,17 +217,21 @@ module _ (plus : ℕ → ℕ → ℕ) (old : FlowOf) (p : Placing) (fs : List Pl
       from (inr d) =
           let kept = others k at d in
           subst (λ (u : TableOf). HasSums plus old.shape (changed p fs ks) k u) (sym kept.0)
-          (subst (λ (n : ℕ). HasCells (core_at old k) (core_scope old.shape k) (core_there plus old.shape.tree (changed p fs ks) k) (n + (2 * private_cells p.network old.shape.tree k - 1)) n) (counts k d)
+          (subst (λ (n : ℕ). HasCells (core_at old k) (core_scope old.shape k) (core_there plus old.shape.tree (changed p fs ks) k) (n + (2 * private_cells p.network old.shape.tree k - 1)) n
+          (ratios_in (changed p fs ks) k) (IsCommon (changed p fs ks))) (counts k d)
           (subst (λ (f : (ℕ → ℕ) → ℕ). HasCells (core_at old k) (core_scope old.shape k)
-          (over plus (slice_index (sizes p.network)) (λ x. holds old.shape.tree k x && not (in_core old.shape.tree k x)) (variables (sizes p.network)) f) (core_steps old.shape.tree p k) (factors_in p k)) (fun_ext (same k d))
-          (h.sums k at (sym kept.1 ∙ marked))))
+          (over plus (slice_index (sizes p.network)) (λ x. holds old.shape.tree k x && not (in_core old.shape.tree k x)) (variables (sizes p.network)) f) (core_steps old.shape.tree p k) (factors_in p k)
+          (ratios_in (changed p fs ks) k) (IsCommon (changed p fs ks))) (fun_ext (same k d))
+          (with_ratios (core_at old k) (core_scope old.shape k) (core_there plus old.shape.tree p k) (core_steps old.shape.tree p k) (factors_in p k) (ratios_in p k) (ratios_in (changed p fs ks) k)
+          (IsCommon p) (IsCommon (changed p fs ks)) (ratios k d) common (h.sums k at (sym kept.1 ∙ marked)))))
 
   pub places_more : IsPlacing old.shape.tree (changed p fs ks) → length fs ≡ count → Places plus old (with_table old clique t cores summed count) clique p (changed p fs ks)
   places_more placing counted = record {
     placed = record { shape_is = h.shape_is; placing = placing; counted = counted; tables = tables_more; sums = sums_more };
     right = λ a b linked apart r.
         right_kept plus old (with_table old clique t cores summed count) p (changed p fs ks) a b refl refl
-        (exact_kept old.shape.tree p fs ks clique same counts a b apart plus) (grade_kept old.shape.tree p fs ks clique same counts a b apart) r;
+        (exact_kept old.shape.tree p fs ks clique same counts ratios a b apart plus) (grade_kept old.shape.tree p fs ks clique same counts ratios a b apart)
+        (ratios_kept old.shape.tree p fs ks clique same counts ratios a b apart) common r;
   }
 
 -- ---- the calls
@@ -216,7 +244,7 @@ pub few_in : (p : Placing) (k : ℕ) → factors_in p k ≤ length p.factors
 few_in p k = count_by-le-length (λ (f : PlacedFactor). f.clique == k) p.factors
 
 -- it has room for a factor more
-pub has_room : (t : TableOf) (scope : ScopeOf) (p : Placing) (k : ℕ) → HasCells t scope (placed_there p k) (factors_in p k) (factors_in p k) → length p.factors ≤ max_factors → HasRoom t 1
+pub has_room : (t : TableOf) (scope : ScopeOf) (p : Placing) (k : ℕ) → HasCells t scope (placed_there p k) (factors_in p k) (factors_in p k) (ratios_in p k) (IsCommon p) → length p.factors ≤ max_factors → HasRoom t 1
 has_room t scope p k h few = record {
   numbers = λ c. placed_there p k (values_at t.scope c);
   steps = factors_in p k;
@@ -227,16 +255,18 @@ has_room t scope p k h few = record {
 
 module _ (plus : ℕ → ℕ → ℕ) (old : FlowOf) (p : Placing) (clique : ℕ) (read t : TableOf) (cores : List TableOf) (summed : List Bool) (h : HasPlaced plus old p) (is : IsClique old.shape.tree clique) (within : clique - 1 < length old.tables)
     (reads : table_at old clique ≡ read) (scope : t.scope ≡ read.scope) (others : AreOthersKept old clique cores summed) where
-  had : HasCells read (clique_scope old.shape clique) (placed_there p clique) (factors_in p clique) (factors_in p clique)
-  had = subst (λ (u : TableOf). HasCells u (clique_scope old.shape clique) (placed_there p clique) (factors_in p clique) (factors_in p clique)) reads (h.tables clique is)
+  had : HasCells read (clique_scope old.shape clique) (placed_there p clique) (factors_in p clique) (factors_in p clique) (ratios_in p clique) (IsCommon p)
+  had = subst (λ (u : TableOf). HasCells u (clique_scope old.shape clique) (placed_there p clique) (factors_in p clique) (factors_in p clique) (ratios_in p clique) (IsCommon p)) reads (h.tables clique is)
 
   -- a factor more
   pub factor_placed : (f : Factor) → IsPlacedFactor p.network old.shape.tree (record { clique = clique; factor = f }) → old.factors < max_factors → t.shift ≤ read.shift + 40
       → ((g : ℕ → ℕ) (n : ℕ) → HasNumbers read g n → HasNumbers t (λ c. g c * factor_there p.network f (values_at read.scope c)) (n + 1))
+      → (HasRatios read (ratios_in p clique) (IsCommon p) → HasRatios t (ratios_in (with_factor_in clique f p) clique) (IsCommon (with_factor_in clique f p)))
       → (slice_index_or summed (clique - 1) false ≡ true → HasSums plus old.shape (with_factor_in clique f p) clique (slice_index_or cores (clique - 1) no_table))
       → Places plus old (with_table old clique t cores summed (old.factors + 1)) clique p (with_factor_in clique f p)
-  factor_placed f fits few shift numbers sums =
+  factor_placed f fits few shift numbers ratios sums =
       places_more plus old p (p.factors ++ record { clique = clique; factor = f } ∷ []) p.known clique t cores summed (old.factors + 1) h is within (factor_elsewhere p clique f) (counted_elsewhere p clique f)
+      (ratios_elsewhere p clique f) (common_before p clique f)
       (record {
         scope_is = scope ∙ had.scope_is;
         numbers =
@@ -245,6 +275,7 @@ module _ (plus : ℕ → ℕ → ℕ) (old : FlowOf) (p : Placing) (clique : ℕ
             (subst (λ (g : ℕ → ℕ). HasNumbers t g (factors_in p clique + 1)) (fun_ext (λ c. factor_here p clique f (values_at read.scope c)))
             (numbers (λ c. placed_there p clique (values_at read.scope c)) (factors_in p clique) had.numbers)));
         small_shift = omega (arith, shift, had.small_shift, counted_here p clique f);
+        ratios = ratios had.ratios;
       })
       others sums
       (record {
@@ -257,10 +288,10 @@ module _ (plus : ℕ → ℕ → ℕ) (old : FlowOf) (p : Placing) (clique : ℕ
   -- a known pair more
   pub pair_placed : (q : Pair) → IsPlacedPair p.network old.shape.tree (record { clique = clique; pair = q }) → t.shift ≡ read.shift
       → ((g : ℕ → ℕ) (n : ℕ) → HasNumbers read g n → HasNumbers t (λ c. if values_at read.scope c q.variable == q.value then g c else 0) n)
-      → (slice_index_or summed (clique - 1) false ≡ true → ⊥)
+      → KeepsPairs read.scope read.touched None t.touched → (slice_index_or summed (clique - 1) false ≡ true → ⊥)
       → Places plus old (with_table old clique t cores summed old.factors) clique p (with_pair_in clique q p)
-  pair_placed q fits shift numbers unmarked =
-      places_more plus old p p.factors (p.known ++ record { clique = clique; pair = q } ∷ []) clique t cores summed old.factors h is within (pair_elsewhere p clique q) (λ k d. refl)
+  pair_placed q fits shift numbers touched unmarked =
+      places_more plus old p p.factors (p.known ++ record { clique = clique; pair = q } ∷ []) clique t cores summed old.factors h is within (pair_elsewhere p clique q) (λ k d. refl) (λ k d. refl) (λ pair common. common)
       (record {
         scope_is = scope ∙ had.scope_is;
         numbers =
@@ -268,6 +299,7 @@ module _ (plus : ℕ → ℕ → ℕ) (old : FlowOf) (p : Placing) (clique : ℕ
             (subst (λ (g : ℕ → ℕ). HasNumbers t g (factors_in p clique)) (fun_ext (λ c. pair_here p clique q (values_at read.scope c)))
             (numbers (λ c. placed_there p clique (values_at read.scope c)) (factors_in p clique) had.numbers));
         small_shift = omega (arith, shift, had.small_shift);
+        ratios = ratios_restricted read t scope (ratios_in p clique) (IsCommon p) had.ratios shift touched;
       })
       others (λ marked. absurd (unmarked marked))
       (record {
@@ -370,6 +402,12 @@ starts plus flow ones unmarked none network shape = record {
   counted = sym none;
   tables = λ k at.
       let o = one_of (clique_scope flow.shape) 1 (length flow.shape.tree.cliques) flow.tables ones k at.first (omega (arith, at.last)) in
-      record { scope_is = o.scope_is; numbers = o.ones; small_shift = omega (arith, o.no_shift) };
+      record { scope_is = o.scope_is; numbers = o.ones; small_shift = omega (arith, o.no_shift); ratios = no_ratios (table_at flow k) (IsCommon (nothing_placed network)) o.no_shift o.no_ratio };
   sums = λ k at marked. absurd (both_ways (is_summed flow k) (unmarked k at) marked);
 }
+
+pub starts_over : (plus : ℕ → ℕ → ℕ) (flow : FlowOf) (shape given : ShapeOf) → flow.shape ≡ shape → given ≡ shape → AreOnes (clique_scope shape) 1 (length shape.tree.cliques) flow.tables
+    → ((k : ℕ) → IsClique shape.tree k → is_summed flow k ≡ false) → flow.factors ≡ 0 → (network : List Variable) → IsShapeFor given network → HasPlaced plus flow (nothing_placed network)
+starts_over plus flow shape given same e ones unmarked none network fits =
+    starts plus flow (subst (λ (s : ShapeOf). AreOnes (clique_scope s) 1 (length s.tree.cliques) flow.tables) (sym same) ones)
+    (subst (λ (s : ShapeOf). (k : ℕ) → IsClique s.tree k → is_summed flow k ≡ false) (sym same) unmarked) none network (subst (λ (s : ShapeOf). IsShapeFor s network) (e ∙ sym same) fits)

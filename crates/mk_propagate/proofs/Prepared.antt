@@ -8,6 +8,7 @@ use Rattle.mk_sums.specs.Trees.{linked, linked_to}
 use Rattle.mk_table.specs.Scopes.{ScopeOf, PlacesOf, cells_in}
 use Rattle.mk_table.specs.Cells.{cell_in}
 use Rattle.mk_table.specs.Tables.{TableOf, HasNumbers, HasRoom}
+use Rattle.mk_table.specs.Ratios.{KeepsPairs}
 use Rattle.mk_tree.specs.Given.{link_of}
 use Rattle.mk_propagate.specs.Shapes.{ShapeOf, IsClique, core_scope, separator_scope, separator_between, neighbours}
 use Rattle.mk_propagate.specs.Placings.{Placing}
@@ -37,11 +38,11 @@ module _ (plus : ℕ → ℕ → ℕ) (law : Lawful plus) (shape : ShapeOf) (k :
 
     -- where none was taken it is 1
     pub into_none : (receiver : Option ℕ) (before product : TableOf) → IsGathering plus shape upward downward k receiver (length (neighbours shape.tree k)) true before
-        → product.scope ≡ before.scope → product.shift ≡ 0 → HasNumbers product (λ c. 1) 0 → length product.digits ≡ cells_in product.scope → HasInto plus shape upward downward k receiver product
-    into_none receiver before product h scope shift ones full = record {
+        → product.scope ≡ before.scope → product.shift ≡ 0 → HasNumbers product (λ c. 1) 0 → length product.digits ≡ cells_in product.scope → product.touched ≡ None → HasInto plus shape upward downward k receiver product
+    into_none receiver before product h scope shift ones full touched = record {
       into = λ p can.
           none_gathered shape p can.shape_is can.placing plus law k clique receiver (neighbours shape.tree k) product
-          (subst (λ (xs : List ℕ). list_any (is_taken receiver) xs ≡ false) (take-length (neighbours shape.tree k)) (h.none refl)) (scope ∙ h.scope) shift ones full;
+          (subst (λ (xs : List ℕ). list_any (is_taken receiver) xs ≡ false) (take-length (neighbours shape.tree k)) (h.none refl)) (scope ∙ h.scope) shift ones full touched;
     }
 
     -- the message that a product leaves out is put back
@@ -67,7 +68,7 @@ module _ (plus : ℕ → ℕ → ℕ) (law : Lawful plus) (shape : ShapeOf) (k :
 
       pub into_back : (new : TableOf) → new.scope ≡ old.scope → new.shift ≡ old.shift + message.shift → length new.digits ≡ cells_in new.scope
           → ((f g : ℕ → ℕ) (n q : ℕ) → HasNumbers old f n → HasNumbers message g q → HasNumbers new (λ c. f c * g (cell_in message.scope old.scope c)) (n + q + 1))
-          → HasInto plus shape upward downward k None new
-      into_back new scope shift full numbers = record {
-        into = λ p can. put_back shape p can.shape_is can.placing plus law k clique i l old new message (h.into p (all_but p can)) (left_out p can) scope shift full numbers;
+          → KeepsPairs old.scope old.touched message.touched new.touched → HasInto plus shape upward downward k None new
+      into_back new scope shift full numbers touched = record {
+        into = λ p can. put_back shape p can.shape_is can.placing plus law k clique i l old new message (h.into p (all_but p can)) (left_out p can) scope shift full numbers touched;
       }

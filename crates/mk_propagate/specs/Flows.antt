@@ -9,10 +9,12 @@ use Rattle.mk_sums.specs.Trees.{linked_to, linked_but, right_message, message_gr
 use Rattle.mk_table.specs.Scopes.{ScopeOf}
 use Rattle.mk_table.specs.Cells.{values_at, cells_beside}
 use Rattle.mk_table.specs.Tables.{TableOf, HasNumbers}
+use Rattle.mk_table.specs.Ratios.{HasRatios}
 use Rattle.mk_tree.specs.Given.{GivenTree, clique_at, holds, link_of, holds_event}
 use Rattle.mk_engine.specs.Meaning.{exact_belief, whole_sum, max_factors}
+use Rattle.mk_engine.specs.Apart.{IsApart, without_ratios}
 use Rattle.mk_propagate.specs.Shapes.{ShapeOf, IsShapeFor, IsClique, are_linked, is_behind, next_on_way, clique_scope, core_scope, separator_between, clique_cells, no_scope, scope_within, in_core}
-use Rattle.mk_propagate.specs.Placings.{Placing, IsPlacing, placed_there, factors_in, meaning_of}
+use Rattle.mk_propagate.specs.Placings.{Placing, IsPlacing, IsCommon, placed_there, factors_in, ratios_in, meaning_of}
 
 -- Beside the table of each clique lies one over its core, and whether that was summed. Upward are the messages of the cliques from 2 on to
 -- their links, and downward those of the links to them. `factors` counts the factors that are placed, and `computed` the messages that were made.
@@ -43,11 +45,12 @@ abbrev pub message_at : FlowOf → ℕ → ℕ → TableOf
 message_at flow a b = if nat_lt b a then slice_index_or flow.upward (a - 2) no_table else slice_index_or flow.downward (b - 2) no_table
 
 -- A table over a scope whose cells stand for a number of their values after so many steps. No more ratios are in it than `factors`,
--- each of which raised its shift by the 40 places of a unit.
-pub record HasCells (t : TableOf) (scope : ScopeOf) (f : (ℕ → ℕ) → ℕ) (steps factors : ℕ) : Type 0 where
+-- each of which raised its shift by the 40 places of a unit. There are `count` of them, and the common pairs stand in the condition of each.
+pub record HasCells (t : TableOf) (scope : ScopeOf) (f : (ℕ → ℕ) → ℕ) (steps factors count : ℕ) (common : Pair → Type 0) : Type 0 where
   pub scope_is : t.scope ≡ scope
   pub numbers : HasNumbers t (λ c. f (values_at t.scope c)) steps
   pub small_shift : t.shift ≤ 40 * factors
+  pub ratios : HasRatios t count common
 
 -- what is placed in clique k: the plus over the variables that lie outside its core
 abbrev pub core_there : (ℕ → ℕ → ℕ) → GivenTree → Placing → ℕ → (ℕ → ℕ) → ℕ
@@ -63,7 +66,7 @@ core_steps tree p k = factors_in p k + (2 * private_cells p.network tree k - 1)
 
 -- a table over the core of clique k has what is placed in the clique, summed there
 abbrev pub HasSums : (ℕ → ℕ → ℕ) → ShapeOf → Placing → ℕ → TableOf → Type 0
-HasSums plus shape p k t = HasCells t (core_scope shape k) (core_there plus shape.tree p k) (core_steps shape.tree p k) (factors_in p k)
+HasSums plus shape p k t = HasCells t (core_scope shape k) (core_there plus shape.tree p k) (core_steps shape.tree p k) (factors_in p k) (ratios_in p k) (IsCommon p)
 
 -- The flow has this placed: the table of each clique has the product of what is placed there, in a step for each factor, and so has
 -- each core that was summed.
@@ -72,7 +75,7 @@ pub record HasPlaced (plus : ℕ → ℕ → ℕ) (flow : FlowOf) (p : Placing) 
   pub placing : IsPlacing flow.shape.tree p
   pub counted : length p.factors ≡ flow.factors
   pub tables : (k : ℕ) → IsClique flow.shape.tree k
-      → HasCells (table_at flow k) (clique_scope flow.shape k) (placed_there p k) (factors_in p k) (factors_in p k)
+      → HasCells (table_at flow k) (clique_scope flow.shape k) (placed_there p k) (factors_in p k) (factors_in p k) (ratios_in p k) (IsCommon p)
   pub sums : (k : ℕ) → IsClique flow.shape.tree k → is_summed flow k ≡ true → HasSums plus flow.shape p k (core_at flow k)
 
 -- the exact message from a to b
@@ -84,10 +87,14 @@ exact_message plus tree p a b =
 abbrev pub exact_message_grade : GivenTree → Placing → ℕ → ℕ → ℕ
 exact_message_grade tree p a b = message_grade (factors_in p) (clique_cells p.network tree) (link_of tree) (length tree.cliques) a b
 
+-- how many ratios are placed on a's side
+abbrev pub message_ratios : GivenTree → Placing → ℕ → ℕ → ℕ
+message_ratios tree p a b = sum_of (is_behind tree a b) (length tree.cliques) (ratios_in p)
+
 -- the message from a to b is right: its cells stand for the exact message, in at most three steps for each of its grade
 pub record IsRight (plus : ℕ → ℕ → ℕ) (flow : FlowOf) (p : Placing) (a b : ℕ) : Type 0 where
   pub cells : HasCells (message_at flow a b) (separator_between flow.shape a b) (exact_message plus flow.shape.tree p a b)
-      (3 * exact_message_grade flow.shape.tree p a b) (exact_message_grade flow.shape.tree p a b)
+      (3 * exact_message_grade flow.shape.tree p a b) (exact_message_grade flow.shape.tree p a b) (message_ratios flow.shape.tree p a b) (IsCommon p)
 
 -- the messages into a are right, but for b's
 abbrev pub AreRightBut : (ℕ → ℕ → ℕ) → FlowOf → Placing → ℕ → ℕ → Type 0
@@ -126,12 +133,14 @@ all_cells tree p = sum_of (λ k. true) (length tree.cliques) (clique_cells p.net
 abbrev pub reading_grade : GivenTree → Placing → ℕ → ℕ
 reading_grade tree p k = length p.factors + all_cells tree p + 2 * (length tree.cliques - 1) + clique_cells p.network tree k
 
--- what is read in a clique encloses the exact belief in the event, with its grade, and nothing was rounded in the small case
+-- what is read in a clique encloses the exact belief in the event, with its grade, and nothing was rounded in the small case; nor was it
+-- in that of an event that no ratio changes, where the sum without the ratios is small
 pub record IsReading {V : Type 0} (encloses : V → ℕ → Type 0) (has_grade : V → ℕ → Type 0) (is_exact : V → Type 0)
     (plus : ℕ → ℕ → ℕ) (tree : GivenTree) (p : Placing) (k : ℕ) (event : List Pair) (value : V) : Type 0 where
   pub enclosed : encloses value (exact_belief plus (meaning_of tree p) event)
   pub grade : has_grade value (reading_grade tree p k)
   pub exact : whole_sum (meaning_of tree p) < number_limit → is_exact value
+  pub apart : IsApart (meaning_of tree p) event → whole_sum (without_ratios (meaning_of tree p)) < number_limit → is_exact value
 
 -- ---- what calls ask
 

@@ -1,5 +1,5 @@
 -- What is placed in the cliques of a tree: factors, and known pairs.
-use Rattle.std.specs.Prelude.{◌≡◌, ℕ, ◌<◌, ◌≤◌, ◌==◌, List, [], ◌∷◌, ◌++◌, map, length, All, true, count_by}
+use Rattle.std.specs.Prelude.{◌≡◌, ℕ, ◌<◌, ◌≤◌, ◌==◌, ◌&&◌, List, [], ◌∷◌, ◌++◌, map, length, All, true, count_by}
 use Rattle.mk_net.specs.declared.words.Pair.{Pair}
 use Rattle.mk_net.specs.Asked.{ratio_pairs}
 use Rattle.mk_net.specs.Network.{Variable}
@@ -7,7 +7,8 @@ use Rattle.mk_exact.specs.Proper.{IsPairOf, IsRatioOf}
 use Rattle.mk_sums.specs.Joint.{Item, placed_in, where_has}
 use Rattle.mk_tree.specs.Given.{GivenTree, clique_at, holds, holds_event}
 use Rattle.mk_tree.specs.Tests.{holds_family}
-use Rattle.mk_engine.specs.Meaning.{Meaning, Factor, RowsOf, SupportOf, RatioOf, factor_there, max_factors}
+use Rattle.mk_engine.specs.Meaning.{Meaning, Factor, RowsOf, SupportOf, RatioOf, factor_there, is_ratio, max_factors}
+use Rattle.mk_engine.specs.Apart.{HasCondition}
 use Rattle.mk_propagate.specs.Shapes.{IsClique}
 
 pub record PlacedFactor : Type 0 where
@@ -50,6 +51,14 @@ placed_there p k = placed_in (items_of p) k
 -- how many factors are placed in a clique
 abbrev pub factors_in : Placing → ℕ → ℕ
 factors_in p k = count_by (λ (f : PlacedFactor). f.clique == k) p.factors
+
+-- how many of them are ratios
+abbrev pub ratios_in : Placing → ℕ → ℕ
+ratios_in p k = count_by (λ (f : PlacedFactor). f.clique == k && is_ratio f.factor) p.factors
+
+-- every ratio that is placed has the pair in its condition
+abbrev pub IsCommon : Placing → Pair → Type 0
+IsCommon p pair = All (λ (f : PlacedFactor). HasCondition pair f.factor) p.factors
 
 -- a factor of the network, all of whose variables a clique holds
 abbrev pub IsFactorIn : List Variable → GivenTree → ℕ → Factor → Type 0

@@ -37,7 +37,7 @@ pub struct Flow<R: Semiring> {
     pub(crate) products: Vec<Table<R>>,
     pub(crate) gathered: Vec<Gathered>,
     // Where the cells of an event are listed.
-    pub(crate) chosen: CellList,
+    pub(crate) chosen: Box<CellList>,
     // Of all cliques.
     pub(crate) cells: u32,
     pub(crate) factors: u32,
@@ -96,7 +96,7 @@ impl<R: Semiring> Flow<R> {
             summed: vec![in alloc; false; of.cliques() as usize]?,
             products,
             gathered: vec![in alloc; Gathered::Nothing; of.cliques() as usize]?,
-            chosen: CellList::new(),
+            chosen: Box::new(alloc, CellList::new())?,
             cells: count_cells(of),
             factors: 0,
             computed: 0,

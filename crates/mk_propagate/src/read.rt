@@ -1,6 +1,6 @@
 //! Beliefs, as they are read in a clique.
 
-ghost use Rattle.std.specs.Prelude.{◌≡◌, ◌&&◌, ◌*◌, ◌^◌, ◌<◌, ◌≤◌, ℕ};
+ghost use Rattle.std.specs.Prelude.{◌≡◌, ◌&&◌, ◌+◌, ◌*◌, ◌^◌, ◌<◌, ◌≤◌, ℕ, true};
 ghost use Rattle.mk_net.specs.Bounds.{number_limit};
 ghost use Rattle.mk_table.specs.Scopes.{HasEvent, cells_in};
 ghost use Rattle.mk_table.specs.Tables.{HasNumbers, HasRoom, is_untouched};
@@ -61,7 +61,8 @@ impl<R: Semiring> Flow<R> {
     }
 }
 
-/// The value of the plus, over the cells where an event holds, of a table's cells times those of a product of messages.
+/// The value of the plus, over the cells where an event holds, of a table's cells times those of a product of messages. Where no
+/// ratio touched a cell of the event, it is exact if what is left of the plus under no shift is small.
 fn value_of<R: Semiring>(
     table: &Table<R>,
     places: &Places,
@@ -82,6 +83,9 @@ fn value_of<R: Semiring>(
     ensures grade { R.has_grade result grade }
     ensures exact { (f g : ℕ → ℕ) (n p : ℕ) → HasNumbers table.now f n → HasNumbers into.now g p → IsWithin table.now n p grade
         → total_of R.plus_of table.now into.now event.now f g < number_limit → R.is_exact result }
+    ensures apart { is_untouched table.now event.now ≡ true → is_untouched into.now event.now ≡ true
+        → (f g : ℕ → ℕ) (n p : ℕ) → HasNumbers table.now f n → HasNumbers into.now g p → IsWithin table.now n p grade
+        → (own : ℕ) → total_of R.plus_of table.now into.now event.now f g ≤ own * 2 ^ (table.now.shift + into.now.shift) → own < number_limit → R.is_exact result }
 {
     let total = table.total_times(places, into, event, chosen);
     let untouched = are_untouched(table, into, event);

@@ -14,6 +14,8 @@ pub mod Onto
 pub mod Placed
 pub mod Whole
 pub mod Untouched
+pub mod Taken
+pub mod RatiosKept
 pub mod Owned
 pub mod Filled
 pub mod OnesSum

@@ -10,8 +10,10 @@ use Rattle.mk_sums.proofs.Tables.{place_cell_of}
 use Rattle.mk_table.specs.Scopes.{ScopeOf, HasEvent, LiesIn, has_variable, size_in, cells_in}
 use Rattle.mk_table.specs.Cells.{values_at, cell_in}
 use Rattle.mk_table.specs.Tables.{touches, contradicts, contradicts_pair, is_untouched_by}
-use Rattle.mk_table.specs.inner.Touched.{has_pair, HasTouched, IsPart, IsEither, IsBeside}
+use Rattle.mk_table.specs.Ratios.{has_pair}
+use Rattle.mk_table.specs.inner.Touched.{HasTouched, IsPart, IsEither, IsBeside}
 use Rattle.mk_table.proofs.Kept.{value_in}
+use Rattle.mk_table.proofs.Taken.{ends, both_keep}
 
 -- ---- parts of events
 
@@ -95,14 +97,17 @@ pub contradicted : (event : List Pair) (p : Pair) → contradicts_pair event p �
 contradicted event p h = record {
   holds = λ a e t. absurd (pair_contradicts event p a h t e);
   variables = λ scope k. tt;
+  kept = λ scope. ends scope (Some event) None;
 }
 
 -- the pairs that two events share hold wherever one of the two does
-pub shared_pairs : (first second shared : List Pair) → IsPart shared first → IsPart shared second → IsEither (Some first) (Some second) (Some shared)
-shared_pairs first second shared h k = record {
+pub shared_pairs : (first second shared : List Pair) → IsPart shared first → IsPart shared second → ((p : Pair) → has_pair first p ≡ true → has_pair second p ≡ true → has_pair shared p ≡ true)
+    → IsEither (Some first) (Some second) (Some shared)
+shared_pairs first second shared h k all = record {
   of_first = λ a t. part_holds shared first a h t;
   of_second = λ a t. part_holds shared second a k t;
   variables = λ scope l m. part_event scope shared first h l;
+  kept = λ scope. both_keep scope first second shared all;
 }
 
 -- where an untouched event holds, no ratio touched

@@ -11,6 +11,7 @@ ghost use Rattle.mk_cell.specs.Cell.{Stands, IsOwnOf};
 ghost use Rattle.mk_table.specs.Scopes.{HasEvent, HasOneEach, HasSized, cells_in, has_variable};
 ghost use Rattle.mk_table.specs.Cells.{values_at, cell_in, cells_onto, cells_beside, cells_where};
 ghost use Rattle.mk_table.specs.Tables.{TableOf, HasNumbers, HasRoom, is_untouched};
+ghost use Rattle.mk_table.specs.Ratios.{KeepsPairs};
 ghost use Rattle.mk_table.specs.Margins.{IsMarginBut};
 ghost use Rattle.mk_table.specs.inner.Parts.{IsFull, StandListed};
 
@@ -77,6 +78,7 @@ impl<R: Semiring> Table<R> {
         ensures scope { IfOk result (λ t. t.scope ≡ scope.now.value) }
         ensures shift { IfOk result (λ t. t.shift ≡ 0) }
         ensures ones { IfOk result (λ t. HasNumbers t (λ c. 1) 0) }
+        ensures touched { IfOk result (λ t. t.touched ≡ None) }
     {
         let cells = scope.cells();
         Ok(Table {
@@ -130,6 +132,7 @@ impl<R: Semiring> Table<R> {
         ensures shift { self.new.shift ≡ self.old.shift }
         ensures numbers { (f : ℕ → ℕ) (n : ℕ) → HasNumbers self.old f n
             → HasNumbers self.new (λ c. f c * share_there net.now variable (values_at self.old.scope c)) (n + 1) }
+        ensures touched { self.new.touched ≡ self.old.touched }
     {
         fill(&mut self.digits, &mut self.exponents, self.scope.cells());
         times_shares(
@@ -151,6 +154,7 @@ impl<R: Semiring> Table<R> {
         ensures shift { self.new.shift ≡ self.old.shift }
         ensures numbers { (f : ℕ → ℕ) (n : ℕ) → HasNumbers self.old f n
             → HasNumbers self.new (λ c. f c * support_there net.now variable (values_at self.old.scope c)) (n + 1) }
+        ensures touched { self.new.touched ≡ self.old.touched }
     {
         fill(&mut self.digits, &mut self.exponents, self.scope.cells());
         times_supports(
@@ -173,6 +177,7 @@ impl<R: Semiring> Table<R> {
         ensures shift { self.new.shift ≡ self.old.shift + 40 }
         ensures numbers { (f : ℕ → ℕ) (n : ℕ) → HasNumbers self.old f n
             → HasNumbers self.new (λ c. f c * ratio_there (trade_ratio ratio.now) (values_at self.old.scope c)) (n + 1) }
+        ensures touched { KeepsPairs self.old.scope self.old.touched (Some ratio.now.condition) self.new.touched }
     {
         self.scope.cells_where(&ratio.condition, chosen);
         fill(&mut self.digits, &mut self.exponents, self.scope.cells());
@@ -196,6 +201,7 @@ impl<R: Semiring> Table<R> {
         ensures shift { self.new.shift ≡ self.old.shift + message.now.shift }
         ensures numbers { (f g : ℕ → ℕ) (n p : ℕ) → HasNumbers self.old f n → HasNumbers message.now g p
             → HasNumbers self.new (λ c. f c * g (cell_in message.now.scope self.old.scope c)) (n + p + 1) }
+        ensures touched { KeepsPairs self.old.scope self.old.touched message.now.touched self.new.touched }
     {
         times_held(
             &mut self.digits,
@@ -215,6 +221,7 @@ impl<R: Semiring> Table<R> {
         ensures shift { self.new.shift ≡ message.now.shift }
         ensures numbers { (g : ℕ → ℕ) (p : ℕ) → HasNumbers message.now g p
             → HasNumbers self.new (λ c. g (cell_in message.now.scope self.old.scope c)) p }
+        ensures touched { self.new.touched ≡ message.now.touched }
     {
         put_held(
             &mut self.digits,
@@ -234,6 +241,7 @@ impl<R: Semiring> Table<R> {
         ensures shift { self.new.shift ≡ self.old.shift }
         ensures numbers { (f : ℕ → ℕ) (n : ℕ) → HasNumbers self.old f n
             → HasNumbers self.new (λ c. if values_at self.old.scope c pair.variable == pair.value then f c else 0) n }
+        ensures touched { KeepsPairs self.old.scope self.old.touched None self.new.touched }
     {
         fill(&mut self.digits, &mut self.exponents, self.scope.cells());
         keep_value(&mut self.digits, &mut self.exponents, &self.scope, pair);
@@ -245,6 +253,7 @@ impl<R: Semiring> Table<R> {
         ensures scope { self.new.scope ≡ self.old.scope }
         ensures shift { self.new.shift ≡ 0 }
         ensures ones { HasNumbers self.new (λ c. 1) 0 }
+        ensures touched { self.new.touched ≡ None }
         ensures full { length self.new.digits ≡ cells_in self.new.scope }
     {
         self.shift = 0;
@@ -273,6 +282,7 @@ impl<R: Semiring> Table<R> {
         ensures numbers { (f : ℕ → ℕ) (n : ℕ) → HasNumbers self.now f n
             → HasNumbers out.new (λ d. plus_over R.plus_of 0 f (cells_onto out.old.scope self.now.scope d)) (n + (2 * cells_beside out.old.scope self.now.scope - 1)) }
         ensures beside { cells_in out.old.scope * cells_beside out.old.scope self.now.scope ≡ cells_in self.now.scope }
+        ensures touched { KeepsPairs out.old.scope self.now.touched None out.new.touched }
     {
         let (bases, offsets, run) = places.lists();
         plus_of_each::<R>(
@@ -304,6 +314,7 @@ impl<R: Semiring> Table<R> {
         ensures shift { out.new.shift ≡ self.now.shift }
         ensures numbers { (f : ℕ → ℕ) (n : ℕ) → HasNumbers self.now f n → IsMarginBut R.plus_of event.now self.now out.old f n
             → HasNumbers out.new (λ d. plus_over R.plus_of 0 f (cells_onto out.old.scope self.now.scope d)) (n + (2 * cells_beside out.old.scope self.now.scope - 1)) }
+        ensures touched { KeepsPairs out.old.scope self.now.touched out.old.touched out.new.touched }
     {
         if self.digits.len() < self.scope.cells() {
             self.margin_into(places, out);
@@ -348,6 +359,7 @@ impl<R: Semiring> Table<R> {
             → HasNumbers out.new (λ d. plus_over R.plus_of 0 (λ c. f c * g (cell_in other.now.scope self.now.scope c)) (cells_onto out.old.scope self.now.scope d))
             (n + p + (2 * cells_beside out.old.scope self.now.scope + 1)) }
         ensures beside { cells_in out.old.scope * cells_beside out.old.scope self.now.scope ≡ cells_in self.now.scope }
+        ensures touched { KeepsPairs out.old.scope self.now.touched other.now.touched out.new.touched }
     {
         margin_times::<R>(
             &self.digits,

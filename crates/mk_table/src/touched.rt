@@ -1,10 +1,14 @@
 //! The event that ratios may have touched: no ratio touched a cell where it does not hold. Leaving a pair out is always right,
 //! since more cells count as touched then.
 
-ghost use Rattle.std.specs.Prelude.{◌≡◌, ◌⊎◌, [], ◌∷◌, ◌++◌, List, Option, Some, true};
-ghost use Rattle.mk_table.specs.Scopes.{HasEvent};
+ghost use Rattle.std.specs.Prelude.{◌≡◌, ◌<◌, ◌⊎◌, [], ◌∷◌, ◌++◌, List, length, Option, Some, true, false};
+ghost use Rattle.mk_net.specs.declared.words.Pair.{Pair};
+ghost use Rattle.mk_net.specs.Bounds.{max_pairs};
+ghost use Rattle.mk_net.specs.Events.{speaks_of};
+ghost use Rattle.mk_table.specs.Scopes.{HasEvent, has_variable};
+ghost use Rattle.mk_table.specs.Ratios.{has_pair};
 ghost use Rattle.mk_table.specs.Tables.{contradicts, contradicts_pair, is_untouched_by};
-ghost use Rattle.mk_table.specs.inner.Touched.{has_pair, IsPart, IsEither, IsBeside, IsWithin, IsEitherWithin};
+ghost use Rattle.mk_table.specs.inner.Touched.{IsPart, IsEither, IsBeside, IsWithin, IsEitherWithin};
 
 use crate::scope::Scope;
 use mk_net::{Event, Pair};
@@ -138,6 +142,7 @@ fn has_pair(pairs: &[Pair], pair: Pair) -> bool
 fn keep_common(event: &mut Event, others: &[Pair])
     ensures first { IsPart event.new event.old }
     ensures second { IsPart event.new others.now }
+    ensures all { (p : Pair) → has_pair event.old p ≡ true → has_pair others.now p ≡ true → has_pair event.new p ≡ true }
 {
     if !event.pairs().is_empty() {
         *event = common(event, others);
@@ -148,6 +153,7 @@ fn keep_common(event: &mut Event, others: &[Pair])
 fn common(event: &Event, others: &[Pair]) -> Event
     ensures first { IsPart result event.now }
     ensures second { IsPart result others.now }
+    ensures all { (p : Pair) → has_pair event.now p ≡ true → has_pair others.now p ≡ true → has_pair result p ≡ true }
 {
     let mut shared = Event::empty();
     for pair in event.pairs() {
@@ -164,6 +170,7 @@ fn common(event: &Event, others: &[Pair]) -> Event
 pub(crate) fn pairs_within(event: &Event, scope: &Scope) -> Event
     ensures part { IsPart result event.now }
     ensures there { HasEvent scope.now result }
+    ensures all { (p : Pair) → has_pair event.now p ≡ true → has_variable scope.now p.variable ≡ true → has_pair result p ≡ true }
 {
     if event.pairs().is_empty() {
         return *event;
@@ -184,6 +191,7 @@ fn common_within(event: &Event, others: &[Pair], scope: &Scope) -> Event
     ensures first { IsPart result event.now }
     ensures second { IsPart result others.now }
     ensures there { HasEvent scope.now result }
+    ensures all { (p : Pair) → has_pair event.now p ≡ true → has_pair others.now p ≡ true → has_variable scope.now p.variable ≡ true → has_pair result p ≡ true }
 {
     let mut shared = Event::empty();
     for pair in event.pairs() {
@@ -196,7 +204,8 @@ fn common_within(event: &Event, others: &[Pair], scope: &Scope) -> Event
 
 /// The event with one pair more, where it has room for it and does not speak of its variable.
 fn with_pair(event: &Event, pair: Pair) -> Event
-    ensures { (result ≡ event.now ++ pair ∷ []) ⊎ (result ≡ event.now) }
+    ensures either { (result ≡ event.now ++ pair ∷ []) ⊎ (result ≡ event.now) }
+    ensures added { length event.now < max_pairs → speaks_of event.now pair.variable ≡ false → result ≡ event.now ++ pair ∷ [] }
 {
     match event.with(pair) {
         Some(longer) => longer,

@@ -1,5 +1,8 @@
 -- A belief, once both passes were made.
-use Rattle.std.proofs.Common.{◌≡◌, ℕ, suc, zero, ◌+◌, ◌-◌, ◌<◌, ◌≤◌, Bool, true, false, not, ◌&&◌, eqb, List, [], ◌∷◌, Option, Some, map, length, take, slice_index_or, sum_by, refl, sym, ap, subst, ◌∙◌, arith, eq-eqb, ne_eqb}
+use Rattle.std.proofs.Common.{◌≡◌, ℕ, suc, zero, ◌+◌, ◌-◌, ◌*◌, ◌<◌, ◌≤◌, max, Bool, true, false, not}
+use Rattle.std.proofs.Common.{◌&&◌, eqb, List, [], ◌∷◌, Option, Some, map, length, take}
+use Rattle.std.proofs.Common.{slice_index_or, sum_by, refl, sym, ap, subst, ◌∙◌, arith, eq-eqb}
+use Rattle.std.proofs.Common.{ne_eqb}
 use Rattle.std.proofs.lemmas.Bool.{and_from, not_from_false}
 use Rattle.std.proofs.lemmas.List.{length-map}
 use Rattle.std.proofs.lemmas.List.Sums.{sum_by_more}
@@ -7,13 +10,15 @@ use Rattle.std.proofs.Math.Seq.{take-length}
 use Rattle.mk_net.specs.declared.words.Pair.{Pair}
 use Rattle.mk_net.specs.Sets.{no_variables}
 use Rattle.mk_net.specs.Bounds.{number_limit}
+use Rattle.mk_exact.specs.States.{plus_over}
 use Rattle.mk_sums.specs.Trees.{sum_of, linked_to}
 use Rattle.mk_sums.proofs.Hops as hops
 use Rattle.mk_tree.specs.Given.{GivenTree, clique_at, link_of, holds_event}
 use Rattle.mk_tree.specs.Tests.{cells_of}
 use Rattle.mk_tree.specs.Checked.{IsTreeOf}
-use Rattle.mk_engine.specs.Meaning.{Meaning, Factor, exact_belief, whole_sum, max_grade}
+use Rattle.mk_engine.specs.Meaning.{Meaning, Factor, exact_belief, whole_sum, max_grade, tree_grade}
 use Rattle.mk_engine.specs.Beliefs.{IsBelief}
+use Rattle.mk_engine.specs.Apart.{IsApart, without_ratios}
 use Rattle.mk_propagate.specs.Shapes.{ShapeOf, IsClique, are_linked, next_on_way, clique_cells}
 use Rattle.mk_propagate.specs.Placings.{Placing, PlacedFactor, PlacedPair, meaning_of}
 use Rattle.mk_propagate.specs.Flows.{HasPlaced, AreRightInto, CanRead, IsReading, all_cells, reading_grade, counted_on}
@@ -36,14 +41,25 @@ sum_of_first f xs d (suc n) h =
     let s : suc n ≡ n + 1 = omega arith in
     ap (λ k. k + f (slice_index_or xs (suc n - 1) d)) ih ∙ ap (λ k. sum_by f (take n xs) + k) g ∙ sym q ∙ ap (λ k. sum_by f (take k xs)) (sym s)
 
+-- what is listed is at most the greatest
+at_most_greatest : {X : Type 0} (f : X → ℕ) (xs : List X) (i : ℕ) (d : X) → i < length xs
+    → f (slice_index_or xs i d) ≤ plus_over max 0 f xs
+at_most_greatest f [] i d h = absurd (omega arith)
+at_most_greatest f (x ∷ xs) zero d h = omega arith
+at_most_greatest f (x ∷ xs) (suc i) d h =
+    let l = at_most_greatest f xs i d (omega arith) in omega (arith, l)
+
 module _ (tree : GivenTree) (p : Placing) (is : IsTreeOf p.network tree) where
+  cells_listed : all_cells tree p ≡ sum_by (cells_of p.network) tree.cliques
+  cells_listed =
+      sum_same (λ j. true) (length tree.cliques) (clique_cells p.network tree)
+      (λ j. cells_of p.network (clique_at tree j)) (λ j _ _ _. clique_counted p.network tree j)
+      ∙ sum_of_first (cells_of p.network) tree.cliques no_variables (length tree.cliques)
+      (omega arith)
+      ∙ ap (sum_by (cells_of p.network)) (take-length tree.cliques)
+
   few_cells : all_cells tree p ≤ 32768
-  few_cells =
-      let e = sum_same (λ j. true) (length tree.cliques) (clique_cells p.network tree) (λ j. cells_of p.network (clique_at tree j)) (λ j _ _ _. clique_counted p.network tree j) in
-      let f = sum_of_first (cells_of p.network) tree.cliques no_variables (length tree.cliques) (omega arith) in
-      let g = ap (sum_by (cells_of p.network)) (take-length tree.cliques) in
-      let h = is.few_cells in
-      omega (arith, e, f, g, h)
+  few_cells = omega (arith, cells_listed, is.few_cells)
 
   small_clique : (k : ℕ) → IsClique tree k → clique_cells p.network tree k ≤ 4096
   small_clique k at_k =
@@ -55,6 +71,15 @@ module _ (tree : GivenTree) (p : Placing) (is : IsTreeOf p.network tree) where
   grade_within k n at_k e =
       let a = few_cells in let b = small_clique k at_k in let c = is.linked.few in
       omega (arith, a, b, c, e)
+
+  pub within_tree : (k n : ℕ) → IsClique tree k → length p.factors ≡ n
+      → reading_grade tree p k ≤ n + sum_by (cells_of p.network) tree.cliques
+      + 2 * (length tree.cliques - 1) + plus_over max 0 (cells_of p.network) tree.cliques
+  within_tree k n at_k e =
+      let p1 = at_k.first in let p2 = at_k.last in
+      let l = at_most_greatest (cells_of p.network) tree.cliques (k - 1) no_variables (omega arith)
+      in
+      omega (arith, e, cells_listed, l, clique_counted p.network tree k)
 
 -- ---- what is placed is what is meant
 
@@ -153,14 +178,31 @@ module _ (plus : ℕ → ℕ → ℕ) (old : MarkedFlow) (marks_of : AreMarksOf 
           subst (λ (t : GivenTree). IsReading encloses has_grade is_exact plus t (placing_of m) c event r) (ap (λ (s : ShapeOf). s.tree) is.kept.same_shape ∙ h.tree_is)
           (reads (placing_of m) (is.kept.placed (placing_of m) h.placed) (into (placing_of m) h.placed (current_of m h)))
 
+      pub apart_of : IsApart m event → whole_sum (without_ratios m) < number_limit → is_exact r
+      apart_of apart small =
+          reading.apart (subst (λ (n : Meaning). IsApart n event) (sym (meaning_same m)) apart) (subst (λ (n : Meaning). whole_sum (without_ratios n) < number_limit) (sym (meaning_same m)) small)
+
       pub sharp : has_grade r (reading_grade m.tree (placing_of m) c)
       sharp = reading.grade
 
+      tree_is : IsTreeOf m.network m.tree
+      tree_is = subst (λ (t : GivenTree). IsTreeOf m.network t) h.tree_is h.placed.shape_is.tree_is
+
+      clique_is : IsClique m.tree c
+      clique_is = subst (λ (t : GivenTree). IsClique t c) h.tree_is at_c
+
+      as_many : length (placing_of m).factors ≡ length m.factors
+      as_many = length-map m.factors
+          (λ f. record { clique = factor_home m.network m.tree f; factor = f })
+
+      pub graded : has_grade r (tree_grade m)
+      graded = grade_more r (reading_grade m.tree (placing_of m) c) (tree_grade m) sharp
+          (within_tree m.tree (placing_of m) tree_is c (length m.factors) clique_is as_many)
+
       pub belief_of : IsBelief encloses has_grade is_exact plus m event r
       belief_of =
-          let tree_is : IsTreeOf m.network m.tree = subst (λ (t : GivenTree). IsTreeOf m.network t) h.tree_is h.placed.shape_is.tree_is in
-          let within = grade_within m.tree (placing_of m) tree_is c (length m.factors) (subst (λ (t : GivenTree). IsClique t c) h.tree_is at_c)
-          (length-map m.factors (λ f. record { clique = factor_home m.network m.tree f; factor = f })) in
+          let within = grade_within m.tree (placing_of m) tree_is c (length m.factors) clique_is
+          as_many in
           record {
             value = subst (encloses r) (ap (λ (n : Meaning). exact_belief plus n event) (meaning_same m)) reading.enclosed;
             grade = grade_more r (reading_grade m.tree (placing_of m) c) (length m.factors + max_grade) reading.grade within;

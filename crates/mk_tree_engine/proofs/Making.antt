@@ -170,4 +170,4 @@ module _ (plus : ℕ → ℕ → ℕ) (old : FlowOf) (up down : List Bool) (a b 
             subst (λ (x : ℕ). IsRight plus new p x j) (sym (eqb-true i a q.0)) (subst (λ (x : ℕ). IsRight plus new p a x) (sym (eqb-true j b q.1)) (right p h but))
         at p h but current i j l fresh (inr f) =
             let was : marked_stale up down i j ≡ false = all_of (marked_stale up down i j) (eqb i a && eqb j b) f ∙ sym (left i j l) ∙ fresh in
-            right_kept plus old new p p i j kept.same_shape (others i j l (λ r. both_ways (eqb i a && eqb j b) f (both i a j b r.0 r.1))) refl refl (current i j l was)
+            right_kept plus old new p p i j kept.same_shape (others i j l (λ r. both_ways (eqb i a && eqb j b) f (both i a j b r.0 r.1))) refl refl refl (λ pair h. h) (current i j l was)

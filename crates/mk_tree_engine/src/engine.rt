@@ -2,15 +2,18 @@
 
 ghost use Rattle.std.specs.Prelude.{◌≡◌, ℕ, ◌<◌, ◌≤◌, List, [], ◌∷◌, length, Some, IfOk, ⊤};
 ghost use Rattle.mk_net.specs.Asked.{ratio_pairs};
+ghost use Rattle.mk_net.specs.Bounds.{number_limit};
 ghost use Rattle.mk_net.specs.Trades.{trade_ratio};
-ghost use Rattle.std.proofs.Common.{sym, subst};
+ghost use Rattle.std.proofs.Common.{sym, subst, le_refl};
 ghost use Rattle.mk_net.specs.Network.{Variable};
 ghost use Rattle.mk_tree.specs.Given.{GivenTree, home};
 ghost use Rattle.mk_tree.specs.Checked.{IsTreeOf};
 ghost use Rattle.mk_tree.specs.Held.{IsHeldAt};
 ghost use Rattle.mk_engine.specs.Meaning.{Meaning, opening, RowsOf, SupportOf, RatioOf};
-ghost use Rattle.mk_engine.specs.Meaning.{with_factor, with_known};
+ghost use Rattle.mk_engine.specs.Meaning.{with_factor, with_known, tree_grade};
 ghost use Rattle.mk_engine.specs.Beliefs.{CanWeigh, CanMultiply, CanKnow, CanBelieve, IsBelief};
+ghost use Rattle.mk_engine.specs.Meaning.{whole_sum};
+ghost use Rattle.mk_engine.specs.Apart.{IsApart, without_ratios};
 ghost use Rattle.mk_propagate.specs.Shapes.{IsClique};
 ghost use Rattle.mk_propagate.specs.Flows.{counted_on, reading_grade};
 ghost use Rattle.mk_tree_engine.specs.Engines.{HasTree, IsPlanFor, MarksAway, ClearsTowards};
@@ -20,7 +23,7 @@ ghost use Rattle.mk_tree_engine.specs.Engines.{placing_of, stale_number};
 use crate::homes::family_home;
 use crate::marks::Marks;
 use crate::passes::{collect, count_stale};
-use mk_engine::Engine;
+use mk_engine::{Engine, TreeGraded};
 use mk_net::{Event, Network, NoMemory, Pair, Ratio};
 use mk_propagate::{Flow, Shape};
 use mk_semiring::Semiring;
@@ -78,6 +81,8 @@ impl<R: Semiring> Engine<R> for TreeEngine<R> {
     ghost answers_at = { λ engine at event. IsHeldAt engine.flow.shape.tree at event };
 
     ghost places_at = { λ engine at event. home engine.flow.shape.tree event ≡ Some at };
+
+    ghost grade_of = { tree_grade };
 
     fn plan(alloc: Global, net: &Network, tree: &Tree) -> Result<Rc<Shape>, NoMemory>
         requires { IsTreeOf net.now tree.now }
@@ -151,8 +156,12 @@ impl<R: Semiring> Engine<R> for TreeEngine<R> {
         requires held { IsHeldAt self.old.flow.shape.tree at event.now }
         requires range { CanBelieve ⟦<TreeEngine<R> as Engine<R>>⟧.stands_for self.old event.now }
         ensures kept { (m : Meaning) → ⟦<TreeEngine<R> as Engine<R>>⟧.stands_for self.old m → ⟦<TreeEngine<R> as Engine<R>>⟧.stands_for self.new m }
+        ensures apart { (m : Meaning) → ⟦<TreeEngine<R> as Engine<R>>⟧.stands_for self.old m → IsApart m event.now
+            → whole_sum (without_ratios m) < number_limit → R.is_exact result }
         ensures belief { (m : Meaning) → ⟦<TreeEngine<R> as Engine<R>>⟧.stands_for self.old m
             → IsBelief R.encloses R.has_grade R.is_exact R.plus_of m event.now result }
+        ensures graded { (m : Meaning) → ⟦<TreeEngine<R> as Engine<R>>⟧.stands_for self.old m →
+            R.has_grade result (tree_grade m) }
         ensures shape { self.new.flow.shape ≡ self.old.flow.shape }
         ensures counted { self.new.flow.computed ≡ counted_on self.old.flow.computed
             (stale_number self.old at) }
@@ -168,4 +177,8 @@ impl<R: Semiring> Engine<R> for TreeEngine<R> {
     ghost held_is_answered = { λ engine m at event stands held. subst (λ (t : GivenTree). IsHeldAt t at event) (sym stands.tree_is) held };
 
     ghost home_is_place = { λ engine m at event stands is. subst (λ (t : GivenTree). home t event ≡ Some at) (sym stands.tree_is) is };
+}
+
+impl<R: Semiring> TreeGraded<R> for TreeEngine<R> {
+    ghost within_tree = { λ m. le_refl (tree_grade m) };
 }

@@ -1,5 +1,6 @@
 -- One table over all variables of a network, and the meanings that it stands for.
-use Rattle.std.specs.Prelude.{◌≡◌, ℕ, ◌*◌, ◌<◌, ◌≤◌, List, length, All, if◌then◌else◌, slice_index}
+use Rattle.std.specs.Prelude.{◌≡◌, ℕ, ◌*◌, ◌<◌, ◌≤◌, List, length, All, count_by, if◌then◌else◌, slice_index}
+use Rattle.mk_net.specs.declared.words.Pair.{Pair}
 use Rattle.mk_net.specs.Bounds.{max_clique_cells}
 use Rattle.mk_net.specs.Network.{Variable, IsNetwork, sizes}
 use Rattle.mk_exact.specs.States.{product_by}
@@ -10,7 +11,9 @@ use Rattle.mk_sums.specs.There.{holds_there}
 use Rattle.mk_table.specs.Scopes.{ScopeOf, cells_in}
 use Rattle.mk_table.specs.Cells.{values_at}
 use Rattle.mk_table.specs.Tables.{TableOf, HasNumbers}
-use Rattle.mk_engine.specs.Meaning.{Meaning, Factor, RowsOf, SupportOf, RatioOf, factor_there, max_factors, ArePairsOf}
+use Rattle.mk_table.specs.Ratios.{HasRatios}
+use Rattle.mk_engine.specs.Meaning.{Meaning, Factor, RowsOf, SupportOf, RatioOf, factor_there, is_ratio, max_factors, ArePairsOf}
+use Rattle.mk_engine.specs.Apart.{HasCondition}
 
 -- the scope of all variables
 abbrev pub whole_scope : List Variable → ScopeOf
@@ -41,6 +44,10 @@ IsFactorOf network (RowsOf k) = k < length network
 IsFactorOf network (SupportOf k) = k < length network
 IsFactorOf network (RatioOf ratio) = IsRatioOf network ratio
 
+-- every ratio has the pair in its condition
+abbrev pub IsCommon : Meaning → Pair → Type 0
+IsCommon m pair = All (HasCondition pair) m.factors
+
 -- The table has the joint of a meaning, cell by cell, in a step for each factor. A table has the joint of many meanings,
 -- some of them with factors that change nothing, but each with as many factors as the engine counts.
 pub record HasJoint (table : TableOf) (count : ℕ) (m : Meaning) : Type 0 where
@@ -52,3 +59,4 @@ pub record HasJoint (table : TableOf) (count : ℕ) (m : Meaning) : Type 0 where
   pub counted : length m.factors ≡ count
   pub room : IsInRoom table count
   pub numbers : HasNumbers table (λ c. joint_there m (values_at table.scope c)) (length m.factors)
+  pub ratios : HasRatios table (count_by is_ratio m.factors) (IsCommon m)

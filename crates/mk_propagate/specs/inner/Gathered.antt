@@ -8,13 +8,14 @@ use Rattle.mk_sums.specs.Trees.{linked_to}
 use Rattle.mk_table.specs.Scopes.{cells_in}
 use Rattle.mk_table.specs.Cells.{cell_in, cells_onto, cells_beside}
 use Rattle.mk_table.specs.Tables.{TableOf, HasNumbers}
+use Rattle.mk_table.specs.Ratios.{KeepsPairs}
 use Rattle.mk_tree.specs.Given.{GivenTree, link_of}
 use Rattle.mk_engine.specs.Meaning.{RatioOf}
 use Rattle.mk_propagate.specs.declared.gathered.Gathered.{Gathered}
 use Rattle.mk_propagate.specs.declared.gathered.Gathered.TheVariants.{Nothing, Everything, AllBut}
 use Rattle.mk_propagate.specs.Shapes.{ShapeOf, IsShapeFor, are_linked, clique_scope, core_scope, separator_between, neighbours}
-use Rattle.mk_propagate.specs.Placings.{Placing, IsPlacing, IsPlacedFactor, placed_there, factors_in, with_factor_in}
-use Rattle.mk_propagate.specs.Flows.{HasCells, HasSums, exact_message, exact_message_grade, no_table}
+use Rattle.mk_propagate.specs.Placings.{Placing, IsPlacing, IsPlacedFactor, IsCommon, placed_there, factors_in, ratios_in, with_factor_in}
+use Rattle.mk_propagate.specs.Flows.{HasCells, HasSums, exact_message, exact_message_grade, message_ratios, no_table}
 
 -- whose messages are taken: all, or all but the receiver's
 abbrev pub is_taken : Option ℕ → ℕ → Bool
@@ -32,7 +33,7 @@ message_in upward downward a b = if nat_lt b a then slice_index_or upward (a - 2
 -- a message from i to k that is right
 abbrev pub IsRightIn : (ℕ → ℕ → ℕ) → ShapeOf → Placing → ℕ → ℕ → TableOf → Type 0
 IsRightIn plus shape p i k message =
-    HasCells message (separator_between shape i k) (exact_message plus shape.tree p i k) (3 * exact_message_grade shape.tree p i k) (exact_message_grade shape.tree p i k)
+    HasCells message (separator_between shape i k) (exact_message plus shape.tree p i k) (3 * exact_message_grade shape.tree p i k) (exact_message_grade shape.tree p i k) (message_ratios shape.tree p i k) (IsCommon p)
 
 -- the messages of both ways: one each for each clique after the first
 pub record AreMessages (shape : ShapeOf) (upward downward : List TableOf) : Type 0 where
@@ -51,7 +52,7 @@ pub record CanTake (plus : ℕ → ℕ → ℕ) (shape : ShapeOf) (upward downwa
 pub record IsPlacedIn (shape : ShapeOf) (p : Placing) (k : ℕ) (table : TableOf) : Type 0 where
   pub shape_is : IsShapeFor shape p.network
   pub placing : IsPlacing shape.tree p
-  pub cells : HasCells table (clique_scope shape k) (placed_there p k) (factors_in p k) (factors_in p k)
+  pub cells : HasCells table (clique_scope shape k) (placed_there p k) (factors_in p k) (factors_in p k) (ratios_in p k) (IsCommon p)
 
 -- once the clique's table was multiplied by a ratio, another table over its core has the sums with it, where the one before had those without
 abbrev pub IsFollowed : (ℕ → ℕ → ℕ) → ShapeOf → ℕ → TradeRatio → TableOf → TableOf → TableOf → Type 0
@@ -73,9 +74,13 @@ gathered_steps tree p k receiver listed = sum_by (λ i. if is_taken receiver i t
 abbrev pub gathered_factors : GivenTree → Placing → ℕ → Option ℕ → List ℕ → ℕ
 gathered_factors tree p k receiver listed = sum_by (λ i. if is_taken receiver i then exact_message_grade tree p i k else 0) listed
 
+-- the number of ratios in it
+abbrev pub gathered_ratios : GivenTree → Placing → ℕ → Option ℕ → List ℕ → ℕ
+gathered_ratios tree p k receiver listed = sum_by (λ i. if is_taken receiver i then message_ratios tree p i k else 0) listed
+
 -- a table has it
 pub record HasGathered (plus : ℕ → ℕ → ℕ) (shape : ShapeOf) (k : ℕ) (receiver : Option ℕ) (listed : List ℕ) (table : TableOf) (p : Placing) : Type 0 where
-  pub cells : HasCells table (core_scope shape k) (gathered plus shape.tree p k receiver listed) (gathered_steps shape.tree p k receiver listed) (gathered_factors shape.tree p k receiver listed)
+  pub cells : HasCells table (core_scope shape k) (gathered plus shape.tree p k receiver listed) (gathered_steps shape.tree p k receiver listed) (gathered_factors shape.tree p k receiver listed) (gathered_ratios shape.tree p k receiver listed) (IsCommon p)
   pub full : length table.digits ≡ cells_in table.scope
 
 -- a table has it for the first so many neighbours; while the first message that is taken is still to come, the table may have anything
@@ -90,6 +95,7 @@ pub record IsMessageAlone (message before after : TableOf) : Type 0 where
   pub shift : after.shift ≡ message.shift
   pub full : length after.digits ≡ cells_in after.scope
   pub numbers : (g : ℕ → ℕ) (q : ℕ) → HasNumbers message g q → HasNumbers after (λ c. g (cell_in message.scope before.scope c)) q
+  pub touched : after.touched ≡ message.touched
 
 -- it has in each cell what was there times that
 pub record IsTimesMessage (message before after : TableOf) : Type 0 where
@@ -97,6 +103,7 @@ pub record IsTimesMessage (message before after : TableOf) : Type 0 where
   pub shift : after.shift ≡ before.shift + message.shift
   pub full : length after.digits ≡ cells_in after.scope
   pub numbers : (f g : ℕ → ℕ) (n q : ℕ) → HasNumbers before f n → HasNumbers message g q → HasNumbers after (λ c. f c * g (cell_in message.scope before.scope c)) (n + q + 1)
+  pub touched : KeepsPairs before.scope before.touched message.touched after.touched
 
 -- a table has the messages of all neighbours, or of all but a receiver
 pub record HasInto (plus : ℕ → ℕ → ℕ) (shape : ShapeOf) (upward downward : List TableOf) (k : ℕ) (receiver : Option ℕ) (t : TableOf) : Type 0 where
@@ -136,6 +143,7 @@ pub record IsMargin (plus : ℕ → ℕ → ℕ) (whole before after : TableOf) 
   pub beside : cells_in before.scope * cells_beside before.scope whole.scope ≡ cells_in whole.scope
   pub numbers : (f : ℕ → ℕ) (n : ℕ) → HasNumbers whole f n
       → HasNumbers after (λ d. plus_over plus 0 f (cells_onto before.scope whole.scope d)) (n + (2 * cells_beside before.scope whole.scope - 1))
+  pub touched : KeepsPairs before.scope whole.touched None after.touched
 
 -- one that was over some of the variables of two others, which are over the same, has in each cell the plus of the products of the others' cells with its values
 pub record IsMarginOfProduct (plus : ℕ → ℕ → ℕ) (core product before after : TableOf) : Type 0 where
@@ -145,3 +153,4 @@ pub record IsMarginOfProduct (plus : ℕ → ℕ → ℕ) (core product before a
   pub beside : cells_in before.scope * cells_beside before.scope core.scope ≡ cells_in core.scope
   pub numbers : (f g : ℕ → ℕ) (n q : ℕ) → HasNumbers core f n → HasNumbers product g q
       → HasNumbers after (λ d. plus_over plus 0 (λ c. f c * g (cell_in product.scope core.scope c)) (cells_onto before.scope core.scope d)) (n + q + (2 * cells_beside before.scope core.scope + 1))
+  pub touched : KeepsPairs before.scope core.touched product.touched after.touched

@@ -8,4 +8,4 @@ loop-passed-preserved g c =
     let made = c.in_ok-ones.ensures in
     let e : c.loop-passed.passed + 2 ≡ 2 + c.loop-passed.passed = omega arith in
     ones_more (separator_scope c.args.shape.now) 2 c.loop-passed.passed c.loop-passed.tables.items c.push.new.self.items c.in_ok-ones.field-0 c.loop-passed.invariant c.in_ok-push.ensures.items
-    (record { scope_is = made.scope ∙ c.separator.ensures ∙ ap (separator_scope c.args.shape.now) e; no_shift = made.shift; ones = made.ones })
+    (record { scope_is = made.scope ∙ c.separator.ensures ∙ ap (separator_scope c.args.shape.now) e; no_shift = made.shift; ones = made.ones; no_ratio = made.touched })

@@ -102,7 +102,7 @@ module _ (plus : ℕ → ℕ → ℕ) (law : Lawful plus) (shape : ShapeOf) (upw
     none = λ e. absurd (both_ways false refl e);
     has = λ _ p can.
         taken_too shape p can.shape_is can.placing plus law k clique receiver j i at.within at.is old new message (sym is ∙ took) (h.has refl p can)
-        (right_there plus shape upward downward k j i receiver p taken message can at is took same) m.scope m.shift m.full m.numbers;
+        (right_there plus shape upward downward k j i receiver p taken message can at is took same) m.scope m.shift m.full m.numbers m.touched;
   }
 
   passed_step : (first : Bool) (old : TableOf) → taken ≡ false → IsGathering plus shape upward downward k receiver j first old → IsGathering plus shape upward downward k receiver (j + 1) first old
@@ -146,7 +146,7 @@ returns-then-first-clause-into g c =
     into_none plus g.met.R.Semiring.lawful shape k c.requires.clique c.args.upward.now c.args.downward.now c.args.receiver c.loop-neighbour.product c.clear.new.self
     (subst (λ n. IsGathering plus shape c.args.upward.now c.args.downward.now k c.args.receiver n true c.loop-neighbour.product) long
     (subst (λ (b : Bool). IsGathering plus shape c.args.upward.now c.args.downward.now k c.args.receiver j b c.loop-neighbour.product) c.if-first.true c.loop-neighbour.invariant))
-    c.clear.ensures.scope c.clear.ensures.shift c.clear.ensures.ones c.clear.ensures.full
+    c.clear.ensures.scope c.clear.ensures.shift c.clear.ensures.ones c.clear.ensures.full c.clear.ensures.touched
 
 -- and where one was
 pub returns-else-first-clause-scope : goal.returns-else-first-clause-scope

@@ -22,4 +22,4 @@ times_message-requires-clause-message_room g c =
 pub returns-clause-into : goal.returns-clause-into
 returns-clause-into g c =
     into_back g.R.Semiring.plus_of g.met.R.Semiring.lawful c.args.shape.now c.args.clique c.requires.clique c.args.upward.now c.args.downward.now c.args.missing c.requires.linked
-    c.args.product.now c.message_of.result.now c.requires.has c.message_of.ensures c.times_message.new.self c.times_message.ensures.scope c.times_message.ensures.shift c.cells.ensures.full c.times_message.ensures.numbers
+    c.args.product.now c.message_of.result.now c.requires.has c.message_of.ensures c.times_message.new.self c.times_message.ensures.scope c.times_message.ensures.shift c.cells.ensures.full c.times_message.ensures.numbers c.times_message.ensures.touched

@@ -16,6 +16,7 @@ returns-clause-first g c = λ is.
             shift = w.put_message.ensures.shift;
             full = subst (λ (t : TableOf). length t.digits ≡ cells_in t.scope) w.product-is c.cells.ensures.full;
             numbers = w.put_message.ensures.numbers;
+            touched = w.put_message.ensures.touched;
           })
       | else-first w ↦ absurd (both_ways c.args.first w.if-first.false is)
     ]
@@ -31,5 +32,6 @@ returns-clause-more g c = λ is.
             shift = w.times_message.ensures.shift;
             full = subst (λ (t : TableOf). length t.digits ≡ cells_in t.scope) w.product-is c.cells.ensures.full;
             numbers = w.times_message.ensures.numbers;
+            touched = w.times_message.ensures.touched;
           })
     ]

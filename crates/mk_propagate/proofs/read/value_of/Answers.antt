@@ -1,5 +1,6 @@
-use Rattle.std.proofs.Common.{◌+◌, ◌*◌, IsTrue, sym, arith, ◌∙◌}
-use Rattle.std.proofs.lemmas.Bool.{and_parts}
+use Rattle.std.proofs.Common.{◌≡◌, ℕ, ◌+◌, ◌*◌, ◌^◌, ◌≤◌, IsTrue, sym, arith, ◌∙◌}
+use Rattle.std.proofs.Math.Nat.{le_of_mul-le-mul_right, one-le-pow}
+use Rattle.std.proofs.lemmas.Bool.{and_parts, and_from}
 use Rattle.mk_cell.specs.Cell.{IsOwnAt}
 use Rattle.mk_cell.specs.inner.Laws.{stands_with_more}
 use Rattle.mk_table.specs.Scopes.{cells_in}
@@ -7,6 +8,11 @@ use Rattle.mk_table.specs.Tables.{is_untouched}
 use Rattle.mk_table.proofs.Owned.{own_more}
 use Rattle.mk_propagate.specs.inner.Totals.{total_of}
 use Rattle.mk_propagate.proofs.read.value_of.Goals as goal
+
+-- what is left under no shift
+scaled_at_most : (v own most shift : ℕ) → v ≡ own * 2 ^ shift → v ≤ most * 2 ^ shift → own ≤ most
+scaled_at_most v own most shift e l =
+    let scaled : own * 2 ^ shift ≤ most * 2 ^ shift = omega (arith, e, l) in le_of_mul-le-mul_right scaled (one-le-pow shift 2 (omega arith))
 
 pub overflow_add-shift : goal.overflow_add-shift
 overflow_add-shift g c = omega (arith, c.requires.room.small_shift, c.requires.into_room.small_shift, c.shift.ensures, c.shift-2.ensures)
@@ -50,3 +56,12 @@ returns-clause-exact g c = λ f h n p has other few small.
     let stands = rw (sym c.shift-2.ensures) at (rw (sym c.shift.ensures) at
     (stands_with_more (table.shift + c.args.into.now.shift) q x v (n + p + 2 * cells_in table.scope + 1) (3 * c.args.grade) few (c.total_times-total.ensures.stands f h n p has other))) in
     c.of_cell.ensures.exact v stands small
+
+pub returns-clause-apart : goal.returns-clause-apart
+returns-clause-apart g c = λ none none_too f h n p has other few own at_most small.
+    let table = c.args.table.now in let into = c.args.into.now in let event = c.args.event.now in let q = c.total_times-total.result.digits in let x = c.total_times-total.result.exponent in
+    let v = total_of g.R.Semiring.plus_of table into event f h in
+    let has_own = own_more (table.shift + into.shift) q x v (n + p + 2 * cells_in table.scope + 1) (3 * c.args.grade) few (c.total_times-total.ensures.own none none_too f h n p has other) in
+    let untouched : IsTrue c.are_untouched-untouched.result = c.are_untouched-untouched.ensures ∙ and_from (is_untouched table event) (is_untouched into event) none none_too in
+    let within = scaled_at_most v has_own.own own (table.shift + into.shift) has_own.scaled at_most in
+    c.of_cell.ensures.own_exact has_own.own untouched has_own.stands (omega (arith, within, small))

@@ -22,4 +22,4 @@ pub returns-then-core_holds-clause-followed : goal.returns-then-core_holds-claus
 returns-then-core_holds-clause-followed g c = λ marked.
     followed_times c.args.shape.now c.args.clique c.requires.clique (trade_ratio c.args.ratio.now)
     (ap (list_all (λ (p : Pair). in_core c.args.shape.now.tree c.args.clique p.variable)) (sym c.event.ensures.pairs) ∙ sym c.core_holds.ensures ∙ c.if-core_holds.true)
-    g.R.Semiring.plus_of g.met.R.Semiring.lawful c.args.table.now c.args.core.now c.times_ratio.new.self c.times_ratio.ensures.scope c.times_ratio.ensures.shift c.times_ratio.ensures.numbers
+    g.R.Semiring.plus_of g.met.R.Semiring.lawful c.args.table.now c.args.core.now c.times_ratio.new.self c.times_ratio.ensures.scope c.times_ratio.ensures.shift c.times_ratio.ensures.numbers c.times_ratio.ensures.touched

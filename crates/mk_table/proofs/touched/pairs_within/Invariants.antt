@@ -1,9 +1,10 @@
-use Rattle.mk_table.specs.Scopes.{HasEvent}
-use Rattle.mk_table.specs.inner.Touched.{IsPart}
+use Rattle.mk_table.specs.Scopes.{HasEvent, has_variable}
+use Rattle.mk_table.specs.inner.Touched.{IsPart, AreTaken}
 use Rattle.mk_table.proofs.touched.pairs_within.Given as goal
 
 abbrev pub invariant-loop-pair : goal.invariant-loop-pair
 invariant-loop-pair l = record {
   of_event : IsPart l.kept l.event;
   there : HasEvent l.scope l.kept;
+  taken : AreTaken l.event l.pair-index (λ p. has_variable l.scope p.variable) l.kept;
 }

@@ -1,7 +1,7 @@
 use Rattle.std.proofs.Common.{◌+◌, ◌*◌, IsTrue, arith, sym, ◌∙◌}
 use Rattle.mk_cell.specs.Cell.{IsOwnAt}
 use Rattle.mk_joint.proofs.Tables.{has_event, has_room}
-use Rattle.mk_joint.proofs.Beliefs.{totalled, total_stands, total_own, belief_of}
+use Rattle.mk_joint.proofs.Beliefs.{totalled, total_stands, total_own, untouched_apart, own_at_most, belief_of}
 use Rattle.mk_joint.proofs.joint.JointEngineEngine.belief.Goals as goal
 
 pub total-total-requires-clause-event : goal.total-total-requires-clause-event
@@ -36,3 +36,11 @@ of_cell-requires-clause-own g c = λ t.
     let plus = g.R.Semiring.plus_of in let table = c.args.self.now.table in let factors = c.args.self.now.factors in let a = c.requires in let event = c.args.event.now in
     let own = total_own plus table factors a.meaning event a.stands c.total-total.result.digits c.total-total.result.exponent (c.total-total.ensures.own (sym c.is_untouched-untouched.ensures ∙ t)) in
     (own.own, own.stands)
+
+pub returns-clause-apart : goal.returns-clause-apart
+returns-clause-apart g c = λ m h apart small.
+    let R = g.R.Semiring in let law = g.met.R.Semiring in let table = c.args.self.now.table in let factors = c.args.self.now.factors in let event = c.args.event.now in let a = c.requires in
+    let untouched = untouched_apart R.plus_of table factors m event h apart (has_event a.meaning.network table.scope a.stands.scope event a.in_range) in
+    let own = total_own R.plus_of table factors m event h c.total-total.result.digits c.total-total.result.exponent (c.total-total.ensures.own untouched) in
+    let within = own_at_most R.plus_of table factors m event h apart law.lawful own.own own.scaled in
+    c.of_cell.ensures.own_exact own.own (c.is_untouched-untouched.ensures ∙ untouched) own.stands (omega (arith, within, small))

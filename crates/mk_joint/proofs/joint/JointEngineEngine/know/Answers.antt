@@ -18,4 +18,4 @@ returns g c = λ m h.
     let same = same_sizes a.meaning.network m.network old.scope a.stands.scope h.scope in
     known_more old c.restrict.new.self c.args.self.now.factors m c.args.pair h (pair_same a.meaning.network m.network same c.args.pair a.in_range)
     c.restrict.ensures.scope c.restrict.ensures.shift
-    (c.restrict.ensures.numbers (λ k. joint_there m (values_at old.scope k)) (length m.factors) h.numbers)
+    (c.restrict.ensures.numbers (λ k. joint_there m (values_at old.scope k)) (length m.factors) h.numbers) c.restrict.ensures.touched

@@ -3,7 +3,7 @@ use Rattle.mk_net.specs.Trades.{trade_ratio}
 use Rattle.mk_table.specs.Cells.{values_at}
 use Rattle.mk_engine.specs.Meaning.{RatioOf}
 use Rattle.mk_joint.specs.inner.Joints.{joint_there}
-use Rattle.mk_joint.proofs.Tables.{same_sizes, ratio_same, has_event, has_one_each, pairs_of_ratio, has_room, factor_more}
+use Rattle.mk_joint.proofs.Tables.{same_sizes, ratio_same, has_event, has_one_each, pairs_of_ratio, has_room, factor_more, ratio_more}
 use Rattle.mk_joint.proofs.joint.JointEngineEngine.multiply.Goals as goal
 
 pub times_ratio-requires-clause-event : goal.times_ratio-requires-clause-event
@@ -31,3 +31,4 @@ returns g c = λ m h.
     factor_more old c.times_ratio.new.self c.args.self.now.factors m (RatioOf ratio) h (ratio_same a.meaning.network m.network same ratio a.in_range)
     (omega (arith, a.stands.counted, a.room)) c.times_ratio.ensures.scope (omega (arith, c.times_ratio.ensures.shift))
     (c.times_ratio.ensures.numbers (λ k. joint_there m (values_at old.scope k)) (length m.factors) h.numbers)
+    (ratio_more m ratio old c.times_ratio.new.self c.times_ratio.ensures.scope c.times_ratio.ensures.shift c.times_ratio.ensures.touched)

@@ -1,11 +1,11 @@
-use Rattle.std.proofs.Common.{◌+◌, ◌*◌, ◌<◌, List, length, sym, ap, subst, ◌∙◌, arith}
+use Rattle.std.proofs.Common.{◌+◌, ◌*◌, ◌<◌, List, length, refl, sym, ap, subst, ◌∙◌, arith}
 use Rattle.mk_net.specs.Network.{Variable, IsNetwork}
 use Rattle.mk_sums.specs.There.{support_there}
 use Rattle.mk_table.specs.Cells.{values_at}
 use Rattle.mk_table.specs.Tables.{HasNumbers}
 use Rattle.mk_engine.specs.Meaning.{SupportOf}
 use Rattle.mk_joint.specs.inner.Joints.{whole_scope, joint_there}
-use Rattle.mk_joint.proofs.Tables.{sized_in, sized_parents_in, has_room, factor_more}
+use Rattle.mk_joint.proofs.Tables.{sized_in, sized_parents_in, has_room, factor_more, no_ratio_more}
 use Rattle.mk_joint.proofs.joint.JointEngineEngine.support.Goals as goal
 
 pub times_support-requires-clause-family : goal.times_support-requires-clause-family
@@ -34,3 +34,4 @@ returns g c = λ m h e.
     (omega (arith, a.stands.counted, a.room)) c.times_support.ensures.scope (omega (arith, c.times_support.ensures.shift))
     (subst (λ (n : List Variable). HasNumbers new (λ k. joint_there m (values_at old.scope k) * support_there n c.args.variable (values_at old.scope k)) (length m.factors + 1)) (sym e)
     (c.times_support.ensures.numbers (λ k. joint_there m (values_at old.scope k)) (length m.factors) h.numbers))
+    (no_ratio_more m (SupportOf c.args.variable) old new c.times_support.ensures.scope refl c.times_support.ensures.shift c.times_support.ensures.touched)

@@ -3,7 +3,7 @@ use Rattle.std.proofs.Common.{◌≡◌, ◌-◌, true, Some, sym, arith, ap, su
 use Rattle.std.proofs.lemmas.List.{length-set}
 use Rattle.mk_table.specs.Tables.{TableOf}
 use Rattle.mk_propagate.specs.Shapes.{ShapeOf, are_linked, clique_scope, core_scope, separator_between}
-use Rattle.mk_propagate.specs.Placings.{placed_there, factors_in}
+use Rattle.mk_propagate.specs.Placings.{IsCommon, placed_there, factors_in, ratios_in}
 use Rattle.mk_propagate.specs.Flows.{FlowOf, HasCells, HasPlaced, AreRightBut, CanSend, message_at}
 use Rattle.mk_propagate.proofs.Messages.{table_room}
 use Rattle.mk_propagate.proofs.Sending.{core_within, core_fits, core_put, mark_put, read_back, table_is, can_take, sender, receiver_is, upward_child, downward_child, separator_up, separator_down, outgoing, right_up, right_down, others_up, others_down}
@@ -29,7 +29,7 @@ sum_core-requires-clause-room g c =
     let can = subst (λ (f : FlowOf). CanSend plus f a b) (sym c.self.view_is) c.requires in let clique = sender plus _ can.placing can.has a b can.linked_too in
     let p = can.placing in
     table_room _ p can.has.shape_is can.has.placing plus law a clique c.index.result.now
-    (subst (λ (t : TableOf). HasCells t (clique_scope c.self.inside.shape.value a) (placed_there p a) (factors_in p a) (factors_in p a)) (table_is _ _ _ c.self.invariant.kept a clique c.index.result.now c.index.ensures) (can.has.tables a clique))
+    (subst (λ (t : TableOf). HasCells t (clique_scope c.self.inside.shape.value a) (placed_there p a) (factors_in p a) (factors_in p a) (ratios_in p a) (IsCommon p)) (table_is _ _ _ c.self.invariant.kept a clique c.index.result.now c.index.ensures) (can.has.tables a clique))
 
 pub sum_core-requires-clause-shift : goal.sum_core-requires-clause-shift
 sum_core-requires-clause-shift g c =

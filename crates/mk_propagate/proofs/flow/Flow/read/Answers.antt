@@ -260,7 +260,8 @@ returns-then-core_holds-clause-reading g c = λ p h r.
     let t = core_can_total plus law _ _ _ c.self.invariant.kept k event c.index-table.result.now is c.refresh.new.product p has can.clique_is can.holds_it there core sums within grade counted in
     subst (λ (f : FlowOf). IsReading R.encloses R.has_grade R.is_exact plus f.shape.tree p k event c.value_of.result) c.self.view_is
     (core_reading_of plus law _ _ _ c.self.invariant.kept k event c.index-table.result.now is c.refresh.new.product p has can.clique_is can.holds_it there core sums within R.encloses R.has_grade R.is_exact c.value_of.result grade counted
-    (c.value_of.ensures.value t.numbers t.others t.steps t.other_steps t.has t.has_others t.within) c.value_of.ensures.grade (c.value_of.ensures.exact t.numbers t.others t.steps t.other_steps t.has t.has_others t.within))
+    (c.value_of.ensures.value t.numbers t.others t.steps t.other_steps t.has t.has_others t.within) c.value_of.ensures.grade (c.value_of.ensures.exact t.numbers t.others t.steps t.other_steps t.has t.has_others t.within)
+    (λ none none_too. c.value_of.ensures.apart none none_too t.numbers t.others t.steps t.other_steps t.has t.has_others t.within))
 
 pub returns-clause-reading : goal.returns-clause-reading
 returns-clause-reading g c = λ p h r.
@@ -277,7 +278,8 @@ returns-clause-reading g c = λ p h r.
     let t = can_total plus law _ _ _ c.self.invariant.kept k event c.index-table.result.now is c.refresh.new.product p has can.clique_is can.holds_it there grade counted in
     subst (λ (f : FlowOf). IsReading R.encloses R.has_grade R.is_exact plus f.shape.tree p k event c.value_of-2.result) c.self.view_is
     (reading_of plus law _ _ _ c.self.invariant.kept k event c.index-table.result.now is c.refresh.new.product p has can.clique_is can.holds_it there R.encloses R.has_grade R.is_exact c.value_of-2.result grade counted
-    (c.value_of-2.ensures.value t.numbers t.others t.steps t.other_steps t.has t.has_others t.within) c.value_of-2.ensures.grade (c.value_of-2.ensures.exact t.numbers t.others t.steps t.other_steps t.has t.has_others t.within))
+    (c.value_of-2.ensures.value t.numbers t.others t.steps t.other_steps t.has t.has_others t.within) c.value_of-2.ensures.grade (c.value_of-2.ensures.exact t.numbers t.others t.steps t.other_steps t.has t.has_others t.within)
+    (λ none none_too. c.value_of-2.ensures.apart none none_too t.numbers t.others t.steps t.other_steps t.has t.has_others t.within))
 
 pub returns-clause-still : goal.returns-clause-still
 returns-clause-still g c = keeps_all g.R.Semiring.plus_of _ _ c.self.view_is

@@ -20,4 +20,4 @@ returns-clause-places g c = λ p h.
     let old : FlowOf = record { shape = inside.shape.value; tables = inside.tables.items; cores = inside.cores.items; summed = inside.summed.items; upward = inside.upward.items; downward = inside.downward.items; factors = inside.factors; computed = inside.computed } in
     let fits = pair_fits_each g.R.Semiring.plus_of c.args.self.now c.requires.0 p c.requires.1 h c.args.clique c.args.pair c.requires.2 in
     places_pair g.R.Semiring.plus_of old c.args.self.now c.self.view_is inside.products.items inside.cells c.self.invariant.kept p h c.args.clique fits.clique_is c.index_mut.result.now c.index_mut.ensures.value c.restrict.new.self c.restrict.ensures.scope
-    c.args.pair fits c.restrict.ensures.shift c.restrict.ensures.numbers
+    c.args.pair fits c.restrict.ensures.shift c.restrict.ensures.numbers c.restrict.ensures.touched

@@ -1,4 +1,4 @@
-use Rattle.std.proofs.Common.{ℕ, ◌+◌, ◌*◌, List, sym, subst, arith}
+use Rattle.std.proofs.Common.{ℕ, ◌+◌, ◌*◌, List, refl, sym, subst, arith}
 use Rattle.mk_net.specs.Network.{Variable}
 use Rattle.mk_sums.specs.There.{support_there}
 use Rattle.mk_table.specs.Cells.{values_at}
@@ -6,7 +6,7 @@ use Rattle.mk_table.specs.Tables.{HasNumbers}
 use Rattle.mk_engine.specs.Meaning.{SupportOf}
 use Rattle.mk_propagate.specs.Placings.{IsPlacedFactor}
 use Rattle.mk_propagate.specs.Flows.{FlowOf}
-use Rattle.mk_propagate.proofs.Calls.{rows_family, rows_parents, room, flow_unmarked, places_unmarked}
+use Rattle.mk_propagate.proofs.Calls.{rows_family, rows_parents, room, flow_unmarked, places_unmarked, no_ratio_more}
 use Rattle.mk_propagate.proofs.flow.Flow.times_support.Goals as goal
 
 pub times_support-requires-clause-family : goal.times_support-requires-clause-family
@@ -42,3 +42,5 @@ returns-clause-places g c = λ p h e.
     (SupportOf c.args.variable) fits (omega (arith, c.requires.1.has.counted, c.requires.1.room)) (omega (arith, c.times_support.ensures.shift))
     (subst (λ (n : List Variable). (f : ℕ → ℕ) (k : ℕ) → HasNumbers c.index_mut.result.now f k
     → HasNumbers c.times_support.new.self (λ i. f i * support_there n c.args.variable (values_at c.index_mut.result.now.scope i)) (k + 1)) (sym e) c.times_support.ensures.numbers)
+    (no_ratio_more g.R.Semiring.plus_of old c.args.self.now c.self.view_is inside.products.items inside.cells c.self.invariant.kept p h c.args.clique fits.clique_is c.index_mut.result.now c.index_mut.ensures.value c.times_support.new.self c.times_support.ensures.scope
+    (SupportOf c.args.variable) refl c.times_support.ensures.shift c.times_support.ensures.touched)

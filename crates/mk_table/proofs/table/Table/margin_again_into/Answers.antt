@@ -1,5 +1,5 @@
 use Rattle.std.proofs.Common.{◌≡◌, ◌+◌, ◌*◌, ◌<◌, ◌≤◌, ℕ, length, slice_index, All, arith, ap, subst, sym, ◌∙◌}
-use Rattle.std.specs.Prelude.{List, Option}
+use Rattle.std.specs.Prelude.{List, Option, None}
 use Rattle.std.proofs.lemmas.List.Elements.{All-weaker}
 use Rattle.mk_net.specs.declared.words.Pair.{Pair}
 use Rattle.mk_table.specs.Scopes.{ScopeOf, PlacesOf, HasEvent, cells_in}
@@ -11,6 +11,8 @@ use Rattle.mk_table.specs.inner.Strides.{runs_of}
 use Rattle.mk_table.specs.inner.Blank.{one_digits, one_exponent, filled}
 use Rattle.mk_table.proofs.Whole.{parts_room, parts_full, table_after, onto_within, where_within}
 use Rattle.mk_table.proofs.Margins.{full_parts, again_after}
+use Rattle.mk_table.specs.Ratios.{KeepsPairs}
+use Rattle.mk_table.proofs.Taken.{onto_kept}
 use Rattle.mk_table.proofs.table.Table.margin_again_into.Goals as goal
 
 -- the places, by the scopes of the two tables
@@ -85,3 +87,13 @@ invariant_of-out g c =
       all_exponents = c.fill.ensures.all_exponents ∙ are.one_each;
     }) c.fill.ensures.digits_room c.fill.ensures.exponents_room
     (c.take_either.ensures.variables part c.out.invariant.there (subst (λ (s : ScopeOf). HasTouched s c.put_within.new.out) c.deref-6.ensures there))
+
+pub returns-clause-touched : goal.returns-clause-touched
+returns-clause-touched g c =
+    let now = c.args.self.now in let out = c.args.out.now.scope in let within = c.put_within.new.out in let after = c.take_either.new.touched in
+    let made : KeepsPairs out now.touched None within =
+    subst (λ (o : Option (List Pair)). KeepsPairs out o None within) (ap (λ (t : TableOf). t.touched) c.self.view_is)
+    (subst (λ (s : ScopeOf). KeepsPairs s c.self.inside.touched None within) (c.deref-6.ensures ∙ ap (λ (t : TableOf). t.scope) c.out.view_is) c.put_within.ensures.kept) in
+    let joined : KeepsPairs out c.args.out.now.touched within after =
+    subst (λ (o : Option (List Pair)). KeepsPairs out o within after) (ap (λ (t : TableOf). t.touched) c.out.view_is) (c.take_either.ensures.kept out) in
+    onto_kept out now.touched within c.args.out.now.touched after made joined

@@ -3,7 +3,7 @@ use Rattle.mk_exact.specs.States.{plus_over}
 use Rattle.mk_table.specs.Scopes.{ScopeOf, PlacesOf, cells_in}
 use Rattle.mk_table.specs.Tables.{TableOf, HasNumbers}
 use Rattle.mk_table.specs.Cells.{cells_onto, cells_beside}
-use Rattle.std.specs.Prelude.{List, Option}
+use Rattle.std.specs.Prelude.{List, Option, None}
 use Rattle.mk_net.specs.declared.words.Pair.{Pair}
 use Rattle.mk_table.specs.inner.Touched.{IsWithin}
 use Rattle.mk_table.specs.inner.Strides.{runs_of}
@@ -12,6 +12,7 @@ use Rattle.mk_table.proofs.Whole.{table_full, parts_of, parts_room, onto_within}
 use Rattle.mk_table.proofs.Filled.{at_most, filled_length}
 use Rattle.mk_table.proofs.Onto.{all_beside}
 use Rattle.mk_table.proofs.Margins.{margin_numbers}
+use Rattle.mk_table.specs.Ratios.{KeepsPairs}
 use Rattle.mk_table.proofs.table.Table.margin_into.Goals as goal
 
 pub plus_of_each-requires-clause-within : goal.plus_of_each-requires-clause-within
@@ -66,3 +67,9 @@ returns-clause-beside g c =
     let part_is : part ≡ c.args.out.now.scope = ap (λ (s : PlacesOf). s.part) c.requires.places in
     subst (λ (s : ScopeOf). cells_in s * cells_beside s c.args.self.now.scope ≡ cells_in c.args.self.now.scope) part_is
     (subst (λ (s : ScopeOf). cells_in part * cells_beside part s ≡ cells_in s) whole_is (all_beside part whole _ _ _ c.lists-run.ensures))
+
+pub returns-clause-touched : goal.returns-clause-touched
+returns-clause-touched g c =
+    let now = c.args.self.now in let out = c.args.out.now.scope in let after = c.put_within.new.out in
+    subst (λ (o : Option (List Pair)). KeepsPairs out o None after) (ap (λ (t : TableOf). t.touched) c.self.view_is)
+    (subst (λ (s : ScopeOf). KeepsPairs s c.self.inside.touched None after) (c.deref-4.ensures ∙ ap (λ (t : TableOf). t.scope) c.out.view_is) c.put_within.ensures.kept)

@@ -11,6 +11,7 @@ use Rattle.mk_table.specs.inner.Touched.{IsEitherWithin}
 use Rattle.mk_table.proofs.Filled.{at_most, filled_length}
 use Rattle.mk_table.proofs.Pluses.{AreMade, made_of_parts, joined_numbers}
 use Rattle.mk_table.proofs.Whole.{table_full, parts_of, parts_room, touched_cells, has_written}
+use Rattle.mk_table.specs.Ratios.{KeepsPairs}
 use Rattle.mk_table.proofs.table.Table.margin_times_into.Goals as goal
 
 pub margin_times-requires-clause-room : goal.margin_times-requires-clause-room
@@ -73,3 +74,10 @@ returns-clause-numbers g c = λ f h n p has has_other.
     has_written _ c.args.out.now c.out.view_is nd ne after (c.self.inside.shift + c.other.inside.shift) sums steps
     (subst (λ k. AreNumbers (touched_cells after out) (k + c.other.inside.shift) nd ne sums steps) (sym parts.shift_is)
     (subst (λ k. AreNumbers (touched_cells after out) (now.shift + k) nd ne sums steps) (sym others.shift_is) numbers))
+
+pub returns-clause-touched : goal.returns-clause-touched
+returns-clause-touched g c =
+    let now = c.args.self.now in let other = c.args.other.now in let out = c.args.out.now.scope in let after = c.put_either_within.new.out in
+    subst (λ (o : Option (List Pair)). KeepsPairs out o other.touched after) (ap (λ (t : TableOf). t.touched) c.self.view_is)
+    (subst (λ (o : Option (List Pair)). KeepsPairs out c.self.inside.touched o after) (ap (λ (t : TableOf). t.touched) c.other.view_is)
+    (subst (λ (s : ScopeOf). KeepsPairs s c.self.inside.touched c.other.inside.touched after) (c.deref-5.ensures ∙ ap (λ (t : TableOf). t.scope) c.out.view_is) c.put_either_within.ensures.kept))

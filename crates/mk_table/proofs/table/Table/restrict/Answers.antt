@@ -1,11 +1,12 @@
 use Rattle.std.proofs.Common.{arith, ap, subst, ◌∙◌}
-use Rattle.std.specs.Prelude.{List, Option}
+use Rattle.std.specs.Prelude.{List, Option, None}
 use Rattle.mk_net.specs.declared.words.Pair.{Pair}
 use Rattle.mk_table.specs.Tables.{TableOf}
 use Rattle.mk_table.specs.inner.Touched.{IsBeside}
 use Rattle.mk_table.specs.inner.Blank.{one_digits, one_exponent, filled}
 use Rattle.mk_table.specs.Scopes.{cells_in}
 use Rattle.mk_table.proofs.Whole.{table_full, parts_of, kept_numbers, has_after, table_after}
+use Rattle.mk_table.specs.Ratios.{KeepsPairs}
 use Rattle.mk_table.proofs.table.Table.restrict.Goals as goal
 
 pub returns-clause-numbers : goal.returns-clause-numbers
@@ -30,3 +31,9 @@ invariant_of-self g c =
       all_exponents = c.fill.ensures.all_exponents ∙ c.cells.ensures.cells ∙ ap cells_in c.deref.ensures;
     }) c.fill.ensures.digits_room c.fill.ensures.exponents_room
     (c.beside-self-inside.ensures.variables c.self.inside.scope.value c.self.invariant.there)
+
+pub returns-clause-touched : goal.returns-clause-touched
+returns-clause-touched g c =
+    let now = c.args.self.now in
+    subst (λ (o : Option (List Pair)). KeepsPairs now.scope o None c.beside-self-inside.result) (ap (λ (u : TableOf). u.touched) c.self.view_is)
+    (c.beside-self-inside.ensures.kept now.scope)

@@ -9,6 +9,7 @@ use Rattle.mk_table.specs.inner.Parts.{AreNumbers}
 use Rattle.mk_table.proofs.Untouched.{larger_touched}
 use Rattle.mk_table.specs.inner.Touched.{IsEither}
 use Rattle.mk_table.proofs.Whole.{table_full, parts_of, parts_room, touched_cells, message_numbers, has_written}
+use Rattle.mk_table.specs.Ratios.{KeepsPairs}
 use Rattle.mk_table.proofs.table.Table.times_message.Goals as goal
 
 pub times_held-requires-clause-held : goal.times_held-requires-clause-held
@@ -70,3 +71,10 @@ invariant_of-self g c =
       held = rw (← whole_is) c.times_held.ensures.held;
       there = c.take_either.ensures.variables whole c.self.invariant.there (larger_touched part whole c.message.inside.touched lies c.message.invariant.there);
     }
+
+pub returns-clause-touched : goal.returns-clause-touched
+returns-clause-touched g c =
+    let now = c.args.self.now in
+    subst (λ (o : Option (List Pair)). KeepsPairs now.scope o c.args.message.now.touched c.take_either.new.touched) (ap (λ (u : TableOf). u.touched) c.self.view_is)
+    (subst (λ (o : Option (List Pair)). KeepsPairs now.scope c.self.inside.touched o c.take_either.new.touched) (ap (λ (u : TableOf). u.touched) c.message.view_is)
+    (c.take_either.ensures.kept now.scope))

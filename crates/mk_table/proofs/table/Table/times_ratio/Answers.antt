@@ -9,6 +9,7 @@ use Rattle.mk_table.specs.Cells.{cells_where}
 use Rattle.mk_table.proofs.Kept.{event_first}
 use Rattle.mk_table.specs.inner.Blank.{one_digits, one_exponent, filled}
 use Rattle.mk_table.proofs.Whole.{table_full, parts_of, ratio_numbers, has_after, table_after}
+use Rattle.mk_table.specs.Ratios.{KeepsPairs}
 use Rattle.mk_table.proofs.table.Table.times_ratio.Goals as goal
 
 pub cells_where-requires : goal.cells_where-requires
@@ -42,3 +43,9 @@ invariant_of-self g c =
       all_exponents = c.fill.ensures.all_exponents ∙ c.cells.ensures.cells ∙ ap cells_in c.deref-2.ensures;
     }) c.fill.ensures.digits_room c.fill.ensures.exponents_room
     (c.take_either.ensures.variables c.self.inside.scope.value c.self.invariant.there there)
+
+pub returns-clause-touched : goal.returns-clause-touched
+returns-clause-touched g c =
+    let now = c.args.self.now in
+    subst (λ (o : Option (List Pair)). KeepsPairs now.scope o (Some c.args.ratio.now.condition) c.take_either.new.touched) (ap (λ (u : TableOf). u.touched) c.self.view_is)
+    (c.take_either.ensures.kept now.scope)

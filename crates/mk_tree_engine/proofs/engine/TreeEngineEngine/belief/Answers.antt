@@ -5,9 +5,11 @@ use Rattle.mk_propagate.specs.Flows.{counted_on}
 use Rattle.mk_tree_engine.specs.Engines.{MarkedFlow, ClearsTowards, stale_number}
 use Rattle.mk_tree_engine.specs.inner.Marks.{marked, IsMarked}
 use Rattle.mk_tree_engine.specs.inner.Passes.{IsCount}
+use Rattle.mk_tree_engine.proofs.Believing.{apart_of}
 use Rattle.mk_tree_engine.proofs.Families.{clique_of}
 use Rattle.mk_tree_engine.proofs.Placed.{stands_old, still_stands}
-use Rattle.mk_tree_engine.proofs.Believing.{can_collect, is_marked, kept_tree, clears, counts, can_read, sharp, belief_of}
+use Rattle.mk_tree_engine.proofs.Believing.{can_collect, is_marked, kept_tree, clears, counts}
+use Rattle.mk_tree_engine.proofs.Believing.{can_read, sharp, graded, belief_of}
 use Rattle.mk_tree_engine.proofs.engine.TreeEngineEngine.belief.Goals as goal
 
 pub collect-requires-clause-could : goal.collect-requires-clause-could
@@ -56,6 +58,19 @@ returns-clause-kept g c = λ m stands.
     still_stands plus c.collect.new.flow c.read.new.self c.collect.new.marks.up.items c.collect.new.marks.down.items m c.read.ensures.kept c.read.ensures.still
     (kept_tree plus old c.self.invariant.marks_of k at_k last c.collect.ensures.made m h)
 
+pub returns-clause-apart : goal.returns-clause-apart
+returns-clause-apart g c = λ m stands.
+    let R = g.R.Semiring in let plus = R.plus_of in let law = g.met.R.Semiring in let k = c.args.at
+    in let event = c.args.event.now in
+    let inside = c.self.inside in let old = marked inside.flow inside.marks.up.items inside.marks.down.items in
+    let last = marked c.collect.new.flow c.collect.new.marks.up.items c.collect.new.marks.down.items in
+    let held = subst (λ (e : MarkedFlow). IsHeldAt e.flow.shape.tree k event) (sym c.self.view_is)
+    c.requires.held in
+    let at_k = clique_of inside.flow.shape.tree k event held in
+    let h = stands_old plus old c.args.self.now m c.self.view_is stands in
+    apart_of plus old c.self.invariant.marks_of k at_k last c.collect.ensures.made
+    R.encloses R.has_grade R.is_exact law.grade_more event c.read.result c.read.ensures.reading m h
+
 pub returns-clause-belief : goal.returns-clause-belief
 returns-clause-belief g c = λ m stands.
     let R = g.R.Semiring in let plus = R.plus_of in let law = g.met.R.Semiring in let k = c.args.at
@@ -67,6 +82,21 @@ returns-clause-belief g c = λ m stands.
     let at_k = clique_of inside.flow.shape.tree k event held in
     let h = stands_old plus old c.args.self.now m c.self.view_is stands in
     belief_of plus old c.self.invariant.marks_of k at_k last c.collect.ensures.made
+    R.encloses R.has_grade R.is_exact law.grade_more event c.read.result c.read.ensures.reading m h
+
+pub returns-clause-graded : goal.returns-clause-graded
+returns-clause-graded g c = λ m stands.
+    let R = g.R.Semiring in let plus = R.plus_of in let law = g.met.R.Semiring in let k = c.args.at
+    in let event = c.args.event.now in
+    let inside = c.self.inside in let old = marked inside.flow inside.marks.up.items
+    inside.marks.down.items in
+    let last = marked c.collect.new.flow c.collect.new.marks.up.items
+    c.collect.new.marks.down.items in
+    let held = subst (λ (e : MarkedFlow). IsHeldAt e.flow.shape.tree k event) (sym c.self.view_is)
+    c.requires.held in
+    let at_k = clique_of inside.flow.shape.tree k event held in
+    let h = stands_old plus old c.args.self.now m c.self.view_is stands in
+    graded plus old c.self.invariant.marks_of k at_k last c.collect.ensures.made
     R.encloses R.has_grade R.is_exact law.grade_more event c.read.result c.read.ensures.reading m h
 
 pub returns-clause-shape : goal.returns-clause-shape
