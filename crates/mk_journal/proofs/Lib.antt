@@ -9,4 +9,3 @@ pub mod Reopening
 pub mod Meanings
 pub mod Grouping
 pub mod Held
-pub mod Replies

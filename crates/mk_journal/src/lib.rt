@@ -9,7 +9,6 @@ mod laws;
 mod open;
 mod read;
 mod steps;
-mod telling;
 
 pub use group::Group;
 pub use keeper::{Keeper, NoStore, Store};
@@ -17,4 +16,3 @@ pub use laws::{one_answer, one_reading, refuses_no_honest, stays_honest};
 pub use open::{OpenFault, header_of, open_store};
 pub use read::{End, Found};
 pub use steps::append;
-pub use telling::{Batch, Line, Steps, tell};

@@ -1,12 +1,14 @@
 -- Judgements of single comparisons, and of several together.
 use Rattle.std.proofs.Common.{◌≡◌, ℕ, ◌*◌, ◌^◌, ◌<◌, ◌≤◌, ◌⊎◌, refl, inl, inr, arith}
+use Rattle.std.proofs.Common.{Bool, true, false, Decides}
+use Rattle.std.proofs.lemmas.Bool.{false≢true}
 use Rattle.std.proofs.Math.Nat.{pow-zero}
 use Rattle.mk_judge.specs.declared.comparing.Compared.{Compared}
 use Rattle.mk_judge.specs.declared.comparing.Compared.TheVariants.{AtMost, Above, Unsure}
 use Rattle.mk_judge.specs.declared.judged.Judged.{Judged}
 use Rattle.mk_judge.specs.declared.judged.Judged.TheVariants.{Allowed, Wrong, Unclear}
 use Rattle.mk_judge.specs.Compared.{Says, where_at_most, where_above}
-use Rattle.mk_judge.specs.Judged.{Judges, both}
+use Rattle.mk_judge.specs.Judged.{Judges, both, where_true}
 
 pub judges_at_most : (c : Compared) (a b : ℕ) (otherwise : Type 0) → Says c a b otherwise → Judges (where_at_most c) (a ≤ b) otherwise
 judges_at_most AtMost a b otherwise says = says
@@ -75,3 +77,8 @@ pub judges_of : (j : Judged) (P N : Type 0) → (j ≡ Allowed → P) → (j ≡
 judges_of Allowed P N allowed wrong unclear = allowed refl
 judges_of Wrong P N allowed wrong unclear = wrong refl
 judges_of Unclear P N allowed wrong unclear = unclear refl
+
+-- by a test that decides the statement
+pub judges_test : (test : Bool) (P : Type 0) → Decides test P → Judges (where_true test) P ⊥
+judges_test true P decides = decides.0 refl
+judges_test false P decides = λ p. false≢true (decides.1 p)

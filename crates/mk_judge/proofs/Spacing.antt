@@ -7,6 +7,7 @@ use Rattle.mk_quote.specs.declared.side.SideBounds.{SideBounds}
 use Rattle.mk_quote.specs.Sides.{AreBoundsOf, AreExact, ratio_for, Serves}
 use Rattle.mk_quote.proofs.Serving.{served_is_fair, wanted_serves, exactly_serves}
 use Rattle.mk_quote.proofs.Rightness.{within}
+use Rattle.mk_quote.proofs.Spanning.{same_interval}
 use Rattle.mk_judge.specs.declared.wanted.Wanted.{Wanted}
 use Rattle.mk_judge.specs.Limits.{CanBeTraded}
 use Rattle.mk_judge.specs.Wanted.{LieInside, SomeShare, HasEnds}
@@ -109,41 +110,14 @@ some_served bounds side low high range serves of exact =
           (le_refl low, order)),
     )
 
--- one interval alone is right
-pub one_right : (side : Side) (least greatest low high : ℕ) → IsRightInterval ⊤ side
-    (least, greatest) → IsRightInterval ⊤ side (low, high) → (least ≡ low) × (greatest ≡ high)
-one_right side least greatest low high own other =
-    let a = own.in_range in
-    let b = other.in_range in
-    let a0 = a.0 in
-    let a1 = a.1 in
-    let a2 = a.2 in
-    let b0 = b.0 in
-    let b1 = b.1 in
-    let b2 = b.2 in
-    let p = into own other least a0 (omega arith) (le_refl least, a1) in
-    let q = into own other greatest (omega arith) a2 (a1, le_refl greatest) in
-    let r = into other own low b0 (omega arith) (le_refl low, b1) in
-    let s = into other own high (omega arith) b2 (b1, le_refl high) in
-    let p0 = p.0 in
-    let q1 = q.1 in
-    let r0 = r.0 in
-    let s1 = s.1 in
-    (omega arith, omega arith)
-  where
-    into : {i j : ℕ × ℕ} → IsRightInterval ⊤ side i → IsRightInterval ⊤ side j → (X : ℕ) → 1 ≤ X
-        → X ≤ 999999 → Inside (Some i) X → Inside (Some j) X
-    into of_own of_other X from to inside = (of_other.exact tt X from to).1
-        ((of_own.exact tt X from to).0 inside)
-
--- an interval is not right where no share serves
-pub not_none : (bounds : SideBounds) (side : Side) (low high : ℕ) → HoldsServed bounds None
-    → AreBoundsOf bounds side → AreExact bounds → IsRightInterval ⊤ side (low, high) → ⊥
-not_none bounds side low high serves of exact right =
-    let range = right.in_range in
-    let from = range.0 in
-    let order = range.1 in
-    let to = range.2 in
-    let share : low ≤ 999999 = omega (arith, order, to) in
-    (none_served bounds side serves of exact).1 low from share ((right.exact tt low from share).0
-    (le_refl low, order))
+-- one interval alone is right: the one that holds the shares that serve
+pub one_right : (bounds : SideBounds) (side : Side) (own : Option (ℕ × ℕ)) (low high : ℕ)
+    → IsWithinRange own → HoldsServed bounds own → AreBoundsOf bounds side → AreExact bounds
+    → IsRightInterval ⊤ side (low, high) → own ≡ Some (low, high)
+one_right bounds side own low high range serves of exact right =
+    same_interval own (Some (low, high)) range right.in_range
+    (λ X from to.
+    let served = serves X from to in
+    let floor = exactly_serves bounds side of exact X in
+    let is = right.exact tt X from to in
+    (λ inside. is.1 (floor.0 (served.0 inside)), λ inside. served.1 (floor.1 (is.0 inside))))

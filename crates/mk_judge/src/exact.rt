@@ -2,6 +2,7 @@
 ghost use Rattle.std.specs.Prelude.{◌≡◌, ⊤};
 ghost use Rattle.mk_exact.specs.Limits.{Side, AreRight};
 ghost use Rattle.mk_quote.specs.Bounds.{EncloseSides, AreAllExact};
+ghost use Rattle.mk_judge.specs.Judged.{Judges};
 
 use crate::Judged;
 use mk_quote::Bounds;
@@ -15,15 +16,12 @@ pub fn judge_exact_limits(bounds: &Bounds, limits: Option<(u32, u32)>) -> Judged
         → AreAllExact bounds.now → AreRight ⊤ hit miss limits → ⊥ }
     ensures clear { result ≡ Judged.Unclear → ⊥ }
 {
-    match (bounds.limits(), limits) {
-        (None, None) => Judged::Allowed,
-        (Some((least, greatest)), Some((low, high))) => {
-            if least == low && greatest == high {
-                Judged::Allowed
-            } else {
-                Judged::Wrong
-            }
-        }
-        (None, Some(_)) | (Some(_), None) => Judged::Wrong,
-    }
+    judge_same(bounds.limits(), limits)
+}
+
+/// Judges printed shares where others alone are right.
+pub(crate) fn judge_same(right: Option<(u32, u32)>, printed: Option<(u32, u32)>) -> Judged
+    ensures { Judges result (right ≡ printed) ⊥ }
+{
+    Judged::where_true(right == printed)
 }

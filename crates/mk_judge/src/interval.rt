@@ -9,6 +9,7 @@ ghost use Rattle.mk_judge.specs.Wanted.{IsWantedNear, SomeShare};
 ghost use Rattle.mk_judge.specs.Questions.{IsSideNear};
 
 use crate::Judged;
+use crate::exact::judge_same;
 use crate::inside::{judge_inside, judge_wanted};
 use crate::limits::judge_tradable;
 use crate::question::are_in_range;
@@ -43,16 +44,7 @@ fn judge_exact_interval(bounds: &SideBounds, low: u32, high: u32) -> Judged
         → AreExact bounds.now → IsRightInterval ⊤ side (low, high) → ⊥ }
     ensures clear { result ≡ Judged.Unclear → ⊥ }
 {
-    match bounds.interval() {
-        Some((least, greatest)) => {
-            if least == low && greatest == high {
-                Judged::Allowed
-            } else {
-                Judged::Wrong
-            }
-        }
-        None => Judged::Wrong,
-    }
+    judge_same(bounds.interval(), Some((low, high)))
 }
 
 /// Outside of it.

@@ -1,12 +1,11 @@
 //! Crashes after each call of the disk, twice, and files that are no store.
 
-ghost use Rattle.std.specs.Prelude.{ℕ, ◌≡◌, ◌<◌, List, length, IsTrue, IfSome};
+ghost use Rattle.std.specs.Prelude.{ℕ, ◌≡◌, ◌+◌, ◌^◌, ◌<◌, List, length, IsTrue, IfSome, OnOk};
+ghost use Rattle.mk_journal.specs.Store.{IsLength};
+ghost use Rattle.mk_journal.specs.Keepers.{IsReady};
 
-use mk_disk::{Choice, Disk, MemoryDisk};
-use mk_io::MemorySink;
-use mk_journal::{
-    Batch, End, Found, Group, Line, OpenFault, Steps, Store, header_of, open_store, tell,
-};
+use mk_disk::{Choice, Disk, DiskFailed, MemoryDisk};
+use mk_journal::{End, Found, Group, Keeper, OpenFault, Store, header_of, open_store};
 use std::alloc::{AllocError, Global};
 use std::process::Abort;
 use std::test::Fail;
@@ -17,40 +16,10 @@ const NAME: &str = "store";
 
 const CHOICES: [Choice; 3] = [Choice::Old, Choice::New, Choice::Noise];
 
-// A market that accepts each command but 0, as a record of three bytes.
-#[derive(Drop)]
-struct Log {
-    alloc: Global,
-    records: Vec<Vec<u8>>,
-    took: u64,
-}
+// The changes of a run.
+const CHANGES: [[u8; 3]; 2] = [[1, 10, 1], [2, 10, 2]];
 
-impl Steps for Log {
-    type Command = u8;
-
-    ghost use Rattle.mk_journal.specs.Opening.{contents};
-
-    ghost accepted = { λ log. contents log.records.items };
-
-    ghost took = { λ log. log.took };
-
-    fn step(&mut self, command: &u8, room: &mut [u8]) -> Option<usize> {
-        self.took += 1;
-        if *command == 0 {
-            return None;
-        }
-        room[0] = *command;
-        room[1] = 10;
-        room[2] = *command;
-        let bytes = room[..3].to_vec(self.alloc).ok()?;
-        if self.records.push(bytes).is_err() {
-            return None;
-        }
-        Some(3)
-    }
-}
-
-// A run of two changes: whether the second command is there already, and how many calls of the disk the run makes.
+// A run of two changes: whether they are kept together, and how many calls of the disk the run makes.
 #[derive(Clone, Copy)]
 struct Plan {
     together: bool,
@@ -68,44 +37,51 @@ fn reopened<D: Disk>(alloc: Global, disk: &mut D) -> Option<Found>
     open_store(alloc, disk, &header).ok()
 }
 
-// Tells changes over a store that has its closed gate at `gate`, until a call of the disk fails.
-fn tell_lines<D: Disk>(
+// Takes a change, and keeps all that waits unless more is to come.
+fn take_change<D: Disk>(
+    store: &mut Store,
+    disk: &mut D,
+    change: &[u8],
+    more: bool,
+) -> Result<(), DiskFailed>
+    requires size { IsLength (length change.now) }
+    requires ready { (n : ℕ) × (n < 2 ^ 39)
+        × IsReady (D.is_open disk.old) (D.file disk.old (D.open_name disk.old)) store.old n }
+    ensures { (n : ℕ) → n < 2 ^ 39
+        → IsReady (D.is_open disk.old) (D.file disk.old (D.open_name disk.old)) store.old n
+        → OnOk result (IsReady (D.is_open disk.new) (D.file disk.new (D.open_name disk.new))
+        store.new (n + 1)) }
+{
+    store.take(disk, change)?;
+    if more {
+        return Ok(());
+    }
+    store.keep(disk)
+}
+
+// Keeps two changes in a store that has its closed gate at `gate`, each by itself or both together, until a call of the
+// disk fails; gives how many were kept.
+fn keep_changes<D: Disk>(
     alloc: Global,
     disk: &mut D,
-    records: Vec<Vec<u8>>,
     gate: u64,
-    lines: &[Line<u8>],
+    together: bool,
 ) -> Result<u64, AllocError>
-    requires few { length lines.now < 1000 }
     requires is_open { IsTrue (D.is_open disk.old) }
     requires place { IfSome (D.file disk.old (D.open_name disk.old)) (λ f. gate < length f) }
     requires near { gate < 1000 }
 {
     let mut store = Store::new(gate, Group::start(alloc)?);
-    let mut log = Log {
-        alloc,
-        records,
-        took: 0,
-    };
-    let mut room = vec![in alloc; 0; 34000]?;
-    let mut out = MemorySink::new(vec![in alloc; 0; 8]?, 4, Vec::new(alloc));
-    let batch = Batch {
-        lines,
-        reply: b"ok",
-    };
-    let told = tell(&mut log, &mut store, disk, &mut out, &batch, &mut room);
-    Ok(told)
+    if take_change(&mut store, disk, &CHANGES[0], together).is_err() {
+        return Ok(0);
+    }
+    if take_change(&mut store, disk, &CHANGES[1], false).is_err() {
+        return Ok(if together { 0 } else { 1 });
+    }
+    Ok(2)
 }
 
-// A change, a command that is not accepted, and a change; each, or the last alone, has none behind it yet.
-fn lines_of(together: bool) -> [Line<u8>; 3] {
-    [1, 0, 2].map(|command| Line {
-        command,
-        more: together && command != 2,
-    })
-}
-
-// Opens the store and tells two changes, until a call of the disk fails; gives how many were told.
+// Opens the store and keeps two changes, until a call of the disk fails; gives how many were kept.
 fn run<D: Disk>(
     rt: &impl Abort,
     alloc: Global,
@@ -121,12 +97,11 @@ fn run<D: Disk>(
     let Ok(found) = open_store(alloc, disk, &header) else {
         return Ok(0);
     };
-    let Found { records, end } = found;
-    let End::Gate(gate) = end else {
+    let End::Gate(gate) = found.end else {
         return Ok(0);
     };
     assert!(rt; gate < 1000);
-    tell_lines(alloc, disk, records, gate, &lines_of(together))
+    keep_changes(alloc, disk, gate, together)
 }
 
 // Opens the store, again where a call failed.
@@ -141,29 +116,28 @@ fn opened_at_last<D: Disk>(alloc: Global, disk: &mut D) -> Option<Found>
 
 // The store holds the first of the two changes, at least so many, and both or none where they were kept together.
 fn expect_front(rt: &impl Abort, found: &Found, least: u64, together: bool) {
-    let expected: [[u8; 3]; 2] = [[1, 10, 1], [2, 10, 2]];
     assert!(rt; matches!(found.end, End::Gate(_)));
     assert!(rt; found.records.len() <= 2);
     assert!(rt; found.records.len() as u64 >= least);
     assert!(rt; !together || found.records.len() != 1);
-    for (record, bytes) in found.records.iter().zip(expected.iter()) {
+    for (record, bytes) in found.records.iter().zip(CHANGES.iter()) {
         assert!(rt; record.as_slice() == bytes.as_slice());
     }
 }
 
-// The store is opened at last, and holds what was told.
+// The store is opened at last, and holds what was kept.
 fn expect_opened(
     rt: &impl Abort,
     alloc: Global,
     disk: &mut MemoryDisk,
-    told: Result<u64, AllocError>,
+    kept: Result<u64, AllocError>,
     together: bool,
 ) -> Result<(), AllocError> {
-    let told = told?;
+    let kept = kept?;
     let found = opened_at_last(alloc, disk);
     assert!(rt; found.is_some());
     if let Some(found) = &found {
-        expect_front(rt, found, told, together);
+        expect_front(rt, found, kept, together);
     }
     drop(found);
     Ok(())
@@ -180,12 +154,12 @@ fn crash_pair(
     again: Choice,
 ) -> Result<bool, AllocError> {
     let mut disk = MemoryDisk::new(alloc, failing.to_vec(alloc)?);
-    let told = run(rt, alloc, &mut disk, plan.together);
+    let kept = run(rt, alloc, &mut disk, plan.together);
     assert!(rt; disk.calls() == plan.calls);
     let mut disk = disk.crash(left)?;
     let ended = reopened(alloc, &mut disk).is_some();
     let mut disk = disk.crash(again)?;
-    let opened = expect_opened(rt, alloc, &mut disk, told, plan.together);
+    let opened = expect_opened(rt, alloc, &mut disk, kept, plan.together);
     drop(disk);
     opened?;
     Ok(ended)
@@ -242,7 +216,7 @@ fn crash_everywhere(rt: &impl Abort, alloc: Global, plan: Plan) -> Result<u64, A
 // of call 7, two each of 8 and 9, one of 10), 8 calls; 30 have a header, 5 calls. Each opening is stopped at each of its
 // calls, and at none, and crashes by 3 choices: 3 * (21 * 11 + 6 * 9 + 30 * 6).
 #[test]
-fn each_crash_leaves_every_told_change(rt: HostRuntime) -> Result<(), Fail> {
+fn each_crash_leaves_every_kept_change(rt: HostRuntime) -> Result<(), Fail> {
     let plan = Plan {
         together: false,
         calls: 18,
