@@ -1,0 +1,4 @@
+pub mod Ends
+pub mod ListLaws
+pub mod AddLaws
+pub mod LengthLaws
