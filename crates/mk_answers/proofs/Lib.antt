@@ -17,3 +17,4 @@ pub mod Losing
 pub mod Counted
 pub mod Priced
 pub mod Sure
+pub mod Regraded

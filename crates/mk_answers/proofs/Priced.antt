@@ -42,7 +42,7 @@ module _ (network : List Variable) (H : List Entry) (asked : Asked) where
   -- bounds that are found of a price
   found : 1 ≤ total network H (holds asked.condition) → (bounds : PriceBounds)
       → AreBoundsOfPrice (2 ^ 17) network H asked bounds
-      → IsPriceBounded network H asked (Some bounds)
+      → IsPriceBounded (2 ^ 17) network H asked (Some bounds)
   found some bounds are = record {
     none = (
       λ e. absurd (cc),
@@ -54,7 +54,7 @@ module _ (network : List Variable) (H : List Entry) (asked : Asked) where
   -- where neither side weighs anything
   pub unbounded : IsNetwork network → IsProper network H
       → total network H (with_target asked) ≡ 0 → total network H (without_target asked) ≡ 0
-      → IsPriceBounded network H asked None
+      → IsPriceBounded (2 ^ 17) network H asked None
   unbounded net proper no_hit no_miss =
       let all = cases_are_all network H asked in
       record {
@@ -68,14 +68,16 @@ module _ (network : List Variable) (H : List Entry) (asked : Asked) where
 
   -- where the target weighs nothing, and where nothing else does
   pub bounded_never : total network H (with_target asked) ≡ 0
-      → 1 ≤ total network H (without_target asked) → IsPriceBounded network H asked (Some Never)
+      → 1 ≤ total network H (without_target asked)
+      → IsPriceBounded (2 ^ 17) network H asked (Some Never)
   bounded_never no_hit some_miss =
       let all = cases_are_all network H asked in
       let some : 1 ≤ total network H (holds asked.condition) = omega (arith, all, some_miss) in
       found some Never (record { bounds_of = λ small is. (no_hit, some); range = tt; graded = tt })
 
   pub bounded_always : 1 ≤ total network H (with_target asked)
-      → total network H (without_target asked) ≡ 0 → IsPriceBounded network H asked (Some Always)
+      → total network H (without_target asked) ≡ 0
+      → IsPriceBounded (2 ^ 17) network H asked (Some Always)
   bounded_always some_hit no_miss =
       let all = cases_are_all network H asked in
       let some : 1 ≤ total network H (holds asked.condition) = omega (arith, all, some_hit) in
@@ -89,7 +91,7 @@ module _ (network : List Variable) (H : List Entry) (asked : Asked) where
   pub bounded_between : (part whole : Enclosure) → IsPartFor network H asked part
       → IsWholeFor network H asked whole → 1 ≤ total network H (without_target asked)
       → upper_of whole ≤ two_to (192 * (max_side_grade + 1) + 1)
-      → IsPriceBounded network H asked (Some (Between part whole))
+      → IsPriceBounded (2 ^ 17) network H asked (Some (Between part whole))
   bounded_between part whole part_in whole_in some_miss few =
       let all = cases_are_all network H asked in
       let less : total network H (with_target asked) < total network H (holds asked.condition) =

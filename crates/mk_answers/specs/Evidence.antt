@@ -1,12 +1,12 @@
 -- What a judge of printed numbers asks of what is found of them: enclosures of the exact numbers,
 -- in range, each with at most a grade.
-use Rattle.std.specs.Prelude.{◌≡◌, ℕ, ◌^◌, ◌≤◌, ⊤, List, length, Bool, true, false, IsTrue}
+use Rattle.std.specs.Prelude.{◌≡◌, ℕ, ◌+◌, ◌^◌, ◌≤◌, ⊤, List, length, Bool, true, false, IsTrue}
 use Rattle.std.specs.Prelude.{Option, Some}
 use Rattle.std.specs.Prelude.{None, IsNone, IfSome, IsSomeAnd, MatchOption, ◌↔◌}
 use Rattle.std.specs.List.{AllZip}
 use Rattle.arrayvec.specs.ArrayVec.{ArrayVec}
 use Rattle.mk_net.specs.Asked.{Asked}
-use Rattle.mk_net.specs.Bounds.{max_points_per_bit, million}
+use Rattle.mk_net.specs.Bounds.{max_points_per_bit, max_values, million}
 use Rattle.mk_net.specs.Network.{Variable}
 use Rattle.mk_exact.specs.Events.{holds, with_target}
 use Rattle.mk_exact.specs.Factors.{factor_with, least_gain, trade_count}
@@ -42,6 +42,11 @@ use Rattle.mk_answers.specs.declared.spread.SpreadSides.TheVariants.{Open as Ope
 use Rattle.mk_answers.specs.declared.spread.SpreadSides.TheVariants.{Sure as SureSpread}
 use Rattle.mk_answers.specs.declared.spread.SpreadSides.TheVariants.{Impossible as ImpossibleSpread}
 
+-- the grade of what beliefs of a grade give together: one step for each value but one that is
+-- added up, and one for the sum of both sides
+abbrev pub grade_together : ℕ → ℕ
+grade_together of_belief = of_belief + max_values
+
 -- ---- prices
 
 -- the enclosures of a price have at most a grade
@@ -59,19 +64,19 @@ pub record AreBoundsOfPrice (most : ℕ) (network : List Variable) (H : List Ent
   pub graded : ArePriceGraded most bounds
 
 -- such bounds, or none where the condition cannot come
-pub record IsPriceBounded (network : List Variable) (H : List Entry) (asked : Asked)
+pub record IsPriceBounded (most : ℕ) (network : List Variable) (H : List Entry) (asked : Asked)
     (found : Option PriceBounds) : Type 0 where
   pub none : IsNone found ↔ (cannot_come network H (holds asked.condition) ≡ true)
-  pub bounds : IfSome found (AreBoundsOfPrice (2 ^ 17) network H asked)
+  pub bounds : IfSome found (AreBoundsOfPrice most network H asked)
 
 -- such bounds for each value of a variable, in order, or none where the condition cannot come
 abbrev pub ArePricesBounded :
-    List Variable → List Entry → SpreadAsked → Option (ArrayVec (Option PriceBounds)) → Type 0
-ArePricesBounded network H spread None = cannot_come network H (holds spread.condition) ≡ true
-ArePricesBounded network H spread (Some bounds) =
+    ℕ → List Variable → List Entry → SpreadAsked → Option (ArrayVec (Option PriceBounds)) → Type 0
+ArePricesBounded most network H spread None = cannot_come network H (holds spread.condition) ≡ true
+ArePricesBounded most network H spread (Some bounds) =
     (cannot_come network H (holds spread.condition) ≡ false)
     × AllZip (λ value price. IsSomeAnd price
-    (AreBoundsOfPrice (2 ^ 17) network H (asked_of spread value))) (values_of network spread)
+    (AreBoundsOfPrice most network H (asked_of spread value))) (values_of network spread)
     bounds.items
 
 -- ---- factors
@@ -104,11 +109,11 @@ IsSureFactor most network H u test found =
 -- one for each value of a variable, in order, where it comes and a condition holds; none at all
 -- where the condition cannot come
 abbrev pub AreSureFactors :
-    List Variable → List Entry → ℕ → SpreadAsked → Option (ArrayVec (Option Factor)) → Type 0
-AreSureFactors network H u spread None = cannot_come network H (holds spread.condition) ≡ true
-AreSureFactors network H u spread (Some factors) =
+    ℕ → List Variable → List Entry → ℕ → SpreadAsked → Option (ArrayVec (Option Factor)) → Type 0
+AreSureFactors most network H u spread None = cannot_come network H (holds spread.condition) ≡ true
+AreSureFactors most network H u spread (Some factors) =
     (cannot_come network H (holds spread.condition) ≡ false)
-    × AllZip (λ value factor. IsSureFactor (2 ^ 17) network H u
+    × AllZip (λ value factor. IsSureFactor most network H u
     (with_target (asked_of spread value)) factor) (values_of network spread) factors.items
 
 -- ---- sides
@@ -129,19 +134,19 @@ pub record AreBoundsOfSide (most : ℕ) (network : List Variable) (H : List Entr
   pub graded : AreGradedWithin most bounds
 
 -- the bounds are those of both sides of a question
-pub record AreBoundsOfBoth (network : List Variable) (H : List Entry) (u : ℕ) (asked : Asked)
-    (bounds : Bounds) : Type 0 where
+pub record AreBoundsOfBoth (most : ℕ) (network : List Variable) (H : List Entry) (u : ℕ)
+    (asked : Asked) (bounds : Bounds) : Type 0 where
   pub hit : (hit miss : Side) → AreSides network H u asked hit miss
-      → AreBoundsOfSide (2 ^ 17) network H u (hit_side bounds) hit
+      → AreBoundsOfSide most network H u (hit_side bounds) hit
   pub miss : (hit miss : Side) → AreSides network H u asked hit miss
-      → AreBoundsOfSide (2 ^ 17) network H u (miss_side bounds) miss
+      → AreBoundsOfSide most network H u (miss_side bounds) miss
 
 -- so they are where both sides can come
-abbrev pub AreSidesBounded : List Variable → List Entry → ℕ → Asked → Sides → Type 0
-AreSidesBounded network H u asked (Open bounds) = AreBoundsOfBoth network H u asked bounds
-AreSidesBounded network H u asked Impossible = ⊤
-AreSidesBounded network H u asked NeverSides = ⊤
-AreSidesBounded network H u asked Sure = ⊤
+abbrev pub AreSidesBounded : ℕ → List Variable → List Entry → ℕ → Asked → Sides → Type 0
+AreSidesBounded most network H u asked (Open bounds) = AreBoundsOfBoth most network H u asked bounds
+AreSidesBounded most network H u asked Impossible = ⊤
+AreSidesBounded most network H u asked NeverSides = ⊤
+AreSidesBounded most network H u asked Sure = ⊤
 
 -- bounds of a value's side, which there are where it has one
 abbrev pub IsBoundedValue :
@@ -153,12 +158,12 @@ IsBoundedValue most network H u _ _ = ⊥
 
 -- the bounds are those of each value, where two can come
 abbrev pub AreSpreadSidesBounded :
-    List Variable → List Entry → ℕ → SpreadAsked → SpreadSides → Type 0
-AreSpreadSidesBounded network H u spread (OpenSpread bounds) =
+    ℕ → List Variable → List Entry → ℕ → SpreadAsked → SpreadSides → Type 0
+AreSpreadSidesBounded most network H u spread (OpenSpread bounds) =
     (sides : List (Option Side)) → AreValueSides network H u spread sides
-    → AllZip (IsBoundedValue (2 ^ 17) network H u) (sides_in bounds) sides
-AreSpreadSidesBounded network H u spread ImpossibleSpread = ⊤
-AreSpreadSidesBounded network H u spread (SureSpread value) = ⊤
+    → AllZip (IsBoundedValue most network H u) (sides_in bounds) sides
+AreSpreadSidesBounded most network H u spread ImpossibleSpread = ⊤
+AreSpreadSidesBounded most network H u spread (SureSpread value) = ⊤
 
 -- ---- the operator's loss
 

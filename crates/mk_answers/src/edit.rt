@@ -1,5 +1,6 @@
 //! The bounds by which an edit of a question is judged.
-ghost use Rattle.std.specs.Prelude.{◌≡◌, ℕ, List, slice_index};
+ghost use Rattle.std.specs.Prelude.{◌≡◌, ℕ, ◌+◌, ◌≤◌, List, slice_index};
+ghost use Rattle.mk_net.specs.Bounds.{max_values};
 ghost use Rattle.mk_net.specs.Network.{Variable, sizes};
 ghost use Rattle.mk_exact.specs.History.{Entry};
 ghost use Rattle.mk_exact.specs.Limits.{Side};
@@ -7,13 +8,15 @@ ghost use Rattle.mk_exact.specs.Sides.{AreSides};
 ghost use Rattle.mk_exact.specs.Weight.{IsSmall};
 ghost use Rattle.mk_tree.specs.Given.{GivenTree};
 ghost use Rattle.mk_engine.specs.Meaning.{Meaning};
-ghost use Rattle.mk_beliefs.specs.Meanings.{weights_of};
+ghost use Rattle.mk_enclose.specs.Enclosure.{HasGrade};
+ghost use Rattle.mk_beliefs.specs.Meanings.{weights_of, gains_of};
 ghost use Rattle.mk_assets.specs.Holdings.{Holding, Owns};
 ghost use Rattle.mk_answers.specs.Open.{IsOpen, CanBeAnswered, AreBoundsFor, holding_of};
 ghost use Rattle.mk_answers.specs.Calls.{CanBound};
 ghost use Rattle.mk_answers.specs.Results.{AreBothLeft, AreSidesFor};
-ghost use Rattle.mk_answers.specs.Evidence.{AreSidesBounded};
+ghost use Rattle.mk_answers.specs.Evidence.{AreSidesBounded, grade_together};
 ghost use Rattle.mk_answers.specs.inner.Found.{CanOpen, IsPartFor, IsRestFor, IsCounted};
+ghost use Rattle.mk_answers.specs.inner.Found.{AreWeightsGraded, AreGainsGraded};
 
 use crate::found::factor_of;
 use mk_assets::Assets;
@@ -51,10 +54,13 @@ pub fn bounds_of<P: Engine<SumProd>, A: Engine<MinProd>>(
     ensures sides { (tree : GivenTree) (H : List Entry) (u : ℕ)
         → P.stands_for prices.old (weights_of net.now tree H) → Owns A.stands_for assets.old (holding_of net.now tree H u)
         → IsOpen net.now tree H → CanBeAnswered net.now tree H asked.now → AreSidesFor net.now H u asked.now result }
-    ensures bounded { (tree : GivenTree) (H : List Entry) (u : ℕ)
+    ensures bounded { (tree : GivenTree) (H : List Entry) (u most : ℕ)
         → P.stands_for prices.old (weights_of net.now tree H)
         → Owns A.stands_for assets.old (holding_of net.now tree H u) → IsOpen net.now tree H
-        → CanBeAnswered net.now tree H asked.now → AreSidesBounded net.now H u asked.now result }
+        → CanBeAnswered net.now tree H asked.now
+        → grade_together (P.grade_of (weights_of net.now tree H)) ≤ most
+        → A.grade_of (gains_of net.now tree H u) + max_values ≤ most
+        → AreSidesBounded most net.now H u asked.now result }
 {
     let values = net.values(asked.target().variable);
     let hit = prices.belief(at, &asked.event());
@@ -93,6 +99,11 @@ fn open_bounds<A: Engine<MinProd>>(
         → Owns A.stands_for assets.old (holding_of network tree H u) → IsOpen network tree H
         → values ≡ slice_index (sizes network) asked.now.target.variable
         → IsCounted H u result.miss_factor }
+    ensures weights { (g : ℕ) → HasGrade hit.now g → HasGrade miss.now g
+        → AreWeightsGraded g result }
+    ensures gains { (h : Holding) → Owns A.stands_for assets.old h
+        → values ≡ slice_index (sizes h.meaning.network) asked.now.target.variable
+        → AreGainsGraded (A.grade_of h.meaning + max_values) result }
 {
     let hit_factor = assets.least(at, &asked.event());
     let miss_factor = assets.least_of_others(at, asked, values);

@@ -1,5 +1,5 @@
 //! What a judge of printed numbers asks: enclosures of the exact ones, before they are rounded.
-ghost use Rattle.std.specs.Prelude.{◌≡◌, ℕ, ◌^◌, List};
+ghost use Rattle.std.specs.Prelude.{◌≡◌, ℕ, ◌+◌, ◌^◌, ◌≤◌, List, IfSome};
 ghost use Rattle.mk_exact.specs.Events.{with_target};
 ghost use Rattle.mk_exact.specs.History.{Entry};
 ghost use Rattle.mk_exact.specs.Proper.{IsProper};
@@ -13,7 +13,10 @@ ghost use Rattle.mk_quote.specs.Questions.{spread_in};
 ghost use Rattle.mk_answers.specs.Open.{IsOpen, CanBeAnswered, CanBeSpreadHere, holding_of};
 ghost use Rattle.mk_answers.specs.Calls.{CanPrice, CanFindBound};
 ghost use Rattle.mk_answers.specs.Evidence.{IsPriceBounded, AreSureFactors, IsSureFactor};
-ghost use Rattle.mk_answers.specs.Evidence.{ArePricesBounded, IsLeastWeight};
+ghost use Rattle.mk_answers.specs.Evidence.{ArePricesBounded, ArePriceGraded, IsLeastWeight};
+ghost use Rattle.mk_answers.specs.Evidence.{grade_together};
+ghost use Rattle.mk_semiring.specs.Held.{HasHeldGrade};
+ghost use Rattle.mk_beliefs.specs.Meanings.{gains_of};
 ghost use Rattle.mk_answers.specs.Telling.{CanTellPrices, CanTellPosition};
 ghost use Rattle.mk_answers.specs.inner.Found.{AreSidesIn, HasSides, CanFindSure};
 
@@ -39,9 +42,11 @@ pub fn price_bounds_of<P: Engine<SumProd>>(
 ) -> Option<PriceBounds>
     requires { CanPrice P.stands_for prices.old net.now at asked.now }
     ensures kept { (m : Meaning) → P.stands_for prices.old m → P.stands_for prices.new m }
-    ensures bounds { (tree : GivenTree) (H : List Entry)
+    ensures bounds { (tree : GivenTree) (H : List Entry) (most : ℕ)
         → P.stands_for prices.old (weights_of net.now tree H) → IsOpen net.now tree H
-        → CanBeAnswered net.now tree H asked.now → IsPriceBounded net.now H asked.now result }
+        → CanBeAnswered net.now tree H asked.now
+        → grade_together (P.grade_of (weights_of net.now tree H)) ≤ most
+        → IsPriceBounded most net.now H asked.now result }
 {
     let part = prices.belief(at, &asked.event());
     let condition = asked.condition();
@@ -60,9 +65,11 @@ pub fn price_bounds_of<P: Engine<SumProd>>(
 /// The bounds of a price from the beliefs in a question's target and in its other values.
 fn bounds_of_beliefs(part: &Held, rest: &Held) -> Option<PriceBounds>
     requires { HasSides part.now rest.now }
-    ensures { (network : List Variable) (H : List Entry) (asked : Asked) → IsNetwork network
+    ensures bounds { (network : List Variable) (H : List Entry) (asked : Asked) → IsNetwork network
         → IsProper network H → AreSidesIn network H asked part.now rest.now
-        → IsPriceBounded network H asked result }
+        → IsPriceBounded (2 ^ 17) network H asked result }
+    ensures graded { (g most : ℕ) → HasHeldGrade part.now g → HasHeldGrade rest.now g
+        → g + 1 ≤ most → IfSome result (ArePriceGraded most) }
 {
     match (part, rest) {
         (Held::Absent, Held::Absent) => None,
@@ -86,10 +93,11 @@ pub fn value_price_bounds_of<P: Engine<SumProd>>(
 ) -> Option<ArrayVec<Option<PriceBounds>, 16>>
     requires { CanTellPrices P.stands_for prices.old net.now at (spread_in asked.now) }
     ensures kept { (m : Meaning) → P.stands_for prices.old m → P.stands_for prices.new m }
-    ensures bounds { (tree : GivenTree) (H : List Entry)
+    ensures bounds { (tree : GivenTree) (H : List Entry) (most : ℕ)
         → P.stands_for prices.old (weights_of net.now tree H) → IsOpen net.now tree H
         → CanBeSpreadHere net.now tree H (spread_in asked.now)
-        → ArePricesBounded net.now H (spread_in asked.now) result }
+        → grade_together (P.grade_of (weights_of net.now tree H)) ≤ most
+        → ArePricesBounded most net.now H (spread_in asked.now) result }
 {
     let mut parts = ArrayVec::new();
     for value in 0..net.values(asked.variable) {
@@ -115,10 +123,11 @@ pub fn sure_factors_of<A: Engine<MinProd>>(
     requires { CanTellPosition A.stands_for assets.old net.now at (spread_in asked.now) }
     ensures kept_assets { (h : Holding) → Owns A.stands_for assets.old h
         → Owns A.stands_for assets.new h }
-    ensures factors { (tree : GivenTree) (H : List Entry) (u : ℕ)
+    ensures factors { (tree : GivenTree) (H : List Entry) (u most : ℕ)
         → Owns A.stands_for assets.old (holding_of net.now tree H u) → IsOpen net.now tree H
         → CanBeSpreadHere net.now tree H (spread_in asked.now)
-        → AreSureFactors net.now H u (spread_in asked.now) result }
+        → A.grade_of (gains_of net.now tree H u) ≤ most
+        → AreSureFactors most net.now H u (spread_in asked.now) result }
 {
     let Some(_) = assets.least(at, &asked.condition) else {
         return None;
@@ -142,9 +151,10 @@ fn sure_factor_of<A: Engine<MinProd>>(
     requires { CanFindSure A.stands_for assets.old net.now at asked.now }
     ensures kept_assets { (h : Holding) → Owns A.stands_for assets.old h
         → Owns A.stands_for assets.new h }
-    ensures factor { (tree : GivenTree) (H : List Entry) (u : ℕ)
+    ensures factor { (tree : GivenTree) (H : List Entry) (u most : ℕ)
         → Owns A.stands_for assets.old (holding_of net.now tree H u) → IsOpen net.now tree H
-        → IsSureFactor (2 ^ 17) net.now H u (with_target asked.now) result }
+        → A.grade_of (gains_of net.now tree H u) ≤ most
+        → IsSureFactor most net.now H u (with_target asked.now) result }
 {
     assets.least(at, &asked.event())
 }
@@ -154,9 +164,9 @@ fn sure_factor_of<A: Engine<MinProd>>(
 pub fn least_weight_of<A: Engine<MinProd>>(rows: &mut A, net: &Network) -> Enclosure
     requires { CanFindBound A.stands_for rows.old net.now }
     ensures kept { (m : Meaning) → A.stands_for rows.old m → A.stands_for rows.new m }
-    ensures least { (tree : GivenTree) (H : List Entry)
+    ensures least { (tree : GivenTree) (H : List Entry) (most : ℕ)
         → A.stands_for rows.old (rows_of net.now tree H) → IsOpen net.now tree H
-        → IsLeastWeight (2 ^ 17) net.now H result }
+        → A.grade_of (rows_of net.now tree H) ≤ most → IsLeastWeight most net.now H result }
 {
     enclosure_of(&rows.belief(ROOT, &Event::empty()))
 }

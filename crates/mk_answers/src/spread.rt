@@ -5,14 +5,15 @@ ghost use Rattle.mk_exact.specs.History.{Entry};
 ghost use Rattle.mk_spread.specs.Spreads.{asked_of};
 ghost use Rattle.mk_tree.specs.Given.{GivenTree};
 ghost use Rattle.mk_engine.specs.Meaning.{Meaning};
-ghost use Rattle.mk_beliefs.specs.Meanings.{weights_of};
+ghost use Rattle.mk_beliefs.specs.Meanings.{weights_of, gains_of};
 ghost use Rattle.mk_assets.specs.Holdings.{Holding, Owns};
 ghost use Rattle.mk_quote.specs.Questions.{spread_in};
 ghost use Rattle.mk_answers.specs.Open.{IsOpen, CanBeSpreadHere, holding_of};
 ghost use Rattle.mk_answers.specs.Calls.{CanBoundSpread};
 ghost use Rattle.mk_answers.specs.Results.{AreSpreadSidesFor};
 ghost use Rattle.mk_answers.specs.Evidence.{AreSpreadSidesBounded};
-ghost use Rattle.mk_answers.specs.inner.Found.{IsValueFound, IsValueCounted, CanFindValue};
+ghost use Rattle.mk_answers.specs.inner.Found.{IsValueFound, IsValueCounted, IsValueGraded};
+ghost use Rattle.mk_answers.specs.inner.Found.{CanFindValue};
 ghost use Rattle.mk_answers.specs.inner.Alone.{alone_in};
 
 use crate::found::factor_of;
@@ -51,11 +52,13 @@ pub fn spread_bounds_of<P: Engine<SumProd>, A: Engine<MinProd>>(
     ensures sides { (tree : GivenTree) (H : List Entry) (u : ℕ)
         → P.stands_for prices.old (weights_of net.now tree H) → Owns A.stands_for assets.old (holding_of net.now tree H u)
         → IsOpen net.now tree H → CanBeSpreadHere net.now tree H (spread_in asked.now) → AreSpreadSidesFor net.now H u (spread_in asked.now) result }
-    ensures bounded { (tree : GivenTree) (H : List Entry) (u : ℕ)
+    ensures bounded { (tree : GivenTree) (H : List Entry) (u most : ℕ)
         → P.stands_for prices.old (weights_of net.now tree H)
         → Owns A.stands_for assets.old (holding_of net.now tree H u) → IsOpen net.now tree H
         → CanBeSpreadHere net.now tree H (spread_in asked.now)
-        → AreSpreadSidesBounded net.now H u (spread_in asked.now) result }
+        → P.grade_of (weights_of net.now tree H) ≤ most
+        → A.grade_of (gains_of net.now tree H u) ≤ most
+        → AreSpreadSidesBounded most net.now H u (spread_in asked.now) result }
 {
     let Held::Present(whole) = prices.belief(at, &asked.condition) else {
         return SpreadSides::Impossible;
@@ -121,6 +124,9 @@ fn value_bounds_of<P: Engine<SumProd>, A: Engine<MinProd>>(
     ensures counted { (tree : GivenTree) (H : List Entry) (u : ℕ)
         → Owns A.stands_for assets.old (holding_of net.now tree H u) → IsOpen net.now tree H
         → IsValueCounted H u result }
+    ensures graded { (m : Meaning) (h : Holding) (most : ℕ) → P.stands_for prices.old m
+        → Owns A.stands_for assets.old h → P.grade_of m ≤ most → A.grade_of h.meaning ≤ most
+        → IsValueGraded most result }
 {
     let event = asked.event();
     match prices.belief(at, &event) {

@@ -1,5 +1,5 @@
 //! The least that a user owns, whatever comes.
-ghost use Rattle.std.specs.Prelude.{◌≡◌, ℕ, ◌^◌, ◌≤◌, List, Some};
+ghost use Rattle.std.specs.Prelude.{◌≡◌, ℕ, ◌≤◌, List, Some};
 ghost use Rattle.mk_net.specs.Bounds.{max_points_per_bit};
 ghost use Rattle.mk_net.specs.Network.{Variable};
 ghost use Rattle.mk_exact.specs.Accepted.{Covers, IsMost};
@@ -11,6 +11,7 @@ ghost use Rattle.mk_exact.specs.Weight.{IsSmall};
 ghost use Rattle.mk_tree.specs.Given.{GivenTree};
 ghost use Rattle.mk_enclose.specs.Enclosure.{Encloses};
 ghost use Rattle.mk_cash.specs.Factors.{HasPowersInRange};
+ghost use Rattle.mk_beliefs.specs.Meanings.{gains_of};
 ghost use Rattle.mk_assets.specs.Holdings.{Holding, Owns};
 ghost use Rattle.mk_answers.specs.Open.{IsOpen, IsFactorFor, holding_of};
 ghost use Rattle.mk_answers.specs.Calls.{CanFindWorst};
@@ -35,9 +36,10 @@ pub fn least_of<A: Engine<MinProd>>(assets: &mut Assets<A>) -> Factor
         → Owns A.stands_for assets.old (holding_of network tree H u) → IsOpen network tree H
         → HoldsNoTrade H u → Encloses result.gain 1 }
     ensures range { (b : ℕ) → b ≤ max_points_per_bit → HasPowersInRange result b }
-    ensures judged { (network : List Variable) (tree : GivenTree) (H : List Entry) (u : ℕ)
+    ensures judged { (network : List Variable) (tree : GivenTree) (H : List Entry) (u most : ℕ)
         → Owns A.stands_for assets.old (holding_of network tree H u) → IsOpen network tree H
-        → IsLeastFactorOf (2 ^ 17) network H u always result }
+        → A.grade_of (gains_of network tree H u) ≤ most
+        → IsLeastFactorOf most network H u always result }
 {
     factor_of(assets.least(ROOT, &Event::empty()))
 }

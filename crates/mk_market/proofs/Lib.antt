@@ -1,6 +1,5 @@
 pub mod Together
 pub mod EveryValue
-pub mod NamesKept
 pub mod Growing
 pub mod Refiled
 pub mod Lent
@@ -33,5 +32,3 @@ pub mod TakenBack
 pub mod TradesBack
 pub mod Booked
 pub mod Retold
-pub mod Evidenced
-pub mod EvidencedSpreads

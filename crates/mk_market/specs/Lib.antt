@@ -1,5 +1,4 @@
 pub mod Points
 pub mod Homes
 pub mod Trading
-pub mod Evidence
 pub mod inner

@@ -5,4 +5,3 @@ pub mod Paying
 pub mod Stopped
 pub mod Answering
 pub mod Restored
-pub mod Finding

@@ -3,9 +3,6 @@
 
 mod answering;
 mod editing;
-mod evidence;
-mod evidence_of_edits;
-mod evidence_of_spreads;
 mod joining;
 mod laws;
 mod market;
@@ -14,7 +11,6 @@ mod possible;
 mod pricing;
 mod quoting;
 mod reading;
-mod refused;
 mod resolving;
 mod restoring;
 mod restoring_trades;
@@ -27,9 +23,11 @@ mod trading;
 mod transfers;
 mod withdrawing;
 
-pub use evidence_of_edits::EditEvidence;
-pub use evidence_of_spreads::SpreadEvidence;
 pub use laws::{safe_has_homes, settlement_pays_off};
 pub use market::Market;
 pub use mk_record::Entry;
+pub use possible::{
+    Decided, SpreadDecided, Stopped, can_come, refuse_condition, refuse_decided, refuse_stopped,
+};
+pub use resolving::home_of;
 pub use restoring::RestoreFault;

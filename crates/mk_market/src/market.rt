@@ -13,15 +13,19 @@ use std::marker::Model;
 /// A market in use: its file, an engine with the weights of all states and one with their initial weights, the plan from which
 /// users' engines start, the users with their assets and last quotes, the ledger of their points, the journal of accepted changes,
 /// and room for the payments of the settlement.
+///
+/// What its answers are made of is open to a crate above that asks more (`mk_evidence`): whoever
+/// writes to a part proves the market kept. A call that lends an engine could not, since it would
+/// have to answer for whatever its caller leaves there.
 #[derive(Drop)]
 pub struct Market<P: Engine<SumProd>, A: Engine<MinProd>> {
-    pub(crate) file: MarketFile,
-    pub(crate) prices: P,
-    pub(crate) rows: A,
+    pub file: MarketFile,
+    pub prices: P,
+    pub rows: A,
     pub(crate) plan: A::Plan,
-    pub(crate) users: Users<A>,
+    pub users: Users<A>,
     pub(crate) ledger: Ledger,
-    pub(crate) journal: Journal,
+    pub journal: Journal,
     pub(crate) payments: Option<Payments>,
 }
 

@@ -25,7 +25,7 @@ use mk_semiring::SumProd;
 
 /// Why a question has no quote.
 #[derive(Clone, Copy, Debug)]
-pub(crate) enum Decided {
+pub enum Decided {
     /// Its condition cannot come.
     Impossible,
     /// Its target cannot come where its condition holds.
@@ -36,7 +36,7 @@ pub(crate) enum Decided {
 
 /// Why a spread has no quote.
 #[derive(Clone, Copy, Debug)]
-pub(crate) enum SpreadDecided {
+pub enum SpreadDecided {
     /// Its condition cannot come.
     Impossible,
     /// This value alone can come where its condition holds.
@@ -45,7 +45,7 @@ pub(crate) enum SpreadDecided {
 
 /// Why a spread is no trade.
 #[derive(Debug, Drop)]
-pub(crate) enum Stopped {
+pub enum Stopped {
     /// It has no quote.
     Decided(SpreadDecided),
     /// This value has a share, and cannot come where the condition holds.
@@ -61,7 +61,7 @@ impl Stopped {
     ghost use Rattle.mk_market.specs.inner.Stopped.{is_outside};
 
     /// Whether the shares are outside of intervals.
-    pub(crate) fn is_outside(&self) -> bool
+    pub fn is_outside(&self) -> bool
         ensures { result ≡ is_outside self.now }
     {
         match self {
@@ -72,7 +72,7 @@ impl Stopped {
 }
 
 /// The refusal of a question that has no quote, in its words. It leaves what the engine stands for as it was.
-pub(crate) fn refuse_decided<P: Engine<SumProd>>(
+pub fn refuse_decided<P: Engine<SumProd>>(
     prices: &mut P,
     question: &QuestionText,
     request: &Request,
@@ -107,7 +107,7 @@ pub(crate) fn refuse_decided<P: Engine<SumProd>>(
 /// The refusal of a condition that cannot come, in its words: its first pair with which no possible
 /// state is left. It is asked in a clique that holds the condition, and leaves what the engine
 /// stands for as it was.
-pub(crate) fn refuse_condition<P: Engine<SumProd>>(
+pub fn refuse_condition<P: Engine<SumProd>>(
     prices: &mut P,
     at: u32,
     condition: &Event,
@@ -126,7 +126,7 @@ pub(crate) fn refuse_condition<P: Engine<SumProd>>(
 }
 
 /// The refusal of a spread that is no trade, in its words. It leaves what the engine stands for as it was.
-pub(crate) fn refuse_stopped<P: Engine<SumProd>>(
+pub fn refuse_stopped<P: Engine<SumProd>>(
     prices: &mut P,
     net: &Network,
     variable: &Name,
@@ -174,12 +174,7 @@ fn pair_with(net: &Network, variable: &Name, asked: &SpreadQuestion, value: u32)
 /// Whether some possible state has a pair of a variable that is not resolved. Where the network has
 /// no shares of nothing one has, and no belief is asked. It is asked in the pair's home, and leaves
 /// what the engine stands for as it was.
-pub(crate) fn can_come<P: Engine<SumProd>>(
-    prices: &mut P,
-    net: &Network,
-    home: u32,
-    pair: Pair,
-) -> bool
+pub fn can_come<P: Engine<SumProd>>(prices: &mut P, net: &Network, home: u32, pair: Pair) -> bool
     requires { CanAskOfPair P.stands_for prices.old net.now home pair }
     ensures kept { (m : Meaning) → P.stands_for prices.old m → P.stands_for prices.new m }
     ensures found { (tree : GivenTree) (H : List Entry) → P.stands_for prices.old (weights_of net.now tree H) → IsOpen net.now tree H

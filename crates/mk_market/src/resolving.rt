@@ -51,7 +51,7 @@ ghost use Rattle.mk_record.specs.Members.{names_of, quotes_of};
 ghost use Rattle.mk_market.specs.inner.Quoting.{OwnsAt, CanBeTold};
 
 /// The home of a pair of the network.
-pub(crate) fn home_of(file: &MarketFile, pair: Pair) -> u32
+pub fn home_of(file: &MarketFile, pair: Pair) -> u32
     requires { is_some (home file.now.tree (pair ∷ [])) ≡ true }
     ensures { home file.now.tree (pair ∷ []) ≡ Some result }
 {

@@ -1,5 +1,5 @@
 -- Judgements of limits and of trades, by bounds of both sides.
-use Rattle.std.proofs.Common.{◌≡◌, ℕ, ◌+◌, ◌-◌, ◌*◌, ◌^◌, ◌⊎◌, inl, inr, Bool, true, false, IsTrue, List, Option, Some, None, IsSomeAnd, ◌↔◌, refl, sym, ap, subst, ◌∙◌}
+use Rattle.std.proofs.Common.{◌≡◌, ℕ, ◌+◌, ◌-◌, ◌⊎◌, inl, inr, Bool, true, false, IsTrue, List, Option, Some, None, IsSomeAnd, ◌↔◌, refl, sym, ap, subst, ◌∙◌}
 use Rattle.mk_net.specs.Bounds.{million}
 use Rattle.mk_net.specs.declared.words.QuestionText.{QuestionText}
 use Rattle.mk_net.specs.Asked.{Asked}
@@ -29,11 +29,13 @@ use Rattle.mk_judge.specs.Units.{AreSideBounds, AreUnitsNear}
 use Rattle.mk_judge.specs.Questions.{AreTwoSides, AreLimitsNear}
 use Rattle.mk_judge.proofs.Judging.{judges_as, judges_both}
 use Rattle.mk_answers.specs.Evidence.{AreBoundsOfSide}
-use Rattle.mk_verify.specs.Clear.{IsTradeOpen, AreLimitsOpen, AreUnitsOpen}
+use Rattle.mk_evidence.specs.Grades.{evidence_grade}
+use Rattle.mk_verify.specs.Clear.{IsTradeOpen, AreLimitsOpen, AreUnitsOpen, near_steps}
 use Rattle.mk_verify.specs.inner.Judging.{TellsSmall}
 use Rattle.mk_verify.specs.inner.Editing.{AreEditBounds, IsTradeLeftOpen, AreLimitsLeftOpen, IsEditLeftOpen}
 use Rattle.mk_verify.specs.inner.Told.{beyond_told}
 use Rattle.mk_verify.proofs.Verdicts.{judges_by}
+use Rattle.mk_verify.proofs.Nearer.{grade_room}
 use Rattle.mk_verify.proofs.EditingNear.{units_open, limits_open}
 
 -- ---- the small case, by the flag or by the history
@@ -86,15 +88,21 @@ one_side network H u asked test a b h k = at (least_gain network H u test) h k
 
 -- units of one side
 pub units_judged : (market : Market) (H : List Entry) (u : ℕ) (of : SideBounds) (small : Bool) (side : Side) (X F : ℕ) (j : Judged) → TellsSmall small market H
-    → AreBoundsOfSide (2 ^ 17) (network_of market H) H u of side → JudgesUnits j of small X F
+    → AreBoundsOfSide (evidence_grade market H) (network_of market H) H u of side
+    → JudgesUnits j of small X F
     → Judges j (IsFairAndSolvent (IsSmall (network_of market H) H) side X F)
-    ((¬ IsSmall (network_of market H) H) × AreUnitsOpen (4 * 2 ^ 17) (HoldsNoTrade H u) side X F)
+    ((¬ IsSmall (network_of market H) H) × AreUnitsOpen (near_steps market H)
+    (HoldsNoTrade H u) side X F)
 units_judged market H u of small side X F j tells its says =
     let are = its.bounds_of small tells.0 in
     judges_by j _ _
     (λ e. fair_for (IsTrue small) _ side X F tells.1 (says.allowed e side are))
     (λ e h. says.wrong e side are (fair_for _ (IsTrue small) side X F tells.0 h))
-    (λ e. let near = says.unclear e side are in (not_told small _ tells near.large, units_open (network_of market H) H u of side its small F X near))
+    (λ e. let near = says.unclear e side are in (
+      not_told small _ tells near.large,
+      units_open (evidence_grade market H) (grade_room market H)
+          (network_of market H) H u of side its small F X near,
+    ))
 
 -- a trade's units are fair on both sides
 fair_units : (network : List Variable) (H : List Entry) (u : ℕ) (asked : Asked) (X hit miss at : ℕ) (a b : Side) → AreSides network H u asked a b
@@ -112,8 +120,10 @@ fair_units network H u asked X hit miss at a b sides trade =
     )
 
 trade_open : (market : Market) (H : List Entry) (u : ℕ) (asked : Asked) (X hit miss : ℕ) (a b : Side) → AreSides (network_of market H) H u asked a b
-    → ((¬ IsSmall (network_of market H) H) × AreUnitsOpen (4 * 2 ^ 17) (HoldsNoTrade H u) a X hit)
-    ⊎ ((¬ IsSmall (network_of market H) H) × AreUnitsOpen (4 * 2 ^ 17) (HoldsNoTrade H u) b (million - X) miss)
+    → ((¬ IsSmall (network_of market H) H) × AreUnitsOpen (near_steps market H)
+    (HoldsNoTrade H u) a X hit)
+    ⊎ ((¬ IsSmall (network_of market H) H) × AreUnitsOpen (near_steps market H) (HoldsNoTrade H u) b
+    (million - X) miss)
     → IsTradeOpen market H u asked X hit miss
 trade_open market H u asked X hit miss a b sides (inl of) = record { hit = a; miss = b; sides = sides; large = of.0; near = inl of.1 }
 trade_open market H u asked X hit miss a b sides (inr of) = record { hit = a; miss = b; sides = sides; large = of.0; near = inr of.1 }
@@ -152,7 +162,9 @@ module _ (market : Market) (H : List Entry) (name : List ℕ) (q : QuestionText)
         miss = its.miss;
         sides = its.exist;
         large = not_told small _ its.tells (says.clear e);
-        near = limits_open (network_of market H) H (user_number H name) bounds its.hit its.miss limits (its.both.hit its.hit its.miss its.exist) (its.both.miss its.hit its.miss its.exist)
+        near = limits_open (evidence_grade market H) (grade_room market H) (network_of market H) H
+            (user_number H name) bounds its.hit its.miss limits
+            (its.both.hit its.hit its.miss its.exist) (its.both.miss its.hit its.miss its.exist)
             (says.unclear e its.hit its.miss (two_sides its.hit its.miss its.exist));
       })
 

@@ -18,8 +18,9 @@ use Rattle.mk_judge.specs.declared.judged.Judged.{Judged}
 use Rattle.mk_judge.specs.Judged.{Judges}
 use Rattle.mk_judge.proofs.Judging.{judges_as}
 use Rattle.mk_answers.specs.Evidence.{AreBoundsOfBoth}
-use Rattle.mk_market.specs.Evidence.{IsEditEvidence}
-use Rattle.mk_market.specs.declared.evidence_of_edits.EditEvidence.{EditEvidence}
+use Rattle.mk_evidence.specs.Grades.{evidence_grade}
+use Rattle.mk_evidence.specs.Evidence.{IsEditEvidence}
+use Rattle.mk_evidence.specs.declared.evidence_of_edits.EditEvidence.{EditEvidence}
 use Rattle.mk_verify.specs.Clear.{IsOpen}
 use Rattle.mk_verify.specs.inner.Judging.{TellsSmall}
 use Rattle.mk_verify.specs.inner.Editing.{AreEditBounds, AreLimitsLeftOpen, IsEditLeftOpen}
@@ -36,7 +37,8 @@ edit_bounds market H name q evidence small now of tells present = record {
   hit = of.sides.hit;
   miss = of.sides.miss;
   exist = subst (λ (u : ℕ). AreSides (network_of market H) H u evidence.question of.sides.hit of.sides.miss) of.user of.sides.exist;
-  both = subst (λ (u : ℕ). AreBoundsOfBoth (network_of market H) H u evidence.question evidence.bounds) of.user
+  both = subst (λ (u : ℕ). AreBoundsOfBoth (evidence_grade market H)
+      (network_of market H) H u evidence.question evidence.bounds) of.user
       (record { hit = of.sides.hit_bounds; miss = of.sides.miss_bounds });
 }
 

@@ -19,8 +19,9 @@ use Rattle.mk_judge.specs.Judged.{Judges}
 use Rattle.mk_judge.specs.Prices.{ArePriceBounds, IsPriceNear}
 use Rattle.mk_judge.specs.Cash.{IsOwned, IsCashNear, IsBitsNear, AreBitsNear, ArePowersNear, nearness}
 use Rattle.mk_answers.specs.Evidence.{AreBoundsOfPrice, IsFactorOf}
+use Rattle.mk_evidence.specs.Grades.{evidence_grade}
 use Rattle.mk_verify.specs.Clear.{IsPriceOpen, IsCashOpen, AreBitsOpen, IsMostOpen, near_steps}
-use Rattle.mk_verify.proofs.Nearer.{price_nearer, cash_nearer, bits_nearer, most_nearer}
+use Rattle.mk_verify.proofs.Nearer.{grade_room, price_nearer, cash_nearer, bits_nearer, most_nearer}
 use Rattle.mk_verify.proofs.Verdicts.{judges_by}
 
 -- ---- prices
@@ -57,7 +58,7 @@ not_small small S tells large is = false≢true (sym large ∙ tells.1 is)
 
 pub price_judged : (market : Market) (H : List Entry) (asked : Asked) (bounds : PriceBounds)
     (small : Bool) (low high : ℕ) (j : Judged) → ((small ≡ true) ↔ IsSmall (network_of market H) H)
-    → AreBoundsOfPrice (2 ^ 17) (network_of market H) H asked bounds
+    → AreBoundsOfPrice (evidence_grade market H) (network_of market H) H asked bounds
     → JudgesPrice j bounds small low high
     → Judges j
     (CoversPrice (IsSmall (network_of market H) H) (exact_price (network_of market H) H asked) low
@@ -70,7 +71,8 @@ price_judged market H asked bounds small low high j tells evidence says =
     (λ e h. says.wrong e price its (price_for _ (IsTrue small) price low high tells.0 h))
     (λ e. record {
       large = not_small small _ tells (says.clear e price its);
-      near = price_nearer bounds price low high (2 ^ 17) (near_steps market H) (omega arith)
+      near = price_nearer bounds price low high (evidence_grade market H) (near_steps market H)
+          (omega (arith, grade_room market H))
           evidence.graded (says.unclear e price its);
     })
 
@@ -105,7 +107,8 @@ near_powers false S q b low high steps tells near = inl near
 
 pub cash_judged : (market : Market) (H : List Entry) (u g : ℕ) (factor : Factor) (small : Bool)
     (b low high : ℕ) (j : Judged) → ((small ≡ true) ↔ IsSmall (network_of market H) H)
-    → IsSound (network_of market H) H → IsFactorOf (2 ^ 17) (network_of market H) H u g factor
+    → IsSound (network_of market H) H → IsFactorOf (evidence_grade market H)
+    (network_of market H) H u g factor
     → b ≡ market.points_per_bit → JudgesCash j factor small b low high
     → Judges j
     (CoversCash (IsSmall (network_of market H) H) (HoldsNoTrade H u) (factor_with H u g)
@@ -126,7 +129,8 @@ cash_judged market H u g factor small b low high j tells sound evidence points s
     (λ e. let near = said.unclear e q its in record {
       traded = λ none. near.traded (idle none);
       near = near_powers small _ q k low high _ tells
-          (cash_nearer small factor q k low high (2 ^ 17) (near_steps market H) (omega arith)
+          (cash_nearer small factor q k low high (evidence_grade market H) (near_steps market H)
+          (omega (arith, grade_room market H))
           evidence.graded near);
     })
 
@@ -139,7 +143,8 @@ pub record JudgesCovered (j : Judged) (factor : Factor) (bits : ℕ) : Type 0 wh
 
 pub covered_judged : (market : Market) (H : List Entry) (u g : ℕ) (factor : Factor) (bits : ℕ)
     (j : Judged) → IsSound (network_of market H) H
-    → IsFactorOf (2 ^ 17) (network_of market H) H u g factor → JudgesCovered j factor bits
+    → IsFactorOf (evidence_grade market H) (network_of market H) H u g factor
+    → JudgesCovered j factor bits
     → Judges j (Covers (factor_with H u g) bits) (AreBitsOpen market H u (factor_with H u g) bits)
 covered_judged market H u g factor bits j sound evidence says =
     let q = factor_with H u g in
@@ -148,7 +153,8 @@ covered_judged market H u g factor bits j sound evidence says =
     (λ e. let near = says.unclear e q its in record {
       large = λ small. near.rounded (evidence.exact small);
       traded = λ none. near.traded (evidence.traded ∙ none);
-      near = bits_nearer factor q bits (2 ^ 17) (near_steps market H) (omega arith) evidence.graded
+      near = bits_nearer factor q bits (evidence_grade market H) (near_steps market H)
+          (omega (arith, grade_room market H)) evidence.graded
           near;
     })
 
@@ -171,7 +177,8 @@ most_for small large idle alone q k to by h = record {
 
 pub most_judged : (market : Market) (H : List Entry) (u g : ℕ) (factor : Factor) (small : Bool)
     (most : ℕ) (j : Judged) → ((small ≡ true) ↔ IsSmall (network_of market H) H)
-    → IsSound (network_of market H) H → IsFactorOf (2 ^ 17) (network_of market H) H u g factor
+    → IsSound (network_of market H) H → IsFactorOf (evidence_grade market H)
+    (network_of market H) H u g factor
     → JudgesMost j factor small most
     → Judges j (IsMost (IsSmall (network_of market H) H) (HoldsNoTrade H u) (factor_with H u g)
     most) (IsMostOpen market H u (factor_with H u g) most)
@@ -187,6 +194,7 @@ most_judged market H u g factor small most j tells sound evidence says =
     (λ e. let near = says.unclear e q its exact in record {
       large = not_small small _ tells near.large;
       traded = λ none. near.traded (evidence.traded ∙ none);
-      near = most_nearer small factor q most (2 ^ 17) (near_steps market H) (omega arith)
+      near = most_nearer small factor q most (evidence_grade market H) (near_steps market H)
+          (omega (arith, grade_room market H))
           evidence.graded near;
     })

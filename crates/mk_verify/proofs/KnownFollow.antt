@@ -3,7 +3,8 @@ use Rattle.std.proofs.Common.{◌≡◌, ℕ, ◌+◌, List, [], ◌∷◌, ◌+
 use Rattle.std.specs.Prelude.{option_map, option_to_list, IfSome}
 use Rattle.std.proofs.Math.ListN.{length-set}
 use Rattle.mk_net.specs.Network.{Variable}
-use Rattle.mk_exact.specs.History.{Entry, join_in, users}
+use Rattle.arrayvec.specs.ArrayVec.{ArrayVec}
+use Rattle.mk_exact.specs.History.{Entry, join_in, trade_in, users}
 use Rattle.mk_exact.specs.Weight.{IsSmall}
 use Rattle.mk_exact.specs.Proper.{IsProper}
 use Rattle.mk_exact.specs.Market.{Market, network_of}
@@ -20,7 +21,8 @@ use Rattle.mk_rules.specs.Answers.{IsAllowed, entry_of, next_history, next_quote
 use Rattle.mk_restore.specs.Restoring.{IsFit}
 use Rattle.mk_restore.proofs.Taken.{allowed_fits}
 use Rattle.mk_verify.specs.Known.{Knowledge, IsKnown}
-use Rattle.mk_verify.proofs.SmallWeights.{small_before}
+use Rattle.mk_verify.specs.inner.Walks.{IsNoTrade}
+use Rattle.mk_verify.proofs.SmallWeights.{small_before, same_weights}
 
 -- ---- the change that a reply is
 
@@ -33,6 +35,10 @@ unfit_stays market H quotes command told allowed unfit = at (entry_of market H c
     at None e = sym (ap (λ (o : Option Entry). H ++ option_to_list o) e ∙ append-nil H)
     at (Some entry) e = absurd (unfit (allowed_fits market H quotes command told entry allowed e))
 
+mapped : {X Y : Type 0} (P : Y → Type 0) (f : X → Y) → ((x : X) → P (f x)) → (o : Option X) → IfSome (option_map f o) P
+mapped P f each None = tt
+mapped P f each (Some x) = each x
+
 -- ---- the flag
 
 -- a history that was not small is not small
@@ -44,11 +50,51 @@ large_stays network H before change was proper e large known = (λ yes. absurd (
     at None e small = subst (IsSmall network) (e ∙ append-nil before) small
     at (Some entry) e small = small_before network before entry (subst (IsProper network) e proper) (subst (IsSmall network) e small)
 
--- ---- the places
+-- behind no trade a history is small where it was small before
+pub stays_alike : (network : List Variable) (H before : List Entry) (change : Option Entry) (was : Bool) → IsNoTrade change → H ≡ before ++ option_to_list change
+    → (was ≡ true) ↔ IsSmall network before → (was ≡ true) ↔ IsSmall network H
+stays_alike network H before change was none e known = subst (λ (G : List Entry). (was ≡ true) ↔ IsSmall network G) (sym e) (at change none)
+  where
+    at : (change : Option Entry) → IsNoTrade change → (was ≡ true) ↔ IsSmall network (before ++ option_to_list change)
+    at None none = subst (λ (G : List Entry). (was ≡ true) ↔ IsSmall network G) (sym (append-nil before)) known
+    at (Some entry) none = (λ yes. rw (same_weights network before entry none) (known.0 yes), λ small. known.1 (rw (same_weights network before entry none) at small))
 
-mapped : {X Y : Type 0} (P : Y → Type 0) (f : X → Y) → ((x : X) → P (f x)) → (o : Option X) → IfSome (option_map f o) P
-mapped P f each None = tt
-mapped P f each (Some x) = each x
+-- a reply that tells of no trade makes none
+MakesNoTrade : Market → List Entry → Command → Reply → Type 0
+MakesNoTrade market H command told = IsNoTrade (entry_of market H command told)
+
+no_trade : (market : Market) (H : List Entry) (command : Command) (told : Reply) → ((hit miss at : ℕ) → told ≡ reply.Traded hit miss at → ⊥)
+    → ((factors : ArrayVec ℕ) (at : ℕ) → told ≡ reply.Spreaded factors at → ⊥) → MakesNoTrade market H command told
+unfolding MakesNoTrade
+no_trade market H (User u) (reply.Joined v at) edit spread = refl
+no_trade market H (User u) told edit spread = tt
+no_trade market H (Deposit u bits) (reply.Deposited v n at) edit spread = refl
+no_trade market H (Deposit u bits) told edit spread = tt
+no_trade market H (Withdraw u bits) (reply.Withdrawn v n at) edit spread = refl
+no_trade market H (Withdraw u bits) told edit spread = tt
+no_trade market H (Edit u q X seen) (reply.Traded hit miss at) edit spread = absurd (edit hit miss at refl)
+no_trade market H (Edit u q X seen) told edit spread = tt
+no_trade market H (Spread u v condition to seen) (reply.Spreaded factors at) edit spread = absurd (spread factors at refl)
+no_trade market H (Spread u v condition to seen) told edit spread = tt
+no_trade market H (Resolve p) (reply.Resolved q at) edit spread = mapped (λ (e : Entry). trade_in e ≡ None) _ (λ pair. refl) (pair_named (network_of market H) p)
+no_trade market H (Resolve p) told edit spread = tt
+no_trade market H Settle (reply.Settled at payments) edit spread = refl
+no_trade market H Settle told edit spread = tt
+no_trade market H (Price q) told edit spread = tt
+no_trade market H (Limits u q) told edit spread = tt
+no_trade market H (Bounds u v condition) told edit spread = tt
+no_trade market H (Worst u) told edit spread = tt
+no_trade market H Bound told edit spread = tt
+no_trade market H (Prices v condition) told edit spread = tt
+no_trade market H (Position u v condition) told edit spread = tt
+no_trade market H Status told edit spread = tt
+
+pub makes_no_trade : (market : Market) (H : List Entry) (command : Command) (told : Reply) → ((hit miss at : ℕ) → told ≡ reply.Traded hit miss at → ⊥)
+    → ((factors : ArrayVec ℕ) (at : ℕ) → told ≡ reply.Spreaded factors at → ⊥) → IsNoTrade (entry_of market H command told)
+unfolding MakesNoTrade
+makes_no_trade market H command told edit spread = no_trade market H command told edit spread
+
+-- ---- the places
 
 -- nobody joins by another change
 none_joins : (H : List Entry) (o : Option Entry) → IfSome o (λ e. join_in e ≡ None) → users (H ++ option_to_list o) ≡ users H
@@ -142,12 +188,12 @@ places market H quotes Status told h = other_places market H quotes Status told 
 -- what is known behind a reply
 pub known_next : (market after : Market) (H G : List Entry) (old new : Knowledge) (command : Command) (told : Reply) (was : Bool)
     → IsKnown market H old → after ≡ market → G ≡ next_history market H command told → new.quotes ≡ next_quotes market H old.quotes command told → was ≡ old.small
-    → ((before : List Entry) (change : Option Entry) → G ≡ before ++ option_to_list change → (was ≡ true) ↔ IsSmall (network_of after before) before
+    → ((before : List Entry) (asked : Command) → G ≡ next_history after before asked told → (was ≡ true) ↔ IsSmall (network_of after before) before
     → (new.small ≡ true) ↔ IsSmall (network_of after G) G)
     → IsKnown after G new
 known_next market after H G old new command told was known same next quotes is small = record {
   one_place_each = ap (λ (qs : Quotes). length qs) quotes ∙ places market H old.quotes command told known.one_place_each ∙ sym (ap (λ (l : List Entry). length (users l)) next);
-  small = small H (entry_of market H command told) next (
+  small = small H command (next ∙ ap (λ (m : Market). next_history m H command told) (sym same)) (
     λ yes. subst (λ (m : Market). IsSmall (network_of m H) H) (sym same) (known.small.0 (sym is ∙ yes)),
     λ is_small. is ∙ known.small.1 (subst (λ (m : Market). IsSmall (network_of m H) H) same is_small),
   );

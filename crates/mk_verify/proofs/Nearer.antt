@@ -1,10 +1,12 @@
 -- Numbers that are near by some steps are near by more; so is what a judge of mk_judge leaves open
 -- of enclosures that have at most a grade.
-use Rattle.std.proofs.Common.{ℕ, ◌+◌, ◌-◌, ◌*◌, ◌^◌, ◌≤◌, ◌⊎◌, inl, inr, Bool, arith}
+use Rattle.std.proofs.Common.{ℕ, ◌+◌, ◌-◌, ◌*◌, ◌^◌, ◌≤◌, ◌⊎◌, inl, inr, Bool, List, arith}
 use Rattle.std.proofs.Math.Nat.{mul-le-mul_left}
 use Rattle.mk_exact.specs.Factors.{Fraction}
+use Rattle.mk_exact.specs.History.{Entry}
+use Rattle.mk_exact.specs.Market.{Market}
 use Rattle.mk_exact.specs.Risk.{nearness}
-use Rattle.mk_net.specs.Bounds.{million}
+use Rattle.mk_net.specs.Bounds.{max_values, million}
 use Rattle.mk_scaled.specs.Near.{near_more}
 use Rattle.mk_enclose.specs.declared.enclosure.Enclosure.{Enclosure}
 use Rattle.mk_enclose.specs.declared.factor.Factor.{Factor}
@@ -16,6 +18,7 @@ use Rattle.mk_judge.specs.Prices.{AreNearUnits, IsPriceNear}
 use Rattle.mk_judge.specs.Cash.{ArePowersNear, IsCashNear, IsBitsNear, AreBitsNear, nearness as cash_nearness}
 use Rattle.mk_judge.specs.Losses.{quotient, IsBoundNear}
 use Rattle.mk_answers.specs.Evidence.{ArePriceGraded}
+use Rattle.mk_evidence.specs.Grades.{evidence_grade}
 
 pub nearer : (a b i j : ℕ) → i ≤ j → AreNear a b i → AreNear a b j
 nearer a b i j more near = record {
@@ -41,6 +44,10 @@ powers_nearer near q b low high i j more =
     (either_of (nearer _ _ i j more) (nearer _ _ i j more)))
 
 -- ---- by a greatest grade
+
+-- which has one step for each value that a variable may have
+pub grade_room : (market : Market) (H : List Entry) → max_values ≤ evidence_grade market H
+grade_room market H = omega arith
 
 pub price_nearer : (bounds : PriceBounds) (price : Fraction) (low high most steps : ℕ)
     → most + most + 2 ≤ steps → ArePriceGraded most bounds → IsPriceNear bounds price low high

@@ -1,5 +1,5 @@
 -- Judgements of settlements.
-use Rattle.std.proofs.Common.{◌≡◌, ℕ, ◌+◌, ◌^◌, ◌<◌, ◌↔◌, Bool, List, [], ◌∷◌, length, map, Option, Some, None, slice_get, refl, sym, ap, subst, ◌∙◌, arith}
+use Rattle.std.proofs.Common.{◌≡◌, ℕ, ◌+◌, ◌<◌, ◌↔◌, Bool, List, [], ◌∷◌, length, map, Option, Some, None, slice_get, refl, sym, ap, subst, ◌∙◌, arith}
 use Rattle.std.proofs.lemmas.Option.{slice_get_within}
 use Rattle.std.specs.List.{AllZip, enumerate_from}
 use Rattle.mk_net.specs.Network.{Variable}
@@ -19,6 +19,7 @@ use Rattle.mk_judge.specs.declared.judged.Judged.{Judged}
 use Rattle.mk_judge.specs.declared.judged.Judged.TheVariants.{Wrong}
 use Rattle.mk_judge.specs.Judged.{Judges}
 use Rattle.mk_judge.proofs.Judging.{judges_as}
+use Rattle.mk_evidence.specs.Grades.{evidence_grade}
 use Rattle.mk_verify.specs.Clear.{IsOpen, IsPaymentOpen}
 use Rattle.mk_answers.specs.Evidence.{IsFactorOf}
 use Rattle.mk_exact.specs.Factors.{gain}
@@ -131,7 +132,8 @@ module _ (market : Market) (H : List Entry) where
   -- the payment to one user
   pub payment_judged : (state : List ℕ) (u : ℕ) (payment : Payment) (factor : Factor)
       (small : Bool) (b : ℕ) (j : Judged) → TellsSmall small market H → IsSound network H
-      → IsFactorOf (2 ^ 17) network H u (gain H u state) factor → b ≡ market.points_per_bit
+      → IsFactorOf (evidence_grade market H) network H u (gain H u state) factor
+      → b ≡ market.points_per_bit
       → payment.paid ≡ payment.low
       → JudgesCash j factor small b payment.low payment.high
       → Judges j (PaysCash market H state u payment) (IsPaymentLeftOpen market H state u payment)

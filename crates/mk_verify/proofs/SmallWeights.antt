@@ -1,5 +1,5 @@
 -- Weights of all states: each change leaves them at least as great, and four variables weigh too much from the start.
-use Rattle.std.proofs.Common.{◌≡◌, ℕ, ◌*◌, ◌^◌, ◌<◌, ◌≤◌, List, [], ◌∷◌, ◌++◌, length, sum_by, refl, sym, ◌∙◌, subst, arith, mul-one, mul-le-mul_left, lt_of_le_of_lt}
+use Rattle.std.proofs.Common.{◌≡◌, ℕ, ◌*◌, ◌^◌, ◌<◌, ◌≤◌, List, [], ◌∷◌, ◌++◌, None, length, sum_by, refl, sym, ◌∙◌, subst, arith, mul-one, mul-le-mul_left, lt_of_le_of_lt}
 use Rattle.std.proofs.lemmas.List.Sums.{sum_by-cons}
 use Rattle.std.proofs.Math.Nat.{pow-le-pow_right}
 use Rattle.std.proofs.lemmas.List.Elements.{filter_map-append}
@@ -23,6 +23,11 @@ use Rattle.mk_verify.specs.inner.Walks.{times}
 sum_by_grows : {X : Type 0} (f g : X → ℕ) (xs : List X) → AllByRecursion (λ x. f x ≤ g x) xs → sum_by f xs ≤ sum_by g xs
 sum_by_grows f g [] h = omega arith
 sum_by_grows f g (x ∷ xs) h = omega (arith, sum_by-cons f x xs, sum_by-cons g x xs, h.0, sum_by_grows f g xs h.1)
+
+-- and one of the same terms is the same
+sum_by_same : {X : Type 0} (f g : X → ℕ) (xs : List X) → ((x : X) → f x ≡ g x) → sum_by f xs ≡ sum_by g xs
+sum_by_same f g [] h = refl
+sum_by_same f g (x ∷ xs) h = omega (arith, sum_by-cons f x xs, sum_by-cons g x xs, h x, sum_by_same f g xs h)
 
 grown : (n m : ℕ) → 1 ≤ m → n ≤ n * m
 grown n m h = omega (arith, mul-le-mul_left n h)
@@ -72,6 +77,14 @@ times_positive network joined (Withdraw user bits) s is_state h = omega arith
 times_positive network joined (Trade user ratio) s is_state h = ratio_pos network joined s is_state (record { user = user; ratio = ratio }) h.0
 times_positive network joined (Resolve pair) s is_state h = omega arith
 times_positive network joined Settle s is_state h = omega arith
+
+-- behind a change that is no trade the weights are as they were
+pub same_weights : (network : List Variable) (H : List Entry) (e : Entry) → trade_in e ≡ None
+    → sum_by (weight network (H ++ e ∷ [])) (all_states network)
+    ≡ sum_by (weight network H) (all_states network)
+same_weights network H e none =
+    sum_by_same (weight network (H ++ e ∷ [])) (weight network H) (all_states network)
+    (λ s. weight_kept network H e s none)
 
 -- a history that is small was small before its last change
 pub small_before : (network : List Variable) (H : List Entry) (e : Entry) → IsProper network (H ++ e ∷ []) → IsSmall network (H ++ e ∷ []) → IsSmall network H

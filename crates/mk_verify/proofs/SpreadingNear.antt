@@ -1,5 +1,5 @@
 -- What mk_judge leaves open of the values of a variable is near by the steps that an auditor may leave open.
-use Rattle.std.proofs.Common.{◌≡◌, ℕ, zero, suc, ◌+◌, ◌^◌, inl, inr, Bool, List, [], ◌∷◌, Option, Some, None, ap, ◌∙◌, arith}
+use Rattle.std.proofs.Common.{◌≡◌, ℕ, zero, suc, ◌+◌, inl, inr, Bool, List, [], ◌∷◌, Option, Some, None, ap, ◌∙◌, arith}
 use Rattle.std.specs.List.{AllZip, range_with_len, slice_get}
 use Rattle.mk_net.specs.Network.{Variable}
 use Rattle.mk_exact.specs.History.{Entry}
@@ -12,24 +12,30 @@ use Rattle.mk_spread.specs.Markets.{IsValueSide}
 use Rattle.mk_quote.specs.declared.side.SideBounds.{SideBounds}
 use Rattle.mk_judge.specs.Distributions.{AreEachSideBounds, HaveTradeRange, IsSomeWantedNear, IsSomeIntervalNear, AreSomeUnitsNear}
 use Rattle.mk_answers.specs.Evidence.{IsBoundedValue}
+use Rattle.mk_evidence.specs.Grades.{evidence_grade}
 use Rattle.mk_verify.specs.Clear.{IsValueOpen, AreUnitsOpen, IsShareOpen, IsIntervalOpen, near_steps}
 use Rattle.mk_verify.specs.inner.Judging.{TellsSmall}
+use Rattle.mk_verify.proofs.Nearer.{grade_room}
 use Rattle.mk_verify.proofs.EditingNear.{units_open, share_open, interval_open}
 
 -- ---- what the bounds give
 
 -- each is in range for one trade more
-pub in_range : (network : List Variable) (H : List Entry) (u : ℕ) (values : List (Option SideBounds)) (sides : List (Option Side))
-    → AllZip (IsBoundedValue (2 ^ 17) network H u) values sides → HaveTradeRange values
-in_range network H u [] sides h = tt
-in_range network H u (value ∷ values) [] h = absurd h
-in_range network H u (None ∷ values) (side ∷ sides) h = (tt, in_range network H u values sides h.1)
-in_range network H u (Some bounds ∷ values) (None ∷ sides) h = absurd h.0
-in_range network H u (Some bounds ∷ values) (Some side ∷ sides) h = (h.0.range, in_range network H u values sides h.1)
+pub in_range : (most : ℕ) (network : List Variable) (H : List Entry) (u : ℕ)
+    (values : List (Option SideBounds)) (sides : List (Option Side))
+    → AllZip (IsBoundedValue most network H u) values sides → HaveTradeRange values
+in_range most network H u [] sides h = tt
+in_range most network H u (value ∷ values) [] h = absurd h
+in_range most network H u (None ∷ values) (side ∷ sides) h =
+    (tt, in_range most network H u values sides h.1)
+in_range most network H u (Some bounds ∷ values) (None ∷ sides) h = absurd h.0
+in_range most network H u (Some bounds ∷ values) (Some side ∷ sides) h =
+    (h.0.range, in_range most network H u values sides h.1)
 
 -- and encloses what it is of, exactly so where the history is small
 pub each_side : (market : Market) (H : List Entry) (u : ℕ) (small : Bool) → TellsSmall small market H → (values : List (Option SideBounds)) (sides : List (Option Side))
-    → AllZip (IsBoundedValue (2 ^ 17) (network_of market H) H u) values sides → AreEachSideBounds values small sides
+    → AllZip (IsBoundedValue (evidence_grade market H) (network_of market H) H u) values sides
+    → AreEachSideBounds values small sides
 each_side market H u small tells [] [] h = tt
 each_side market H u small tells [] (side ∷ sides) h = absurd h
 each_side market H u small tells (value ∷ values) [] h = absurd h
@@ -51,7 +57,8 @@ first_place all rest x a at = ap (slice_get all) (let e : a ≡ a + 0 = omega ar
 module _ (market : Market) (H : List Entry) (u : ℕ) (spread : SpreadAsked) (large : ¬ IsSmall (network_of market H) H) where
   -- by a share of some value
   pub wanted_open : (values : List (Option SideBounds)) (sides : List (Option Side)) (a n : ℕ)
-      → AllZip (IsBoundedValue (2 ^ 17) (network_of market H) H u) values sides → AllZip (IsValueSide (network_of market H) H u spread) (range_with_len a n) sides
+      → AllZip (IsBoundedValue (evidence_grade market H) (network_of market H) H u) values sides
+      → AllZip (IsValueSide (network_of market H) H u spread) (range_with_len a n) sides
       → IsSomeWantedNear values sides → IsValueOpen market H u spread (λ value side. IsShareOpen (near_steps market H) side)
   wanted_open [] sides a n its are near = absurd near
   wanted_open (value ∷ values) [] a n its are near = absurd near
@@ -64,12 +71,14 @@ module _ (market : Market) (H : List Entry) (u : ℕ) (spread : SpreadAsked) (la
     side = side;
     is_side = are.0;
     large = large;
-    is_open = share_open (network_of market H) H u bounds side its.0 here;
+    is_open = share_open (evidence_grade market H) (grade_room market H)
+        (network_of market H) H u bounds side its.0 here;
   }
 
   -- by the interval of some value
   pub intervals_open : (all : List (ℕ × ℕ)) (values : List (Option SideBounds)) (sides : List (Option Side)) (intervals : List (ℕ × ℕ)) (a n : ℕ)
-      → AllZip (IsBoundedValue (2 ^ 17) (network_of market H) H u) values sides → AllZip (IsValueSide (network_of market H) H u spread) (range_with_len a n) sides
+      → AllZip (IsBoundedValue (evidence_grade market H) (network_of market H) H u) values sides
+      → AllZip (IsValueSide (network_of market H) H u spread) (range_with_len a n) sides
       → ((k : ℕ) → slice_get all (a + k) ≡ slice_get intervals k) → IsSomeIntervalNear values sides intervals
       → IsValueOpen market H u spread
       (λ value side. (low : ℕ) × (high : ℕ) × (slice_get all value ≡ Some (low, high)) × IsIntervalOpen (near_steps market H) (HoldsNoTrade H u) side low high)
@@ -86,12 +95,20 @@ module _ (market : Market) (H : List Entry) (u : ℕ) (spread : SpreadAsked) (la
     side = side;
     is_side = are.0;
     large = large;
-    is_open = (low, high, first_place all intervals (low, high) a at, interval_open (network_of market H) H u bounds side its.0 low high here);
+    is_open = (
+      low,
+      high,
+      first_place all intervals (low, high) a at,
+      interval_open
+          (evidence_grade market H) (grade_room market H)
+          (network_of market H) H u bounds side its.0 low high here,
+    );
   }
 
   -- by the units of some value
   pub factors_open : (small : Bool) (all_shares all_units : List ℕ) (values : List (Option SideBounds)) (sides : List (Option Side)) (Xs Fs : List ℕ) (a n : ℕ)
-      → AllZip (IsBoundedValue (2 ^ 17) (network_of market H) H u) values sides → AllZip (IsValueSide (network_of market H) H u spread) (range_with_len a n) sides
+      → AllZip (IsBoundedValue (evidence_grade market H) (network_of market H) H u) values sides
+      → AllZip (IsValueSide (network_of market H) H u spread) (range_with_len a n) sides
       → ((k : ℕ) → slice_get all_shares (a + k) ≡ slice_get Xs k) → ((k : ℕ) → slice_get all_units (a + k) ≡ slice_get Fs k) → AreSomeUnitsNear small values sides Xs Fs
       → IsValueOpen market H u spread
       (λ value side. (X : ℕ) × (F : ℕ) × (slice_get all_shares value ≡ Some X) × (slice_get all_units value ≡ Some F) × AreUnitsOpen (near_steps market H) (HoldsNoTrade H u) side X F)
@@ -109,5 +126,13 @@ module _ (market : Market) (H : List Entry) (u : ℕ) (spread : SpreadAsked) (la
     side = side;
     is_side = are.0;
     large = large;
-    is_open = (X, F, first_place all_shares Xs X a at, first_place all_units Fs F a of, units_open (network_of market H) H u bounds side its.0 small F X here);
+    is_open = (
+      X,
+      F,
+      first_place all_shares Xs X a at,
+      first_place all_units Fs F a of,
+      units_open
+          (evidence_grade market H) (grade_room market H)
+          (network_of market H) H u bounds side its.0 small F X here,
+    );
   }

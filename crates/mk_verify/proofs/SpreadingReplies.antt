@@ -1,5 +1,5 @@
 -- Judgements of the replies to `bounds` and `spread`.
-use Rattle.std.proofs.Common.{◌≡◌, ℕ, ◌-◌, ◌^◌, ◌≤◌, Bool, List, Option, None, All, MatchOption, sym, ap₂, subst, ◌∙◌}
+use Rattle.std.proofs.Common.{◌≡◌, ℕ, ◌-◌, ◌≤◌, Bool, List, Option, None, All, MatchOption, sym, ap₂, subst, ◌∙◌}
 use Rattle.std.specs.List.{AllZip}
 use Rattle.std.proofs.lemmas.List.Elements.{All-from_recursion}
 use Rattle.arrayvec.specs.ArrayVec.{ArrayVec}
@@ -28,8 +28,9 @@ use Rattle.mk_judge.specs.Judged.{Judges}
 use Rattle.mk_judge.specs.Distributions.{HaveTradeRange}
 use Rattle.mk_judge.proofs.Judging.{judges_as}
 use Rattle.mk_answers.specs.Evidence.{IsBoundedValue}
-use Rattle.mk_market.specs.Evidence.{IsSpreadEvidence}
-use Rattle.mk_market.specs.declared.evidence_of_spreads.SpreadEvidence.{SpreadEvidence}
+use Rattle.mk_evidence.specs.Grades.{evidence_grade}
+use Rattle.mk_evidence.specs.Evidence.{IsSpreadEvidence}
+use Rattle.mk_evidence.specs.declared.evidence_of_spreads.SpreadEvidence.{SpreadEvidence}
 use Rattle.mk_verify.specs.Clear.{IsOpen}
 use Rattle.mk_verify.specs.inner.Judging.{TellsSmall}
 use Rattle.mk_verify.specs.inner.Spreading.{AreEachBounds, AreBoundsLeftOpen, IsSpreadLeftOpen}
@@ -47,7 +48,8 @@ each_bounds market H name v condition evidence small now of tells present = reco
   sides = of.sides.sides;
   exist = subst (λ (u : ℕ). AreValueSides (network_of market H) H u (spread_in evidence.question) of.sides.sides) of.user of.sides.exist;
   each = subst (λ (u : ℕ). (sides : List (Option Side)) → AreValueSides (network_of market H) H u (spread_in evidence.question) sides
-      → AllZip (IsBoundedValue (2 ^ 17) (network_of market H) H u) (sides_in evidence.bounds) sides) of.user of.sides.bounds_of;
+      → AllZip (IsBoundedValue (evidence_grade market H) (network_of market H) H u)
+      (sides_in evidence.bounds) sides) of.user of.sides.bounds_of;
 }
 
 -- bounds that were quoted to this user for this spread
@@ -63,7 +65,8 @@ spread_quoted market H quotes name v condition evidence small now quoted of tell
 pub evidence_in_range : (market : Market) (H : List Entry) (name v : List ℕ) (condition : ArrayVec PairText) (evidence : SpreadEvidence)
     → IsSpreadEvidence market H name v condition evidence → HaveTradeRange (sides_in evidence.bounds)
 evidence_in_range market H name v condition evidence of =
-    in_range (network_of market H) H evidence.user (sides_in evidence.bounds) of.sides.sides (of.sides.bounds_of of.sides.sides of.sides.exist)
+    in_range (evidence_grade market H) (network_of market H) H evidence.user
+    (sides_in evidence.bounds) of.sides.sides (of.sides.bounds_of of.sides.sides of.sides.exist)
 
 -- the shares of a spread that nothing refuses
 pub spread_shares : (market : Market) (H : List Entry) (name v : List ℕ) (condition : ArrayVec PairText) (to : ArrayVec ℕ) (seen : Option ℕ)

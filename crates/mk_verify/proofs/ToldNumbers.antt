@@ -30,6 +30,7 @@ use Rattle.mk_judge.specs.Cash.{ArePowersNear}
 use Rattle.mk_judge.specs.Losses.{quotient, IsBoundNear}
 use Rattle.mk_judge.proofs.Judging.{judges_as}
 use Rattle.mk_answers.specs.Evidence.{AreBoundsOfPrice, IsLeastFactorOf, IsLeastWeight}
+use Rattle.mk_evidence.specs.Grades.{evidence_grade, all_cells}
 use Rattle.mk_verify.specs.Clear.{IsOpen, IsPriceOpen, IsCashOpen, AreBitsOpen, IsMostOpen, near_steps}
 use Rattle.mk_verify.specs.inner.Judging.{TellsSmall, JudgesReply}
 use Rattle.mk_verify.proofs.Nearer.{bound_nearer}
@@ -47,7 +48,7 @@ judges_same market H command reply told j is judged =
 pub price_told : (market : Market) (H : List Entry) (q : QuestionText) (bounds : PriceBounds)
     (small : Bool) (low high : ℕ) (j : Judged) → first_refusal market H (Price q) ≡ None
     → IsSomeAnd (question_named (network_of market H) q)
-    (λ asked. AreBoundsOfPrice (2 ^ 17) (network_of market H) H asked bounds)
+    (λ asked. AreBoundsOfPrice (evidence_grade market H) (network_of market H) H asked bounds)
     → TellsSmall small market H → JudgesPrice j bounds small low high
     → JudgesReply market H (Price q) (Priced low high) j
 price_told market H q bounds small low high j none evidence tells says quotes stands =
@@ -87,7 +88,8 @@ no_price market H q reply none other quotes stands =
 
 pub worst_told : (market : Market) (H : List Entry) (name : List ℕ) (factor : Factor)
     (small : Bool) (b low high : ℕ) (j : Judged) → first_refusal market H (Worst name) ≡ None
-    → IsLeastFactorOf (2 ^ 17) (network_of market H) H (user_number H name) always factor
+    → IsLeastFactorOf (evidence_grade market H) (network_of market H) H
+    (user_number H name) always factor
     → TellsSmall small market H → b ≡ market.points_per_bit
     → JudgesCash j factor small b low high
     → JudgesReply market H (Worst name) (Worsted low high) j
@@ -143,7 +145,7 @@ module _ (market : Market) (H : List Entry) (name : List ℕ) (bits : ℕ)
       (factor_with H its_number g) name bits (revision H + 1) reply
 
   pub withdrawn_told : (factor : Factor) (j : Judged)
-      → IsLeastFactorOf (2 ^ 17) (network_of market H) H its_number always factor
+      → IsLeastFactorOf (evidence_grade market H) (network_of market H) H its_number always factor
       → JudgesCovered j factor bits
       → JudgesReply market H (Withdraw name bits) (Withdrawn name bits (revision H + 1)) j
   withdrawn_told factor j evidence says quotes stands =
@@ -162,7 +164,7 @@ module _ (market : Market) (H : List Entry) (name : List ℕ) (bits : ℕ)
       from g (inr short) = absurd (let e = short.printed in cc)
 
   pub short_told : (factor : Factor) (small : Bool) (most : ℕ) (j : Judged) → most < bits
-      → IsLeastFactorOf (2 ^ 17) (network_of market H) H its_number always factor
+      → IsLeastFactorOf (evidence_grade market H) (network_of market H) H its_number always factor
       → TellsSmall small market H → JudgesMost j factor small most
       → JudgesReply market H (Withdraw name bits) (Refused (Short most)) j
   short_told factor small most j less evidence tells says quotes stands =
@@ -216,7 +218,8 @@ pub record JudgesBound (j : Judged) (least : Enclosure) (variables b low high : 
 
 module _ (market : Market) (H : List Entry) (none : first_refusal market H Bound ≡ None) where
   module _ (least : Enclosure) (low high : ℕ) (j : Judged)
-      (evidence : IsLeastWeight (2 ^ 17) (network_of market H) H least) where
+      (evidence : IsLeastWeight (evidence_grade market H) (network_of market H) H least)
+      (cells : length (network_of market H) ≤ all_cells market H) where
     abbrev points : ℕ
     points = market.points_per_bit
 
@@ -226,10 +229,10 @@ module _ (market : Market) (H : List Entry) (none : first_refusal market H Bound
         (ArePowersNear (nearness total) (quotient total m) points low high
         (points * near_steps market H))
 
-    of_weight : (variables b : ℕ) → variables ≡ length (network_of market H) → variables ≤ 256
+    of_weight : (variables b : ℕ) → variables ≡ length (network_of market H)
         → b ≡ points → JudgesBound j least variables b low high
         → IsJudgedOf (million ^ length (network_of market H)) evidence.weight
-    of_weight variables b count few same says =
+    of_weight variables b count same says =
         let n = length (network_of market H) in
         let m = evidence.weight in
         let said : JudgesBound j least n points low high =
@@ -237,8 +240,8 @@ module _ (market : Market) (H : List Entry) (none : first_refusal market H Bound
         (subst (λ (k : ℕ). JudgesBound j least variables k low high) same says) in
         judges_by j _ _ (λ e. said.allowed e m evidence.encloses evidence.part)
         (λ e. said.wrong e m evidence.encloses evidence.part)
-        (λ e. bound_nearer least n m points low high (2 ^ 17) (near_steps market H)
-        (omega (arith, count, few)) evidence.graded
+        (λ e. bound_nearer least n m points low high (evidence_grade market H) (near_steps market H)
+        (omega (arith, count, cells)) evidence.graded
         (said.unclear e m evidence.encloses evidence.part))
 
     of_least : (total m : ℕ) (o : Option ℕ) → o ≡ Some m → IsJudgedOf total m
@@ -251,9 +254,9 @@ module _ (market : Market) (H : List Entry) (none : first_refusal market H Bound
         (points * near_steps market H)))) (sym is) judged
 
     pub bound_told : (variables b : ℕ) → variables ≡ length (network_of market H)
-        → variables ≤ 256 → b ≡ points → JudgesBound j least variables b low high
+        → b ≡ points → JudgesBound j least variables b low high
         → JudgesReply market H Bound (Risked low high) j
-    bound_told variables b count few same says quotes stands =
+    bound_told variables b count same says quotes stands =
         let network = network_of market H in
         judges_answer market H quotes Bound (Risked low high) j _ none
         (judges_as j (IsSomeAnd (least_weight network H)
@@ -261,7 +264,7 @@ module _ (market : Market) (H : List Entry) (none : first_refusal market H Bound
         (λ covers. record { low = low; high = high; printed = refl; covers = covers }) from (λ o. o)
         (of_least (initial_total network) evidence.weight (least_weight network H) evidence.is_least
         (subst (λ (t : ℕ). IsJudgedOf t evidence.weight) (sym evidence.whole)
-        (of_weight variables b count few same says))))
+        (of_weight variables b count same says))))
       where
         from : IsBound (network_of market H) H points (Risked low high)
             → IsSomeAnd (least_weight (network_of market H) H)

@@ -1,5 +1,5 @@
 -- Judgements of replies that tell a number of each value of a variable.
-use Rattle.std.proofs.Common.{◌≡◌, ℕ, ◌^◌, List, Bool, ◌≤◌, Option, Some, None, IsSomeAnd, IfSome, refl, sym, subst}
+use Rattle.std.proofs.Common.{◌≡◌, ℕ, List, Bool, ◌≤◌, Option, Some, None, IsSomeAnd, IfSome, refl, sym, subst}
 use Rattle.std.specs.List.{AllZip, All}
 use Rattle.arrayvec.specs.ArrayVec.{ArrayVec}
 use Rattle.mk_net.specs.declared.words.PairText.{PairText}
@@ -27,6 +27,7 @@ use Rattle.mk_spread.specs.Told.{CoversLeast}
 use Rattle.mk_judge.specs.declared.judged.Judged.{Judged}
 use Rattle.mk_judge.specs.Judged.{Judges}
 use Rattle.mk_answers.specs.Evidence.{IsLeastFactorOf, IsFactorOf}
+use Rattle.mk_evidence.specs.Grades.{evidence_grade}
 use Rattle.mk_verify.specs.Clear.{IsOpen, IsPlaceOpen, IsPriceOpen, IsCashOpen, IsLeastCashOpen}
 use Rattle.mk_verify.specs.inner.Judging.{TellsSmall, JudgesReply, AreBoundsOfPrices, AreSureFactorsOf}
 use Rattle.mk_verify.proofs.Exactness.{JudgesCash, cash_judged}
@@ -40,14 +41,14 @@ use Rattle.mk_verify.proofs.Verdicts.{judges_some, judges_answer}
 pub least_judged : (market : Market) (H : List Entry) (u : ℕ) (test : List ℕ → Bool)
     (factor : Factor) (small : Bool) (b low high : ℕ) (j : Judged) → TellsSmall small market H
     → IsSound (network_of market H) H → b ≡ market.points_per_bit
-    → IsLeastFactorOf (2 ^ 17) (network_of market H) H u test factor
+    → IsLeastFactorOf (evidence_grade market H) (network_of market H) H u test factor
     → JudgesCash j factor small b low high
     → Judges j (CoversLeast (network_of market H) H u market.points_per_bit test (low, high))
     (IsLeastCashOpen market H u test (low, high))
 least_judged market H u test factor small b low high j tells sound points evidence says =
     let network = network_of market H in
     judges_some (least_gain network H u test)
-    (λ g. IsFactorOf (2 ^ 17) network H u g factor)
+    (λ g. IsFactorOf (evidence_grade market H) network H u g factor)
     (λ g. CoversCash (IsSmall network H) (HoldsNoTrade H u) (factor_with H u g)
     market.points_per_bit low high)
     (λ g. IsCashOpen market H u (factor_with H u g) (low, high)) j evidence
@@ -155,10 +156,11 @@ module _ (market : Market) (H : List Entry) (name v : List ℕ) (condition : Arr
 
 -- ---- ranges
 
-some_price : (network : List Variable) (H : List Entry) (asked : Asked) (found : Option PriceBounds)
-    → IsSomeAnd found (AreBoundsOfPrice (2 ^ 17) network H asked) → IfSome found HavePriceRange
-some_price network H asked None h = absurd h
-some_price network H asked (Some bounds) h = h.range
+some_price : (most : ℕ) (network : List Variable) (H : List Entry) (asked : Asked)
+    (found : Option PriceBounds)
+    → IsSomeAnd found (AreBoundsOfPrice most network H asked) → IfSome found HavePriceRange
+some_price most network H asked None h = absurd h
+some_price most network H asked (Some bounds) h = h.range
 
 pub prices_in_range : (market : Market) (H : List Entry) (o : Option SpreadAsked)
     (bounds : List (Option PriceBounds)) → IsSomeAnd o (λ spread. AreBoundsOfPrices market H spread bounds)
@@ -166,25 +168,29 @@ pub prices_in_range : (market : Market) (H : List Entry) (o : Option SpreadAsked
 prices_in_range market H None bounds h = absurd h
 prices_in_range market H (Some spread) bounds h =
     each_ranged (λ value price. IsSomeAnd price
-    (AreBoundsOfPrice (2 ^ 17) (network_of market H) H (asked_of spread value)))
+    (AreBoundsOfPrice (evidence_grade market H) (network_of market H) H (asked_of spread value)))
     (λ found. IfSome found HavePriceRange) 0 _ bounds h
-    (λ value found its. some_price (network_of market H) H (asked_of spread value) found its)
+    (λ value found its. some_price (evidence_grade market H) (network_of market H) H
+    (asked_of spread value) found its)
 
-least_range : (network : List Variable) (H : List Entry) (u : ℕ) (o : Option ℕ) (factor : Factor) (b : ℕ)
-    → b ≤ max_points_per_bit → IsSomeAnd o (λ g. IsFactorOf (2 ^ 17) network H u g factor)
+least_range : (most : ℕ) (network : List Variable) (H : List Entry) (u : ℕ) (o : Option ℕ)
+    (factor : Factor) (b : ℕ)
+    → b ≤ max_points_per_bit → IsSomeAnd o (λ g. IsFactorOf most network H u g factor)
     → HasCashRange factor b
-least_range network H u None factor b few h = absurd h
-least_range network H u (Some g) factor b few h = h.cash b few
+least_range most network H u None factor b few h = absurd h
+least_range most network H u (Some g) factor b few h = h.cash b few
 
 pub worst_range : (market : Market) (H : List Entry) (u : ℕ) (test : List ℕ → Bool)
     (factor : Factor) (b : ℕ) → b ≤ max_points_per_bit
-    → IsLeastFactorOf (2 ^ 17) (network_of market H) H u test factor → HasCashRange factor b
-worst_range market H u test factor b few h = least_range (network_of market H) H u
+    → IsLeastFactorOf (evidence_grade market H) (network_of market H) H u test factor
+    → HasCashRange factor b
+worst_range market H u test factor b few h = least_range (evidence_grade market H)
+    (network_of market H) H u
     (least_gain (network_of market H) H u test) factor b few h
 
 some_sure : (market : Market) (H : List Entry) (u : ℕ) (test : List ℕ → Bool)
     (found : Option Factor) (b : ℕ) → b ≤ max_points_per_bit
-    → IsSureFactor (2 ^ 17) (network_of market H) H u test found
+    → IsSureFactor (evidence_grade market H) (network_of market H) H u test found
     → IfSome found (λ factor. HasCashRange factor b)
 some_sure market H u test None b few h = tt
 some_sure market H u test (Some factor) b few h = worst_range market H u test factor b few h
@@ -195,7 +201,7 @@ pub position_in_range : (market : Market) (H : List Entry) (u : ℕ) (o : Option
     → All (λ found. IfSome found (λ factor. HasCashRange factor b)) factors
 position_in_range market H u None factors b few h = absurd h
 position_in_range market H u (Some spread) factors b few h =
-    each_ranged (λ value factor. IsSureFactor (2 ^ 17) (network_of market H) H u
+    each_ranged (λ value factor. IsSureFactor (evidence_grade market H) (network_of market H) H u
     (with_target (asked_of spread value)) factor)
     (λ found. IfSome found (λ factor. HasCashRange factor b)) 0 _ factors h
     (λ value found its. some_sure market H u (with_target (asked_of spread value)) found b few its)

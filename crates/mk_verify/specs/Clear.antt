@@ -40,14 +40,11 @@ use Rattle.mk_judge.specs.Cash.{ArePowersNear}
 use Rattle.mk_judge.specs.Losses.{quotient}
 use Rattle.mk_judge.specs.Prices.{AreNearUnits}
 use Rattle.mk_judge.specs.Limits.{IsLeastSolvent}
-
--- the grade of every enclosure that an auditor makes
-abbrev pub grade : Market → List Entry → ℕ
-grade market H = 2 ^ 17
+use Rattle.mk_evidence.specs.Grades.{evidence_grade}
 
 -- two numbers are near where each is at most the other times (1 + 2 ^ -60) ^ steps
 abbrev pub near_steps : Market → List Entry → ℕ
-near_steps market H = 4 * grade market H
+near_steps market H = 4 * evidence_grade market H
 
 -- ---- numbers
 

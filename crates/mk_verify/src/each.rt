@@ -1,5 +1,5 @@
 //! Judgements of lists of printed numbers, one place after another.
-ghost use Rattle.std.specs.Prelude.{◌≡◌, ℕ, ◌≤◌, ◌^◌, List, IfSome, IsSomeAnd, All};
+ghost use Rattle.std.specs.Prelude.{◌≡◌, ℕ, ◌≤◌, List, IfSome, IsSomeAnd, All};
 ghost use Rattle.std.specs.List.{AllZip};
 ghost use Rattle.mk_net.specs.Asked.{Asked};
 ghost use Rattle.mk_net.specs.Bounds.{max_points_per_bit};
@@ -16,6 +16,7 @@ ghost use Rattle.mk_judge.specs.Judged.{Judges};
 ghost use Rattle.mk_judge.specs.Powers.{HasCashRange};
 ghost use Rattle.mk_judge.specs.Prices.{HavePriceRange};
 ghost use Rattle.mk_answers.specs.Evidence.{AreBoundsOfPrice, IsSureFactor};
+ghost use Rattle.mk_evidence.specs.Grades.{evidence_grade};
 ghost use Rattle.mk_verify.specs.Clear.{IsPriceOpen, IsPlaceOpen, IsLeastCashOpen};
 ghost use Rattle.mk_verify.specs.inner.Judging.{TellsSmall, AreBoundsOfPrices, AreSureFactorsOf};
 
@@ -44,7 +45,8 @@ pub fn judge_each_price(bounds: &[Option<PriceBounds>], small: bool, told: &[(u6
 fn judge_value_price(bounds: &Option<PriceBounds>, small: bool, told: (u64, u64)) -> Judged
     requires range { IfSome bounds.now HavePriceRange }
     ensures { (market : Market) (H : List Entry) (asked : Asked) → TellsSmall small market H
-        → IsSomeAnd bounds.now (AreBoundsOfPrice (2 ^ 17) (network_of market H) H asked)
+        → IsSomeAnd bounds.now (AreBoundsOfPrice (evidence_grade market H)
+        (network_of market H) H asked)
         → Judges result (CoversPrice (IsSmall (network_of market H) H)
         (exact_price (network_of market H) H asked) told.0 told.1)
         (IsPriceOpen market H asked told) }
@@ -100,7 +102,8 @@ fn judge_value_cash(
     ensures { (market : Market) (H : List Entry) (u value : ℕ) (spread : SpreadAsked)
         → TellsSmall small market H → IsSound (network_of market H) H
         → points_per_bit ≡ market.points_per_bit
-        → IsSureFactor (2 ^ 17) (network_of market H) H u (with_target (asked_of spread value))
+        → IsSureFactor (evidence_grade market H) (network_of market H) H u
+        (with_target (asked_of spread value))
         factor.now
         → Judges result
         (IsSureOf (network_of market H) H u market.points_per_bit spread value told)

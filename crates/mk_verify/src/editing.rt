@@ -12,7 +12,8 @@ use crate::edits::{judge_edit, judge_told_limits};
 use crate::known::Known;
 use crate::noting::revision_of;
 use crate::refused::judge_refused;
-use mk_engine::Engine;
+use mk_engine::TreeGraded;
+use mk_evidence::{edit_evidence, limits_evidence};
 use mk_judge::Judged;
 use mk_market::Market;
 use mk_net::{Name, QuestionText};
@@ -20,7 +21,7 @@ use mk_reply::Reply;
 use mk_semiring::{MinProd, SumProd};
 
 /// Judges a reply to `limits`.
-pub(crate) fn judge_limits_reply<P: Engine<SumProd>, A: Engine<MinProd>>(
+pub(crate) fn judge_limits_reply<P: TreeGraded<SumProd>, A: TreeGraded<MinProd>>(
     market: &mut Market<P, A>,
     known: &Known,
     name: &Name,
@@ -35,7 +36,7 @@ pub(crate) fn judge_limits_reply<P: Engine<SumProd>, A: Engine<MinProd>>(
         (IsOpen market.old.market (market.old.standing).history known.now.quotes
         (Limits name.now question.now) reply.now) }
 {
-    match market.limits_evidence(name, question) {
+    match limits_evidence(market, name, question) {
         Ok(evidence) => {
             let now = revision_of(market);
             judge_told_limits(&evidence.bounds, known.is_small(), now, reply)
@@ -46,7 +47,7 @@ pub(crate) fn judge_limits_reply<P: Engine<SumProd>, A: Engine<MinProd>>(
 
 /// Judges a reply to `edit`, by the limits that were printed to the user last where they are of
 /// this question and of the present revision.
-pub(crate) fn judge_edit_reply<P: Engine<SumProd>, A: Engine<MinProd>>(
+pub(crate) fn judge_edit_reply<P: TreeGraded<SumProd>, A: TreeGraded<MinProd>>(
     market: &mut Market<P, A>,
     known: &Known,
     name: &Name,
@@ -63,7 +64,7 @@ pub(crate) fn judge_edit_reply<P: Engine<SumProd>, A: Engine<MinProd>>(
         (IsOpen market.old.market (market.old.standing).history known.now.quotes
         (Edit name.now question.now to at) reply.now) }
 {
-    match market.edit_evidence(name, question, to, at) {
+    match edit_evidence(market, name, question, to, at) {
         Ok(evidence) => {
             let now = revision_of(market);
             let quoted = known.limits_for(evidence.user, &evidence.question, now);

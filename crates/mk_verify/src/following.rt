@@ -1,14 +1,17 @@
 //! Going on behind an allowed reply.
 
-ghost use Rattle.std.specs.Prelude.{◌≡◌, ◌++◌, ◌↔◌, true, List, Option, option_to_list, OnOk};
+ghost use Rattle.std.specs.Prelude.{◌≡◌, ◌++◌, ◌↔◌, true, false, List, Option, option_to_list};
+ghost use Rattle.std.specs.Prelude.{OnOk};
 ghost use Rattle.mk_exact.specs.History.{Entry};
-ghost use Rattle.mk_exact.specs.Market.{network_of};
+ghost use Rattle.mk_exact.specs.Market.{Market as TheMarket, network_of};
 ghost use Rattle.mk_exact.specs.Weight.{IsSmall};
+ghost use Rattle.mk_command.specs.declared.command.Command.{Command};
 ghost use Rattle.mk_command.specs.Commands.{command_of};
 ghost use Rattle.mk_reply.specs.Replies.{IsReply};
 ghost use Rattle.mk_rules.specs.Quotes.{Quotes};
-ghost use Rattle.mk_rules.specs.Answers.{IsAllowed, next_history, next_quotes};
+ghost use Rattle.mk_rules.specs.Answers.{IsAllowed, entry_of, next_history, next_quotes};
 ghost use Rattle.mk_verify.specs.Known.{IsKnown};
+ghost use Rattle.mk_verify.specs.inner.Walks.{IsNoTrade};
 
 use crate::known::Known;
 use crate::noting::note;
@@ -43,8 +46,7 @@ pub fn follow<P: Engine<SumProd>, A: Engine<MinProd>>(
 {
     note(market, known, command, reply)?;
     take_back(alloc, market, command, reply)?;
-    let small = stays_small(market, known.is_small());
-    known.set_small(small);
+    note_size(market, known, reply);
     Ok(())
 }
 
@@ -67,6 +69,37 @@ fn take_back<P: Engine<SumProd>, A: Engine<MinProd>>(
         Err(RestoreFault::Unfit) => Ok(()),
         Err(RestoreFault::Memory) => Err(NoMemory),
     }
+}
+
+/// Keeps whether a history is small behind the change of a reply, where it is known of the history
+/// before. A trade alone weighs on a state: behind every other change the weights, which would be
+/// walked along the whole history, are as they were.
+fn note_size<P: Engine<SumProd>, A: Engine<MinProd>>(
+    market: &Market<P, A>,
+    known: &mut Known,
+    reply: &Reply,
+)
+    ensures quotes { known.new.quotes ≡ known.old.quotes }
+    ensures small { (before : List Entry) (command : Command)
+        → (market.now.standing).history ≡ next_history market.now.market before command reply.now
+        → (known.old.small ≡ true) ↔ IsSmall (network_of market.now.market before) before
+        → (known.new.small ≡ true) ↔ IsSmall
+        (network_of market.now.market (market.now.standing).history)
+        (market.now.standing).history }
+{
+    if !tells_trade(reply) {
+        return;
+    }
+    let small = stays_small(market, known.is_small());
+    known.set_small(small);
+}
+
+/// Whether a reply tells of a trade, as no other reply does.
+fn tells_trade(reply: &Reply) -> bool
+    ensures { result ≡ false → (market : TheMarket) (H : List Entry) (command : Command)
+        → IsNoTrade (entry_of market H command reply.now) }
+{
+    matches!(reply, Reply::Traded { .. } | Reply::Spreaded { .. })
 }
 
 /// Whether a history is small behind at most one change more, where it is known of the history

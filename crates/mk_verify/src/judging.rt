@@ -17,7 +17,7 @@ use crate::plain::{judge_deposit, judge_join, judge_resolution, judge_status};
 use crate::settlement::judge_settlement;
 use crate::spreading::{judge_bounds_reply, judge_spread_reply};
 use mk_command::CommandRef;
-use mk_engine::Engine;
+use mk_engine::TreeGraded;
 use mk_judge::Judged;
 use mk_market::Market;
 use mk_reply::Reply;
@@ -25,7 +25,7 @@ use mk_semiring::{MinProd, SumProd};
 
 /// Judges a reply to a command.
 #[tactic(auto, unfolding(mk_command::specs::Commands::command_of))]
-pub fn judge<P: Engine<SumProd>, A: Engine<MinProd>>(
+pub fn judge<P: TreeGraded<SumProd>, A: TreeGraded<MinProd>>(
     market: &mut Market<P, A>,
     known: &Known,
     command: &CommandRef,
@@ -72,7 +72,7 @@ pub fn judge<P: Engine<SumProd>, A: Engine<MinProd>>(
 
 /// The same of a command that speaks of every value of a variable.
 #[tactic(auto, unfolding(mk_command::specs::Commands::command_of))]
-fn judge_of_values<P: Engine<SumProd>, A: Engine<MinProd>>(
+fn judge_of_values<P: TreeGraded<SumProd>, A: TreeGraded<MinProd>>(
     market: &mut Market<P, A>,
     known: &Known,
     command: &CommandRef,

@@ -9,7 +9,8 @@ ghost use Rattle.mk_verify.specs.inner.Judging.{JudgesReply, TellsSmall};
 
 use crate::plain::is_next;
 use crate::refused::judge_refused;
-use mk_engine::Engine;
+use mk_engine::{Engine, TreeGraded};
+use mk_evidence::{bound_evidence, price_evidence, withdrawal_evidence, worst_evidence};
 use mk_judge::{Judged, judge_bound, judge_cash, judge_covered, judge_most, judge_price};
 use mk_market::Market;
 use mk_net::{Name, QuestionText};
@@ -17,7 +18,7 @@ use mk_reply::{Refusal, Reply};
 use mk_semiring::{MinProd, SumProd};
 
 /// Judges a reply to `price`.
-pub fn judge_price_reply<P: Engine<SumProd>, A: Engine<MinProd>>(
+pub fn judge_price_reply<P: TreeGraded<SumProd>, A: TreeGraded<MinProd>>(
     market: &mut Market<P, A>,
     small: bool,
     question: &QuestionText,
@@ -28,7 +29,7 @@ pub fn judge_price_reply<P: Engine<SumProd>, A: Engine<MinProd>>(
     ensures judged { JudgesReply market.old.market (market.old.standing).history
         (command.Price question.now) reply.now result }
 {
-    match market.price_evidence(question) {
+    match price_evidence(market, question) {
         Err(why) => judge_refused(&why, reply),
         Ok(bounds) => match reply {
             Reply::Price { low, high } => judge_price(&bounds, small, *low, *high),
@@ -38,7 +39,7 @@ pub fn judge_price_reply<P: Engine<SumProd>, A: Engine<MinProd>>(
 }
 
 /// Judges a reply to `worst`.
-pub fn judge_worst_reply<P: Engine<SumProd>, A: Engine<MinProd>>(
+pub fn judge_worst_reply<P: TreeGraded<SumProd>, A: TreeGraded<MinProd>>(
     market: &mut Market<P, A>,
     small: bool,
     name: &Name,
@@ -50,7 +51,7 @@ pub fn judge_worst_reply<P: Engine<SumProd>, A: Engine<MinProd>>(
     ensures judged { JudgesReply market.old.market (market.old.standing).history
         (command.Worst name.now) reply.now result }
 {
-    match market.worst_evidence(name) {
+    match worst_evidence(market, name) {
         Err(why) => judge_refused(&why, reply),
         Ok(factor) => match reply {
             Reply::Worst { low, high } => {
@@ -63,7 +64,7 @@ pub fn judge_worst_reply<P: Engine<SumProd>, A: Engine<MinProd>>(
 
 /// Judges a reply to `withdraw`: the bits that were asked for are covered, or fewer are the most
 /// that can be taken out.
-pub fn judge_withdrawal<P: Engine<SumProd>, A: Engine<MinProd>>(
+pub fn judge_withdrawal<P: TreeGraded<SumProd>, A: TreeGraded<MinProd>>(
     market: &mut Market<P, A>,
     small: bool,
     name: &Name,
@@ -75,7 +76,7 @@ pub fn judge_withdrawal<P: Engine<SumProd>, A: Engine<MinProd>>(
     ensures judged { JudgesReply market.old.market (market.old.standing).history
         (command.Withdraw name.now bits) reply.now result }
 {
-    match market.withdrawal_evidence(name, bits) {
+    match withdrawal_evidence(market, name, bits) {
         Err(why) => judge_refused(&why, reply),
         Ok(factor) => {
             if tells_withdrawal(market, name, bits, reply) {
@@ -124,7 +125,7 @@ fn told_most(bits: u32, reply: &Reply) -> Option<u64>
 }
 
 /// Judges a reply to `bound`.
-pub fn judge_bound_reply<P: Engine<SumProd>, A: Engine<MinProd>>(
+pub fn judge_bound_reply<P: TreeGraded<SumProd>, A: TreeGraded<MinProd>>(
     market: &mut Market<P, A>,
     reply: &Reply,
 ) -> Judged
@@ -133,7 +134,7 @@ pub fn judge_bound_reply<P: Engine<SumProd>, A: Engine<MinProd>>(
     ensures judged { JudgesReply market.old.market (market.old.standing).history command.Bound
         reply.now result }
 {
-    match market.bound_evidence() {
+    match bound_evidence(market) {
         Err(why) => judge_refused(&why, reply),
         Ok(least) => match reply {
             Reply::Bound { low, high } => judge_bound(

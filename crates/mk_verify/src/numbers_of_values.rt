@@ -7,7 +7,8 @@ ghost use Rattle.mk_verify.specs.inner.Judging.{JudgesReply, TellsSmall};
 use crate::each::{judge_each_position, judge_each_price};
 use crate::refused::judge_refused;
 use arrayvec::ArrayVec;
-use mk_engine::Engine;
+use mk_engine::TreeGraded;
+use mk_evidence::{position_evidence, prices_evidence};
 use mk_judge::Judged;
 use mk_market::Market;
 use mk_net::{Name, PairText};
@@ -15,7 +16,7 @@ use mk_reply::Reply;
 use mk_semiring::{MinProd, SumProd};
 
 /// Judges a reply to `prices`.
-pub fn judge_prices<P: Engine<SumProd>, A: Engine<MinProd>>(
+pub fn judge_prices<P: TreeGraded<SumProd>, A: TreeGraded<MinProd>>(
     market: &mut Market<P, A>,
     small: bool,
     variable: &Name,
@@ -27,7 +28,7 @@ pub fn judge_prices<P: Engine<SumProd>, A: Engine<MinProd>>(
     ensures judged { JudgesReply market.old.market (market.old.standing).history
         (command.Prices variable.now condition.now) reply.now result }
 {
-    match market.prices_evidence(variable, condition) {
+    match prices_evidence(market, variable, condition) {
         Err(why) => judge_refused(&why, reply),
         Ok(bounds) => match reply {
             Reply::Prices { intervals } => {
@@ -39,7 +40,7 @@ pub fn judge_prices<P: Engine<SumProd>, A: Engine<MinProd>>(
 }
 
 /// Judges a reply to `position`.
-pub fn judge_position<P: Engine<SumProd>, A: Engine<MinProd>>(
+pub fn judge_position<P: TreeGraded<SumProd>, A: TreeGraded<MinProd>>(
     market: &mut Market<P, A>,
     small: bool,
     name: &Name,
@@ -53,7 +54,7 @@ pub fn judge_position<P: Engine<SumProd>, A: Engine<MinProd>>(
     ensures judged { JudgesReply market.old.market (market.old.standing).history
         (command.Position name.now variable.now condition.now) reply.now result }
 {
-    match market.position_evidence(name, variable, condition) {
+    match position_evidence(market, name, variable, condition) {
         Err(why) => judge_refused(&why, reply),
         Ok(factors) => match reply {
             Reply::Position { intervals } => judge_each_position(

@@ -6,6 +6,7 @@ ghost use Rattle.mk_verify.specs.inner.Judging.{JudgesReply, IsPlainAnswer, by_w
 
 use crate::refused::judge_refused;
 use mk_engine::Engine;
+use mk_evidence::{refused_deposit, refused_join, refused_resolution};
 use mk_judge::Judged;
 use mk_market::Market;
 use mk_net::{Name, PairText};
@@ -39,7 +40,7 @@ pub fn judge_join<P: Engine<SumProd>, A: Engine<MinProd>>(
     ensures { JudgesReply market.now.market (market.now.standing).history (command.User name.now)
         reply.now result }
 {
-    match market.refused_join(name) {
+    match refused_join(market, name) {
         Err(why) => judge_refused(&why, reply),
         Ok(()) => judge_words(tells_join(market, name, reply)),
     }
@@ -70,7 +71,7 @@ pub fn judge_deposit<P: Engine<SumProd>, A: Engine<MinProd>>(
     ensures { JudgesReply market.now.market (market.now.standing).history
         (command.Deposit name.now bits) reply.now result }
 {
-    match market.refused_deposit(name, bits) {
+    match refused_deposit(market, name, bits) {
         Err(why) => judge_refused(&why, reply),
         Ok(()) => judge_words(tells_deposit(market, name, bits, reply)),
     }
@@ -105,7 +106,7 @@ pub fn judge_resolution<P: Engine<SumProd>, A: Engine<MinProd>>(
     ensures judged { JudgesReply market.old.market (market.old.standing).history
         (command.Resolve words.now) reply.now result }
 {
-    match market.refused_resolution(words) {
+    match refused_resolution(market, words) {
         Err(why) => judge_refused(&why, reply),
         Ok(()) => judge_words(tells_resolution(market, words, reply)),
     }

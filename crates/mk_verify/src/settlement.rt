@@ -16,14 +16,15 @@ ghost use Rattle.mk_verify.specs.inner.Judging.{IsPaymentLeftOpen};
 
 use crate::plain::is_next;
 use crate::refused::judge_refused;
-use mk_engine::Engine;
+use mk_engine::TreeGraded;
+use mk_evidence::{payment_evidence, refused_settlement};
 use mk_judge::{Judged, judge_cash};
 use mk_market::{Entry, Market};
 use mk_reply::{Payment, Reply};
 use mk_semiring::{MinProd, SumProd};
 
 /// Judges a reply to `settle`: each user is paid in the order of joining, by the next change.
-pub fn judge_settlement<P: Engine<SumProd>, A: Engine<MinProd>>(
+pub fn judge_settlement<P: TreeGraded<SumProd>, A: TreeGraded<MinProd>>(
     market: &mut Market<P, A>,
     small: bool,
     reply: &Reply,
@@ -34,7 +35,7 @@ pub fn judge_settlement<P: Engine<SumProd>, A: Engine<MinProd>>(
     ensures judged { JudgesReply market.old.market (market.old.standing).history command.Settle
         reply.now result }
 {
-    match market.refused_settlement() {
+    match refused_settlement(market) {
         Err(why) => judge_refused(&why, reply),
         Ok(()) => match reply {
             Reply::Settled { at, payments }
@@ -62,7 +63,7 @@ fn are_to_users(history: &[Entry], payments: &[Payment]) -> bool
 }
 
 /// Judges the payments to the first users.
-fn judge_payments<P: Engine<SumProd>, A: Engine<MinProd>>(
+fn judge_payments<P: TreeGraded<SumProd>, A: TreeGraded<MinProd>>(
     market: &mut Market<P, A>,
     small: bool,
     payments: &[Payment],
@@ -90,7 +91,7 @@ fn judge_payments<P: Engine<SumProd>, A: Engine<MinProd>>(
 }
 
 /// Judges the payment to one user: its low end is paid.
-fn judge_payment<P: Engine<SumProd>, A: Engine<MinProd>>(
+fn judge_payment<P: TreeGraded<SumProd>, A: TreeGraded<MinProd>>(
     market: &mut Market<P, A>,
     small: bool,
     user: u32,
@@ -114,7 +115,7 @@ fn judge_payment<P: Engine<SumProd>, A: Engine<MinProd>>(
     if payment.paid != payment.low {
         return Judged::Wrong;
     }
-    let factor = market.payment_evidence(user);
+    let factor = payment_evidence(market, user);
     judge_cash(
         &factor,
         small,

@@ -13,7 +13,8 @@ use crate::noting::revision_of;
 use crate::refused::judge_refused;
 use crate::spreads::{judge_spread, judge_told_bounds};
 use arrayvec::ArrayVec;
-use mk_engine::Engine;
+use mk_engine::TreeGraded;
+use mk_evidence::{bounds_evidence, spread_evidence};
 use mk_judge::Judged;
 use mk_market::Market;
 use mk_net::{Name, PairText};
@@ -21,7 +22,7 @@ use mk_reply::Reply;
 use mk_semiring::{MinProd, SumProd};
 
 /// Judges a reply to `bounds`.
-pub(crate) fn judge_bounds_reply<P: Engine<SumProd>, A: Engine<MinProd>>(
+pub(crate) fn judge_bounds_reply<P: TreeGraded<SumProd>, A: TreeGraded<MinProd>>(
     market: &mut Market<P, A>,
     known: &Known,
     name: &Name,
@@ -37,7 +38,7 @@ pub(crate) fn judge_bounds_reply<P: Engine<SumProd>, A: Engine<MinProd>>(
         (IsOpen market.old.market (market.old.standing).history known.now.quotes
         (Bounds name.now variable.now condition.now) reply.now) }
 {
-    match market.bounds_evidence(name, variable, condition) {
+    match bounds_evidence(market, name, variable, condition) {
         Ok(evidence) => {
             let now = revision_of(market);
             judge_told_bounds(&evidence.bounds, known.is_small(), now, reply)
@@ -48,7 +49,7 @@ pub(crate) fn judge_bounds_reply<P: Engine<SumProd>, A: Engine<MinProd>>(
 
 /// Judges a reply to `spread`, by the bounds that were printed to the user last where they are of
 /// this variable and condition and of the present revision.
-pub(crate) fn judge_spread_reply<P: Engine<SumProd>, A: Engine<MinProd>>(
+pub(crate) fn judge_spread_reply<P: TreeGraded<SumProd>, A: TreeGraded<MinProd>>(
     market: &mut Market<P, A>,
     known: &Known,
     name: &Name,
@@ -66,7 +67,7 @@ pub(crate) fn judge_spread_reply<P: Engine<SumProd>, A: Engine<MinProd>>(
         (IsOpen market.old.market (market.old.standing).history known.now.quotes
         (Spread name.now variable.now condition.now to.now at) reply.now) }
 {
-    match market.spread_evidence(name, variable, condition, to, at) {
+    match spread_evidence(market, name, variable, condition, to, at) {
         Ok(evidence) => {
             let now = revision_of(market);
             let quoted = known.bounds_for(evidence.user, &evidence.question, now);

@@ -12,7 +12,7 @@ use Rattle.mk_exact.specs.History.{Entry, deposited, withdrawn}
 use Rattle.mk_exact.specs.Weight.{total, IsSmall, cannot_come}
 use Rattle.mk_enclose.specs.declared.enclosure.Enclosure.{Enclosure}
 use Rattle.mk_enclose.specs.declared.factor.Factor.{Factor}
-use Rattle.mk_enclose.specs.Enclosure.{Encloses, IsExact, IsGradedWithin}
+use Rattle.mk_enclose.specs.Enclosure.{Encloses, HasGrade, IsExact, IsGradedWithin}
 use Rattle.mk_semiring.specs.declared.held.Held.{Held}
 use Rattle.mk_semiring.specs.declared.held.Held.TheVariants.{Present}
 use Rattle.mk_semiring.specs.Held.{HeldEncloses, HasHeldGrade, IsHeldExact}
@@ -22,6 +22,7 @@ use Rattle.mk_engine.specs.Meaning.{Meaning, max_factors, max_grade}
 use Rattle.mk_beliefs.specs.Meanings.{weights_of}
 use Rattle.mk_assets.specs.declared.assets.Assets.{Assets}
 use Rattle.mk_assets.specs.Holdings.{IsNet, Owns}
+use Rattle.mk_quote.specs.declared.bounds.Bounds.{Bounds}
 use Rattle.mk_quote.specs.declared.values.ValueBounds.{ValueBounds}
 use Rattle.mk_judge.specs.Units.{HasTradeRange}
 use Rattle.mk_answers.specs.Open.{IsOpen, CanBeAnswered, IsFactorFor, holding_of}
@@ -136,3 +137,19 @@ pub record CanFindSure {A P : Type 0} (owned_for : A → Meaning
 -- a value's bounds, where it can come, count the user's trades and bits
 abbrev pub IsValueCounted : List Entry → ℕ → Option ValueBounds → Type 0
 IsValueCounted H u found = IfSome found (λ value. IsCounted H u value.factor)
+
+-- and have at most a grade
+abbrev pub IsValueGraded : ℕ → Option ValueBounds → Type 0
+IsValueGraded most found = IfSome found (λ value. IsGradedWithin value.part most
+    × IsGradedWithin value.factor.gain most)
+
+-- the weights of both sides have a grade, and their sum one more
+pub record AreWeightsGraded (g : ℕ) (bounds : Bounds) : Type 0 where
+  pub hit : HasGrade bounds.hit g
+  pub miss : HasGrade bounds.miss g
+  pub whole : HasGrade bounds.whole (g + 1)
+
+-- the gains of both sides have at most a grade
+pub record AreGainsGraded (most : ℕ) (bounds : Bounds) : Type 0 where
+  pub hit : IsGradedWithin bounds.hit_factor.gain most
+  pub miss : IsGradedWithin bounds.miss_factor.gain most

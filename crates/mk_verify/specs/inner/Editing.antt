@@ -13,6 +13,7 @@ use Rattle.mk_reply.specs.declared.refusal.Refusal.TheVariants.{Beyond}
 use Rattle.mk_rules.specs.Quotes.{Interval}
 use Rattle.mk_rules.specs.Refusals.{question_named, user_number}
 use Rattle.mk_answers.specs.Evidence.{AreBoundsOfBoth}
+use Rattle.mk_evidence.specs.Grades.{evidence_grade}
 use Rattle.mk_verify.specs.Clear.{IsTradeOpen, AreLimitsOpen}
 use Rattle.mk_verify.specs.inner.Judging.{TellsSmall}
 
@@ -26,7 +27,8 @@ pub record AreEditBounds (market : Market) (H : List Entry) (name : List ℕ) (q
   pub hit : Side
   pub miss : Side
   pub exist : AreSides (network_of market H) H (user_number H name) asked hit miss
-  pub both : AreBoundsOfBoth (network_of market H) H (user_number H name) asked bounds
+  pub both : AreBoundsOfBoth (evidence_grade market H) (network_of market H) H
+      (user_number H name) asked bounds
 
 -- a trade may be left open
 abbrev pub IsTradeLeftOpen : Market → List Entry → ℕ → Asked → ℕ → Reply → Type 0

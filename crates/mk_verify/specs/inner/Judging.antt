@@ -1,5 +1,5 @@
 -- What the judge of one command's replies says.
-use Rattle.std.specs.Prelude.{◌≡◌, ℕ, ◌+◌, ◌^◌, Bool, true, false, List, Option, Some, IsSomeAnd}
+use Rattle.std.specs.Prelude.{◌≡◌, ℕ, ◌+◌, Bool, true, false, List, Option, Some, IsSomeAnd}
 use Rattle.std.specs.Prelude.{slice_get, ◌↔◌, ◌⊎◌}
 use Rattle.std.specs.List.{AllZip}
 use Rattle.mk_exact.specs.Events.{with_target}
@@ -25,6 +25,7 @@ use Rattle.mk_judge.specs.declared.judged.Judged.TheVariants.{Allowed, Wrong}
 use Rattle.mk_judge.specs.Judged.{Judges}
 use Rattle.mk_judge.specs.declared.price.PriceBounds.{PriceBounds}
 use Rattle.mk_answers.specs.Evidence.{AreBoundsOfPrice, IsSureFactor}
+use Rattle.mk_evidence.specs.Grades.{evidence_grade}
 use Rattle.mk_verify.specs.Clear.{IsOpen, IsCashOpen}
 
 -- the flag is set exactly where the history is small
@@ -57,14 +58,14 @@ abbrev pub AreBoundsOfPrices :
     Market → List Entry → SpreadAsked → List (Option PriceBounds) → Type 0
 AreBoundsOfPrices market H spread bounds =
     AllZip (λ value price. IsSomeAnd price
-    (AreBoundsOfPrice (2 ^ 17) (network_of market H) H (asked_of spread value)))
+    (AreBoundsOfPrice (evidence_grade market H) (network_of market H) H (asked_of spread value)))
     (values_of (network_of market H) spread) bounds
 
 -- factors of what a user is sure of where each value comes, in order, and none where it cannot
 abbrev pub AreSureFactorsOf :
     Market → List Entry → ℕ → SpreadAsked → List (Option Factor) → Type 0
 AreSureFactorsOf market H u spread factors =
-    AllZip (λ value factor. IsSureFactor (2 ^ 17) (network_of market H) H u
+    AllZip (λ value factor. IsSureFactor (evidence_grade market H) (network_of market H) H u
     (with_target (asked_of spread value)) factor) (values_of (network_of market H) spread) factors
 
 -- ---- settlements

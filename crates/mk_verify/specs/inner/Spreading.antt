@@ -1,5 +1,5 @@
 -- What a judge of spreads is given, and what it leaves open.
-use Rattle.std.specs.Prelude.{◌≡◌, ℕ, ◌^◌, Bool, false, IsTrue, List, Option, Some, None}
+use Rattle.std.specs.Prelude.{◌≡◌, ℕ, Bool, false, IsTrue, List, Option, Some, None}
 use Rattle.std.specs.List.{AllZip}
 use Rattle.arrayvec.specs.ArrayVec.{ArrayVec}
 use Rattle.mk_net.specs.declared.words.PairText.{PairText}
@@ -20,6 +20,7 @@ use Rattle.mk_reply.specs.declared.reply.Reply.TheVariants.{Spreaded, Bounded, R
 use Rattle.mk_reply.specs.Refusals.{given_in}
 use Rattle.mk_rules.specs.Refusals.{spread_named, user_number}
 use Rattle.mk_answers.specs.Evidence.{IsBoundedValue}
+use Rattle.mk_evidence.specs.Grades.{evidence_grade}
 use Rattle.mk_verify.specs.Clear.{AreFactorsOpen, AreBoundsOpen}
 use Rattle.mk_verify.specs.inner.Judging.{TellsSmall}
 
@@ -34,7 +35,8 @@ pub record AreEachBounds (market : Market) (H : List Entry) (name v : List ℕ)
   pub exist : AreValueSides (network_of market H) H (user_number H name) spread sides
   pub each : (sides : List (Option Side))
       → AreValueSides (network_of market H) H (user_number H name) spread sides
-      → AllZip (IsBoundedValue (2 ^ 17) (network_of market H) H (user_number H name))
+      → AllZip (IsBoundedValue (evidence_grade market H) (network_of market H) H
+      (user_number H name))
       (sides_in bounds) sides
 
 -- a trade may be left open

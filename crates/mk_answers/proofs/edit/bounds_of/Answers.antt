@@ -1,4 +1,5 @@
-use Rattle.std.proofs.Common.{◌≡◌, ℕ, ◌+◌, List, slice_index, refl, ap, ◌∙◌}
+use Rattle.std.proofs.Common.{◌≡◌, ℕ, ◌+◌, ◌-◌, ◌^◌, List, slice_index, refl, ap, ◌∙◌, arith}
+use Rattle.mk_net.specs.Bounds.{max_values}
 use Rattle.mk_net.specs.declared.words.Pair.{Pair}
 use Rattle.mk_net.specs.Asked.{Asked}
 use Rattle.mk_net.specs.Events.{pairs_asked}
@@ -7,16 +8,17 @@ use Rattle.mk_exact.specs.Events.{with_target, without_target}
 use Rattle.mk_exact.specs.History.{Entry}
 use Rattle.mk_quote.specs.Bounds.{hit_side, miss_side}
 use Rattle.mk_semiring.specs.declared.held.Held.{Held}
-use Rattle.mk_semiring.specs.Held.{HeldEncloses, HasHeldGrade, IsHeldExact}
+use Rattle.mk_semiring.specs.Held.{HeldEncloses, HasHeldGrade, IsHeldExact, held_grade_more}
 use Rattle.mk_tree.specs.Given.{GivenTree}
 use Rattle.mk_engine.specs.Cases.{IsOthersBelief}
 use Rattle.mk_beliefs.specs.Meanings.{weights_of}
-use Rattle.mk_answers.specs.Open.{IsOpen, CanBeAnswered}
+use Rattle.mk_answers.specs.Open.{IsOpen, CanBeAnswered, holding_of}
 use Rattle.mk_answers.specs.inner.Found.{AreSidesIn}
 use Rattle.mk_answers.proofs.Weights.{IsWeightOf, hit_in, miss_in}
 use Rattle.mk_answers.proofs.Bounding.{can_ask, room_of_weights}
 use Rattle.mk_answers.proofs.Coming.{hit_present, miss_present, both_come, neither_comes, target_never, target_sure}
 use Rattle.mk_answers.proofs.Counted.{side_bounded}
+use Rattle.mk_answers.proofs.Regraded.{graded_within, within_more, held_grade, side_regraded}
 use Rattle.mk_answers.proofs.edit.bounds_of.Goals as goal
 
 -- the values of the target that was asked for are those of the question's variable
@@ -80,7 +82,8 @@ returns-in-Present-Present-clause-sides g c = λ tree H u stands owns is_open an
     )
 
 pub returns-in-Present-Present-clause-bounded : goal.returns-in-Present-Present-clause-bounded
-returns-in-Present-Present-clause-bounded g c = λ tree H u stands owns is_open answered.
+returns-in-Present-Present-clause-bounded g c = λ tree H u most stands owns is_open answered room
+    gains_room.
     let network = c.args.net.now in let asked = c.args.asked.now in
     let m = weights_of network tree H in
     let sized = sized_as network asked c.target.result c.values-values.result c.target.ensures
@@ -94,20 +97,41 @@ returns-in-Present-Present-clause-bounded g c = λ tree H u stands owns is_open 
     let miss = miss_present network H asked c.belief-hit.result c.belief_of_others-miss.result sides
     c.in-Present-Present.miss c.in-Present-Present.is-1 in
     let bounds = c.open_bounds.result in
+    let of = g.P.Engine.grade_of m in
+    let weights = c.open_bounds.ensures.weights (of + (max_values - 1))
+    (held_grade c.belief-hit.result c.in-Present-Present.hit (of + (max_values - 1))
+    c.in-Present-Present.is-0 (held_grade_more c.belief-hit.result of (of + (max_values - 1))
+    (c.belief-hit.ensures.graded m stands) (omega arith)))
+    (held_grade c.belief_of_others-miss.result c.in-Present-Present.miss (of + (max_values - 1))
+    c.in-Present-Present.is-1 (c.belief_of_others-miss.ensures.graded m
+    (c.belief-hit.ensures.kept m stands) sized)) in
+    let gains = c.open_bounds.ensures.gains (holding_of network tree H u) owns sized in
     record {
       hit = λ on_hit on_miss both.
           let are = c.open_bounds.ensures.bounds network tree H u on_hit on_miss owns is_open
           answered sized hit miss both in
-          side_bounded network H u asked (with_target asked) (hit_side bounds) on_hit both.hit_side
+          side_regraded network H (2 ^ 17) most u (hit_side bounds) on_hit
+          (side_bounded network H u asked (with_target asked) (hit_side bounds) on_hit both.hit_side
           (c.open_bounds.ensures.hit_counted network tree H u owns is_open) are.sides.of_hit
-          are.graded.hit (λ s. (are.exact s).hit);
+          are.graded.hit (λ s. (are.exact s).hit)) (record {
+            part = graded_within bounds.hit (of + (max_values - 1)) most (omega arith) weights.hit;
+            whole = graded_within bounds.whole (of + (max_values - 1) + 1) most (omega (arith, room))
+                weights.whole;
+            gain = within_more (bounds.hit_factor).gain _ most gains_room gains.hit;
+          });
       miss = λ on_hit on_miss both.
           let are = c.open_bounds.ensures.bounds network tree H u on_hit on_miss owns is_open
           answered sized hit miss both in
-          side_bounded network H u asked (without_target asked) (miss_side bounds) on_miss
+          side_regraded network H (2 ^ 17) most u (miss_side bounds) on_miss
+          (side_bounded network H u asked (without_target asked) (miss_side bounds) on_miss
           both.miss_side
           (c.open_bounds.ensures.miss_counted network tree H u owns is_open sized)
-          are.sides.of_miss are.graded.miss (λ s. (are.exact s).miss);
+          are.sides.of_miss are.graded.miss (λ s. (are.exact s).miss)) (record {
+            part = graded_within bounds.miss (of + (max_values - 1)) most (omega arith) weights.miss;
+            whole = graded_within bounds.whole (of + (max_values - 1) + 1) most (omega (arith, room))
+                weights.whole;
+            gain = within_more (bounds.miss_factor).gain _ most gains_room gains.miss;
+          });
     }
 
 pub returns-in-Present-Absent-clause-sides : goal.returns-in-Present-Absent-clause-sides

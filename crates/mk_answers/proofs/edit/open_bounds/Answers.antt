@@ -1,6 +1,8 @@
-use Rattle.std.proofs.Common.{refl, arith}
+use Rattle.std.proofs.Common.{◌≡◌, ◌+◌, ◌-◌, max, refl, subst, arith}
+use Rattle.mk_net.specs.Bounds.{max_values}
 use Rattle.mk_exact.specs.Events.{with_target, without_target}
 use Rattle.mk_exact.specs.Weight.{total, IsSmall}
+use Rattle.mk_enclose.specs.Enclosure.{HasGrade}
 use Rattle.mk_beliefs.specs.Meanings.{gains_of}
 use Rattle.mk_answers.specs.Open.{holding_of}
 use Rattle.mk_answers.proofs.Homes.{question_is_held}
@@ -8,6 +10,7 @@ use Rattle.mk_answers.proofs.Weights.{event_fits}
 use Rattle.mk_answers.proofs.Presence.{present_comes}
 use Rattle.mk_answers.proofs.Bounding.{can_ask, room_of_gains, sum_fits, some_hit, some_miss, hit_for, miss_for, are_bounds}
 use Rattle.mk_answers.proofs.Least.{is_counted}
+use Rattle.mk_answers.proofs.Regraded.{graded_within, found_grade}
 use Rattle.mk_answers.proofs.edit.open_bounds.Goals as goal
 
 pub least-hit_factor-requires-clause-held : goal.least-hit_factor-requires-clause-held
@@ -81,3 +84,25 @@ returns-clause-miss_counted g c = λ network tree H u owns is_open sized.
     c.factor_of-2.result c.factor_of-2.ensures
     (c.least_of_others-miss_factor.ensures.least h (c.least-hit_factor.ensures.kept h owns) sized)
     (omega arith) owns.few_in owns.few_out
+
+pub returns-clause-weights : goal.returns-clause-weights
+returns-clause-weights g c = λ n of_hit of_miss.
+    let same : max n n + 1 ≡ n + 1 = omega arith in
+    record {
+      hit = of_hit;
+      miss = of_miss;
+      whole = subst (HasGrade c.add.result) same (c.add.ensures.grade n n of_hit of_miss);
+    }
+
+pub returns-clause-gains : goal.returns-clause-gains
+returns-clause-gains g c = λ h owns sized.
+    let of = g.A.Engine.grade_of h.meaning in record {
+      hit = graded_within (c.factor_of.result).gain of (of + max_values) (omega arith)
+          (found_grade c.least-hit_factor.result c.factor_of.result of c.factor_of.ensures
+          (c.least-hit_factor.ensures.graded h owns));
+      miss = graded_within (c.factor_of-2.result).gain (of + (max_values - 1)) (of + max_values)
+          (omega arith) (found_grade c.least_of_others-miss_factor.result c.factor_of-2.result
+          (of + (max_values - 1)) c.factor_of-2.ensures
+          (c.least_of_others-miss_factor.ensures.graded h
+          (c.least-hit_factor.ensures.kept h owns) sized));
+    }

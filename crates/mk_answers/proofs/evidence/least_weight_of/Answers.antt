@@ -1,8 +1,9 @@
 use Rattle.mk_exact.proofs.Millions.{initial_total_is}
 use Rattle.mk_beliefs.specs.Meanings.{rows_of}
 use Rattle.mk_answers.proofs.Homes.{nothing_at_root}
-use Rattle.mk_answers.proofs.Losing.{least_left, is_left, least_there, encloses_least, graded}
+use Rattle.mk_answers.proofs.Losing.{least_left, is_left, least_there, encloses_least}
 use Rattle.mk_answers.proofs.Losing.{in_range, at_most_all}
+use Rattle.mk_answers.proofs.Regraded.{graded_within, held_grade}
 use Rattle.mk_answers.proofs.evidence.least_weight_of.Goals as goal
 
 pub belief-requires-clause-held : goal.belief-requires-clause-held
@@ -19,8 +20,9 @@ enclosure_of-requires g c =
     (c.belief.ensures.belief (rows_of network a.tree a.history) a.stands)
 
 pub returns-clause-least : goal.returns-clause-least
-returns-clause-least g c = λ tree H stands is_open.
-    let network = c.args.net.now in
+returns-clause-least g c = λ tree H most stands is_open room.
+    let network = c.args.net.now in let m = rows_of network tree H in
+    let of = g.A.Engine.grade_of m in
     let found = c.belief.ensures.belief (rows_of network tree H) stands in
     let least = c.enclosure_of.result in let is = c.enclosure_of.ensures in
     record {
@@ -32,6 +34,6 @@ returns-clause-least g c = λ tree H stands is_open.
       whole = initial_total_is network is_open.legal;
       range = in_range network tree H is_open c.empty.result c.belief.result c.empty.ensures found
           least is;
-      graded = graded network tree H is_open c.empty.result c.belief.result c.empty.ensures found
-          least is;
+      graded = graded_within least of most room (held_grade c.belief.result least of is
+          (c.belief.ensures.graded m stands));
     }

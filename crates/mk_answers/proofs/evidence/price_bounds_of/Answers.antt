@@ -1,4 +1,5 @@
-use Rattle.std.proofs.Common.{◌≡◌, [], refl, subst}
+use Rattle.std.proofs.Common.{◌≡◌, ◌+◌, ◌-◌, ◌^◌, [], Some, refl, subst, arith}
+use Rattle.mk_net.specs.Bounds.{max_values}
 use Rattle.std.specs.Prelude.{slice_index}
 use Rattle.mk_net.specs.Network.{sizes}
 use Rattle.mk_net.specs.Zeros.{with_zeros}
@@ -6,12 +7,15 @@ use Rattle.mk_exact.specs.Events.{holds, with_target}
 use Rattle.mk_exact.specs.Weight.{IsSmall, total}
 use Rattle.mk_semiring.specs.declared.held.Held.{Held}
 use Rattle.mk_semiring.specs.declared.held.Held.TheVariants.{Present}
+use Rattle.mk_semiring.specs.Held.{held_grade_more}
+use Rattle.mk_judge.specs.declared.price.PriceBounds.TheVariants.{Between}
 use Rattle.mk_beliefs.specs.Meanings.{weights_of}
 use Rattle.mk_answers.specs.inner.Found.{IsBeliefIn}
 use Rattle.mk_answers.proofs.Bounding.{can_ask, room_of_weights, found_of}
 use Rattle.mk_answers.proofs.Homes.{condition_is_held}
 use Rattle.mk_answers.proofs.NoZeros.{hit_some, miss_some, condition_some, none_of}
 use Rattle.mk_answers.proofs.Priced.{bounded_between, belief_is_few}
+use Rattle.mk_answers.proofs.Regraded.{graded_within, held_grade, bounded_regraded}
 use Rattle.mk_answers.proofs.Weights.{is_there, hit_in, part_in, miss_in, condition_in}
 use Rattle.mk_answers.proofs.evidence.price_bounds_of.Goals as goal
 
@@ -47,18 +51,25 @@ bounds_of_beliefs-requires g c =
     }
 
 pub returns-then-not-is_empty-clause-bounds : goal.returns-then-not-is_empty-clause-bounds
-returns-then-not-is_empty-clause-bounds g c = λ tree H stands is_open answered.
+returns-then-not-is_empty-clause-bounds g c = λ tree H most stands is_open answered room.
     let network = c.args.net.now in let asked = c.args.asked.now in
     let m = weights_of network tree H in
     let sized : c.values-values.result ≡ slice_index (sizes network) asked.target.variable =
     rw c.target.ensures at c.values-values.ensures in
-    c.bounds_of_beliefs.ensures network H asked is_open.legal is_open.proper (record {
+    let of = g.P.Engine.grade_of m in
+    bounded_regraded network H (2 ^ 17) most asked c.bounds_of_beliefs.result
+    (c.bounds_of_beliefs.ensures.bounds network H asked is_open.legal is_open.proper (record {
       hit = hit_in network tree H is_open asked c.event.result c.belief-part.result
           c.event.ensures.pairs (c.belief-part.ensures.belief m stands);
       miss = miss_in network tree H is_open asked c.values-values.result
           c.belief_of_others-rest.result answered.in_order.in_range sized
           (c.belief_of_others-rest.ensures.belief m (c.belief-part.ensures.kept m stands) sized);
-    })
+    }))
+    (c.bounds_of_beliefs.ensures.graded (of + (max_values - 1)) most
+    (held_grade_more c.belief-part.result of (of + (max_values - 1))
+    (c.belief-part.ensures.graded m stands) (omega arith))
+    (c.belief_of_others-rest.ensures.graded m (c.belief-part.ensures.kept m stands) sized)
+    (omega (arith, room)))
 
 pub belief-whole-requires-clause-held : goal.belief-whole-requires-clause-held
 belief-whole-requires-clause-held g c =
@@ -94,7 +105,7 @@ enclosure_of-requires-2 g c =
     (condition_some network a.tree a.history a.is_open asked a.answered no_shares)
 
 pub returns-clause-bounds : goal.returns-clause-bounds
-returns-clause-bounds g c = λ tree H stands is_open answered.
+returns-clause-bounds g c = λ tree H most stands is_open answered room.
     let network = c.args.net.now in let asked = c.args.asked.now in
     let m = weights_of network tree H in let small = IsSmall network H in
     let no_shares : with_zeros network ≡ [] = none_of c.with_zeros.result.now (with_zeros network)
@@ -106,10 +117,20 @@ returns-clause-bounds g c = λ tree H stands is_open answered.
     (condition_in network tree H is_open asked c.condition-condition.result c.belief-whole.result
     c.condition-condition.ensures.condition
     (c.belief-whole.ensures.belief m (c.belief-part.ensures.kept m stands))) in
-    bounded_between network H asked c.enclosure_of.result c.enclosure_of-2.result
+    let of = g.P.Engine.grade_of m in
+    bounded_regraded network H (2 ^ 17) most asked
+    (Some (Between c.enclosure_of.result c.enclosure_of-2.result))
+    (bounded_between network H asked c.enclosure_of.result c.enclosure_of-2.result
     (part_in network tree H is_open asked c.event.result c.belief-part.result
     c.enclosure_of.result c.event.ensures.pairs c.enclosure_of.ensures
     (c.belief-part.ensures.belief m stands))
     (found_of c.enclosure_of-2.result small _ whole)
     (miss_some network tree H is_open asked answered no_shares)
-    (belief_is_few small _ c.enclosure_of-2.result whole)
+    (belief_is_few small _ c.enclosure_of-2.result whole)) (
+      graded_within c.enclosure_of.result of most (omega arith)
+          (held_grade c.belief-part.result c.enclosure_of.result of c.enclosure_of.ensures
+          (c.belief-part.ensures.graded m stands)),
+      graded_within c.enclosure_of-2.result of most (omega arith)
+          (held_grade c.belief-whole.result c.enclosure_of-2.result of c.enclosure_of-2.ensures
+          (c.belief-whole.ensures.graded m (c.belief-part.ensures.kept m stands))),
+    )

@@ -1,4 +1,4 @@
-use Rattle.std.proofs.Common.{◌≡◌, ℕ, ◌^◌, Option, slice_index, refl, subst, arith}
+use Rattle.std.proofs.Common.{◌≡◌, ℕ, Option, slice_index, refl, subst, arith}
 use Rattle.std.specs.List.{AllZip, range_with_len}
 use Rattle.mk_net.specs.Network.{sizes}
 use Rattle.mk_exact.proofs.Positive.{few_values_at}
@@ -23,7 +23,7 @@ least-requires-clause-held g c =
     (a.held 0))
 
 pub returns-in_default-clause-factors : goal.returns-in_default-clause-factors
-returns-in_default-clause-factors g c = λ tree H u owns is_open answered.
+returns-in_default-clause-factors g c = λ tree H u most owns is_open answered room.
     let net = c.args.net.now in
     none_comes net tree H u is_open c.args.asked.now.condition _ c.least.result
     (c.least.ensures.least (holding_of net tree H u) owns)
@@ -66,17 +66,19 @@ loop-value-preserved g c =
     record {
       kept_assets = λ h owns. c.sure_factor_of.ensures.kept_assets h (so_far.kept_assets h owns);
       long = omega (arith, so_far.long, c.push.ensures.len);
-      sure = λ tree H u owns is_open.
+      sure = λ tree H u most owns is_open room.
           rw c.push.ensures.items
-          (zip_more (λ value (factor : Option Factor). IsSureFactor (2 ^ 17) net H u
+          (zip_more (λ value (factor : Option Factor). IsSureFactor most net H u
           (with_target (asked_of spread value)) factor) c.loop-value.value
-          c.loop-value.factors.items c.sure_factor_of.result (so_far.sure tree H u owns is_open)
+          c.loop-value.factors.items c.sure_factor_of.result
+          (so_far.sure tree H u most owns is_open room)
           (rw c.question_at-question.ensures at
-          (c.sure_factor_of.ensures.factor tree H u (so_far.kept_assets _ owns) is_open)));
+          (c.sure_factor_of.ensures.factor tree H u most (so_far.kept_assets _ owns) is_open
+          room)));
     }
 
 pub returns-clause-factors : goal.returns-clause-factors
-returns-clause-factors g c = λ tree H u owns is_open answered.
+returns-clause-factors g c = λ tree H u most owns is_open answered room.
     let net = c.args.net.now in let spread = spread_in c.args.asked.now in
     let all : c.loop-value.value ≡ slice_index (sizes net) spread.variable =
     omega (arith, c.values-value-end.ensures, c.loop-value-test.false, c.loop-value.auto.value-end)
@@ -84,7 +86,7 @@ returns-clause-factors g c = λ tree H u owns is_open answered.
     let items = c.loop-value.factors.items in (
       comes net tree H u is_open c.args.asked.now.condition _ c.least.result
           (c.least.ensures.least (holding_of net tree H u) owns) c.in-Some.field-0 c.in-Some.is,
-      subst (λ (n : ℕ). AllZip (λ value (factor : Option Factor). IsSureFactor (2 ^ 17) net H u
+      subst (λ (n : ℕ). AllZip (λ value (factor : Option Factor). IsSureFactor most net H u
           (with_target (asked_of spread value)) factor) (range_with_len 0 n) items) all
-          (c.loop-value.invariant.sure tree H u owns is_open),
+          (c.loop-value.invariant.sure tree H u most owns is_open room),
     )

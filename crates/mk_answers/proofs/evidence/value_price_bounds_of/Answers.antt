@@ -1,4 +1,4 @@
-use Rattle.std.proofs.Common.{◌≡◌, ℕ, ◌<◌, ◌^◌, slice_index, Option, Some, IsSomeAnd, refl, subst}
+use Rattle.std.proofs.Common.{◌≡◌, ℕ, ◌<◌, slice_index, Option, Some, IsSomeAnd, refl, subst}
 use Rattle.std.proofs.Common.{arith}
 use Rattle.std.specs.List.{AllZip, range_with_len}
 use Rattle.mk_net.specs.Named.{nobody}
@@ -8,7 +8,7 @@ use Rattle.mk_exact.specs.Events.{holds}
 use Rattle.mk_exact.specs.Weight.{cannot_come}
 use Rattle.mk_spread.specs.Spreads.{asked_of}
 use Rattle.mk_judge.specs.declared.price.PriceBounds.{PriceBounds}
-use Rattle.mk_answers.specs.Evidence.{AreBoundsOfPrice}
+use Rattle.mk_answers.specs.Evidence.{AreBoundsOfPrice, grade_together}
 use Rattle.mk_beliefs.specs.Meanings.{weights_of}
 use Rattle.mk_quote.specs.Questions.{spread_in}
 use Rattle.mk_answers.proofs.Told.{zip_more, answered_at, not_never}
@@ -52,35 +52,36 @@ loop-value-preserved g c =
     record {
       kept = λ m h. c.price_bounds_of.ensures.kept m (so_far.kept m h);
       long = omega (arith, so_far.long, c.push.ensures.len);
-      bounded = λ tree H stands is_open answered.
+      bounded = λ tree H most stands is_open answered room.
           let price = rw c.question_at-question.ensures at
-          (c.in-Some.ensures.bounds tree H (so_far.kept _ stands) is_open) in
+          (c.in-Some.ensures.bounds tree H most (so_far.kept _ stands) is_open) in
           rw c.push.ensures.items
           (zip_more (λ value (price : Option PriceBounds). IsSomeAnd price
-          (AreBoundsOfPrice (2 ^ 17) net H (asked_of spread value))) value c.loop-value.parts.items
+          (AreBoundsOfPrice most net H (asked_of spread value))) value c.loop-value.parts.items
           (Some c.in-Some.bounds)
-          (so_far.bounded tree H stands is_open answered)
-          (price (answered_at net tree H spread answered value within)).bounds);
+          (so_far.bounded tree H most stands is_open answered room)
+          (price (answered_at net tree H spread answered value within) room).bounds);
       comes = λ tree H stands is_open answered some.
           let price = rw c.question_at-question.ensures at
-          (c.in-Some.ensures.bounds tree H (so_far.kept _ stands) is_open) in
+          (c.in-Some.ensures.bounds tree H (grade_together (g.P.Engine.grade_of
+          (weights_of net tree H))) (so_far.kept _ stands) is_open) in
           not_never {X = PriceBounds} c.in-Some.bounds (cannot_come net H
           (holds c.args.asked.now.condition)) (price
-          (answered_at net tree H spread answered value within)).none;
+          (answered_at net tree H spread answered value within) (omega arith)).none;
     }
 
 pub returns-in-None-clause-bounds : goal.returns-in-None-clause-bounds
-returns-in-None-clause-bounds g c = λ tree H stands is_open answered.
+returns-in-None-clause-bounds g c = λ tree H most stands is_open answered room.
     let so_far = c.loop-value.invariant in let net = c.args.net.now in
     let spread = spread_in c.args.asked.now in let value = c.loop-value.value in
     let within : value < slice_index (sizes net) spread.variable =
     omega (arith, c.values-value-end.ensures, c.loop-value-test.true) in
     let price = rw c.question_at-question.ensures at
-    (c.in-None.ensures.bounds tree H (so_far.kept _ stands) is_open) in
-    (price (answered_at net tree H spread answered value within)).none.0 refl
+    (c.in-None.ensures.bounds tree H most (so_far.kept _ stands) is_open) in
+    (price (answered_at net tree H spread answered value within) room).none.0 refl
 
 pub returns-clause-bounds : goal.returns-clause-bounds
-returns-clause-bounds g c = λ tree H stands is_open answered.
+returns-clause-bounds g c = λ tree H most stands is_open answered room.
     let net = c.args.net.now in let spread = spread_in c.args.asked.now in
     let v = spread.variable in
     let all : c.loop-value.value ≡ slice_index (sizes net) v =
@@ -90,10 +91,10 @@ returns-clause-bounds g c = λ tree H stands is_open answered.
     let two = (is_open.legal.each v nobody within).two_values in
     let some : 0 < c.loop-value.value = omega (arith, all, size_at net is_open.legal v within, two)
     in
-    let bounded = c.loop-value.invariant.bounded tree H stands is_open answered in
+    let bounded = c.loop-value.invariant.bounded tree H most stands is_open answered room in
     let items = c.loop-value.parts.items in (
       c.loop-value.invariant.comes tree H stands is_open answered some,
       subst (λ (n : ℕ). AllZip (λ value (price : Option PriceBounds). IsSomeAnd price
-          (AreBoundsOfPrice (2 ^ 17) net H (asked_of spread value))) (range_with_len 0 n) items)
+          (AreBoundsOfPrice most net H (asked_of spread value))) (range_with_len 0 n) items)
           all bounded,
     )

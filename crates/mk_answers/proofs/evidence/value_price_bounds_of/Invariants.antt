@@ -1,4 +1,4 @@
-use Rattle.std.proofs.Common.{◌≡◌, ◌<◌, ◌^◌, List, length, false, Option, IsSomeAnd}
+use Rattle.std.proofs.Common.{◌≡◌, ℕ, ◌<◌, ◌≤◌, List, length, false, Option, IsSomeAnd}
 use Rattle.std.specs.List.{AllZip, range_with_len}
 use Rattle.mk_exact.specs.Events.{holds}
 use Rattle.mk_exact.specs.History.{Entry}
@@ -9,7 +9,7 @@ use Rattle.mk_engine.specs.Meaning.{Meaning}
 use Rattle.mk_beliefs.specs.Meanings.{weights_of}
 use Rattle.mk_quote.specs.Questions.{spread_in}
 use Rattle.mk_judge.specs.declared.price.PriceBounds.{PriceBounds}
-use Rattle.mk_answers.specs.Evidence.{AreBoundsOfPrice}
+use Rattle.mk_answers.specs.Evidence.{AreBoundsOfPrice, grade_together}
 use Rattle.mk_answers.specs.Open.{IsOpen, CanBeSpreadHere}
 use Rattle.mk_answers.proofs.evidence.value_price_bounds_of.Given as goal
 
@@ -17,11 +17,12 @@ abbrev pub invariant-loop-value : goal.invariant-loop-value
 invariant-loop-value g l = record {
   kept : (m : Meaning) → g.P.Engine.stands_for l.fn.prices m → g.P.Engine.stands_for l.prices m;
   long : length (l.parts).items ≡ l.value;
-  bounded : (tree : GivenTree) (H : List Entry)
+  bounded : (tree : GivenTree) (H : List Entry) (most : ℕ)
       → g.P.Engine.stands_for l.fn.prices (weights_of l.net tree H)
       → IsOpen l.net tree H → CanBeSpreadHere l.net tree H (spread_in l.asked)
+      → grade_together (g.P.Engine.grade_of (weights_of l.net tree H)) ≤ most
       → AllZip (λ value (price : Option PriceBounds). IsSomeAnd price
-      (AreBoundsOfPrice (2 ^ 17) l.net H (asked_of (spread_in l.asked) value)))
+      (AreBoundsOfPrice most l.net H (asked_of (spread_in l.asked) value)))
       (range_with_len 0 l.value) (l.parts).items;
   comes : (tree : GivenTree) (H : List Entry)
       → g.P.Engine.stands_for l.fn.prices (weights_of l.net tree H)

@@ -1,4 +1,4 @@
-use Rattle.std.proofs.Common.{◌≡◌, [], ◌∷◌, Some, None, refl, arith}
+use Rattle.std.proofs.Common.{◌≡◌, ◌^◌, [], ◌∷◌, Some, None, refl, arith}
 use Rattle.std.specs.Prelude.{slice_index}
 use Rattle.mk_net.specs.Network.{sizes}
 use Rattle.mk_exact.proofs.Positive.{few_values_at}
@@ -7,12 +7,14 @@ use Rattle.mk_spread.specs.Spreads.{asked_of}
 use Rattle.mk_beliefs.specs.Meanings.{weights_of}
 use Rattle.mk_quote.specs.declared.values.SpreadBounds.{SpreadBounds}
 use Rattle.mk_quote.specs.Questions.{spread_in}
+use Rattle.mk_quote.specs.Values.{sides_in}
 use Rattle.mk_answers.specs.Open.{holding_of}
 use Rattle.mk_answers.specs.inner.Alone.{alone_in}
-use Rattle.mk_answers.specs.inner.Found.{IsValueCounted}
+use Rattle.mk_answers.specs.inner.Found.{IsValueCounted, IsValueGraded}
 use Rattle.mk_answers.proofs.Counted.{each_bounded}
 use Rattle.mk_answers.proofs.Homes.{condition_is_held}
 use Rattle.mk_answers.proofs.Valued.{AreFirstFound, one_value_more, valued_at, condition_never, condition_comes, whole_for, alone_is_left, two_are_left, are_side_bounds}
+use Rattle.mk_answers.proofs.Regraded.{graded_within, held_grade, sides_graded, values_regraded}
 use Rattle.mk_answers.proofs.spread.spread_bounds_of.Goals as goal
 
 pub belief-requires-clause-held : goal.belief-requires-clause-held
@@ -64,6 +66,14 @@ loop-value-preserved g c =
           (each-append (IsValueCounted H u) c.loop-value.parts.items
           (c.value_bounds_of.result ∷ []) (so_far.counted tree H u owns is_open)
           (c.value_bounds_of.ensures.counted tree H u (so_far.kept_assets _ owns) is_open, tt));
+      graded = λ m h most stands owns room gains_room.
+          rw c.push.ensures.items
+          (each-append (IsValueGraded most) c.loop-value.parts.items
+          (c.value_bounds_of.result ∷ []) (so_far.graded m h most stands owns room gains_room) (
+            c.value_bounds_of.ensures.graded m h most (so_far.kept m stands)
+                (so_far.kept_assets h owns) room gains_room,
+            tt,
+          ));
     }
 
 pub returns-in-Some-clause-sides : goal.returns-in-Some-clause-sides
@@ -90,14 +100,16 @@ returns-in-None-clause-sides g c = λ tree H u stands owns is_open answered.
     )
 
 pub returns-in-None-clause-bounded : goal.returns-in-None-clause-bounded
-returns-in-None-clause-bounded g c = λ tree H u stands owns is_open answered sides are.
+returns-in-None-clause-bounded g c = λ tree H u most stands owns is_open answered room gains_room
+    sides are.
     let spread = spread_in c.args.asked.now in let network = c.args.net.now in
     let condition = c.args.asked.now.condition in
     let n = slice_index (sizes network) spread.variable in
     let all : c.loop-value.value ≡ n =
     omega (arith, c.values-value-end.ensures, c.loop-value-test.false, c.loop-value.auto.value-end)
     in
-    let b = c.belief.ensures.belief (weights_of network tree H) stands in
+    let m = weights_of network tree H in
+    let b = c.belief.ensures.belief m stands in
     let whole = c.in-Present.whole in
     let parts = c.loop-value.parts.items in
     let bounds : SpreadBounds = record { whole = whole; parts = c.loop-value.parts } in
@@ -106,5 +118,12 @@ returns-in-None-clause-bounded g c = λ tree H u stands owns is_open answered si
     let both = are_side_bounds network H u spread bounds
     (whole_for network tree H is_open spread condition c.belief.result refl b whole
     c.in-Present.is) n 0 parts sides found are in
-    each_bounded network H u spread bounds n 0 parts sides
-    (c.loop-value.invariant.counted tree H u owns is_open) are both.sides both.graded both.exact
+    values_regraded network H (2 ^ 17) most u (sides_in bounds) sides
+    (each_bounded network H u spread bounds n 0 parts sides
+    (c.loop-value.invariant.counted tree H u owns is_open) are both.sides both.graded both.exact)
+    (sides_graded most bounds
+    (graded_within whole (g.P.Engine.grade_of m) most room
+    (held_grade c.belief.result whole (g.P.Engine.grade_of m) c.in-Present.is
+    (c.belief.ensures.graded m stands))) parts
+    (c.loop-value.invariant.graded m (holding_of network tree H u) most stands owns room
+    gains_room))

@@ -4,6 +4,7 @@ use Rattle.mk_answers.specs.Open.{holding_of}
 use Rattle.mk_answers.proofs.Least.{is_counted}
 use Rattle.mk_answers.proofs.Weights.{event_fits}
 use Rattle.mk_answers.proofs.Valued.{none_found, some_value, value_found}
+use Rattle.mk_answers.proofs.Regraded.{graded_within, held_grade, found_grade}
 use Rattle.mk_answers.proofs.spread.value_bounds_of.Goals as goal
 
 pub least-requires-clause-range : goal.least-requires-clause-range
@@ -38,3 +39,13 @@ returns-in-Present-clause-counted g c = λ tree H u owns is_open.
     is_counted c.args.net.now tree H u is_open _ _ c.least.result c.factor_of.result
     c.factor_of.ensures (c.least.ensures.least (holding_of c.args.net.now tree H u) owns)
     (omega arith) owns.few_in owns.few_out
+
+pub returns-in-Present-clause-graded : goal.returns-in-Present-clause-graded
+returns-in-Present-clause-graded g c = λ m h most stands owns room gains_room. (
+  graded_within c.in-Present.part (g.P.Engine.grade_of m) most room
+      (held_grade c.belief.result c.in-Present.part (g.P.Engine.grade_of m) c.in-Present.is
+      (c.belief.ensures.graded m stands)),
+  graded_within (c.factor_of.result).gain (g.A.Engine.grade_of h.meaning) most gains_room
+      (found_grade c.least.result c.factor_of.result (g.A.Engine.grade_of h.meaning)
+      c.factor_of.ensures (c.least.ensures.graded h owns)),
+)

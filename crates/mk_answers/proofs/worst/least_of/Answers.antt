@@ -1,4 +1,4 @@
-use Rattle.std.proofs.Common.{arith}
+use Rattle.std.proofs.Common.{◌^◌, arith}
 use Rattle.mk_exact.specs.Events.{always}
 use Rattle.mk_exact.proofs.ExistMarkets.{least_gain_exists}
 use Rattle.mk_beliefs.specs.Meanings.{gains_of}
@@ -7,6 +7,7 @@ use Rattle.mk_answers.proofs.Counted.{least_factor}
 use Rattle.mk_answers.proofs.Homes.{nothing_at_root}
 use Rattle.mk_answers.proofs.Least.{some_worst, worst_for, worst_idle, worst_counted, worst_cash}
 use Rattle.mk_answers.proofs.Least.{worst_in_range}
+use Rattle.mk_answers.proofs.Regraded.{graded_within, found_grade, least_regraded}
 use Rattle.mk_answers.proofs.worst.least_of.Goals as goal
 
 pub least-requires-clause-held : goal.least-requires-clause-held
@@ -39,13 +40,18 @@ returns-clause-range g c =
     c.factor_of.result c.factor_of.ensures (omega arith) a.owns.few_in a.owns.few_out
 
 pub returns-clause-judged : goal.returns-clause-judged
-returns-clause-judged g c = λ network tree H u owns is_open.
+returns-clause-judged g c = λ network tree H u most owns is_open room.
     let has = least_gain_exists network H u is_open.legal is_open.proper in
-    let least = c.least.ensures.least (holding_of network tree H u) owns in
-    least_factor network H u always has.least has.is_least c.factor_of.result
+    let h = holding_of network tree H u in let least = c.least.ensures.least h owns in
+    let of = g.A.Engine.grade_of h.meaning in
+    least_regraded network H (2 ^ 17) most u c.factor_of.result
+    (graded_within (c.factor_of.result).gain of most room
+    (found_grade c.least.result c.factor_of.result of c.factor_of.ensures
+    (c.least.ensures.graded h owns))) always
+    (least_factor network H u always has.least has.is_least c.factor_of.result
     (worst_counted network tree H u is_open c.empty.result c.empty.ensures _ c.least.result least
     c.factor_of.result c.factor_of.ensures (omega arith) owns.few_in owns.few_out)
     (worst_for network tree H u is_open c.empty.result c.empty.ensures _ c.least.result least
     c.factor_of.result c.factor_of.ensures (omega arith) has.least has.is_least)
     (worst_cash network tree H u is_open c.empty.result c.empty.ensures _ c.least.result least
-    c.factor_of.result c.factor_of.ensures (omega arith) owns.few_in owns.few_out)
+    c.factor_of.result c.factor_of.ensures (omega arith) owns.few_in owns.few_out))

@@ -8,7 +8,7 @@ pub returns-in-Ok-clause-judged : goal.returns-in-Ok-clause-judged
 returns-in-Ok-clause-judged g c = λ stands.
     let market = c.args.market.now.market in
     let H = c.args.market.now.standing.history in
-    let present = present_is c.args.market.now c.edit_evidence.new.self c.revision_of-now.result c.edit_evidence.ensures.same c.revision_of-now.ensures in
+    let present = present_is c.args.market.now c.edit_evidence.new.market c.revision_of-now.result c.edit_evidence.ensures.same c.revision_of-now.ensures in
     let tells = flag_tells market H c.args.known.now c.is_small.result c.requires.known c.is_small.ensures in
     let its = edit_bounds market H c.args.name.now c.args.question.now c.in-Ok.evidence c.is_small.result c.revision_of-now.result c.in-Ok.ensures.evidence.1 tells present in
     edit_allowed market H c.args.known.now.quotes c.args.name.now c.args.question.now c.in-Ok.evidence.bounds c.is_small.result c.revision_of-now.result its

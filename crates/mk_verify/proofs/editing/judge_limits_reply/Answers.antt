@@ -10,7 +10,7 @@ returns-in-Ok-clause-judged g c = λ stands.
     let H = c.args.market.now.standing.history in
     let its = edit_bounds market H c.args.name.now c.args.question.now c.in-Ok.evidence c.is_small.result c.revision_of-now.result c.in-Ok.ensures.evidence.1
     (flag_tells market H c.args.known.now c.is_small.result c.requires.known c.is_small.ensures)
-    (present_is c.args.market.now c.limits_evidence.new.self c.revision_of-now.result c.limits_evidence.ensures.same c.revision_of-now.ensures) in
+    (present_is c.args.market.now c.limits_evidence.new.market c.revision_of-now.result c.limits_evidence.ensures.same c.revision_of-now.ensures) in
     limits_allowed market H c.args.known.now.quotes c.args.name.now c.args.question.now c.in-Ok.evidence.bounds c.is_small.result c.revision_of-now.result its
     c.args.reply.now c.judge_told_limits.result c.in-Ok.ensures.evidence.0 (c.judge_told_limits.ensures market H c.args.name.now c.args.question.now its)
 

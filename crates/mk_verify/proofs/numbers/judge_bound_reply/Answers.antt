@@ -11,6 +11,7 @@ returns-in-Bound-clause-judged g c =
     let same = c.bound_evidence.ensures.same in
     judges_same market H Bound c.args.reply.now _ c.judge_bound.result c.in-Bound.is
     (bound_told market H found.0 c.in-Ok.least c.in-Bound.low c.in-Bound.high c.judge_bound.result
-    found.1 c.variables.result c.points_per_bit.result (rw same at c.variables.ensures.count)
-    c.variables.ensures.few (rw same at c.points_per_bit.ensures.points)
+    found.1 c.bound_evidence.ensures.cells c.variables.result c.points_per_bit.result
+    (rw same at c.variables.ensures.count)
+    (rw same at c.points_per_bit.ensures.points)
     (record { allowed = says.allowed; wrong = says.wrong; unclear = says.unclear }))

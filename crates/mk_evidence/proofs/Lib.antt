@@ -1,0 +1,3 @@
+pub mod Evidenced
+pub mod EvidencedSpreads
+pub mod Grading

@@ -1,0 +1,167 @@
+//! Enclosures of the exact numbers that an auditor holds against printed prices, points and bits.
+//!
+//! Each call asks the beliefs that the command asks, in the same order, refuses what the command is
+//! refused for, and leaves the market as it was.
+
+ghost use Rattle.std.specs.Prelude.{◌≡◌, ◌<◌, ◌≤◌, length};
+ghost use Rattle.mk_command.specs.declared.command.Command.TheVariants as command;
+ghost use Rattle.mk_exact.specs.History.{users};
+ghost use Rattle.mk_exact.specs.Market.{network_of};
+ghost use Rattle.mk_evidence.specs.Grades.{all_cells};
+ghost use Rattle.mk_evidence.specs.Evidence.{IsAskedFor, IsPriceEvidence, ArePricesEvidence};
+ghost use Rattle.mk_evidence.specs.Evidence.{IsWorstEvidence, IsPositionEvidence};
+ghost use Rattle.mk_evidence.specs.Evidence.{IsPaymentEvidence, IsBoundEvidence};
+
+use arrayvec::ArrayVec;
+use mk_answers::{
+    least_of, least_weight_of, price_bounds_of, sure_factors_of, value_price_bounds_of,
+};
+use mk_enclose::{Enclosure, Factor};
+use mk_engine::TreeGraded;
+use mk_judge::PriceBounds;
+use mk_market::{Market, refuse_condition};
+use mk_net::{Name, PairText, QuestionText};
+use mk_record::{
+    not_settled, refuse_bounds, refuse_price, refuse_prices, refuse_transfer, refuse_worst,
+};
+use mk_reply::Refusal;
+use mk_semiring::{MinProd, SumProd};
+
+/// The bounds of a question's price.
+pub fn price_evidence<P: TreeGraded<SumProd>, A: TreeGraded<MinProd>>(
+    market: &mut Market<P, A>,
+    question: &QuestionText,
+) -> Result<PriceBounds, Refusal>
+    ensures same { market.new ≡ market.old }
+    ensures evidence { IsAskedFor market.old.market (market.old.standing).history
+        (command.Price question.now) result
+        (IsPriceEvidence market.old.market (market.old.standing).history question.now) }
+{
+    let (asked, home) = refuse_price(&market.file, &market.journal, question)?;
+    match price_bounds_of(&mut market.prices, &market.file.net, home, &asked) {
+        Some(bounds) => Ok(bounds),
+        None => Err(refuse_condition(
+            &mut market.prices,
+            home,
+            &asked.condition(),
+            question.condition.as_slice(),
+        )),
+    }
+}
+
+/// The bounds of the prices of all values of a variable, in order: Some of each.
+pub fn prices_evidence<P: TreeGraded<SumProd>, A: TreeGraded<MinProd>>(
+    market: &mut Market<P, A>,
+    variable: &Name,
+    condition: &ArrayVec<PairText, 8>,
+) -> Result<ArrayVec<Option<PriceBounds>, 16>, Refusal>
+    ensures same { market.new ≡ market.old }
+    ensures evidence { IsAskedFor market.old.market (market.old.standing).history
+        (command.Prices variable.now condition.now) result
+        (ArePricesEvidence market.old.market (market.old.standing).history variable.now
+        condition.now) }
+{
+    let words = condition.as_slice();
+    let (asked, home) = refuse_prices(&market.file, &market.journal, variable, words)?;
+    match value_price_bounds_of(&mut market.prices, &market.file.net, home, &asked) {
+        Some(bounds) => Ok(bounds),
+        None => Err(refuse_condition(&mut market.prices, home, &asked.condition, words)),
+    }
+}
+
+/// A user's least factor, by which `worst` is answered.
+pub fn worst_evidence<P: TreeGraded<SumProd>, A: TreeGraded<MinProd>>(
+    market: &mut Market<P, A>,
+    name: &Name,
+) -> Result<Factor, Refusal>
+    ensures same { market.new ≡ market.old }
+    ensures evidence { IsAskedFor market.old.market (market.old.standing).history
+        (command.Worst name.now) result
+        (IsWorstEvidence market.old.market (market.old.standing).history name.now) }
+{
+    let user = refuse_worst(&market.journal, &market.users, name)?;
+    Ok(least_of(market.users.assets(user)))
+}
+
+/// The same factor, by which so many bits are taken out or are too many.
+pub fn withdrawal_evidence<P: TreeGraded<SumProd>, A: TreeGraded<MinProd>>(
+    market: &mut Market<P, A>,
+    name: &Name,
+    bits: u32,
+) -> Result<Factor, Refusal>
+    ensures same { market.new ≡ market.old }
+    ensures evidence { IsAskedFor market.old.market (market.old.standing).history
+        (command.Withdraw name.now bits) result
+        (IsWorstEvidence market.old.market (market.old.standing).history name.now) }
+{
+    let user = refuse_transfer(&market.journal, &market.users, name, bits)?;
+    Ok(least_of(market.users.assets(user)))
+}
+
+/// A user's least factor where each value of a variable comes, in order; none for a value that
+/// cannot come.
+pub fn position_evidence<P: TreeGraded<SumProd>, A: TreeGraded<MinProd>>(
+    market: &mut Market<P, A>,
+    name: &Name,
+    variable: &Name,
+    condition: &ArrayVec<PairText, 8>,
+) -> Result<ArrayVec<Option<Factor>, 16>, Refusal>
+    ensures same { market.new ≡ market.old }
+    ensures evidence { IsAskedFor market.old.market (market.old.standing).history
+        (command.Position name.now variable.now condition.now) result
+        (IsPositionEvidence market.old.market (market.old.standing).history name.now variable.now
+        condition.now) }
+{
+    let words = condition.as_slice();
+    let request = refuse_bounds(
+        &market.file,
+        &market.journal,
+        &market.users,
+        name,
+        variable,
+        words,
+    )?;
+    match sure_factors_of(
+        market.users.assets(request.user),
+        &market.file.net,
+        request.home,
+        &request.question,
+    ) {
+        Some(factors) => Ok(factors),
+        None => Err(refuse_condition(
+            &mut market.prices,
+            request.home,
+            &request.question.condition,
+            words,
+        )),
+    }
+}
+
+/// The factor of a user, by number, in the one state that is left, by which a settlement pays
+/// it.
+pub fn payment_evidence<P: TreeGraded<SumProd>, A: TreeGraded<MinProd>>(
+    market: &mut Market<P, A>,
+    user: u32,
+) -> Factor
+    requires { user < length (users (market.old.standing).history) }
+    ensures same { market.new ≡ market.old }
+    ensures evidence { IsPaymentEvidence market.old.market (market.old.standing).history user
+        result }
+{
+    least_of(market.users.assets(user))
+}
+
+/// The least initial weight of the possible states, by which `bound` is answered. A market has no
+/// fewer cells than variables.
+pub fn bound_evidence<P: TreeGraded<SumProd>, A: TreeGraded<MinProd>>(
+    market: &mut Market<P, A>,
+) -> Result<Enclosure, Refusal>
+    ensures same { market.new ≡ market.old }
+    ensures evidence { IsAskedFor market.old.market (market.old.standing).history command.Bound
+        result (IsBoundEvidence market.old.market (market.old.standing).history) }
+    ensures cells { length (network_of market.old.market (market.old.standing).history)
+        ≤ all_cells market.old.market (market.old.standing).history }
+{
+    not_settled(&market.journal)?;
+    Ok(least_weight_of(&mut market.rows, &market.file.net))
+}

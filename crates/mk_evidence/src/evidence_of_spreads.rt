@@ -1,0 +1,208 @@
+//! Bounds of each value of a variable, by which an auditor judges its bounds and its spreads.
+
+ghost use Rattle.std.specs.Prelude.{◌≡◌, ℕ, List, length, slice_index, MatchResult};
+ghost use Rattle.mk_net.specs.Network.{sizes};
+ghost use Rattle.mk_command.specs.declared.command.Command.TheVariants as command;
+ghost use Rattle.mk_exact.specs.History.{Entry};
+ghost use Rattle.mk_engine.specs.Meaning.{Meaning};
+ghost use Rattle.mk_assets.specs.Holdings.{Holding};
+ghost use Rattle.mk_quote.specs.Questions.{spread_in};
+ghost use Rattle.mk_answers.specs.Open.{CanBeSpreadHere};
+ghost use Rattle.mk_record.specs.Members.{names_of, quotes_of};
+ghost use Rattle.mk_evidence.specs.inner.Finding.{CanFindEach, AreEachFound, ArePlacedBounds};
+ghost use Rattle.mk_evidence.specs.inner.Finding.{IsStoppedAnew};
+ghost use Rattle.mk_market.specs.inner.Quoting.{OwnsAt, AreInUse};
+ghost use Rattle.mk_market.specs.inner.Stopped.{IsSpreadDecidedBy};
+ghost use Rattle.mk_evidence.specs.Grades.{evidence_grade};
+ghost use Rattle.mk_file.specs.MarketOf.{market_of};
+ghost use Rattle.mk_evidence.specs.Evidence.{IsAskedFor, IsSpreadEvidence};
+
+use arrayvec::ArrayVec;
+use mk_answers::{SpreadSides, spread_bounds_of};
+use mk_engine::TreeGraded;
+use mk_file::MarketFile;
+use mk_market::{Market, SpreadDecided, Stopped, refuse_stopped};
+use mk_net::{Name, PairText};
+use mk_quote::{SpreadBounds, SpreadQuestion, SpreadQuote};
+use mk_record::{Journal, SpreadRequest, SpreadWish, Users, refuse_bounds, refuse_spread};
+use mk_reply::Refusal;
+use mk_semiring::{MinProd, SumProd};
+
+/// What an auditor judges the bounds and the spreads of a variable by: the number of their user,
+/// the question in numbers, and bounds of each value.
+#[derive(Debug, Drop)]
+pub struct SpreadEvidence {
+    pub user: u32,
+    pub question: SpreadQuestion,
+    pub bounds: SpreadBounds,
+}
+
+/// The bounds of each value that a request asks about, or what decides the question. The engine and
+/// the assets stand for what they stood for.
+fn spread_bounds<P: TreeGraded<SumProd>, A: TreeGraded<MinProd>>(
+    file: &MarketFile,
+    prices: &mut P,
+    users: &mut Users<A>,
+    request: &SpreadRequest,
+) -> Result<SpreadBounds, SpreadDecided>
+    requires { CanFindEach P.stands_for A.stands_for file.now prices.old users.old request.now }
+    ensures prices { (m : Meaning) → P.stands_for prices.old m → P.stands_for prices.new m }
+    ensures assets { (u : ℕ) (h : Holding) → OwnsAt A.stands_for users.old u h
+        → OwnsAt A.stands_for users.new u h }
+    ensures names { names_of users.new ≡ names_of users.old }
+    ensures quotes { quotes_of users.new ≡ quotes_of users.old }
+    ensures bounds { (H : List Entry)
+        → AreInUse P.stands_for A.stands_for file.now.net file.now.tree H prices.old users.old
+        → CanBeSpreadHere file.now.net file.now.tree H (spread_in request.now.question)
+        → MatchResult result
+        (λ bounds. AreEachFound (evidence_grade (market_of file.now) H) file.now.net H
+        request.now.user (spread_in request.now.question) bounds)
+        (λ why. IsSpreadDecidedBy file.now.net H (spread_in request.now.question) why) }
+{
+    let SpreadRequest {
+        user,
+        question,
+        home,
+    } = *request;
+    match spread_bounds_of(prices, users.assets(user), &file.net, home, &question) {
+        SpreadSides::Open(bounds) => Ok(bounds),
+        SpreadSides::Impossible => Err(SpreadDecided::Impossible),
+        SpreadSides::Sure(value) => Err(SpreadDecided::Sure(value)),
+    }
+}
+
+/// The same bounds, or what stops shares before any intervals are asked for: what decides the
+/// question, a share of what cannot come, or none of what can.
+fn placed_bounds<P: TreeGraded<SumProd>, A: TreeGraded<MinProd>>(
+    file: &MarketFile,
+    prices: &mut P,
+    users: &mut Users<A>,
+    journal: &Journal,
+    request: &SpreadRequest,
+    shares: &[u32],
+) -> Result<SpreadBounds, Stopped>
+    requires found { CanFindEach P.stands_for A.stands_for file.now prices.old users.old
+        request.now }
+    requires in_use { AreInUse P.stands_for A.stands_for file.now.net file.now.tree
+        journal.now.history prices.old users.old }
+    requires answered { CanBeSpreadHere file.now.net file.now.tree journal.now.history
+        (spread_in request.now.question) }
+    requires one_each { length shares.now ≡ slice_index (sizes file.now.net)
+        request.now.question.variable }
+    ensures prices { (m : Meaning) → P.stands_for prices.old m → P.stands_for prices.new m }
+    ensures assets { (u : ℕ) (h : Holding) → OwnsAt A.stands_for users.old u h
+        → OwnsAt A.stands_for users.new u h }
+    ensures names { names_of users.new ≡ names_of users.old }
+    ensures quotes { quotes_of users.new ≡ quotes_of users.old }
+    ensures placed { MatchResult result
+        (λ bounds. ArePlacedBounds (evidence_grade (market_of file.now) journal.now.history)
+        file.now.net file.now.tree journal.now.history request.now.user
+        (spread_in request.now.question) shares.now bounds)
+        (λ why. IsStoppedAnew file.now.net file.now.tree journal.now.history request.now.user
+        (spread_in request.now.question) shares.now why) }
+{
+    let bounds = match spread_bounds(file, prices, users, request) {
+        Ok(bounds) => bounds,
+        Err(why) => return Err(Stopped::Decided(why)),
+    };
+    let quote = SpreadQuote::make(request.user, request.question, journal.revision(), &bounds);
+    if let Some(value) = quote.impossible_share(shares) {
+        return Err(Stopped::ImpossibleShare(value));
+    }
+    if quote.misses_share(shares) {
+        return Err(Stopped::MissingShare);
+    }
+    Ok(bounds)
+}
+
+/// The bounds of each value of a variable for a user, by which `bounds` is answered. The market
+/// stays as it was.
+pub fn bounds_evidence<P: TreeGraded<SumProd>, A: TreeGraded<MinProd>>(
+    market: &mut Market<P, A>,
+    name: &Name,
+    variable: &Name,
+    condition: &ArrayVec<PairText, 8>,
+) -> Result<SpreadEvidence, Refusal>
+    ensures same { market.new ≡ market.old }
+    ensures evidence { IsAskedFor market.old.market (market.old.standing).history
+        (command.Bounds name.now variable.now condition.now) result
+        (IsSpreadEvidence market.old.market (market.old.standing).history name.now variable.now
+        condition.now) }
+{
+    let request = refuse_bounds(
+        &market.file,
+        &market.journal,
+        &market.users,
+        name,
+        variable,
+        condition.as_slice(),
+    )?;
+    match spread_bounds(
+        &market.file,
+        &mut market.prices,
+        &mut market.users,
+        &request,
+    ) {
+        Ok(bounds) => Ok(SpreadEvidence {
+            user: request.user,
+            question: request.question,
+            bounds,
+        }),
+        Err(why) => Err(refuse_stopped(
+            &mut market.prices,
+            &market.file.net,
+            variable,
+            condition.as_slice(),
+            &request,
+            Stopped::Decided(why),
+        )),
+    }
+}
+
+/// The same bounds, by which a spread to so many millionths each is answered, whose user has
+/// seen a revision. They are found anew also where the user's last quote is of this spread. The
+/// market stays as it was.
+pub fn spread_evidence<P: TreeGraded<SumProd>, A: TreeGraded<MinProd>>(
+    market: &mut Market<P, A>,
+    name: &Name,
+    variable: &Name,
+    condition: &ArrayVec<PairText, 8>,
+    to: &ArrayVec<u32, 16>,
+    at: Option<u32>,
+) -> Result<SpreadEvidence, Refusal>
+    ensures same { market.new ≡ market.old }
+    ensures evidence { IsAskedFor market.old.market (market.old.standing).history
+        (command.Spread name.now variable.now condition.now to.now at) result
+        (IsSpreadEvidence market.old.market (market.old.standing).history name.now variable.now
+        condition.now) }
+{
+    let wish = SpreadWish {
+        variable,
+        condition: condition.as_slice(),
+        to: to.as_slice(),
+        at,
+    };
+    let request = refuse_spread(&market.file, &market.journal, &market.users, name, &wish)?;
+    match placed_bounds(
+        &market.file,
+        &mut market.prices,
+        &mut market.users,
+        &market.journal,
+        &request,
+        to.as_slice(),
+    ) {
+        Ok(bounds) => Ok(SpreadEvidence {
+            user: request.user,
+            question: request.question,
+            bounds,
+        }),
+        Err(why) => Err(refuse_stopped(
+            &mut market.prices,
+            &market.file.net,
+            variable,
+            condition.as_slice(),
+            &request,
+            why,
+        )),
+    }
+}
