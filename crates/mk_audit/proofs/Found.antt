@@ -11,11 +11,13 @@ use Rattle.mk_io.specs.Stream.{StreamLine, text, long, is_not_blank}
 use Rattle.mk_exact.specs.History.{Entry}
 use Rattle.mk_exact.specs.Market.{Market}
 use Rattle.mk_command.specs.declared.command.Command.{Command}
+use Rattle.mk_command.specs.declared.command.Command.TheVariants.{Price}
 use Rattle.mk_command.specs.Commands.{IsCommand, command_text}
 use Rattle.mk_reply.specs.declared.reply.Reply.{Reply}
-use Rattle.mk_reply.specs.declared.reply.Reply.TheVariants.{Refused}
+use Rattle.mk_reply.specs.declared.reply.Reply.TheVariants.{Price as Priced, Refused}
 use Rattle.mk_reply.specs.declared.refusal.Refusal.TheVariants.{Syntax, Long}
 use Rattle.mk_reply.specs.Replies.{IsReply, reply_text}
+use Rattle.mk_market.specs.Trading.{Trading}
 use Rattle.mk_rules.specs.Answers.{IsAllowed, next_history, next_quotes}
 use Rattle.mk_rules.specs.Quotes.{Quotes}
 use Rattle.mk_rules.specs.Transcript.{Standing, Line, OfCommand, NoCommand, LongLine}
@@ -24,6 +26,7 @@ use Rattle.mk_session.specs.Texts.{reply_line}
 use Rattle.mk_session.specs.Transcript.{Asks, AreReplied}
 use Rattle.mk_session.specs.Begins.{CanBegin}
 use Rattle.mk_session.specs.Outcome.{IsFrontOf}
+use Rattle.mk_session.specs.inner.Progress.{IsPriced}
 use Rattle.mk_session.proofs.Answering.{no_more, one_replied, blank_replied}
 use Rattle.mk_verify.specs.Clear.{IsOpen}
 use Rattle.mk_verify.specs.Known.{Knowledge, IsKnown, standing_with}
@@ -244,6 +247,9 @@ read_found (Some (Err TooMany)) market now then line command reply first transcr
 read_found (Some (Err Memory)) market now then line command reply first transcript before behind
     begins busy asks is_first is told passed more found = tt
 
+abbrev standing_of : List Entry → Quotes → Standing
+standing_of h q = record { history = h; quotes = q }
+
 -- behind an allowed reply the audit stands where its next history and quotes lead
 pub stands_next : (market : Market) (now then : Standing) (before behind : Front)
     (command : Command) (reply : Reply)
@@ -252,9 +258,6 @@ pub stands_next : (market : Market) (now then : Standing) (before behind : Front
     → standing_at then behind ≡ after market (standing_at now before) (OfCommand command) reply
 stands_next market now then before behind command reply history quotes =
     ap₂ (λ (h : List Entry) (q : Quotes). standing_of h q) history quotes
-  where
-    standing_of : List Entry → Quotes → Standing
-    standing_of h q = record { history = h; quotes = q }
 
 is_at_next : (market other : Market) (now then : Standing) (before behind : Front)
     (command : Command) (reply : Reply) → other ≡ market → IsCommand command
@@ -297,6 +300,34 @@ is_at_by None market other now then before behind command reply same is allowed 
     (subst (λ (m : Market). IsKnown m then.history behind.known) (sym same) goes.1)
 is_at_by (Some end) market other now then before behind command reply same is allowed at next = tt
 
+-- a market that told a price stands as before
+pub price_leaves : (old new : Trading) (command : Command) (bytes : List ℕ)
+    → IsPriced old new command bytes → new.standing ≡ old.standing
+price_leaves old new command bytes priced =
+    priced.answered.next
+    ∙ ap (λ (h : List Entry). standing_of h old.standing.quotes) (no_more old.standing.history)
+
+-- the price that the market told stands next, and is one right line more
+pub price_passed : (old new : Trading) (line : StreamLine) (command : Command)
+    (bytes transcript : List ℕ) (before behind : Front) → IsAt old.market old.standing before
+    → is_not_blank line ≡ true → Asks line (OfCommand command) → IsPriced old new command bytes
+    → behind.known ≡ before.known
+    → left_of transcript before ≡ bytes ++ left_of transcript behind
+    → behind.right ≡ before.right + 1
+    → Holds None old.market old.standing new.standing line transcript before behind
+price_passed old new line command bytes transcript before behind at busy asks priced known stands
+    more =
+    let q = priced.question in
+    let reply = Priced priced.low priced.high in
+    reply_passed old.market (standing_at old.standing before) (standing_at new.standing behind) line
+    (OfCommand (Price q)) reply (left_of transcript before) (left_of transcript behind) before.right
+    behind.right busy (subst (λ (c : Command). Asks line (OfCommand c)) priced.asked asks)
+    (priced.answered.allowed at.begins.ready.stands.sound)
+    (stands_next old.market old.standing new.standing before behind (Price q) reply
+    (ap (λ (s : Standing). s.history) priced.answered.next)
+    (ap (λ (k : Knowledge). k.quotes) known))
+    (stands ∙ ap (λ (xs : List ℕ). xs ++ left_of transcript behind) priced.printed) more
+
 -- the same market and history
 pub still_at : (market other : Market) (now : Standing) (before behind : Front) → other ≡ market
     → behind.known ≡ before.known → IsAt market now before → IsAt other now behind
@@ -307,6 +338,26 @@ still_at market other now before behind same known at = record {
       (subst (λ (k : Knowledge). CanBegin market (standing_with now.history k))
       (sym known) at.begins);
 }
+
+-- and at the same standing
+pub still_there : (market other : Market) (now then : Standing) (before behind : Front)
+    → other ≡ market → then ≡ now → behind.known ≡ before.known → IsAt market now before
+    → IsAt other then behind
+still_there market other now then before behind same stays known at =
+    subst (λ (s : Standing). IsAt other s behind) (sym stays)
+    (still_at market other now before behind same known at)
+
+-- what is found from the same market and place is found from here
+pub found_there : (ended : Option (Result Verdict AuditFault)) (market other : Market)
+    (now then new : Standing) (line : StreamLine) (transcript : List ℕ)
+    (before same_front behind : Front) → other ≡ market → then ≡ now → same_front ≡ before
+    → Holds ended other then new line transcript same_front behind
+    → Holds ended market now new line transcript before behind
+found_there ended market other now then new line transcript before same_front behind same stays
+    front found =
+    subst (λ (m : Market). Holds ended m now new line transcript before behind) same
+    (subst (λ (s : Standing). Holds ended other s new line transcript before behind) stays
+    (subst (λ (f : Front). Holds ended other then new line transcript f behind) front found))
 
 pub still_if : (ended : Option (Result Verdict AuditFault)) (market : Market) (now : Standing)
     (before behind : Front) → behind.known ≡ before.known → IsAt market now before

@@ -12,7 +12,7 @@ use Rattle.mk_io.proofs.Told.{append_known_none}
 use Rattle.mk_exact.specs.Market.{Market}
 use Rattle.mk_file.specs.declared.fault.FileFault.{FileFault}
 use Rattle.mk_file.specs.declared.fault.FileFault.TheVariants.{Memory as FileMemory}
-use Rattle.mk_session.specs.Outcome.{Adds, Ends, Refuses, HasCauses, IsTurnedAway}
+use Rattle.mk_session.specs.Outcome.{Adds, Refuses, HasCauses, IsTurnedAway}
 use Rattle.mk_audit.specs.AuditOutcome.{IsJudged, IsUnjudged, IsAudited, AuditsTo, EndsAudit}
 use Rattle.mk_audit.specs.AuditOutcome.{max_transcript_bytes}
 use Rattle.mk_audit.specs.inner.Telling.{Says}
@@ -131,16 +131,6 @@ told_of_part status market all part text before written is told = record {
   bytes = told.bytes;
   added = told.added;
   holds = part_audits status market all part text told.bytes is told.holds;
-}
-
--- what is written of a refused file is its one line, and nothing where memory was wanting
-pub told_alone : (status : Status) (fault : FileFault) (before written : Option (List ℕ))
-    → Adds before written (Ends status (Err fault) [] [])
-    → Adds before written (Refuses status fault)
-told_alone status fault before written told = record {
-  bytes = told.bytes;
-  added = told.added;
-  holds = told.holds.0;
 }
 
 nothing_said : (given : Result Market FileFault) (all text : List ℕ)

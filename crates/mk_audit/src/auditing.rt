@@ -12,12 +12,13 @@ ghost use Rattle.mk_rules.specs.Transcript.{opening};
 ghost use Rattle.mk_audit.specs.Verdicts.{AuditEnds, HasAuditCause};
 ghost use Rattle.mk_audit.specs.inner.Progress.{IsAt, IsSoFar};
 
-use crate::front::Front;
+use crate::front::{Front, Room};
 use crate::ready::behind_ready_line;
 use crate::verdict::{AuditFault, Verdict};
+use mk_command::Words;
 use mk_file::MarketFile;
 use mk_io::{Inputs, Lines, Next};
-use mk_session::{TreeMarket, open};
+use mk_session::{LineBuffer, TreeMarket, open};
 use mk_verify::Known;
 use std::alloc::Global;
 
@@ -68,6 +69,10 @@ fn audit_market<I: Inputs>(
     };
     let mut auditor = Auditor {
         lines: Lines::new(),
+        room: Room {
+            words: Words::default(),
+            print: LineBuffer::new(),
+        },
         front: Front {
             known: Known::at_opening(alloc, market),
             place,
@@ -82,6 +87,8 @@ fn audit_market<I: Inputs>(
 struct Auditor {
     /// Reads the commands and cuts them into lines.
     lines: Lines,
+    /// Room for the words and the print of a line.
+    room: Room,
     /// How far the transcript is right.
     front: Front,
 }
@@ -150,7 +157,8 @@ impl Auditor {
         match self.lines.next(inputs) {
             Next::Line => {
                 let line = self.lines.line();
-                self.front.hold_text(alloc, market, line, transcript)
+                let room = &mut self.room;
+                self.front.hold_text(alloc, market, line, room, transcript)
             }
             Next::Long => self.front.hold_bytes(b"refused long\n", transcript),
             Next::End => Some(Ok(self.front.end(transcript))),

@@ -1,12 +1,13 @@
 //! The right lines of a transcript, and what is found of one line more.
 
-ghost use Rattle.std.specs.Prelude.{◌≡◌, ◌+◌, ◌^◌, ◌<◌, ◌≤◌, ◌==◌, true, length, IfNone};
-ghost use Rattle.std.specs.List.{list_all};
+ghost use Rattle.std.specs.Prelude.{◌≡◌, ◌+◌, ◌^◌, ◌<◌, ◌≤◌, ◌++◌, true, false, length};
+ghost use Rattle.std.specs.Prelude.{None, IfNone};
 ghost use Rattle.mk_io.specs.Stream.{StreamLine, text, is_not_blank, max_stream_lines};
 ghost use Rattle.mk_command.specs.Commands.{IsCommand, command_of};
 ghost use Rattle.mk_reply.specs.Replies.{IsReply};
 ghost use Rattle.mk_rules.specs.Transcript.{OfCommand};
 ghost use Rattle.mk_session.specs.Transcript.{Asks};
+ghost use Rattle.mk_session.specs.Outcome.{IsFrontOf};
 ghost use Rattle.mk_verify.specs.Known.{IsKnown};
 ghost use Rattle.mk_audit.specs.inner.Progress.{IsAt, standing_at, left_of};
 ghost use Rattle.mk_audit.specs.inner.Progress.{HoldsBytes, HoldsReply, GoesOnBy, Holds};
@@ -18,7 +19,7 @@ use mk_command::{CommandRef, Words, read_command};
 use mk_judge::Judged;
 use mk_net::NoMemory;
 use mk_reply::{Reply, Unread, read_reply};
-use mk_session::TreeMarket;
+use mk_session::{LineBuffer, TreeMarket, is_blank, print_plain_price};
 use mk_verify::{Known, follow, judge};
 use std::alloc::Global;
 
@@ -33,11 +34,14 @@ pub(crate) struct Front {
     pub right: u64,
 }
 
-/// Whether a line holds no byte but spaces.
-fn is_blank(line: &[u8]) -> bool
-    ensures { result ≡ list_all (λ b. b == 32) line.now }
-{
-    line.iter().all(|byte| *byte == b' ')
+/// Room for what is read and printed on the way, which is made once and holds nothing between two
+/// lines.
+#[derive(Drop)]
+pub(crate) struct Room {
+    /// Where the longer words of a command are put.
+    pub words: Words,
+    /// Where a line is printed.
+    pub print: LineBuffer,
 }
 
 impl Front {
@@ -48,6 +52,7 @@ impl Front {
         alloc: Global,
         market: &mut TreeMarket,
         line: &[u8],
+        room: &mut Room,
         transcript: &[u8],
     ) -> Option<Result<Verdict, AuditFault>>
         requires place { self.old.place ≤ length transcript.now }
@@ -63,10 +68,11 @@ impl Front {
         if is_blank(line) {
             return None;
         }
-        let mut words = Words::default();
-        match read_command(line, &mut words) {
+        match read_command(line, &mut room.words) {
             Err(_) => self.hold_bytes(b"refused syntax\n", transcript),
-            Ok(command) => self.hold_command(alloc, market, &command, transcript),
+            Ok(command) => {
+                self.hold_command(alloc, market, &command, &mut room.print, transcript)
+            }
         }
     }
 
@@ -83,16 +89,96 @@ impl Front {
         ensures known { self.new.known ≡ self.old.known }
         ensures found { HoldsBytes result line.now transcript.now self.old self.new }
     {
-        if self.left(transcript).starts_with(line) {
-            self.pass(line.len());
+        if self.passes(line, transcript) {
             None
         } else {
             Some(Ok(self.wrong()))
         }
     }
 
+    /// Whether a line stands next, which is passed then.
+    fn passes(&mut self, line: &[u8], transcript: &[u8]) -> bool
+        requires place { self.old.place ≤ length transcript.now }
+        requires count { self.old.right ≤ max_stream_lines }
+        ensures place { self.new.place ≤ length transcript.now }
+        ensures count { self.new.right ≤ self.old.right + 1 }
+        ensures known { self.new.known ≡ self.old.known }
+        ensures passed { result ≡ true →
+            (left_of transcript.now self.old ≡ line.now ++ left_of transcript.now self.new)
+            × (self.new.right ≡ self.old.right + 1) }
+        ensures still { result ≡ false → (self.new ≡ self.old)
+            × ¬ IsFrontOf (left_of transcript.now self.old) line.now }
+    {
+        if self.left(transcript).starts_with(line) {
+            self.pass(line.len());
+            true
+        } else {
+            false
+        }
+    }
+
     /// Holds the line that stands next against a command.
     fn hold_command(
+        &mut self,
+        alloc: Global,
+        market: &mut TreeMarket,
+        command: &CommandRef,
+        print: &mut LineBuffer,
+        transcript: &[u8],
+    ) -> Option<Result<Verdict, AuditFault>>
+        requires place { self.old.place ≤ length transcript.now }
+        requires count { self.old.right ≤ max_stream_lines }
+        requires known { IsAt market.old.market market.old.standing self.old }
+        requires command { IsCommand (command_of command.now) }
+        ensures market { market.new.market ≡ market.old.market }
+        ensures place { IfNone result (self.new.place ≤ length transcript.now) }
+        ensures count { IfNone result (self.new.right ≤ self.old.right + 1) }
+        ensures known { IfNone result (IsAt market.new.market market.new.standing self.new) }
+        ensures found { (line : StreamLine) → is_not_blank line ≡ true →
+            Asks line (OfCommand (command_of command.now)) →
+            Holds result market.old.market market.old.standing market.new.standing line
+            transcript.now self.old self.new }
+    {
+        if self.passes_price(market, command, print, transcript) {
+            None
+        } else {
+            self.hold_line(alloc, market, command, transcript)
+        }
+    }
+
+    /// Whether a price is asked that the market itself tells by the line that stands next, which is
+    /// passed then. Most prices are, and no judge has to be asked; of any other line this says
+    /// nothing.
+    fn passes_price(
+        &mut self,
+        market: &mut TreeMarket,
+        command: &CommandRef,
+        print: &mut LineBuffer,
+        transcript: &[u8],
+    ) -> bool
+        requires place { self.old.place ≤ length transcript.now }
+        requires count { self.old.right ≤ max_stream_lines }
+        requires known { IsAt market.old.market market.old.standing self.old }
+        ensures market { market.new.market ≡ market.old.market }
+        ensures standing { market.new.standing ≡ market.old.standing }
+        ensures place { self.new.place ≤ length transcript.now }
+        ensures count { self.new.right ≤ self.old.right + 1 }
+        ensures known { self.new.known ≡ self.old.known }
+        ensures passed { result ≡ true → (line : StreamLine) → is_not_blank line ≡ true →
+            Asks line (OfCommand (command_of command.now)) →
+            Holds None market.old.market market.old.standing market.new.standing line
+            transcript.now self.old self.new }
+        ensures still { result ≡ false → self.new ≡ self.old }
+    {
+        if print_plain_price(market, command, print) {
+            self.passes(print.as_bytes(), transcript)
+        } else {
+            false
+        }
+    }
+
+    /// Holds the line that stands next against a command, by what a judge says of the reply.
+    fn hold_line(
         &mut self,
         alloc: Global,
         market: &mut TreeMarket,

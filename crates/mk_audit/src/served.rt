@@ -7,7 +7,7 @@ ghost use Rattle.mk_file.specs.declared.fault.FileFault.{FileFault};
 ghost use Rattle.mk_file.specs.MarketOf.{market_of};
 ghost use Rattle.mk_tree.specs.Checked.{IsTreeOf};
 ghost use Rattle.mk_session.specs.Complete.{AreWithin};
-ghost use Rattle.mk_session.specs.Outcome.{Adds, Refuses, IsTurnedAway, HasCauses};
+ghost use Rattle.mk_session.specs.Outcome.{Adds, IsTurnedAway, HasCauses};
 ghost use Rattle.mk_audit.specs.AuditOutcome.{AuditOutcome, AuditsTo, EndsAudit};
 ghost use Rattle.mk_audit.specs.AuditOutcome.{verdict_line, long_line};
 ghost use Rattle.mk_audit.specs.inner.Telling.{Says};
@@ -15,7 +15,7 @@ ghost use Rattle.mk_audit.specs.inner.Telling.{Says};
 use crate::auditing::audit;
 use crate::verdict::{AuditFault, Verdict};
 use arrayvec::ArrayString;
-use mk_file::{FileFault, MarketFile, read_market};
+use mk_file::{MarketFile, read_market};
 use mk_io::{Inputs, Sink, Status, write_all};
 use mk_session::{LoadFault, load, load_within, refuse};
 use mk_text::put_number;
@@ -95,23 +95,8 @@ fn audit_bytes<I: Inputs, S: Sink>(
     let read = read_market(alloc, bytes.as_slice());
     drop(bytes);
     match read {
-        Err(fault) => refuse_file(fault, out),
+        Err(fault) => refuse(fault, out),
         Ok(file) => audit_file(alloc, file, transcript, inputs, out),
-    }
-}
-
-/// Writes the one line of a refused market file. Want of memory has none.
-fn refuse_file<S: Sink>(fault: FileFault, out: &mut S) -> Status
-    ensures output { ((result ≡ Status.Memory) × (S.written out.new ≡ S.written out.old))
-        ⊎ ((fault ≢ FileFault.Memory)
-        × Adds (S.written out.old) (S.written out.new) (Refuses result fault)) }
-    ensures causes { (inputs : ℕ) → HasCauses result inputs inputs
-        (S.faults out.old) (S.faults out.new) }
-    ensures not_usage { result ≢ Status.Usage }
-{
-    match fault {
-        FileFault::Memory => Status::Memory,
-        _ => refuse(fault, out),
     }
 }
 

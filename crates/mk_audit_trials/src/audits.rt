@@ -232,15 +232,28 @@ fn transcripts_of_a_coin(rt: HostRuntime) -> Result<(), Fail> {
     Ok(())
 }
 
-#[test]
-fn transcript_of_a_sample(rt: HostRuntime) -> Result<(), Fail> {
-    let sample = sample(rt.alloc(), 200)?;
+/// How many questions a sample has whose transcript is audited.
+const SAMPLES: [u32; 10] = [2, 3, 4, 5, 7, 12, 40, 128, 200, 256];
+
+/// What is said of the transcript of a sample with so many questions.
+fn said_of_sample(rt: &impl Abort, alloc: Global, questions: u32) -> Result<Vec<u8>, Fail> {
+    assert!(rt; 2 <= questions && questions <= 256);
+    let sample = sample(alloc, questions)?;
     let file = sample.file.bytes();
     let commands = sample.commands.bytes();
-    let transcript = transcript_of(&rt, rt.alloc(), file, commands)?;
-    let said = audited(&rt, rt.alloc(), file, commands, &transcript)?;
-    assert!(rt; &said[..] == b"audit yes 718\n".as_slice());
-    drop(said);
+    let transcript = transcript_of(rt, alloc, file, commands)?;
+    let said = audited(rt, alloc, file, commands, &transcript)?;
     drop(transcript);
+    Ok(said)
+}
+
+#[test]
+fn transcripts_of_samples(rt: HostRuntime) -> Result<(), Fail> {
+    for questions in SAMPLES {
+        let said = said_of_sample(&rt, rt.alloc(), questions)?;
+        assert!(rt; said.starts_with(b"audit yes "), "{questions}");
+        assert!(rt; questions != 200 || &said[..] == b"audit yes 718\n".as_slice());
+        drop(said);
+    }
     Ok(())
 }

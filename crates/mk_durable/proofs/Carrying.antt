@@ -32,7 +32,7 @@ use Rattle.mk_rules.specs.Transcript.{Standing}
 use Rattle.mk_rules.proofs.Ready.{unquoted_is_ready}
 use Rattle.mk_restore.specs.Laws.{IsSafe}
 use Rattle.mk_session.specs.Complete.{AreWithin}
-use Rattle.mk_session.specs.Outcome.{Adds, Refuses, Ends, Serves, IsServed, EndsRun, HasCauses}
+use Rattle.mk_session.specs.Outcome.{Adds, Refuses, Serves, IsServed, EndsRun, HasCauses}
 use Rattle.mk_session.specs.Outcome.{HasKeepCauses}
 use Rattle.mk_session.proofs.Completing.{past_limits}
 use Rattle.mk_durable.specs.declared.fault.ResumeFault.{ResumeFault}
@@ -541,16 +541,6 @@ refused_file status fault named bytes before written (inr said) refused given =
   where
     same_fault : (g : Result Market FileFault) → g ≡ Err fault → g ≡ Err named → fault ≡ named
     same_fault g first second = cc
-
--- what is written of a refused file, of which no command is read
-pub refused_alone : (status : Status) (fault : FileFault) (before written : Option (List ℕ))
-    → Adds before written (Ends status (Err fault) [] [])
-    → Adds before written (Refuses status fault)
-refused_alone status fault before written said = record {
-  bytes = said.bytes;
-  added = said.added;
-  holds = said.holds.0;
-}
 
 pub stopped_silent : (status : Status) (market : Market) (file stored all : List ℕ)
     (source before written : Option (List ℕ)) → (status ≡ Memory) × (written ≡ before)

@@ -25,7 +25,7 @@ use crate::fault::{ResumeFault, StoreFault};
 use crate::opening::resume;
 use arrayvec::ArrayString;
 use mk_disk::Disk;
-use mk_file::{FileFault, MarketFile, read_market};
+use mk_file::{MarketFile, read_market};
 use mk_io::{Inputs, Sink, Status, write_all};
 use mk_journal::{Group, header_of};
 use mk_net::NoMemory;
@@ -133,7 +133,7 @@ fn keep_bytes<I: Inputs, S: Sink, K: Disk>(
     ensures not_usage { result ≢ Status.Usage }
 {
     match read_market(alloc, bytes.as_slice()) {
-        Err(fault) => refuse_file(fault, out),
+        Err(fault) => refuse(fault, out),
         Ok(file) => match open_place(alloc, bytes, store, disk) {
             Ok(place) => keep_file(alloc, file, place, inputs, out, disk),
             Err(status) => {
@@ -142,21 +142,6 @@ fn keep_bytes<I: Inputs, S: Sink, K: Disk>(
                 status
             }
         },
-    }
-}
-
-/// Writes the one line of a refused market file. Want of memory has none.
-fn refuse_file<S: Sink>(fault: FileFault, out: &mut S) -> Status
-    ensures output { ((result ≡ Status.Memory) × (S.written out.new ≡ S.written out.old))
-        ⊎ ((fault ≢ FileFault.Memory)
-        × Adds (S.written out.old) (S.written out.new) (Refuses result fault)) }
-    ensures causes { (inputs : ℕ) → HasCauses result inputs inputs
-        (S.faults out.old) (S.faults out.new) }
-    ensures not_usage { result ≢ Status.Usage }
-{
-    match fault {
-        FileFault::Memory => Status::Memory,
-        _ => refuse(fault, out),
     }
 }
 

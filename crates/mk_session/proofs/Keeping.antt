@@ -24,7 +24,7 @@ use Rattle.mk_session.specs.Transcript.{Start}
 use Rattle.mk_session.specs.Left.{changes_from, AreTold, LeavesSince}
 use Rattle.mk_session.specs.inner.Keeping.{HoldsSince, Tells}
 use Rattle.mk_journal.specs.Keepers.{Holds}
-use Rattle.mk_journal.proofs.Replies.{still, same_list}
+use Rattle.mk_session.proofs.Spoken.{still}
 
 -- as many lines are asked as get replies
 pub same_number : (market : Market) (old new : Standing) (asked : List Line) (replies : List Reply)
@@ -268,6 +268,6 @@ left_since holds past passes leaves first least all fewer since left passed =
     let held = since.held in
     record {
       now = still leaves fewer held.kept held.waiting all all [] least held.parts held.no_fewer
-          (same_list all all refl) left;
+          (sym (append-nil all)) left;
       any_moment = subst (λ (l : List (List ℕ)). passes l first) (append-nil all) passed;
     }

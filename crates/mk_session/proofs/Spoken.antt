@@ -10,7 +10,6 @@ use Rattle.std.proofs.lemmas.List.Concat.{flat_map-cons}
 use Rattle.std.proofs.Math.Seq.{take-append_seam}
 use Rattle.mk_io.specs.Stream.{StreamLine, text, long, is_not_blank}
 use Rattle.mk_journal.specs.Keepers.{Holds}
-use Rattle.mk_journal.proofs.Replies.{still, same_list}
 use Rattle.mk_exact.specs.History.{Entry}
 use Rattle.mk_exact.specs.Market.{Market}
 use Rattle.mk_command.specs.declared.command.Command.{Command}
@@ -189,6 +188,18 @@ long_spoken market now all Q holds =
     (λ output records. Q output (all ++ records))
     (subst (λ (l : List (List ℕ)). Q (reply_line (Refused Long)) l) (sym (append-nil all)) holds)
 
+-- what is left of the changes that were held is left of more
+pub still : (P : List (List ℕ) → ℕ → Type 0)
+    → ((all more : List (List ℕ)) (least fewer : ℕ) → fewer ≤ least → P all least
+    → P (all ++ more) fewer)
+    → (kept waiting before after more : List (List ℕ)) (least : ℕ) → before ≡ kept ++ waiting
+    → least ≤ length kept → after ≡ before ++ more → P (kept ++ waiting) (length kept)
+    → P after least
+still P fewer kept waiting before after more least parts enough longer p =
+    subst (λ (l : List (List ℕ)). P l least)
+    (sym (longer ∙ ap (λ (l : List (List ℕ)). l ++ more) parts))
+    (fewer (kept ++ waiting) more (length kept) least enough p)
+
 -- what is held, a crash leaves
 pub left_as_held : (holds : List (List ℕ) → List (List ℕ) → Type 0)
     (leaves passes : List (List ℕ) → ℕ → Type 0)
@@ -202,7 +213,7 @@ left_as_held holds leaves passes fewer leave first least all since =
     let held = since.held in
     record {
       now = still leaves fewer held.kept held.waiting all all [] least held.parts held.no_fewer
-          (same_list all all refl) (leave held.kept held.waiting held.held);
+          (sym (append-nil all)) (leave held.kept held.waiting held.held);
       any_moment = since.passed;
     }
 

@@ -17,7 +17,7 @@ ghost use Rattle.mk_session.specs.Begins.{CanBegin};
 ghost use Rattle.mk_session.specs.Outcome.{IsServed, IsRunFrom, HasKeepCauses, EndsRun};
 ghost use Rattle.mk_session.specs.Left.{LeavesSince, IsLeft};
 ghost use Rattle.mk_session.specs.inner.Progress.{Gathers, AreGathered, IsReady, IsSoFar};
-ghost use Rattle.mk_session.specs.inner.Progress.{IsBegun, IsEnded, IsSoundAt, IsPrinted};
+ghost use Rattle.mk_session.specs.inner.Progress.{IsBegun, IsEnded, IsSoundAt, IsPrinted, IsPriced};
 ghost use Rattle.mk_session.specs.inner.Telling.{HasTellCause, CountsNoFault, ended_by};
 ghost use Rattle.mk_session.specs.inner.Keeping.{IsSpoken, AreSpoken, Tells, SpeaksAndTells};
 ghost use Rattle.mk_session.specs.inner.Keeping.{HoldsSince, IsHeldSoFar};
@@ -34,7 +34,7 @@ use mk_reply::{Refusal, Reply};
 use std::alloc::Global;
 
 /// Whether a line holds no byte but spaces.
-pub(crate) fn is_blank(line: &[u8]) -> bool
+pub fn is_blank(line: &[u8]) -> bool
     ensures { result ≡ list_all (λ b. b == 32) line.now }
 {
     line.iter().all(|byte| *byte == b' ')
@@ -86,9 +86,34 @@ fn print_answer(
     }
 }
 
-/// Puts the line of the reply to a command into `print`, in place of what it held.
+/// Puts the line of the price of a question that has no condition, and that nothing refuses, into
+/// `print`, in place of what it held. False of any other command, which leaves the market as it
+/// was.
 ///
-/// A price without a condition is the cheapest command, and is tried before all others.
+/// It is the cheapest command, and is tried before all others.
+#[inline(always)]
+pub fn print_plain_price(
+    market: &mut TreeMarket,
+    command: &CommandRef,
+    print: &mut LineBuffer,
+) -> bool
+    ensures priced { result ≡ true →
+        IsPriced market.old market.new (command_of command.now) print.new.bytes }
+    ensures unpriced { result ≡ false → market.new ≡ market.old }
+{
+    let CommandRef::Price { question } = command else {
+        return false;
+    };
+    match market.plain_price(question) {
+        Some((low, high)) => {
+            print_reply_line(&Reply::Price { low, high }, print);
+            true
+        }
+        None => false,
+    }
+}
+
+/// Puts the line of the reply to a command into `print`, in place of what it held.
 fn print_answer_to(
     alloc: Global,
     market: &mut TreeMarket,
@@ -97,10 +122,8 @@ fn print_answer_to(
 )
     ensures { IsPrinted market.old market.new (command_of command.now) print.new.bytes }
 {
-    if let CommandRef::Price { question } = command {
-        if let Some((low, high)) = market.plain_price(question) {
-            return print_reply_line(&Reply::Price { low, high }, print);
-        }
+    if print_plain_price(market, command, print) {
+        return;
     }
     print_applied(alloc, market, command, print)
 }

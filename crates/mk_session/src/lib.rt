@@ -12,7 +12,7 @@ mod quiet;
 mod run;
 mod waiting;
 
-pub use answer::{Kept, serve_from};
+pub use answer::{Kept, is_blank, print_plain_price, serve_from};
 pub use counting::tally;
 pub use counts::{Tally, TallyFault};
 pub use laws::ends_safely;

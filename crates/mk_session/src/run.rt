@@ -11,7 +11,7 @@ ghost use Rattle.mk_rules.specs.Standings.{IsMarket};
 ghost use Rattle.mk_rules.specs.Transcript.{opening};
 ghost use Rattle.mk_file.specs.declared.fault.FileFault.{FileFault};
 ghost use Rattle.mk_session.specs.Outcome.{Adds, Ends, Opened, Outcome, IsTurnedAway, HasCauses};
-ghost use Rattle.mk_session.specs.Outcome.{IsRunTo, IsHandedBack, status_of};
+ghost use Rattle.mk_session.specs.Outcome.{Refuses, IsRunTo, IsHandedBack, status_of};
 ghost use Rattle.mk_session.specs.Complete.{AreWithin};
 ghost use Rattle.mk_session.specs.Opening.{opened_part, IsTakenWithin, IsPartRead, IsReadWithin};
 ghost use Rattle.mk_session.specs.Opening.{HasLoadCause};
@@ -204,8 +204,11 @@ fn run_bytes<I: Inputs, S: Sink>(
     }
 }
 
-/// Writes the one line of a refused file, unless memory was wanting.
+/// Writes the one line of a refused file. Want of memory has none.
 pub fn refuse<S: Sink>(fault: FileFault, out: &mut S) -> Status
+    ensures line { ((result ≡ Status.Memory) × (S.written out.new ≡ S.written out.old))
+        ⊎ ((fault ≢ FileFault.Memory)
+        × Adds (S.written out.old) (S.written out.new) (Refuses result fault)) }
     ensures output { (given : Result Market FileFault) (all : List ℕ) →
         (fault ≢ FileFault.Memory → given ≡ Err fault) →
         Adds (S.written out.old) (S.written out.new) (Ends result given all all) }

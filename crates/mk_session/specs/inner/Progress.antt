@@ -9,8 +9,11 @@ use Rattle.mk_io.specs.Cutting.{Cutting, HoldsLine, stream_left}
 use Rattle.mk_exact.specs.Market.{Market, network_of}
 use Rattle.mk_exact.specs.Sound.{IsSound}
 use Rattle.mk_rules.specs.Transcript.{Standing}
+use Rattle.mk_net.specs.declared.words.QuestionText.{QuestionText}
 use Rattle.mk_command.specs.declared.command.Command.{Command}
+use Rattle.mk_command.specs.declared.command.Command.TheVariants.{Price}
 use Rattle.mk_reply.specs.declared.reply.Reply.{Reply}
+use Rattle.mk_reply.specs.declared.reply.Reply.TheVariants.{Price as Priced}
 use Rattle.mk_market.specs.Trading.{Trading, IsAnswered}
 use Rattle.mk_session.specs.Texts.{reply_line}
 use Rattle.mk_session.specs.Transcript.{Start, AreAnswered}
@@ -34,6 +37,15 @@ pub record IsPrinted (old new : Trading) (command : Command) (line : List ℕ) :
   pub reply : Reply
   pub answered : IsAnswered old new command reply
   pub printed : line ≡ reply_line reply
+
+-- a market told the price of a question, and this is the line
+pub record IsPriced (old new : Trading) (command : Command) (line : List ℕ) : Type 0 where
+  pub question : QuestionText
+  pub low : ℕ
+  pub high : ℕ
+  pub asked : command ≡ Price question
+  pub answered : IsAnswered old new (Price question) (Priced low high)
+  pub printed : line ≡ reply_line (Priced low high)
 
 -- some lines are answered, once the history before them is sound, and their answers are written or
 -- wait

@@ -9,24 +9,24 @@ use Rattle.mk_audit.proofs.served.audit_bytes.Goals as goal
 
 pub returns-in-Err-clause-outcome : goal.returns-in-Err-clause-outcome
 returns-in-Err-clause-outcome g c = λ text all told_text told_all.
-    told_refused c.refuse_file.result c.in-Err.fault (file_of c.args.bytes.items) all text
-    (g.S.Sink.written c.args.out.now) (g.S.Sink.written c.refuse_file.new.out)
-    c.refuse_file.ensures.output
+    told_refused c.refuse.result c.in-Err.fault (file_of c.args.bytes.items) all text
+    (g.S.Sink.written c.args.out.now) (g.S.Sink.written c.refuse.new.out)
+    c.refuse.ensures.line
     (λ known. ap file_of (sym c.as_slice.ensures.value) ∙ c.in-Err.ensures.refused known)
 
 pub returns-in-Err-clause-refused : goal.returns-in-Err-clause-refused
 returns-in-Err-clause-refused g c = λ fault given.
-    turned_refused c.refuse_file.result c.in-Err.fault fault (file_of c.args.bytes.items)
+    turned_refused c.refuse.result c.in-Err.fault fault (file_of c.args.bytes.items)
     (g.I.Inputs.commands c.args.inputs.now)
-    (g.S.Sink.written c.args.out.now) (g.S.Sink.written c.refuse_file.new.out)
-    c.refuse_file.ensures.output
+    (g.S.Sink.written c.args.out.now) (g.S.Sink.written c.refuse.new.out)
+    c.refuse.ensures.line
     (λ known. ap file_of (sym c.as_slice.ensures.value) ∙ c.in-Err.ensures.refused known) given
 
 pub returns-in-Err-clause-complete : goal.returns-in-Err-clause-complete
 returns-in-Err-clause-complete g c = λ all told_all ok within inputs_steady sink_steady.
-    accepted_wants c.refuse_file.result c.in-Err.fault (file_of c.args.bytes.items)
-    (g.S.Sink.written c.args.out.now) (g.S.Sink.written c.refuse_file.new.out)
-    c.refuse_file.ensures.output
+    accepted_wants c.refuse.result c.in-Err.fault (file_of c.args.bytes.items)
+    (g.S.Sink.written c.args.out.now) (g.S.Sink.written c.refuse.new.out)
+    c.refuse.ensures.line
     (λ known. ap file_of (sym c.as_slice.ensures.value) ∙ c.in-Err.ensures.refused known) ok
 
 pub returns-in-Ok-clause-outcome : goal.returns-in-Ok-clause-outcome

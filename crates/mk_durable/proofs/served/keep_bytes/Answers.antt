@@ -14,21 +14,21 @@ use Rattle.mk_durable.proofs.served.keep_bytes.Goals as goal
 
 pub returns-in-Err-clause-outcome : goal.returns-in-Err-clause-outcome
 returns-in-Err-clause-outcome g c = λ market stored all given told_all told_file sound.
-    stopped_silent c.refuse_file.result market c.args.bytes.items stored all
+    stopped_silent c.refuse.result market c.args.bytes.items stored all
     (g.I.Inputs.commands c.args.inputs.now) (g.S.Sink.written c.args.out.now)
-    (g.S.Sink.written c.refuse_file.new.out)
-    (wants_for_file c.refuse_file.result c.in-Err.fault market c.args.bytes.items
-    (g.S.Sink.written c.args.out.now) (g.S.Sink.written c.refuse_file.new.out)
-    c.refuse_file.ensures.output
+    (g.S.Sink.written c.refuse.new.out)
+    (wants_for_file c.refuse.result c.in-Err.fault market c.args.bytes.items
+    (g.S.Sink.written c.args.out.now) (g.S.Sink.written c.refuse.new.out)
+    c.refuse.ensures.line
     (λ known. ap file_of (sym c.as_slice.ensures.value) ∙ c.in-Err.ensures.refused known) given)
     told_all
 
 pub returns-in-Err-clause-kept : goal.returns-in-Err-clause-kept
 returns-in-Err-clause-kept g c = λ market stored all given told_all told_file honest.
     inl (
-      (wants_for_file c.refuse_file.result c.in-Err.fault market c.args.bytes.items
-          (g.S.Sink.written c.args.out.now) (g.S.Sink.written c.refuse_file.new.out)
-          c.refuse_file.ensures.output
+      (wants_for_file c.refuse.result c.in-Err.fault market c.args.bytes.items
+          (g.S.Sink.written c.args.out.now) (g.S.Sink.written c.refuse.new.out)
+          c.refuse.ensures.line
           (λ known. ap file_of (sym c.as_slice.ensures.value) ∙ c.in-Err.ensures.refused known)
           given).1,
       started (λ d left. inl (g.met.K.Disk.only_now c.args.disk.now c.args.store.now d left)),
@@ -36,9 +36,9 @@ returns-in-Err-clause-kept g c = λ market stored all given told_all told_file h
 
 pub returns-in-Err-clause-refused : goal.returns-in-Err-clause-refused
 returns-in-Err-clause-refused g c = λ fault given. (
-  refused_file c.refuse_file.result c.in-Err.fault fault c.args.bytes.items
-      (g.S.Sink.written c.args.out.now) (g.S.Sink.written c.refuse_file.new.out)
-      c.refuse_file.ensures.output
+  refused_file c.refuse.result c.in-Err.fault fault c.args.bytes.items
+      (g.S.Sink.written c.args.out.now) (g.S.Sink.written c.refuse.new.out)
+      c.refuse.ensures.line
       (λ known. ap file_of (sym c.as_slice.ensures.value) ∙ c.in-Err.ensures.refused known) given,
   refl,
   refl,
@@ -47,17 +47,17 @@ returns-in-Err-clause-refused g c = λ fault given. (
 pub returns-in-Err-clause-complete : goal.returns-in-Err-clause-complete
 returns-in-Err-clause-complete g c = λ market stored all given told_all told_file honest within
     disk_steady inputs_steady sink_steady.
-    inr (wants_for_file c.refuse_file.result c.in-Err.fault market c.args.bytes.items
-    (g.S.Sink.written c.args.out.now) (g.S.Sink.written c.refuse_file.new.out)
-    c.refuse_file.ensures.output
+    inr (wants_for_file c.refuse.result c.in-Err.fault market c.args.bytes.items
+    (g.S.Sink.written c.args.out.now) (g.S.Sink.written c.refuse.new.out)
+    c.refuse.ensures.line
     (λ known. ap file_of (sym c.as_slice.ensures.value) ∙ c.in-Err.ensures.refused known) given).0
 
 pub returns-in-Err-clause-causes : goal.returns-in-Err-clause-causes
 returns-in-Err-clause-causes g c =
-    causes_alone c.refuse_file.result (g.K.Disk.faults c.args.disk.now)
+    causes_alone c.refuse.result (g.K.Disk.faults c.args.disk.now)
     (g.I.Inputs.faults c.args.inputs.now) (g.I.Inputs.faults c.args.inputs.now)
-    (g.S.Sink.faults c.args.out.now) (g.S.Sink.faults c.refuse_file.new.out)
-    (c.refuse_file.ensures.causes (g.I.Inputs.faults c.args.inputs.now))
+    (g.S.Sink.faults c.args.out.now) (g.S.Sink.faults c.refuse.new.out)
+    (c.refuse.ensures.causes (g.I.Inputs.faults c.args.inputs.now))
 
 pub returns-in-Ok-open_place-clause-outcome : goal.returns-in-Ok-open_place-clause-outcome
 returns-in-Ok-open_place-clause-outcome g c = λ market stored all given told_all told_file sound.

@@ -1,28 +1,16 @@
-use Rattle.std.proofs.Common.{◌≡◌, ℕ, List, ◌++◌, length, drop, subst, ◌∙◌, ap, Ok}
-use Rattle.std.proofs.lemmas.Bool.Decides.{Decides-eqb}
-use Rattle.std.proofs.lemmas.Slice.Eq.{starts_is}
+use Rattle.std.proofs.Common.{ap, ◌∙◌, ◌+◌, Ok}
+use Rattle.mk_audit.specs.declared.front.Front.{Front}
 use Rattle.mk_audit.specs.declared.verdict.Verdict.{Verdict}
-use Rattle.mk_audit.specs.inner.Progress.{left_of}
-use Rattle.mk_audit.proofs.Found.{bytes_passed, not_front}
+use Rattle.mk_audit.specs.declared.verdict.Verdict.TheVariants.{No}
 use Rattle.mk_audit.proofs.front.Front.hold_bytes.Goals as goal
 
-pub returns-then-starts_with-clause-found : goal.returns-then-starts_with-clause-found
-returns-then-starts_with-clause-found c =
-    let line = c.args.line.now in
-    let test = starts_is Decides-eqb c.left.result.now line c.starts_with.result
-    c.starts_with.ensures.value in (
-      bytes_passed c.args.transcript.now line c.args.self.now c.pass.new.self
-          (subst (λ (left : List ℕ). left ≡ line ++ drop (length line) left) c.left.ensures
-          (test.0 c.if-starts_with.true)) c.pass.ensures.place,
-      c.pass.ensures.count,
-    )
+pub returns-then-passes-clause-found : goal.returns-then-passes-clause-found
+returns-then-passes-clause-found c = c.passes.ensures.passed c.if-passes.true
 
-pub returns-else-starts_with-clause-found : goal.returns-else-starts_with-clause-found
-returns-else-starts_with-clause-found c =
-    let line = c.args.line.now in
-    let test = starts_is Decides-eqb c.left.result.now line c.starts_with.result
-    c.starts_with.ensures.value in (
-      ap (λ (v : Verdict). Ok v) c.wrong.ensures,
-      not_front (left_of c.args.transcript.now c.args.self.now) line c.starts_with.result
-          (λ rest front. test.1 rest (c.left.ensures ∙ front)) c.if-starts_with.false,
+pub returns-else-passes-clause-found : goal.returns-else-passes-clause-found
+returns-else-passes-clause-found c =
+    let still = c.passes.ensures.still c.if-passes.false in (
+      ap (λ (v : Verdict). Ok v)
+          (c.wrong.ensures ∙ ap (λ (f : Front). No (f.right + 1)) still.0),
+      still.1,
     )
