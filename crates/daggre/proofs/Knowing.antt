@@ -11,7 +11,7 @@ use Rattle.mk_net.specs.declared.words.PairText.{PairText}
 use Rattle.mk_net.specs.Network.{Variable}
 use Rattle.mk_net.specs.Named.{pair_named}
 use Rattle.mk_net.proofs.Named.{pair_variable_in_range, pair_value_in_range}
-use Rattle.mk_exact.specs.Proper.{IsPairOf}
+use Rattle.mk_states.specs.OfNetwork.{IsPairOf}
 use Rattle.mk_rules.specs.Refusals.{known_pairs}
 use Rattle.daggre.specs.declared.ask.Ask.{Ask}
 use Rattle.daggre.specs.declared.ask.Ask.TheVariants.{Chance}

@@ -4,7 +4,7 @@ ghost use Rattle.std.specs.Prelude.{◌≡◌, ◌+◌, ◌++◌, ◌<◌, ◌�
 ghost use Rattle.std.specs.Prelude.{slice_index};
 ghost use Rattle.arrayvec.specs.ArrayString.{array_string_len};
 ghost use Rattle.mk_net.specs.Network.{sizes};
-ghost use Rattle.mk_exact.specs.States.{IsState};
+ghost use Rattle.mk_states.specs.States.{IsState};
 ghost use Rattle.mk_engine.specs.Meaning.{ArePairsOf};
 ghost use Rattle.mk_rules.specs.Refusals.{known_pairs};
 ghost use Rattle.mk_rules.specs.Standings.{IsMarket};

@@ -7,15 +7,15 @@ use Rattle.mk_net.specs.Asked.{Asked}
 use Rattle.mk_net.specs.Bounds.{max_values}
 use Rattle.mk_net.specs.Events.{pairs_asked}
 use Rattle.mk_net.specs.Network.{Variable, sizes}
-use Rattle.mk_exact.specs.Events.{holds, with_target, without_target}
+use Rattle.mk_states.specs.Events.{holds, with_target, without_target}
 use Rattle.mk_exact.specs.Factors.{factor_with, least_gain}
 use Rattle.mk_exact.specs.History.{Entry}
-use Rattle.mk_exact.specs.InitialWeight.{all_states}
+use Rattle.mk_states.specs.InitialWeight.{all_states}
 use Rattle.mk_exact.specs.Limits.{Side}
 use Rattle.mk_exact.specs.Prices.{price_where}
 use Rattle.mk_exact.specs.Sides.{IsSide, AreSides}
 use Rattle.mk_exact.specs.Weight.{weight, total, is_possible, cannot_come, IsSmall}
-use Rattle.mk_exact.proofs.Positive.{few_values_at}
+use Rattle.mk_states.proofs.Shares.{few_values_at}
 use Rattle.mk_cell.specs.Least.{least}
 use Rattle.mk_tree.specs.Given.{GivenTree}
 use Rattle.mk_tree.specs.Held.{IsHeldAt}

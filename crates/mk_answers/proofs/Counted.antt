@@ -8,12 +8,12 @@ use Rattle.std.proofs.lemmas.Nat.{pow-add}
 use Rattle.mk_net.specs.Asked.{Asked}
 use Rattle.mk_net.specs.Bounds.{max_points_per_bit}
 use Rattle.mk_net.specs.Network.{Variable}
-use Rattle.mk_exact.specs.Events.{with_target}
+use Rattle.mk_states.specs.Events.{with_target}
 use Rattle.mk_exact.specs.Factors.{IsAtLeastOne, gain, least_by, factor_with}
 use Rattle.mk_exact.specs.Factors.{least_gain, trade_count}
 use Rattle.mk_exact.specs.History.{Entry, deposited, withdrawn}
 use Rattle.mk_exact.specs.Limits.{Side}
-use Rattle.mk_exact.specs.Ratios.{unit}
+use Rattle.mk_states.specs.Ratios.{unit}
 use Rattle.mk_exact.specs.Sides.{IsSide}
 use Rattle.mk_exact.specs.Sound.{IsSound}
 use Rattle.mk_exact.specs.Weight.{IsSmall, possible_states}

@@ -10,11 +10,11 @@ use Rattle.mk_net.specs.declared.words.Pair.{Pair}
 use Rattle.mk_net.specs.Bounds.{max_points_per_bit, max_values}
 use Rattle.mk_net.specs.Network.{Variable}
 use Rattle.mk_net.specs.Zeros.{with_zeros}
-use Rattle.mk_exact.specs.Events.{always}
+use Rattle.mk_states.specs.Events.{always}
 use Rattle.mk_exact.specs.Factors.{HoldsNoTrade, gain, factor_with, least_gain, trade_count}
 use Rattle.mk_exact.specs.History.{Entry, UserTrade, deposited, withdrawn, trades_of}
-use Rattle.mk_exact.specs.Ratios.{ratio_at}
-use Rattle.mk_exact.specs.States.{product_by}
+use Rattle.mk_states.specs.Ratios.{ratio_at}
+use Rattle.mk_states.specs.States.{product_by}
 use Rattle.mk_exact.specs.Weight.{IsSmall, possible_states}
 use Rattle.mk_exact.proofs.ExistMarkets.{least_gain_exists, of_least}
 use Rattle.mk_cell.specs.Least.{least}

@@ -6,7 +6,7 @@ use Rattle.mk_net.specs.declared.words.Pair.{Pair}
 use Rattle.mk_net.specs.Bounds.{million, number_limit}
 use Rattle.mk_net.specs.Network.{Variable}
 use Rattle.mk_exact.specs.History.{Entry}
-use Rattle.mk_exact.specs.InitialWeight.{initial_total}
+use Rattle.mk_states.specs.InitialWeight.{initial_total}
 use Rattle.mk_exact.specs.Risk.{least_weight, CoversBound}
 use Rattle.mk_exact.proofs.ExistNumbers.{power_of_power}
 use Rattle.mk_exact.proofs.Millions.{initial_total_is}

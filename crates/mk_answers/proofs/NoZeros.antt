@@ -9,17 +9,17 @@ use Rattle.mk_net.specs.Named.{nobody}
 use Rattle.mk_net.specs.Network.{Variable, sizes}
 use Rattle.mk_net.specs.Zeros.{with_zeros}
 use Rattle.mk_net.proofs.Events.{apart_longer, neither}
-use Rattle.mk_exact.specs.Events.{holds, has, with_target, without_target}
+use Rattle.mk_states.specs.Events.{holds, has, with_target, without_target}
 use Rattle.mk_exact.specs.History.{Entry, resolutions}
-use Rattle.mk_exact.specs.InitialWeight.{value_at}
+use Rattle.mk_states.specs.InitialWeight.{value_at}
 use Rattle.mk_exact.specs.Laws.{AgreesWith}
-use Rattle.mk_exact.specs.Proper.{IsPairOf}
+use Rattle.mk_states.specs.OfNetwork.{IsPairOf}
 use Rattle.mk_exact.specs.Weight.{possible_states, cannot_come, total}
 use Rattle.mk_exact.proofs.Coming.{comes_in, weight_of}
 use Rattle.mk_exact.proofs.ExistMarkets.{passing_stay}
-use Rattle.mk_exact.proofs.Positive.{size_at}
+use Rattle.mk_states.proofs.Shares.{size_at}
 use Rattle.mk_exact.proofs.Remains.{state_remains}
-use Rattle.mk_exact.proofs.Sums.{each-append, list_all-append}
+use Rattle.mk_states.proofs.Sums.{each-append, list_all-append}
 use Rattle.mk_exact.proofs.Zeros.{no_zeros}
 use Rattle.mk_tree.specs.Given.{GivenTree}
 use Rattle.mk_answers.specs.Open.{IsOpen, CanBeAnswered}

@@ -8,7 +8,7 @@ use Rattle.mk_net.specs.Events.{speaks_of, AreApart, IsEvent}
 use Rattle.mk_net.specs.Network.{Variable, IsNetwork}
 use Rattle.mk_net.proofs.Events.{same_place}
 use Rattle.mk_net.proofs.Taken.{any_at}
-use Rattle.mk_exact.specs.Events.{holds}
+use Rattle.mk_states.specs.Events.{holds}
 use Rattle.mk_exact.specs.History.{Entry}
 use Rattle.mk_exact.specs.Proper.{IsProper}
 use Rattle.mk_exact.specs.Weight.{cannot_come}

@@ -6,7 +6,7 @@ use Rattle.mk_net.specs.Asked.{Asked}
 use Rattle.mk_net.specs.Bounds.{max_values}
 use Rattle.mk_net.specs.Events.{pairs_asked}
 use Rattle.mk_net.specs.Network.{Variable}
-use Rattle.mk_exact.specs.Events.{holds, with_target}
+use Rattle.mk_states.specs.Events.{holds, with_target}
 use Rattle.mk_exact.specs.Factors.{least_gain}
 use Rattle.mk_exact.specs.History.{Entry, deposited, withdrawn}
 use Rattle.mk_cell.specs.Least.{least}

@@ -9,7 +9,7 @@ use Rattle.mk_net.specs.Bounds.{max_points_per_bit, max_values}
 use Rattle.mk_net.specs.Events.{pairs_asked}
 use Rattle.mk_net.specs.Network.{Variable, sizes}
 use Rattle.mk_exact.specs.Cash.{CoversCash}
-use Rattle.mk_exact.specs.Events.{holds, with_target}
+use Rattle.mk_states.specs.Events.{holds, with_target}
 use Rattle.mk_exact.specs.Existing.{IsInOrder}
 use Rattle.mk_exact.specs.Factors.{Fraction, HoldsNoTrade, gain, factor_with, least_gain}
 use Rattle.mk_exact.specs.Factors.{IsAtLeastOne}

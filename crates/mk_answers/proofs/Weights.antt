@@ -5,12 +5,12 @@ use Rattle.mk_net.specs.declared.words.Pair.{Pair}
 use Rattle.mk_net.specs.Asked.{Asked}
 use Rattle.mk_net.specs.Events.{pairs_asked}
 use Rattle.mk_net.specs.Network.{Variable, sizes}
-use Rattle.mk_exact.specs.Events.{holds, with_target, without_target}
+use Rattle.mk_states.specs.Events.{holds, with_target, without_target}
 use Rattle.mk_exact.specs.History.{Entry}
 use Rattle.mk_exact.specs.Weight.{total, IsSmall}
-use Rattle.mk_exact.specs.Proper.{IsPairOf, IsQuestionOf}
+use Rattle.mk_states.specs.OfNetwork.{IsPairOf, IsQuestionOf}
 use Rattle.mk_exact.specs.Prices.{exact_price, CoversPrice}
-use Rattle.mk_exact.proofs.Sums.{each-append}
+use Rattle.mk_states.proofs.Sums.{each-append}
 use Rattle.mk_tree.specs.Given.{GivenTree}
 use Rattle.mk_scaled.specs.Near.{near_more}
 use Rattle.mk_enclose.specs.declared.enclosure.Enclosure.{Enclosure}

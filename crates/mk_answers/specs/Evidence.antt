@@ -8,10 +8,10 @@ use Rattle.arrayvec.specs.ArrayVec.{ArrayVec}
 use Rattle.mk_net.specs.Asked.{Asked}
 use Rattle.mk_net.specs.Bounds.{max_points_per_bit, max_values, million}
 use Rattle.mk_net.specs.Network.{Variable}
-use Rattle.mk_exact.specs.Events.{holds, with_target}
+use Rattle.mk_states.specs.Events.{holds, with_target}
 use Rattle.mk_exact.specs.Factors.{factor_with, least_gain, trade_count}
 use Rattle.mk_exact.specs.History.{Entry}
-use Rattle.mk_exact.specs.InitialWeight.{initial_total}
+use Rattle.mk_states.specs.InitialWeight.{initial_total}
 use Rattle.mk_exact.specs.Limits.{Side}
 use Rattle.mk_exact.specs.Prices.{exact_price}
 use Rattle.mk_exact.specs.Risk.{least_weight}

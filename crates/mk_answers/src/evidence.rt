@@ -1,6 +1,6 @@
 //! What a judge of printed numbers asks: enclosures of the exact ones, before they are rounded.
 ghost use Rattle.std.specs.Prelude.{◌≡◌, ℕ, ◌+◌, ◌^◌, ◌≤◌, List, IfSome};
-ghost use Rattle.mk_exact.specs.Events.{with_target};
+ghost use Rattle.mk_states.specs.Events.{with_target};
 ghost use Rattle.mk_exact.specs.History.{Entry};
 ghost use Rattle.mk_exact.specs.Proper.{IsProper};
 ghost use Rattle.mk_tree.specs.Given.{GivenTree};

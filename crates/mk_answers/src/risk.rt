@@ -2,7 +2,7 @@
 ghost use Rattle.std.specs.Prelude.{ℕ, ◌<◌, ◌≤◌, List, IsSomeAnd};
 ghost use Rattle.mk_net.specs.Bounds.{max_points_per_bit, number_limit};
 ghost use Rattle.mk_exact.specs.History.{Entry};
-ghost use Rattle.mk_exact.specs.InitialWeight.{initial_total};
+ghost use Rattle.mk_states.specs.InitialWeight.{initial_total};
 ghost use Rattle.mk_exact.specs.Risk.{least_weight, CoversBound};
 ghost use Rattle.mk_tree.specs.Given.{GivenTree};
 ghost use Rattle.mk_engine.specs.Meaning.{Meaning};

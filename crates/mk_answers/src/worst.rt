@@ -3,7 +3,7 @@ ghost use Rattle.std.specs.Prelude.{◌≡◌, ℕ, ◌≤◌, List, Some};
 ghost use Rattle.mk_net.specs.Bounds.{max_points_per_bit};
 ghost use Rattle.mk_net.specs.Network.{Variable};
 ghost use Rattle.mk_exact.specs.Accepted.{Covers, IsMost};
-ghost use Rattle.mk_exact.specs.Events.{always};
+ghost use Rattle.mk_states.specs.Events.{always};
 ghost use Rattle.mk_exact.specs.Factors.{Fraction, HoldsNoTrade, IsAtLeastOne, factor_with};
 ghost use Rattle.mk_exact.specs.Factors.{least_gain};
 ghost use Rattle.mk_exact.specs.History.{Entry};

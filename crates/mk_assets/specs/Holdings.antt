@@ -7,7 +7,7 @@ use Rattle.mk_net.specs.Asked.{Asked, TradeRatio}
 use Rattle.mk_net.specs.Bounds.{max_transfers, max_transfer_bits, number_limit}
 use Rattle.mk_net.specs.Network.{Variable, IsNetwork}
 use Rattle.mk_net.specs.Zeros.{with_zeros}
-use Rattle.mk_exact.specs.Proper.{IsPairOf, IsRatioOf}
+use Rattle.mk_states.specs.OfNetwork.{IsPairOf, IsRatioOf}
 use Rattle.mk_enclose.specs.declared.factor.Factor.{Factor}
 use Rattle.mk_enclose.specs.Enclosure.{Encloses, IsExact}
 use Rattle.mk_enclose.specs.Factor.{paid_in, taken_out}

@@ -4,12 +4,12 @@ use Rattle.std.proofs.Math.Path.{fun_ext}
 use Rattle.mk_net.specs.Asked.{Asked}
 use Rattle.mk_net.specs.Events.{pairs_asked}
 use Rattle.mk_net.specs.Network.{sizes}
-use Rattle.mk_exact.specs.Lawful.{Lawful}
-use Rattle.mk_exact.specs.States.{states, numbers_below, plus_over, IsState}
-use Rattle.mk_exact.specs.InitialWeight.{value_at}
-use Rattle.mk_exact.specs.Events.{holds, has, with_target, without_target}
-use Rattle.mk_exact.proofs.Sums.{plus_over-filter, plus_over_at, plus_over_each, each_weaker}
-use Rattle.mk_exact.proofs.Listed.{states_are, value_below}
+use Rattle.mk_states.specs.Lawful.{Lawful}
+use Rattle.mk_states.specs.States.{states, numbers_below, plus_over, IsState}
+use Rattle.mk_states.specs.InitialWeight.{value_at}
+use Rattle.mk_states.specs.Events.{holds, has, with_target, without_target}
+use Rattle.mk_states.proofs.Sums.{plus_over-filter, plus_over_at, plus_over_each, each_weaker}
+use Rattle.mk_states.proofs.Listed.{states_are, value_below}
 use Rattle.mk_sums.proofs.States.{is_plus}
 use Rattle.mk_engine.specs.Meaning.{Meaning}
 use Rattle.mk_engine.specs.Cases.{exact_others}

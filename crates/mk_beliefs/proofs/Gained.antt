@@ -14,19 +14,21 @@ use Rattle.mk_net.specs.Network.{Variable, sizes, IsNetwork}
 use Rattle.mk_net.specs.Named.{variable_at}
 use Rattle.mk_net.specs.Zeros.{has_zero, with_zeros}
 use Rattle.mk_net.proofs.Events.{neither}
-use Rattle.mk_exact.specs.Lawful.{Lawful}
-use Rattle.mk_exact.specs.States.{states, numbers_below, plus_over, product_by, IsState}
-use Rattle.mk_exact.specs.InitialWeight.{all_states, can_come, value_at, row_number, entry, initial_weight}
-use Rattle.mk_exact.specs.Events.{holds, with_target, without_target, always}
-use Rattle.mk_exact.specs.Ratios.{ratio_at}
+use Rattle.mk_states.specs.Lawful.{Lawful}
+use Rattle.mk_states.specs.States.{states, numbers_below, plus_over, product_by, IsState}
+use Rattle.mk_states.specs.InitialWeight.{all_states, can_come, value_at, row_number, entry, initial_weight}
+use Rattle.mk_states.specs.Events.{holds, with_target, without_target, always}
+use Rattle.mk_states.specs.Ratios.{ratio_at}
 use Rattle.mk_exact.specs.History.{Entry, UserTrade, users, trades, trades_of}
 use Rattle.mk_exact.specs.Weight.{weight, is_possible, possible_states, IsSmall}
 use Rattle.mk_exact.specs.Factors.{gain, lesser, least_by, least_gain}
-use Rattle.mk_exact.specs.Proper.{IsProper, IsTradeOf, IsQuestionOf}
-use Rattle.mk_exact.proofs.Sums.{plus_over-map, plus_over_each, product_by-append, product_by_pos, sum_by_is, each_weaker, each_number}
+use Rattle.mk_states.specs.OfNetwork.{IsQuestionOf}
+use Rattle.mk_exact.specs.Proper.{IsProper, IsTradeOf}
+use Rattle.mk_states.proofs.Sums.{plus_over-map, plus_over_each, product_by-append, product_by_pos, sum_by_is, each_weaker, each_number}
 use Rattle.mk_exact.proofs.Single.{over_all}
-use Rattle.mk_exact.proofs.Listed.{states_are, all_can, all_are}
-use Rattle.mk_exact.proofs.Positive.{ratio_pos, row_number_below, value_below_row}
+use Rattle.mk_states.proofs.Listed.{states_are, all_can, all_are}
+use Rattle.mk_states.proofs.Shares.{row_number_below, value_below_row}
+use Rattle.mk_exact.proofs.Positive.{ratio_pos}
 use Rattle.mk_sums.specs.Lawful.{lesser_present}
 use Rattle.mk_sums.proofs.Lawfuls.{minima_lawful}
 use Rattle.mk_cell.specs.Least.{least, least-zero, least-at_zero, least-both}

@@ -8,7 +8,7 @@ use Rattle.mk_net.specs.declared.words.Pair.{Pair}
 use Rattle.mk_net.specs.Bounds.{max_market_trades}
 use Rattle.mk_net.specs.Network.{Variable, IsNetwork}
 use Rattle.mk_net.specs.Zeros.{has_zero, with_zeros}
-use Rattle.mk_exact.specs.States.{numbers_below}
+use Rattle.mk_states.specs.States.{numbers_below}
 use Rattle.mk_exact.specs.History.{Entry, Join, Deposit, Withdraw, Trade, Resolve, Settle, UserTrade, trade_in, resolution_in, users, trades, trades_of, resolutions}
 use Rattle.mk_exact.specs.Proper.{IsProper, IsTradeOf}
 use Rattle.mk_exact.proofs.After.{trades_kept, trades_more, resolutions_kept, resolutions_more, trades_of_kept, trades_of_more, trades_of_other}

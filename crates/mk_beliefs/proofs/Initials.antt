@@ -7,14 +7,14 @@ use Rattle.std.proofs.lemmas.List.FromFn.{length-map-range_with_len}
 use Rattle.mk_net.specs.declared.words.Pair.{Pair}
 use Rattle.mk_net.specs.Bounds.{number_limit, max_variables}
 use Rattle.mk_net.specs.Network.{Variable, sizes, IsNetwork}
-use Rattle.mk_exact.specs.States.{states, numbers_below, plus_over, IsState}
-use Rattle.mk_exact.specs.InitialWeight.{all_states, can_come, initial_weight, initial_total, value_at}
-use Rattle.mk_exact.specs.Events.{always}
+use Rattle.mk_states.specs.States.{states, numbers_below, plus_over, IsState}
+use Rattle.mk_states.specs.InitialWeight.{all_states, can_come, initial_weight, initial_total, value_at}
+use Rattle.mk_states.specs.Events.{always}
 use Rattle.mk_exact.specs.History.{Entry, Join, Deposit, Withdraw, Trade, Resolve, Settle}
 use Rattle.mk_exact.specs.Weight.{is_possible, possible_states}
 use Rattle.mk_exact.specs.Risk.{least_weight}
-use Rattle.mk_exact.proofs.Sums.{plus_over-map, each_weaker}
-use Rattle.mk_exact.proofs.Listed.{all_can}
+use Rattle.mk_states.proofs.Sums.{plus_over-map, each_weaker}
+use Rattle.mk_states.proofs.Listed.{all_can}
 use Rattle.mk_exact.proofs.Single.{over_all}
 use Rattle.mk_exact.proofs.After.{resolutions_kept, resolutions_more}
 use Rattle.mk_cell.specs.Least.{least}

@@ -3,10 +3,11 @@ use Rattle.std.proofs.Common.{◌≡◌, ℕ, ◌+◌, true, ◌↔◌, List, sl
 use Rattle.mk_net.specs.declared.words.Pair.{Pair}
 use Rattle.mk_net.specs.Asked.{Asked}
 use Rattle.mk_net.specs.Network.{Variable, sizes, IsNetwork}
-use Rattle.mk_exact.specs.Events.{holds, without_target}
+use Rattle.mk_states.specs.Events.{holds, without_target}
 use Rattle.mk_exact.specs.History.{Entry}
 use Rattle.mk_exact.specs.Weight.{total, cannot_come}
-use Rattle.mk_exact.specs.Proper.{IsProper, IsQuestionOf}
+use Rattle.mk_states.specs.OfNetwork.{IsQuestionOf}
+use Rattle.mk_exact.specs.Proper.{IsProper}
 use Rattle.mk_exact.proofs.Coming.{no_weight_of, never_by_weight}
 use Rattle.mk_tree.specs.Given.{GivenTree}
 use Rattle.mk_engine.specs.Meaning.{exact_belief}

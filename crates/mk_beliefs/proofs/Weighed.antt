@@ -8,14 +8,14 @@ use Rattle.mk_net.specs.Asked.{Asked}
 use Rattle.mk_net.specs.Bounds.{number_limit}
 use Rattle.mk_net.specs.Events.{pairs_asked}
 use Rattle.mk_net.specs.Network.{Variable, sizes}
-use Rattle.mk_exact.specs.States.{states, numbers_below, plus_over, product_by}
-use Rattle.mk_exact.specs.InitialWeight.{all_states, can_come, initial_weight, value_at}
-use Rattle.mk_exact.specs.Ratios.{ratio_at}
-use Rattle.mk_exact.specs.Events.{holds, with_target, without_target}
+use Rattle.mk_states.specs.States.{states, numbers_below, plus_over, product_by}
+use Rattle.mk_states.specs.InitialWeight.{all_states, can_come, initial_weight, value_at}
+use Rattle.mk_states.specs.Ratios.{ratio_at}
+use Rattle.mk_states.specs.Events.{holds, with_target, without_target}
 use Rattle.mk_exact.specs.History.{Entry, UserTrade, trades}
 use Rattle.mk_exact.specs.Weight.{weight, total, is_possible, possible_states, IsSmall}
-use Rattle.mk_exact.specs.Proper.{IsQuestionOf}
-use Rattle.mk_exact.proofs.Sums.{product_by-append, plus_over-map, sum_by_is}
+use Rattle.mk_states.specs.OfNetwork.{IsQuestionOf}
+use Rattle.mk_states.proofs.Sums.{product_by-append, plus_over-map, sum_by_is}
 use Rattle.mk_exact.proofs.Totals.{total_condition}
 use Rattle.mk_exact.proofs.Single.{over_all}
 use Rattle.mk_sums.proofs.Grades.{sums_lawful}

@@ -6,14 +6,15 @@ use Rattle.mk_net.specs.Bounds.{number_limit, max_variables, max_market_trades}
 use Rattle.mk_net.specs.Events.{pairs_asked}
 use Rattle.mk_net.specs.Network.{Variable, IsNetwork, sizes}
 use Rattle.mk_net.specs.Zeros.{with_zeros}
-use Rattle.mk_exact.specs.States.{numbers_below}
-use Rattle.mk_exact.specs.InitialWeight.{all_states, initial_total}
-use Rattle.mk_exact.specs.Events.{holds, with_target, without_target, always}
+use Rattle.mk_states.specs.States.{numbers_below}
+use Rattle.mk_states.specs.InitialWeight.{all_states, initial_total}
+use Rattle.mk_states.specs.Events.{holds, with_target, without_target, always}
 use Rattle.mk_exact.specs.History.{Entry, users, trades, resolutions}
 use Rattle.mk_exact.specs.Weight.{weight, total, cannot_come, IsSmall}
 use Rattle.mk_exact.specs.Factors.{least_gain}
 use Rattle.mk_exact.specs.Risk.{least_weight}
-use Rattle.mk_exact.specs.Proper.{IsProper, IsQuestionOf}
+use Rattle.mk_states.specs.OfNetwork.{IsQuestionOf}
+use Rattle.mk_exact.specs.Proper.{IsProper}
 use Rattle.mk_cell.specs.Least.{least}
 use Rattle.mk_tree.specs.Given.{GivenTree}
 use Rattle.mk_engine.specs.Meaning.{RowsOf, SupportOf, exact_belief, whole_sum, max_factors}

@@ -2,7 +2,7 @@
 use Rattle.std.specs.Prelude.{ℕ, zero, suc, List, ◌++◌, map, length, if◌then◌else◌, ◌==◌, Option, Some, None}
 use Rattle.mk_net.specs.Network.{Variable}
 use Rattle.mk_net.specs.Zeros.{with_zeros}
-use Rattle.mk_exact.specs.States.{numbers_below}
+use Rattle.mk_states.specs.States.{numbers_below}
 use Rattle.mk_exact.specs.History.{Entry, Trade, Resolve, UserTrade, trades, trades_of, resolutions}
 use Rattle.mk_tree.specs.Given.{GivenTree}
 use Rattle.mk_engine.specs.Meaning.{Meaning, RowsOf, SupportOf, RatioOf, with_factor, with_known}

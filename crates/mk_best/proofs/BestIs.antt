@@ -8,15 +8,16 @@ use Rattle.std.proofs.lemmas.Bool.{cases_lt}
 use Rattle.std.proofs.Math.Nat.{le_of_mul-le-mul_right}
 use Rattle.mk_net.specs.declared.words.Pair.{Pair}
 use Rattle.mk_net.specs.Network.{Variable, IsNetwork, sizes}
-use Rattle.mk_exact.specs.Events.{holds, always}
+use Rattle.mk_states.specs.Events.{holds, always}
 use Rattle.mk_exact.specs.History.{Entry}
-use Rattle.mk_exact.specs.InitialWeight.{can_come, value_at}
+use Rattle.mk_states.specs.InitialWeight.{can_come, value_at}
 use Rattle.mk_exact.specs.Prices.{CoversPrice}
-use Rattle.mk_exact.specs.Proper.{IsPairOf, IsProper}
-use Rattle.mk_exact.specs.States.{IsState}
+use Rattle.mk_states.specs.OfNetwork.{IsPairOf}
+use Rattle.mk_exact.specs.Proper.{IsProper}
+use Rattle.mk_states.specs.States.{IsState}
 use Rattle.mk_exact.specs.Weight.{IsSmall, weight, total, is_possible, possible_states}
-use Rattle.mk_exact.proofs.Listed.{as_many}
-use Rattle.mk_exact.proofs.Sums.{sum_by_is}
+use Rattle.mk_states.proofs.Listed.{as_many}
+use Rattle.mk_states.proofs.Sums.{sum_by_is}
 use Rattle.mk_sums.proofs.Grades.{sums_lawful}
 use Rattle.mk_scaled.specs.Near.{IsNear, near_more}
 use Rattle.mk_enclose.specs.declared.enclosure.Enclosure.{Enclosure}

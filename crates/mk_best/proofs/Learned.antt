@@ -9,14 +9,14 @@ use Rattle.std.proofs.lemmas.List.{map-append, take_more}
 use Rattle.std.proofs.lemmas.List.Elements.{filter_map-append}
 use Rattle.mk_net.specs.declared.words.Pair.{Pair}
 use Rattle.mk_net.specs.Network.{Variable}
-use Rattle.mk_exact.specs.Events.{has, holds, always}
+use Rattle.mk_states.specs.Events.{has, holds, always}
 use Rattle.mk_exact.specs.History.{Entry, Resolve, UserTrade, trade_in, resolution_in, trades}
 use Rattle.mk_exact.specs.History.{resolutions}
-use Rattle.mk_exact.specs.InitialWeight.{all_states, initial_weight}
-use Rattle.mk_exact.specs.Ratios.{ratio_at}
-use Rattle.mk_exact.specs.States.{product_by}
+use Rattle.mk_states.specs.InitialWeight.{all_states, initial_weight}
+use Rattle.mk_states.specs.Ratios.{ratio_at}
+use Rattle.mk_states.specs.States.{product_by}
 use Rattle.mk_exact.specs.Weight.{total, IsSmall}
-use Rattle.mk_exact.proofs.Sums.{list_all-append}
+use Rattle.mk_states.proofs.Sums.{list_all-append}
 use Rattle.mk_tree.specs.Given.{GivenTree}
 use Rattle.mk_engine.specs.Meaning.{Meaning, with_known}
 use Rattle.mk_beliefs.specs.Meanings.{weights_of}

@@ -10,15 +10,15 @@ use Rattle.std.proofs.Math.Bool.{and-true}
 use Rattle.mk_net.specs.declared.words.Pair.{Pair}
 use Rattle.mk_net.specs.Bounds.{max_market_trades}
 use Rattle.mk_net.specs.Network.{Variable, IsNetwork, sizes}
-use Rattle.mk_exact.specs.Events.{has, holds, always}
+use Rattle.mk_states.specs.Events.{has, holds, always}
 use Rattle.mk_exact.specs.History.{Entry, Resolve, UserTrade, trades, resolutions}
-use Rattle.mk_exact.specs.InitialWeight.{all_states, can_come, initial_weight, value_at}
-use Rattle.mk_exact.specs.Lawful.{Lawful}
-use Rattle.mk_exact.specs.Ratios.{ratio_at}
-use Rattle.mk_exact.specs.States.{states, numbers_below, plus_over, product_by, IsState}
+use Rattle.mk_states.specs.InitialWeight.{all_states, can_come, initial_weight, value_at}
+use Rattle.mk_states.specs.Lawful.{Lawful}
+use Rattle.mk_states.specs.Ratios.{ratio_at}
+use Rattle.mk_states.specs.States.{states, numbers_below, plus_over, product_by, IsState}
 use Rattle.mk_exact.specs.Weight.{weight, total, is_possible, possible_states, IsSmall}
-use Rattle.mk_exact.proofs.Sums.{list_all-append, plus_over_by_key, each_weaker, sum_by_is}
-use Rattle.mk_exact.proofs.Listed.{all_are, value_below}
+use Rattle.mk_states.proofs.Sums.{list_all-append, plus_over_by_key, each_weaker, sum_by_is}
+use Rattle.mk_states.proofs.Listed.{all_are, value_below}
 use Rattle.mk_semiring.specs.Most.{greatest_lawful}
 use Rattle.mk_semiring.specs.declared.held.Held.{Held}
 use Rattle.mk_semiring.specs.Held.{HeldEncloses, HasHeldGrade, IsHeldExact, held_grade_more}

@@ -4,11 +4,11 @@ use Rattle.std.proofs.Common.{cond, ◌&&◌, eqb, List, [], ◌∷◌, ◌++◌
 use Rattle.std.proofs.Common.{refl, sym, ap, ap₂, ◌∙◌, arith, eq-eqb, ne_eqb}
 use Rattle.std.proofs.lemmas.Bool.{cases_eq}
 use Rattle.std.proofs.Math.Path.{fun_ext}
-use Rattle.mk_exact.specs.States.{states, numbers_below, plus_over, IsState}
-use Rattle.mk_exact.specs.InitialWeight.{value_at}
-use Rattle.mk_exact.specs.Events.{holds}
-use Rattle.mk_exact.specs.Lawful.{Lawful}
-use Rattle.mk_exact.proofs.Sums.{plus_over-filter, plus_over-states, plus_over_at}
+use Rattle.mk_states.specs.States.{states, numbers_below, plus_over, IsState}
+use Rattle.mk_states.specs.InitialWeight.{value_at}
+use Rattle.mk_states.specs.Events.{holds}
+use Rattle.mk_states.specs.Lawful.{Lawful}
+use Rattle.mk_states.proofs.Sums.{plus_over-filter, plus_over-states, plus_over_at}
 use Rattle.mk_sums.proofs.States.{is_plus}
 use Rattle.mk_engine.proofs.Cases.{plus_over-cond}
 use Rattle.mk_best.specs.inner.Picks.{is_at, pairs_from}

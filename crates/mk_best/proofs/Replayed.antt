@@ -10,7 +10,8 @@ use Rattle.mk_net.specs.Asked.{ratio_pairs}
 use Rattle.mk_net.specs.Network.{Variable, IsNetwork}
 use Rattle.mk_exact.specs.History as history
 use Rattle.mk_exact.specs.History.{UserTrade, trade_in, resolution_in, trades, resolutions, users}
-use Rattle.mk_exact.specs.Proper.{IsPairOf, IsTradeOf}
+use Rattle.mk_states.specs.OfNetwork.{IsPairOf}
+use Rattle.mk_exact.specs.Proper.{IsTradeOf}
 use Rattle.mk_exact.proofs.After.{trades_more}
 use Rattle.mk_tree.specs.Given.{GivenTree, home}
 use Rattle.mk_tree.specs.Checked.{IsTreeOf}

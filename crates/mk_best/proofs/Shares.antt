@@ -6,14 +6,15 @@ use Rattle.mk_net.specs.declared.words.Pair.{Pair}
 use Rattle.mk_net.specs.Bounds.{max_market_trades}
 use Rattle.mk_net.specs.Asked.{Asked}
 use Rattle.mk_net.specs.Network.{Variable, IsNetwork, sizes}
-use Rattle.mk_exact.specs.Events.{has, holds, always}
+use Rattle.mk_states.specs.Events.{has, holds, always}
 use Rattle.mk_exact.specs.History.{Entry, UserTrade, trades}
 use Rattle.mk_exact.specs.Prices.{CoversPrice}
-use Rattle.mk_exact.specs.Proper.{IsPairOf, IsProper}
+use Rattle.mk_states.specs.OfNetwork.{IsPairOf}
+use Rattle.mk_exact.specs.Proper.{IsProper}
 use Rattle.mk_exact.specs.Weight.{IsSmall, total}
 use Rattle.mk_tree.specs.Given.{GivenTree, home}
 use Rattle.mk_tree.proofs.Held.{home_is_held}
-use Rattle.mk_exact.proofs.Positive.{few_values_at}
+use Rattle.mk_states.proofs.Shares.{few_values_at}
 use Rattle.mk_engine.specs.Cases.{exact_others, CanAskOthers, IsOthersBelief}
 use Rattle.mk_scaled.specs.Near.{near_more}
 use Rattle.mk_enclose.specs.declared.enclosure.Enclosure.{Enclosure}

@@ -5,7 +5,7 @@ use Rattle.std.specs.List.{AllByRecursion}
 use Rattle.std.proofs.lemmas.List.Sums.{sum_by-cons}
 use Rattle.mk_net.specs.Network.{Variable}
 use Rattle.mk_exact.specs.History.{Entry}
-use Rattle.mk_exact.specs.InitialWeight.{all_states}
+use Rattle.mk_states.specs.InitialWeight.{all_states}
 use Rattle.mk_exact.specs.Weight.{weight, total, is_possible}
 
 narrow : {X : Type 0} (f : X → ℕ) (p q : X → Bool) → ((x : X) → q x ≡ true → p x ≡ true)

@@ -2,11 +2,11 @@
 use Rattle.std.specs.Prelude.{◌≡◌, ℕ, ◌+◌, ◌*◌, ◌^◌, ◌<◌, ◌≤◌, List, Bool, true, false, max}
 use Rattle.mk_net.specs.declared.words.Pair.{Pair}
 use Rattle.mk_net.specs.Network.{Variable, sizes}
-use Rattle.mk_exact.specs.Events.{holds}
+use Rattle.mk_states.specs.Events.{holds}
 use Rattle.mk_exact.specs.History.{Entry}
-use Rattle.mk_exact.specs.InitialWeight.{can_come, value_at}
+use Rattle.mk_states.specs.InitialWeight.{can_come, value_at}
 use Rattle.mk_exact.specs.Prices.{CoversPrice}
-use Rattle.mk_exact.specs.States.{plus_over, IsState}
+use Rattle.mk_states.specs.States.{plus_over, IsState}
 use Rattle.mk_exact.specs.Weight.{IsSmall, weight, total, possible_states, is_possible, cannot_come}
 use Rattle.mk_enclose.specs.declared.enclosure.Enclosure.{Enclosure}
 use Rattle.mk_enclose.specs.Enclosure.{Encloses, lower_of, upper_of}

@@ -3,7 +3,7 @@ ghost use Rattle.std.specs.Prelude.{◌≡◌, ◌<◌, ◌≤◌, ◌↔◌, Li
 ghost use Rattle.std.specs.Prelude.{slice_index};
 ghost use Rattle.mk_net.specs.Bounds.{max_market_trades};
 ghost use Rattle.mk_net.specs.Network.{Variable, IsNetwork, sizes};
-ghost use Rattle.mk_exact.specs.Events.{holds};
+ghost use Rattle.mk_states.specs.Events.{holds};
 ghost use Rattle.mk_exact.specs.History.{Entry, trades};
 ghost use Rattle.mk_exact.specs.Weight.{IsSmall};
 ghost use Rattle.mk_engine.specs.Meaning.{Meaning};

@@ -1,7 +1,7 @@
 //! Pairs that nothing but which can come.
 ghost use Rattle.std.specs.Prelude.{◌≡◌, ◌≤◌, List, true, false, not, ◌↔◌};
 ghost use Rattle.mk_net.specs.Network.{Variable};
-ghost use Rattle.mk_exact.specs.Events.{has, holds, always};
+ghost use Rattle.mk_states.specs.Events.{has, holds, always};
 ghost use Rattle.mk_exact.specs.History.{Entry};
 ghost use Rattle.mk_exact.specs.Weight.{total};
 ghost use Rattle.mk_engine.specs.Meaning.{Meaning};

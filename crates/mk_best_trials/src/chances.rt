@@ -2,7 +2,7 @@
 
 ghost use Rattle.std.specs.Prelude.{List, [], IfOk};
 ghost use Rattle.mk_net.specs.Network.{IsNetwork};
-ghost use Rattle.mk_exact.specs.Proper.{IsPairOf};
+ghost use Rattle.mk_states.specs.OfNetwork.{IsPairOf};
 ghost use Rattle.mk_tree.specs.Checked.{IsTreeOf};
 ghost use Rattle.mk_engine.specs.Meaning.{ArePairsOf};
 

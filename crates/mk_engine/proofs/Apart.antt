@@ -10,11 +10,11 @@ use Rattle.std.proofs.lemmas.List.Elements.{recursion_from_All}
 use Rattle.mk_net.specs.declared.words.Pair.{Pair}
 use Rattle.mk_net.specs.Asked.{TradeRatio}
 use Rattle.mk_net.specs.Network.{Variable, sizes}
-use Rattle.mk_exact.specs.States.{states, plus_over, product_by}
-use Rattle.mk_exact.specs.InitialWeight.{value_at}
-use Rattle.mk_exact.specs.Events.{holds}
-use Rattle.mk_exact.specs.Lawful.{Lawful}
-use Rattle.mk_exact.proofs.Sums.{plus_over-map, sum_by_is}
+use Rattle.mk_states.specs.States.{states, plus_over, product_by}
+use Rattle.mk_states.specs.InitialWeight.{value_at}
+use Rattle.mk_states.specs.Events.{holds}
+use Rattle.mk_states.specs.Lawful.{Lawful}
+use Rattle.mk_states.proofs.Sums.{plus_over-map, sum_by_is}
 use Rattle.mk_sums.specs.There.{holds_there, ratio_there}
 use Rattle.mk_engine.specs.Meaning.{Meaning, Factor, RowsOf, SupportOf, RatioOf, is_ratio, factor_there, exact_belief, whole_sum}
 use Rattle.mk_engine.specs.Apart.{HasCondition, IsApart, without_ratios}

@@ -6,11 +6,11 @@ use Rattle.std.proofs.lemmas.Bool.{cases_lt}
 use Rattle.mk_net.specs.declared.words.Pair.{Pair}
 use Rattle.mk_net.specs.Asked.{Asked}
 use Rattle.mk_net.specs.Network.{sizes}
-use Rattle.mk_exact.specs.States.{states, numbers_below, plus_over, product_by}
-use Rattle.mk_exact.specs.InitialWeight.{value_at}
-use Rattle.mk_exact.specs.Events.{holds, has}
-use Rattle.mk_exact.specs.Lawful.{Lawful}
-use Rattle.mk_exact.proofs.Sums.{IsPlus, plus_over-map, plus_over-filter, plus_over-plus, plus_over_none, plus_over_at, list_all-append, sum_by_is}
+use Rattle.mk_states.specs.States.{states, numbers_below, plus_over, product_by}
+use Rattle.mk_states.specs.InitialWeight.{value_at}
+use Rattle.mk_states.specs.Events.{holds, has}
+use Rattle.mk_states.specs.Lawful.{Lawful}
+use Rattle.mk_states.proofs.Sums.{IsPlus, plus_over-map, plus_over-filter, plus_over-plus, plus_over_none, plus_over_at, list_all-append, sum_by_is}
 use Rattle.mk_sums.proofs.States.{is_plus}
 use Rattle.mk_engine.specs.Meaning.{Meaning, Factor, factor_there, exact_belief, whole_sum}
 use Rattle.mk_engine.specs.Cases.{pairs_with, exact_others}

@@ -13,10 +13,10 @@ use Rattle.mk_net.specs.Bounds.{number_limit}
 use Rattle.mk_net.specs.Events.{pairs_asked}
 use Rattle.mk_net.specs.Sets.{is_member}
 use Rattle.mk_net.specs.Network.{Variable, sizes}
-use Rattle.mk_exact.specs.Lawful.{Lawful}
-use Rattle.mk_exact.specs.States.{numbers_below, plus_over}
-use Rattle.mk_exact.specs.Proper.{IsPairOf, IsQuestionOf}
-use Rattle.mk_exact.proofs.Sums.{plus_over-append, list_all-append, each-append}
+use Rattle.mk_states.specs.Lawful.{Lawful}
+use Rattle.mk_states.specs.States.{numbers_below, plus_over}
+use Rattle.mk_states.specs.OfNetwork.{IsPairOf, IsQuestionOf}
+use Rattle.mk_states.proofs.Sums.{plus_over-append, list_all-append, each-append}
 use Rattle.mk_sums.proofs.States.{is_plus}
 use Rattle.mk_tree.specs.Given.{GivenTree, holds_event}
 use Rattle.mk_tree.specs.Held.{IsHeldAt}

@@ -4,7 +4,7 @@ use Rattle.mk_net.specs.declared.words.Pair.{Pair}
 use Rattle.mk_net.specs.Asked.{TradeRatio}
 use Rattle.mk_net.specs.Bounds.{number_limit}
 use Rattle.mk_net.specs.Network.{Variable}
-use Rattle.mk_exact.specs.Proper.{IsPairOf, IsRatioOf}
+use Rattle.mk_states.specs.OfNetwork.{IsPairOf, IsRatioOf}
 use Rattle.mk_engine.specs.Meaning.{Meaning, exact_belief, whole_sum, max_factors, max_grade, ArePairsOf}
 
 module _ {E : Type 0} (stands_for : E → Meaning → Type 0) where

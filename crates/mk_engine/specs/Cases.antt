@@ -7,8 +7,8 @@ use Rattle.mk_net.specs.Asked.{Asked}
 use Rattle.mk_net.specs.Bounds.{max_values, number_limit}
 use Rattle.mk_net.specs.Network.{sizes}
 use Rattle.mk_net.specs.Events.{pairs_asked}
-use Rattle.mk_exact.specs.States.{numbers_below, plus_over}
-use Rattle.mk_exact.specs.Proper.{IsQuestionOf}
+use Rattle.mk_states.specs.States.{numbers_below, plus_over}
+use Rattle.mk_states.specs.OfNetwork.{IsQuestionOf}
 use Rattle.mk_tree.specs.Held.{IsHeldAt}
 use Rattle.mk_engine.specs.Meaning.{Meaning, exact_belief, whole_sum, max_factors, max_grade}
 

@@ -5,9 +5,9 @@ use Rattle.mk_net.specs.declared.words.Pair.{Pair}
 use Rattle.mk_net.specs.Asked.{TradeRatio}
 use Rattle.mk_net.specs.Bounds.{max_variables, max_cliques, max_clique_cells, max_cells, max_market_trades}
 use Rattle.mk_net.specs.Network.{Variable, sizes}
-use Rattle.mk_exact.specs.States.{states, plus_over, product_by}
-use Rattle.mk_exact.specs.InitialWeight.{value_at}
-use Rattle.mk_exact.specs.Proper.{IsPairOf}
+use Rattle.mk_states.specs.States.{states, plus_over, product_by}
+use Rattle.mk_states.specs.InitialWeight.{value_at}
+use Rattle.mk_states.specs.OfNetwork.{IsPairOf}
 use Rattle.mk_sums.specs.There.{share_there, support_there, ratio_there}
 use Rattle.mk_sums.specs.Joint.{joint}
 use Rattle.mk_tree.specs.Given.{GivenTree}

@@ -9,7 +9,7 @@ use Rattle.mk_net.specs.declared.words.QuestionText.{QuestionText}
 use Rattle.mk_net.specs.Asked.{Asked}
 use Rattle.mk_net.specs.Firsts.{first_of}
 use Rattle.mk_net.specs.Network.{Variable, IsNetwork}
-use Rattle.mk_exact.specs.Events.{always, holds, with_target, without_target}
+use Rattle.mk_states.specs.Events.{always, holds, with_target, without_target}
 use Rattle.mk_exact.specs.Existing.{HasOutcome, HasSides}
 use Rattle.mk_exact.specs.Factors.{gain, least_gain}
 use Rattle.mk_exact.specs.History.{Entry}

@@ -16,8 +16,8 @@ use Rattle.mk_net.specs.Sets.{is_member}
 use Rattle.mk_net.specs.Zeros.{has_zero, with_zeros}
 use Rattle.mk_net.proofs.Networks.{two_values}
 use Rattle.mk_exact.specs.History.{Entry, UserTrade, trades, trades_of}
-use Rattle.mk_exact.specs.States.{numbers_below, plus_over}
-use Rattle.mk_exact.proofs.Sums.{plus_over-map}
+use Rattle.mk_states.specs.States.{numbers_below, plus_over}
+use Rattle.mk_states.proofs.Sums.{plus_over-map}
 use Rattle.mk_tree.specs.Checked.{IsTreeOf}
 use Rattle.mk_tree.specs.Given.{GivenTree}
 use Rattle.mk_tree.specs.Tests.{holds_family, members, cells_of}

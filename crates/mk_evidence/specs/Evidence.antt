@@ -7,7 +7,7 @@ use Rattle.arrayvec.specs.ArrayVec.{ArrayVec}
 use Rattle.mk_net.specs.declared.words.PairText.{PairText}
 use Rattle.mk_net.specs.declared.words.QuestionText.{QuestionText}
 use Rattle.mk_net.specs.Asked.{Asked}
-use Rattle.mk_exact.specs.Events.{always, with_target}
+use Rattle.mk_states.specs.Events.{always, with_target}
 use Rattle.mk_exact.specs.Factors.{gain}
 use Rattle.mk_exact.specs.History.{Entry, users}
 use Rattle.mk_exact.specs.Limits.{Side}

@@ -2,7 +2,7 @@
 use Rattle.std.specs.Prelude.{ℕ, ◌+◌, ◌-◌, ◌*◌, max, List, length, sum_by}
 use Rattle.mk_net.specs.Bounds.{max_values}
 use Rattle.mk_net.specs.Network.{sizes, choices}
-use Rattle.mk_exact.specs.States.{plus_over}
+use Rattle.mk_states.specs.States.{plus_over}
 use Rattle.mk_exact.specs.History.{Entry, trades}
 use Rattle.mk_exact.specs.Market.{Market, network_of, cliques_of}
 

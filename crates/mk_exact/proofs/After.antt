@@ -5,14 +5,14 @@ use Rattle.std.proofs.lemmas.List.Sums.{sum_by_push}
 use Rattle.mk_net.specs.declared.words.Pair.{Pair}
 use Rattle.mk_net.specs.Network.{Variable}
 use Rattle.mk_net.specs.Asked.{TradeRatio}
-use Rattle.mk_exact.specs.States.{product_by}
-use Rattle.mk_exact.specs.InitialWeight.{initial_weight}
-use Rattle.mk_exact.specs.Events.{holds, has}
-use Rattle.mk_exact.specs.Ratios.{unit, ratio_at}
+use Rattle.mk_states.specs.States.{product_by}
+use Rattle.mk_states.specs.InitialWeight.{initial_weight}
+use Rattle.mk_states.specs.Events.{holds, has}
+use Rattle.mk_states.specs.Ratios.{unit, ratio_at}
 use Rattle.mk_exact.specs.History.{Entry, UserTrade, Join, Trade, Resolve, join_in, trade_in, resolution_in, bits_in, bits_out, users, trades, trades_of, resolutions, deposited, withdrawn}
 use Rattle.mk_exact.specs.Weight.{weight, is_possible}
 use Rattle.mk_exact.specs.Factors.{Fraction, gain, trade_count, factor}
-use Rattle.mk_exact.proofs.Sums.{product_by_push, list_all-append}
+use Rattle.mk_states.proofs.Sums.{product_by_push, list_all-append}
 
 -- a list read off a history by parts
 kept_where : {Y : Type 0} (h : Entry → Option Y) (H : List Entry) (e : Entry) → h e ≡ None → filter_map h (H ++ e ∷ []) ≡ filter_map h H

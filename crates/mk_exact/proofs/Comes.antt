@@ -10,11 +10,11 @@ use Rattle.std.proofs.Math.Seq.{get_or-append_seam}
 use Rattle.std.proofs.lemmas.Bool.{le-leb, cases_lt}
 use Rattle.mk_net.specs.Network.{Variable, sizes, choices, IsRow, IsNetwork}
 use Rattle.mk_net.specs.Named.{variable_at, nobody}
-use Rattle.mk_exact.specs.States.{states, numbers_below, IsState}
-use Rattle.mk_exact.specs.InitialWeight.{all_states, can_come, value_at, row_number, entry, initial_weight}
-use Rattle.mk_exact.proofs.Sums.{each_weaker, each_number, product_by_pos}
-use Rattle.mk_exact.proofs.Listed.{as_many}
-use Rattle.mk_exact.proofs.Positive.{size_at, row_below}
+use Rattle.mk_states.specs.States.{states, numbers_below, IsState}
+use Rattle.mk_states.specs.InitialWeight.{all_states, can_come, value_at, row_number, entry, initial_weight}
+use Rattle.mk_states.proofs.Sums.{each_weaker, each_number, product_by_pos}
+use Rattle.mk_states.proofs.Listed.{as_many}
+use Rattle.mk_states.proofs.Shares.{size_at, row_below}
 
 -- a state that passes a test is among those that are listed
 any_of_flat_map : {X Y : Type 0} (test : Y → Bool) (g : X → List Y) (xs : List X) → list_any test (flat_map g xs) ≡ list_any (λ x. list_any test (g x)) xs

@@ -5,13 +5,13 @@ use Rattle.std.proofs.lemmas.Bool.{cases_lt, and_parts, eqb-true}
 use Rattle.std.proofs.lemmas.List.Sums.{length-filter}
 use Rattle.mk_net.specs.Network.{Variable, IsNetwork}
 use Rattle.mk_net.specs.Asked.{Asked}
-use Rattle.mk_exact.specs.InitialWeight.{all_states}
-use Rattle.mk_exact.specs.Events.{holds, has, with_target, without_target}
+use Rattle.mk_states.specs.InitialWeight.{all_states}
+use Rattle.mk_states.specs.Events.{holds, has, with_target, without_target}
 use Rattle.mk_exact.specs.History.{Entry}
 use Rattle.mk_exact.specs.Weight.{weight, total, is_possible, possible_states, cannot_come}
 use Rattle.mk_exact.specs.Factors.{gain, lesser, least_by, least_gain}
 use Rattle.mk_exact.specs.Proper.{IsProper}
-use Rattle.mk_exact.proofs.Sums.{sum_by-plus}
+use Rattle.mk_states.proofs.Sums.{sum_by-plus}
 use Rattle.mk_exact.proofs.ExistMarkets.{passing_stay, total_positive}
 
 none_long : {X : Type 0} (xs : List X) → eqb (length xs) 0 ≡ true → xs ≡ []

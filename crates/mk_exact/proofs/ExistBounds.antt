@@ -7,17 +7,17 @@ use Rattle.std.proofs.lemmas.List.Sums.{sum_by-cons, sum_by_push}
 use Rattle.mk_net.specs.Bounds.{max_transfers, max_transfer_bits, number_limit, million}
 use Rattle.mk_net.specs.Network.{Variable, sizes}
 use Rattle.mk_net.specs.Asked.{Asked, TradeRatio}
-use Rattle.mk_exact.specs.States.{numbers_below, product_by}
-use Rattle.mk_exact.specs.InitialWeight.{value_at}
-use Rattle.mk_exact.specs.Events.{holds}
-use Rattle.mk_exact.specs.Ratios.{unit, ratio_at}
+use Rattle.mk_states.specs.States.{numbers_below, product_by}
+use Rattle.mk_states.specs.InitialWeight.{value_at}
+use Rattle.mk_states.specs.Events.{holds}
+use Rattle.mk_states.specs.Ratios.{unit, ratio_at}
 use Rattle.mk_exact.specs.History.{Entry, UserTrade, Join, Deposit, Withdraw, Trade, Resolve, Settle, bits_in, is_transfer, trade_in, trades, trades_of, deposited, withdrawn}
 use Rattle.mk_exact.specs.Weight.{possible_states}
 use Rattle.mk_exact.specs.Factors.{gain, trade_count, factor, factor_with, least_gain}
 use Rattle.mk_exact.specs.Cash.{CoversCash}
 use Rattle.mk_exact.specs.Sides.{ratio_in, IsFairPair}
 use Rattle.mk_exact.specs.Existing.{IsWithinBounds, HasRoom}
-use Rattle.mk_exact.proofs.Sums.{sum_by-times, each_always, each_weaker, each-append, each-map}
+use Rattle.mk_states.proofs.Sums.{sum_by-times, each_always, each_weaker, each-append, each-map}
 use Rattle.mk_exact.proofs.After.{trades_kept, trades_more}
 use Rattle.mk_exact.proofs.ExistNumbers.{cash_is_bounded, cash_is_narrow}
 use Rattle.mk_exact.proofs.ExistMarkets.{of_least}

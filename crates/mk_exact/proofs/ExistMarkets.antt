@@ -8,9 +8,9 @@ use Rattle.std.proofs.lemmas.List.Sums.{sum_by-cons}
 use Rattle.std.proofs.lemmas.List.Elements.{All-filter, recursion_from_All}
 use Rattle.mk_net.specs.Network.{Variable, IsNetwork}
 use Rattle.mk_net.specs.Asked.{Asked}
-use Rattle.mk_exact.specs.InitialWeight.{all_states}
-use Rattle.mk_exact.specs.Events.{holds, with_target, without_target, always}
-use Rattle.mk_exact.specs.Ratios.{unit}
+use Rattle.mk_states.specs.InitialWeight.{all_states}
+use Rattle.mk_states.specs.Events.{holds, with_target, without_target, always}
+use Rattle.mk_states.specs.Ratios.{unit}
 use Rattle.mk_exact.specs.History.{Entry, withdrawn}
 use Rattle.mk_exact.specs.Weight.{weight, total, is_possible, possible_states, IsSmall}
 use Rattle.mk_exact.specs.Factors.{gain, trade_count, factor, factor_with, least_by, lesser, least_gain, IsAtLeastOne}
@@ -20,7 +20,7 @@ use Rattle.mk_exact.specs.Sound.{IsSound}
 use Rattle.mk_exact.specs.Proper.{IsProper}
 use Rattle.mk_exact.specs.Sides.{IsSide, AreRightLimits}
 use Rattle.mk_exact.specs.Existing.{IsPositivePrice, IsPortion, IsSafeFactor, CanBeAsked, CanMove, HasPrice, HasLeast, IsOpenSide, HasSides}
-use Rattle.mk_exact.proofs.Sums.{each_kept, kept_each, each_weaker}
+use Rattle.mk_states.proofs.Sums.{each_kept, kept_each, each_weaker}
 use Rattle.mk_exact.proofs.Positive.{weights_positive}
 use Rattle.mk_exact.proofs.Totals.{total_condition}
 use Rattle.mk_exact.proofs.ExistNumbers.{covers_in, price_is_covered}

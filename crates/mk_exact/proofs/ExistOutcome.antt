@@ -11,17 +11,17 @@ use Rattle.mk_net.specs.Network.{Variable, sizes, IsNetwork}
 use Rattle.mk_net.specs.Events.{speaks_of}
 use Rattle.mk_net.specs.Texts.{same_text}
 use Rattle.mk_net.specs.inner.TextLaws.{equal_of_same_text, same_text_of_equal}
-use Rattle.mk_exact.specs.States.{states, numbers_below, plus_over, IsState}
-use Rattle.mk_exact.specs.InitialWeight.{all_states, can_come, initial_weight, value_at}
-use Rattle.mk_exact.specs.Events.{has, holds, always}
+use Rattle.mk_states.specs.States.{states, numbers_below, plus_over, IsState}
+use Rattle.mk_states.specs.InitialWeight.{all_states, can_come, initial_weight, value_at}
+use Rattle.mk_states.specs.Events.{has, holds, always}
 use Rattle.mk_exact.specs.History.{Entry, resolutions}
 use Rattle.mk_exact.specs.Weight.{is_possible, possible_states}
 use Rattle.mk_exact.specs.Factors.{gain, factor, IsAtLeastOne}
 use Rattle.mk_exact.specs.Sound.{IsSound}
 use Rattle.mk_exact.specs.Proper.{IsProper}
 use Rattle.mk_exact.specs.Existing.{HasOutcome}
-use Rattle.mk_exact.proofs.Sums.{sums_are_plus, plus_over-states, plus_over_none, plus_over_at, sum_by_is, sum_by_each, sum_by-filter, kept_each, each_weaker}
-use Rattle.mk_exact.proofs.Listed.{states_are, all_can, as_many}
+use Rattle.mk_states.proofs.Sums.{sums_are_plus, plus_over-states, plus_over_none, plus_over_at, sum_by_is, sum_by_each, sum_by-filter, kept_each, each_weaker}
+use Rattle.mk_states.proofs.Listed.{states_are, all_can, as_many}
 use Rattle.mk_exact.proofs.ExistMarkets.{safe_factor}
 
 -- ---- one of the listed states is a given state

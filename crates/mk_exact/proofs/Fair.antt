@@ -2,12 +2,12 @@
 use Rattle.std.proofs.Common.{◌≡◌, ℕ, ◌+◌, ◌*◌, ◌-◌, ◌^◌, ◌<◌, ◌≤◌, List, [], ◌∷◌, ◌++◌, ap, arith, add-sub_of_le, mul-le-mul_left, mul-le-mul_right, le_of_lt}
 use Rattle.mk_net.specs.Network.{Variable}
 use Rattle.mk_net.specs.Asked.{Asked, TradeRatio}
-use Rattle.mk_exact.specs.Events.{holds, with_target, without_target, always}
-use Rattle.mk_exact.specs.Ratios.{unit}
+use Rattle.mk_states.specs.Events.{holds, with_target, without_target, always}
+use Rattle.mk_states.specs.Ratios.{unit}
 use Rattle.mk_exact.specs.History.{Entry, Trade}
 use Rattle.mk_exact.specs.Weight.{total}
 use Rattle.mk_exact.specs.Prices.{exact_price}
-use Rattle.mk_exact.specs.Proper.{IsPairOf}
+use Rattle.mk_states.specs.OfNetwork.{IsPairOf}
 use Rattle.mk_exact.specs.Sides.{ratio_in, traded, AreFair}
 use Rattle.mk_exact.specs.Laws.{IsNear}
 use Rattle.mk_exact.proofs.Totals.{traded_sum, total_condition, total_always, traded_target, traded_condition, traded_always, sum_asked}

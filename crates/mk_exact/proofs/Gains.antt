@@ -7,17 +7,17 @@ use Rattle.std.proofs.lemmas.Nat.{mul-pow}
 use Rattle.std.proofs.lemmas.List.Sums.{get_or-le-sum_by, sum-map, sum_by-cons}
 use Rattle.std.proofs.lemmas.List.FromFn.{fill_by_all}
 use Rattle.mk_net.specs.Network.{Variable}
-use Rattle.mk_exact.specs.States.{numbers_below, product_by}
-use Rattle.mk_exact.specs.InitialWeight.{initial_weight, initial_total}
-use Rattle.mk_exact.specs.Events.{always}
-use Rattle.mk_exact.specs.Ratios.{unit, ratio_at}
+use Rattle.mk_states.specs.States.{numbers_below, product_by}
+use Rattle.mk_states.specs.InitialWeight.{initial_weight, initial_total}
+use Rattle.mk_states.specs.Events.{always}
+use Rattle.mk_states.specs.Ratios.{unit, ratio_at}
 use Rattle.mk_exact.specs.History.{Entry, UserTrade, users, trades, trades_of, deposited, withdrawn}
 use Rattle.mk_exact.specs.Weight.{weight, possible_states}
 use Rattle.mk_exact.specs.Factors.{Fraction, gain, trade_count, factor}
 use Rattle.mk_exact.specs.Sound.{IsSound}
 use Rattle.mk_exact.specs.Proper.{IsTradeOf, IsProper}
 use Rattle.mk_exact.specs.Laws.{GainsAreBounded, IsWithinCash, ArePayments, LossIsBounded}
-use Rattle.mk_exact.proofs.Sums.{products_are_plus, plus_over-plus, plus_over_by_key, product_by-same, product_by_pos, each_weaker, each_always, each_number}
+use Rattle.mk_states.proofs.Sums.{products_are_plus, plus_over-plus, plus_over_by_key, product_by-same, product_by_pos, each_weaker, each_always, each_number}
 
 module _ (network : List Variable) (H : List Entry) (proper : IsProper network H) where
   joined : AllByRecursion (λ (t : UserTrade). t.user < length (users H)) (trades H)

@@ -1,5 +1,3 @@
-pub mod Sums
-pub mod Listed
 pub mod Pairs
 pub mod After
 pub mod Totals

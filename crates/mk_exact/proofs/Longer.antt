@@ -3,8 +3,8 @@ use Rattle.std.proofs.Common.{◌≡◌, ℕ, ◌+◌, List, [], ◌∷◌, ◌+
 use Rattle.std.proofs.Math.Path.{fun_ext}
 use Rattle.std.proofs.lemmas.List.{map-append}
 use Rattle.std.proofs.lemmas.List.Concat.{flat_map_single, flat_map-append}
-use Rattle.mk_exact.specs.States.{states, numbers_below, plus_over}
-use Rattle.mk_exact.proofs.Sums.{sums_are_plus, sum_by_is, plus_over-flat_map, plus_over-map}
+use Rattle.mk_states.specs.States.{states, numbers_below, plus_over}
+use Rattle.mk_states.proofs.Sums.{sums_are_plus, sum_by_is, plus_over-flat_map, plus_over-map}
 
 -- a state with each value of the added variable
 abbrev pub longer : ℕ → List ℕ → List (List ℕ)

@@ -12,11 +12,11 @@ use Rattle.std.proofs.lemmas.List.Elements.{recursion_from_All}
 use Rattle.mk_net.specs.Bounds.{million}
 use Rattle.mk_net.specs.Network.{Variable, sizes, IsRow, IsNetwork}
 use Rattle.mk_net.specs.Named.{variable_at, nobody}
-use Rattle.mk_exact.specs.States.{states, numbers_below, product_by, IsState}
-use Rattle.mk_exact.specs.InitialWeight.{value_at, row_number, entry, initial_weight, initial_total}
-use Rattle.mk_exact.proofs.Sums.{plus_over_each, each_number, each_weaker, product_by_push, sum_by-times, sum_by_each}
-use Rattle.mk_exact.proofs.Listed.{states_are, as_many}
-use Rattle.mk_exact.proofs.Positive.{size_at, row_below}
+use Rattle.mk_states.specs.States.{states, numbers_below, product_by, IsState}
+use Rattle.mk_states.specs.InitialWeight.{value_at, row_number, entry, initial_weight, initial_total}
+use Rattle.mk_states.proofs.Sums.{plus_over_each, each_number, each_weaker, product_by_push, sum_by-times, sum_by_each}
+use Rattle.mk_states.proofs.Listed.{states_are, as_many}
+use Rattle.mk_states.proofs.Shares.{size_at, row_below}
 use Rattle.mk_exact.proofs.Comes.{same_row, entry_same}
 use Rattle.mk_exact.proofs.Single.{over_all}
 use Rattle.mk_exact.proofs.Longer.{sum_longer}

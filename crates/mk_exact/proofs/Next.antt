@@ -8,15 +8,15 @@ use Rattle.std.proofs.lemmas.Bool.{and_from, and_parts, cases_eq}
 use Rattle.mk_net.specs.declared.words.Pair.{Pair}
 use Rattle.mk_net.specs.Network.{Variable}
 use Rattle.mk_net.specs.Asked.{TradeRatio}
-use Rattle.mk_exact.specs.InitialWeight.{all_states, initial_total}
-use Rattle.mk_exact.specs.Events.{has, always}
-use Rattle.mk_exact.specs.Ratios.{unit}
+use Rattle.mk_states.specs.InitialWeight.{all_states, initial_total}
+use Rattle.mk_states.specs.Events.{has, always}
+use Rattle.mk_states.specs.Ratios.{unit}
 use Rattle.mk_exact.specs.History.{Entry, UserTrade, Join, Deposit, Withdraw, Trade, Resolve, Settle, trade_in, resolution_in, bits_in, bits_out, trades, deposited, withdrawn}
 use Rattle.mk_exact.specs.Weight.{weight, total, is_possible, possible_states}
 use Rattle.mk_exact.specs.Factors.{gain, trade_count, factor, factor_with, least_gain, IsAtLeastOne}
 use Rattle.mk_exact.specs.Sound.{IsSound}
 use Rattle.mk_exact.specs.Accepted.{Covers, IsSafeTrade, IsAcceptable}
-use Rattle.mk_exact.proofs.Sums.{each_kept, kept_each, each_weaker}
+use Rattle.mk_states.proofs.Sums.{each_kept, kept_each, each_weaker}
 use Rattle.mk_exact.proofs.After.{trades_kept, trades_more, trades_of_kept, trades_of_other, weight_kept, possible_kept, possible_resolved, factor_kept, factor_moved}
 use Rattle.mk_exact.proofs.Totals.{total_is}
 use Rattle.mk_exact.proofs.Fair.{total_bounded}

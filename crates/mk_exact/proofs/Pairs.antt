@@ -3,13 +3,13 @@ use Rattle.std.proofs.Common.{◌≡◌, ℕ, cond, eqb, List, slice_index, ap, 
 use Rattle.std.proofs.lemmas.List.FromFn.{get_or-map-range_with_len}
 use Rattle.mk_net.specs.Network.{Variable, sizes}
 use Rattle.mk_net.specs.Asked.{Asked}
-use Rattle.mk_exact.specs.States.{IsState}
-use Rattle.mk_exact.specs.InitialWeight.{value_at}
-use Rattle.mk_exact.specs.Events.{has, holds}
-use Rattle.mk_exact.specs.Ratios.{unit, ratio_at}
-use Rattle.mk_exact.specs.Proper.{IsPairOf}
+use Rattle.mk_states.specs.States.{IsState}
+use Rattle.mk_states.specs.InitialWeight.{value_at}
+use Rattle.mk_states.specs.Events.{has, holds}
+use Rattle.mk_states.specs.Ratios.{unit, ratio_at}
+use Rattle.mk_states.specs.OfNetwork.{IsPairOf}
 use Rattle.mk_exact.specs.Sides.{ratio_in}
-use Rattle.mk_exact.proofs.Listed.{value_below}
+use Rattle.mk_states.proofs.Listed.{value_below}
 
 abbrev pub pair_at : Asked → ℕ → ℕ → List ℕ → ℕ
 pair_at asked F_t F_n s = cond (holds asked.condition s) (cond (has asked.target s) F_t F_n) unit

@@ -7,8 +7,8 @@ use Rattle.mk_net.specs.Network.{Variable, IsNetwork}
 use Rattle.mk_net.specs.Asked.{Asked, TradeRatio}
 use Rattle.mk_net.specs.Events.{speaks_of, AreApart}
 use Rattle.mk_net.proofs.Events.{apart_longer}
-use Rattle.mk_exact.specs.Events.{has, always, with_target, without_target}
-use Rattle.mk_exact.specs.InitialWeight.{all_states}
+use Rattle.mk_states.specs.Events.{has, always, with_target, without_target}
+use Rattle.mk_states.specs.InitialWeight.{all_states}
 use Rattle.mk_exact.specs.History.{Entry, UserTrade, Join, Deposit, Withdraw, Trade, Resolve, Settle, trade_in, resolution_in, join_in, users, trades, resolutions}
 use Rattle.mk_exact.specs.Weight.{IsSmall, is_possible, possible_states}
 use Rattle.mk_exact.specs.Factors.{factor_with, least_gain}
@@ -17,9 +17,10 @@ use Rattle.mk_exact.specs.Limits.{Side, IsFairAndSolvent}
 use Rattle.mk_exact.specs.Market.{Market, network_of}
 use Rattle.mk_exact.specs.Sides.{IsSide, IsFairPair, ratio_in}
 use Rattle.mk_exact.specs.Sound.{IsSound}
-use Rattle.mk_exact.specs.Proper.{IsPairOf, IsTradeOf, IsProper}
+use Rattle.mk_states.specs.OfNetwork.{IsPairOf}
+use Rattle.mk_exact.specs.Proper.{IsTradeOf, IsProper}
 use Rattle.mk_exact.specs.Accepted.{IsSafeTrade, IsInRange, AreAccepted}
-use Rattle.mk_exact.proofs.Sums.{each_weaker, each-append}
+use Rattle.mk_states.proofs.Sums.{each_weaker, each-append}
 use Rattle.mk_exact.proofs.After.{trades_kept, trades_more, resolutions_kept, resolutions_more, users_kept, users_more, possible_kept, possible_resolved}
 use Rattle.mk_exact.proofs.Fair.{fair_bounded}
 use Rattle.mk_exact.proofs.Solvent.{pair_solvent}

@@ -9,17 +9,18 @@ use Rattle.mk_net.specs.Named.{nobody}
 use Rattle.mk_net.specs.Zeros.{HasNoZeros}
 use Rattle.mk_net.specs.Events.{speaks_of, AreApart}
 use Rattle.mk_net.proofs.Events.{same_place, neither}
-use Rattle.mk_exact.specs.States.{states, IsState}
-use Rattle.mk_exact.specs.InitialWeight.{can_come, initial_weight, value_at}
-use Rattle.mk_exact.specs.Events.{has, holds}
+use Rattle.mk_states.specs.States.{states, IsState}
+use Rattle.mk_states.specs.InitialWeight.{can_come, initial_weight, value_at}
+use Rattle.mk_states.specs.Events.{has, holds}
 use Rattle.mk_exact.specs.History.{Entry, resolutions}
 use Rattle.mk_exact.specs.Weight.{is_possible, possible_states}
-use Rattle.mk_exact.specs.Proper.{IsPairOf, IsProper}
+use Rattle.mk_states.specs.OfNetwork.{IsPairOf}
+use Rattle.mk_exact.specs.Proper.{IsProper}
 use Rattle.mk_exact.specs.Laws.{AgreesWith}
-use Rattle.mk_exact.proofs.Sums.{each_both, each_weaker}
-use Rattle.mk_exact.proofs.Listed.{as_many}
+use Rattle.mk_states.proofs.Sums.{each_both, each_weaker}
+use Rattle.mk_states.proofs.Listed.{as_many}
 use Rattle.mk_exact.proofs.Comes.{is_listed}
-use Rattle.mk_exact.proofs.Positive.{size_at, weight_without_zeros}
+use Rattle.mk_states.proofs.Shares.{size_at, weight_without_zeros}
 
 -- the value that the first pair of a variable gives it, or another value where no pair does
 abbrev value_in : List Pair → ℕ → ℕ → ℕ

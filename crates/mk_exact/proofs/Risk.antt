@@ -8,9 +8,9 @@ use Rattle.std.proofs.lemmas.List.Sums.{get_or-le-sum_by}
 use Rattle.std.proofs.lemmas.List.Elements.{All-from_recursion, recursion_from_All, All-filter}
 use Rattle.mk_net.specs.Bounds.{million, number_limit}
 use Rattle.mk_net.specs.Network.{Variable, sizes, IsNetwork}
-use Rattle.mk_exact.specs.States.{numbers_below, IsState}
-use Rattle.mk_exact.specs.InitialWeight.{all_states, initial_weight, initial_total}
-use Rattle.mk_exact.specs.Events.{always}
+use Rattle.mk_states.specs.States.{numbers_below, IsState}
+use Rattle.mk_states.specs.InitialWeight.{all_states, initial_weight, initial_total}
+use Rattle.mk_states.specs.Events.{always}
 use Rattle.mk_exact.specs.History.{Entry, users, deposited, withdrawn}
 use Rattle.mk_exact.specs.Weight.{is_possible, possible_states}
 use Rattle.mk_exact.specs.Factors.{least_by, lesser}
@@ -19,8 +19,8 @@ use Rattle.mk_exact.specs.Risk.{least_weight, nearness, CoversBound}
 use Rattle.mk_exact.specs.Proper.{IsProper}
 use Rattle.mk_exact.specs.Laws.{LossIsBounded}
 use Rattle.mk_exact.specs.Existing.{HasBound}
-use Rattle.mk_exact.proofs.Sums.{each_weaker, each_both}
-use Rattle.mk_exact.proofs.Listed.{all_can}
+use Rattle.mk_states.proofs.Sums.{each_weaker, each_both}
+use Rattle.mk_states.proofs.Listed.{all_can}
 use Rattle.mk_exact.proofs.Millions.{initial_total_is}
 use Rattle.mk_exact.proofs.ExistNumbers.{cash_exists, power_of_power, power_less, exponent_at_most}
 use Rattle.mk_exact.proofs.ExistMarkets.{least_exists, of_least}

@@ -9,13 +9,13 @@ use Rattle.std.proofs.lemmas.List.{get_or_past}
 use Rattle.std.proofs.lemmas.List.Elements.{All-head}
 use Rattle.std.proofs.lemmas.Bool.{cases_lt, cases_eq, le-leb}
 use Rattle.mk_net.specs.Network.{Variable, sizes, IsNetwork, IsRow}
-use Rattle.mk_exact.specs.States.{states, numbers_below}
-use Rattle.mk_exact.specs.InitialWeight.{all_states, can_come, initial_weight, initial_total}
-use Rattle.mk_exact.specs.Events.{holds, with_target, always}
+use Rattle.mk_states.specs.States.{states, numbers_below}
+use Rattle.mk_states.specs.InitialWeight.{all_states, can_come, initial_weight, initial_total}
+use Rattle.mk_states.specs.Events.{holds, with_target, always}
 use Rattle.mk_exact.specs.Weight.{weight, total}
 use Rattle.mk_exact.specs.Sound.{IsSound}
 use Rattle.mk_exact.specs.Laws.{OpensWithRow}
-use Rattle.mk_exact.proofs.Sums.{sum_by-filter}
+use Rattle.mk_states.proofs.Sums.{sum_by-filter}
 
 pub single_states : (v : Variable) → states (sizes (v ∷ [])) ≡ map (λ x. x ∷ []) (numbers_below (length v.values))
 single_states v = flat_map_single (λ x. x ∷ []) (numbers_below (length v.values))

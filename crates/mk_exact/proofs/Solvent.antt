@@ -5,18 +5,18 @@ use Rattle.std.proofs.lemmas.List.Elements.{All-from_recursion}
 use Rattle.std.proofs.lemmas.Bool.{and_from, and_parts}
 use Rattle.mk_net.specs.Network.{Variable, sizes}
 use Rattle.mk_net.specs.Asked.{Asked, TradeRatio}
-use Rattle.mk_exact.specs.States.{IsState}
-use Rattle.mk_exact.specs.InitialWeight.{all_states, value_at}
-use Rattle.mk_exact.specs.Events.{holds, has, with_target, without_target, always}
-use Rattle.mk_exact.specs.Ratios.{unit, units_of, ratio_at}
+use Rattle.mk_states.specs.States.{IsState}
+use Rattle.mk_states.specs.InitialWeight.{all_states, value_at}
+use Rattle.mk_states.specs.Events.{holds, has, with_target, without_target, always}
+use Rattle.mk_states.specs.Ratios.{unit, units_of, ratio_at}
 use Rattle.mk_exact.specs.History.{Entry, Trade, deposited, withdrawn}
 use Rattle.mk_exact.specs.Weight.{is_possible, possible_states}
 use Rattle.mk_exact.specs.Factors.{gain, trade_count, factor, factor_with, least_by, lesser, least_gain, IsAtLeastOne}
 use Rattle.mk_exact.specs.Prices.{IsSolvent}
-use Rattle.mk_exact.specs.Proper.{IsPairOf}
+use Rattle.mk_states.specs.OfNetwork.{IsPairOf}
 use Rattle.mk_exact.specs.Sides.{ratio_in, traded, AreSolvent}
-use Rattle.mk_exact.proofs.Sums.{each_kept, kept_each, each_weaker, each_both}
-use Rattle.mk_exact.proofs.Listed.{all_are}
+use Rattle.mk_states.proofs.Sums.{each_kept, kept_each, each_weaker, each_both}
+use Rattle.mk_states.proofs.Listed.{all_are}
 use Rattle.mk_exact.proofs.Pairs.{ratio_in_at}
 use Rattle.mk_exact.proofs.After.{possible_kept, gain_traded, trade_count_traded, deposited_kept, withdrawn_kept}
 

@@ -4,16 +4,16 @@ use Rattle.std.proofs.Math.Path.{fun_ext}
 use Rattle.mk_net.specs.declared.words.Pair.{Pair}
 use Rattle.mk_net.specs.Network.{Variable, sizes}
 use Rattle.mk_net.specs.Asked.{Asked, TradeRatio}
-use Rattle.mk_exact.specs.States.{IsState}
-use Rattle.mk_exact.specs.InitialWeight.{all_states, value_at}
-use Rattle.mk_exact.specs.Events.{holds, has, with_target, without_target, always}
-use Rattle.mk_exact.specs.Ratios.{unit, ratio_at, units_of}
+use Rattle.mk_states.specs.States.{IsState}
+use Rattle.mk_states.specs.InitialWeight.{all_states, value_at}
+use Rattle.mk_states.specs.Events.{holds, has, with_target, without_target, always}
+use Rattle.mk_states.specs.Ratios.{unit, ratio_at, units_of}
 use Rattle.mk_exact.specs.History.{Entry, Trade}
 use Rattle.mk_exact.specs.Weight.{weight, total, is_possible, possible_states}
-use Rattle.mk_exact.specs.Proper.{IsPairOf}
+use Rattle.mk_states.specs.OfNetwork.{IsPairOf}
 use Rattle.mk_exact.specs.Sides.{ratio_in, traded}
-use Rattle.mk_exact.proofs.Sums.{sum_by-filter, sum_by-plus, sum_by-times, sum_by_each, each_weaker}
-use Rattle.mk_exact.proofs.Listed.{all_are}
+use Rattle.mk_states.proofs.Sums.{sum_by-filter, sum_by-plus, sum_by-times, sum_by_each, each_weaker}
+use Rattle.mk_states.proofs.Listed.{all_are}
 use Rattle.mk_exact.proofs.Pairs.{pair_at, ratio_in_at}
 use Rattle.mk_exact.proofs.After.{weight_traded, possible_kept}
 

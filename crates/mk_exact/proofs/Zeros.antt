@@ -7,7 +7,7 @@ use Rattle.std.proofs.lemmas.List.Elements.{All-from_recursion, recursion_from_A
 use Rattle.mk_net.specs.Network.{Variable}
 use Rattle.mk_net.specs.Named.{variable_at}
 use Rattle.mk_net.specs.Zeros.{has_zero, with_zeros, HasNoZeros}
-use Rattle.mk_exact.proofs.Sums.{each_number, each_weaker}
+use Rattle.mk_states.proofs.Sums.{each_number, each_weaker}
 
 -- ---- lists of which nothing passes a test
 

@@ -4,14 +4,15 @@ use Rattle.std.specs.Prelude.{◌++◌, length, sum_by, All, IfSome}
 use Rattle.mk_net.specs.Network.{Variable}
 use Rattle.mk_net.specs.Asked.{TradeRatio}
 use Rattle.mk_net.specs.Events.{speaks_of}
-use Rattle.mk_exact.specs.Events.{has, holds, always}
-use Rattle.mk_exact.specs.Ratios.{unit, ratio_at}
+use Rattle.mk_states.specs.Events.{has, holds, always}
+use Rattle.mk_states.specs.Ratios.{unit, ratio_at}
 use Rattle.mk_exact.specs.History.{Entry, Join, Deposit, Withdraw, Trade, Resolve, Settle, users, resolutions}
 use Rattle.mk_exact.specs.Weight.{weight, total, possible_states}
 use Rattle.mk_exact.specs.Factors.{Fraction, factor, factor_with, least_gain}
 use Rattle.mk_exact.specs.Prices.{IsSolvent}
 use Rattle.mk_exact.specs.Market.{Market, network_of}
-use Rattle.mk_exact.specs.Proper.{IsPairOf, IsTradeOf}
+use Rattle.mk_states.specs.OfNetwork.{IsPairOf}
+use Rattle.mk_exact.specs.Proper.{IsTradeOf}
 
 -- a factor covers a withdrawal of this many bits
 abbrev pub Covers : Fraction → ℕ → Type 0

@@ -4,8 +4,8 @@ use Rattle.mk_net.specs.declared.words.Pair.{Pair}
 use Rattle.mk_net.specs.Network.{Variable, IsNetwork}
 use Rattle.mk_net.specs.Asked.{Asked}
 use Rattle.mk_net.specs.Zeros.{with_zeros}
-use Rattle.mk_exact.specs.InitialWeight.{all_states, initial_total}
-use Rattle.mk_exact.specs.Events.{has, with_target, always}
+use Rattle.mk_states.specs.InitialWeight.{all_states, initial_total}
+use Rattle.mk_states.specs.Events.{has, with_target, always}
 use Rattle.mk_exact.specs.History.{Entry, Join, Deposit, Resolve}
 use Rattle.mk_exact.specs.Weight.{weight, total, possible_states, cannot_come, IsSmall}
 use Rattle.mk_exact.specs.Factors.{Fraction, HoldsNoTrade, factor, factor_with, least_gain}

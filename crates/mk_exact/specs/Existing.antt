@@ -8,8 +8,8 @@ use Rattle.mk_net.specs.Bounds.{max_market_trades, max_transfers, max_transfer_b
 use Rattle.mk_net.specs.Network.{Variable, IsNetwork}
 use Rattle.mk_net.specs.Asked.{Asked}
 use Rattle.mk_net.specs.Events.{speaks_of, AreApart}
-use Rattle.mk_exact.specs.InitialWeight.{initial_total}
-use Rattle.mk_exact.specs.Events.{holds, with_target, without_target, always}
+use Rattle.mk_states.specs.InitialWeight.{initial_total}
+use Rattle.mk_states.specs.Events.{holds, with_target, without_target, always}
 use Rattle.mk_exact.specs.History.{Entry, Deposit, Withdraw, Trade, UserTrade, bits_in, is_transfer, trades, resolutions}
 use Rattle.mk_exact.specs.Weight.{possible_states, IsSmall}
 use Rattle.mk_exact.specs.Factors.{Fraction, HoldsNoTrade, factor, factor_with, least_gain}
@@ -20,7 +20,8 @@ use Rattle.mk_exact.specs.Risk.{least_weight, CoversBound}
 use Rattle.mk_exact.specs.Accepted.{Covers, IsMost}
 use Rattle.mk_exact.specs.Limits.{Side, Inside, AreRight}
 use Rattle.mk_exact.specs.Sound.{IsSound}
-use Rattle.mk_exact.specs.Proper.{IsQuestionOf, IsProper}
+use Rattle.mk_states.specs.OfNetwork.{IsQuestionOf}
+use Rattle.mk_exact.specs.Proper.{IsProper}
 use Rattle.mk_exact.specs.Sides.{AreSides, AreRightLimits, IsFairPair, ratio_in}
 
 -- ---- numbers

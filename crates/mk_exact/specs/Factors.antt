@@ -1,8 +1,8 @@
 -- A user's factor in a state: 2 to the net bits, times the gain, over one unit for each trade.
 use Rattle.std.specs.Prelude.{◌≡◌, ℕ, ◌*◌, ◌^◌, ◌≤◌, min, List, Bool, Option, Some, None, length}
 use Rattle.mk_net.specs.Network.{Variable}
-use Rattle.mk_exact.specs.States.{product_by, plus_over}
-use Rattle.mk_exact.specs.Ratios.{unit, ratio_at}
+use Rattle.mk_states.specs.States.{product_by, plus_over}
+use Rattle.mk_states.specs.Ratios.{unit, ratio_at}
 use Rattle.mk_exact.specs.History.{Entry, UserTrade, trades_of, deposited, withdrawn}
 use Rattle.mk_exact.specs.Weight.{possible_states}
 

@@ -7,14 +7,15 @@ use Rattle.mk_net.specs.Network.{Variable, sizes, IsNetwork}
 use Rattle.mk_net.specs.Zeros.{HasNoZeros}
 use Rattle.mk_net.specs.Events.{AreApart}
 use Rattle.mk_net.specs.Asked.{Asked}
-use Rattle.mk_exact.specs.InitialWeight.{all_states, entry, initial_weight, initial_total}
-use Rattle.mk_exact.specs.Events.{holds, with_target, always}
-use Rattle.mk_exact.specs.Ratios.{unit}
+use Rattle.mk_states.specs.InitialWeight.{all_states, initial_weight, initial_total}
+use Rattle.mk_states.specs.Events.{holds, with_target, always}
+use Rattle.mk_states.specs.Ratios.{unit}
 use Rattle.mk_exact.specs.History.{Entry, users, resolutions, deposited, withdrawn}
-use Rattle.mk_exact.specs.States.{states, numbers_below, product_by}
+use Rattle.mk_states.specs.States.{states, numbers_below, product_by}
 use Rattle.mk_exact.specs.Cash.{IsCash}
 use Rattle.mk_exact.specs.Risk.{least_weight, CoversBound}
-use Rattle.mk_exact.specs.Proper.{IsPairOf, IsProper}
+use Rattle.mk_states.specs.OfNetwork.{IsPairOf}
+use Rattle.mk_exact.specs.Proper.{IsProper}
 use Rattle.mk_exact.specs.Accepted.{IsAcceptable, IsInRange, AreAccepted, IsSafeTrade}
 use Rattle.mk_exact.specs.Weight.{total, weight, possible_states}
 use Rattle.mk_exact.specs.Factors.{Fraction, factor, gain, trade_count, IsAtLeastOne}
@@ -127,14 +128,6 @@ pub record LossIsBounded (network : List Variable) (H : List Entry) (b : ℕ) (s
 abbrev pub SettlementBounded : Type 0
 SettlementBounded = (network : List Variable) (H : List Entry) (b : ℕ) → IsSound network H → IsProper network H
     → All (λ s. (paid : List ℕ) → ArePayments H b s paid → LossIsBounded network H b s paid) (possible_states network H always)
-
--- each share of a state is 1 to a million, and each initial weight at least 1
-pub record HasShares (network : List Variable) (s : List ℕ) : Type 0 where
-  pub shares : (k : ℕ) → k < length network → (1 ≤ entry network k s) × (entry network k s ≤ million)
-  pub weight : 1 ≤ initial_weight network s
-
-abbrev pub SharesPositive : Type 0
-SharesPositive = (network : List Variable) → IsNetwork network → All (HasShares network) (all_states network)
 
 -- in a proper history no state's weight falls to nothing
 abbrev pub WeightsPositive : Type 0

@@ -1,7 +1,3 @@
-pub mod States
-pub mod InitialWeight
-pub mod Events
-pub mod Ratios
 pub mod History
 pub mod Weight
 pub mod Factors
@@ -17,4 +13,3 @@ pub mod Accepted
 pub mod Laws
 pub mod Existing
 pub mod Examples
-pub mod Lawful

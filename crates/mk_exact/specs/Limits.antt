@@ -1,7 +1,7 @@
 -- Right limits of an edit, for the exact numbers of its question.
 use Rattle.std.specs.Prelude.{ℕ, ◌+◌, ◌-◌, ◌*◌, ◌/◌, ◌^◌, ◌<◌, ◌≤◌, Option, Some, None, ◌↔◌}
 use Rattle.mk_net.specs.Bounds.{number_limit, million}
-use Rattle.mk_exact.specs.Ratios.{unit}
+use Rattle.mk_states.specs.Ratios.{unit}
 use Rattle.mk_exact.specs.Factors.{Fraction}
 use Rattle.mk_exact.specs.Prices.{IsFair, IsSolvent}
 

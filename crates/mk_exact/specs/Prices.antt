@@ -4,8 +4,8 @@ use Rattle.mk_net.specs.declared.words.Pair.{Pair}
 use Rattle.mk_net.specs.Bounds.{number_limit, million}
 use Rattle.mk_net.specs.Network.{Variable}
 use Rattle.mk_net.specs.Asked.{Asked}
-use Rattle.mk_exact.specs.Events.{holds, with_target}
-use Rattle.mk_exact.specs.Ratios.{unit}
+use Rattle.mk_states.specs.Events.{holds, with_target}
+use Rattle.mk_states.specs.Ratios.{unit}
 use Rattle.mk_exact.specs.History.{Entry}
 use Rattle.mk_exact.specs.Weight.{total}
 use Rattle.mk_exact.specs.Factors.{Fraction}

@@ -2,8 +2,8 @@
 use Rattle.std.specs.Prelude.{ℕ, ◌+◌, ◌-◌, ◌*◌, ◌^◌, ◌<◌, ◌≤◌, List, Option, nat_lt, if◌then◌else◌}
 use Rattle.mk_net.specs.Bounds.{number_limit}
 use Rattle.mk_net.specs.Network.{Variable}
-use Rattle.mk_exact.specs.InitialWeight.{initial_weight}
-use Rattle.mk_exact.specs.Events.{always}
+use Rattle.mk_states.specs.InitialWeight.{initial_weight}
+use Rattle.mk_states.specs.Events.{always}
 use Rattle.mk_exact.specs.History.{Entry}
 use Rattle.mk_exact.specs.Weight.{possible_states}
 use Rattle.mk_exact.specs.Factors.{least_by}

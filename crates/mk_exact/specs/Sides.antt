@@ -3,7 +3,7 @@ use Rattle.std.specs.Prelude.{◌≡◌, ℕ, ◌-◌, ◌≤◌, List, [], ◌�
 use Rattle.mk_net.specs.Bounds.{million}
 use Rattle.mk_net.specs.Network.{Variable, sizes}
 use Rattle.mk_net.specs.Asked.{Asked, TradeRatio, question_ratio}
-use Rattle.mk_exact.specs.Events.{with_target, without_target}
+use Rattle.mk_states.specs.Events.{with_target, without_target}
 use Rattle.mk_exact.specs.History.{Entry, Trade}
 use Rattle.mk_exact.specs.Weight.{IsSmall}
 use Rattle.mk_exact.specs.Factors.{factor_with, least_gain}

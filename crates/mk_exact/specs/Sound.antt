@@ -1,9 +1,9 @@
 -- Sound histories: nobody can go bankrupt, and the operator's loss is bounded.
 use Rattle.std.specs.Prelude.{ℕ, ◌*◌, ◌^◌, ◌≤◌, List, All, length}
 use Rattle.mk_net.specs.Network.{Variable}
-use Rattle.mk_exact.specs.InitialWeight.{initial_total}
-use Rattle.mk_exact.specs.Events.{always}
-use Rattle.mk_exact.specs.Ratios.{unit}
+use Rattle.mk_states.specs.InitialWeight.{initial_total}
+use Rattle.mk_states.specs.Events.{always}
+use Rattle.mk_states.specs.Ratios.{unit}
 use Rattle.mk_exact.specs.History.{Entry, trades}
 use Rattle.mk_exact.specs.Weight.{total, possible_states}
 use Rattle.mk_exact.specs.Factors.{factor, IsAtLeastOne}

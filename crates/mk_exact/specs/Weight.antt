@@ -1,10 +1,10 @@
 -- The exact joint table of a history.
 use Rattle.std.specs.Prelude.{ℕ, ◌*◌, ◌<◌, ◌^◌, List, Bool, ◌&&◌, ◌==◌, filter, length, sum_by}
 use Rattle.mk_net.specs.Network.{Variable}
-use Rattle.mk_exact.specs.States.{product_by}
-use Rattle.mk_exact.specs.InitialWeight.{all_states, initial_weight}
-use Rattle.mk_exact.specs.Events.{holds}
-use Rattle.mk_exact.specs.Ratios.{ratio_at}
+use Rattle.mk_states.specs.States.{product_by}
+use Rattle.mk_states.specs.InitialWeight.{all_states, initial_weight}
+use Rattle.mk_states.specs.Events.{holds}
+use Rattle.mk_states.specs.Ratios.{ratio_at}
 use Rattle.mk_exact.specs.History.{Entry, UserTrade, trades, resolutions}
 
 -- the initial weight times the ratio of every trade

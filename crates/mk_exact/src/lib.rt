@@ -22,8 +22,7 @@ pub use existing::{
     withdrawal_is_judged,
 };
 pub use opening::{
-    begins_sound, initial_total_is_millions, shares_positive, single_opens, weights_begin,
-    weights_positive,
+    begins_sound, initial_total_is_millions, single_opens, weights_begin, weights_positive,
 };
 pub use settling::{bound_holds, gains_bounded, settlement_bounded};
 pub use trading::{price_moves, solvent_stays, total_never_rises};

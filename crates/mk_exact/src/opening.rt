@@ -1,10 +1,5 @@
 //! The weights of a network's states, and a market that nobody has used yet.
-ghost use Rattle.mk_exact.specs.Laws.{SharesPositive, WeightsPositive, InitialTotalIsMillions, WeightsBegin, BeginsSound, SingleOpens};
-
-/// Each share of a state is 1 to a million, and each initial weight at least 1.
-pub fn shares_positive()
-    ensures { SharesPositive }
-{}
+ghost use Rattle.mk_exact.specs.Laws.{WeightsPositive, InitialTotalIsMillions, WeightsBegin, BeginsSound, SingleOpens};
 
 /// The initial weights of all states together are a million for each variable.
 pub fn initial_total_is_millions()

@@ -5,7 +5,7 @@ use Rattle.std.proofs.Common.{ne_eqb}
 use Rattle.std.proofs.lemmas.List.Sums.{sum_by_push}
 use Rattle.mk_net.specs.Asked.{TradeRatio}
 use Rattle.mk_net.specs.Network.{Variable}
-use Rattle.mk_exact.specs.Events.{always}
+use Rattle.mk_states.specs.Events.{always}
 use Rattle.mk_exact.specs.History.{Entry, Deposit, Withdraw, Trade, bits_in}
 use Rattle.mk_exact.specs.History.{bits_out}
 use Rattle.mk_exact.specs.Weight.{total}

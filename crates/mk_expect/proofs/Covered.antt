@@ -4,11 +4,11 @@ use Rattle.std.proofs.Common.{ap, subst, arith}
 use Rattle.std.proofs.Math.Nat.{mul-le-mul_left, mul-le-mul_right, pow-suc, pow-zero, one-le-pow}
 use Rattle.std.proofs.lemmas.Nat.{pow_pos}
 use Rattle.mk_net.specs.Network.{Variable}
-use Rattle.mk_exact.specs.Events.{always}
+use Rattle.mk_states.specs.Events.{always}
 use Rattle.mk_exact.specs.Factors.{trade_count}
 use Rattle.mk_exact.specs.History.{Entry}
 use Rattle.mk_exact.specs.Proper.{IsProper}
-use Rattle.mk_exact.specs.Ratios.{unit}
+use Rattle.mk_states.specs.Ratios.{unit}
 use Rattle.mk_exact.specs.Weight.{total}
 use Rattle.mk_scaled.specs.Form.{bit_length}
 use Rattle.mk_scaled.specs.inner.UniqueForm.{bit_length_bounds}

@@ -6,15 +6,16 @@ use Rattle.std.proofs.Math.Path.{fun_ext}
 use Rattle.std.proofs.lemmas.List.Sums.{sum_by-cons}
 use Rattle.mk_net.specs.Asked.{TradeRatio}
 use Rattle.mk_net.specs.Network.{Variable}
-use Rattle.mk_exact.specs.Events.{always}
+use Rattle.mk_states.specs.Events.{always}
 use Rattle.mk_exact.specs.Factors.{trade_count}
 use Rattle.mk_exact.specs.History.{Entry, Join, Deposit, Withdraw, Trade, Resolve, Settle}
 use Rattle.mk_exact.specs.History.{UserTrade, bits_in, bits_out, trades, trades_of, deposited}
 use Rattle.mk_exact.specs.History.{withdrawn, users}
-use Rattle.mk_exact.specs.Proper.{IsProper, IsTradeOf, IsRatioOf}
-use Rattle.mk_exact.specs.Ratios.{unit, ratio_at}
+use Rattle.mk_states.specs.OfNetwork.{IsRatioOf}
+use Rattle.mk_exact.specs.Proper.{IsProper, IsTradeOf}
+use Rattle.mk_states.specs.Ratios.{unit, ratio_at}
 use Rattle.mk_exact.specs.Weight.{total}
-use Rattle.mk_exact.proofs.Sums.{sum_by-plus, sum_by-times, each_weaker, kept_each}
+use Rattle.mk_states.proofs.Sums.{sum_by-plus, sum_by-times, each_weaker, kept_each}
 use Rattle.std.proofs.lemmas.List.Elements.{recursion_from_All}
 use Rattle.mk_expect.specs.Expectation.{bits_held, bits_owed}
 use Rattle.mk_expect.specs.inner.Parts.{unit_bits, own_trade, values_gained, values_owed}

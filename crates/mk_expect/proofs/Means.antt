@@ -8,15 +8,15 @@ use Rattle.std.proofs.lemmas.List.Elements.{recursion_from_All}
 use Rattle.std.proofs.lemmas.List.Sums.{sum_by-cons, sum_by-le-sum_by}
 use Rattle.mk_net.specs.Asked.{TradeRatio}
 use Rattle.mk_net.specs.Network.{Variable, sizes}
-use Rattle.mk_exact.specs.Events.{has, holds, always}
+use Rattle.mk_states.specs.Events.{has, holds, always}
 use Rattle.mk_exact.specs.History.{Entry}
-use Rattle.mk_exact.specs.InitialWeight.{all_states, value_at}
-use Rattle.mk_exact.specs.Ratios.{unit, ratio_at, units_of}
-use Rattle.mk_exact.specs.States.{numbers_below, plus_over, IsState}
+use Rattle.mk_states.specs.InitialWeight.{all_states, value_at}
+use Rattle.mk_states.specs.Ratios.{unit, ratio_at, units_of}
+use Rattle.mk_states.specs.States.{numbers_below, plus_over, IsState}
 use Rattle.mk_exact.specs.Weight.{weight, total, is_possible, possible_states}
-use Rattle.mk_exact.proofs.Sums.{sums_are_plus, plus_over-filter, plus_over_by_key, sum_by_is}
-use Rattle.mk_exact.proofs.Sums.{sum_by-plus, sum_by-times, list_all-append, each_weaker, kept_each}
-use Rattle.mk_exact.proofs.Listed.{all_are, value_below}
+use Rattle.mk_states.proofs.Sums.{sums_are_plus, plus_over-filter, plus_over_by_key, sum_by_is}
+use Rattle.mk_states.proofs.Sums.{sum_by-plus, sum_by-times, list_all-append, each_weaker, kept_each}
+use Rattle.mk_states.proofs.Listed.{all_are, value_below}
 use Rattle.mk_exact.proofs.Totals.{total_is}
 use Rattle.mk_expect.specs.inner.Parts.{unit_bits, event_at, weight_at, values_gained, values_owed}
 

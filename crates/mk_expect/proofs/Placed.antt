@@ -3,7 +3,7 @@ use Rattle.std.proofs.Common.{◌≡◌, ℕ, List, [], ◌∷◌, length, is_so
 use Rattle.std.specs.List.{AllByRecursion}
 use Rattle.mk_net.specs.Asked.{ratio_pairs}
 use Rattle.mk_net.specs.Network.{Variable, IsNetwork}
-use Rattle.mk_exact.specs.Events.{always}
+use Rattle.mk_states.specs.Events.{always}
 use Rattle.mk_exact.specs.History.{Entry, Join, Deposit, Withdraw, Trade, Resolve, Settle}
 use Rattle.mk_exact.specs.History.{UserTrade, trades, users}
 use Rattle.mk_exact.specs.Proper.{IsTradeOf, IsProper}

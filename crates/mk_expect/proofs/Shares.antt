@@ -6,9 +6,9 @@ use Rattle.mk_net.specs.declared.words.Pair.{Pair}
 use Rattle.mk_net.specs.Asked.{Asked, TradeRatio, ratio_pairs}
 use Rattle.mk_net.specs.Bounds.{max_market_trades}
 use Rattle.mk_net.specs.Network.{Variable, IsNetwork}
-use Rattle.mk_exact.specs.Events.{holds, always}
+use Rattle.mk_states.specs.Events.{holds, always}
 use Rattle.mk_exact.specs.History.{Entry, trades}
-use Rattle.mk_exact.specs.Proper.{IsRatioOf}
+use Rattle.mk_states.specs.OfNetwork.{IsRatioOf}
 use Rattle.mk_exact.specs.Weight.{IsSmall, total}
 use Rattle.mk_exact.proofs.Totals.{total_always}
 use Rattle.mk_enclose.specs.declared.enclosure.Enclosure.{Enclosure}

@@ -6,8 +6,8 @@ use Rattle.std.specs.List.{range_with_len}
 use Rattle.mk_net.specs.Asked.{TradeRatio}
 use Rattle.mk_net.specs.Network.{Variable}
 use Rattle.mk_exact.specs.History.{Entry}
-use Rattle.mk_exact.specs.States.{numbers_below, plus_over}
-use Rattle.mk_exact.proofs.Sums.{sums_are_plus, plus_over-append}
+use Rattle.mk_states.specs.States.{numbers_below, plus_over}
+use Rattle.mk_states.proofs.Sums.{sums_are_plus, plus_over-append}
 use Rattle.mk_expect.specs.declared.tally.Tally.{Tally}
 use Rattle.mk_expect.specs.inner.Parts.{unit_bits, value_gained, value_owed, values_gained}
 use Rattle.mk_expect.specs.inner.Parts.{values_owed}

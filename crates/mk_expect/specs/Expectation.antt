@@ -2,11 +2,11 @@
 use Rattle.std.specs.Prelude.{ℕ, ℤ, pos, negsuc, suc, ◌+◌, ◌*◌, ◌^◌, ◌<◌, ◌≤◌, List, sum_by}
 use Rattle.mk_net.specs.Bounds.{max_transfers, max_transfer_bits}
 use Rattle.mk_net.specs.Network.{Variable}
-use Rattle.mk_exact.specs.Events.{always}
+use Rattle.mk_states.specs.Events.{always}
 use Rattle.mk_exact.specs.Factors.{Fraction, trade_count}
 use Rattle.mk_exact.specs.History.{Entry, UserTrade, trades_of, deposited, withdrawn}
 use Rattle.mk_exact.specs.Market.{Market}
-use Rattle.mk_exact.specs.Ratios.{ratio_at}
+use Rattle.mk_states.specs.Ratios.{ratio_at}
 use Rattle.mk_exact.specs.Weight.{weight, total, possible_states}
 use Rattle.mk_rules.specs.Bounded.{IsBounded}
 

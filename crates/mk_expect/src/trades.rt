@@ -2,7 +2,7 @@
 ghost use Rattle.std.specs.Prelude.{◌≡◌, ℕ, ◌+◌, ◌*◌, ◌^◌, ◌<◌, ◌≤◌, List, length};
 ghost use Rattle.mk_net.specs.Network.{Variable};
 ghost use Rattle.mk_net.specs.Trades.{trade_ratio};
-ghost use Rattle.mk_exact.specs.Events.{always};
+ghost use Rattle.mk_states.specs.Events.{always};
 ghost use Rattle.mk_exact.specs.History.{Entry};
 ghost use Rattle.mk_exact.specs.Weight.{total};
 ghost use Rattle.mk_engine.specs.Meaning.{Meaning};

@@ -13,15 +13,16 @@ use Rattle.mk_net.specs.Bounds.{million}
 use Rattle.mk_net.specs.Network.{Variable, sizes, IsNetwork, IsVariable, IsRow}
 use Rattle.mk_net.specs.Named.{variable_at, nobody}
 use Rattle.mk_net.specs.Asked.{TradeRatio}
-use Rattle.mk_exact.specs.States.{numbers_below, product_by, IsState}
-use Rattle.mk_exact.specs.InitialWeight.{value_at, row_number, entry, initial_weight}
-use Rattle.mk_exact.specs.Events.{has, holds}
-use Rattle.mk_exact.specs.Ratios.{unit, ratio_at, units_of}
+use Rattle.mk_states.specs.States.{numbers_below, product_by, IsState}
+use Rattle.mk_states.specs.InitialWeight.{value_at, row_number, entry, initial_weight}
+use Rattle.mk_states.specs.Events.{has, holds}
+use Rattle.mk_states.specs.Ratios.{unit, ratio_at, units_of}
 use Rattle.mk_exact.specs.History.{UserTrade}
-use Rattle.mk_exact.specs.Proper.{IsPairOf, IsRatioOf, IsTradeOf}
-use Rattle.mk_exact.proofs.Sums.{plus_over_each, each_weaker, each_number, product_by_push}
-use Rattle.mk_exact.proofs.Listed.{as_many}
-use Rattle.mk_exact.proofs.Positive.{row_number_below}
+use Rattle.mk_states.specs.OfNetwork.{IsPairOf, IsRatioOf}
+use Rattle.mk_exact.specs.Proper.{IsTradeOf}
+use Rattle.mk_states.proofs.Sums.{plus_over_each, each_weaker, each_number, product_by_push}
+use Rattle.mk_states.proofs.Listed.{as_many}
+use Rattle.mk_states.proofs.Shares.{row_number_below}
 use Rattle.mk_grown.specs.Grown.{with_variable, share_of, IsWithoutZeros}
 use Rattle.mk_net.proofs.Behind.{sizes_more, size_before, variable_before, variable_last}
 

@@ -13,19 +13,20 @@ use Rattle.mk_net.specs.Bounds.{million}
 use Rattle.mk_net.specs.Network.{Variable, sizes, IsNetwork, IsVariable}
 use Rattle.mk_net.specs.Named.{nobody}
 use Rattle.mk_net.specs.Asked.{Asked}
-use Rattle.mk_exact.specs.States.{numbers_below, plus_over, product_by, IsState}
-use Rattle.mk_exact.specs.InitialWeight.{all_states, initial_weight, initial_total}
-use Rattle.mk_exact.specs.Events.{holds, with_target, always}
-use Rattle.mk_exact.specs.Ratios.{unit, ratio_at}
+use Rattle.mk_states.specs.States.{numbers_below, plus_over, product_by, IsState}
+use Rattle.mk_states.specs.InitialWeight.{all_states, initial_weight, initial_total}
+use Rattle.mk_states.specs.Events.{holds, with_target, always}
+use Rattle.mk_states.specs.Ratios.{unit, ratio_at}
 use Rattle.mk_exact.specs.History.{Entry, UserTrade, users, trades, trades_of, resolutions}
 use Rattle.mk_exact.specs.Weight.{weight, total, is_possible, possible_states}
 use Rattle.mk_exact.specs.Factors.{gain, factor, factor_with, least_gain, lesser, IsAtLeastOne}
-use Rattle.mk_exact.specs.Proper.{IsPairOf, IsQuestionOf, IsTradeOf, IsProper}
+use Rattle.mk_states.specs.OfNetwork.{IsPairOf, IsQuestionOf}
+use Rattle.mk_exact.specs.Proper.{IsTradeOf, IsProper}
 use Rattle.mk_exact.specs.Sound.{IsSound}
-use Rattle.mk_exact.proofs.Sums.{IsPlus, sums_are_plus, sum_by_is, sum_by-times, sum_by_each}
-use Rattle.mk_exact.proofs.Sums.{plus_over-filter, plus_over_each, each_weaker, each_both}
-use Rattle.mk_exact.proofs.Sums.{each-flat_map, each-map, each_always}
-use Rattle.mk_exact.proofs.Listed.{all_are}
+use Rattle.mk_states.proofs.Sums.{IsPlus, sums_are_plus, sum_by_is, sum_by-times, sum_by_each}
+use Rattle.mk_states.proofs.Sums.{plus_over-filter, plus_over_each, each_weaker, each_both}
+use Rattle.mk_states.proofs.Sums.{each-flat_map, each-map, each_always}
+use Rattle.mk_states.proofs.Listed.{all_are}
 use Rattle.mk_exact.proofs.Totals.{total_is}
 use Rattle.mk_net.proofs.Behind.{size_before, variable_last}
 use Rattle.mk_grown.specs.Grown.{with_variable, with_each_value, share_of, IsWithoutZeros, IsBlind}

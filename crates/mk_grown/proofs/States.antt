@@ -9,11 +9,11 @@ use Rattle.std.proofs.lemmas.Bool.{le-leb}
 use Rattle.std.proofs.lemmas.List.Elements.{filter-append}
 use Rattle.mk_net.specs.Network.{Variable, sizes, IsNetwork}
 use Rattle.mk_net.proofs.Behind.{sizes_more}
-use Rattle.mk_exact.specs.States.{states, numbers_below, plus_over, IsState}
-use Rattle.mk_exact.specs.InitialWeight.{all_states, can_come, initial_weight}
-use Rattle.mk_exact.proofs.Sums.{IsPlus, plus_over-flat_map, plus_over-map, each-map, each_weaker}
-use Rattle.mk_exact.proofs.Sums.{each_number}
-use Rattle.mk_exact.proofs.Listed.{states_are}
+use Rattle.mk_states.specs.States.{states, numbers_below, plus_over, IsState}
+use Rattle.mk_states.specs.InitialWeight.{all_states, can_come, initial_weight}
+use Rattle.mk_states.proofs.Sums.{IsPlus, plus_over-flat_map, plus_over-map, each-map, each_weaker}
+use Rattle.mk_states.proofs.Sums.{each_number}
+use Rattle.mk_states.proofs.Listed.{states_are}
 use Rattle.mk_exact.proofs.Longer.{states_longer}
 use Rattle.mk_grown.specs.Grown.{with_variable, with_each_value, share_of, IsWithoutZeros}
 use Rattle.mk_grown.proofs.Entries.{weight_more, share_positive}

@@ -2,8 +2,8 @@
 use Rattle.std.specs.Prelude.{◌≡◌, ℕ, ◌≤◌, List, [], ◌∷◌, ◌++◌, Bool, All, map, slice_index}
 use Rattle.std.specs.Prelude.{slice_index_or}
 use Rattle.mk_net.specs.Network.{Variable, sizes}
-use Rattle.mk_exact.specs.States.{numbers_below, IsState}
-use Rattle.mk_exact.specs.InitialWeight.{row_number}
+use Rattle.mk_states.specs.States.{numbers_below, IsState}
+use Rattle.mk_states.specs.InitialWeight.{row_number}
 
 abbrev pub with_variable : List Variable → Variable → List Variable
 with_variable network v = network ++ v ∷ []

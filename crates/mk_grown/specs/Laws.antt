@@ -5,11 +5,12 @@ use Rattle.std.specs.List.{flat_map}
 use Rattle.mk_net.specs.Bounds.{million}
 use Rattle.mk_net.specs.Network.{Variable, IsNetwork}
 use Rattle.mk_net.specs.Asked.{Asked}
-use Rattle.mk_exact.specs.InitialWeight.{all_states, initial_total}
+use Rattle.mk_states.specs.InitialWeight.{all_states, initial_total}
 use Rattle.mk_exact.specs.History.{Entry}
 use Rattle.mk_exact.specs.Weight.{total}
 use Rattle.mk_exact.specs.Factors.{least_gain}
-use Rattle.mk_exact.specs.Proper.{IsProper, IsQuestionOf}
+use Rattle.mk_states.specs.OfNetwork.{IsQuestionOf}
+use Rattle.mk_exact.specs.Proper.{IsProper}
 use Rattle.mk_exact.specs.Sound.{IsSound}
 use Rattle.mk_exact.specs.Prices.{exact_price}
 use Rattle.mk_grown.specs.Grown.{with_variable, with_each_value, IsWithoutZeros, IsBlind}

@@ -8,9 +8,9 @@ use Rattle.std.proofs.lemmas.List.FromFn.{get_or-map-range_with_len, length-map-
 use Rattle.mk_net.specs.declared.sets.VarSet.{VarSet}
 use Rattle.mk_net.specs.Sets.{is_member}
 use Rattle.mk_net.specs.Network.{Variable, sizes}
-use Rattle.mk_exact.specs.States.{states, plus_over}
-use Rattle.mk_exact.specs.InitialWeight.{value_at}
-use Rattle.mk_exact.specs.Lawful.{Lawful}
+use Rattle.mk_states.specs.States.{states, plus_over}
+use Rattle.mk_states.specs.InitialWeight.{value_at}
+use Rattle.mk_states.specs.Lawful.{Lawful}
 use Rattle.mk_sums.specs.Sums.{plus_below, listed}
 use Rattle.mk_sums.specs.Cells.{keep, cells, place}
 use Rattle.mk_sums.specs.Joint.{variables}

@@ -4,10 +4,10 @@ use Rattle.std.proofs.lemmas.List.Elements.{All-from_recursion, All-weaker}
 use Rattle.mk_net.specs.declared.words.Pair.{Pair}
 use Rattle.mk_net.specs.Network.{sizes, Variable, IsNetwork}
 use Rattle.mk_net.specs.Named.{variable_at}
-use Rattle.mk_exact.specs.States.{states, product_by}
-use Rattle.mk_exact.specs.InitialWeight.{value_at}
-use Rattle.mk_exact.proofs.Sums.{product_by_push, list_all-append, sum_by_is}
-use Rattle.mk_exact.proofs.Positive.{parents_within}
+use Rattle.mk_states.specs.States.{states, product_by}
+use Rattle.mk_states.specs.InitialWeight.{value_at}
+use Rattle.mk_states.proofs.Sums.{product_by_push, list_all-append, sum_by_is}
+use Rattle.mk_states.proofs.Shares.{parents_within}
 use Rattle.mk_sums.specs.Sums.{plus_below}
 use Rattle.mk_sums.specs.There.{holds_there}
 use Rattle.mk_sums.proofs.Grades.{sums_lawful}

@@ -11,10 +11,10 @@ use Rattle.mk_net.specs.Bounds.{max_clique_cells}
 use Rattle.mk_net.specs.Network.{Variable, sizes, IsNetwork}
 use Rattle.mk_net.specs.Named.{variable_at, nobody}
 use Rattle.mk_net.specs.Asked.{TradeRatio, ratio_pairs}
-use Rattle.mk_exact.specs.Proper.{IsPairOf, IsRatioOf}
-use Rattle.mk_exact.proofs.Sums.{each_weaker}
-use Rattle.mk_exact.proofs.Listed.{as_many}
-use Rattle.mk_exact.proofs.Positive.{size_at}
+use Rattle.mk_states.specs.OfNetwork.{IsPairOf, IsRatioOf}
+use Rattle.mk_states.proofs.Sums.{each_weaker}
+use Rattle.mk_states.proofs.Listed.{as_many}
+use Rattle.mk_states.proofs.Shares.{size_at}
 use Rattle.mk_tree.specs.Given.{GivenTree}
 use Rattle.mk_table.specs.Scopes.{ScopeOf, cells_in, has_variable, HasEvent, HasOneEach, HasSized}
 use Rattle.mk_table.specs.Cells.{values_at}

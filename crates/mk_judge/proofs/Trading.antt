@@ -4,7 +4,7 @@ use Rattle.std.proofs.lemmas.Bool.{cases_lt}
 use Rattle.std.proofs.Math.Nat.{mul-le-mul_left, mul-le-mul_right, le-div_iff_mul-le, lt-div-mul-add}
 use Rattle.mk_net.specs.Bounds.{number_limit, million}
 use Rattle.mk_scaled.specs.Near.{IsNear}
-use Rattle.mk_exact.specs.Ratios.{unit}
+use Rattle.mk_states.specs.Ratios.{unit}
 use Rattle.mk_exact.specs.Prices.{IsSolvent}
 use Rattle.mk_exact.specs.Limits.{Side, IsFairAndSolvent}
 use Rattle.mk_judge.specs.declared.scale.Scale.{Scale}

@@ -1,7 +1,7 @@
 -- When every share of an interval can be traded, and which numbers a judge of it compares.
 use Rattle.std.specs.Prelude.{◌≡◌, ℕ, ◌+◌, ◌-◌, ◌*◌, ◌^◌, ◌≤◌, ◌⊎◌}
 use Rattle.mk_net.specs.Bounds.{number_limit, million}
-use Rattle.mk_exact.specs.Ratios.{unit}
+use Rattle.mk_states.specs.Ratios.{unit}
 use Rattle.mk_exact.specs.Factors.{Fraction}
 use Rattle.mk_exact.specs.Prices.{IsSolvent}
 use Rattle.mk_exact.specs.Limits.{Side, IsFairAndSolvent}

@@ -1,7 +1,7 @@
 -- What bounds say of one side of a question, and which numbers a judge of its units compares.
 use Rattle.std.specs.Prelude.{◌≡◌, ℕ, ◌+◌, ◌-◌, ◌*◌, ◌^◌, ◌<◌, ◌⊎◌, Bool, false, IsTrue}
 use Rattle.mk_net.specs.Bounds.{million}
-use Rattle.mk_exact.specs.Ratios.{unit}
+use Rattle.mk_states.specs.Ratios.{unit}
 use Rattle.mk_exact.specs.Factors.{Fraction}
 use Rattle.mk_exact.specs.Limits.{Side}
 use Rattle.mk_enclose.specs.declared.enclosure.Enclosure.{Enclosure}

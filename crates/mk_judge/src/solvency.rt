@@ -1,7 +1,7 @@
 //! The units that leave a factor at least one.
 ghost use Rattle.std.specs.Prelude.{◌≡◌, ℕ, ◌+◌, ◌*◌, ◌^◌, ◌<◌, ◌≤◌, MatchBool, MatchOption};
 ghost use Rattle.mk_net.specs.Bounds.{number_limit};
-ghost use Rattle.mk_exact.specs.Ratios.{unit};
+ghost use Rattle.mk_states.specs.Ratios.{unit};
 ghost use Rattle.mk_exact.specs.Factors.{Fraction};
 ghost use Rattle.mk_exact.specs.Prices.{IsSolvent};
 ghost use Rattle.mk_enclose.specs.Enclosure.{Encloses, HasGrade, IsExact};

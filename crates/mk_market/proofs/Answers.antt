@@ -5,7 +5,7 @@ use Rattle.mk_net.specs.Firsts.{or_else, first_of}
 use Rattle.mk_net.specs.Network.{Variable}
 use Rattle.mk_net.specs.Asked.{Asked}
 use Rattle.mk_net.specs.declared.words.QuestionText.{QuestionText}
-use Rattle.mk_exact.specs.Events.{holds}
+use Rattle.mk_states.specs.Events.{holds}
 use Rattle.mk_exact.specs.History.{Entry}
 use Rattle.mk_exact.specs.Weight.{cannot_come}
 use Rattle.mk_tree.specs.Given.{GivenTree}

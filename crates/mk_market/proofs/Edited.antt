@@ -10,7 +10,7 @@ use Rattle.mk_net.specs.Asked.{Asked, IsUnits}
 use Rattle.mk_exact.specs.History.{Entry, Trade, revision}
 use Rattle.mk_exact.specs.Limits.{Inside}
 use Rattle.mk_exact.specs.Sides.{AreRightLimits, IsFairPair, ratio_in}
-use Rattle.mk_exact.specs.Events.{holds, with_target, without_target}
+use Rattle.mk_states.specs.Events.{holds, with_target, without_target}
 use Rattle.mk_exact.specs.Existing.{IsInOrder, CanMove}
 use Rattle.mk_exact.proofs.Coming.{state_of}
 use Rattle.mk_exact.proofs.ExistMarkets.{sides_exist}

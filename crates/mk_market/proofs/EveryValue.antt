@@ -8,7 +8,7 @@ use Rattle.arrayvec.specs.ArrayVec.{ArrayVec}
 use Rattle.mk_net.specs.declared.words.PairText.{PairText}
 use Rattle.mk_net.specs.Firsts.{first_of}
 use Rattle.mk_net.specs.Network.{Variable}
-use Rattle.mk_exact.specs.Events.{holds}
+use Rattle.mk_states.specs.Events.{holds}
 use Rattle.mk_exact.specs.History.{Entry}
 use Rattle.mk_exact.specs.Sound.{IsSound}
 use Rattle.mk_exact.specs.Weight.{cannot_come}

@@ -7,7 +7,8 @@ use Rattle.mk_net.specs.declared.words.Pair.{Pair}
 use Rattle.mk_net.specs.Asked.{ratio_pairs}
 use Rattle.mk_exact.specs.History.{Entry, UserTrade, trades, resolutions}
 use Rattle.mk_exact.specs.Market.{cliques_of}
-use Rattle.mk_exact.specs.Proper.{IsPairOf, IsTradeOf}
+use Rattle.mk_states.specs.OfNetwork.{IsPairOf}
+use Rattle.mk_exact.specs.Proper.{IsTradeOf}
 use Rattle.mk_tree.specs.Given.{home}
 use Rattle.mk_tree.specs.Checked.{IsTreeOf}
 use Rattle.mk_tree.proofs.Held.{pair_has_home}

@@ -10,7 +10,7 @@ use Rattle.mk_cash.specs.Accounts.{account_of, empty_account}
 use Rattle.mk_engine.specs.Meaning.{Meaning}
 use Rattle.mk_net.specs.Network.{Variable}
 use Rattle.mk_exact.specs.Cash.{CoversCash}
-use Rattle.mk_exact.specs.Events.{always}
+use Rattle.mk_states.specs.Events.{always}
 use Rattle.mk_exact.specs.Existing.{HasLeast}
 use Rattle.mk_exact.specs.Sound.{IsSound}
 use Rattle.mk_exact.specs.Factors.{Fraction, HoldsNoTrade, IsAtLeastOne, factor, factor_with, gain}

@@ -9,7 +9,7 @@ use Rattle.mk_net.specs.Events.{speaks_of}
 use Rattle.mk_net.specs.Network.{Variable}
 use Rattle.mk_net.specs.Zeros.{with_zeros}
 use Rattle.mk_net.proofs.Events.{neither}
-use Rattle.mk_exact.specs.Events.{has, holds}
+use Rattle.mk_states.specs.Events.{has, holds}
 use Rattle.mk_exact.specs.History.{Entry, resolutions}
 use Rattle.mk_exact.specs.Laws.{AgreesWith}
 use Rattle.mk_exact.specs.Weight.{cannot_come}

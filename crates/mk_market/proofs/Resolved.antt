@@ -10,7 +10,7 @@ use Rattle.mk_net.specs.Bounds.{max_variables}
 use Rattle.mk_net.specs.Firsts.{first_of}
 use Rattle.mk_net.specs.Named.{pair_named}
 use Rattle.mk_net.specs.Network.{Variable}
-use Rattle.mk_exact.specs.Events.{has, holds}
+use Rattle.mk_states.specs.Events.{has, holds}
 use Rattle.mk_exact.specs.Weight.{cannot_come}
 use Rattle.mk_exact.specs.History.{Entry, Resolve as Resolves, join_in, resolutions, deposited, withdrawn, revision, is_settlement}
 use Rattle.mk_exact.specs.Proper.{IsProper}

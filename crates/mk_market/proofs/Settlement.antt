@@ -9,13 +9,13 @@ use Rattle.std.proofs.lemmas.Option.{slice_get_within}
 use Rattle.mk_net.specs.Network.{Variable}
 use Rattle.mk_net.specs.declared.words.Pair.{Pair}
 use Rattle.mk_exact.specs.Cash.{CoversCash}
-use Rattle.mk_exact.specs.Events.{always, holds}
+use Rattle.mk_states.specs.Events.{always, holds}
 use Rattle.mk_exact.specs.Existing.{HasOutcome}
 use Rattle.mk_exact.specs.Factors.{Fraction, HoldsNoTrade, factor}
 use Rattle.mk_exact.specs.Sound.{IsSound}
-use Rattle.mk_exact.specs.InitialWeight.{all_states, initial_weight}
-use Rattle.mk_exact.specs.Ratios.{ratio_at}
-use Rattle.mk_exact.specs.States.{product_by}
+use Rattle.mk_states.specs.InitialWeight.{all_states, initial_weight}
+use Rattle.mk_states.specs.Ratios.{ratio_at}
+use Rattle.mk_states.specs.States.{product_by}
 use Rattle.mk_exact.specs.Market.{Market, network_of}
 use Rattle.mk_exact.specs.History.{Entry, UserTrade, Settle as Settles, join_in, users, revision}
 use Rattle.mk_exact.specs.History.{is_settlement, is_settled}

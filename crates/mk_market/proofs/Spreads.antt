@@ -14,9 +14,9 @@ use Rattle.mk_net.specs.Network.{Variable, sizes}
 use Rattle.mk_net.specs.Asked.{IsUnits}
 use Rattle.mk_exact.specs.History.{Entry, Trade, revision}
 use Rattle.mk_exact.specs.Limits.{Side}
-use Rattle.mk_exact.specs.Proper.{IsRatioOf}
+use Rattle.mk_states.specs.OfNetwork.{IsRatioOf}
 use Rattle.mk_exact.specs.Weight.{IsSmall}
-use Rattle.mk_exact.proofs.Sums.{each_weaker}
+use Rattle.mk_states.proofs.Sums.{each_weaker}
 use Rattle.mk_spread.specs.Spreads.{SpreadAsked, spread_ratio}
 use Rattle.mk_spread.specs.Bounds.{Intervals, InsideEach}
 use Rattle.mk_spread.specs.Existing.{HasValueSides}

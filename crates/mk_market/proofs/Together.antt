@@ -9,7 +9,7 @@ use Rattle.mk_net.specs.declared.words.PairText.{PairText}
 use Rattle.mk_net.specs.Asked.{Asked}
 use Rattle.mk_net.specs.Named.{pair_named}
 use Rattle.mk_net.specs.Network.{Variable}
-use Rattle.mk_exact.specs.Events.{has, holds, with_target}
+use Rattle.mk_states.specs.Events.{has, holds, with_target}
 use Rattle.mk_exact.specs.History.{Entry}
 use Rattle.mk_exact.specs.Proper.{IsProper}
 use Rattle.mk_exact.specs.Weight.{cannot_come}

@@ -5,7 +5,7 @@ use Rattle.std.specs.List.{enumerate_from, list_any}
 use Rattle.mk_net.specs.declared.words.PairText.{PairText}
 use Rattle.mk_net.specs.Firsts.{fault_if}
 use Rattle.mk_net.specs.Network.{Variable}
-use Rattle.mk_exact.specs.Events.{holds}
+use Rattle.mk_states.specs.Events.{holds}
 use Rattle.mk_exact.specs.History.{Entry}
 use Rattle.mk_exact.specs.Limits.{Inside}
 use Rattle.mk_spread.specs.Bounds.{Intervals, InsideEach, given_with, all_given}

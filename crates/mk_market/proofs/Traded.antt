@@ -13,11 +13,11 @@ use Rattle.mk_net.specs.Network.{Variable, IsNetwork, sizes}
 use Rattle.mk_net.specs.Named.{nobody}
 use Rattle.mk_net.specs.Sets.{is_member}
 use Rattle.mk_exact.specs.History.{Entry, UserTrade, Trade, trades, deposited, withdrawn}
-use Rattle.mk_exact.specs.Proper.{IsQuestionOf, IsRatioOf}
+use Rattle.mk_states.specs.OfNetwork.{IsQuestionOf, IsRatioOf}
 use Rattle.mk_exact.specs.Sides.{ratio_in}
 use Rattle.mk_exact.proofs.After.{trades_more}
-use Rattle.mk_exact.proofs.Positive.{size_at, few_values_at}
-use Rattle.mk_exact.proofs.Sums.{list_all-append}
+use Rattle.mk_states.proofs.Shares.{size_at, few_values_at}
+use Rattle.mk_states.proofs.Sums.{list_all-append}
 use Rattle.mk_tree.specs.Given.{GivenTree, home, holds_event}
 use Rattle.mk_engine.specs.Meaning.{Meaning, RatioOf, with_factor, max_factors}
 use Rattle.mk_engine.specs.Beliefs.{CanMultiply}

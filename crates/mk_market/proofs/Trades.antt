@@ -5,7 +5,7 @@ use Rattle.std.proofs.Common.{refl, sym, ◌∙◌, subst, arith}
 use Rattle.mk_net.specs.Network.{Variable}
 use Rattle.mk_net.specs.Asked.{TradeRatio, ratio_pairs}
 use Rattle.mk_exact.specs.History.{Trade, join_in, users, trades, is_settlement, is_settled}
-use Rattle.mk_exact.specs.Proper.{IsRatioOf}
+use Rattle.mk_states.specs.OfNetwork.{IsRatioOf}
 use Rattle.mk_tree.specs.Given.{GivenTree, home}
 use Rattle.mk_file.specs.declared.market_file.MarketFile.{MarketFile}
 use Rattle.mk_file.specs.MarketOf.{market_of}

@@ -9,8 +9,8 @@ use Rattle.mk_net.specs.declared.words.PairText.{PairText}
 use Rattle.mk_net.specs.declared.words.QuestionText.{QuestionText}
 use Rattle.mk_exact.specs.History.{Entry, Trade, is_settled, revision}
 use Rattle.mk_exact.specs.Sides.{ratio_in}
-use Rattle.mk_exact.specs.Proper.{IsRatioOf}
-use Rattle.mk_exact.proofs.Sums.{each_weaker}
+use Rattle.mk_states.specs.OfNetwork.{IsRatioOf}
+use Rattle.mk_states.proofs.Sums.{each_weaker}
 use Rattle.std.proofs.lemmas.List.Elements.{All-from_recursion, recursion_from_All}
 use Rattle.mk_spread.specs.Laws.{AreOfValues}
 use Rattle.mk_rules.proofs.Spreadable.{as_many_shares}

@@ -1,6 +1,6 @@
 -- The accounts of a market's users, in points.
 use Rattle.std.specs.Prelude.{◌≡◌, ℕ, ◌*◌, ◌<◌, List, [], ◌∷◌, ◌++◌, length, slice_get, Some, false}
-use Rattle.mk_exact.specs.Events.{always}
+use Rattle.mk_states.specs.Events.{always}
 use Rattle.mk_exact.specs.History.{Entry, Settle as Settles, users, deposited, withdrawn}
 use Rattle.mk_exact.specs.History.{is_settled}
 use Rattle.mk_exact.specs.Weight.{IsSmall, possible_states}

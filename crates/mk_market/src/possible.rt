@@ -3,7 +3,7 @@
 ghost use Rattle.std.specs.Prelude.{◌≡◌, ◌<◌, ◌∷◌, [], List, length, slice_index, Some, true, not};
 ghost use Rattle.mk_net.specs.Firsts.{first_of};
 ghost use Rattle.mk_net.specs.Network.{Variable, sizes};
-ghost use Rattle.mk_exact.specs.Events.{has, holds};
+ghost use Rattle.mk_states.specs.Events.{has, holds};
 ghost use Rattle.mk_exact.specs.History.{Entry};
 ghost use Rattle.mk_exact.specs.Weight.{cannot_come};
 ghost use Rattle.mk_tree.specs.Given.{GivenTree};

@@ -51,7 +51,7 @@ ghost use Rattle.std.specs.Prelude.{◌≡◌, ◌<◌, ℕ, List, [], ◌∷◌
 ghost use Rattle.std.specs.Prelude.{slice_get};
 ghost use Rattle.std.specs.List.{AllZip, enumerate_from};
 ghost use Rattle.mk_net.specs.Bounds.{number_limit};
-ghost use Rattle.mk_exact.specs.Events.{always};
+ghost use Rattle.mk_states.specs.Events.{always};
 ghost use Rattle.mk_exact.specs.History.{is_settled};
 ghost use Rattle.mk_exact.specs.Sound.{IsSound};
 ghost use Rattle.mk_exact.specs.Weight.{possible_states};

@@ -123,7 +123,7 @@ impl<P: Engine<SumProd>, A: Engine<MinProd>> Market<P, A> {
 
 ghost use Rattle.std.specs.Prelude.{◌≡◌, ◌≤◌, not};
 ghost use Rattle.std.specs.List.{count_by};
-ghost use Rattle.mk_exact.specs.States.{numbers_below};
+ghost use Rattle.mk_states.specs.States.{numbers_below};
 ghost use Rattle.mk_rules.specs.Refusals as rules;
 
 /// How many of so many variables no resolution gave a value.

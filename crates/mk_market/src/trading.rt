@@ -5,7 +5,7 @@ ghost use Rattle.mk_net.specs.Asked.{IsUnits};
 ghost use Rattle.mk_net.specs.Network.{Variable, IsNetwork};
 ghost use Rattle.mk_net.specs.Trades.{trade_ratio};
 ghost use Rattle.mk_exact.specs.History.{Trade};
-ghost use Rattle.mk_exact.specs.Proper.{IsQuestionOf};
+ghost use Rattle.mk_states.specs.OfNetwork.{IsQuestionOf};
 ghost use Rattle.mk_exact.specs.Sides.{ratio_in};
 ghost use Rattle.mk_spread.specs.Laws.{AreOfValues};
 ghost use Rattle.mk_spread.specs.Spreads.{spread_ratio};

@@ -8,8 +8,8 @@ use Rattle.std.proofs.lemmas.List.Elements.{All-weaker, All-contains, All-from_r
 use Rattle.mk_net.specs.declared.words.Pair.{Pair}
 use Rattle.mk_net.specs.Bounds.{number_limit}
 use Rattle.mk_net.specs.Sets.{is_member, no_variables}
-use Rattle.mk_exact.specs.States.{plus_over}
-use Rattle.mk_exact.specs.Lawful.{Lawful}
+use Rattle.mk_states.specs.States.{plus_over}
+use Rattle.mk_states.specs.Lawful.{Lawful}
 use Rattle.mk_net.specs.Network.{sizes}
 use Rattle.mk_sums.specs.Joint.{variables, where_holds}
 use Rattle.mk_sums.specs.Sums.{upd, over, Blind}

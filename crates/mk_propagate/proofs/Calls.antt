@@ -7,7 +7,7 @@ use Rattle.mk_net.specs.declared.words.Pair.{Pair}
 use Rattle.mk_net.specs.Network.{Variable, sizes}
 use Rattle.mk_net.specs.Named.{variable_at}
 use Rattle.mk_net.specs.Asked.{TradeRatio, ratio_pairs}
-use Rattle.mk_exact.specs.Lawful.{Lawful}
+use Rattle.mk_states.specs.Lawful.{Lawful}
 use Rattle.mk_table.specs.Scopes.{cells_in, has_variable, HasEvent, HasOneEach, HasSized}
 use Rattle.mk_table.specs.Cells.{values_at}
 use Rattle.mk_table.specs.Tables.{TableOf, HasNumbers, HasRoom}

@@ -5,8 +5,8 @@ use Rattle.std.proofs.lemmas.Bool.{cases_eq, both_ways, and_parts, eqb-true}
 use Rattle.std.specs.List.{range_with_len}
 use Rattle.std.proofs.lemmas.List.Elements.{filter-append}
 use Rattle.std.proofs.lemmas.List.Sums.{sum_by-append, sum_by-cons}
-use Rattle.mk_exact.specs.States.{product_by}
-use Rattle.mk_exact.proofs.Sums.{product_by-append}
+use Rattle.mk_states.specs.States.{product_by}
+use Rattle.mk_states.proofs.Sums.{product_by-append}
 use Rattle.mk_sums.specs.Sums.{upd, Blind}
 use Rattle.mk_sums.specs.Trees.{times_of, sum_of, linked_to}
 use Rattle.mk_sums.proofs.Sets.{times_agree, times_union, times_one}

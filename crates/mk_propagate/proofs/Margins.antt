@@ -4,9 +4,9 @@ use Rattle.std.proofs.Math.Path.{fun_ext}
 use Rattle.std.proofs.lemmas.Bool.{cases_eq, cases_Bool, both_ways, or_right}
 use Rattle.mk_net.specs.declared.words.Pair.{Pair}
 use Rattle.mk_net.specs.Network.{Variable, sizes}
-use Rattle.mk_exact.specs.States.{plus_over, numbers_below}
-use Rattle.mk_exact.specs.Lawful.{Lawful}
-use Rattle.mk_exact.proofs.Sums.{plus_over-filter}
+use Rattle.mk_states.specs.States.{plus_over, numbers_below}
+use Rattle.mk_states.specs.Lawful.{Lawful}
+use Rattle.mk_states.proofs.Sums.{plus_over-filter}
 use Rattle.mk_sums.specs.Sums.{upd, plus_below, over, Blind, listed}
 use Rattle.mk_sums.specs.Cells.{keep, cells, cell_of, place, InRange}
 use Rattle.mk_sums.specs.Joint.{variables, where_holds}

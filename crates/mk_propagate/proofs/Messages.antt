@@ -11,9 +11,9 @@ use Rattle.std.proofs.lemmas.List.FromFn.{length-range_with_len}
 use Rattle.std.proofs.lemmas.List.Sums.{sum_by_more, sum_by-take-le, sum_by_more_le, length-filter, count_by-le-length}
 use Rattle.mk_net.specs.declared.words.Pair.{Pair}
 use Rattle.mk_net.specs.Network.{Variable, sizes}
-use Rattle.mk_exact.specs.States.{plus_over, product_by, numbers_below}
-use Rattle.mk_exact.specs.Lawful.{Lawful}
-use Rattle.mk_exact.proofs.Sums.{product_by_push}
+use Rattle.mk_states.specs.States.{plus_over, product_by, numbers_below}
+use Rattle.mk_states.specs.Lawful.{Lawful}
+use Rattle.mk_states.proofs.Sums.{product_by_push}
 use Rattle.mk_cell.specs.Cell.{StandsAt, IsOwnAt}
 use Rattle.mk_cell.specs.inner.Laws.{stands_with_more}
 use Rattle.mk_sums.specs.Sums.{over, Within, Blind}

@@ -9,8 +9,8 @@ use Rattle.std.proofs.lemmas.List.Elements.{All-push, All-nil}
 use Rattle.std.proofs.lemmas.List.Sums.{sum_by_push, count_by-le-length}
 use Rattle.mk_net.specs.declared.words.Pair.{Pair}
 use Rattle.mk_net.specs.Network.{Variable, sizes}
-use Rattle.mk_exact.specs.States.{product_by}
-use Rattle.mk_exact.proofs.Sums.{product_by-append, product_by_push}
+use Rattle.mk_states.specs.States.{product_by}
+use Rattle.mk_states.proofs.Sums.{product_by-append, product_by_push}
 use Rattle.mk_sums.specs.Sums.{over}
 use Rattle.mk_sums.specs.Joint.{Item, variables, where_has}
 use Rattle.mk_sums.specs.Trees.{sum_of, behind}

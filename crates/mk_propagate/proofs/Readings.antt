@@ -13,11 +13,11 @@ use Rattle.mk_net.specs.Sets.{is_member, no_variables}
 use Rattle.mk_net.specs.Asked.{TradeRatio, ratio_pairs}
 use Rattle.mk_net.specs.Network.{Variable, sizes}
 use Rattle.mk_net.specs.Named.{variable_at}
-use Rattle.mk_exact.specs.States.{states, plus_over, product_by}
-use Rattle.mk_exact.specs.InitialWeight.{value_at}
-use Rattle.mk_exact.specs.Events.{holds}
-use Rattle.mk_exact.specs.Lawful.{Lawful}
-use Rattle.mk_exact.proofs.Sums.{plus_over-map, sum_by_is}
+use Rattle.mk_states.specs.States.{states, plus_over, product_by}
+use Rattle.mk_states.specs.InitialWeight.{value_at}
+use Rattle.mk_states.specs.Events.{holds}
+use Rattle.mk_states.specs.Lawful.{Lawful}
+use Rattle.mk_states.proofs.Sums.{plus_over-map, sum_by_is}
 use Rattle.mk_sums.specs.Sums.{Within, listed}
 use Rattle.mk_sums.specs.There.{row_there, share_there, holds_there, ratio_there}
 use Rattle.mk_sums.specs.Trees.{times_of, Covers, linked_to, IsTree}

@@ -9,10 +9,10 @@ use Rattle.mk_net.specs.Sets.{is_member, no_variables}
 use Rattle.mk_net.specs.Network.{Variable, IsNetwork, sizes}
 use Rattle.mk_net.specs.Named.{variable_at, nobody}
 use Rattle.mk_net.specs.Asked.{TradeRatio, ratio_pairs}
-use Rattle.mk_exact.specs.Proper.{IsPairOf, IsRatioOf}
-use Rattle.mk_exact.proofs.Sums.{each_weaker}
-use Rattle.mk_exact.proofs.Listed.{as_many}
-use Rattle.mk_exact.proofs.Positive.{size_at, parents_within}
+use Rattle.mk_states.specs.OfNetwork.{IsPairOf, IsRatioOf}
+use Rattle.mk_states.proofs.Sums.{each_weaker}
+use Rattle.mk_states.proofs.Listed.{as_many}
+use Rattle.mk_states.proofs.Shares.{size_at, parents_within}
 use Rattle.mk_table.specs.Scopes.{ScopeOf, size_in, has_variable, HasEvent, HasOneEach, HasSized}
 use Rattle.mk_tree.specs.Given.{GivenTree, clique_at, holds, holds_event}
 use Rattle.mk_tree.specs.Tests.{holds_family}

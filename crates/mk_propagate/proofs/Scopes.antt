@@ -10,8 +10,8 @@ use Rattle.mk_net.specs.Bounds.{max_clique_cells}
 use Rattle.mk_net.specs.Sets.{is_member, no_variables}
 use Rattle.mk_net.specs.Network.{Variable, IsNetwork, sizes, choices}
 use Rattle.mk_net.specs.Named.{nobody}
-use Rattle.mk_exact.specs.States.{numbers_below}
-use Rattle.mk_exact.proofs.Positive.{size_at}
+use Rattle.mk_states.specs.States.{numbers_below}
+use Rattle.mk_states.proofs.Shares.{size_at}
 use Rattle.mk_sums.specs.Sums.{listed}
 use Rattle.mk_sums.specs.Cells.{keep, cells, place, InRange}
 use Rattle.mk_sums.specs.Joint.{variables}

@@ -3,7 +3,7 @@ use Rattle.std.proofs.Common.{◌≡◌, refl, ℕ, zero, suc, ◌+◌, ◌-◌,
 use Rattle.std.proofs.lemmas.Nat.{pow-add, pow_pos}
 use Rattle.std.proofs.Math.Nat.{pow-zero, pow-suc, div-mul-le_self, lt-div-mul-add, mul-le-mul_left, mul-le-mul_right, one-le-mul, one-le-pow, le_of_mul-le-mul_right, lt_of_mul-lt-mul_right}
 use Rattle.mk_net.specs.Bounds.{number_limit, million}
-use Rattle.mk_exact.specs.Ratios.{unit}
+use Rattle.mk_states.specs.Ratios.{unit}
 use Rattle.mk_exact.specs.Prices.{IsSolvent}
 use Rattle.mk_exact.specs.Limits.{Side, IsFairAndSolvent, IsWanted, IsFloorSolvent}
 use Rattle.mk_enclose.specs.declared.enclosure.Enclosure.{Enclosure}

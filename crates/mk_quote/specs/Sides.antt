@@ -1,7 +1,7 @@
 -- One side of a question by bounds: the units that an edit of it trades for, and whether they serve.
 use Rattle.std.specs.Prelude.{ℕ, ◌+◌, ◌*◌, ◌/◌, ◌^◌, ◌<◌, ◌≤◌, Bool, ltb, leb, ◌&&◌, Option}
 use Rattle.mk_net.specs.Bounds.{number_limit, million}
-use Rattle.mk_exact.specs.Ratios.{unit}
+use Rattle.mk_states.specs.Ratios.{unit}
 use Rattle.mk_exact.specs.Limits.{Side}
 use Rattle.mk_enclose.specs.declared.factor.Factor.{Factor}
 use Rattle.mk_enclose.specs.Enclosure.{lower_of, upper_of, Encloses, IsExact, IsGradedWithin}

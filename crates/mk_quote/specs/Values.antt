@@ -2,7 +2,7 @@
 use Rattle.std.specs.Prelude.{◌≡◌, ℕ, ◌≤◌, ⊤, Bool, not, ◌&&◌, ◌==◌, nat_le, List, [], ◌∷◌, map, find, slice_index_or, Option, Some, None, IfSome, is_none, option_map}
 use Rattle.std.specs.List.{AllZip, AllByRecursion, enumerate_from, list_any}
 use Rattle.arrayvec.specs.ArrayVec.{ArrayVec}
-use Rattle.mk_exact.specs.Ratios.{unit}
+use Rattle.mk_states.specs.Ratios.{unit}
 use Rattle.mk_exact.specs.Limits.{Side}
 use Rattle.mk_spread.specs.Bounds.{AreFairUnits, Intervals, AreRightBounds}
 use Rattle.mk_quote.specs.declared.side.SideBounds.{SideBounds}

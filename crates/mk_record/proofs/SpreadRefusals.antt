@@ -18,7 +18,7 @@ use Rattle.mk_net.specs.Named.{variable_named}
 use Rattle.mk_net.specs.Sets.{is_member}
 use Rattle.mk_net.proofs.Networks.{size_at}
 use Rattle.mk_exact.specs.History.{Entry, trades}
-use Rattle.mk_exact.proofs.Sums.{each_weaker}
+use Rattle.mk_states.proofs.Sums.{each_weaker}
 use Rattle.mk_spread.specs.Spreads.{SpreadAsked, asked_of}
 use Rattle.mk_tree.specs.Given.{GivenTree, home, holds_event}
 use Rattle.mk_tree.specs.Held.{IsHeldAt}

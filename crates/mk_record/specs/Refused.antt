@@ -8,7 +8,7 @@ use Rattle.mk_net.specs.Bounds.{max_users, max_transfers, max_transfer_bits, mil
 use Rattle.mk_net.specs.Network.{Variable}
 use Rattle.mk_net.specs.Asked.{Asked}
 use Rattle.mk_exact.specs.History.{Entry, users, trades, is_transfer, is_settled}
-use Rattle.mk_exact.specs.Proper.{IsPairOf}
+use Rattle.mk_states.specs.OfNetwork.{IsPairOf}
 use Rattle.mk_exact.specs.Market.{Market, network_of}
 use Rattle.mk_spread.specs.Spreads.{SpreadAsked}
 use Rattle.mk_tree.specs.Given.{GivenTree}

@@ -5,7 +5,7 @@ ghost use Rattle.mk_net.specs.Bounds.{max_condition};
 ghost use Rattle.mk_net.specs.Events.{speaks_of};
 ghost use Rattle.mk_net.specs.Firsts.{fault_if, or_else};
 ghost use Rattle.mk_net.specs.Named.{pair_named};
-ghost use Rattle.mk_exact.specs.Proper.{IsPairOf, IsQuestionOf};
+ghost use Rattle.mk_states.specs.OfNetwork.{IsPairOf, IsQuestionOf};
 ghost use Rattle.mk_spread.specs.Spreads.{IsSpreadOf};
 ghost use Rattle.mk_quote.specs.Questions.{spread_in};
 ghost use Rattle.mk_rules.specs.Refusals as rules;

@@ -9,7 +9,7 @@ ghost use Rattle.mk_net.specs.Named.{pair_named, variable_named};
 ghost use Rattle.mk_net.specs.Network.{Variable};
 ghost use Rattle.mk_exact.specs.History as history;
 ghost use Rattle.mk_exact.specs.Market.{Market};
-ghost use Rattle.mk_exact.specs.Proper.{IsPairOf, IsQuestionOf};
+ghost use Rattle.mk_states.specs.OfNetwork.{IsPairOf, IsQuestionOf};
 ghost use Rattle.mk_tree.specs.Given.{home};
 ghost use Rattle.mk_file.specs.MarketOf.{market_of};
 ghost use Rattle.mk_command.specs.declared.command.Command.TheVariants as command;

@@ -22,7 +22,7 @@ use Rattle.mk_exact.specs.Market.{Market, network_of, cliques_of}
 use Rattle.mk_exact.specs.Proper.{IsProper}
 use Rattle.mk_exact.proofs.Range.{empty_proper, proper_next}
 use Rattle.mk_exact.proofs.After.{trades_kept, trades_more}
-use Rattle.mk_exact.proofs.Sums.{each-append, each_weaker}
+use Rattle.mk_states.proofs.Sums.{each-append, each_weaker}
 use Rattle.mk_command.specs.declared.command.Command.{Command}
 use Rattle.mk_command.specs.declared.command.Command.TheVariants.{User, Deposit, Withdraw, Price}
 use Rattle.mk_command.specs.declared.command.Command.TheVariants.{Limits, Edit, Bounds, Spread}

@@ -5,7 +5,7 @@ use Rattle.std.proofs.Common.{append-nil}
 use Rattle.std.specs.Prelude.{option_to_list}
 use Rattle.std.specs.List.{AllZip, enumerate_from}
 use Rattle.mk_net.specs.Firsts.{first_of}
-use Rattle.mk_exact.specs.Events.{always}
+use Rattle.mk_states.specs.Events.{always}
 use Rattle.mk_exact.specs.History.{Entry, users, revision}
 use Rattle.mk_exact.specs.Weight.{IsSmall}
 use Rattle.mk_exact.specs.Factors.{HoldsNoTrade, factor_with, least_gain}

@@ -7,9 +7,9 @@ use Rattle.mk_net.specs.declared.words.QuestionText.{QuestionText}
 use Rattle.mk_net.specs.Events.{speaks_of, AreApart}
 use Rattle.mk_net.specs.Network.{Variable}
 use Rattle.mk_net.specs.Asked.{Asked}
-use Rattle.mk_exact.specs.InitialWeight.{initial_total}
+use Rattle.mk_states.specs.InitialWeight.{initial_total}
 use Rattle.mk_exact.specs.Risk.{CoversBound}
-use Rattle.mk_exact.specs.Events.{holds, always, with_target, without_target}
+use Rattle.mk_states.specs.Events.{holds, always, with_target, without_target}
 use Rattle.mk_exact.specs.History.{Entry, users, resolutions, revision}
 use Rattle.mk_exact.specs.Weight.{IsSmall, possible_states}
 use Rattle.mk_exact.specs.Factors.{Fraction, HoldsNoTrade, factor, factor_with, least_gain}

@@ -13,7 +13,7 @@ use Rattle.mk_net.proofs.Taken.{any_at}
 use Rattle.mk_net.specs.Network.{AreDistinct}
 use Rattle.mk_exact.specs.History.{Entry, UserTrade, Join, Deposit as Deposits, Withdraw as Withdraws, Trade, Resolve as Resolves, Settle as Settles, join_in, trade_in, users, trades, is_transfer, is_settlement, is_settled}
 use Rattle.mk_exact.specs.Market.{Market}
-use Rattle.mk_exact.proofs.Sums.{each-append, each_weaker}
+use Rattle.mk_states.proofs.Sums.{each-append, each_weaker}
 use Rattle.mk_exact.proofs.After.{users_kept, users_more, trades_kept, trades_more}
 use Rattle.mk_exact.specs.Existing.{HasRoom}
 use Rattle.mk_exact.proofs.ExistBounds.{bounds_kept}

@@ -16,7 +16,7 @@ use Rattle.mk_net.specs.declared.words.QuestionText.{QuestionText}
 use Rattle.mk_net.specs.Asked.{Asked}
 use Rattle.mk_net.specs.Firsts.{fault_if, or_else, first_of}
 use Rattle.mk_net.proofs.Events.{neither}
-use Rattle.mk_exact.specs.Events.{has, holds, with_target, without_target, always}
+use Rattle.mk_states.specs.Events.{has, holds, with_target, without_target, always}
 use Rattle.mk_exact.specs.History.{Entry}
 use Rattle.mk_exact.specs.Weight.{possible_states, cannot_come}
 use Rattle.mk_exact.specs.Proper.{IsProper}

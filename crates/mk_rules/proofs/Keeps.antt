@@ -7,17 +7,18 @@ use Rattle.mk_net.specs.declared.words.PairText.{PairText}
 use Rattle.mk_net.specs.declared.words.QuestionText.{QuestionText}
 use Rattle.mk_net.specs.Bounds.{million}
 use Rattle.mk_net.specs.Asked.{Asked}
-use Rattle.mk_exact.specs.Events.{always}
+use Rattle.mk_states.specs.Events.{always}
 use Rattle.mk_exact.specs.History.{Entry, UserTrade, Join, Deposit as Deposits, Withdraw as Withdraws, Trade, Resolve as Resolves, Settle as Settles, trade_in, users, trades, revision}
 use Rattle.mk_exact.specs.Weight.{IsSmall}
 use Rattle.mk_exact.specs.Factors.{HoldsNoTrade, factor_with, least_gain}
-use Rattle.mk_exact.specs.Proper.{IsQuestionOf, IsProper}
+use Rattle.mk_states.specs.OfNetwork.{IsQuestionOf}
+use Rattle.mk_exact.specs.Proper.{IsProper}
 use Rattle.mk_exact.specs.Accepted.{Covers, IsAcceptable, IsInRange}
 use Rattle.mk_exact.specs.Market.{Market, network_of, cliques_of}
 use Rattle.mk_exact.proofs.After.{trades_kept, trades_more}
 use Rattle.mk_exact.proofs.Next.{sound_next}
 use Rattle.mk_exact.proofs.Single.{empty_sound}
-use Rattle.mk_exact.proofs.Sums.{each-append}
+use Rattle.mk_states.proofs.Sums.{each-append}
 use Rattle.mk_exact.proofs.Range.{empty_proper, proper_next, fair_pair_is_safe}
 use Rattle.mk_spread.specs.Spreads.{SpreadAsked, IsSpreadOf}
 use Rattle.mk_spread.proofs.Fair.{fair_list_is_ratio}

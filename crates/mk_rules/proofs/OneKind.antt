@@ -9,8 +9,8 @@ use Rattle.mk_net.specs.declared.words.PairText.{PairText}
 use Rattle.mk_net.specs.declared.words.QuestionText.{QuestionText}
 use Rattle.mk_net.specs.Network.{Variable}
 use Rattle.mk_net.specs.Asked.{Asked}
-use Rattle.mk_exact.specs.Events.{with_target, without_target}
-use Rattle.mk_exact.specs.Ratios.{unit}
+use Rattle.mk_states.specs.Events.{with_target, without_target}
+use Rattle.mk_states.specs.Ratios.{unit}
 use Rattle.mk_exact.specs.History.{Entry, revision}
 use Rattle.mk_exact.specs.Market.{Market, network_of}
 use Rattle.mk_exact.specs.Weight.{IsSmall}

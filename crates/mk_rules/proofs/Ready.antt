@@ -10,7 +10,7 @@ use Rattle.mk_net.specs.Network.{Variable}
 use Rattle.mk_net.specs.Named.{pair_named}
 use Rattle.mk_net.specs.Asked.{Asked}
 use Rattle.mk_net.specs.Firsts.{fault_if, first_of}
-use Rattle.mk_exact.specs.Events.{always}
+use Rattle.mk_states.specs.Events.{always}
 use Rattle.mk_exact.specs.History.{Entry, Join, Deposit as Deposits, Withdraw as Withdraws, Settle as Settles, join_in, users, revision}
 use Rattle.mk_exact.specs.Weight.{IsSmall}
 use Rattle.mk_exact.specs.Factors.{HoldsNoTrade, factor_with, least_gain}
@@ -35,7 +35,7 @@ use Rattle.mk_rules.specs.Standings.{IsMarket, Stands, IsRight, IsRightQuote, Is
 use Rattle.mk_rules.proofs.Options.{value_of}
 use Rattle.mk_rules.proofs.Keeps.{allowed_keeps, opening_stands}
 use Rattle.mk_rules.proofs.Quoted.{Each, each_set, each_pushed, each_weaker, current_right, current_bounds_right}
-use Rattle.mk_exact.proofs.Sums.{each_always}
+use Rattle.mk_states.proofs.Sums.{each_always}
 use Rattle.mk_rules.proofs.Coming.{together_have, decided_has, sure_has, missing_has}
 
 -- what is known of the quotes beside a history

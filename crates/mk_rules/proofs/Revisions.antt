@@ -11,7 +11,8 @@ use Rattle.mk_net.specs.Network.{Variable}
 use Rattle.mk_net.proofs.Taken.{neither_of}
 use Rattle.mk_exact.specs.History.{Entry, Join, Deposit, Withdraw, Trade, Resolve, Settle, users, trades, resolutions, is_transfer, is_settlement, revision}
 use Rattle.mk_exact.specs.Market.{Market, network_of}
-use Rattle.mk_exact.specs.Proper.{IsPairOf, IsProper}
+use Rattle.mk_states.specs.OfNetwork.{IsPairOf}
+use Rattle.mk_exact.specs.Proper.{IsProper}
 use Rattle.mk_rules.specs.Refusals.{variables_in}
 use Rattle.mk_rules.specs.Standings.{IsMarket, Stands}
 use Rattle.mk_rules.specs.Bounded.{IsBounded}

@@ -7,16 +7,16 @@ use Rattle.std.specs.List.{AllByRecursion}
 use Rattle.std.proofs.lemmas.Bool.{and_parts, and_from}
 use Rattle.std.proofs.lemmas.List.Elements.{All-from_recursion, recursion_from_All, All-head, filter_map-append}
 use Rattle.mk_net.specs.declared.words.Pair.{Pair}
-use Rattle.mk_exact.specs.States.{numbers_below}
-use Rattle.mk_exact.specs.Events.{has, holds, always}
-use Rattle.mk_exact.specs.InitialWeight.{all_states, initial_total}
+use Rattle.mk_states.specs.States.{numbers_below}
+use Rattle.mk_states.specs.Events.{has, holds, always}
+use Rattle.mk_states.specs.InitialWeight.{all_states, initial_total}
 use Rattle.mk_exact.specs.History.{Entry, resolution_in, resolutions, deposited, withdrawn, users}
 use Rattle.mk_exact.specs.Weight.{is_possible, possible_states}
 use Rattle.mk_exact.specs.Risk.{least_weight, CoversBound}
 use Rattle.mk_exact.specs.Laws.{LossIsBounded}
 use Rattle.mk_exact.specs.Market.{Market, network_of}
 use Rattle.mk_exact.proofs.Risk.{bound_holds}
-use Rattle.mk_exact.proofs.Sums.{list_all-append}
+use Rattle.mk_states.proofs.Sums.{list_all-append}
 use Rattle.mk_command.specs.declared.command.Command.TheVariants.{Settle, Bound}
 use Rattle.mk_reply.specs.declared.refusal.Refusal.{Refusal}
 use Rattle.mk_reply.specs.declared.payments.Payment.{Payment}

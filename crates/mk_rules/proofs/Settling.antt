@@ -4,9 +4,9 @@ use Rattle.std.specs.Prelude.{option_to_list, ◌&&◌}
 use Rattle.std.proofs.Math.Path.{fun_ext}
 use Rattle.std.proofs.lemmas.List.Elements.{All-nil, All-cons}
 use Rattle.mk_net.specs.declared.words.Pair.{Pair}
-use Rattle.mk_exact.specs.InitialWeight.{all_states, initial_weight, initial_total}
-use Rattle.mk_exact.specs.Events.{holds, always}
-use Rattle.mk_exact.specs.States.{numbers_below}
+use Rattle.mk_states.specs.InitialWeight.{all_states, initial_weight, initial_total}
+use Rattle.mk_states.specs.Events.{holds, always}
+use Rattle.mk_states.specs.States.{numbers_below}
 use Rattle.mk_exact.specs.History.{Entry, Settle as Settles, is_settlement, is_settled, users, deposited, withdrawn}
 use Rattle.mk_exact.specs.Market.{Market}
 use Rattle.mk_exact.proofs.After.{users_kept, resolutions_kept, deposited_kept, withdrawn_kept}

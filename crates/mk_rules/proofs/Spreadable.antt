@@ -18,8 +18,8 @@ use Rattle.mk_net.proofs.SameText.{equal_of_same_text}
 use Rattle.mk_net.proofs.Named.{pair_variable_name}
 use Rattle.mk_exact.specs.History.{Entry}
 use Rattle.mk_exact.specs.Proper.{IsProper}
-use Rattle.mk_exact.proofs.Sums.{each_weaker}
-use Rattle.mk_exact.specs.Events.{holds}
+use Rattle.mk_states.proofs.Sums.{each_weaker}
+use Rattle.mk_states.specs.Events.{holds}
 use Rattle.mk_exact.specs.Weight.{possible_states}
 use Rattle.mk_spread.specs.Told.{CanBeTold}
 use Rattle.mk_spread.specs.Spreads.{SpreadAsked}

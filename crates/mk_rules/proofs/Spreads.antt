@@ -11,8 +11,8 @@ use Rattle.mk_net.specs.Named.{pair_named, variable_named}
 use Rattle.mk_net.proofs.Named.{pair_variable_in_range, pair_value_in_range}
 use Rattle.mk_exact.specs.History.{Entry}
 use Rattle.mk_exact.specs.Market.{Market, network_of, cliques_of}
-use Rattle.mk_exact.specs.Proper.{IsPairOf}
-use Rattle.mk_exact.proofs.Sums.{each_weaker}
+use Rattle.mk_states.specs.OfNetwork.{IsPairOf}
+use Rattle.mk_states.proofs.Sums.{each_weaker}
 use Rattle.mk_spread.specs.Spreads.{SpreadAsked, IsSpreadOf}
 use Rattle.mk_rules.specs.Refusals.{spread_named, known_pairs, variables_in, is_wide, wide, wide_spread, ranges, sums}
 use Rattle.mk_rules.proofs.Unrefused.{not_faulted, not_mapped}

@@ -18,12 +18,12 @@ use Rattle.mk_net.specs.Texts.{same_text}
 use Rattle.mk_net.specs.Network.{Variable, sizes, IsNetwork}
 use Rattle.mk_net.specs.Named.{variable_at, nobody}
 use Rattle.std.proofs.lemmas.List.{get_or_past}
-use Rattle.mk_exact.proofs.Listed.{as_many}
-use Rattle.mk_exact.proofs.Positive.{size_at}
+use Rattle.mk_states.proofs.Listed.{as_many}
+use Rattle.mk_states.proofs.Shares.{size_at}
 use Rattle.mk_rules.proofs.Coming.{together_have, decided_has, sure_has, share_has, missing_has}
 use Rattle.mk_net.specs.Asked.{Asked, IsUnits}
 use Rattle.mk_net.specs.Firsts.{fault_if, first_of}
-use Rattle.mk_exact.specs.Events.{always}
+use Rattle.mk_states.specs.Events.{always}
 use Rattle.mk_exact.specs.History.{Entry, users, revision}
 use Rattle.mk_exact.specs.Weight.{IsSmall}
 use Rattle.mk_exact.specs.Factors.{HoldsNoTrade, factor, factor_with, least_gain}
@@ -33,7 +33,7 @@ use Rattle.mk_exact.specs.Sides.{AreRightLimits}
 use Rattle.mk_exact.specs.Market.{Market, network_of, cliques_of}
 use Rattle.mk_exact.specs.Cash.{CoversCash}
 use Rattle.mk_exact.proofs.ExistBounds.{cash_fits, least_cash_fits}
-use Rattle.mk_exact.proofs.Sums.{each_weaker}
+use Rattle.mk_states.proofs.Sums.{each_weaker}
 use Rattle.mk_exact.proofs.ExistMarkets.{price_exists}
 use Rattle.mk_exact.specs.Risk.{least_weight}
 use Rattle.mk_exact.proofs.Risk.{bound_fits}

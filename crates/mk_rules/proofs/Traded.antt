@@ -4,9 +4,9 @@ use Rattle.std.specs.List.{AllByRecursion, range_with_len}
 use Rattle.mk_net.specs.Network.{Variable, sizes}
 use Rattle.mk_net.specs.Asked.{Asked, factors_of}
 use Rattle.mk_net.proofs.UnitsOf.{factors_length}
-use Rattle.mk_exact.specs.Proper.{IsQuestionOf, IsRatioOf}
+use Rattle.mk_states.specs.OfNetwork.{IsQuestionOf, IsRatioOf}
 use Rattle.mk_exact.specs.Sides.{ratio_in}
-use Rattle.mk_exact.proofs.Sums.{each-map, each_always}
+use Rattle.mk_states.proofs.Sums.{each-map, each_always}
 
 either : (P : ℕ → Type 0) (b : Bool) (hit miss : ℕ) → P hit → P miss → P (cond b hit miss)
 either P true hit miss h m = h

@@ -15,7 +15,7 @@ use Rattle.mk_net.specs.Firsts.{fault_if, first_of}
 use Rattle.mk_net.proofs.Named.{pair_variable_in_range, pair_value_in_range}
 use Rattle.mk_exact.specs.History.{Entry, users, resolutions}
 use Rattle.mk_exact.specs.Market.{Market, network_of, cliques_of}
-use Rattle.mk_exact.specs.Proper.{IsPairOf, IsQuestionOf}
+use Rattle.mk_states.specs.OfNetwork.{IsPairOf, IsQuestionOf}
 use Rattle.mk_exact.specs.Laws.{AgreesWith}
 use Rattle.mk_rules.specs.Refusals.{question_named, pairs_of, known_pairs, variables_in, user_number, has_joined, is_resolved, contradicts, passes, is_wide, no_user, unknown, resolved, impossible, wide_question, range, unresolved}
 

@@ -5,8 +5,8 @@ use Rattle.arrayvec.specs.ArrayVec.{ArrayVec}
 use Rattle.mk_net.specs.declared.words.PairText.{PairText}
 use Rattle.mk_net.specs.declared.words.QuestionText.{QuestionText}
 use Rattle.mk_net.specs.Asked.{Asked}
-use Rattle.mk_exact.specs.Events.{always}
-use Rattle.mk_exact.specs.States.{numbers_below}
+use Rattle.mk_states.specs.Events.{always}
+use Rattle.mk_states.specs.States.{numbers_below}
 use Rattle.mk_exact.specs.History.{Entry, users, revision, deposited, withdrawn}
 use Rattle.mk_exact.specs.Weight.{possible_states, IsSmall}
 use Rattle.mk_exact.specs.Market.{Market, network_of}

@@ -4,7 +4,7 @@ use Rattle.std.specs.List.{count_by}
 use Rattle.arrayvec.specs.ArrayVec.{ArrayVec}
 use Rattle.mk_net.specs.Bounds.{max_transfers}
 use Rattle.mk_net.specs.Network.{Variable}
-use Rattle.mk_exact.specs.States.{numbers_below}
+use Rattle.mk_states.specs.States.{numbers_below}
 use Rattle.mk_exact.specs.History.{Entry, users, trades, is_transfer, revision}
 use Rattle.mk_exact.specs.Market.{Market, network_of}
 use Rattle.mk_spread.specs.Spreads.{SpreadAsked}

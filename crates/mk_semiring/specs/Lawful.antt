@@ -1,7 +1,7 @@
 -- Sums are lawful.
 use Rattle.std.specs.Prelude.{◌+◌}
 use Rattle.std.proofs.Common.{arith}
-use Rattle.mk_exact.specs.Lawful.{Lawful}
+use Rattle.mk_states.specs.Lawful.{Lawful}
 
 pub sum_lawful : Lawful ◌+◌
 sum_lawful = record {

@@ -1,7 +1,7 @@
 -- The standings that a run passes through, and what holds of each.
 use Rattle.std.specs.Prelude.{List, [], ◌∷◌, All}
 use Rattle.mk_exact.specs.Market.{Market, network_of}
-use Rattle.mk_exact.specs.Events.{always}
+use Rattle.mk_states.specs.Events.{always}
 use Rattle.mk_exact.specs.Weight.{possible_states}
 use Rattle.mk_exact.specs.Laws.{GainsAreBounded}
 use Rattle.mk_reply.specs.declared.reply.Reply.{Reply}

@@ -5,8 +5,8 @@ use Rattle.std.specs.List.{AllZip}
 use Rattle.std.proofs.Math.Nat.{div-eq_of_lt-le}
 use Rattle.mk_net.specs.Bounds.{number_limit, million}
 use Rattle.mk_net.specs.Network.{Variable}
-use Rattle.mk_exact.specs.Ratios.{unit}
-use Rattle.mk_exact.specs.Events.{with_target}
+use Rattle.mk_states.specs.Ratios.{unit}
+use Rattle.mk_states.specs.Events.{with_target}
 use Rattle.mk_exact.specs.History.{Entry}
 use Rattle.mk_exact.specs.Weight.{IsSmall}
 use Rattle.mk_exact.specs.Factors.{factor_with, least_gain}

@@ -5,15 +5,15 @@ use Rattle.std.specs.List.{AllZip, AllByRecursion}
 use Rattle.std.proofs.lemmas.List.Elements.{All-from_recursion}
 use Rattle.mk_net.specs.Bounds.{million}
 use Rattle.mk_net.specs.Network.{Variable, IsNetwork, sizes}
-use Rattle.mk_exact.specs.Events.{with_target, without_target}
-use Rattle.mk_exact.specs.Ratios.{unit}
+use Rattle.mk_states.specs.Events.{with_target, without_target}
+use Rattle.mk_states.specs.Ratios.{unit}
 use Rattle.mk_exact.specs.History.{Entry}
 use Rattle.mk_exact.specs.Weight.{IsSmall, possible_states}
 use Rattle.mk_exact.specs.Limits.{Side, IsFairAndSolvent, IsWanted, IsFloorSolvent, Inside, AreRight}
 use Rattle.mk_exact.specs.Sound.{IsSound}
 use Rattle.mk_exact.specs.Proper.{IsProper}
 use Rattle.mk_exact.specs.Existing.{IsPositivePrice, CanMove, IsOpenSide, HasSides}
-use Rattle.mk_exact.proofs.Sums.{each_weaker}
+use Rattle.mk_states.proofs.Sums.{each_weaker}
 use Rattle.mk_exact.proofs.ExistLimits.{limits_exist, inside_is_decided}
 use Rattle.mk_exact.proofs.ExistMarkets.{sides_exist}
 use Rattle.mk_spread.specs.Spreads.{SpreadAsked, asked_of}

@@ -5,16 +5,16 @@ use Rattle.mk_net.specs.Bounds.{million}
 use Rattle.mk_net.specs.Network.{Variable, IsNetwork, sizes}
 use Rattle.mk_net.specs.Named.{nobody}
 use Rattle.mk_net.specs.Asked.{Asked, IsUnits}
-use Rattle.mk_exact.specs.Events.{holds, with_target}
-use Rattle.mk_exact.specs.Ratios.{unit}
+use Rattle.mk_states.specs.Events.{holds, with_target}
+use Rattle.mk_states.specs.Ratios.{unit}
 use Rattle.mk_exact.specs.History.{Entry}
 use Rattle.mk_exact.specs.Weight.{weight, total, possible_states, IsSmall}
 use Rattle.mk_exact.specs.Factors.{gain, factor_with, least_gain}
 use Rattle.mk_exact.specs.Prices.{price_where, IsFair, IsSolvent}
 use Rattle.mk_exact.specs.Limits.{Side, IsFairAndSolvent}
 use Rattle.mk_exact.specs.Sides.{IsSide}
-use Rattle.mk_exact.specs.Proper.{IsRatioOf}
-use Rattle.mk_exact.proofs.Positive.{size_at, few_values_at}
+use Rattle.mk_states.specs.OfNetwork.{IsRatioOf}
+use Rattle.mk_states.proofs.Shares.{size_at, few_values_at}
 use Rattle.mk_spread.specs.Spreads.{SpreadAsked, asked_of, IsSpreadOf, spread_ratio}
 use Rattle.mk_spread.specs.Bounds.{IsFairFor}
 use Rattle.mk_spread.specs.Markets.{IsValueSide, IsFairList}

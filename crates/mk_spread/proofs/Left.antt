@@ -3,15 +3,15 @@ use Rattle.std.proofs.Common.{◌≡◌, ℕ, zero, suc, ◌+◌, ◌<◌, ◌�
 use Rattle.std.specs.List.{AllByRecursion, range_with_len}
 use Rattle.std.proofs.lemmas.Bool.{and_from, and_parts, cases_lt}
 use Rattle.mk_net.specs.Network.{Variable, sizes}
-use Rattle.mk_exact.specs.States.{IsState}
-use Rattle.mk_exact.specs.InitialWeight.{all_states, value_at}
-use Rattle.mk_exact.specs.Events.{has, holds, with_target, without_target}
+use Rattle.mk_states.specs.States.{IsState}
+use Rattle.mk_states.specs.InitialWeight.{all_states, value_at}
+use Rattle.mk_states.specs.Events.{has, holds, with_target, without_target}
 use Rattle.mk_exact.specs.History.{Entry}
 use Rattle.mk_exact.specs.Weight.{is_possible, possible_states, cannot_come}
 use Rattle.mk_exact.specs.Factors.{gain, lesser, least_by, factor_with}
 use Rattle.mk_exact.specs.Prices.{price_where}
 use Rattle.mk_exact.specs.Limits.{Side}
-use Rattle.mk_exact.proofs.Listed.{all_are, value_below}
+use Rattle.mk_states.proofs.Listed.{all_are, value_below}
 use Rattle.mk_exact.proofs.ExistMarkets.{passing_stay}
 use Rattle.mk_spread.specs.Spreads.{SpreadAsked, asked_of}
 use Rattle.mk_spread.specs.Markets.{IsValueSide, value_cannot_come, values_left}

@@ -3,14 +3,14 @@ use Rattle.std.proofs.Common.{◌≡◌, ℕ, zero, suc, ◌+◌, ◌-◌, ◌*�
 use Rattle.std.proofs.lemmas.List.Sums.{sum_by-cons}
 use Rattle.mk_net.specs.Bounds.{million}
 use Rattle.mk_net.specs.Network.{Variable, sizes}
-use Rattle.mk_exact.specs.States.{plus_over, numbers_below}
-use Rattle.mk_exact.specs.Events.{holds, with_target}
-use Rattle.mk_exact.specs.Ratios.{unit}
+use Rattle.mk_states.specs.States.{plus_over, numbers_below}
+use Rattle.mk_states.specs.Events.{holds, with_target}
+use Rattle.mk_states.specs.Ratios.{unit}
 use Rattle.mk_exact.specs.History.{Entry}
 use Rattle.mk_exact.specs.Weight.{total}
 use Rattle.mk_exact.specs.Prices.{exact_price}
 use Rattle.mk_exact.specs.Laws.{IsNear}
-use Rattle.mk_exact.proofs.Sums.{sums_are_plus, plus_over-plus}
+use Rattle.mk_states.proofs.Sums.{sums_are_plus, plus_over-plus}
 use Rattle.mk_exact.proofs.Totals.{total_condition, total_traded, traded_sum}
 use Rattle.mk_spread.specs.Spreads.{SpreadAsked, asked_of, spread_ratio, spread_traded}
 use Rattle.mk_spread.specs.Markets.{IsFairList}

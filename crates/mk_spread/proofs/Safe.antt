@@ -5,17 +5,17 @@ use Rattle.std.proofs.lemmas.Bool.{and_from, and_parts}
 use Rattle.std.proofs.lemmas.List.Elements.{All-from_recursion}
 use Rattle.mk_net.specs.Bounds.{million}
 use Rattle.mk_net.specs.Network.{Variable, sizes}
-use Rattle.mk_exact.specs.States.{IsState}
-use Rattle.mk_exact.specs.InitialWeight.{all_states, value_at}
-use Rattle.mk_exact.specs.Events.{holds, with_target}
-use Rattle.mk_exact.specs.Ratios.{unit, ratio_at}
+use Rattle.mk_states.specs.States.{IsState}
+use Rattle.mk_states.specs.InitialWeight.{all_states, value_at}
+use Rattle.mk_states.specs.Events.{holds, with_target}
+use Rattle.mk_states.specs.Ratios.{unit, ratio_at}
 use Rattle.mk_exact.specs.History.{Entry, deposited, withdrawn}
 use Rattle.mk_exact.specs.Weight.{total, is_possible, possible_states}
 use Rattle.mk_exact.specs.Factors.{gain, trade_count, factor, factor_with}
 use Rattle.mk_exact.specs.Prices.{IsSolvent}
 use Rattle.mk_exact.specs.Accepted.{IsSafeTrade}
-use Rattle.mk_exact.proofs.Sums.{each_kept, kept_each, each_weaker, each_both}
-use Rattle.mk_exact.proofs.Listed.{all_are, value_below}
+use Rattle.mk_states.proofs.Sums.{each_kept, kept_each, each_weaker, each_both}
+use Rattle.mk_states.proofs.Listed.{all_are, value_below}
 use Rattle.mk_exact.proofs.Totals.{traded_sum}
 use Rattle.mk_exact.proofs.Solvent.{least_each, solvent_up}
 use Rattle.mk_spread.specs.Spreads.{SpreadAsked, asked_of, spread_ratio}

@@ -5,14 +5,14 @@ use Rattle.std.proofs.Math.Path.{fun_ext}
 use Rattle.std.proofs.lemmas.List.Sums.{sum_by-cons}
 use Rattle.std.proofs.lemmas.List.Elements.{All-filter, All-from_recursion, recursion_from_All}
 use Rattle.mk_net.specs.Network.{Variable, sizes}
-use Rattle.mk_exact.specs.States.{IsState, plus_over, numbers_below}
-use Rattle.mk_exact.specs.InitialWeight.{all_states, value_at}
-use Rattle.mk_exact.specs.Events.{holds, with_target}
-use Rattle.mk_exact.specs.Ratios.{unit, ratio_at}
+use Rattle.mk_states.specs.States.{IsState, plus_over, numbers_below}
+use Rattle.mk_states.specs.InitialWeight.{all_states, value_at}
+use Rattle.mk_states.specs.Events.{holds, with_target}
+use Rattle.mk_states.specs.Ratios.{unit, ratio_at}
 use Rattle.mk_exact.specs.History.{Entry}
 use Rattle.mk_exact.specs.Weight.{weight, total, is_possible, possible_states}
-use Rattle.mk_exact.proofs.Sums.{sums_are_plus, plus_over-filter, plus_over_by_key, sum_by_is, sum_by-times, sum_by-filter, each_weaker}
-use Rattle.mk_exact.proofs.Listed.{all_are, value_below}
+use Rattle.mk_states.proofs.Sums.{sums_are_plus, plus_over-filter, plus_over_by_key, sum_by_is, sum_by-times, sum_by-filter, each_weaker}
+use Rattle.mk_states.proofs.Listed.{all_are, value_below}
 use Rattle.mk_exact.proofs.Totals.{total_is, traded_sum}
 use Rattle.mk_spread.specs.Spreads.{SpreadAsked, asked_of, spread_ratio}
 

@@ -1,7 +1,7 @@
 -- Right bounds of a whole distribution, for the exact numbers of each value.
 use Rattle.std.specs.Prelude.{◌≡◌, ℕ, ◌≤◌, ⊤, List, [], ◌∷◌, Any, Option, Some, None, IfSome, option_map, ◌↔◌}
 use Rattle.std.specs.List.{AllZip}
-use Rattle.mk_exact.specs.Ratios.{unit}
+use Rattle.mk_states.specs.Ratios.{unit}
 use Rattle.mk_exact.specs.Limits.{Side, IsFairAndSolvent, IsWanted, IsFloorSolvent, Inside, IsWithinRange}
 
 -- units for a value's share: fair and solvent on its side; a value that cannot come has no side, no share, and one whole unit

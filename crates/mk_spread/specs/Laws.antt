@@ -4,7 +4,7 @@ use Rattle.mk_net.specs.Bounds.{million, max_values}
 use Rattle.mk_net.specs.Network.{Variable, IsNetwork, sizes}
 use Rattle.mk_net.specs.Asked.{IsUnits}
 use Rattle.mk_exact.specs.History.{Entry}
-use Rattle.mk_exact.specs.Proper.{IsRatioOf}
+use Rattle.mk_states.specs.OfNetwork.{IsRatioOf}
 use Rattle.mk_exact.specs.Accepted.{IsSafeTrade}
 use Rattle.mk_exact.specs.Prices.{exact_price}
 use Rattle.mk_exact.specs.Laws.{IsNear}

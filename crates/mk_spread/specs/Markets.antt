@@ -3,8 +3,8 @@ use Rattle.std.specs.Prelude.{◌≡◌, ℕ, ◌≤◌, Bool, true, false, not,
 use Rattle.std.specs.List.{AllZip}
 use Rattle.mk_net.specs.Network.{Variable, sizes}
 use Rattle.mk_net.specs.Events.{speaks_of, AreApart}
-use Rattle.mk_exact.specs.States.{numbers_below}
-use Rattle.mk_exact.specs.Events.{with_target}
+use Rattle.mk_states.specs.States.{numbers_below}
+use Rattle.mk_states.specs.Events.{with_target}
 use Rattle.mk_exact.specs.History.{Entry, resolutions}
 use Rattle.mk_exact.specs.Weight.{IsSmall, cannot_come}
 use Rattle.mk_exact.specs.Factors.{least_gain}

@@ -5,7 +5,7 @@ use Rattle.mk_net.specs.declared.words.Pair.{Pair}
 use Rattle.mk_net.specs.Network.{Variable}
 use Rattle.mk_net.specs.Asked.{Asked, TradeRatio}
 use Rattle.mk_exact.specs.History.{Entry, Trade}
-use Rattle.mk_exact.specs.Proper.{IsPairOf}
+use Rattle.mk_states.specs.OfNetwork.{IsPairOf}
 
 -- a variable, and the pairs of a condition
 pub record SpreadAsked : Type 0 where

@@ -5,7 +5,7 @@ use Rattle.std.specs.Prelude.{Option, None, IfSome, IsSomeAnd, MatchOption, sum_
 use Rattle.std.specs.List.{AllZip}
 use Rattle.mk_net.specs.Bounds.{million, number_limit}
 use Rattle.mk_net.specs.Network.{Variable, IsNetwork}
-use Rattle.mk_exact.specs.Events.{holds, with_target}
+use Rattle.mk_states.specs.Events.{holds, with_target}
 use Rattle.mk_exact.specs.History.{Entry}
 use Rattle.mk_exact.specs.Weight.{IsSmall, possible_states}
 use Rattle.mk_exact.specs.Factors.{factor_with, least_gain, HoldsNoTrade}

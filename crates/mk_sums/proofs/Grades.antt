@@ -4,7 +4,7 @@ use Rattle.std.proofs.Math.Path.{fun_ext}
 use Rattle.std.proofs.Math.Pow.{pow-lt}
 use Rattle.std.proofs.lemmas.Nat.{pow-add}
 use Rattle.std.proofs.lemmas.Bool.{cases_eq, cases_order, both_ways, and_parts}
-use Rattle.mk_exact.specs.Lawful.{Lawful}
+use Rattle.mk_states.specs.Lawful.{Lawful}
 use Rattle.mk_sums.specs.Trees.{times_of, Links, linked, behind, linked_to, linked_but, sum_of, message_grade}
 use Rattle.mk_sums.proofs.Hops.{AreLinked, are_linked, ends, hop_near, behind_from}
 use Rattle.mk_sums.proofs.Groups.{message_law, read_law}

@@ -2,7 +2,7 @@
 use Rattle.std.proofs.Common.{◌≡◌, ℕ, suc, zero, ◌*◌, ◌<◌, ◌≤◌, Bool, true, false, cond, not, ◌&&◌, ◌||◌, ◌⊎◌, inl, inr, eqb, leb, List, refl, sym, ap, ◌∙◌, arith, mul-one, mul_assoc, eq-eqb, ne_eqb}
 use Rattle.std.proofs.Math.Path.{fun_ext}
 use Rattle.std.proofs.lemmas.Bool.{cases_eq, cases_Bool, both_ways, and_parts, leb-true, le-leb, lt-leb, eqb-true, false_from_ne_true}
-use Rattle.mk_exact.specs.Lawful.{Lawful}
+use Rattle.mk_states.specs.Lawful.{Lawful}
 use Rattle.mk_sums.specs.Sums.{over, Within}
 use Rattle.mk_sums.specs.Trees.{times_of, held, linked, hop, behind, IsTree, right_message, linked_to, linked_but, joint_at, Covers}
 use Rattle.mk_sums.proofs.Sums.{over-times, over-union, side_split, over_agree, over_nothing, Blind_within}

@@ -5,9 +5,9 @@ use Rattle.std.proofs.Math.Nat.{mul-le-mul, one-le-mul}
 use Rattle.std.specs.List.{AllByRecursion}
 use Rattle.std.proofs.lemmas.List.Elements.{recursion_from_All}
 use Rattle.std.proofs.lemmas.Bool.{both_ways}
-use Rattle.mk_exact.specs.States.{states, plus_over, product_by}
-use Rattle.mk_exact.specs.InitialWeight.{value_at}
-use Rattle.mk_exact.proofs.Sums.{product_by-append}
+use Rattle.mk_states.specs.States.{states, plus_over, product_by}
+use Rattle.mk_states.specs.InitialWeight.{value_at}
+use Rattle.mk_states.proofs.Sums.{product_by-append}
 use Rattle.mk_sums.specs.Sums.{over, listed}
 use Rattle.mk_sums.specs.Trees.{times_of, held}
 use Rattle.mk_sums.specs.Cells.{InRange}

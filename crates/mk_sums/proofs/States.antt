@@ -2,10 +2,10 @@
 use Rattle.std.proofs.Common.{◌≡◌, ℕ, suc, zero, ◌+◌, ◌<◌, ◌≤◌, true, List, [], ◌∷◌, length, slice_index, refl, sym, ap, ◌∙◌, arith, eq-eqb, ne_eqb}
 use Rattle.std.proofs.Math.Path.{fun_ext}
 use Rattle.std.specs.List.{range_with_len}
-use Rattle.mk_exact.specs.States.{states, numbers_below, plus_over}
-use Rattle.mk_exact.specs.InitialWeight.{value_at}
-use Rattle.mk_exact.proofs.Sums.{IsPlus, plus_over-states}
-use Rattle.mk_exact.specs.Lawful.{Lawful}
+use Rattle.mk_states.specs.States.{states, numbers_below, plus_over}
+use Rattle.mk_states.specs.InitialWeight.{value_at}
+use Rattle.mk_states.proofs.Sums.{IsPlus, plus_over-states}
+use Rattle.mk_states.specs.Lawful.{Lawful}
 use Rattle.mk_sums.specs.Sums.{upd, plus_below, over}
 use Rattle.mk_sums.specs.Joint.{variables}
 

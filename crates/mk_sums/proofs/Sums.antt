@@ -2,7 +2,7 @@
 use Rattle.std.proofs.Common.{◌≡◌, ℕ, suc, zero, ◌*◌, Bool, true, false, cond, ◌||◌, ◌⊎◌, inl, inr, eqb, List, [], ◌∷◌, refl, sym, ap, ◌∙◌, mul_comm, mul-zero, eq-eqb, ne_eqb}
 use Rattle.std.proofs.Math.Path.{fun_ext}
 use Rattle.std.proofs.lemmas.Bool.{cases_eq, cases_Bool, both_ways, eqb-true}
-use Rattle.mk_exact.specs.Lawful.{Lawful}
+use Rattle.mk_states.specs.Lawful.{Lawful}
 use Rattle.mk_sums.specs.Sums.{upd, plus_below, over, Within, Blind, listed}
 
 pub upd_apart : (a : ℕ → ℕ) (x y v w : ℕ) → (x ≡ y → ⊥) → upd (upd a y w) x v ≡ upd (upd a x v) y w

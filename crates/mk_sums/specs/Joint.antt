@@ -2,9 +2,9 @@
 use Rattle.std.specs.Prelude.{ℕ, ◌≤◌, Bool, cond, ◌&&◌, ◌==◌, List, length}
 use Rattle.std.specs.List.{list_all, filter}
 use Rattle.mk_net.specs.declared.words.Pair.{Pair}
-use Rattle.mk_exact.specs.States.{states, numbers_below, plus_over, product_by}
-use Rattle.mk_exact.specs.InitialWeight.{value_at}
-use Rattle.mk_exact.specs.Events.{holds}
+use Rattle.mk_states.specs.States.{states, numbers_below, plus_over, product_by}
+use Rattle.mk_states.specs.InitialWeight.{value_at}
+use Rattle.mk_states.specs.Events.{holds}
 use Rattle.mk_sums.specs.Sums.{Within}
 
 -- the exact plus, over all states where the known pairs and the event hold, of the product of all factors; 0, for absent, where no state does

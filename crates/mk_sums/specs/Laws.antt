@@ -1,9 +1,9 @@
 -- The laws of the tree. Each is the contract of a function of this crate, and so proved.
 use Rattle.std.specs.Prelude.{◌≡◌, ◌≢◌, ℕ, ◌+◌, ◌*◌, ◌<◌, ◌≤◌, Bool, true, false, cond, not, ◌&&◌, ◌↔◌, List, [], ◌++◌, map, length, slice_index, All}
 use Rattle.mk_net.specs.declared.words.Pair.{Pair}
-use Rattle.mk_exact.specs.States.{states, plus_over, product_by}
-use Rattle.mk_exact.specs.InitialWeight.{value_at}
-use Rattle.mk_exact.specs.Lawful.{Lawful}
+use Rattle.mk_states.specs.States.{states, plus_over, product_by}
+use Rattle.mk_states.specs.InitialWeight.{value_at}
+use Rattle.mk_states.specs.Lawful.{Lawful}
 use Rattle.mk_sums.specs.Lawful.{lesser_present}
 use Rattle.mk_sums.specs.Sums.{plus_below, over, Within, listed}
 use Rattle.mk_sums.specs.Trees.{times_of, held, Links, linked, hop, behind, Running, OneTop, IsTree, right_message, linked_to, linked_but, joint_at, Covers, towards, sum_of, message_grade, way, passes}

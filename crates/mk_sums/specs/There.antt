@@ -6,7 +6,7 @@ use Rattle.mk_net.specs.declared.words.Pair.{Pair}
 use Rattle.mk_net.specs.Asked.{TradeRatio}
 use Rattle.mk_net.specs.Network.{Variable, sizes}
 use Rattle.mk_net.specs.Named.{variable_at}
-use Rattle.mk_exact.specs.Ratios.{unit, units_of, variable_of, condition_of}
+use Rattle.mk_states.specs.Ratios.{unit, units_of, variable_of, condition_of}
 
 -- the number of the row for the parents' values, the last parent's value changing fastest
 abbrev pub row_there : List ℕ → List ℕ → (ℕ → ℕ) → ℕ

@@ -9,7 +9,7 @@ use Rattle.std.proofs.Math.Seq.{take-append_seam}
 use Rattle.std.proofs.lemmas.List.{map-append, length-map}
 use Rattle.std.proofs.lemmas.List.Elements.{filter-append, All-nil, All-cons, All-head, All-tail, All-weaker, All-map, All-append}
 use Rattle.std.proofs.lemmas.Grind.{flat_map-append}
-use Rattle.mk_exact.specs.States.{numbers_below}
+use Rattle.mk_states.specs.States.{numbers_below}
 use Rattle.mk_sums.specs.Sums.{upd, listed}
 use Rattle.mk_sums.specs.Cells.{cells, place, Apart}
 use Rattle.mk_table.specs.inner.Strides.{repeated, cells_with}

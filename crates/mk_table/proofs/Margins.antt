@@ -5,9 +5,9 @@ use Rattle.std.specs.Vec.{with_items}
 use Rattle.std.proofs.lemmas.Bool.{cases_Bool, eqb-true}
 use Rattle.std.proofs.lemmas.List.Elements.{All-weaker}
 use Rattle.mk_net.specs.declared.words.Pair.{Pair}
-use Rattle.mk_exact.specs.Lawful.{Lawful}
-use Rattle.mk_exact.specs.States.{plus_over}
-use Rattle.mk_exact.proofs.Sums.{plus_over-map}
+use Rattle.mk_states.specs.Lawful.{Lawful}
+use Rattle.mk_states.specs.States.{plus_over}
+use Rattle.mk_states.proofs.Sums.{plus_over-map}
 use Rattle.mk_sums.specs.There.{holds_there}
 use Rattle.mk_cell.specs.Cell.{StandsAt, IsOwnAt}
 use Rattle.mk_table.specs.Scopes.{ScopeOf, LiesIn, HasEvent, cells_in}

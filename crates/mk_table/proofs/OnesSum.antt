@@ -5,8 +5,8 @@ use Rattle.std.proofs.Math.Nat.{mul_assoc}
 use Rattle.std.proofs.lemmas.Bool.{cases_eq}
 use Rattle.std.proofs.lemmas.Nat.{pow-add, pow_pos}
 use Rattle.std.proofs.lemmas.List.{length-replicate, get_or-replicate, length-take, get_or-take}
-use Rattle.mk_exact.specs.Lawful.{Lawful}
-use Rattle.mk_exact.specs.States.{plus_over}
+use Rattle.mk_states.specs.Lawful.{Lawful}
+use Rattle.mk_states.specs.States.{plus_over}
 use Rattle.mk_cell.specs.Cell.{bias, bias-is, IsForm, IsCell, IsRounded, StandsAt, AllStand, AreCells}
 use Rattle.mk_cell.specs.Passes.{plus_below}
 use Rattle.mk_cell.proofs.Standing.{exact_stands, times_stands}

@@ -9,7 +9,7 @@ use Rattle.std.proofs.lemmas.Simd.{map-map}
 use Rattle.std.proofs.lemmas.List.{map-append, length-map}
 use Rattle.std.proofs.lemmas.List.Elements.{All-head, All-tail}
 use Rattle.std.proofs.lemmas.List.FromFn.{length-range_with_len, length-map-range_with_len, get_or-map-range_with_len}
-use Rattle.mk_exact.specs.States.{numbers_below}
+use Rattle.mk_states.specs.States.{numbers_below}
 use Rattle.mk_sums.specs.Sums.{upd, listed}
 use Rattle.mk_sums.specs.Cells.{keep, cells, cell_of, place, Apart}
 use Rattle.mk_sums.proofs.Tables.{cell_below}

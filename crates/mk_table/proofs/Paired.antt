@@ -4,9 +4,9 @@ use Rattle.std.proofs.lemmas.Bool.{cases_lt}
 use Rattle.std.proofs.lemmas.Nat.{pow_pos, shl_below}
 use Rattle.std.proofs.Math.Nat.{mul_comm, mul-le-mul_left}
 use Rattle.std.proofs.lemmas.List.{take-map, drop-map}
-use Rattle.mk_exact.specs.Lawful.{Lawful}
-use Rattle.mk_exact.specs.States.{plus_over}
-use Rattle.mk_exact.proofs.Sums.{plus_over-map}
+use Rattle.mk_states.specs.Lawful.{Lawful}
+use Rattle.mk_states.specs.States.{plus_over}
+use Rattle.mk_states.proofs.Sums.{plus_over-map}
 use Rattle.mk_cell.specs.Passes.{plus_below}
 use Rattle.mk_scaled.specs.Range.{two_to, two_to-small, two_to-lt, mul_at_most, exponent_below, pow-lt_reflects}
 use Rattle.mk_cell.specs.Cell.{bias, bias-is, IsCell, StandsAt, AllStand}

@@ -6,7 +6,7 @@ use Rattle.std.proofs.lemmas.List.Sums.{fold_more}
 use Rattle.std.proofs.lemmas.List.Elements.{All-head, All-tail, All-same, All-from_recursion}
 use Rattle.mk_net.specs.Network.{Variable, sizes, choices, IsNetwork}
 use Rattle.mk_net.specs.Named.{variable_at, nobody}
-use Rattle.mk_exact.proofs.Positive.{few_values_at, parents_within}
+use Rattle.mk_states.proofs.Shares.{few_values_at, parents_within}
 use Rattle.mk_sums.specs.There.{row_there}
 
 number_grows : (row size v i : ℕ) → row < 16 ^ i → size ≤ 16 → v < size → row * size + v < 16 ^ (i + 1)

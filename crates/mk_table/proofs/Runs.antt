@@ -7,9 +7,9 @@ use Rattle.std.proofs.lemmas.List.{map-append, append-nil, length-map, get_or-ma
 use Rattle.std.proofs.lemmas.List.Elements.{All-nil, All-cons, All-head, All-tail, All-weaker, All-append}
 use Rattle.std.proofs.lemmas.List.FromFn.{length-range_with_len, get_or-range_with_len}
 use Rattle.std.proofs.lemmas.Grind.{flat_map-append}
-use Rattle.mk_exact.specs.Lawful.{Lawful}
-use Rattle.mk_exact.specs.States.{numbers_below, plus_over}
-use Rattle.mk_exact.proofs.Sums.{plus_over-flat_map}
+use Rattle.mk_states.specs.Lawful.{Lawful}
+use Rattle.mk_states.specs.States.{numbers_below, plus_over}
+use Rattle.mk_states.proofs.Sums.{plus_over-flat_map}
 use Rattle.mk_cell.specs.Passes.{plus_below}
 use Rattle.mk_cell.specs.Cell.{AllStand, AreCells, IsCell, StandsAt}
 use Rattle.mk_table.specs.Scopes.{Rising}

@@ -9,9 +9,9 @@ use Rattle.std.proofs.lemmas.List.{length-map}
 use Rattle.std.proofs.lemmas.List.Elements.{All-weaker}
 use Rattle.mk_net.specs.declared.words.Pair.{Pair}
 use Rattle.mk_net.specs.Asked.{TradeRatio}
-use Rattle.mk_exact.specs.Lawful.{Lawful}
-use Rattle.mk_exact.specs.States.{plus_over}
-use Rattle.mk_exact.specs.Ratios.{units_of}
+use Rattle.mk_states.specs.Lawful.{Lawful}
+use Rattle.mk_states.specs.States.{plus_over}
+use Rattle.mk_states.specs.Ratios.{units_of}
 use Rattle.mk_sums.specs.There.{holds_there, ratio_there}
 use Rattle.mk_cell.specs.Cell.{AllStand, StandsAt, IsOwnAt}
 use Rattle.mk_cell.specs.inner.Laws.{stands_with_more}

@@ -7,7 +7,7 @@ use Rattle.std.proofs.lemmas.List.{drop_more, take_more, length-take-le, get_or-
 use Rattle.std.proofs.lemmas.List.Elements.{All-head, All-tail}
 use Rattle.mk_net.specs.Network.{Variable, sizes, IsNetwork}
 use Rattle.mk_net.specs.Named.{nobody}
-use Rattle.mk_exact.proofs.Positive.{size_at, few_values_at}
+use Rattle.mk_states.proofs.Shares.{size_at, few_values_at}
 use Rattle.mk_sums.specs.Sums.{listed}
 use Rattle.mk_sums.specs.Cells.{cells, Apart}
 use Rattle.mk_table.specs.inner.Columns.{IsColumn, HaveColumns}

@@ -1,7 +1,7 @@
 -- The cells of a table. A cell's number counts the values of the scope's variables, the last variable's changing fastest.
 use Rattle.std.specs.Prelude.{ℕ, List, ◌==◌, filter, length}
 use Rattle.mk_net.specs.declared.words.Pair.{Pair}
-use Rattle.mk_exact.specs.States.{numbers_below}
+use Rattle.mk_states.specs.States.{numbers_below}
 use Rattle.mk_sums.specs.Cells.{cell_of, place}
 use Rattle.mk_sums.specs.There.{holds_there}
 use Rattle.mk_table.specs.Scopes.{ScopeOf, size_in, cells_in}

@@ -1,7 +1,7 @@
 -- Margins of tables that are made anew where an event allows: what must be right of the other cells already.
 use Rattle.std.specs.Prelude.{◌≡◌, ℕ, ◌+◌, ◌-◌, ◌*◌, ◌<◌, false, List, All, slice_index}
 use Rattle.mk_net.specs.declared.words.Pair.{Pair}
-use Rattle.mk_exact.specs.States.{plus_over}
+use Rattle.mk_states.specs.States.{plus_over}
 use Rattle.mk_sums.specs.There.{holds_there}
 use Rattle.mk_cell.specs.Cell.{StandsAt, IsOwnAt}
 use Rattle.mk_table.specs.Scopes.{cells_in}

@@ -2,7 +2,7 @@
 
 ghost use Rattle.std.specs.Prelude.{◌≡◌, ◌==◌, ◌&&◌, ℕ, ◌+◌, ◌-◌, ◌*◌, ◌<◌, ◌≤◌, List, All, length, replicate, slice_index, vec_len, vec_capacity};
 ghost use Rattle.mk_net.specs.Bounds.{max_clique_cells};
-ghost use Rattle.mk_exact.specs.States.{plus_over};
+ghost use Rattle.mk_states.specs.States.{plus_over};
 ghost use Rattle.mk_cell.specs.Cell.{IsCell, Stands, StandsAt};
 ghost use Rattle.mk_cell.specs.Passes.{plus_below};
 ghost use Rattle.mk_table.specs.Scopes.{LiesIn, cells_in};

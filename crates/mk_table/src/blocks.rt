@@ -2,7 +2,7 @@
 
 ghost use Rattle.std.specs.Prelude.{◌≡◌, ℕ, ◌+◌, ◌*◌, ◌<◌, ◌≤◌, ◌-◌, List, All, length, slice_index};
 ghost use Rattle.mk_net.specs.Bounds.{max_clique_cells};
-ghost use Rattle.mk_exact.specs.States.{plus_over};
+ghost use Rattle.mk_states.specs.States.{plus_over};
 ghost use Rattle.mk_cell.specs.Cell.{AreCells, Stands, StandsAt};
 ghost use Rattle.std.specs.List.{range_with_len};
 ghost use Rattle.mk_table.specs.inner.Parts.{HaveRoom, StandListed, block_of};

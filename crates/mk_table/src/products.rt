@@ -2,7 +2,7 @@
 
 ghost use Rattle.std.specs.Prelude.{◌≡◌, ℕ, ◌+◌, ◌*◌, ◌<◌, ◌≤◌, All, length, slice_index};
 ghost use Rattle.mk_net.specs.Bounds.{max_clique_cells};
-ghost use Rattle.mk_exact.specs.States.{plus_over};
+ghost use Rattle.mk_states.specs.States.{plus_over};
 ghost use Rattle.mk_cell.specs.Cell.{AreCells, Stands, StandsAt};
 ghost use Rattle.mk_table.specs.inner.Blank.{one_digits, one_exponent, filled};
 ghost use Rattle.mk_table.specs.inner.Parts.{AreBlankOrFull, HaveRoom, IsPlusOfPairs, cells_at};

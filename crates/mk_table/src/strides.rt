@@ -2,7 +2,7 @@
 
 ghost use Rattle.std.specs.Prelude.{◌≡◌, ℕ, ◌+◌, ◌*◌, ◌<◌, ◌≤◌, true, [], ◌∷◌, ◌++◌, All, map, filter, take, length, Option, IfSome, IfNone, ◌==◌, if◌then◌else◌, not};
 ghost use Rattle.mk_net.specs.Bounds.{max_clique_cells};
-ghost use Rattle.mk_exact.specs.States.{numbers_below};
+ghost use Rattle.mk_states.specs.States.{numbers_below};
 ghost use Rattle.mk_net.specs.Events.{IsEvent};
 ghost use Rattle.mk_table.specs.inner.Strides.{repeated, lets};
 

@@ -12,8 +12,8 @@ use Rattle.std.proofs.lemmas.List.Sums.{sum_by_push}
 use Rattle.mk_net.specs.declared.sets.VarSet.{VarSet}
 use Rattle.mk_net.specs.Sets.{is_member, no_variables}
 use Rattle.mk_net.specs.Network.{Variable, sizes, choices}
-use Rattle.mk_exact.specs.States.{numbers_below}
-use Rattle.mk_exact.proofs.Sums.{each_number, each_weaker, sum_by_each}
+use Rattle.mk_states.specs.States.{numbers_below}
+use Rattle.mk_states.proofs.Sums.{each_number, each_weaker, sum_by_each}
 use Rattle.mk_sums.specs.Trees.{Links, Running}
 use Rattle.mk_tree.specs.Given.{GivenTree, AreLinked, AreOfNetwork, clique_at, holds, link_of}
 use Rattle.mk_tree.specs.Tests.{holds_family, is_covered, members, cells_of}

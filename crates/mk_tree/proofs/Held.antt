@@ -14,7 +14,7 @@ use Rattle.mk_net.specs.declared.sets.VarSet.{VarSet}
 use Rattle.mk_net.specs.Sets.{is_member, no_variables}
 use Rattle.mk_net.specs.Named.{variable_at}
 use Rattle.mk_net.specs.Network.{Variable}
-use Rattle.mk_exact.proofs.Sums.{list_all-append}
+use Rattle.mk_states.proofs.Sums.{list_all-append}
 use Rattle.mk_tree.specs.Given.{GivenTree, clique_at, home, holds_event}
 use Rattle.mk_tree.specs.Tests.{holds_family, is_covered}
 use Rattle.mk_tree.specs.Held.{IsHeldAt}

@@ -7,7 +7,7 @@ use Rattle.mk_net.specs.Sets.{is_member}
 use Rattle.mk_net.specs.Network.{Variable, sizes, choices}
 use Rattle.mk_net.specs.Named.{variable_at}
 use Rattle.mk_net.specs.Firsts.{first_of}
-use Rattle.mk_exact.specs.States.{numbers_below}
+use Rattle.mk_states.specs.States.{numbers_below}
 use Rattle.mk_tree.specs.Given.{GivenTree, holds, link_of}
 use Rattle.mk_tree.specs.declared.fault.TreeFault.{TreeFault}
 use Rattle.mk_tree.specs.declared.fault.TreeFault.TheVariants.{Cover, NotRunning, Cells}

@@ -10,7 +10,7 @@ use Rattle.std.proofs.Math.Seq.{take-length}
 use Rattle.mk_net.specs.declared.words.Pair.{Pair}
 use Rattle.mk_net.specs.Sets.{no_variables}
 use Rattle.mk_net.specs.Bounds.{number_limit}
-use Rattle.mk_exact.specs.States.{plus_over}
+use Rattle.mk_states.specs.States.{plus_over}
 use Rattle.mk_sums.specs.Trees.{sum_of, linked_to}
 use Rattle.mk_sums.proofs.Hops as hops
 use Rattle.mk_tree.specs.Given.{GivenTree, clique_at, link_of, holds_event}

@@ -4,7 +4,7 @@
 ghost use Rattle.std.specs.Prelude.{◌+◌, ◌<◌, ◌≤◌, IfOk};
 ghost use Rattle.std.specs.List.{AllByRecursion};
 ghost use Rattle.mk_net.specs.Bounds.{max_clique_cells};
-ghost use Rattle.mk_exact.specs.Proper.{IsPairOf};
+ghost use Rattle.mk_states.specs.OfNetwork.{IsPairOf};
 ghost use Rattle.mk_tree.specs.Checked.{IsTreeOf};
 ghost use Rattle.mk_joint.specs.inner.Joints.{joint_states};
 ghost use Rattle.mk_tree_trials.specs.Used.{IsInUse};

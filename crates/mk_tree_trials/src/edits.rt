@@ -5,7 +5,7 @@ ghost use Rattle.std.specs.Prelude.{◌+◌, ◌<◌, ◌≤◌};
 ghost use Rattle.std.specs.List.{AllByRecursion};
 ghost use Rattle.mk_tree.specs.Checked.{IsTreeOf};
 ghost use Rattle.mk_tree.specs.Held.{IsHeldAt};
-ghost use Rattle.mk_exact.specs.Proper.{IsPairOf};
+ghost use Rattle.mk_states.specs.OfNetwork.{IsPairOf};
 ghost use Rattle.mk_tree_trials.specs.Used.{IsInUse};
 
 use crate::engines::{About, Change, ask_in, event, home_of, start, tell};

@@ -3,7 +3,7 @@
 ghost use Rattle.std.specs.Prelude.{◌≡◌, ◌+◌, ◌<◌, Some, IfOk};
 ghost use Rattle.std.specs.List.{AllByRecursion};
 ghost use Rattle.mk_net.specs.Trades.{trade_ratio};
-ghost use Rattle.mk_exact.specs.Proper.{IsPairOf, IsQuestionOf, IsRatioOf};
+ghost use Rattle.mk_states.specs.OfNetwork.{IsPairOf, IsQuestionOf, IsRatioOf};
 ghost use Rattle.mk_tree.specs.Given.{home};
 ghost use Rattle.mk_tree.specs.Checked.{IsTreeOf};
 ghost use Rattle.mk_tree.specs.Held.{IsHeldAt};

@@ -2,7 +2,7 @@
 
 ghost use Rattle.std.specs.List.{AllByRecursion};
 ghost use Rattle.mk_tree.specs.Checked.{IsTreeOf};
-ghost use Rattle.mk_exact.specs.Proper.{IsPairOf};
+ghost use Rattle.mk_states.specs.OfNetwork.{IsPairOf};
 ghost use Rattle.mk_tree_trials.specs.Used.{IsInUse};
 
 use crate::both::{NOT_A, WEATHER, expect_few_states};

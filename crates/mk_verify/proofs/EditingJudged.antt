@@ -8,7 +8,7 @@ use Rattle.mk_exact.specs.Factors.{HoldsNoTrade}
 use Rattle.mk_exact.specs.Limits.{Side, IsFairAndSolvent, Inside, AreRight}
 use Rattle.mk_exact.specs.Market.{Market, network_of}
 use Rattle.mk_exact.specs.Sides.{IsSide, AreSides, AreRightLimits}
-use Rattle.mk_exact.specs.Events.{with_target, without_target}
+use Rattle.mk_states.specs.Events.{with_target, without_target}
 use Rattle.mk_exact.specs.Factors.{factor_with, least_gain}
 use Rattle.mk_exact.specs.Prices.{price_where}
 use Rattle.mk_net.specs.Network.{Variable}

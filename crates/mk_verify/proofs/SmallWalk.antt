@@ -5,12 +5,12 @@ use Rattle.std.proofs.Math.Path.{fun_ext}
 use Rattle.std.proofs.lemmas.List.{map_more, drop_more, drop_all}
 use Rattle.std.proofs.lemmas.List.Sums.{sum_by_push}
 use Rattle.mk_net.specs.Network.{Variable, sizes}
-use Rattle.mk_exact.specs.States.{states, numbers_below, plus_over, product_by}
-use Rattle.mk_exact.specs.InitialWeight.{all_states, initial_weight}
-use Rattle.mk_exact.specs.Ratios.{ratio_at}
+use Rattle.mk_states.specs.States.{states, numbers_below, plus_over, product_by}
+use Rattle.mk_states.specs.InitialWeight.{all_states, initial_weight}
+use Rattle.mk_states.specs.Ratios.{ratio_at}
 use Rattle.mk_exact.specs.History as history
 use Rattle.mk_exact.specs.Weight.{weight, IsSmall}
-use Rattle.mk_exact.proofs.Sums.{sum_by_is, plus_over-states, sums_are_plus}
+use Rattle.mk_states.proofs.Sums.{sum_by_is, plus_over-states, sums_are_plus}
 use Rattle.mk_exact.proofs.Single.{over_all}
 use Rattle.mk_walk.specs.Walked.{capped}
 use Rattle.mk_walk.proofs.Weights.{capped_times, numbers_more}

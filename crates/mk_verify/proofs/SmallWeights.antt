@@ -6,15 +6,15 @@ use Rattle.std.proofs.lemmas.List.Elements.{filter_map-append}
 use Rattle.std.specs.List.{AllByRecursion}
 use Rattle.mk_net.specs.Bounds.{million}
 use Rattle.mk_net.specs.Network.{Variable, sizes, IsNetwork}
-use Rattle.mk_exact.specs.States.{IsState, product_by}
-use Rattle.mk_exact.specs.InitialWeight.{all_states, initial_weight, initial_total}
-use Rattle.mk_exact.specs.Ratios.{ratio_at}
+use Rattle.mk_states.specs.States.{IsState, product_by}
+use Rattle.mk_states.specs.InitialWeight.{all_states, initial_weight, initial_total}
+use Rattle.mk_states.specs.Ratios.{ratio_at}
 use Rattle.mk_exact.specs.History.{Entry, Join, Deposit, Withdraw, Trade, Resolve, Settle, UserTrade, trade_in, trades, users}
 use Rattle.mk_exact.specs.Weight.{weight, IsSmall}
 use Rattle.mk_exact.specs.Proper.{IsTradeOf, IsProper}
-use Rattle.mk_exact.proofs.Sums.{product_by_pos, each_weaker}
+use Rattle.mk_states.proofs.Sums.{product_by_pos, each_weaker}
 use Rattle.mk_exact.proofs.Positive.{ratio_pos}
-use Rattle.mk_exact.proofs.Listed.{all_are}
+use Rattle.mk_states.proofs.Listed.{all_are}
 use Rattle.mk_exact.proofs.Millions.{initial_total_is}
 use Rattle.mk_exact.proofs.After.{weight_kept, weight_traded}
 use Rattle.mk_verify.specs.inner.Walks.{times}

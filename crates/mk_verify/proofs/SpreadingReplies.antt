@@ -8,7 +8,7 @@ use Rattle.mk_net.specs.declared.words.PairText.{PairText}
 use Rattle.mk_exact.specs.History.{Entry, revision}
 use Rattle.mk_exact.specs.Limits.{Side}
 use Rattle.mk_exact.specs.Market.{Market, network_of}
-use Rattle.mk_exact.proofs.Sums.{each_weaker}
+use Rattle.mk_states.proofs.Sums.{each_weaker}
 use Rattle.mk_spread.specs.Bounds.{Intervals}
 use Rattle.mk_spread.specs.Markets.{AreValueSides}
 use Rattle.mk_command.specs.declared.command.Command.TheVariants.{Bounds, Spread}

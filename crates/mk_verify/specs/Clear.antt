@@ -5,9 +5,9 @@ use Rattle.std.specs.Prelude.{◌≡◌, ℕ, ◌+◌, ◌-◌, ◌*◌, ◌^◌
 use Rattle.std.specs.Prelude.{None, IsSomeAnd, slice_get, Bool}
 use Rattle.mk_net.specs.Bounds.{million, number_limit}
 use Rattle.mk_net.specs.Asked.{Asked}
-use Rattle.mk_exact.specs.InitialWeight.{initial_total}
-use Rattle.mk_exact.specs.Events.{always, with_target}
-use Rattle.mk_exact.specs.Ratios.{unit}
+use Rattle.mk_states.specs.InitialWeight.{initial_total}
+use Rattle.mk_states.specs.Events.{always, with_target}
+use Rattle.mk_states.specs.Ratios.{unit}
 use Rattle.mk_exact.specs.History.{Entry, revision}
 use Rattle.mk_exact.specs.Weight.{IsSmall, possible_states}
 use Rattle.mk_exact.specs.Factors.{Fraction, HoldsNoTrade, factor, factor_with, least_gain}

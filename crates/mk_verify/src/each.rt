@@ -4,7 +4,7 @@ ghost use Rattle.std.specs.List.{AllZip};
 ghost use Rattle.mk_net.specs.Asked.{Asked};
 ghost use Rattle.mk_net.specs.Bounds.{max_points_per_bit};
 ghost use Rattle.mk_text.specs.Numbers.{AreEnds};
-ghost use Rattle.mk_exact.specs.Events.{with_target};
+ghost use Rattle.mk_states.specs.Events.{with_target};
 ghost use Rattle.mk_exact.specs.History.{Entry};
 ghost use Rattle.mk_exact.specs.Market.{Market, network_of};
 ghost use Rattle.mk_exact.specs.Sound.{IsSound};

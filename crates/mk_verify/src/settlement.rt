@@ -1,6 +1,6 @@
 //! Judgements of replies to `settle`.
 ghost use Rattle.std.specs.Prelude.{◌≡◌, ◌<◌, ◌^◌, ◌↔◌, ℕ, List, [], ◌∷◌, true, length, map, All};
-ghost use Rattle.mk_exact.specs.Events.{always};
+ghost use Rattle.mk_states.specs.Events.{always};
 ghost use Rattle.mk_exact.specs.Existing.{HasOutcome};
 ghost use Rattle.mk_exact.specs.History.{users};
 ghost use Rattle.mk_exact.specs.Market.{network_of};

@@ -4,8 +4,8 @@ ghost use Rattle.std.specs.Prelude.{◌≡◌, ℕ, ◌<◌, ◌≤◌, ◌↔�
 ghost use Rattle.std.specs.Prelude.{take, drop};
 ghost use Rattle.mk_net.specs.Network.{sizes};
 ghost use Rattle.mk_net.specs.Trades.{trade_ratio};
-ghost use Rattle.mk_exact.specs.States.{IsState};
-ghost use Rattle.mk_exact.specs.Ratios.{ratio_at};
+ghost use Rattle.mk_states.specs.States.{IsState};
+ghost use Rattle.mk_states.specs.Ratios.{ratio_at};
 ghost use Rattle.mk_exact.specs.Proper.{IsProper};
 ghost use Rattle.mk_exact.specs.Weight.{IsSmall, weight};
 ghost use Rattle.mk_walk.specs.Walked.{capped};

@@ -5,14 +5,14 @@ use Rattle.std.specs.declared.alloc.Global.{Global}
 use Rattle.std.proofs.lemmas.List.{map_more}
 use Rattle.mk_net.specs.declared.words.Pair.{Pair}
 use Rattle.mk_net.specs.Network.{Variable}
-use Rattle.mk_exact.specs.States.{plus_over, product_by}
-use Rattle.mk_exact.specs.InitialWeight.{all_states}
-use Rattle.mk_exact.specs.Events.{holds}
-use Rattle.mk_exact.specs.Ratios.{ratio_at}
+use Rattle.mk_states.specs.States.{plus_over, product_by}
+use Rattle.mk_states.specs.InitialWeight.{all_states}
+use Rattle.mk_states.specs.Events.{holds}
+use Rattle.mk_states.specs.Ratios.{ratio_at}
 use Rattle.mk_exact.specs.History.{Entry, UserTrade}
 use Rattle.mk_exact.specs.Weight.{is_possible}
 use Rattle.mk_exact.specs.Factors.{lesser, gain, least_gain}
-use Rattle.mk_exact.proofs.Sums.{IsPlus, plus_over-append, plus_over-filter, plus_over-map}
+use Rattle.mk_states.proofs.Sums.{IsPlus, plus_over-append, plus_over-filter, plus_over-map}
 use Rattle.mk_walk.specs.declared.weight.WalkTrade.{WalkTrade}
 use Rattle.mk_walk.specs.Lists.{lists}
 use Rattle.mk_walk.specs.Walked.{user_trade, IsHistoryOf, capped, walked_gain, counted_gain}

@@ -5,8 +5,8 @@ use Rattle.std.proofs.lemmas.List.Concat.{flat_map-append}
 use Rattle.std.specs.List.{AllByRecursion}
 use Rattle.std.specs.declared.alloc.Global.{Global}
 use Rattle.mk_net.specs.Network.{Variable, sizes}
-use Rattle.mk_exact.specs.States.{IsState, states, numbers_below}
-use Rattle.mk_exact.proofs.Listed.{states_are}
+use Rattle.mk_states.specs.States.{IsState, states, numbers_below}
+use Rattle.mk_states.proofs.Listed.{states_are}
 use Rattle.mk_walk.specs.Lists.{lists}
 use Rattle.mk_walk.proofs.Weights.{numbers_more}
 

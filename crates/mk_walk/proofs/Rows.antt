@@ -6,10 +6,10 @@ use Rattle.std.proofs.lemmas.List.Sums.{fold_more}
 use Rattle.std.proofs.lemmas.List.Elements.{All-from_recursion}
 use Rattle.mk_net.specs.Network.{Variable, sizes, IsNetwork}
 use Rattle.mk_net.specs.Named.{variable_at, nobody}
-use Rattle.mk_exact.specs.States.{IsState}
-use Rattle.mk_exact.specs.InitialWeight.{row_number}
-use Rattle.mk_exact.proofs.Listed.{as_many}
-use Rattle.mk_exact.proofs.Positive.{few_values_at, parents_within, row_number_below}
+use Rattle.mk_states.specs.States.{IsState}
+use Rattle.mk_states.specs.InitialWeight.{row_number}
+use Rattle.mk_states.proofs.Listed.{as_many}
+use Rattle.mk_states.proofs.Shares.{few_values_at, parents_within, row_number_below}
 
 number_grows : (row size v i : ℕ) → row < 16 ^ i → size ≤ 16 → v < size → row * size + v < 16 ^ (i + 1)
 number_grows row size v i p q r = lt_of_lt_of_le (mul-add-lt row size v (16 ^ i) p r) (rw (add-one i, pow-suc 16 i) (let m : size * 16 ^ i ≤ 16 * 16 ^ i = mul-le-mul_right (16 ^ i) q in omega arith))

@@ -7,15 +7,15 @@ use Rattle.std.proofs.lemmas.List.Sums.{sum_by_push}
 use Rattle.std.proofs.lemmas.List.Elements.{All-from_recursion}
 use Rattle.mk_net.specs.declared.words.Pair.{Pair}
 use Rattle.mk_net.specs.Network.{Variable, sizes}
-use Rattle.mk_exact.specs.States.{IsState, product_by}
-use Rattle.mk_exact.specs.InitialWeight.{all_states, initial_weight}
-use Rattle.mk_exact.specs.Events.{holds}
-use Rattle.mk_exact.specs.Ratios.{ratio_at}
+use Rattle.mk_states.specs.States.{IsState, product_by}
+use Rattle.mk_states.specs.InitialWeight.{all_states, initial_weight}
+use Rattle.mk_states.specs.Events.{holds}
+use Rattle.mk_states.specs.Ratios.{ratio_at}
 use Rattle.mk_exact.specs.History.{Entry, UserTrade}
 use Rattle.mk_exact.specs.Weight.{weight, total}
-use Rattle.mk_exact.proofs.Sums.{plus_over-map}
+use Rattle.mk_states.proofs.Sums.{plus_over-map}
 use Rattle.mk_exact.proofs.Totals.{total_is}
-use Rattle.mk_exact.proofs.Listed.{all_are}
+use Rattle.mk_states.proofs.Listed.{all_are}
 use Rattle.mk_walk.specs.declared.weight.WalkTrade.{WalkTrade}
 use Rattle.mk_walk.specs.Lists.{lists}
 use Rattle.mk_walk.specs.Walked.{user_trade, IsHistoryOf, capped, walked_weight, counted_weight}

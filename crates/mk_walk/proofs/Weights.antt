@@ -5,10 +5,10 @@ use Rattle.std.proofs.lemmas.List.{take_more}
 use Rattle.std.proofs.lemmas.List.Elements.{filter_more}
 use Rattle.std.proofs.lemmas.List.FromFn.{map-range_with_len_more}
 use Rattle.mk_net.specs.Network.{Variable}
-use Rattle.mk_exact.specs.States.{product_by, numbers_below}
-use Rattle.mk_exact.specs.InitialWeight.{entry, initial_weight}
-use Rattle.mk_exact.specs.Ratios.{ratio_at}
-use Rattle.mk_exact.proofs.Sums.{product_by_push}
+use Rattle.mk_states.specs.States.{product_by, numbers_below}
+use Rattle.mk_states.specs.InitialWeight.{entry, initial_weight}
+use Rattle.mk_states.specs.Ratios.{ratio_at}
+use Rattle.mk_states.proofs.Sums.{product_by_push}
 use Rattle.mk_walk.specs.declared.weight.WalkTrade.{WalkTrade}
 use Rattle.mk_walk.specs.Walked.{ratio_of, capped, walked_weight, walked_gain}
 

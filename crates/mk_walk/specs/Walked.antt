@@ -4,10 +4,10 @@ use Rattle.mk_net.specs.declared.words.Pair.{Pair}
 use Rattle.mk_net.specs.Asked.{TradeRatio}
 use Rattle.mk_net.specs.Trades.{trade_ratio}
 use Rattle.mk_net.specs.Network.{Variable}
-use Rattle.mk_exact.specs.States.{product_by}
-use Rattle.mk_exact.specs.InitialWeight.{initial_weight}
-use Rattle.mk_exact.specs.Events.{holds}
-use Rattle.mk_exact.specs.Ratios.{ratio_at}
+use Rattle.mk_states.specs.States.{product_by}
+use Rattle.mk_states.specs.InitialWeight.{initial_weight}
+use Rattle.mk_states.specs.Events.{holds}
+use Rattle.mk_states.specs.Ratios.{ratio_at}
 use Rattle.mk_exact.specs.History.{Entry, UserTrade, trades, resolutions}
 use Rattle.mk_walk.specs.declared.weight.WalkTrade.{WalkTrade}
 

@@ -4,10 +4,10 @@ ghost use Rattle.std.specs.Prelude.{◌≡◌, ℕ, ◌<◌, ◌≤◌, List, le
 ghost use Rattle.mk_net.specs.Network.{sizes};
 ghost use Rattle.mk_net.specs.Named.{variable_at};
 ghost use Rattle.mk_net.specs.Trades.{trade_ratio};
-ghost use Rattle.mk_exact.specs.States.{IsState, product_by, numbers_below};
-ghost use Rattle.mk_exact.specs.InitialWeight.{value_at, row_number, entry, initial_weight, can_come};
-ghost use Rattle.mk_exact.specs.Events.{holds};
-ghost use Rattle.mk_exact.specs.Ratios.{units_of, ratio_at};
+ghost use Rattle.mk_states.specs.States.{IsState, product_by, numbers_below};
+ghost use Rattle.mk_states.specs.InitialWeight.{value_at, row_number, entry, initial_weight, can_come};
+ghost use Rattle.mk_states.specs.Events.{holds};
+ghost use Rattle.mk_states.specs.Ratios.{units_of, ratio_at};
 ghost use Rattle.mk_exact.specs.History.{Entry};
 ghost use Rattle.mk_exact.specs.Weight.{weight};
 ghost use Rattle.mk_exact.specs.Factors.{gain};

@@ -9,7 +9,7 @@ use Rattle.mk_net.specs.Network.{Variable, sizes}
 use Rattle.mk_net.specs.Named.{variable_at}
 use Rattle.mk_exact.specs.Market.{Market}
 use Rattle.mk_exact.specs.History.{Entry}
-use Rattle.mk_exact.specs.States.{IsState}
+use Rattle.mk_states.specs.States.{IsState}
 use Rattle.mk_session.specs.Outcome.{IsFrontOf}
 use Rattle.mk_best.specs.declared.found.Best.{Best}
 use Rattle.mk_best.specs.declared.found.Best.TheVariants.{Found, Impossible}

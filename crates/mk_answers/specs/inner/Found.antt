@@ -5,7 +5,7 @@ use Rattle.mk_net.specs.Bounds.{max_values}
 use Rattle.mk_net.specs.Network.{Variable, sizes}
 use Rattle.mk_net.specs.Asked.{Asked}
 use Rattle.mk_net.specs.Events.{pairs_asked}
-use Rattle.mk_exact.specs.Events.{holds, with_target, without_target}
+use Rattle.mk_states.specs.Events.{holds, with_target, without_target}
 use Rattle.mk_exact.specs.Existing.{IsInOrder}
 use Rattle.mk_exact.specs.Factors.{factor_with, least_gain, trade_count}
 use Rattle.mk_exact.specs.History.{Entry, deposited, withdrawn}

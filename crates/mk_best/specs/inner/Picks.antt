@@ -4,9 +4,9 @@ use Rattle.std.specs.Prelude.{take, slice_index}
 use Rattle.mk_net.specs.declared.words.Pair.{Pair}
 use Rattle.mk_net.specs.Bounds.{max_market_trades}
 use Rattle.mk_net.specs.Network.{Variable, IsNetwork, sizes}
-use Rattle.mk_exact.specs.Events.{holds, always}
+use Rattle.mk_states.specs.Events.{holds, always}
 use Rattle.mk_exact.specs.History.{Entry, trades}
-use Rattle.mk_exact.specs.Proper.{IsPairOf}
+use Rattle.mk_states.specs.OfNetwork.{IsPairOf}
 use Rattle.mk_exact.specs.Weight.{IsSmall, total}
 use Rattle.mk_scaled.specs.Near.{IsNear}
 use Rattle.mk_enclose.specs.declared.enclosure.Enclosure.{Enclosure}

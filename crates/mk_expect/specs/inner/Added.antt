@@ -1,7 +1,7 @@
 -- What the tallies of a user's entries add up to.
 use Rattle.std.specs.Prelude.{ℕ, List, sum_by}
 use Rattle.mk_net.specs.Network.{Variable}
-use Rattle.mk_exact.specs.Events.{always}
+use Rattle.mk_states.specs.Events.{always}
 use Rattle.mk_exact.specs.History.{Entry, bits_in, bits_out, deposited, withdrawn}
 use Rattle.mk_exact.specs.Weight.{total}
 use Rattle.mk_expect.specs.declared.tally.Tally.{Tally}

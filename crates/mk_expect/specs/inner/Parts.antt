@@ -5,10 +5,10 @@ use Rattle.std.specs.Prelude.{if◌then◌else◌}
 use Rattle.mk_net.specs.declared.words.Pair.{Pair}
 use Rattle.mk_net.specs.Asked.{TradeRatio}
 use Rattle.mk_net.specs.Network.{Variable}
-use Rattle.mk_exact.specs.Events.{holds, always}
+use Rattle.mk_states.specs.Events.{holds, always}
 use Rattle.mk_exact.specs.History.{Entry, Trade, bits_in, bits_out}
-use Rattle.mk_exact.specs.Ratios.{units_of}
-use Rattle.mk_exact.specs.States.{numbers_below, plus_over}
+use Rattle.mk_states.specs.Ratios.{units_of}
+use Rattle.mk_states.specs.States.{numbers_below, plus_over}
 use Rattle.mk_exact.specs.Weight.{total}
 
 -- the bits of one whole unit, in parts of 2^20

@@ -5,9 +5,9 @@ use Rattle.mk_net.specs.declared.words.Pair.{Pair}
 use Rattle.mk_net.specs.Asked.{TradeRatio, ratio_pairs}
 use Rattle.mk_net.specs.Bounds.{max_market_trades}
 use Rattle.mk_net.specs.Network.{Variable, IsNetwork}
-use Rattle.mk_exact.specs.Events.{always}
+use Rattle.mk_states.specs.Events.{always}
 use Rattle.mk_exact.specs.History.{Entry, Trade, trades}
-use Rattle.mk_exact.specs.Proper.{IsRatioOf}
+use Rattle.mk_states.specs.OfNetwork.{IsRatioOf}
 use Rattle.mk_exact.specs.Weight.{total, IsSmall}
 use Rattle.mk_enclose.specs.declared.enclosure.Enclosure.{Enclosure}
 use Rattle.mk_semiring.specs.declared.held.Held.TheVariants.{Present}

@@ -3,8 +3,8 @@ use Rattle.std.specs.Prelude.{◌≡◌, ℕ, ◌*◌, ◌<◌, ◌≤◌, List,
 use Rattle.mk_net.specs.declared.words.Pair.{Pair}
 use Rattle.mk_net.specs.Bounds.{max_clique_cells}
 use Rattle.mk_net.specs.Network.{Variable, IsNetwork, sizes}
-use Rattle.mk_exact.specs.States.{product_by}
-use Rattle.mk_exact.specs.Proper.{IsRatioOf}
+use Rattle.mk_states.specs.States.{product_by}
+use Rattle.mk_states.specs.OfNetwork.{IsRatioOf}
 use Rattle.mk_sums.specs.Cells.{cells}
 use Rattle.mk_sums.specs.Joint.{variables}
 use Rattle.mk_sums.specs.There.{holds_there}

@@ -1,7 +1,7 @@
 -- The least units that leave a factor at least one.
 use Rattle.std.specs.Prelude.{ℕ, ◌+◌, ◌-◌, ◌*◌, ◌^◌, ◌<◌, ◌≤◌, ◌⊎◌, ⊤}
 use Rattle.mk_net.specs.Bounds.{number_limit}
-use Rattle.mk_exact.specs.Ratios.{unit}
+use Rattle.mk_states.specs.Ratios.{unit}
 use Rattle.mk_exact.specs.Factors.{Fraction}
 use Rattle.mk_exact.specs.Prices.{IsSolvent}
 use Rattle.mk_enclose.specs.declared.factor.Factor.{Factor}

@@ -7,7 +7,7 @@ use Rattle.mk_net.specs.Asked.{Asked, TradeRatio, ratio_pairs}
 use Rattle.mk_net.specs.Bounds.{max_market_trades}
 use Rattle.mk_net.specs.declared.words.Pair.{Pair}
 use Rattle.mk_exact.specs.History.{Entry, trades, revision}
-use Rattle.mk_exact.specs.Proper.{IsRatioOf}
+use Rattle.mk_states.specs.OfNetwork.{IsRatioOf}
 use Rattle.mk_spread.specs.Spreads.{SpreadAsked}
 use Rattle.mk_spread.specs.Bounds.{InsideEach}
 use Rattle.mk_tree.specs.Given.{GivenTree, home}

@@ -1,7 +1,7 @@
 -- What a reading adds up: a table's cells times those of a product of messages that have their values, where an event holds.
 use Rattle.std.specs.Prelude.{ℕ, ◌+◌, ◌*◌, ◌≤◌, List}
 use Rattle.mk_net.specs.declared.words.Pair.{Pair}
-use Rattle.mk_exact.specs.States.{plus_over}
+use Rattle.mk_states.specs.States.{plus_over}
 use Rattle.mk_table.specs.Scopes.{cells_in}
 use Rattle.mk_table.specs.Cells.{cell_in, cells_where}
 use Rattle.mk_table.specs.Tables.{TableOf, HasNumbers}

@@ -1,7 +1,7 @@
 -- Tables by their parts: two arrays, and what is done to their cells.
 use Rattle.std.specs.Prelude.{◌≡◌, ℕ, ◌+◌, ◌*◌, ◌<◌, ◌≤◌, ◌⊎◌, Bool, true, false, List, All, Option, map, length, slice_index, take, drop}
 use Rattle.mk_net.specs.declared.words.Pair.{Pair}
-use Rattle.mk_exact.specs.States.{plus_over}
+use Rattle.mk_states.specs.States.{plus_over}
 use Rattle.mk_cell.specs.declared.cell.Cell.{Cell}
 use Rattle.mk_cell.specs.Cell.{AllStand, StandsAt, IsOwnAt}
 use Rattle.mk_table.specs.Scopes.{ScopeOf, IsScope, LiesIn, cells_in}

@@ -2,7 +2,7 @@
 use Rattle.std.specs.Prelude.{◌≡◌, ℕ, ◌+◌, ◌-◌, ◌*◌, ◌≤◌, Bool, not, ◌||◌, ◌==◌, if◌then◌else◌, List, [], ◌∷◌, map, filter, length, drop}
 use Rattle.std.specs.List.{flat_map, list_all, range_with_len}
 use Rattle.mk_net.specs.declared.words.Pair.{Pair}
-use Rattle.mk_exact.specs.States.{numbers_below}
+use Rattle.mk_states.specs.States.{numbers_below}
 use Rattle.mk_sums.specs.Cells.{cells}
 use Rattle.mk_table.specs.Scopes.{ScopeOf, size_in, has_variable}
 

@@ -1,7 +1,7 @@
 -- How a change weighs on a state, and what the states behind a front weigh.
 use Rattle.std.specs.Prelude.{◌≡◌, ℕ, ◌++◌, List, Option, None, IfSome, sum_by}
-use Rattle.mk_exact.specs.States.{states}
-use Rattle.mk_exact.specs.Ratios.{ratio_at}
+use Rattle.mk_states.specs.States.{states}
+use Rattle.mk_states.specs.Ratios.{ratio_at}
 use Rattle.mk_exact.specs.History.{Entry, Trade, trade_in}
 
 -- by how much a change multiplies the weight of a state

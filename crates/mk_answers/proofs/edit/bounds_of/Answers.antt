@@ -4,7 +4,7 @@ use Rattle.mk_net.specs.declared.words.Pair.{Pair}
 use Rattle.mk_net.specs.Asked.{Asked}
 use Rattle.mk_net.specs.Events.{pairs_asked}
 use Rattle.mk_net.specs.Network.{Variable, sizes}
-use Rattle.mk_exact.specs.Events.{with_target, without_target}
+use Rattle.mk_states.specs.Events.{with_target, without_target}
 use Rattle.mk_exact.specs.History.{Entry}
 use Rattle.mk_quote.specs.Bounds.{hit_side, miss_side}
 use Rattle.mk_semiring.specs.declared.held.Held.{Held}

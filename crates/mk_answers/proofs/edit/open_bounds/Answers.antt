@@ -1,6 +1,6 @@
 use Rattle.std.proofs.Common.{◌≡◌, ◌+◌, ◌-◌, max, refl, subst, arith}
 use Rattle.mk_net.specs.Bounds.{max_values}
-use Rattle.mk_exact.specs.Events.{with_target, without_target}
+use Rattle.mk_states.specs.Events.{with_target, without_target}
 use Rattle.mk_exact.specs.Weight.{total, IsSmall}
 use Rattle.mk_enclose.specs.Enclosure.{HasGrade}
 use Rattle.mk_beliefs.specs.Meanings.{gains_of}

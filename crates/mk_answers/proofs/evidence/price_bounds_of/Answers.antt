@@ -3,7 +3,7 @@ use Rattle.mk_net.specs.Bounds.{max_values}
 use Rattle.std.specs.Prelude.{slice_index}
 use Rattle.mk_net.specs.Network.{sizes}
 use Rattle.mk_net.specs.Zeros.{with_zeros}
-use Rattle.mk_exact.specs.Events.{holds, with_target}
+use Rattle.mk_states.specs.Events.{holds, with_target}
 use Rattle.mk_exact.specs.Weight.{IsSmall, total}
 use Rattle.mk_semiring.specs.declared.held.Held.{Held}
 use Rattle.mk_semiring.specs.declared.held.Held.TheVariants.{Present}

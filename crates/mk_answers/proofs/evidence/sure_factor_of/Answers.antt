@@ -1,5 +1,5 @@
 use Rattle.std.proofs.Common.{◌^◌, arith}
-use Rattle.mk_exact.specs.Events.{with_target}
+use Rattle.mk_states.specs.Events.{with_target}
 use Rattle.mk_answers.specs.Open.{holding_of}
 use Rattle.mk_answers.proofs.Regraded.{factor_within, sure_regraded}
 use Rattle.mk_answers.proofs.Sure.{sure_factor}

@@ -1,8 +1,8 @@
 use Rattle.std.proofs.Common.{◌≡◌, ℕ, Option, slice_index, refl, subst, arith}
 use Rattle.std.specs.List.{AllZip, range_with_len}
 use Rattle.mk_net.specs.Network.{sizes}
-use Rattle.mk_exact.proofs.Positive.{few_values_at}
-use Rattle.mk_exact.specs.Events.{with_target}
+use Rattle.mk_states.proofs.Shares.{few_values_at}
+use Rattle.mk_states.specs.Events.{with_target}
 use Rattle.mk_spread.specs.Spreads.{asked_of}
 use Rattle.mk_enclose.specs.declared.factor.Factor.{Factor}
 use Rattle.mk_beliefs.specs.Meanings.{gains_of}

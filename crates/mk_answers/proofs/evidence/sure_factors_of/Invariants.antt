@@ -1,6 +1,6 @@
 use Rattle.std.proofs.Common.{◌≡◌, ℕ, ◌≤◌, List, length, Option}
 use Rattle.std.specs.List.{AllZip, range_with_len}
-use Rattle.mk_exact.specs.Events.{with_target}
+use Rattle.mk_states.specs.Events.{with_target}
 use Rattle.mk_exact.specs.History.{Entry}
 use Rattle.mk_spread.specs.Spreads.{asked_of}
 use Rattle.mk_tree.specs.Given.{GivenTree}

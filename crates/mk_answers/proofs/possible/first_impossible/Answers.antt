@@ -3,7 +3,7 @@ use Rattle.std.specs.Prelude.{slice_index_or}
 use Rattle.std.proofs.lemmas.List.Elements.{All-take, All-from_recursion}
 use Rattle.mk_net.specs.declared.words.Pair.{Pair}
 use Rattle.mk_net.specs.inner.KeptEvents.{blank}
-use Rattle.mk_exact.specs.Proper.{IsPairOf}
+use Rattle.mk_states.specs.OfNetwork.{IsPairOf}
 use Rattle.mk_engine.specs.Meaning.{ArePairsOf}
 use Rattle.mk_beliefs.specs.Meanings.{weights_of}
 use Rattle.mk_tree.proofs.Held.{held_take}

@@ -1,5 +1,5 @@
 use Rattle.std.proofs.Common.{◌≡◌, [], refl, subst}
-use Rattle.mk_exact.specs.Events.{holds, with_target}
+use Rattle.mk_states.specs.Events.{holds, with_target}
 use Rattle.mk_exact.specs.Weight.{IsSmall, total}
 use Rattle.mk_net.specs.Network.{sizes}
 use Rattle.mk_net.specs.Zeros.{with_zeros}

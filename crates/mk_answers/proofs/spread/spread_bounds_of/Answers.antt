@@ -1,8 +1,8 @@
 use Rattle.std.proofs.Common.{◌≡◌, ◌^◌, [], ◌∷◌, Some, None, refl, arith}
 use Rattle.std.specs.Prelude.{slice_index}
 use Rattle.mk_net.specs.Network.{sizes}
-use Rattle.mk_exact.proofs.Positive.{few_values_at}
-use Rattle.mk_exact.proofs.Sums.{each-append}
+use Rattle.mk_states.proofs.Shares.{few_values_at}
+use Rattle.mk_states.proofs.Sums.{each-append}
 use Rattle.mk_spread.specs.Spreads.{asked_of}
 use Rattle.mk_beliefs.specs.Meanings.{weights_of}
 use Rattle.mk_quote.specs.declared.values.SpreadBounds.{SpreadBounds}

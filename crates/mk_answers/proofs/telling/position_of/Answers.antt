@@ -1,7 +1,7 @@
 use Rattle.std.proofs.Common.{◌≡◌, ℕ, slice_index, refl, subst, arith}
 use Rattle.std.specs.List.{AllZip, range_with_len}
 use Rattle.mk_net.specs.Network.{sizes}
-use Rattle.mk_exact.proofs.Positive.{few_values_at}
+use Rattle.mk_states.proofs.Shares.{few_values_at}
 use Rattle.mk_spread.specs.Spreads.{asked_of}
 use Rattle.mk_spread.specs.Told.{IsSureOf}
 use Rattle.mk_beliefs.specs.Meanings.{gains_of}

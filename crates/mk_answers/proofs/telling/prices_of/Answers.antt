@@ -2,8 +2,8 @@ use Rattle.std.proofs.Common.{◌≡◌, ℕ, ◌<◌, slice_index, refl, subst,
 use Rattle.std.specs.List.{AllZip, range_with_len}
 use Rattle.mk_net.specs.Named.{nobody}
 use Rattle.mk_net.specs.Network.{sizes}
-use Rattle.mk_exact.proofs.Positive.{few_values_at, size_at}
-use Rattle.mk_exact.specs.Events.{holds}
+use Rattle.mk_states.proofs.Shares.{few_values_at, size_at}
+use Rattle.mk_states.specs.Events.{holds}
 use Rattle.mk_exact.specs.Weight.{cannot_come}
 use Rattle.mk_spread.specs.Told.{CoversValue}
 use Rattle.mk_beliefs.specs.Meanings.{weights_of}

@@ -1,6 +1,6 @@
 use Rattle.std.proofs.Common.{List, sym, subst, ap, ◌∙◌}
 use Rattle.mk_net.specs.declared.words.Pair.{Pair}
-use Rattle.mk_exact.specs.Events.{holds, always}
+use Rattle.mk_states.specs.Events.{holds, always}
 use Rattle.mk_exact.specs.Prices.{CoversPrice}
 use Rattle.mk_exact.specs.Weight.{IsSmall, weight, total}
 use Rattle.mk_answers.proofs.Homes.{nothing_at_root}

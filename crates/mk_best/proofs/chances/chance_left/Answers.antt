@@ -1,5 +1,5 @@
 use Rattle.std.proofs.Common.{refl}
-use Rattle.mk_exact.specs.Events.{holds, always}
+use Rattle.mk_states.specs.Events.{holds, always}
 use Rattle.mk_exact.specs.Weight.{total, IsSmall}
 use Rattle.mk_beliefs.specs.Meanings.{weights_of}
 use Rattle.mk_answers.proofs.Presence.{some_weight}

@@ -2,7 +2,7 @@ use Rattle.std.proofs.Common.{List, take, get_or, sym, subst, ◌∙◌}
 use Rattle.std.proofs.lemmas.List.{take_all}
 use Rattle.std.proofs.lemmas.List.Elements.{All-get_or}
 use Rattle.mk_net.specs.declared.words.Pair.{Pair}
-use Rattle.mk_exact.specs.Proper.{IsPairOf}
+use Rattle.mk_states.specs.OfNetwork.{IsPairOf}
 use Rattle.mk_tree.proofs.Held.{pair_has_home}
 use Rattle.mk_beliefs.specs.Meanings.{weights_of}
 use Rattle.mk_best.specs.inner.Engines.{learned}

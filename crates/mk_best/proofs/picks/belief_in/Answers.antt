@@ -1,6 +1,6 @@
 use Rattle.std.proofs.Common.{List, ◌∷◌, [], sym, subst, ◌∙◌}
 use Rattle.mk_net.specs.declared.words.Pair.{Pair}
-use Rattle.mk_exact.specs.Events.{holds}
+use Rattle.mk_states.specs.Events.{holds}
 use Rattle.mk_exact.specs.Weight.{IsSmall}
 use Rattle.mk_tree.specs.Held.{IsHeldAt}
 use Rattle.mk_tree.proofs.Held.{pair_has_home, home_is_held}

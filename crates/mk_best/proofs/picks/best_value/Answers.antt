@@ -4,7 +4,7 @@ use Rattle.std.proofs.lemmas.Bool.{cases_lt}
 use Rattle.mk_net.specs.Network.{sizes}
 use Rattle.mk_net.specs.Named.{nobody}
 use Rattle.mk_exact.specs.Weight.{IsSmall}
-use Rattle.mk_exact.proofs.Positive.{size_at}
+use Rattle.mk_states.proofs.Shares.{size_at}
 use Rattle.mk_beliefs.specs.Meanings.{weights_of}
 use Rattle.mk_best.specs.inner.Picks.{low_of, greatest_with, IsPickOf}
 use Rattle.mk_best.proofs.Picked.{pick_none, pick_next, pick_stays}

@@ -2,7 +2,7 @@ use Rattle.std.proofs.Common.{◌+◌, ◌<◌, List, [], ◌∷◌, length, sym
 use Rattle.std.proofs.lemmas.List.Elements.{All-from_recursion}
 use Rattle.mk_net.specs.declared.words.Pair.{Pair}
 use Rattle.mk_exact.specs.History.{Entry}
-use Rattle.mk_exact.specs.Proper.{IsPairOf}
+use Rattle.mk_states.specs.OfNetwork.{IsPairOf}
 use Rattle.mk_beliefs.specs.Meanings.{weights_of}
 use Rattle.mk_best.specs.inner.Engines.{learned}
 use Rattle.mk_best.specs.inner.Picks.{is_at, AreFound}

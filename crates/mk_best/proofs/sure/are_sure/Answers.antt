@@ -2,7 +2,7 @@ use Rattle.std.proofs.Common.{◌≡◌, [], ◌∷◌, take, get_or, refl, sym,
 use Rattle.std.specs.List.{AllByRecursion}
 use Rattle.std.proofs.lemmas.List.{take_all, take_more}
 use Rattle.mk_net.specs.declared.words.Pair.{Pair}
-use Rattle.mk_exact.proofs.Sums.{each-append}
+use Rattle.mk_states.proofs.Sums.{each-append}
 use Rattle.mk_best.proofs.Failing.{fails, all_sure, one_fails, some_of}
 use Rattle.mk_best.proofs.sure.are_sure.Goals as goal
 

@@ -2,7 +2,7 @@ use Rattle.std.proofs.Common.{◌≡◌, List, slice_index, not, refl, sym, subs
 use Rattle.mk_net.specs.declared.words.Pair.{Pair}
 use Rattle.mk_net.specs.Asked.{Asked}
 use Rattle.mk_net.specs.Network.{sizes}
-use Rattle.mk_exact.specs.Events.{has}
+use Rattle.mk_states.specs.Events.{has}
 use Rattle.mk_exact.specs.Weight.{total}
 use Rattle.mk_tree.proofs.Held.{pair_has_home}
 use Rattle.mk_beliefs.specs.Meanings.{weights_of}

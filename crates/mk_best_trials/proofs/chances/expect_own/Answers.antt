@@ -2,8 +2,8 @@ use Rattle.std.proofs.Common.{◌≡◌, List, [], ◌∷◌, length, take, get_
 use Rattle.std.proofs.lemmas.List.{take_all, take_more}
 use Rattle.std.proofs.lemmas.List.Elements.{All-from_recursion, recursion_from_All}
 use Rattle.mk_net.specs.declared.words.Pair.{Pair}
-use Rattle.mk_exact.specs.Proper.{IsPairOf}
-use Rattle.mk_exact.proofs.Sums.{each-append}
+use Rattle.mk_states.specs.OfNetwork.{IsPairOf}
+use Rattle.mk_states.proofs.Sums.{each-append}
 use Rattle.mk_engine.specs.Meaning.{ArePairsOf}
 use Rattle.mk_best_trials.proofs.chances.expect_own.Goals as goal
 

@@ -1,6 +1,6 @@
 use Rattle.std.proofs.Common.{ℕ, ◌≤◌, sym, subst, ◌∙◌}
 use Rattle.mk_net.specs.Bounds.{max_values}
-use Rattle.mk_exact.proofs.Positive.{few_values_at}
+use Rattle.mk_states.proofs.Shares.{few_values_at}
 use Rattle.mk_quote.specs.Questions.{spread_in}
 use Rattle.mk_answers.proofs.Told.{only_none}
 use Rattle.mk_file.specs.MarketOf.{market_of}

@@ -1,6 +1,6 @@
 use Rattle.std.proofs.Common.{arith, rules}
 use Rattle.mk_exact.specs.Sides.{ratio_in, AreFair, AreSolvent}
-use Rattle.mk_exact.specs.Proper.{IsPairOf}
+use Rattle.mk_states.specs.OfNetwork.{IsPairOf}
 use Rattle.mk_exact.specs.Accepted.{IsSafeTrade}
 use Rattle.mk_exact.specs.Examples.{coin, heads, deposited_one}
 use Rattle.mk_exact.proofs.Fair.{fair_bounded}

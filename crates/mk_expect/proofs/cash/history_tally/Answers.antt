@@ -1,4 +1,4 @@
-use Rattle.mk_exact.specs.Events.{always}
+use Rattle.mk_states.specs.Events.{always}
 use Rattle.mk_exact.specs.Weight.{IsSmall, total}
 use Rattle.mk_beliefs.specs.Meanings.{weights_of}
 use Rattle.mk_record.specs.Entries.{changes}

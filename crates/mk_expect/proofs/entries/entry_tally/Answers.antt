@@ -1,6 +1,6 @@
 use Rattle.std.proofs.Common.{ℕ, ◌*◌, ◌^◌, sym, subst, inl, inr}
 use Rattle.mk_net.specs.Trades.{trade_ratio}
-use Rattle.mk_exact.specs.Events.{always}
+use Rattle.mk_states.specs.Events.{always}
 use Rattle.mk_exact.specs.Weight.{total}
 use Rattle.mk_record.specs.declared.entry.Entry.{Entry}
 use Rattle.mk_record.specs.Entries.{change_of}

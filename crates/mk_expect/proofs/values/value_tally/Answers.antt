@@ -1,8 +1,8 @@
 use Rattle.std.proofs.Common.{List, sym, subst}
 use Rattle.mk_net.specs.declared.words.Pair.{Pair}
 use Rattle.mk_net.specs.Trades.{trade_ratio}
-use Rattle.mk_exact.specs.Events.{holds, always}
-use Rattle.mk_exact.specs.Ratios.{units_of}
+use Rattle.mk_states.specs.Events.{holds, always}
+use Rattle.mk_states.specs.Ratios.{units_of}
 use Rattle.mk_exact.specs.Weight.{total}
 use Rattle.mk_tree.specs.Held.{IsHeldAt}
 use Rattle.mk_engine.specs.Meaning.{ArePairsOf}

@@ -1,6 +1,6 @@
 use Rattle.std.proofs.Common.{◌≡◌, ℕ, ◌+◌, ◌*◌, ◌^◌, length, sym, subst, arith}
 use Rattle.mk_net.specs.Trades.{trade_ratio}
-use Rattle.mk_exact.specs.Events.{always}
+use Rattle.mk_states.specs.Events.{always}
 use Rattle.mk_exact.specs.Weight.{total}
 use Rattle.mk_expect.specs.declared.tally.Tally.{Tally}
 use Rattle.mk_expect.specs.inner.Parts.{values_gained, values_owed}

@@ -1,7 +1,7 @@
 use Rattle.std.proofs.Common.{ℕ, ◌*◌, ◌^◌, List}
 use Rattle.mk_net.specs.Network.{Variable}
 use Rattle.mk_net.specs.Trades.{trade_ratio}
-use Rattle.mk_exact.specs.Events.{always}
+use Rattle.mk_states.specs.Events.{always}
 use Rattle.mk_exact.specs.History.{Entry}
 use Rattle.mk_exact.specs.Weight.{total}
 use Rattle.mk_tree.specs.Given.{GivenTree}

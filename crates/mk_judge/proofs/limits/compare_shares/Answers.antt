@@ -1,6 +1,6 @@
 use Rattle.std.proofs.Common.{◌≡◌, ◌+◌, ◌-◌, ◌*◌, ◌^◌, ◌<◌, ◌≤◌, ◌⊎◌, inl, inr, refl, arith, le_trans}
 use Rattle.mk_net.specs.Bounds.{number_limit, million}
-use Rattle.mk_exact.specs.Ratios.{unit}
+use Rattle.mk_states.specs.Ratios.{unit}
 use Rattle.mk_judge.specs.Compared.{LeavesOpen}
 use Rattle.mk_judge.specs.Limits.{CanBeTraded, AreEndsNear}
 use Rattle.mk_judge.proofs.Judging.{judges_at_most, judges_above, judges_both, judges_as}

@@ -1,5 +1,5 @@
 use Rattle.std.proofs.Common.{ℕ, ◌*◌, ◌≤◌}
-use Rattle.mk_exact.specs.Ratios.{unit}
+use Rattle.mk_states.specs.Ratios.{unit}
 use Rattle.mk_enclose.specs.Enclosure.{HasGrade, IsExact}
 use Rattle.mk_judge.specs.Compared.{AreNear}
 use Rattle.mk_judge.specs.Units.{IsSolvencyNear}

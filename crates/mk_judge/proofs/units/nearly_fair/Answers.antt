@@ -1,6 +1,6 @@
 use Rattle.std.proofs.Common.{◌≡◌, ◌+◌, ◌-◌, ◌*◌, ◌^◌, ◌<◌, ◌≤◌, ◌⊎◌, inl, inr, refl, arith}
 use Rattle.mk_net.specs.Bounds.{million}
-use Rattle.mk_exact.specs.Ratios.{unit}
+use Rattle.mk_states.specs.Ratios.{unit}
 use Rattle.mk_exact.specs.Prices.{IsFair}
 use Rattle.mk_judge.specs.Compared.{LeavesOpen}
 use Rattle.mk_judge.specs.Units.{IsFairNear}

@@ -1,6 +1,6 @@
 use Rattle.std.proofs.Common.{◌≡◌, true, List, sym, subst}
 use Rattle.mk_net.specs.declared.words.Pair.{Pair}
-use Rattle.mk_exact.specs.Events.{holds}
+use Rattle.mk_states.specs.Events.{holds}
 use Rattle.mk_exact.specs.Weight.{cannot_come}
 use Rattle.mk_market.specs.declared.possible.Decided.{Decided}
 use Rattle.mk_market.specs.declared.possible.Decided.TheVariants.{Impossible, Never, Sure}

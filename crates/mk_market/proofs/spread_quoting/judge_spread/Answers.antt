@@ -1,7 +1,7 @@
 use Rattle.std.proofs.Common.{◌≡◌, ◌≤◌, ℕ, List, subst, sym, ap, ◌∙◌}
 use Rattle.mk_net.specs.Bounds.{max_values}
 use Rattle.mk_exact.specs.History.{revision}
-use Rattle.mk_exact.proofs.Positive.{few_values_at}
+use Rattle.mk_states.proofs.Shares.{few_values_at}
 use Rattle.mk_quote.specs.Questions.{spread_in}
 use Rattle.mk_quote.specs.Spreads.{IsSpreadFor}
 use Rattle.mk_assets.specs.Holdings.{Holding}

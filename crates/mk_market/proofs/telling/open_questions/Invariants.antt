@@ -1,6 +1,6 @@
 use Rattle.std.proofs.Common.{◌≡◌, ◌≤◌, not}
 use Rattle.std.specs.List.{count_by}
-use Rattle.mk_exact.specs.States.{numbers_below}
+use Rattle.mk_states.specs.States.{numbers_below}
 use Rattle.mk_rules.specs.Refusals.{is_resolved}
 use Rattle.mk_market.proofs.telling.open_questions.Given as goal
 

@@ -1,6 +1,6 @@
 use Rattle.std.proofs.Common.{[], ◌∷◌, sym, subst, arith, lit≤}
 use Rattle.mk_net.specs.Asked.{Asked}
-use Rattle.mk_exact.specs.Proper.{IsQuestionOf}
+use Rattle.mk_states.specs.OfNetwork.{IsQuestionOf}
 use Rattle.mk_tree.specs.Held.{IsHeldAt}
 use Rattle.mk_assets.specs.Holdings.{opening_holding, with_trade, with_deposit, with_withdrawal, with_known_pair}
 use Rattle.mk_market_trials.specs.declared.coin.TheConstants.{HEADS}

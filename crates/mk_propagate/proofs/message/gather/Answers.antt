@@ -1,7 +1,7 @@
 use Rattle.std.proofs.Common.{◌≡◌, ℕ, ◌+◌, ◌<◌, Bool, true, false, ◌||◌, List, Option, length, get_or, slice_index_or, refl, sym, ap, subst, ◌∙◌, arith}
 use Rattle.std.proofs.lemmas.Bool.{and_from, both_ways}
 use Rattle.std.proofs.lemmas.List.Folds.{list_any_more}
-use Rattle.mk_exact.specs.Lawful.{Lawful}
+use Rattle.mk_states.specs.Lawful.{Lawful}
 use Rattle.mk_sums.specs.Trees.{linked}
 use Rattle.mk_sums.proofs.Hops.{are_linked, linked_back, linked_from}
 use Rattle.mk_table.specs.Tables.{TableOf}

@@ -1,7 +1,7 @@
 use Rattle.std.proofs.Common.{◌≡◌, ℕ, ◌+◌, ◌-◌, ◌*◌, List, length, slice_index, arith, ap, subst, sym, ◌∙◌}
 use Rattle.std.specs.Vec.{with_items}
 use Rattle.std.proofs.lemmas.List.{get_or-replicate}
-use Rattle.mk_exact.specs.States.{plus_over}
+use Rattle.mk_states.specs.States.{plus_over}
 use Rattle.mk_cell.specs.Cell.{StandsAt}
 use Rattle.mk_table.specs.inner.Blank.{one_digits, one_exponent, filled}
 use Rattle.mk_table.proofs.Filled.{all_blank, full_room, full_listed, held_items, held_after}

@@ -1,6 +1,6 @@
 use Rattle.std.proofs.Common.{◌+◌, ◌-◌, ◌*◌, length, arith, subst, sym}
 use Rattle.mk_cell.specs.inner.Laws.{stands_with_more}
-use Rattle.mk_exact.specs.States.{plus_over}
+use Rattle.mk_states.specs.States.{plus_over}
 use Rattle.mk_cell.specs.Cell.{StandsAt}
 use Rattle.mk_table.specs.inner.Strides.{runs_of}
 use Rattle.mk_table.proofs.Runs.{length-runs}

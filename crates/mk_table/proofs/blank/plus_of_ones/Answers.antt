@@ -1,6 +1,6 @@
 use Rattle.std.proofs.Common.{◌≡◌, ℕ, ◌+◌, ◌-◌, ◌*◌, ◌/◌, ◌%◌, ◌<◌, ◌≤◌, length, replicate, arith, subst}
 use Rattle.std.proofs.lemmas.List.{length-replicate}
-use Rattle.mk_exact.specs.States.{plus_over}
+use Rattle.mk_states.specs.States.{plus_over}
 use Rattle.mk_cell.specs.Cell.{IsCell, StandsAt}
 use Rattle.mk_cell.specs.inner.Laws.{has_room, stands_with_more}
 use Rattle.mk_table.specs.inner.Parts.{block_of}

@@ -1,7 +1,7 @@
 use Rattle.std.proofs.Common.{◌+◌, ℕ, List, length, slice_index, arith, subst, ◌∙◌}
 use Rattle.std.proofs.Math.ListN.{length-set}
 use Rattle.std.proofs.lemmas.List.{take_all}
-use Rattle.mk_exact.specs.States.{plus_over}
+use Rattle.mk_states.specs.States.{plus_over}
 use Rattle.mk_cell.specs.Cell.{StandsAt}
 use Rattle.mk_table.specs.inner.Parts.{StandListed}
 use Rattle.mk_table.proofs.Blocked.{written_next}

@@ -6,7 +6,7 @@ use Rattle.mk_table.specs.Cells.{cell_in, cells_beside, cells_onto}
 use Rattle.mk_table.specs.inner.Blank.{one_digits, one_exponent, filled}
 use Rattle.mk_table.specs.inner.Parts.{MakesPlusOfPairs, StandListed}
 use Rattle.mk_cell.specs.Cell.{StandsAt}
-use Rattle.mk_exact.specs.States.{plus_over}
+use Rattle.mk_states.specs.States.{plus_over}
 use Rattle.mk_table.specs.inner.Strides.{runs_of}
 use Rattle.mk_table.proofs.Filled.{all_blank, all_full, filled_full, full_room, held_items}
 use Rattle.mk_table.proofs.Kept.{cell_within}

@@ -1,5 +1,5 @@
 use Rattle.std.proofs.Common.{◌≡◌}
-use Rattle.mk_exact.specs.States.{numbers_below}
+use Rattle.mk_states.specs.States.{numbers_below}
 use Rattle.mk_table.specs.inner.Strides.{repeated}
 use Rattle.mk_table.proofs.strides.repeat.Given as goal
 

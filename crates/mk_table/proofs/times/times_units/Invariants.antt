@@ -1,5 +1,5 @@
 use Rattle.mk_net.specs.Trades.{trade_ratio}
-use Rattle.mk_exact.specs.Ratios.{units_of}
+use Rattle.mk_states.specs.Ratios.{units_of}
 use Rattle.mk_table.specs.Cells.{values_at}
 use Rattle.mk_table.specs.inner.Parts.{IsTimes, IsChanged, IsAmong}
 use Rattle.mk_table.proofs.times.times_units.Given as goal

@@ -2,7 +2,7 @@ use Rattle.std.proofs.Common.{◌≡◌, slice_index, sym, ap, subst, ◌∙◌,
 use Rattle.mk_net.specs.declared.words.Pair.{Pair}
 use Rattle.mk_net.specs.Asked.{question_ratio}
 use Rattle.mk_net.specs.Network.{sizes}
-use Rattle.mk_exact.specs.Proper.{IsRatioOf}
+use Rattle.mk_states.specs.OfNetwork.{IsRatioOf}
 use Rattle.mk_tree_trials.proofs.Ratios.{ratio_fits}
 use Rattle.mk_tree_trials.proofs.engines.ratio.Goals as goal
 

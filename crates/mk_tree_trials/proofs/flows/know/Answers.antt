@@ -2,7 +2,7 @@ use Rattle.std.proofs.Common.{◌≡◌, ◌<◌, true, List, length, slice_inde
 use Rattle.mk_net.specs.declared.sets.VarSet.{VarSet}
 use Rattle.mk_net.specs.Sets.{is_member}
 use Rattle.mk_net.specs.Network.{Variable, sizes}
-use Rattle.mk_exact.specs.Proper.{IsPairOf}
+use Rattle.mk_states.specs.OfNetwork.{IsPairOf}
 use Rattle.mk_tree.specs.Given.{GivenTree, clique_at}
 use Rattle.mk_propagate.specs.Shapes.{ShapeOf, IsClique}
 use Rattle.mk_propagate.specs.Placings.{with_pair_in}

@@ -1,7 +1,7 @@
 use Rattle.std.proofs.Common.{◌<◌, None, IsSomeAnd, length, get_or, slice_index, refl, sym, ◌∙◌, arith}
 use Rattle.mk_net.specs.Network.{sizes}
 use Rattle.std.proofs.lemmas.Option.{slice_get_read, slice_get-get_or}
-use Rattle.mk_exact.specs.Events.{with_target}
+use Rattle.mk_states.specs.Events.{with_target}
 use Rattle.mk_exact.specs.Market.{network_of}
 use Rattle.mk_spread.specs.Spreads.{asked_of}
 use Rattle.mk_spread.specs.Told.{IsSureOf}

@@ -1,4 +1,4 @@
-use Rattle.mk_exact.specs.Events.{with_target}
+use Rattle.mk_states.specs.Events.{with_target}
 use Rattle.mk_spread.specs.Spreads.{asked_of}
 use Rattle.mk_verify.proofs.ToldValues.{least_judged}
 use Rattle.mk_verify.proofs.each.judge_value_cash.Goals as goal

@@ -2,7 +2,7 @@ use Rattle.std.proofs.Common.{ℕ, ◌+◌, ◌<◌, List, ◌∷◌, [], ◌++�
 use Rattle.std.proofs.lemmas.List.{take_more_set}
 use Rattle.mk_net.specs.Network.{sizes}
 use Rattle.mk_exact.specs.Weight.{weight}
-use Rattle.mk_exact.proofs.Listed.{as_many}
+use Rattle.mk_states.proofs.Listed.{as_many}
 use Rattle.mk_walk.specs.Walked.{capped}
 use Rattle.mk_record.specs.Entries.{changes}
 use Rattle.mk_verify.specs.inner.Walks.{behind}

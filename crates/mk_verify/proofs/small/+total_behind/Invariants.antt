@@ -1,6 +1,6 @@
 use Rattle.std.proofs.Common.{◌≡◌, ◌+◌, ◌-◌, ◌∷◌, ◌++◌, [], length, take, drop, sum_by}
 use Rattle.mk_net.specs.Network.{sizes}
-use Rattle.mk_exact.specs.States.{numbers_below}
+use Rattle.mk_states.specs.States.{numbers_below}
 use Rattle.mk_exact.specs.Weight.{weight}
 use Rattle.mk_walk.specs.Walked.{capped}
 use Rattle.mk_record.specs.Entries.{changes}

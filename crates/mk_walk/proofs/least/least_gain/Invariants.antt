@@ -1,5 +1,5 @@
 use Rattle.std.proofs.Common.{◌≡◌, None, take, option_map}
-use Rattle.mk_exact.specs.States.{plus_over}
+use Rattle.mk_states.specs.States.{plus_over}
 use Rattle.mk_exact.specs.Factors.{lesser}
 use Rattle.mk_walk.specs.Lists.{lists}
 use Rattle.mk_walk.specs.Walked.{capped, counted_gain}

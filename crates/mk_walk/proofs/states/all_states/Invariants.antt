@@ -1,8 +1,8 @@
 use Rattle.std.proofs.Common.{◌≡◌, filter}
 use Rattle.std.specs.List.{AllByRecursion}
 use Rattle.mk_net.specs.Network.{sizes}
-use Rattle.mk_exact.specs.States.{IsState}
-use Rattle.mk_exact.specs.InitialWeight.{can_come}
+use Rattle.mk_states.specs.States.{IsState}
+use Rattle.mk_states.specs.InitialWeight.{can_come}
 use Rattle.mk_walk.specs.Lists.{lists}
 use Rattle.mk_walk.proofs.states.all_states.Given as goal
 

@@ -1,6 +1,6 @@
 use Rattle.std.proofs.Common.{◌≡◌, ◌-◌, length, drop}
 use Rattle.mk_net.specs.Network.{sizes}
-use Rattle.mk_exact.specs.States.{states}
+use Rattle.mk_states.specs.States.{states}
 use Rattle.mk_walk.specs.Lists.{lists}
 use Rattle.mk_walk.proofs.states.all_values.Given as goal
 

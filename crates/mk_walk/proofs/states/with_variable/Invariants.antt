@@ -1,5 +1,5 @@
 use Rattle.std.proofs.Common.{◌≡◌, ◌∷◌, map, flat_map}
-use Rattle.mk_exact.specs.States.{numbers_below}
+use Rattle.mk_states.specs.States.{numbers_below}
 use Rattle.mk_walk.specs.Lists.{lists}
 use Rattle.mk_walk.proofs.states.with_variable.Given as goal
 

@@ -1,6 +1,6 @@
 use Rattle.std.proofs.Common.{◌≡◌, true, take}
 use Rattle.std.specs.List.{list_all}
-use Rattle.mk_exact.specs.Events.{has}
+use Rattle.mk_states.specs.Events.{has}
 use Rattle.mk_walk.proofs.weight.holds.Given as goal
 
 abbrev pub invariant-loop-pair : goal.invariant-loop-pair

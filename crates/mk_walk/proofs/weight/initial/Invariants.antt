@@ -1,6 +1,6 @@
 use Rattle.std.proofs.Common.{◌≡◌}
-use Rattle.mk_exact.specs.States.{product_by, numbers_below}
-use Rattle.mk_exact.specs.InitialWeight.{entry}
+use Rattle.mk_states.specs.States.{product_by, numbers_below}
+use Rattle.mk_states.specs.InitialWeight.{entry}
 use Rattle.mk_walk.specs.Walked.{capped}
 use Rattle.mk_walk.proofs.weight.initial.Given as goal
 

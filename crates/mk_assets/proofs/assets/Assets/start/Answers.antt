@@ -6,7 +6,7 @@ use Rattle.std.proofs.lemmas.List.{take_all}
 use Rattle.std.proofs.lemmas.List.Elements.{All-get_or}
 use Rattle.mk_net.specs.Zeros.{with_zeros}
 use Rattle.mk_tree.proofs.Held.{pair_has_home}
-use Rattle.mk_exact.specs.Proper.{IsPairOf}
+use Rattle.mk_states.specs.OfNetwork.{IsPairOf}
 use Rattle.mk_assets.specs.Holdings.{opening_holding}
 use Rattle.mk_assets.proofs.Supported.{no_trades}
 use Rattle.mk_assets.proofs.assets.Assets.start.Goals as goal

@@ -1,5 +1,5 @@
 use Rattle.std.proofs.Common.{◌≡◌, ◌+◌, ◌-◌, ◌<◌, [], ◌∷◌, cond, not, length, drop, arith, ap, subst, ◌∙◌, sym}
-use Rattle.mk_exact.specs.States.{numbers_below}
+use Rattle.mk_states.specs.States.{numbers_below}
 use Rattle.mk_table.specs.Scopes.{ScopeOf, IsScope, size_in}
 use Rattle.mk_table.specs.inner.Strides.{repeated, cells_with, runs_of, values_moved, is_moved}
 use Rattle.mk_table.proofs.Listed.{values_of_moved}

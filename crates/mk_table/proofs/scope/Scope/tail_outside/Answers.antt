@@ -1,5 +1,5 @@
 use Rattle.std.proofs.Common.{◌≡◌, ◌+◌, ◌-◌, ◌<◌, false, length, arith, subst, ◌∙◌, sym}
-use Rattle.mk_exact.specs.States.{numbers_below}
+use Rattle.mk_states.specs.States.{numbers_below}
 use Rattle.mk_table.specs.Scopes.{ScopeOf, IsScope}
 use Rattle.mk_table.specs.inner.Strides.{IsTail, values_moved}
 use Rattle.mk_table.proofs.Listed.{ready_kept, values_of_moved}

@@ -1,5 +1,5 @@
 use Rattle.std.proofs.Common.{◌≡◌, ◌-◌, false, drop, length}
-use Rattle.mk_exact.specs.States.{numbers_below}
+use Rattle.mk_states.specs.States.{numbers_below}
 use Rattle.mk_sums.specs.Cells.{cells}
 use Rattle.mk_table.specs.Scopes.{size_in}
 use Rattle.mk_table.specs.inner.Strides.{cells_with, values_moved}

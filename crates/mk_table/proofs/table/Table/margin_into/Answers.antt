@@ -1,5 +1,5 @@
 use Rattle.std.proofs.Common.{◌≡◌, ℕ, ◌+◌, ◌-◌, ◌*◌, ◌≤◌, length, slice_index, arith, ap, subst, sym, ◌∙◌}
-use Rattle.mk_exact.specs.States.{plus_over}
+use Rattle.mk_states.specs.States.{plus_over}
 use Rattle.mk_table.specs.Scopes.{ScopeOf, PlacesOf, cells_in}
 use Rattle.mk_table.specs.Tables.{TableOf, HasNumbers}
 use Rattle.mk_table.specs.Cells.{cells_onto, cells_beside}

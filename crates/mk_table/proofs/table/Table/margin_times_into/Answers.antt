@@ -1,7 +1,7 @@
 use Rattle.std.proofs.Common.{◌≡◌, ◌+◌, ◌*◌, ℕ, length, arith, ap, subst, sym, ◌∙◌}
 use Rattle.std.specs.Prelude.{List, Option}
 use Rattle.mk_net.specs.declared.words.Pair.{Pair}
-use Rattle.mk_exact.specs.States.{plus_over}
+use Rattle.mk_states.specs.States.{plus_over}
 use Rattle.mk_table.specs.Scopes.{ScopeOf, PlacesOf, LiesIn, cells_in}
 use Rattle.mk_table.specs.Tables.{TableOf}
 use Rattle.mk_table.specs.Cells.{cell_in, cells_onto, cells_beside}

@@ -2,7 +2,7 @@
 use Rattle.std.specs.Prelude.{ℕ, ◌+◌, ◌*◌, List, Bool, [], length, slice_index, slice_index_or, fold, sum_by, filter, nat_le}
 use Rattle.mk_net.specs.Network.{Variable, sizes}
 use Rattle.mk_net.specs.Named.{variable_at}
-use Rattle.mk_exact.specs.States.{states, numbers_below, product_by}
+use Rattle.mk_states.specs.States.{states, numbers_below, product_by}
 
 -- the value that a state gives a variable
 abbrev pub value_at : List ℕ → ℕ → ℕ

@@ -2,8 +2,8 @@
 use Rattle.std.specs.Prelude.{ℕ, ◌^◌, List, slice_index, if◌then◌else◌}
 use Rattle.mk_net.specs.declared.words.Pair.{Pair}
 use Rattle.mk_net.specs.Asked.{TradeRatio}
-use Rattle.mk_exact.specs.InitialWeight.{value_at}
-use Rattle.mk_exact.specs.Events.{holds}
+use Rattle.mk_states.specs.InitialWeight.{value_at}
+use Rattle.mk_states.specs.Events.{holds}
 
 -- a ratio of this many units leaves a weight as it was
 abbrev pub unit : ℕ

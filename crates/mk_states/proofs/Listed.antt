@@ -5,9 +5,9 @@ use Rattle.std.proofs.lemmas.List.{length-map}
 use Rattle.std.proofs.lemmas.List.Elements.{recursion_from_All}
 use Rattle.std.proofs.lemmas.Bool.{leb-true}
 use Rattle.mk_net.specs.Network.{Variable, sizes}
-use Rattle.mk_exact.specs.States.{states, numbers_below, IsState}
-use Rattle.mk_exact.specs.InitialWeight.{value_at, can_come, initial_weight, all_states}
-use Rattle.mk_exact.proofs.Sums.{kept_each, each_number, each-map, each-flat_map, each_weaker}
+use Rattle.mk_states.specs.States.{states, numbers_below, IsState}
+use Rattle.mk_states.specs.InitialWeight.{value_at, can_come, initial_weight, all_states}
+use Rattle.mk_states.proofs.Sums.{kept_each, each_number, each-map, each-flat_map, each_weaker}
 
 -- every listed state gives each variable one of its values
 state_cons : (size v : ℕ) (sizes s : List ℕ) → v < size → IsState sizes s → IsState (size ∷ sizes) (v ∷ s)

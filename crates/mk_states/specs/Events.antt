@@ -3,7 +3,7 @@ use Rattle.std.specs.Prelude.{ℕ, List, Bool, true, ◌&&◌, not, ◌==◌}
 use Rattle.std.specs.List.{list_all}
 use Rattle.mk_net.specs.declared.words.Pair.{Pair}
 use Rattle.mk_net.specs.Asked.{Asked}
-use Rattle.mk_exact.specs.InitialWeight.{value_at}
+use Rattle.mk_states.specs.InitialWeight.{value_at}
 
 -- whether a state has the value of a pair
 abbrev pub has : Pair → List ℕ → Bool

@@ -6,7 +6,7 @@ use Rattle.std.specs.List.{range_with_len, list_all, AllByRecursion}
 use Rattle.std.proofs.lemmas.List.Sums.{sum_by-cons}
 use Rattle.std.proofs.lemmas.List.Elements.{All-from_recursion, recursion_from_All}
 use Rattle.std.proofs.lemmas.Bool.{cases_eq}
-use Rattle.mk_exact.specs.States.{states, numbers_below, plus_over, product_by}
+use Rattle.mk_states.specs.States.{states, numbers_below, plus_over, product_by}
 
 -- a plus that may be taken in any order, with a value that adds nothing
 pub record IsPlus {V : Type 0} (plus : V → V → V) (none : V) : Type 0 where

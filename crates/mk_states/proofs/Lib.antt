@@ -1,0 +1,3 @@
+pub mod Sums
+pub mod Listed
+pub mod Shares

@@ -1,0 +1,7 @@
+pub mod States
+pub mod InitialWeight
+pub mod Events
+pub mod Ratios
+pub mod OfNetwork
+pub mod Shares
+pub mod Lawful
