@@ -16,7 +16,7 @@ use Rattle.mk_net.specs.Bounds.{max_values, max_parents, million}
 use Rattle.mk_net.specs.Network.{Variable, IsVariable, IsNetwork, sizes, names, choices}
 use Rattle.mk_net.specs.Named.{variable_at, nobody}
 use Rattle.mk_net.specs.Zeros.{has_zero, with_zeros, HasNoZeros}
-use Rattle.mk_net.specs.Additions.{variable_of_addition, IsInnerShare, CanExtend}
+use Rattle.mk_net.specs.Additions.{variable_of_addition, CanExtend}
 use Rattle.mk_net.specs.declared.addition.Addition.{Addition}
 use Rattle.mk_net.proofs.Networks.{two_values}
 use Rattle.mk_net.proofs.Zeroed.{numbers_kept}
@@ -120,37 +120,15 @@ module _ (network : List Variable) (v : Variable) where
           (variable_stays k v (omega (arith, last))
           (subst (λ n. IsVariable (sizes network) n v) last is))
 
--- a row of inner shares has two numbers at least
-two_numbers : (row : List ℕ) → All IsInnerShare row → sum row ≡ million → 2 ≤ length row
-two_numbers [] shares whole = absurd (omega (arith, whole))
-two_numbers (n ∷ []) shares whole =
-    let first : IsInnerShare n = All-head IsInnerShare n [] shares in
-    absurd (omega (arith, whole, first.below))
-two_numbers (n ∷ m ∷ row) shares whole = omega arith
-
 module _ (network : List Variable) (addition : Addition) (net : IsNetwork network)
     (can : CanExtend network addition) where
-  some_row : 1 ≤ length addition.rows.items
-  some_row =
-      let some = choices_positive (sizes network) (length network)
-      (λ p h. let two = two_values network p net h in omega (arith, two)) addition.parents.items
-      (recursion_from_All (λ p. p < length network) addition.parents.items can.parents_known) in
-      omega (arith, some, can.one_row_each)
-
-  enough_values : 2 ≤ length addition.values.items
-  enough_values =
-      let row : List ℕ = get_or addition.rows.items 0 [] in
-      let two : 2 ≤ length row = two_numbers row (can.shares 0 [] some_row) (can.sums 0 [] some_row)
-      in
-      omega (arith, two, can.widths 0 [] some_row)
-
   module _ (named : IsName addition.variable) (values_named : All IsName addition.values.items)
       (few_values : length addition.values.items ≤ max_values)
       (few_parents : length addition.parents.items ≤ max_parents) where
     is_variable : IsVariable (sizes network) (length network) (variable_of_addition addition)
     is_variable = record {
       name = named;
-      two_values = enough_values;
+      two_values = can.two_values;
       few_values = few_values;
       values_named = values_named;
       values_distinct = can.values_distinct;
@@ -169,43 +147,12 @@ module _ (network : List Variable) (addition : Addition) (net : IsNetwork networ
     extended_is_network =
         network_behind network (variable_of_addition addition) net can.room can.untaken is_variable
 
-  -- the added rows have no share of nothing
-  no_zero : list_any (λ (row : List ℕ). list_any (λ share. share == 0) row) addition.rows.items
-      ≡ false
-  no_zero = list_any_none (λ (row : List ℕ). list_any (λ share. share == 0) row) addition.rows.items
-      (λ i d inside. list_any_none (λ share. share == 0) (get_or addition.rows.items i d)
-      (λ j e within.
-      let share : ℕ = get_or (get_or addition.rows.items i d) j e in
-      let inner : IsInnerShare share = can.shares i d inside j e within in
-      positive share inner.positive))
-    where
-      positive : (share : ℕ) → 1 ≤ share → (share == 0) ≡ false
-      positive share h = choose (share == 0) refl
-        where
-          choose : (b : Bool) → (share == 0) ≡ b → (share == 0) ≡ false
-          choose true e = absurd (omega (arith, h, eqb-true share 0 e))
-          choose false e = e
-
   abbrev pub longer : List Variable
   longer = network ++ variable_of_addition addition ∷ []
 
-  pub extended_zeros : with_zeros longer ≡ with_zeros network
-  extended_zeros =
-      ap (λ n. filter (has_zero longer) (range_with_len 0 n))
-      (length_push network (variable_of_addition addition))
-      ∙ numbers_kept (has_zero longer) (length network)
-      ∙ ap (λ b. filter (has_zero longer) (range_with_len 0 (length network))
-      ++ cond b (length network ∷ []) [])
-      (ap (λ (w : Variable). list_any (λ (row : List ℕ). list_any (λ share. share == 0) row) w.rows)
-      (variable_last network (variable_of_addition addition)) ∙ no_zero)
-      ∙ append-nil (filter (has_zero longer) (range_with_len 0 (length network)))
-      ∙ filter_below (has_zero longer) (has_zero network) (length network) 0
-      (λ k l m. ap (λ (w : Variable). list_any
-      (λ (row : List ℕ). list_any (λ share. share == 0) row) w.rows)
-      (variable_before network (variable_of_addition addition) k (omega (arith, m))))
-
-  pub extended_has_no_zeros : HasNoZeros network → HasNoZeros longer
-  extended_has_no_zeros none k inside = at (cases_lt k (length network))
+  pub extended_has_no_zeros : HasNoZeros network
+      → All (All (λ share. 1 ≤ share)) addition.rows.items → HasNoZeros longer
+  extended_has_no_zeros none some k inside = at (cases_lt k (length network))
     where
       at : (k < length network) ⊎ (length network ≤ k)
           → All (All (λ share. 1 ≤ share)) (variable_at longer k).rows
@@ -217,4 +164,4 @@ module _ (network : List Variable) (addition : Addition) (net : IsNetwork networ
           subst (λ n. All (All (λ share. 1 ≤ share)) (variable_at longer n).rows) last
           (subst (λ (w : Variable). All (All (λ share. 1 ≤ share)) w.rows)
           (sym (variable_last network (variable_of_addition addition)))
-          (λ i d within j e there. (can.shares i d within j e there).positive))
+          some)

@@ -1,5 +1,5 @@
 -- A question that is added to a network: the variable that it is, and when it may come.
-use Rattle.std.specs.Prelude.{◌≡◌, ◌≢◌, ℕ, ◌<◌, ◌≤◌, List, length, sum, All}
+use Rattle.std.specs.Prelude.{◌≡◌, ◌≢◌, ◌<◌, ◌≤◌, List, length, sum, All}
 use Rattle.mk_net.specs.Bounds.{max_variables, million}
 use Rattle.mk_net.specs.Network.{Variable, sizes, choices, names, AreDistinct}
 use Rattle.mk_net.specs.declared.addition.Addition.{Addition}
@@ -11,14 +11,8 @@ variable_of_addition a =
       name = a.variable;
       values = a.values.items;
       parents = a.parents.items;
-      rows =
-          a.rows.items;
+      rows = a.rows.items;
     }
-
--- a share that an added row may give a value: some of the million, and not all of it
-pub record IsInnerShare (share : ℕ) : Type 0 where
-  pub positive : 1 ≤ share
-  pub below : share < million
 
 -- the network may be followed by the addition's variable
 pub record CanExtend (network : List Variable) (addition : Addition) : Type 0 where
@@ -26,7 +20,8 @@ pub record CanExtend (network : List Variable) (addition : Addition) : Type 0 wh
   pub room : length network < max_variables
   -- no variable has its name
   pub untaken : All (λ name. addition.variable ≢ name) (names network)
-  -- no two of its values are equal
+  -- it has two values or more, and no two of them are equal
+  pub two_values : 2 ≤ length addition.values.items
   pub values_distinct : AreDistinct addition.values.items
   -- its parents are variables of the network
   pub parents_known : All (λ p. p < length network) addition.parents.items
@@ -36,7 +31,5 @@ pub record CanExtend (network : List Variable) (addition : Addition) : Type 0 wh
   pub one_row_each : length addition.rows.items ≡ choices (sizes network) addition.parents.items
   -- a row has one number for each value
   pub widths : All (λ row. length row ≡ length addition.values.items) addition.rows.items
-  -- each number is from 1 to 999,999
-  pub shares : All (All IsInnerShare) addition.rows.items
   -- the numbers of a row are a million together
   pub sums : All (λ row. sum row ≡ million) addition.rows.items

@@ -62,7 +62,7 @@ impl Model for Network {
 
 impl Network {
     ghost use Rattle.std.specs.Prelude.{◌≡◌, ◌≢◌, ◌<◌, ◌++◌, ◌∷◌, [], length, position, None, Some};
-    ghost use Rattle.std.specs.Prelude.{false, IfOk, IfErr, IfSome, slice_index, slice_index_or};
+    ghost use Rattle.std.specs.Prelude.{false, All, IfOk, IfErr, IfSome, slice_index, slice_index_or, ◌≤◌};
     ghost use Rattle.mk_net.specs.Network.{IsNetwork, sizes};
     ghost use Rattle.mk_net.specs.Named.{variable_at, pair_named};
     ghost use Rattle.mk_net.specs.Texts.{same_text};
@@ -94,8 +94,8 @@ impl Network {
         ensures longer { IfOk result (λ network. network ≡ self.now
             ++ variable_of_addition addition.now ∷ []) }
         ensures network { IfOk result (λ network. IsNetwork network) }
-        ensures zeros { IfOk result (λ network. with_zeros network ≡ with_zeros self.now) }
-        ensures no_zeros { IfOk result (λ network. HasNoZeros self.now → HasNoZeros network) }
+        ensures no_zeros { IfOk result (λ network. HasNoZeros self.now
+            → All (All (λ share. 1 ≤ share)) addition.now.rows.items → HasNoZeros network) }
     {
         let added = grow::stored(alloc, addition)?;
         let mut variables = self.variables.clone()?;

@@ -1,10 +1,10 @@
 use Rattle.std.proofs.Common.{◌≡◌, List, [], ◌∷◌, ◌++◌, ap, subst, sym, ◌∙◌}
 use Rattle.mk_net.specs.Network.{Variable, IsNetwork}
 use Rattle.mk_net.specs.Stored.{variables_of}
-use Rattle.mk_net.specs.Zeros.{with_zeros, HasNoZeros}
+use Rattle.mk_net.specs.Zeros.{HasNoZeros}
 use Rattle.mk_net.specs.Additions.{variable_of_addition}
 use Rattle.mk_net.proofs.Copied.{copied_variables, inserted_variable}
-use Rattle.mk_net.proofs.Behind.{extended_is_network, extended_zeros, extended_has_no_zeros}
+use Rattle.mk_net.proofs.Behind.{extended_is_network, extended_has_no_zeros}
 use Rattle.mk_net.proofs.network.Network.extended.Goals as goal
 
 net : (c : goal.In_ok-zeros) → IsNetwork c.args.self.now
@@ -36,10 +36,6 @@ returns-clause-longer c = whole c
 pub returns-clause-network : goal.returns-clause-network
 returns-clause-network c = longer c
 
-pub returns-clause-zeros : goal.returns-clause-zeros
-returns-clause-zeros c =
-    ap with_zeros (whole c) ∙ extended_zeros c.args.self.now c.args.addition.now (net c) c.requires
-
 pub returns-clause-no_zeros : goal.returns-clause-no_zeros
-returns-clause-no_zeros c none = subst (λ (n : List Variable). HasNoZeros n) (sym (whole c))
-    (extended_has_no_zeros c.args.self.now c.args.addition.now (net c) c.requires none)
+returns-clause-no_zeros c none some = subst (λ (n : List Variable). HasNoZeros n) (sym (whole c))
+    (extended_has_no_zeros c.args.self.now c.args.addition.now (net c) c.requires none some)
