@@ -15,7 +15,7 @@ use Rattle.mk_exact.specs.Factors.{Fraction, gain, trade_count, factor}
 use Rattle.mk_states.proofs.Sums.{product_by_push, list_all-append}
 
 -- a list read off a history by parts
-kept_where : {Y : Type 0} (h : Entry → Option Y) (H : List Entry) (e : Entry) → h e ≡ None → filter_map h (H ++ e ∷ []) ≡ filter_map h H
+pub kept_where : {Y : Type 0} (h : Entry → Option Y) (H : List Entry) (e : Entry) → h e ≡ None → filter_map h (H ++ e ∷ []) ≡ filter_map h H
 kept_where h H e q = filter_map-append h H (e ∷ []) ∙ none (h e) q
   where
     none : (o : Option _) → o ≡ None → filter_map h H ++ Rattle.std.specs.List.cons_option o [] ≡ filter_map h H

@@ -11,7 +11,7 @@ use Rattle.mk_states.specs.States.{numbers_below, product_by}
 use Rattle.mk_states.specs.InitialWeight.{value_at}
 use Rattle.mk_states.specs.Events.{holds}
 use Rattle.mk_states.specs.Ratios.{unit, ratio_at}
-use Rattle.mk_exact.specs.History.{Entry, UserTrade, Join, Deposit, Withdraw, Trade, Resolve, Settle, bits_in, is_transfer, trade_in, trades, trades_of, deposited, withdrawn}
+use Rattle.mk_exact.specs.History.{Entry, UserTrade, Join, Deposit, Withdraw, Trade, Resolve, Settle, Add, bits_in, is_transfer, trade_in, trades, trades_of, deposited, withdrawn}
 use Rattle.mk_exact.specs.Weight.{possible_states}
 use Rattle.mk_exact.specs.Factors.{gain, trade_count, factor, factor_with, least_gain}
 use Rattle.mk_exact.specs.Cash.{CoversCash}
@@ -80,6 +80,7 @@ module _ (H : List Entry) (bounds : IsWithinBounds H) (u : ℕ) where
       at (Trade v r) h = omega arith
       at (Resolve p) h = omega arith
       at Settle h = omega arith
+      at (Add a) h = omega arith
 
       same : sum_by (λ e. 1000 * cond (is_transfer e) 1 0) H ≤ 1000 * count_by is_transfer H
       same = omega (arith, sum_by-times 1000 (λ e. cond (is_transfer e) 1 0) H)
@@ -157,6 +158,7 @@ bounds_kept H (Trade u r) bounds room = record {
 }
 bounds_kept H (Resolve p) bounds room = none_kept H (Resolve p) refl (λ v. omega arith) (omega (arith, bounds.few_transfers)) bounds
 bounds_kept H Settle bounds room = none_kept H Settle refl (λ v. omega arith) (omega (arith, bounds.few_transfers)) bounds
+bounds_kept H (Add a) bounds room = none_kept H (Add a) refl (λ v. omega arith) (omega (arith, bounds.few_transfers)) bounds
 
 pub fair_pair_fits : (network : List Variable) (H : List Entry) (u : ℕ) (asked : Asked) (X F_t F_n : ℕ) → IsFairPair network H u asked X F_t F_n
     → AllByRecursion (λ n. n < number_limit) (ratio_in network asked F_t F_n).factors

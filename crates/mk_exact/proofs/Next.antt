@@ -11,7 +11,7 @@ use Rattle.mk_net.specs.Asked.{TradeRatio}
 use Rattle.mk_states.specs.InitialWeight.{all_states, initial_total}
 use Rattle.mk_states.specs.Events.{has, always}
 use Rattle.mk_states.specs.Ratios.{unit}
-use Rattle.mk_exact.specs.History.{Entry, UserTrade, Join, Deposit, Withdraw, Trade, Resolve, Settle, trade_in, resolution_in, bits_in, bits_out, trades, deposited, withdrawn}
+use Rattle.mk_exact.specs.History.{Entry, UserTrade, Join, Deposit, Withdraw, Trade, Resolve, Settle, Add, trade_in, resolution_in, bits_in, bits_out, trades, deposited, withdrawn}
 use Rattle.mk_exact.specs.Weight.{weight, total, is_possible, possible_states}
 use Rattle.mk_exact.specs.Factors.{gain, trade_count, factor, factor_with, least_gain, IsAtLeastOne}
 use Rattle.mk_exact.specs.Sound.{IsSound}
@@ -153,3 +153,4 @@ sound_next network H (Withdraw u bits) sound h = withdraw_sound network H sound 
 sound_next network H (Trade u r) sound h = trade_sound network H sound u r h
 sound_next network H (Resolve p) sound h = resolve_sound network H sound p
 sound_next network H Settle sound h = quiet network H sound Settle refl refl (λ u. refl) (λ u. refl)
+sound_next network H (Add a) sound h = quiet network H sound (Add a) refl refl (λ u. refl) (λ u. refl)

@@ -1,5 +1,5 @@
--- Each change in range leads from a proper history to a proper one; and whole histories of accepted changes.
-use Rattle.std.proofs.Common.{◌≡◌, ℕ, ◌+◌, ◌-◌, ◌^◌, ◌≤◌, true, false, ◌&&◌, List, [], ◌∷◌, ◌++◌, Option, Some, None, IfSome, IsSomeAnd, Bool, length, filter, refl, sym, ap, ◌∙◌, subst, arith, append_assoc, append-nil, length-append}
+-- Each change in range leads from a proper history to a proper one; and pairs that are fair and solvent.
+use Rattle.std.proofs.Common.{◌≡◌, ℕ, ◌+◌, ◌-◌, ◌^◌, ◌≤◌, true, false, ◌&&◌, List, [], ◌∷◌, ◌++◌, Option, Some, None, IfSome, IsSomeAnd, Bool, length, filter, refl, sym, ap, ◌∙◌, subst, arith, length-append}
 use Rattle.std.proofs.Math.Path.{fun_ext}
 use Rattle.std.specs.List.{AllByRecursion}
 use Rattle.mk_net.specs.declared.words.Pair.{Pair}
@@ -9,23 +9,20 @@ use Rattle.mk_net.specs.Events.{speaks_of, AreApart}
 use Rattle.mk_net.proofs.Events.{apart_longer}
 use Rattle.mk_states.specs.Events.{has, always, with_target, without_target}
 use Rattle.mk_states.specs.InitialWeight.{all_states}
-use Rattle.mk_exact.specs.History.{Entry, UserTrade, Join, Deposit, Withdraw, Trade, Resolve, Settle, trade_in, resolution_in, join_in, users, trades, resolutions}
+use Rattle.mk_exact.specs.History.{Entry, UserTrade, Join, Deposit, Withdraw, Trade, Resolve, Settle, Add, trade_in, resolution_in, join_in, users, trades, resolutions}
 use Rattle.mk_exact.specs.Weight.{IsSmall, is_possible, possible_states}
 use Rattle.mk_exact.specs.Factors.{factor_with, least_gain}
 use Rattle.mk_exact.specs.Prices.{IsFair, IsSolvent, price_where}
 use Rattle.mk_exact.specs.Limits.{Side, IsFairAndSolvent}
-use Rattle.mk_exact.specs.Market.{Market, network_of}
 use Rattle.mk_exact.specs.Sides.{IsSide, IsFairPair, ratio_in}
-use Rattle.mk_exact.specs.Sound.{IsSound}
 use Rattle.mk_states.specs.OfNetwork.{IsPairOf}
 use Rattle.mk_exact.specs.Proper.{IsTradeOf, IsProper}
-use Rattle.mk_exact.specs.Accepted.{IsSafeTrade, IsInRange, AreAccepted}
+use Rattle.mk_exact.specs.Accepted.{IsSafeTrade, IsInRange}
 use Rattle.mk_states.proofs.Sums.{each_weaker, each-append}
 use Rattle.mk_exact.proofs.After.{trades_kept, trades_more, resolutions_kept, resolutions_more, users_kept, users_more, possible_kept, possible_resolved}
 use Rattle.mk_exact.proofs.Fair.{fair_bounded}
 use Rattle.mk_exact.proofs.Solvent.{pair_solvent}
-use Rattle.mk_exact.proofs.Next.{sound_next}
-use Rattle.mk_exact.proofs.Single.{empty_sound, filter_every}
+use Rattle.mk_exact.proofs.Single.{filter_every}
 use Rattle.mk_exact.proofs.Comes.{some_can}
 
 trade_later : (network : List Variable) (m n : ℕ) → m ≤ n → (t : UserTrade) → IsTradeOf network m t → IsTradeOf network n t
@@ -105,19 +102,10 @@ proper_next network H (Withdraw u bits) proper h = quiet network H proper (Withd
 proper_next network H (Trade u r) proper h = trade_proper network H proper u r h
 proper_next network H (Resolve p) proper h = resolve_proper network H proper p h.0 h.1 h.2
 proper_next network H Settle proper h = quiet network H proper Settle refl refl refl
+proper_next network H (Add a) proper h = quiet network H proper (Add a) refl refl refl
 
 pub empty_proper : (network : List Variable) → IsNetwork network → IsProper network []
 empty_proper network net = record { trades_fit = tt; resolutions_fit = tt; resolved_once = tt; some_left = rw (filter_every (all_states network)) (some_can network net) }
-
--- along a list of accepted changes
-pub sound_along : (market : Market) (H rest : List Entry) → IsSound (network_of market H) H → IsProper (network_of market H) H → AreAccepted market H rest
-    → IsSound (network_of market (H ++ rest)) (H ++ rest) × IsProper (network_of market (H ++ rest)) (H ++ rest)
-sound_along market H [] sound proper h = rw (append-nil H) (sound, proper)
-sound_along market H (e ∷ rest) sound proper h = rw (append_assoc H (e ∷ []) rest) at
-    (sound_along market (H ++ e ∷ []) rest (sound_next (network_of market H) H e sound h.0) (proper_next (network_of market H) H e proper h.1) h.2)
-
-pub sound_always : (market : Market) (H : List Entry) → IsNetwork market.network → AreAccepted market [] H → IsSound (network_of market H) H × IsProper (network_of market H) H
-sound_always market H net h = sound_along market [] H (empty_sound (network_of market [])) (empty_proper (network_of market []) net) h
 
 -- a pair that is fair and solvent on both sides
 side_fair : (network : List Variable) (H : List Entry) (u : ℕ) (asked : Asked) (test : List ℕ → Bool) (side : Side) (X F : ℕ) → IsSide network H u asked test side

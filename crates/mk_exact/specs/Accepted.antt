@@ -1,16 +1,16 @@
 -- What each kind of change must meet to be accepted, and histories whose changes all met it.
 use Rattle.std.specs.Prelude.{ℕ, ◌+◌, ◌-◌, ◌*◌, ◌^◌, ◌<◌, ◌≤◌, ◌≡◌, ◌⊎◌, false, ⊤, List, [], ◌∷◌}
 use Rattle.std.specs.Prelude.{◌++◌, length, sum_by, All, IfSome}
-use Rattle.mk_net.specs.Network.{Variable}
+use Rattle.mk_net.specs.Network.{Variable, IsNetwork}
 use Rattle.mk_net.specs.Asked.{TradeRatio}
 use Rattle.mk_net.specs.Events.{speaks_of}
 use Rattle.mk_states.specs.Events.{has, holds, always}
 use Rattle.mk_states.specs.Ratios.{unit, ratio_at}
-use Rattle.mk_exact.specs.History.{Entry, Join, Deposit, Withdraw, Trade, Resolve, Settle, users, resolutions}
+use Rattle.mk_exact.specs.History.{Entry, Join, Deposit, Withdraw, Trade, Resolve, Settle, Add, users, resolutions}
 use Rattle.mk_exact.specs.Weight.{weight, total, possible_states}
 use Rattle.mk_exact.specs.Factors.{Fraction, factor, factor_with, least_gain}
 use Rattle.mk_exact.specs.Prices.{IsSolvent}
-use Rattle.mk_exact.specs.Market.{Market, network_of}
+use Rattle.mk_exact.specs.Market.{Market, present}
 use Rattle.mk_states.specs.OfNetwork.{IsPairOf}
 use Rattle.mk_exact.specs.Proper.{IsTradeOf}
 
@@ -40,9 +40,10 @@ IsAcceptable network H (Withdraw u bits) = IfSome (least_gain network H u always
 IsAcceptable network H (Trade u r) = IsSafeTrade network H u r
 IsAcceptable network H (Resolve p) = ⊤
 IsAcceptable network H Settle = ⊤
+IsAcceptable network H (Add a) = ⊤
 
 -- a trade and a resolution speak of the network's own variables, a trade of a user who joined, and a resolution of a variable
--- that is not resolved
+-- that is not resolved; and with a variable that is added the network is one
 abbrev pub IsInRange : List Variable → List Entry → Entry → Type 0
 IsInRange network H (Join name) = ⊤
 IsInRange network H (Deposit u bits) = ⊤
@@ -50,9 +51,10 @@ IsInRange network H (Withdraw u bits) = ⊤
 IsInRange network H (Trade u r) = IsTradeOf network (length (users H)) (record { user = u; ratio = r })
 IsInRange network H (Resolve p) = IsPairOf network p × (speaks_of (resolutions H) p.variable ≡ false) × (1 ≤ length (possible_states network H (has p)))
 IsInRange network H Settle = ⊤
+IsInRange network H (Add a) = IsNetwork (network ++ a.variable ∷ [])
 
 -- each change of a list is acceptable and in range after those before it
 abbrev pub AreAccepted : Market → List Entry → List Entry → Type 0
 AreAccepted market H [] = ⊤
 AreAccepted market H (e ∷ rest) =
-    IsAcceptable (network_of market H) H e × IsInRange (network_of market H) H e × AreAccepted market (H ++ e ∷ []) rest
+    IsAcceptable (present market H).network H e × IsInRange (present market H).network H e × AreAccepted market (H ++ e ∷ []) rest

@@ -2,7 +2,15 @@
 use Rattle.std.specs.Prelude.{ℕ, List, Bool, true, false, ◌==◌, if◌then◌else◌, Option, Some, None, length, filter, sum_by}
 use Rattle.std.specs.List.{filter_map, list_any}
 use Rattle.mk_net.specs.declared.words.Pair.{Pair}
+use Rattle.mk_net.specs.Network.{Variable}
 use Rattle.mk_net.specs.Asked.{TradeRatio}
+
+-- a question that was added: a variable behind all others, the variables of a clique that holds it with its parents, in rising
+-- order, and the number of the clique to which that is linked
+pub record Addition : Type 0 where
+  pub variable : Variable
+  pub clique : List ℕ
+  pub link : ℕ
 
 -- an accepted change; users are counted by their joining, from 0
 pub data Entry : Type 0 where
@@ -12,6 +20,7 @@ pub data Entry : Type 0 where
   Trade : (user : ℕ) (ratio : TradeRatio) → Entry
   Resolve : (pair : Pair) → Entry
   Settle : Entry
+  Add : (addition : Addition) → Entry
 
 -- one user's trade
 pub record UserTrade : Type 0 where
@@ -29,6 +38,10 @@ trade_in _ = None
 abbrev pub resolution_in : Entry → Option Pair
 resolution_in (Resolve pair) = Some pair
 resolution_in _ = None
+
+abbrev pub addition_in : Entry → Option Addition
+addition_in (Add addition) = Some addition
+addition_in _ = None
 
 abbrev pub is_settlement : Entry → Bool
 is_settlement Settle = true
@@ -60,6 +73,9 @@ trades_of H u = filter (λ (t : UserTrade). t.user == u) (trades H)
 
 abbrev pub resolutions : List Entry → List Pair
 resolutions H = filter_map resolution_in H
+
+abbrev pub additions : List Entry → List Addition
+additions H = filter_map addition_in H
 
 abbrev pub is_settled : List Entry → Bool
 is_settled H = list_any is_settlement H

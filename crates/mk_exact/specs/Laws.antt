@@ -16,12 +16,11 @@ use Rattle.mk_exact.specs.Cash.{IsCash}
 use Rattle.mk_exact.specs.Risk.{least_weight, CoversBound}
 use Rattle.mk_states.specs.OfNetwork.{IsPairOf}
 use Rattle.mk_exact.specs.Proper.{IsProper}
-use Rattle.mk_exact.specs.Accepted.{IsAcceptable, IsInRange, AreAccepted, IsSafeTrade}
+use Rattle.mk_exact.specs.Accepted.{IsAcceptable, IsInRange, IsSafeTrade}
 use Rattle.mk_exact.specs.Weight.{total, weight, possible_states}
 use Rattle.mk_exact.specs.Factors.{Fraction, factor, gain, trade_count, IsAtLeastOne}
 use Rattle.mk_exact.specs.Prices.{exact_price}
 use Rattle.mk_exact.specs.Sides.{ratio_in, traded, AreFair, AreSolvent, IsFairPair}
-use Rattle.mk_exact.specs.Market.{Market, network_of}
 use Rattle.mk_exact.specs.Sound.{IsSound}
 
 -- before any change the weight of a state is its initial weight
@@ -30,7 +29,7 @@ WeightsBegin = (network : List Variable) (s : List ℕ) → weight network [] s 
 
 -- a market that nobody has used is sound
 abbrev pub BeginsSound : Type 0
-BeginsSound = (market : Market) → IsSound (network_of market []) []
+BeginsSound = (network : List Variable) → IsSound network []
 
 -- a question on the first variable, under no condition
 abbrev pub first_is : ℕ → Asked
@@ -71,19 +70,13 @@ SolventStays = (network : List Variable) (H : List Entry) (u : ℕ) (asked : Ask
 abbrev pub then_change : List Entry → Entry → List Entry
 then_change H e = H ++ e ∷ []
 
--- an acceptable change leads from a sound market to a sound one
+-- beside one network, an acceptable change leads from a sound history to a sound one
 abbrev pub SoundNext : Type 0
-SoundNext = (market : Market) (H : List Entry) (e : Entry) → IsSound (network_of market H) H → IsAcceptable (network_of market H) H e
-    → IsSound (network_of market (then_change H e)) (then_change H e)
+SoundNext = (network : List Variable) (H : List Entry) (e : Entry) → IsSound network H → IsAcceptable network H e → IsSound network (then_change H e)
 
--- a change in range leads from a proper history to a proper one
+-- and a change in range from a proper history to a proper one
 abbrev pub ProperNext : Type 0
-ProperNext = (market : Market) (H : List Entry) (e : Entry) → IsProper (network_of market H) H → IsInRange (network_of market H) H e
-    → IsProper (network_of market (then_change H e)) (then_change H e)
-
--- a market is sound, and its history proper, after any number of accepted changes
-abbrev pub SoundAlways : Type 0
-SoundAlways = (market : Market) (H : List Entry) → IsNetwork market.network → AreAccepted market [] H → IsSound (network_of market H) H × IsProper (network_of market H) H
+ProperNext = (network : List Variable) (H : List Entry) (e : Entry) → IsProper network H → IsInRange network H e → IsProper network (then_change H e)
 
 -- a fair and solvent pair for X, as a quote's limits promise it, makes a safe trade
 abbrev pub FairPairIsSafe : Type 0

@@ -1,7 +1,7 @@
 -- What a market file gives, and what stands of it after a history.
-use Rattle.std.specs.Prelude.{ℕ, Bool, List}
+use Rattle.std.specs.Prelude.{ℕ, Bool, List, [], ◌∷◌, ◌++◌, map}
 use Rattle.mk_net.specs.Network.{Variable}
-use Rattle.mk_exact.specs.History.{Entry}
+use Rattle.mk_exact.specs.History.{Entry, Addition, Add, additions}
 
 -- the network, the cliques as lists of variables, two numbers, and whether shares of nothing may occur
 pub record Market : Type 0 where
@@ -11,9 +11,17 @@ pub record Market : Type 0 where
   pub max_trades : ℕ
   pub zeros : Bool
 
--- the network and the cliques of a history: those of the file
-abbrev pub network_of : Market → List Entry → List Variable
-network_of market H = market.network
+-- the market of a history: what a file gave, and behind it what was added, in the order of the additions
+abbrev pub present : Market → List Entry → Market
+present market H = record {
+  network = market.network ++ map (λ (a : Addition). a.variable) (additions H);
+  cliques = market.cliques ++ map (λ (a : Addition). a.clique) (additions H);
+  points_per_bit = market.points_per_bit;
+  max_trades = market.max_trades;
+  zeros = market.zeros;
+}
 
-abbrev pub cliques_of : Market → List Entry → List (List ℕ)
-cliques_of market H = market.cliques
+-- a market after one more entry
+abbrev pub with_entry : Entry → Market → Market
+with_entry (Add a) m = record m { network = m.network ++ a.variable ∷ []; cliques = m.cliques ++ a.clique ∷ [] }
+with_entry _ m = m

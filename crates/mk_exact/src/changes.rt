@@ -1,19 +1,14 @@
 //! What every accepted change keeps.
-ghost use Rattle.mk_exact.specs.Laws.{SoundNext, ProperNext, SoundAlways, FairPairIsSafe, StateRemains};
+ghost use Rattle.mk_exact.specs.Laws.{SoundNext, ProperNext, FairPairIsSafe, StateRemains};
 
-/// An acceptable change leads from a sound market to a sound one.
+/// Beside one network, an acceptable change leads from a sound history to a sound one.
 pub fn sound_next()
     ensures { SoundNext }
 {}
 
-/// A change in range leads from a proper history to a proper one.
+/// And a change in range from a proper history to a proper one.
 pub fn proper_next()
     ensures { ProperNext }
-{}
-
-/// After any number of accepted changes a market is sound, and its history proper.
-pub fn sound_always()
-    ensures { SoundAlways }
 {}
 
 /// A fair and solvent pair, as right limits promise it for each share inside, makes a safe trade.

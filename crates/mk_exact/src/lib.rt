@@ -9,7 +9,7 @@ mod opening;
 mod settling;
 mod trading;
 
-pub use changes::{fair_pair_is_safe, proper_next, sound_always, sound_next, state_remains};
+pub use changes::{fair_pair_is_safe, proper_next, sound_next, state_remains};
 pub use examples::{
     example_cash, example_condition, example_limits, example_networks, example_prices,
     example_safety, example_sharp, example_trade, example_traders, example_weights, example_zeros,
