@@ -1,12 +1,14 @@
 -- What a longer state picks in a network with one variable more.
-use Rattle.std.proofs.Common.{◌≡◌, ℕ, ◌+◌, ◌*◌, ◌<◌, ◌≤◌, ◌⊎◌, inl, inr, Bool, cond, ◌&&◌, ◌==◌}
+use Rattle.std.proofs.Common.{◌≡◌, ℕ, zero, suc, ◌+◌, ◌*◌, ◌<◌, ◌≤◌, ◌⊎◌, inl, inr, Bool, cond}
+use Rattle.std.proofs.Common.{◌&&◌, ◌==◌, nat_le}
 use Rattle.std.proofs.Common.{List, [], ◌∷◌, ◌++◌, length, slice_index, slice_index_or, fold, All}
+use Rattle.std.proofs.Math.Path.{fun_ext}
 use Rattle.std.proofs.Common.{sum, sum_by, refl, sym, ap, ap₂, ◌∙◌, subst, arith}
 use Rattle.std.specs.List.{AllByRecursion}
 use Rattle.std.proofs.lemmas.List.{map-id, get_or_append_left, get_or_push, length_push}
 use Rattle.std.proofs.lemmas.List.FromFn.{map-range_with_len_more, fill_by_all}
 use Rattle.std.proofs.lemmas.List.Sums.{sum-map}
-use Rattle.std.proofs.lemmas.Bool.{cases_lt}
+use Rattle.std.proofs.lemmas.Bool.{cases_lt, le-leb}
 use Rattle.std.proofs.lemmas.List.Elements.{recursion_from_All}
 use Rattle.mk_net.specs.declared.words.Pair.{Pair}
 use Rattle.mk_net.specs.Bounds.{million}
@@ -21,9 +23,10 @@ use Rattle.mk_exact.specs.History.{UserTrade}
 use Rattle.mk_states.specs.OfNetwork.{IsPairOf, IsRatioOf}
 use Rattle.mk_exact.specs.Proper.{IsTradeOf}
 use Rattle.mk_states.proofs.Sums.{plus_over_each, each_weaker, each_number, product_by_push}
+use Rattle.mk_states.proofs.Sums.{sum_by-filter}
 use Rattle.mk_states.proofs.Listed.{as_many}
 use Rattle.mk_states.proofs.Shares.{row_number_below}
-use Rattle.mk_grown.specs.Grown.{with_variable, share_of, IsWithoutZeros}
+use Rattle.mk_grown.specs.Grown.{with_variable, share_of, values_behind}
 use Rattle.mk_net.proofs.Behind.{sizes_more, size_before, variable_before, variable_last}
 
 -- a longer state has the earlier values
@@ -167,7 +170,7 @@ module _ (network : List Variable) (v : Variable) (net : IsNetwork (with_variabl
       (variable_last network v) (net.each (length network) nobody
       (omega (arith, length_push network v)))
 
-  pub some_value : 0 < length v.values
+  some_value : 0 < length v.values
   some_value = omega (arith, its.two_values)
 
   row_within : row_number (sizes network) v.parents s < length v.rows
@@ -192,7 +195,7 @@ module _ (network : List Variable) (v : Variable) (net : IsNetwork (with_variabl
       (row_number (sizes network) v.parents s) [])
   picked_row = its.rows_fit (row_number (sizes network) v.parents s) [] row_within
 
-  pub shares_whole : sum_by (share_of network v s) (numbers_below (length v.values)) ≡ million
+  shares_whole : sum_by (share_of network v s) (numbers_below (length v.values)) ≡ million
   shares_whole =
       sym (sum-map (share_of network v s) (numbers_below (length v.values)))
       ∙ ap sum (sym (fill_by_all (share_of network v s)
@@ -200,7 +203,22 @@ module _ (network : List Variable) (v : Variable) (net : IsNetwork (with_variabl
       0 picked_row.one_each (λ k h. refl)))
       ∙ picked_row.whole
 
-  -- and each of them is at least one, where the variable has no share of nothing
-  pub share_positive : IsWithoutZeros v → (x : ℕ) → x < length v.values → 1 ≤ share_of network v s x
-  share_positive some x h = some (row_number (sizes network) v.parents s) [] row_within x 0
-      (omega (arith, h, picked_row.one_each))
+  pub behind_whole : sum_by (share_of network v s) (values_behind network v s) ≡ million
+  behind_whole =
+      sum_by-filter (share_of network v s) (λ x. nat_le 1 (share_of network v s x))
+      (numbers_below (length v.values))
+      ∙ ap (λ (f : ℕ → ℕ). sum_by f (numbers_below (length v.values)))
+      (fun_ext (λ x. or_nothing (share_of network v s x)))
+      ∙ shares_whole
+    where
+      or_nothing : (share : ℕ) → cond (nat_le 1 share) share 0 ≡ share
+      or_nothing zero = refl
+      or_nothing (suc n) = rw (le-leb 1 (suc n) (omega arith)) refl
+
+  -- so some value has a share
+  pub some_behind : 1 ≤ length (values_behind network v s)
+  some_behind = some (values_behind network v s) behind_whole
+    where
+      some : (xs : List ℕ) → sum_by (share_of network v s) xs ≡ million → 1 ≤ length xs
+      some [] e = absurd (omega (arith, e))
+      some (x ∷ xs) e = omega arith

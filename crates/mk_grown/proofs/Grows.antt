@@ -1,19 +1,17 @@
 -- Totals, least gains, proper and sound histories with one variable more.
-use Rattle.std.proofs.Common.{◌≡◌, ℕ, suc, zero, ◌+◌, ◌*◌, ◌^◌, ◌<◌, ◌≤◌, Bool, true, false, cond}
+use Rattle.std.proofs.Common.{◌≡◌, ℕ, ◌+◌, ◌*◌, ◌^◌, ◌≤◌, Bool, true, false, cond}
 use Rattle.std.proofs.Common.{◌&&◌, List, [], ◌∷◌, ◌++◌, Option, Some, None, eqb, filter, flat_map}
 use Rattle.std.proofs.Common.{length, sum_by, All, refl, sym, ap, ap₂, ◌∙◌, subst, arith, mul_assoc}
 use Rattle.std.proofs.Common.{mul_comm, mul-le-mul_left, length-append}
 use Rattle.std.proofs.Math.Path.{fun_ext}
-use Rattle.std.specs.List.{AllByRecursion, range_with_len}
+use Rattle.std.specs.List.{AllByRecursion}
 use Rattle.std.proofs.lemmas.List.Elements.{All-from_recursion, recursion_from_All}
 use Rattle.std.proofs.lemmas.List.{length_push, length-map}
-use Rattle.std.proofs.lemmas.List.FromFn.{length-range_with_len}
 use Rattle.mk_net.specs.declared.words.Pair.{Pair}
 use Rattle.mk_net.specs.Bounds.{million}
-use Rattle.mk_net.specs.Network.{Variable, sizes, IsNetwork, IsVariable}
-use Rattle.mk_net.specs.Named.{nobody}
+use Rattle.mk_net.specs.Network.{Variable, sizes, IsNetwork}
 use Rattle.mk_net.specs.Asked.{Asked}
-use Rattle.mk_states.specs.States.{numbers_below, plus_over, product_by, IsState}
+use Rattle.mk_states.specs.States.{plus_over, product_by, IsState}
 use Rattle.mk_states.specs.InitialWeight.{all_states, initial_weight, initial_total}
 use Rattle.mk_states.specs.Events.{holds, with_target, always}
 use Rattle.mk_states.specs.Ratios.{unit, ratio_at}
@@ -28,62 +26,62 @@ use Rattle.mk_states.proofs.Sums.{plus_over-filter, plus_over_each, each_weaker,
 use Rattle.mk_states.proofs.Sums.{each-flat_map, each-map, each_always}
 use Rattle.mk_states.proofs.Listed.{all_are}
 use Rattle.mk_exact.proofs.Totals.{total_is}
-use Rattle.mk_net.proofs.Behind.{size_before, variable_last}
-use Rattle.mk_grown.specs.Grown.{with_variable, with_each_value, share_of, IsWithoutZeros, IsBlind}
+use Rattle.mk_net.proofs.Behind.{size_before}
+use Rattle.mk_grown.specs.Grown.{with_variable, with_each_value, share_of, values_behind, IsBlind}
 use Rattle.mk_grown.proofs.States.{all_more, plus_over_more, filter_longer}
-use Rattle.mk_grown.proofs.Entries.{holds_kept, has_kept, ratios_kept, weight_more, shares_whole}
-use Rattle.mk_grown.proofs.Entries.{some_value}
+use Rattle.mk_grown.proofs.Entries.{holds_kept, has_kept, ratios_kept, weight_more, behind_whole}
+use Rattle.mk_grown.proofs.Entries.{some_behind}
 
 sum_by_more : (f : List ℕ → ℕ) (network : List Variable) (v : Variable)
-    → IsNetwork (with_variable network v) → IsWithoutZeros v
+    → IsNetwork (with_variable network v)
     → sum_by f (all_states (with_variable network v))
-    ≡ sum_by (λ s. sum_by (λ x. f (s ++ x ∷ [])) (numbers_below (length v.values)))
+    ≡ sum_by (λ s. sum_by (λ x. f (s ++ x ∷ [])) (values_behind network v s))
     (all_states network)
-sum_by_more f network v net some =
+sum_by_more f network v net =
     sum_by_is f (all_states (with_variable network v))
-    ∙ plus_over_more network v net some ◌+◌ 0 sums_are_plus f
+    ∙ plus_over_more network v net ◌+◌ 0 sums_are_plus f
     ∙ ap (λ (g : List ℕ → ℕ). plus_over ◌+◌ 0 g (all_states network))
-    (fun_ext (λ s. sym (sum_by_is (λ x. f (s ++ x ∷ [])) (numbers_below (length v.values)))))
-    ∙ sym (sum_by_is (λ s. sum_by (λ x. f (s ++ x ∷ [])) (numbers_below (length v.values)))
+    (fun_ext (λ s. sym (sum_by_is (λ x. f (s ++ x ∷ [])) (values_behind network v s))))
+    ∙ sym (sum_by_is (λ s. sum_by (λ x. f (s ++ x ∷ [])) (values_behind network v s))
     (all_states network))
 
 -- a sum over the longer states whose terms are those of the earlier states, each times its share
 shared : (network : List Variable) (v : Variable) → IsNetwork (with_variable network v)
-    → IsWithoutZeros v → (f g : List ℕ → ℕ)
+    → (f g : List ℕ → ℕ)
     → ((s : List ℕ) (x : ℕ) → IsState (sizes network) s → f (s ++ x ∷ []) ≡ g s
     * share_of network v s x)
     → sum_by f (all_states (with_variable network v)) ≡ million * sum_by g (all_states network)
-shared network v net some f g h =
-    sum_by_more f network v net some
-    ∙ sum_by_each (λ s. sum_by (λ x. f (s ++ x ∷ [])) (numbers_below (length v.values)))
+shared network v net f g h =
+    sum_by_more f network v net
+    ∙ sum_by_each (λ s. sum_by (λ x. f (s ++ x ∷ [])) (values_behind network v s))
     (λ s. million * g s) (all_states network)
     (each_weaker (IsState (sizes network)) (λ s. sum_by (λ x. f (s ++ x ∷ []))
-    (numbers_below (length v.values)) ≡ million * g s) at (all_states network)
+    (values_behind network v s) ≡ million * g s) at (all_states network)
     (all_are network))
     ∙ sum_by-times million g (all_states network)
   where
     at : (s : List ℕ) → IsState (sizes network) s
-        → sum_by (λ x. f (s ++ x ∷ [])) (numbers_below (length v.values)) ≡ million * g s
+        → sum_by (λ x. f (s ++ x ∷ [])) (values_behind network v s) ≡ million * g s
     at s is_state =
-        ap (λ (k : ℕ → ℕ). sum_by k (numbers_below (length v.values)))
+        ap (λ (k : ℕ → ℕ). sum_by k (values_behind network v s))
         (fun_ext (λ x. h s x is_state))
-        ∙ sum_by-times (g s) (share_of network v s) (numbers_below (length v.values))
-        ∙ ap (λ n. g s * n) (shares_whole network v net s is_state)
+        ∙ sum_by-times (g s) (share_of network v s) (values_behind network v s)
+        ∙ ap (λ n. g s * n) (behind_whole network v net s is_state)
         ∙ mul_comm (g s) million
 
 pub initial_total_more : (network : List Variable) (v : Variable)
-    → IsNetwork (with_variable network v) → IsWithoutZeros v
+    → IsNetwork (with_variable network v)
     → initial_total (with_variable network v) ≡ million * initial_total network
-initial_total_more network v net some = shared network v net some
+initial_total_more network v net = shared network v net
     (initial_weight (with_variable network v)) (initial_weight network)
     (λ s x is_state. weight_more network v s x is_state net)
 
 pub total_more : (network : List Variable) (v : Variable) (H : List Entry) (test : List ℕ → Bool)
-    → IsNetwork (with_variable network v) → IsWithoutZeros v → IsProper network H
+    → IsNetwork (with_variable network v) → IsProper network H
     → IsBlind network test → total (with_variable network v) H test ≡ million * total network H test
-total_more network v H test net some proper blind =
+total_more network v H test net proper blind =
     total_is (with_variable network v) H test
-    ∙ shared network v net some (λ s. cond (is_possible H s && test s)
+    ∙ shared network v net (λ s. cond (is_possible H s && test s)
     (weight (with_variable network v) H s) 0)
     (λ s. cond (is_possible H s && test s) (weight network H s) 0) at
     ∙ ap (λ n. million * n) (sym (total_is network H test))
@@ -125,11 +123,11 @@ lesser_same : (o : Option ℕ) → lesser o o ≡ o
 lesser_same None = refl
 lesser_same (Some a) = ap Some (omega arith)
 
-least_of_same : (o : Option ℕ) (n a : ℕ) → 0 < n
-    → plus_over lesser None (λ (x : ℕ). o) (range_with_len a n) ≡ o
-least_of_same o zero a h = absurd (omega arith)
-least_of_same o (suc zero) a h = lesser_plus.comm o None
-least_of_same o (suc (suc n)) a h = ap (lesser o) (least_of_same o (suc n) (a + 1) (omega arith))
+least_of_same : (o : Option ℕ) (xs : List ℕ) → 1 ≤ length xs
+    → plus_over lesser None (λ (x : ℕ). o) xs ≡ o
+least_of_same o [] h = absurd (omega (arith, h))
+least_of_same o (x ∷ []) h = lesser_plus.comm o None
+least_of_same o (x ∷ y ∷ ys) h = ap (lesser o) (least_of_same o (y ∷ ys) (omega arith))
     ∙ lesser_same o
 
 each_filtered : {X : Type 0} (P : X → Type 0) (p : X → Bool) (xs : List X) → AllByRecursion P xs
@@ -153,30 +151,31 @@ least_gain_is network H u test = plus_over-filter lesser None lesser_plus (λ s.
 
 pub least_gain_more : (network : List Variable) (v : Variable) (H : List Entry) (u : ℕ)
     (test : List ℕ → Bool) → IsNetwork (with_variable network v)
-    → IsWithoutZeros v → IsProper network H → IsBlind network test
+    → IsProper network H → IsBlind network test
     → least_gain (with_variable network v) H u test ≡ least_gain network H u test
-least_gain_more network v H u test net some proper blind =
+least_gain_more network v H u test net proper blind =
     least_gain_is (with_variable network v) H u test
-    ∙ plus_over_more network v net some lesser None lesser_plus (found H u test)
+    ∙ plus_over_more network v net lesser None lesser_plus (found H u test)
     ∙ plus_over_each lesser None (λ s. plus_over lesser None (λ x. found H u test (s ++ x ∷ []))
-    (numbers_below (length v.values))) (found H u test) (all_states network)
+    (values_behind network v s)) (found H u test) (all_states network)
     (each_weaker (IsState (sizes network)) (λ s. plus_over lesser None
-    (λ x. found H u test (s ++ x ∷ [])) (numbers_below (length v.values)) ≡ found H u test s) at
+    (λ x. found H u test (s ++ x ∷ [])) (values_behind network v s) ≡ found H u test s) at
     (all_states network) (all_are network))
     ∙ sym (least_gain_is network H u test)
   where
     at : (s : List ℕ) → IsState (sizes network) s
         → plus_over lesser None (λ x. found H u test (s ++ x ∷ []))
-        (numbers_below (length v.values)) ≡ found H u test s
+        (values_behind network v s) ≡ found H u test s
     at s is_state =
-        ap (λ (f : ℕ → Option ℕ). plus_over lesser None f (numbers_below (length v.values)))
+        ap (λ (f : ℕ → Option ℕ). plus_over lesser None f (values_behind network v s))
         (fun_ext (λ x. ap₂ (λ (b : Bool) (g : ℕ). cond b (Some g) None)
         (ap₂ ◌&&◌ (holds_kept network v s x is_state (resolutions H) proper.resolutions_fit)
         (blind s x is_state))
         (ratios_kept network v s x is_state (length (users H)) (trades_of H u)
         (each_filtered (IsTradeOf network (length (users H))) (λ (t : UserTrade). eqb t.user u)
         (trades H) proper.trades_fit))))
-        ∙ least_of_same (found H u test s) (length v.values) 0 (some_value network v net s is_state)
+        ∙ least_of_same (found H u test s) (values_behind network v s)
+        (some_behind network v net s is_state)
 
 -- proper histories
 pair_later : (network : List Variable) (v : Variable) (p : Pair) → IsPairOf network p
@@ -206,99 +205,96 @@ passes H test s = is_possible H s && test s
 -- the possible states that pass a test which does not look at the added variable
 possible_more : (network : List Variable) (v : Variable) (H : List Entry) (test : List ℕ → Bool)
     → IsNetwork (with_variable network v)
-    → IsWithoutZeros v → IsProper network H → IsBlind network test
+    → IsProper network H → IsBlind network test
     → possible_states (with_variable network v) H test
-    ≡ flat_map (with_each_value (length v.values)) (possible_states network H test)
-possible_more network v H test net some proper blind =
-    ap (filter (passes H test)) (all_more network v net some)
-    ∙ filter_longer (passes H test) (passes H test) (length v.values) (all_states network)
+    ≡ flat_map (with_each_value network v) (possible_states network H test)
+possible_more network v H test net proper blind =
+    ap (filter (passes H test)) (all_more network v net)
+    ∙ filter_longer (passes H test) (passes H test) (with_each_value network v) (all_states network)
     (each_weaker (IsState (sizes network)) (λ s. AllByRecursion
-    (λ t. passes H test t ≡ passes H test s) (with_each_value (length v.values) s)) at
+    (λ t. passes H test t ≡ passes H test s) (with_each_value network v s)) at
     (all_states network) (all_are network))
   where
     at : (s : List ℕ) → IsState (sizes network) s
         → AllByRecursion (λ t. passes H test t ≡ passes H test s)
-        (with_each_value (length v.values) s)
+        (with_each_value network v s)
     at s is_state = each-map (λ t. passes H test t ≡ passes H test s) (λ x. s ++ x ∷ [])
-        (numbers_below (length v.values))
+        (values_behind network v s)
         (each_always (λ x. passes H test (s ++ x ∷ []) ≡ passes H test s)
         (λ x. ap₂ ◌&&◌ (holds_kept network v s x is_state (resolutions H) proper.resolutions_fit)
-        (blind s x is_state)) (numbers_below (length v.values)))
+        (blind s x is_state)) (values_behind network v s))
 
--- some are left with each of at least one value
-some_longer : (n : ℕ) (ss : List (List ℕ)) → 0 < n → 1 ≤ length ss → 1
-    ≤ length (flat_map (with_each_value n) ss)
-some_longer n [] h k = absurd (omega (arith, k))
-some_longer n (s ∷ ss) h k =
+-- some are left, each with at least one value
+some_longer : (network : List Variable) (v : Variable) → IsNetwork (with_variable network v)
+    → (ss : List (List ℕ)) → AllByRecursion (IsState (sizes network)) ss → 1 ≤ length ss
+    → 1 ≤ length (flat_map (with_each_value network v) ss)
+some_longer network v net [] is k = absurd (omega (arith, k))
+some_longer network v net (s ∷ ss) is k =
     omega (
       arith,
-      h,
-      length-append (with_each_value n s) (flat_map (with_each_value n) ss),
-      length-map (numbers_below n) (λ x. s ++ x ∷ []),
-      length-range_with_len 0 n,
+      some_behind network v net s is.0,
+      length-append (with_each_value network v s) (flat_map (with_each_value network v) ss),
+      length-map (values_behind network v s) (λ x. s ++ x ∷ []),
     )
 
+possible_are : (network : List Variable) (H : List Entry)
+    → AllByRecursion (IsState (sizes network)) (possible_states network H always)
+possible_are network H = each_filtered (IsState (sizes network)) (passes H always)
+    (all_states network) (all_are network)
+
 pub proper_more : (network : List Variable) (v : Variable) (H : List Entry)
-    → IsNetwork (with_variable network v) → IsWithoutZeros v
+    → IsNetwork (with_variable network v)
     → IsProper network H → IsProper (with_variable network v) H
-proper_more network v H net some proper = record {
+proper_more network v H net proper = record {
   trades_fit = each_weaker (IsTradeOf network (length (users H)))
       (IsTradeOf (with_variable network v) (length (users H)))
       (trade_later network v (length (users H))) (trades H) proper.trades_fit;
   resolutions_fit = each_weaker (IsPairOf network) (IsPairOf (with_variable network v))
       (pair_later network v) (resolutions H) proper.resolutions_fit;
   resolved_once = proper.resolved_once;
-  some_left = rw (possible_more network v H always net some proper (λ s x is_state. refl))
-      (some_longer (length v.values) (possible_states network H always) values proper.some_left);
+  some_left = rw (possible_more network v H always net proper (λ s x is_state. refl))
+      (some_longer network v net (possible_states network H always) (possible_are network H)
+      proper.some_left);
 }
-  where
-    values : 0 < length v.values
-    values = let its = net.each (length network) nobody (omega (arith, length_push network v)) in
-        omega (
-          arith,
-          (subst (λ (w : Variable). IsVariable (sizes (with_variable network v))
-              (length network) w) (variable_last network v) its).two_values,
-        )
 
 -- sound histories
 sound_states : (network : List Variable) (v : Variable) (H : List Entry) (u : ℕ)
-    → IsNetwork (with_variable network v) → IsWithoutZeros v
+    → IsNetwork (with_variable network v)
     → IsProper network H → All (λ s. IsAtLeastOne (factor H u s)) (possible_states network H always)
     → All (λ s. IsAtLeastOne (factor H u s)) (possible_states (with_variable network v) H always)
-sound_states network v H u net some proper h =
+sound_states network v H u net proper h =
     All-from_recursion Safe (possible_states (with_variable network v) H always)
     (subst (AllByRecursion Safe)
-    (sym (possible_more network v H always net some proper (λ s x is_state. refl)))
-    (each-flat_map Safe (with_each_value (length v.values)) (possible_states network H always)
+    (sym (possible_more network v H always net proper (λ s x is_state. refl)))
+    (each-flat_map Safe (with_each_value network v) (possible_states network H always)
     (each_weaker (λ s. IsState (sizes network) s × Safe s)
-    (λ s. AllByRecursion Safe (with_each_value (length v.values) s)) at
+    (λ s. AllByRecursion Safe (with_each_value network v s)) at
     (possible_states network H always)
     (each_both (IsState (sizes network)) Safe (possible_states network H always)
-    (each_filtered (IsState (sizes network)) (λ s. is_possible H s && true) (all_states network)
-    (all_are network))
+    (possible_are network H)
     (recursion_from_All Safe (possible_states network H always) h)))))
   where
     Safe : List ℕ → Type 0
     Safe s = IsAtLeastOne (factor H u s)
 
     at : (s : List ℕ) → IsState (sizes network) s × Safe s
-        → AllByRecursion Safe (with_each_value (length v.values) s)
-    at s known = each-map Safe (λ x. s ++ x ∷ []) (numbers_below (length v.values))
+        → AllByRecursion Safe (with_each_value network v s)
+    at s known = each-map Safe (λ x. s ++ x ∷ []) (values_behind network v s)
         (each_always (λ x. Safe (s ++ x ∷ []))
         (λ x. subst (λ (g : ℕ). IsAtLeastOne (factor_with H u g))
         (sym (ratios_kept network v s x known.0 (length (users H)) (trades_of H u)
         (each_filtered (IsTradeOf network (length (users H))) (λ (t : UserTrade). eqb t.user u)
         (trades H) proper.trades_fit)))
-        known.1) (numbers_below (length v.values)))
+        known.1) (values_behind network v s))
 
 pub sound_more : (network : List Variable) (v : Variable) (H : List Entry)
-    → IsNetwork (with_variable network v) → IsWithoutZeros v → IsProper network H
+    → IsNetwork (with_variable network v) → IsProper network H
     → IsSound network H → IsSound (with_variable network v) H
-sound_more network v H net some proper sound = record {
-  solvent = λ u. sound_states network v H u net some proper (sound.solvent u);
+sound_more network v H net proper sound = record {
+  solvent = λ u. sound_states network v H u net proper (sound.solvent u);
   bounded = rw (
-    total_more network v H always net some proper (λ s x is. refl),
-    initial_total_more network v net some,
+    total_more network v H always net proper (λ s x is. refl),
+    initial_total_more network v net,
   )
       (let h : million * total network H always ≤ million
       * (initial_total network * unit ^ length (trades H)) =
@@ -309,17 +305,17 @@ sound_more network v H net some proper sound = record {
 
 -- exact prices
 pub prices_stay : (network : List Variable) (v : Variable) (H : List Entry) (asked : Asked)
-    → IsNetwork (with_variable network v) → IsWithoutZeros v → IsProper network H
+    → IsNetwork (with_variable network v) → IsProper network H
     → IsQuestionOf network asked
     → total (with_variable network v) H (with_target asked)
     * total network H (holds asked.condition) ≡ total network H (with_target asked)
     * total (with_variable network v) H (holds asked.condition)
-prices_stay network v H asked net some proper is =
+prices_stay network v H asked net proper is =
     rw (
-      total_more network v H (with_target asked) net some proper
+      total_more network v H (with_target asked) net proper
           (λ s x is_state. ap₂ ◌&&◌ (holds_kept network v s x is_state asked.condition is.condition)
           (has_kept network v s x is_state asked.target is.target)),
-      total_more network v H (holds asked.condition) net some proper
+      total_more network v H (holds asked.condition) net proper
           (λ s x is_state. holds_kept network v s x is_state asked.condition is.condition),
     )
     (across million (total network H (with_target asked)) (total network H (holds asked.condition)))

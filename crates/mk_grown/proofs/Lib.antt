@@ -1,3 +1,4 @@
 pub mod Entries
 pub mod States
 pub mod Grows
+pub mod Present

@@ -1,6 +1,6 @@
 -- A network with one variable more, behind the others.
-use Rattle.std.specs.Prelude.{◌≡◌, ℕ, ◌≤◌, List, [], ◌∷◌, ◌++◌, Bool, All, map, slice_index}
-use Rattle.std.specs.Prelude.{slice_index_or}
+use Rattle.std.specs.Prelude.{◌≡◌, ℕ, List, [], ◌∷◌, ◌++◌, Bool, length, map, filter, nat_le}
+use Rattle.std.specs.Prelude.{slice_index, slice_index_or}
 use Rattle.mk_net.specs.Network.{Variable, sizes}
 use Rattle.mk_states.specs.States.{numbers_below, IsState}
 use Rattle.mk_states.specs.InitialWeight.{row_number}
@@ -8,18 +8,19 @@ use Rattle.mk_states.specs.InitialWeight.{row_number}
 abbrev pub with_variable : List Variable → Variable → List Variable
 with_variable network v = network ++ v ∷ []
 
--- a state with each value of the added variable
-abbrev pub with_each_value : ℕ → List ℕ → List (List ℕ)
-with_each_value values s = map (λ x. s ++ x ∷ []) (numbers_below values)
-
--- each share of a variable is at least one part in a million
-abbrev pub IsWithoutZeros : Variable → Type 0
-IsWithoutZeros v = All (All (λ share. 1 ≤ share)) v.rows
-
 -- the share of a value of the added variable, in a state of the others
 abbrev pub share_of : List Variable → Variable → List ℕ → ℕ → ℕ
 share_of network v s x =
     slice_index (slice_index_or v.rows (row_number (sizes network) v.parents s) []) x
+
+-- the values of the added variable whose share is not nothing there
+abbrev pub values_behind : List Variable → Variable → List ℕ → List ℕ
+values_behind network v s =
+    filter (λ x. nat_le 1 (share_of network v s x)) (numbers_below (length v.values))
+
+-- a state with each of them
+abbrev pub with_each_value : List Variable → Variable → List ℕ → List (List ℕ)
+with_each_value network v s = map (λ x. s ++ x ∷ []) (values_behind network v s)
 
 -- a test that does not look at the added variable
 abbrev pub IsBlind : List Variable → (List ℕ → Bool) → Type 0
