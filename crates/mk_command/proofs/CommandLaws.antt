@@ -1,6 +1,11 @@
 -- Each command is read from its text, and from no other.
-use Rattle.std.specs.Prelude.{◌≡◌, ℕ, List, [], ◌∷◌, ◌++◌, codes, decimal, Option, Some, None, IfSome, IfOk, OnErr, MatchResult, Result, Ok, Err, ◌≢◌}
+use Rattle.std.specs.Prelude.{◌≡◌, ◌≢◌, ℕ, ◌≤◌, List, [], ◌∷◌, ◌++◌, length, nat_le, codes, decimal}
+use Rattle.std.specs.Prelude.{Option, Some, None, IfSome, Result, Ok, Err, IfOk, OnErr, MatchResult}
 use Rattle.std.proofs.Common.{refl, sym, ◌∙◌, inl, inr}
+use Rattle.std.proofs.lemmas.Bool.{leb-true, le-leb}
+use Rattle.mk_addition.specs.Adds.{IsAddText, addition_text, add_text}
+use Rattle.mk_addition.specs.declared.add.AddText.{AddText}
+use Rattle.mk_addition.proofs.AddLaws.{addition_reads}
 use Rattle.mk_net.specs.declared.words.PairText.{PairText}
 use Rattle.mk_net.specs.Name.{IsName}
 use Rattle.mk_net.specs.declared.words.QuestionText.{QuestionText}
@@ -10,15 +15,17 @@ use Rattle.mk_text.specs.Joined.{spaced, AreSeveral}
 use Rattle.mk_text.specs.Texts.{condition_text, IsCondition, question_text, IsQuestionText}
 use Rattle.mk_text.specs.Words.{after, EndsWord}
 use Rattle.mk_text.specs.Reading.{Read, both, behind, given, nothing, read_name, read_short, read_several, read_condition, read_question}
+use Rattle.mk_text.proofs.ReadingLaws.{passed_reads, reads_same}
 use Rattle.mk_text.proofs.ReadingLaws.{Took, Reads, Tells, Spelled, MayFollow, BothFit, both_text, behind_text, both_reads, behind_reads, perhaps_reads, spelled_by, spelled_alone, choose_takes, nothing_takes, made_last, whole_one}
 use Rattle.mk_text.proofs.PartLaws.{EndsQuestion, EndsSeveral, name_reads, short_reads, shorts_reads, pair_reads, condition_reads, question_reads}
 use Rattle.mk_command.specs.Commands.{command_of, command_text, IsCommand, at_text}
 use Rattle.mk_command.specs.inner.Reading.{read_user, read_deposit, read_withdraw, read_price, read_limits, read_at, read_edit, held, read_bounds, read_spread, read_worst, read_resolve, forms, read_form}
-use Rattle.mk_command.specs.inner.Reading.{read_prices, read_position, other_forms, read_other}
+use Rattle.mk_command.specs.inner.Reading.{read_prices, read_position, read_short_addition}
+use Rattle.mk_command.specs.inner.Reading.{read_add, other_forms, read_other}
 use Rattle.mk_command.specs.declared.command.Command.{Command}
 use Rattle.mk_command.specs.declared.command.CommandRef.{CommandRef}
 use Rattle.mk_command.specs.declared.command.Command.TheVariants.{User, Deposit, Withdraw, Price, Limits, Edit, Bounds, Spread, Worst, Resolve, Settle, Bound}
-use Rattle.mk_command.specs.declared.command.Command.TheVariants.{Prices, Position, Status}
+use Rattle.mk_command.specs.declared.command.Command.TheVariants.{Prices, Position, Status, Add}
 
 abbrev OfCommand : List ℕ × Read Command → Type 0
 OfCommand = Spelled command_text IsCommand
@@ -187,6 +194,22 @@ position_form =
 status_form : OfCommand (codes "status", given Status)
 status_form = spelled_alone command_text IsCommand (codes "status") Status refl tt
 
+-- an added question, and the length of its text
+abbrev IsShortAddition : AddText → Type 0
+IsShortAddition addition = IsAddText addition × (length (add_text addition) ≤ 1024)
+
+short_addition_reads : Reads read_short_addition addition_text IsShortAddition EndsWord
+short_addition_reads =
+    let tested = λ (addition : AddText). nat_le (length (add_text addition)) 1024 in
+    reads_same (passed_reads tested addition_reads)
+    (λ addition fits. (fits.0, leb-true (length (add_text addition)) 1024 (fits.1)))
+    (λ addition fits. (fits.0, le-leb (length (add_text addition)) 1024 (fits.1)))
+
+add_form : OfCommand (codes "add ", read_add)
+unfolding read_add
+add_form = spelled_by (codes "add ") (λ addition. Add addition) short_addition_reads
+    (λ addition fits. (refl, fits))
+
 abbrev Takes : Read Command → Type 0
 Takes read = (bytes : List ℕ) (c : Command) (rest : List ℕ) →
     read bytes ≡ Some (c, rest) → Took command_text IsCommand bytes c rest
@@ -194,7 +217,7 @@ Takes read = (bytes : List ℕ) (c : Command) (rest : List ℕ) →
 other_takes : Takes read_other
 unfolding read_other
 other_takes = choose_takes command_text IsCommand other_forms nothing
-    (settle_form, (bound_form, (prices_form, (position_form, (status_form, tt)))))
+    (settle_form, (bound_form, (prices_form, (position_form, (status_form, (add_form, tt))))))
     (nothing_takes command_text IsCommand)
 
 form_takes : Takes read_form
@@ -229,8 +252,8 @@ unfolding after
 ends_moves = record { follows = record { word = refl; ends = record { stopped = inr refl } }; missing = refl }
 
 form_last : (c : Command) → IsCommand c → read_form (command_text c) ≡ Some (c, [])
-unfolding read_form read_other read_prices read_position read_user read_deposit read_withdraw
-    read_price read_limits read_edit read_bounds read_spread read_worst read_resolve after
+unfolding read_form read_other read_prices read_position read_add read_user read_deposit
+    read_withdraw read_price read_limits read_edit read_bounds read_spread read_worst read_resolve after
 form_last (User user) fits = made_last (λ user. User user) name_reads user fits refl
 form_last (Deposit user bits) fits = made_last (λ parts. Deposit (parts.0) (parts.1)) user_and_bits (user, bits) fits refl
 form_last (Withdraw user bits) fits = made_last (λ parts. Withdraw (parts.0) (parts.1)) user_and_bits (user, bits) fits refl
@@ -254,6 +277,8 @@ form_last (Position user variable condition) fits =
     made_last (λ parts. Position (parts.0) (parts.1.0) (held (parts.1.1))) values_reads
     (user, (variable, condition.items)) (fits.0, (fits.1, fits.2)) ends_question
 form_last Status fits = refl
+form_last (Add addition) fits =
+    made_last (λ addition. Add addition) short_addition_reads addition fits refl
 
 pub form_tells : Tells read_form command_text IsCommand
 form_tells = record { takes = form_takes; last = form_last }

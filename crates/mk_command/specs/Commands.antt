@@ -1,5 +1,6 @@
 -- Commands, and how they are written.
-use Rattle.std.specs.Prelude.{ℕ, List, codes, decimal, Option, IfSome, ⊤}
+use Rattle.std.specs.Prelude.{ℕ, ◌≤◌, List, length, codes, decimal, Option, IfSome, ⊤}
+use Rattle.mk_addition.specs.Adds.{IsAddText, add_text}
 use Rattle.mk_net.specs.Name.{IsName}
 use Rattle.mk_text.specs.Joined.{◌&◌, perhaps_text, spaced, AreSeveral}
 use Rattle.mk_text.specs.Numbers.{IsShort}
@@ -8,7 +9,7 @@ use Rattle.mk_command.specs.declared.command.Command.{Command}
 use Rattle.mk_command.specs.declared.command.CommandRef.{CommandRef}
 use Rattle.mk_command.specs.declared.command.CommandRef.TheVariants as lent
 use Rattle.mk_command.specs.declared.command.Command.TheVariants.{User, Deposit, Withdraw, Price, Limits, Edit, Bounds, Spread, Worst, Resolve, Settle, Bound}
-use Rattle.mk_command.specs.declared.command.Command.TheVariants.{Prices, Position, Status}
+use Rattle.mk_command.specs.declared.command.Command.TheVariants.{Prices, Position, Status, Add}
 
 -- the command whose words are lent
 unfoldable pub command_of : CommandRef → Command
@@ -27,6 +28,7 @@ command_of lent.Bound = Bound
 command_of (lent.Prices variable condition) = Prices variable condition.now
 command_of (lent.Position user variable condition) = Position user variable condition.now
 command_of lent.Status = Status
+command_of (lent.Add addition) = Add addition.now
 
 -- the revision that an edit names
 abbrev pub at_text : Option ℕ → List ℕ
@@ -51,8 +53,10 @@ command_text (Prices variable condition) =
 command_text (Position user variable condition) =
     codes "position " & user & codes " " & variable & condition_text condition.items
 command_text Status = codes "status"
+command_text (Add addition) = add_text addition
 
--- the commands that have a text: their words are names, and their numbers have at most nine digits
+-- the commands that have a text: their words are names, their numbers have at most nine digits, and
+-- an added question has no longer text than a line
 abbrev pub IsCommand : Command → Type 0
 IsCommand (User user) = IsName user
 IsCommand (Deposit user bits) = IsName user × IsShort bits
@@ -71,8 +75,10 @@ IsCommand (Prices variable condition) = IsName variable × IsCondition condition
 IsCommand (Position user variable condition) =
     IsName user × IsName variable × IsCondition condition.items
 IsCommand Status = ⊤
+IsCommand (Add addition) = IsAddText addition × (length (add_text addition) ≤ 1024)
 
--- its numbers have at most nine digits, and a distribution is 2 to 16 of them
+-- its numbers have at most nine digits, a distribution is 2 to 16 of them, and the text of an added
+-- question has at most 1,024 bytes
 abbrev pub HasShortNumbers : Command → Type 0
 HasShortNumbers (User user) = ⊤
 HasShortNumbers (Deposit user bits) = IsShort bits
@@ -89,3 +95,4 @@ HasShortNumbers Bound = ⊤
 HasShortNumbers (Prices variable condition) = ⊤
 HasShortNumbers (Position user variable condition) = ⊤
 HasShortNumbers Status = ⊤
+HasShortNumbers (Add addition) = length (add_text addition) ≤ 1024

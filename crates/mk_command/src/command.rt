@@ -5,6 +5,7 @@ ghost use Rattle.mk_command.specs.Commands.{command_of};
 ghost use Rattle.mk_command.specs.inner.Kinds.{IsOfValues};
 
 use arrayvec::ArrayVec;
+use mk_addition::AddText;
 use mk_net::{Name, PairText, QuestionText};
 
 /// A line of the command stream.
@@ -81,19 +82,25 @@ pub enum Command {
     },
     /// `status`: how far is the market, and how full?
     Status,
+    /// `add V=v.. : ROWS in C.. to K`, perhaps with parents: the question V is added, and its clique
+    /// C is linked to clique K.
+    Add {
+        addition: AddText,
+    },
 }
 
-const _: () = prove!(size_of::<Command>() <= 700);
+const _: () = prove!(size_of::<Command>() <= 5700);
 
 /// The longer words of a line, which are read in place: each line is written over those of another.
 #[derive(Default, Drop)]
 pub struct Words {
     pub(crate) question: QuestionText,
     pub(crate) shares: ArrayVec<u32, 16>,
+    pub(crate) addition: AddText,
 }
 
-/// A command whose question, or condition and shares, are lent: what `Command` is, passed on
-/// without a copy of these. `command_of` in the definitions says which command it is.
+/// A command whose question, or condition and shares, or addition, are lent: what `Command` is,
+/// passed on without a copy of these. `command_of` in the definitions says which command it is.
 #[derive(Debug, Drop, PartialEq, Eq)]
 pub enum CommandRef<'a> {
     /// `user U`.
@@ -165,6 +172,10 @@ pub enum CommandRef<'a> {
     },
     /// `status`.
     Status,
+    /// `add V=v.. : ROWS in C.. to K`, perhaps with parents.
+    Add {
+        addition: &'a AddText,
+    },
 }
 
 const _: () = prove!(size_of::<CommandRef>() <= 112);
@@ -206,6 +217,7 @@ impl Command {
             Command::Settle => CommandRef::Settle,
             Command::Bound => CommandRef::Bound,
             Command::Status => CommandRef::Status,
+            Command::Add { addition } => CommandRef::Add { addition },
             Command::Bounds { .. }
             | Command::Spread { .. }
             | Command::Prices { .. }

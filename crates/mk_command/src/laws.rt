@@ -1,8 +1,10 @@
 //! Laws of the texts of commands.
 
-ghost use Rattle.std.specs.Prelude.{◌≡◌, ◌<◌, length, MatchResult};
+ghost use Rattle.std.specs.Prelude.{◌≡◌, ◌≢◌, ◌<◌, ◌≤◌, length, MatchResult};
+ghost use Rattle.mk_addition.specs.declared.add.AddText.{AddText};
 ghost use Rattle.mk_command.specs.Commands.{IsCommand, command_of, command_text};
 ghost use Rattle.mk_command.specs.declared.command.Command.{Command};
+ghost use Rattle.mk_command.specs.declared.command.Command.TheVariants.{Add};
 
 use crate::command::{Command, CommandRef, Words};
 use crate::print::print_command;
@@ -12,12 +14,15 @@ use mk_net::Syntax;
 
 /// No two commands share a text.
 pub fn one_command_each()
-    ensures { (c d : Command) → IsCommand c → IsCommand d → command_text c ≡ command_text d → c ≡ d }
+    ensures { (c d : Command) → IsCommand c → IsCommand d → command_text c ≡ command_text d →
+        c ≡ d }
 {}
 
-/// The text of each command is shorter than 1,024 bytes.
+/// The text of each command has at most 1,024 bytes, and fewer where it adds no question.
 pub fn short_commands()
-    ensures { (c : Command) → IsCommand c → length (command_text c) < 1024 }
+    ensures most { (c : Command) → IsCommand c → length (command_text c) ≤ 1024 }
+    ensures others { (c : Command) → IsCommand c → ((a : AddText) → c ≢ Add a) →
+        length (command_text c) < 1024 }
 {}
 
 /// What is read of the text of a command: the same command.

@@ -10,10 +10,13 @@ ghost use Rattle.mk_command.specs.inner.Kinds.{IsOfValues};
 
 use crate::command::Command;
 use arrayvec::ArrayString;
+use mk_addition::print_add;
 use mk_net::{Name, PairText, QuestionText};
 use mk_text::{put_condition, put_name, put_numbers, put_pair, put_question, put_short};
 
-/// Puts the text of a command into `out`, in place of what it held. Its numbers must be below 10^9.
+/// Puts the text of a command into `out`, in place of what it held. Its numbers must be below 10^9,
+/// and the text of an added question must have at most 1,024 bytes, which
+/// `mk_addition::text_length` tells.
 pub fn print_command(command: &Command, out: &mut ArrayString<1024>)
     requires { HasShortNumbers command.now }
     ensures { out.new.bytes ≡ command_text command.now }
@@ -55,6 +58,7 @@ pub fn print_command(command: &Command, out: &mut ArrayString<1024>)
         Command::Settle => out.push_str("settle"),
         Command::Bound => out.push_str("bound"),
         Command::Status => out.push_str("status"),
+        Command::Add { addition } => print_add(addition, out),
         _ => put_of_values(out, command),
     }
 }

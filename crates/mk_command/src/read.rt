@@ -3,11 +3,15 @@
 ghost use Rattle.std.specs.Prelude.{◌≡◌, ◌≢◌, ◌<◌, ◌^◌, IfOk, OnErr, option_map};
 ghost use Rattle.mk_text.specs.Reading.{Finds, read_short};
 ghost use Rattle.mk_command.specs.Commands.{IsCommand, command_of, command_text};
-ghost use Rattle.mk_command.specs.inner.Reading.{read_user, read_deposit, read_withdraw, read_price, read_limits, read_edit, read_at, read_bounds, read_spread, read_worst, read_resolve, read_form};
-ghost use Rattle.mk_command.specs.inner.Reading.{read_prices, read_position, read_other};
+ghost use Rattle.mk_command.specs.inner.Reading.{read_user, read_deposit, read_withdraw};
+ghost use Rattle.mk_command.specs.inner.Reading.{read_price, read_limits, read_edit, read_at};
+ghost use Rattle.mk_command.specs.inner.Reading.{read_bounds, read_spread, read_worst};
+ghost use Rattle.mk_command.specs.inner.Reading.{read_resolve, read_prices, read_position};
+ghost use Rattle.mk_command.specs.inner.Reading.{read_add, read_other, read_form};
 ghost use Rattle.mk_command.specs.declared.command.Command.{Command};
 
 use crate::command::{CommandRef, Words};
+use mk_addition::{read_addition, text_length};
 use mk_net::Syntax;
 use mk_text::{Item, Reader, several};
 
@@ -87,6 +91,9 @@ fn other<'a>(reader: &mut Reader, words: &'a mut Words) -> Option<CommandRef<'a>
     }
     if reader.skip(b"status") {
         return Some(CommandRef::Status);
+    }
+    if reader.skip(b"add ") {
+        return add(reader, words);
     }
     None
 }
@@ -262,6 +269,20 @@ fn position<'a>(reader: &mut Reader, words: &'a mut Words) -> Option<CommandRef<
         variable,
         condition,
     })
+}
+
+// A line has no more than 1,024 bytes, and so has the text of an added question.
+#[inline(never)]
+#[tactic(auto, unfolding(crate::specs::inner::Reading::read_add, crate::specs::Commands::command_of))]
+fn add<'a>(reader: &mut Reader, words: &'a mut Words) -> Option<CommandRef<'a>>
+    ensures { Finds (option_map command_of result) reader.new (read_add reader.old) }
+{
+    read_addition(reader, &mut words.addition)?;
+    let addition = &words.addition;
+    if text_length(addition) > 1024 {
+        return None;
+    }
+    Some(CommandRef::Add { addition })
 }
 
 /// A number of at most nine digits.

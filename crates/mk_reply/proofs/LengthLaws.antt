@@ -6,6 +6,7 @@ use Rattle.std.proofs.Math.Nat.{mul-le-mul_left}
 use Rattle.mk_text.specs.Joined.{items_text, spaced, AreSeveral}
 use Rattle.mk_text.specs.Numbers.{IsLong, IsNarrow, price_text, limits_text, IsInterval, interval_text, AreIntervals, intervals_text}
 use Rattle.mk_text.specs.Numbers.{ArePrices, prices_text, AreEnds, ends_text}
+use Rattle.mk_text.proofs.LengthLaws.{short_length}
 use Rattle.mk_text.proofs.LengthLaws.{long_length, pair_length, price_length, limits_length, items_length}
 use Rattle.mk_text.proofs.PartLaws.{interval_ends}
 use Rattle.mk_reply.specs.Refusals.{refusal_text, given_in, IsRefusal}
@@ -13,9 +14,12 @@ use Rattle.mk_reply.specs.Replies.{reply_text, at_text, payment_text, IsRatio, I
 use Rattle.mk_reply.specs.declared.payments.Payment.{Payment}
 use Rattle.mk_reply.specs.declared.reply.Reply.{Reply}
 use Rattle.mk_reply.specs.declared.reply.Reply.TheVariants.{Joined, Deposited, Withdrawn, Price, Limits, Traded, Bounded, Spreaded, Worst, Resolved, Settled, Bound, Refused}
-use Rattle.mk_reply.specs.declared.reply.Reply.TheVariants.{Prices, Position, Status}
+use Rattle.mk_reply.specs.declared.reply.Reply.TheVariants.{Prices, Position, Status, Added}
 use Rattle.mk_reply.specs.declared.refusal.Refusal.{Refusal}
 use Rattle.mk_reply.specs.declared.refusal.Refusal.TheVariants.{Syntax, Long, Settled as Over, User, Exists, Users, Unknown, Twice, Stale, Resolved as Known, Impossible, Wide, Range, Full, Beyond, Short, Unresolved, NoVariable, Numbers, Sum, Outside, Sure, Memory}
+use Rattle.mk_reply.specs.declared.refusal.Refusal.TheVariants.{Variables, Taken, ValueTwice}
+use Rattle.mk_reply.specs.declared.refusal.Refusal.TheVariants.{RowCount, RowWidth, Cells, Link}
+use Rattle.mk_reply.specs.declared.refusal.Refusal.TheVariants.{Uncovered, NotRunning}
 
 at_length : (at : ℕ) → IsLong at → length (at_text at) ≤ 23
 at_length at long = simp length-append (omega (arith, long_length at long))
@@ -78,6 +82,17 @@ refusal_length (Sum sum) fits = simp length-append (omega (arith, narrow_length 
 refusal_length (Outside intervals) fits =
     omega (arith, length-append (codes "outside ") (intervals_text (given_in intervals)), intervals_length (given_in intervals) fits)
 refusal_length (Sure pair) fits = simp length-append (omega (arith, pair_length pair fits))
+refusal_length (Variables held) fits =
+    simp length-append (omega (arith, narrow_length held (omega (arith, fits))))
+refusal_length (Taken variable) fits = simp length-append (omega (arith, fits.short))
+refusal_length (ValueTwice value) fits = simp length-append (omega (arith, fits.short))
+refusal_length (RowCount given) fits = simp length-append (omega (arith, short_length given fits))
+refusal_length (RowWidth row given) fits =
+    simp length-append (omega (arith, short_length row fits.0, short_length given fits.1))
+refusal_length (Cells total) fits = simp length-append (omega (arith, short_length total fits))
+refusal_length (Link number) fits = simp length-append (omega (arith, short_length number fits))
+refusal_length (Uncovered variable) fits = simp length-append (omega (arith, fits.short))
+refusal_length (NotRunning variable) fits = simp length-append (omega (arith, fits.short))
 refusal_length Memory fits = omega arith
 
 two_lengths : (a b : List ℕ) (m n : ℕ) → length a ≤ m → length b ≤ n → length (a ++ b) ≤ m + n
@@ -154,4 +169,6 @@ reply_length (Status at users trades most transfers most_transfers unresolved qu
     let left = narrow_length unresolved fits.6 in
     let all = narrow_length questions fits.7 in
     simp length-append (omega arith)
+reply_length (Added variable at) fits =
+    simp length-append (omega (arith, fits.0.short, long_length at fits.1))
 reply_length (Refused why) fits = omega (arith, length-append (codes "refused ") (refusal_text why), refusal_length why fits)

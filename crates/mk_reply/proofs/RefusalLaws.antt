@@ -3,17 +3,22 @@ use Rattle.std.specs.Prelude.{◌≡◌, ℕ, ◌^◌, List, [], ◌++◌, codes
 use Rattle.arrayvec.specs.ArrayVec.{ArrayVec}
 use Rattle.std.proofs.Common.{refl, sym, ap, subst, lit≤, arith, append-nil, inr}
 use Rattle.std.proofs.lemmas.Bool.{eqb-true, eq-eqb}
-use Rattle.mk_text.specs.Numbers.{IsLong, IsNarrow}
+use Rattle.mk_text.specs.Numbers.{IsShort, IsLong, IsNarrow}
 use Rattle.mk_text.specs.Words.{after, EndsWord}
-use Rattle.mk_text.specs.Reading.{Read, both, behind, given, nothing}
+use Rattle.mk_text.specs.Reading.{Read, both, behind, made, given, nothing, read_short}
 use Rattle.mk_text.proofs.ReadingLaws.{Took, Reads, Spelled, BothFit, both_text, behind_text, both_reads, behind_reads, passed_reads, reads_same, spelled_by, spelled_alone, choose_takes, nothing_takes, made_last}
 use Rattle.mk_text.proofs.PartLaws.{EndsSeveral, name_reads, number_reads, short_reads, pair_reads, limits_reads, intervals_reads}
 use Rattle.mk_net.specs.Bounds.{max_users}
 use Rattle.mk_text.specs.Numbers.{AreIntervals, intervals_text}
 use Rattle.mk_reply.specs.Refusals.{refusal_text, given_in, IsRefusal}
+use Rattle.mk_reply.specs.Reading.{read_width, not_added_forms, miscounted_forms}
+use Rattle.mk_reply.specs.Reading.{read_not_added, read_miscounted}
 use Rattle.mk_reply.specs.Reading.{read_long, read_narrow, read_held, read_stale, plain_forms, named_forms, paired_forms, numbered_forms, spread_out_forms, boxed, read_spread_out, read_numbered, read_paired, read_named, read_refusal}
 use Rattle.mk_reply.specs.declared.refusal.Refusal.{Refusal}
 use Rattle.mk_reply.specs.declared.refusal.Refusal.TheVariants.{Syntax, Long, Settled, User, Exists, Users, Unknown, Twice, Stale, Resolved, Impossible, Wide, Range, Full, Beyond, Short, Unresolved, NoVariable, Numbers, Sum, Outside, Sure, Memory}
+use Rattle.mk_reply.specs.declared.refusal.Refusal.TheVariants.{Variables, Taken, ValueTwice}
+use Rattle.mk_reply.specs.declared.refusal.Refusal.TheVariants.{RowCount, RowWidth, Cells, Link}
+use Rattle.mk_reply.specs.declared.refusal.Refusal.TheVariants.{Uncovered, NotRunning}
 
 pub long_reads : Reads read_long decimal IsLong EndsWord
 unfolding read_long
@@ -50,6 +55,16 @@ stale_form : OfRefusal (codes "stale ", read_stale)
 unfolding read_stale
 stale_form = spelled_by (codes "stale ") (λ parts. Stale (parts.0) (parts.1)) stale_parts (λ parts fits. (refl, fits))
 
+width_parts : Reads (both read_short (behind (codes " ") read_short)) stale_text
+    (BothFit IsShort IsShort) EndsWord
+width_parts =
+    both_reads short_reads (behind_reads (codes " ") short_reads) (λ given rest fits ends. refl)
+
+width_form : OfRefusal (codes "width ", read_width)
+unfolding read_width
+width_form = spelled_by (codes "width ") (λ parts. RowWidth (parts.0) (parts.1)) width_parts
+    (λ parts fits. (refl, fits))
+
 abbrev Takes : Read Refusal → Type 0
 Takes read = (bytes : List ℕ) (why : Refusal) (rest : List ℕ) → read bytes ≡ Some (why, rest) → Took refusal_text IsRefusal bytes why rest
 
@@ -62,9 +77,46 @@ pub given_same : (intervals : Option (List (ℕ × ℕ))) → given_in (boxed in
 given_same None = refl
 given_same (Some intervals) = refl
 
+miscounted_takes : Takes read_miscounted
+unfolding read_miscounted
+miscounted_takes =
+    let variables : OfRefusal (codes "variables ", made (λ held. Variables held) read_held)
+    = spelled_by (codes "variables ") (λ held. Variables held) held_reads
+    (λ held fits. (refl, fits)) in
+    let rows : OfRefusal (codes "rows ", made (λ given. RowCount given) read_short)
+    = spelled_by (codes "rows ") (λ given. RowCount given) short_reads
+    (λ given fits. (refl, fits)) in
+    let cells : OfRefusal (codes "cells ", made (λ total. Cells total) read_short)
+    = spelled_by (codes "cells ") (λ total. Cells total) short_reads
+    (λ total fits. (refl, fits)) in
+    let link : OfRefusal (codes "link ", made (λ number. Link number) read_short)
+    = spelled_by (codes "link ") (λ number. Link number) short_reads
+    (λ number fits. (refl, fits)) in
+    choose_takes refusal_text IsRefusal miscounted_forms nothing
+    (variables, (rows, (width_form, (cells, (link, tt)))))
+    (nothing_takes refusal_text IsRefusal)
+
+not_added_takes : Takes read_not_added
+unfolding read_not_added
+not_added_takes = choose_takes refusal_text IsRefusal not_added_forms read_miscounted (
+  spelled_by (codes "taken ") (λ variable. Taken variable) name_reads (λ name fits. (refl, fits)),
+  (
+    spelled_by (codes "value ") (λ value. ValueTwice value) name_reads (λ name fits. (refl, fits)),
+    (
+      spelled_by (codes "cover ") (λ variable. Uncovered variable) name_reads
+          (λ name fits. (refl, fits)),
+      (
+        spelled_by (codes "running ") (λ variable. NotRunning variable) name_reads
+            (λ name fits. (refl, fits)),
+        tt,
+      ),
+    ),
+  ),
+) miscounted_takes
+
 spread_out_takes : Takes read_spread_out
 unfolding read_spread_out
-spread_out_takes = choose_takes refusal_text IsRefusal spread_out_forms nothing (
+spread_out_takes = choose_takes refusal_text IsRefusal spread_out_forms read_not_added (
   spelled_by (codes "numbers ") (λ given. Numbers given) short_reads (λ given fits. (refl, fits)),
   (
     spelled_by (codes "sum ") (λ sum. Sum sum) short_reads (λ sum fits. (refl, fits)),
@@ -75,7 +127,7 @@ spread_out_takes = choose_takes refusal_text IsRefusal spread_out_forms nothing 
     ),
   ),
 )
-    (nothing_takes refusal_text IsRefusal)
+    not_added_takes
 
 numbered_takes : Takes read_numbered
 unfolding read_numbered
@@ -146,7 +198,8 @@ unfolding after
 ends_several = record { word = refl; ends = record { stopped = inr refl } }
 
 refusal_last : (why : Refusal) → IsRefusal why → read_refusal (refusal_text why) ≡ Some (why, [])
-unfolding read_refusal read_named read_paired read_numbered read_spread_out read_stale after
+unfolding read_refusal read_named read_paired read_numbered read_spread_out read_not_added
+    read_miscounted read_stale read_width after
 refusal_last Syntax fits = refl
 refusal_last Long fits = refl
 refusal_last Settled fits = refl
@@ -170,6 +223,21 @@ refusal_last (Sum sum) fits = made_last (λ sum. Sum sum) short_reads sum fits r
 refusal_last (Outside None) fits = made_last (λ intervals. Outside (boxed intervals)) intervals_reads None fits ends_several
 refusal_last (Outside (Some intervals)) fits = made_last (λ intervals. Outside (boxed intervals)) intervals_reads (Some (intervals.items)) fits ends_several
 refusal_last (Sure pair) fits = made_last (λ pair. Sure pair) pair_reads pair fits refl
+refusal_last (Variables held) fits = made_last (λ held. Variables held) held_reads held fits refl
+refusal_last (Taken variable) fits =
+    made_last (λ variable. Taken variable) name_reads variable fits refl
+refusal_last (ValueTwice value) fits =
+    made_last (λ value. ValueTwice value) name_reads value fits refl
+refusal_last (RowCount given) fits =
+    made_last (λ given. RowCount given) short_reads given fits refl
+refusal_last (RowWidth row given) fits =
+    made_last (λ parts. RowWidth (parts.0) (parts.1)) width_parts (row, given) fits refl
+refusal_last (Cells total) fits = made_last (λ total. Cells total) short_reads total fits refl
+refusal_last (Link number) fits = made_last (λ number. Link number) short_reads number fits refl
+refusal_last (Uncovered variable) fits =
+    made_last (λ variable. Uncovered variable) name_reads variable fits refl
+refusal_last (NotRunning variable) fits =
+    made_last (λ variable. NotRunning variable) name_reads variable fits refl
 refusal_last Memory fits = refl
 
 -- a refusal is the last thing of a text

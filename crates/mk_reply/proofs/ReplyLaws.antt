@@ -15,6 +15,7 @@ use Rattle.mk_reply.specs.Replies.{reply_text, at_text, payment_text, IsRatio, I
 use Rattle.mk_reply.specs.Replies.{IsUnread, BeginsWithRevision, BeginsSettlement}
 use Rattle.mk_reply.specs.Reading.{read_long, dated, boxed, read_joined, read_moved, read_prices, read_limited, read_traded, read_bounded, read_spreaded, read_worst, read_bound, read_resolved, read_payment, read_payments, read_settled, read_refusal, other_forms, read_other, read_form}
 use Rattle.mk_reply.specs.Reading.{read_all_prices, read_position, read_status, status_of}
+use Rattle.mk_reply.specs.Reading.{read_added}
 use Rattle.mk_reply.specs.Reading.{later_forms, read_later}
 use Rattle.mk_text.proofs.SpanLaws.{all_prices_reads, all_ends_reads}
 use Rattle.mk_reply.proofs.ToldLaws.{all_prices_form, position_form, status_form}
@@ -23,7 +24,7 @@ use Rattle.mk_reply.proofs.RefusalLaws.{long_reads, narrow_reads, given_same, re
 use Rattle.mk_reply.specs.declared.payments.Payment.{Payment}
 use Rattle.mk_reply.specs.declared.reply.Reply.{Reply}
 use Rattle.mk_reply.specs.declared.reply.Reply.TheVariants.{Joined, Deposited, Withdrawn, Price, Limits, Traded, Bounded, Spreaded, Worst, Resolved, Settled, Bound, Refused}
-use Rattle.mk_reply.specs.declared.reply.Reply.TheVariants.{Prices, Position, Status}
+use Rattle.mk_reply.specs.declared.reply.Reply.TheVariants.{Prices, Position, Status, Added}
 use Rattle.mk_reply.specs.declared.unread.Unread.{Unread}
 use Rattle.mk_reply.specs.declared.unread.Unread.TheVariants.{Syntax, Memory}
 
@@ -189,6 +190,11 @@ settled_form = spelled_by (codes "settle") (λ parts. Settled (parts.0) (parts.1
 refused_form : OfReply (codes "refused ", made (λ why. Refused why) read_refusal)
 refused_form = spelled_by (codes "refused ") (λ why. Refused why) refusal_reads (λ why fits. (refl, fits))
 
+added_form : OfReply (codes "add ", read_added)
+unfolding read_added
+added_form = spelled_by (codes "add ") (λ parts. Added (parts.0) (parts.1)) (dated_reads name_reads)
+    (λ parts fits. (refl, fits))
+
 abbrev Takes : Read Reply → Type 0
 Takes read = (bytes : List ℕ) (r : Reply) (rest : List ℕ) →
     read bytes ≡ Some (r, rest) → Took reply_text IsReply bytes r rest
@@ -196,7 +202,7 @@ Takes read = (bytes : List ℕ) (r : Reply) (rest : List ℕ) →
 later_takes : Takes read_later
 unfolding read_later
 later_takes = choose_takes reply_text IsReply later_forms nothing
-    (bound_form, (all_prices_form, (position_form, (status_form, tt))))
+    (bound_form, (all_prices_form, (position_form, (status_form, (added_form, tt)))))
     (nothing_takes reply_text IsReply)
 
 other_takes : Takes read_other
@@ -231,7 +237,8 @@ unfolding after
 ends_payments = record { follows = refl; missing = refl }
 
 form_last : (r : Reply) → IsReply r → read_form (reply_text r) ≡ Some (r, [])
-unfolding read_form read_other read_later read_all_prices read_position read_status read_joined
+unfolding read_form read_other read_later read_all_prices read_position read_status read_added
+    read_joined
     read_prices read_limited read_traded read_bounded read_spreaded read_worst read_bound
     read_resolved read_settled after
 form_last (Joined user at) fits = made_last (λ parts. Joined (parts.0) (parts.1)) (dated_reads name_reads) (user, at) fits refl
@@ -259,6 +266,8 @@ form_last (Status at users trades most transfers most_transfers unresolved quest
     made_last status_of status_parts
     (at, (users, ((trades, most), ((transfers, most_transfers), (unresolved, questions)))))
     (fits.0, (fits.1, ((fits.2, fits.3), ((fits.4, fits.5), (fits.6, fits.7))))) refl
+form_last (Added variable at) fits =
+    made_last (λ parts. Added (parts.0) (parts.1)) (dated_reads name_reads) (variable, at) fits refl
 form_last (Refused why) fits = made_last (λ why. Refused why) refusal_reads why fits refl
 
 pub form_tells : Tells read_form reply_text IsReply

@@ -6,10 +6,13 @@ use Rattle.mk_text.specs.Reading.{read_two_prices, read_ends}
 use Rattle.mk_net.specs.Bounds.{max_users}
 use Rattle.mk_reply.specs.declared.refusal.Refusal.{Refusal}
 use Rattle.mk_reply.specs.declared.refusal.Refusal.TheVariants.{Syntax, Long, Settled, User, Exists, Users, Unknown, Twice, Stale, Resolved, Impossible, Wide, Range, Full, Beyond, Short, Unresolved, NoVariable, Numbers, Sum, Outside, Sure, Memory}
+use Rattle.mk_reply.specs.declared.refusal.Refusal.TheVariants.{Variables, Taken, ValueTwice}
+use Rattle.mk_reply.specs.declared.refusal.Refusal.TheVariants.{RowCount, RowWidth, Cells, Link}
+use Rattle.mk_reply.specs.declared.refusal.Refusal.TheVariants.{Uncovered, NotRunning}
 use Rattle.mk_reply.specs.declared.payments.Payment.{Payment}
 use Rattle.mk_reply.specs.declared.reply.Reply.{Reply}
 use Rattle.mk_reply.specs.declared.reply.Reply.TheVariants.{Joined, Deposited, Withdrawn, Price, Limits as Limited, Traded, Bounded, Spreaded, Worst, Resolved as ResolvedPair, Settled as AllSettled, Bound, Refused}
-use Rattle.mk_reply.specs.declared.reply.Reply.TheVariants.{Prices, Position, Status}
+use Rattle.mk_reply.specs.declared.reply.Reply.TheVariants.{Prices, Position, Status, Added}
 
 unfoldable pub read_long : Read ℕ
 read_long = read_number (2 ^ 63)
@@ -22,13 +25,20 @@ read_narrow = read_number (2 ^ 32)
 abbrev pub boxed : Option (List (ℕ × ℕ)) → Option (ArrayVec (ℕ × ℕ))
 boxed intervals = option_map (λ given. record { items = given }) intervals
 
+-- the number of users, and of variables, that a market holds at most
 unfoldable pub read_held : Read ℕ
 read_held = passed (λ n. n == max_users) read_narrow
 
 unfoldable pub read_stale : Read Refusal
 read_stale = made (λ parts. Stale (parts.0) (parts.1)) (both read_narrow (behind (codes " ") read_long))
 
--- refusals without parts, with a name, with a pair, with numbers, and of a whole distribution
+-- a row of an added question, and how many numbers it gives
+unfoldable pub read_width : Read Refusal
+read_width =
+    made (λ parts. RowWidth (parts.0) (parts.1)) (both read_short (behind (codes " ") read_short))
+
+-- refusals without parts, with a name, with a pair, with numbers, and of a whole distribution, and
+-- those of an added question with a name and with numbers
 abbrev pub plain_forms : List (List ℕ × Read Refusal)
 plain_forms =
     (codes "syntax", given Syntax)
@@ -72,8 +82,31 @@ spread_out_forms =
     ∷ (codes "outside ", made (λ intervals. Outside (boxed intervals)) read_intervals)
     ∷ []
 
+abbrev pub not_added_forms : List (List ℕ × Read Refusal)
+not_added_forms =
+    (codes "taken ", made (λ variable. Taken variable) read_name)
+    ∷ (codes "value ", made (λ value. ValueTwice value) read_name)
+    ∷ (codes "cover ", made (λ variable. Uncovered variable) read_name)
+    ∷ (codes "running ", made (λ variable. NotRunning variable) read_name)
+    ∷ []
+
+abbrev pub miscounted_forms : List (List ℕ × Read Refusal)
+miscounted_forms =
+    (codes "variables ", made (λ held. Variables held) read_held)
+    ∷ (codes "rows ", made (λ given. RowCount given) read_short)
+    ∷ (codes "width ", read_width)
+    ∷ (codes "cells ", made (λ total. Cells total) read_short)
+    ∷ (codes "link ", made (λ number. Link number) read_short)
+    ∷ []
+
+unfoldable pub read_miscounted : Read Refusal
+read_miscounted = choose miscounted_forms nothing
+
+unfoldable pub read_not_added : Read Refusal
+read_not_added = choose not_added_forms read_miscounted
+
 unfoldable pub read_spread_out : Read Refusal
-read_spread_out = choose spread_out_forms nothing
+read_spread_out = choose spread_out_forms read_not_added
 
 unfoldable pub read_numbered : Read Refusal
 read_numbered = choose numbered_forms read_spread_out
@@ -93,6 +126,9 @@ dated read = both read (behind (codes " at ") read_long)
 
 unfoldable pub read_joined : Read Reply
 read_joined = made (λ parts. Joined (parts.0) (parts.1)) (dated read_name)
+
+unfoldable pub read_added : Read Reply
+read_added = made (λ parts. Added (parts.0) (parts.1)) (dated read_name)
 
 -- a user, a number of bits and the revision
 unfoldable pub read_moved : Read (List ℕ × (ℕ × ℕ))
@@ -182,6 +218,7 @@ later_forms =
     ∷ (codes "prices ", read_all_prices)
     ∷ (codes "position ", read_position)
     ∷ (codes "status at ", read_status)
+    ∷ (codes "add ", read_added)
     ∷ []
 
 unfoldable pub read_later : Read Reply

@@ -1,13 +1,16 @@
 -- Refusals, and how they are written.
 use Rattle.std.specs.Prelude.{◌≡◌, ℕ, List, codes, decimal, ⊤, Option, option_map}
 use Rattle.arrayvec.specs.ArrayVec.{ArrayVec}
-use Rattle.mk_net.specs.Bounds.{max_users}
+use Rattle.mk_net.specs.Bounds.{max_users, max_variables}
 use Rattle.mk_net.specs.Name.{IsName}
 use Rattle.mk_text.specs.Joined.{◌&◌}
 use Rattle.mk_text.specs.Numbers.{IsShort, IsLong, IsNarrow, AreLimits, limits_text, AreIntervals, intervals_text}
 use Rattle.mk_text.specs.Texts.{IsPairText, pair_text}
 use Rattle.mk_reply.specs.declared.refusal.Refusal.{Refusal}
 use Rattle.mk_reply.specs.declared.refusal.Refusal.TheVariants.{Syntax, Long, Settled, User, Exists, Users, Unknown, Twice, Stale, Resolved, Impossible, Wide, Range, Full, Beyond, Short, Unresolved, NoVariable, Numbers, Sum, Outside, Sure, Memory}
+use Rattle.mk_reply.specs.declared.refusal.Refusal.TheVariants.{Variables, Taken, ValueTwice}
+use Rattle.mk_reply.specs.declared.refusal.Refusal.TheVariants.{RowCount, RowWidth, Cells, Link}
+use Rattle.mk_reply.specs.declared.refusal.Refusal.TheVariants.{Uncovered, NotRunning}
 
 -- the intervals that are given, if there are any
 abbrev pub given_in : Option (ArrayVec (ℕ × ℕ)) → Option (List (ℕ × ℕ))
@@ -36,6 +39,15 @@ refusal_text (Numbers given) = codes "numbers " & decimal given
 refusal_text (Sum sum) = codes "sum " & decimal sum
 refusal_text (Outside intervals) = codes "outside " & intervals_text (given_in intervals)
 refusal_text (Sure pair) = codes "sure " & pair_text pair
+refusal_text (Variables held) = codes "variables " & decimal held
+refusal_text (Taken variable) = codes "taken " & variable
+refusal_text (ValueTwice value) = codes "value " & value
+refusal_text (RowCount given) = codes "rows " & decimal given
+refusal_text (RowWidth row given) = codes "width " & decimal row & codes " " & decimal given
+refusal_text (Cells total) = codes "cells " & decimal total
+refusal_text (Link number) = codes "link " & decimal number
+refusal_text (Uncovered variable) = codes "cover " & variable
+refusal_text (NotRunning variable) = codes "running " & variable
 refusal_text Memory = codes "memory"
 
 -- the refusals that are read
@@ -62,4 +74,13 @@ IsRefusal (Numbers given) = IsShort given
 IsRefusal (Sum sum) = IsShort sum
 IsRefusal (Outside intervals) = AreIntervals (given_in intervals)
 IsRefusal (Sure pair) = IsPairText pair
+IsRefusal (Variables held) = held ≡ max_variables
+IsRefusal (Taken variable) = IsName variable
+IsRefusal (ValueTwice value) = IsName value
+IsRefusal (RowCount given) = IsShort given
+IsRefusal (RowWidth row given) = IsShort row × IsShort given
+IsRefusal (Cells total) = IsShort total
+IsRefusal (Link number) = IsShort number
+IsRefusal (Uncovered variable) = IsName variable
+IsRefusal (NotRunning variable) = IsName variable
 IsRefusal Memory = ⊤

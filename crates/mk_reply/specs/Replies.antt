@@ -10,7 +10,7 @@ use Rattle.mk_reply.specs.Refusals.{refusal_text, given_in, IsRefusal}
 use Rattle.mk_reply.specs.declared.payments.Payment.{Payment}
 use Rattle.mk_reply.specs.declared.reply.Reply.{Reply}
 use Rattle.mk_reply.specs.declared.reply.Reply.TheVariants.{Joined, Deposited, Withdrawn, Price, Limits, Traded, Bounded, Spreaded, Worst, Resolved, Settled, Bound, Refused}
-use Rattle.mk_reply.specs.declared.reply.Reply.TheVariants.{Prices, Position, Status}
+use Rattle.mk_reply.specs.declared.reply.Reply.TheVariants.{Prices, Position, Status, Added}
 use Rattle.mk_reply.specs.declared.unread.Unread.{Unread}
 use Rattle.mk_reply.specs.declared.unread.Unread.TheVariants.{Syntax, Memory}
 
@@ -45,6 +45,7 @@ reply_text (Status at users trades most transfers most_transfers unresolved ques
     & codes " trades " & of_text (trades, most)
     & codes " transfers " & of_text (transfers, most_transfers)
     & codes " open " & of_text (unresolved, questions)
+reply_text (Added variable at) = codes "add " & variable & at_text at
 reply_text (Refused why) = codes "refused " & refusal_text why
 
 -- a ratio of a trade
@@ -86,6 +87,7 @@ IsReply (Position intervals) = AreSeveral AreEnds intervals.items
 IsReply (Status at users trades most transfers most_transfers unresolved questions) =
     IsLong at × IsNarrow users × IsNarrow trades × IsNarrow most
     × IsNarrow transfers × IsNarrow most_transfers × IsNarrow unresolved × IsNarrow questions
+IsReply (Added variable at) = IsName variable × IsLong at
 IsReply (Refused why) = IsRefusal why
 
 -- bytes that are not read: the text of no reply, or the front of a settlement, for which memory was wanting

@@ -29,10 +29,7 @@ pub fn print_reply(reply: &Reply, out: &mut ArrayString<32768>)
 {
     out.clear();
     match reply {
-        Reply::Joined { user, at } => {
-            put_named(out, "user ", user);
-            put_at(out, *at);
-        }
+        Reply::Joined { user, at } => put_dated(out, "user ", user, *at),
         Reply::Deposited { user, bits, at } => {
             put_named(out, "deposit ", user);
             put_counted(out, " ", *bits as u64);
@@ -58,6 +55,7 @@ pub fn print_reply(reply: &Reply, out: &mut ArrayString<32768>)
             put_at(out, *at);
             put_payments(out, payments.rows());
         }
+        Reply::Added { variable, at } => put_dated(out, "add ", variable, *at),
         Reply::Refused { why } => {
             out.push_str("refused ");
             put_refusal(out, why);
@@ -121,6 +119,15 @@ fn put_named(out: &mut Text, word: &str, name: &Name)
 {
     out.push_str(word);
     put_name(out, name);
+}
+
+fn put_dated(out: &mut Text, word: &str, name: &Name, at: u64)
+    requires { array_string_len out.old + length word.now + 56 ≤ 32768 }
+    ensures text { out.new.bytes ≡ out.old.bytes ++ (word.now ++ (name.now ++ at_text at)) }
+    ensures growth { array_string_len out.new ≤ array_string_len out.old + length word.now + 56 }
+{
+    put_named(out, word, name);
+    put_at(out, at);
 }
 
 fn put_paired(out: &mut Text, word: &str, pair: &PairText)
@@ -263,6 +270,18 @@ fn put_refusal(out: &mut Text, why: &Refusal)
         Refusal::Sum { sum } => put_counted(out, "sum ", *sum as u64),
         Refusal::Outside { intervals } => put_given(out, "outside ", intervals),
         Refusal::Sure { pair } => put_paired(out, "sure ", pair),
+        Refusal::Variables { held } => put_counted(out, "variables ", *held as u64),
+        Refusal::Taken { variable } => put_named(out, "taken ", variable),
+        Refusal::ValueTwice { value } => put_named(out, "value ", value),
+        Refusal::RowCount { given } => put_counted(out, "rows ", *given as u64),
+        Refusal::RowWidth { row, given } => {
+            put_counted(out, "width ", *row as u64);
+            put_counted(out, " ", *given as u64);
+        }
+        Refusal::Cells { total } => put_counted(out, "cells ", *total as u64),
+        Refusal::Link { number } => put_counted(out, "link ", *number as u64),
+        Refusal::Uncovered { variable } => put_named(out, "cover ", variable),
+        Refusal::NotRunning { variable } => put_named(out, "running ", variable),
         Refusal::Memory => out.push_str("memory"),
     }
 }

@@ -5,7 +5,7 @@ ghost use Rattle.mk_text.specs.Reading.{Finds, behind};
 ghost use Rattle.mk_reply.specs.Replies.{IsReply, reply_text, IsUnread, IsCausedBy};
 ghost use Rattle.mk_reply.specs.Replies.{BeginsSettlement, BeginsWithRevision};
 ghost use Rattle.mk_reply.specs.Reading.{read_long, read_joined, read_moved, read_prices, read_limited, read_traded, read_bounded, read_spreaded, read_worst, read_bound, read_resolved, read_payment, read_payments, read_settled, read_other, read_form};
-ghost use Rattle.mk_reply.specs.Reading.{read_all_prices, read_position, read_later};
+ghost use Rattle.mk_reply.specs.Reading.{read_all_prices, read_position, read_added, read_later};
 ghost use Rattle.mk_reply.specs.Reading.{read_of, read_transfers, read_status};
 
 use crate::payments::{Payment, Payments};
@@ -107,6 +107,9 @@ fn later(reader: &mut Reader) -> Option<Reply>
     }
     if reader.skip(b"status at ") {
         return status(reader);
+    }
+    if reader.skip(b"add ") {
+        return added(reader);
     }
     None
 }
@@ -271,6 +274,15 @@ fn resolved(reader: &mut Reader) -> Option<Reply>
     let pair = reader.pair()?;
     let at = revision(reader)?;
     Some(Reply::Resolved { pair, at })
+}
+
+#[tactic(auto, unfolding(crate::specs::Reading::read_added))]
+fn added(reader: &mut Reader) -> Option<Reply>
+    ensures { Finds result reader.new (read_added reader.old) }
+{
+    let variable = reader.name()?;
+    let at = revision(reader)?;
+    Some(Reply::Added { variable, at })
 }
 
 #[tactic(auto, unfolding(crate::specs::Reading::read_settled))]

@@ -2,7 +2,9 @@
 
 ghost use Rattle.std.specs.Prelude.{◌≡◌, ◌^◌, ◌<◌, IfSome};
 ghost use Rattle.mk_text.specs.Reading.{Finds};
-ghost use Rattle.mk_reply.specs.Reading.{read_long, read_narrow, read_held, read_stale, read_refusal, read_named, read_paired, read_numbered, read_spread_out};
+ghost use Rattle.mk_reply.specs.Reading.{read_long, read_narrow, read_held, read_stale, read_width};
+ghost use Rattle.mk_reply.specs.Reading.{read_refusal, read_named, read_paired, read_numbered};
+ghost use Rattle.mk_reply.specs.Reading.{read_spread_out, read_not_added, read_miscounted};
 
 use crate::refusal::Refusal;
 use mk_text::{Item, Reader, intervals};
@@ -130,7 +132,68 @@ fn spread_out(reader: &mut Reader) -> Option<Refusal>
         let intervals = intervals(reader)?;
         return Some(Refusal::Outside { intervals });
     }
+    not_added(reader)
+}
+
+// The refusals of an added question that give a name.
+#[tactic(auto, unfolding(crate::specs::Reading::read_not_added))]
+fn not_added(reader: &mut Reader) -> Option<Refusal>
+    ensures { Finds result reader.new (read_not_added reader.old) }
+{
+    if reader.skip(b"taken ") {
+        let variable = reader.name()?;
+        return Some(Refusal::Taken { variable });
+    }
+    if reader.skip(b"value ") {
+        let value = reader.name()?;
+        return Some(Refusal::ValueTwice { value });
+    }
+    if reader.skip(b"cover ") {
+        let variable = reader.name()?;
+        return Some(Refusal::Uncovered { variable });
+    }
+    if reader.skip(b"running ") {
+        let variable = reader.name()?;
+        return Some(Refusal::NotRunning { variable });
+    }
+    miscounted(reader)
+}
+
+// The refusals of an added question that give numbers.
+#[tactic(auto, unfolding(crate::specs::Reading::read_miscounted))]
+fn miscounted(reader: &mut Reader) -> Option<Refusal>
+    ensures { Finds result reader.new (read_miscounted reader.old) }
+{
+    if reader.skip(b"variables ") {
+        let held = held(reader)?;
+        return Some(Refusal::Variables { held });
+    }
+    if reader.skip(b"rows ") {
+        let given = u32::next(reader)?;
+        return Some(Refusal::RowCount { given });
+    }
+    if reader.skip(b"width ") {
+        return width(reader);
+    }
+    if reader.skip(b"cells ") {
+        let total = u32::next(reader)?;
+        return Some(Refusal::Cells { total });
+    }
+    if reader.skip(b"link ") {
+        let number = u32::next(reader)?;
+        return Some(Refusal::Link { number });
+    }
     None
+}
+
+#[tactic(auto, unfolding(crate::specs::Reading::read_width))]
+fn width(reader: &mut Reader) -> Option<Refusal>
+    ensures { Finds result reader.new (read_width reader.old) }
+{
+    let row = u32::next(reader)?;
+    reader.expect(b" ")?;
+    let given = u32::next(reader)?;
+    Some(Refusal::RowWidth { row, given })
 }
 
 #[tactic(auto, unfolding(crate::specs::Reading::read_stale))]
@@ -143,6 +206,7 @@ fn stale(reader: &mut Reader) -> Option<Refusal>
     Some(Refusal::Stale { named, now })
 }
 
+// The number of users, and of variables, that a market holds at most.
 #[tactic(auto, unfolding(crate::specs::Reading::read_held))]
 fn held(reader: &mut Reader) -> Option<u32>
     ensures { Finds result reader.new (read_held reader.old) }

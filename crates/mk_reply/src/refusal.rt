@@ -53,6 +53,27 @@ pub enum Refusal {
     Outside { intervals: Option<Intervals> },
     /// No other value of the pair's variable than this one can come.
     Sure { pair: PairText },
+    /// As many variables as a market holds are held.
+    Variables { held: u32 },
+    /// A variable has this name already.
+    Taken { variable: Name },
+    /// The value is given twice for the added variable.
+    ValueTwice { value: Name },
+    /// So many rows are given, and the added variable's parents have another number of lists of
+    /// values.
+    RowCount { given: u32 },
+    /// The row, counted from 1, gives so many numbers, and the added variable has another number of
+    /// values.
+    RowWidth { row: u32, given: u32 },
+    /// All cliques have so many cells with the new one: these are too many, or those of the new one
+    /// are.
+    Cells { total: u32 },
+    /// The number of the clique to which the new clique is linked is that of no clique.
+    Link { number: u32 },
+    /// The new clique does not hold this variable, which is the added one or a parent of it.
+    Uncovered { variable: Name },
+    /// The new clique holds this variable, and the clique to which it is linked does not.
+    NotRunning { variable: Name },
     /// Memory was wanting.
     Memory,
 }

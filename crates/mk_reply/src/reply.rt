@@ -95,6 +95,11 @@ pub enum Reply {
         open: u32,
         questions: u32,
     },
+    /// The variable was added behind the others.
+    Added {
+        variable: Name,
+        at: u64,
+    },
     /// The line is refused.
     Refused {
         why: Refusal,

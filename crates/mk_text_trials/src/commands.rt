@@ -6,8 +6,9 @@ ghost use Rattle.mk_command.specs.Commands.{HasShortNumbers};
 
 use crate::names::{expect_none, expect_text, name};
 use arrayvec::{ArrayString, ArrayVec};
+use mk_addition::{AddText, text_length};
 use mk_command::{Command, CommandRef, Words, print_command, read_command};
-use mk_net::{Name, PairText, QuestionText};
+use mk_net::{Name, PairText, QuestionText, Row};
 use std::process::Abort;
 
 const LONGEST_NAME: &[u8] = b"abcdefghijklmnopqrstuvwxyz_01234";
@@ -57,6 +58,7 @@ fn has_short_numbers(command: &Command) -> bool
         Command::Spread { to, at, .. } => {
             to.len() >= 2 && are_short(to.as_slice()) && is_short_or_none(*at)
         }
+        Command::Add { addition } => text_length(addition) <= 1024,
         _ => true,
     }
 }
@@ -251,6 +253,47 @@ fn reads_and_prints_what_asks_of_each_value(rt: HostRuntime) {
     both_ways(&rt, "worst status", Command::Worst { user });
 }
 
+/// A row of two shares.
+fn row(rt: &impl Abort, first: u32, second: u32) -> Row {
+    match Row::empty().with(first).and_then(|row| row.with(second)) {
+        Some(row) => row,
+        None => panic!(rt; "no row"),
+    }
+}
+
+#[test]
+fn reads_and_prints_added_questions(rt: HostRuntime) {
+    let mut addition = AddText {
+        variable: name(&rt, b"add"),
+        link: 1,
+        ..AddText::default()
+    };
+    for value in [b"yes" as &[u8], b"no"] {
+        let _ = addition.values.try_push(name(&rt, value));
+    }
+    let _ = addition.rows.try_push(row(&rt, 1, 999_999));
+    let _ = addition.clique.try_push(name(&rt, b"add"));
+    let text = "add add=yes,no : 1 999999 in add to 1";
+    both_ways(&rt, text, Command::Add { addition });
+}
+
+#[test]
+fn reads_and_prints_added_questions_with_parents(rt: HostRuntime) {
+    let mut addition = AddText {
+        variable: name(&rt, b"in"),
+        link: 999_999_999,
+        ..AddText::default()
+    };
+    for word in [b"to" as &[u8], b"in"] {
+        let _ = addition.values.try_push(name(&rt, word));
+        let _ = addition.clique.try_push(name(&rt, word));
+        let _ = addition.rows.try_push(row(&rt, 999_999_999, 0));
+    }
+    let _ = addition.parents.try_push(name(&rt, b"to"));
+    let text = "add in=to,in | to : 999999999 0, 999999999 0 in to,in to 999999999";
+    both_ways(&rt, text, Command::Add { addition });
+}
+
 #[test]
 fn reads_and_prints_the_longest_position(rt: HostRuntime) {
     let user = name(&rt, LONGEST_NAME);
@@ -371,6 +414,28 @@ position none 100..100
 status at 0
 status now
 Status
+add
+add x
+add x=a,b
+add x=a : 1000000 in x to 1
+add x=a,b : 1 999999
+add x=a,b : 1 999999 in x
+add x=a,b : 1 999999 in x to
+add x=a,b : 1 999999 in x to 1000000000
+add x=a,b : 1 999999 in x to 01
+add x=a,b : 1  999999 in x to 1
+add x=a,b : 1 999999 in  x to 1
+add x=a,b : 1 1000000000 in x to 1
+add x=a,b :1 999999 in x to 1
+add x=a,b | : 1 999999 in x to 1
+add x=a,b |p : 1 999999 in x,p to 1
+add x=a, b : 1 999999 in x to 1
+add x=a,b : 1 999999,1 999999 in x to 1
+add x=a,b : 1 999999 in x to 1 at 2
+add x=a,b | p,p,p,p,p,p,p,p,p : 1 999999 in x to 1
+add x=a,b : 1 2 3 4 5 6 7 8 9 1 2 3 4 5 6 7 8 in x to 1
+add x=a,b : 1 999999 in a,b,c,d,e,f,g,h,i,j,k,l,m,n to 1
+add X=a,b : 1 999999 in X to 1
 status at 1 users 1 trades 0 of 1000 transfers 0 of 65536 open 1 of 1
 worst
 resolve coin

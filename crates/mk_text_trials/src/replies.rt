@@ -288,6 +288,13 @@ fn no_more_than_sixteen_values_are_told_of(rt: HostRuntime) -> Result<(), Fail> 
 }
 
 #[test]
+fn reads_and_prints_added_questions(rt: HostRuntime) -> Result<(), Fail> {
+    let variable = name(&rt, b"at");
+    let added = Reply::Added { variable, at: MOST };
+    both_ways(&rt, rt.alloc(), "add at at 9223372036854775807", added)
+}
+
+#[test]
 fn reads_and_prints_how_full_a_market_is(rt: HostRuntime) -> Result<(), Fail> {
     let status = Reply::Status {
         at: 3,
@@ -401,6 +408,18 @@ fn reads_and_prints_refusals(rt: HostRuntime) -> Result<(), Fail> {
         ),
         (Refusal::Unresolved { variable }, "refused open coin"),
         (Refusal::Sure { pair: sure }, "refused sure w=a"),
+        (Refusal::Variables { held: 256 }, "refused variables 256"),
+        (Refusal::Taken { variable }, "refused taken coin"),
+        (Refusal::ValueTwice { value: user }, "refused value zed"),
+        (Refusal::Link { number: 0 }, "refused link 0"),
+        (Refusal::Uncovered { variable }, "refused cover coin"),
+        (Refusal::NotRunning { variable }, "refused running coin"),
+        (Refusal::RowCount { given: 64 }, "refused rows 64"),
+        (
+            Refusal::RowWidth { row: 2, given: 16 },
+            "refused width 2 16",
+        ),
+        (Refusal::Cells { total: 98_304 }, "refused cells 98304"),
         (Refusal::Memory, "refused memory"),
     ] {
         both_ways(&rt, rt.alloc(), text, Reply::Refused { why })?;
@@ -482,6 +501,21 @@ refused outside 1..2 1..2 at 1
 refused outside 0..0 0..5
 refused sure w
 refused sure
+add coin
+add coin at
+add coin at 01
+add coin=heads at 1
+refused variables 255
+refused variables
+refused taken
+refused value a=b
+refused link -1
+refused link 1000000000
+refused cover
+refused rows
+refused width 1
+refused width 1 2 3
+refused cells 1000000000
 refused variable
 worst 1
 worst 1...2

@@ -1,10 +1,15 @@
 -- Reading a command: the word by which its form is known, and then the parts of that form.
-use Rattle.std.specs.Prelude.{ℕ, List, [], ◌∷◌, codes, Option}
+use Rattle.std.specs.Prelude.{ℕ, List, [], ◌∷◌, length, nat_le, codes, Option}
 use Rattle.arrayvec.specs.ArrayVec.{ArrayVec}
-use Rattle.mk_text.specs.Reading.{Read, both, behind, made, given, nothing, perhaps, choose, read_name, read_short, read_pair, read_condition, read_question, read_several}
+use Rattle.mk_text.specs.Reading.{Read, both, behind, made, passed, given, nothing, perhaps}
+use Rattle.mk_text.specs.Reading.{choose, read_name, read_short, read_pair, read_condition}
+use Rattle.mk_text.specs.Reading.{read_question, read_several}
+use Rattle.mk_addition.specs.Adds.{add_text}
+use Rattle.mk_addition.specs.Reading.{read_addition}
+use Rattle.mk_addition.specs.declared.add.AddText.{AddText}
 use Rattle.mk_command.specs.declared.command.Command.{Command}
 use Rattle.mk_command.specs.declared.command.Command.TheVariants.{User, Deposit, Withdraw, Price, Limits, Edit, Bounds, Spread, Worst, Resolve, Settle, Bound}
-use Rattle.mk_command.specs.declared.command.Command.TheVariants.{Prices, Position, Status}
+use Rattle.mk_command.specs.declared.command.Command.TheVariants.{Prices, Position, Status, Add}
 
 unfoldable pub read_user : Read Command
 read_user = made (λ user. User user) read_name
@@ -51,6 +56,13 @@ unfoldable pub read_position : Read Command
 read_position = made (λ parts. Position (parts.0) (parts.1.0) (held (parts.1.1)))
     (both read_name (behind (codes " ") (both read_name read_condition)))
 
+-- an added question whose text has at most 1,024 bytes
+abbrev pub read_short_addition : Read AddText
+read_short_addition = passed (λ addition. nat_le (length (add_text addition)) 1024) read_addition
+
+unfoldable pub read_add : Read Command
+read_add = made (λ addition. Add addition) read_short_addition
+
 -- the forms that are looked for first, and the others
 abbrev pub forms : List (List ℕ × Read Command)
 forms =
@@ -73,6 +85,7 @@ other_forms =
     ∷ (codes "prices ", read_prices)
     ∷ (codes "position ", read_position)
     ∷ (codes "status", given Status)
+    ∷ (codes "add ", read_add)
     ∷ []
 
 unfoldable pub read_other : Read Command

@@ -1,5 +1,8 @@
-use Rattle.mk_command.proofs.LengthLaws.{command_length}
+use Rattle.mk_command.proofs.LengthLaws.{all_short, others_shorter}
 use Rattle.mk_command.proofs.laws.short_commands.Goals as goal
 
-pub returns : goal.returns
-returns c = command_length
+pub returns-clause-most : goal.returns-clause-most
+returns-clause-most c = all_short
+
+pub returns-clause-others : goal.returns-clause-others
+returns-clause-others c = others_shorter
