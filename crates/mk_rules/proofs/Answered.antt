@@ -16,7 +16,7 @@ use Rattle.mk_exact.specs.Factors.{Fraction, HoldsNoTrade, factor, factor_with, 
 use Rattle.mk_exact.specs.Limits.{Inside}
 use Rattle.mk_exact.specs.Sides.{AreRightLimits}
 use Rattle.mk_exact.specs.Accepted.{Covers, IsMost}
-use Rattle.mk_exact.specs.Market.{Market, network_of}
+use Rattle.mk_exact.specs.Market.{Market, present}
 use Rattle.mk_exact.specs.Proper.{IsProper}
 use Rattle.mk_exact.proofs.Coming.{state_of}
 use Rattle.mk_exact.specs.Existing.{IsSafeFactor, CanBeAsked, CanMove, HasFairPair}
@@ -31,9 +31,9 @@ use Rattle.mk_spread.specs.Markets.{AreRightBoundsOf, HasFairList, CanBeSpread}
 use Rattle.mk_spread.proofs.Exist.{right_bounds_exist, bounds_judge}
 use Rattle.mk_command.specs.declared.command.Command.{Command}
 use Rattle.mk_command.specs.declared.command.Command.TheVariants.{User, Deposit, Withdraw, Price, Limits, Edit, Bounds, Spread, Worst, Resolve, Settle, Bound}
-use Rattle.mk_command.specs.declared.command.Command.TheVariants.{Prices, Position, Status}
+use Rattle.mk_command.specs.declared.command.Command.TheVariants.{Prices, Position, Status, Add}
 use Rattle.mk_reply.specs.declared.refusal.Refusal.{Refusal}
-use Rattle.mk_reply.specs.declared.refusal.Refusal.TheVariants.{Syntax, Long, Beyond, Outside, Short}
+use Rattle.mk_reply.specs.declared.refusal.Refusal.TheVariants.{Syntax, Long, Beyond, Outside, Short, Memory}
 use Rattle.mk_reply.specs.declared.payments.Payment.{Payment}
 use Rattle.mk_reply.specs.declared.reply.Reply.{Reply}
 use Rattle.mk_reply.specs.declared.reply.Reply.TheVariants.{Joined, Deposited, Withdrawn, Price as Priced, Limits as Limited, Traded, Bounded, Spreaded, Worst as Worsted, Resolved, Settled, Bound as Risked, Refused}
@@ -53,7 +53,7 @@ use Rattle.mk_rules.proofs.Coming.{some_where, both_sides}
 use Rattle.mk_rules.proofs.Apart.{condition_apart, target_apart}
 use Rattle.mk_rules.proofs.Spreadable.{spread_exists, can_be_spread, can_be_told}
 use Rattle.mk_rules.proofs.Quoted.{current_right, current_bounds_right}
-use Rattle.mk_rules.proofs.Ready.{ready_keeps}
+use Rattle.mk_rules.proofs.Ready.{step_keeps_ready}
 
 -- a question that meets no refusal can be asked
 pub can_be_asked : (network : List Variable) (H : List Entry) (q : QuestionText) (asked : Asked) → IsProper network H → question_named network q ≡ Some asked → unknown network (pairs_of q) ≡ None
@@ -78,7 +78,7 @@ can_move network H q asked can named free =
 
 module _ (market : Market) (now : Standing) (is_market : IsMarket market) (ready : IsReady market now) where
   abbrev network : List Variable
-  network = network_of market now.history
+  network = market.network
 
   abbrev H : List Entry
   H = now.history
@@ -297,6 +297,7 @@ module _ (market : Market) (now : Standing) (is_market : IsMarket market) (ready
       (IsPosition network H n market.points_per_bit) spread.0 spread.1
       (Positioned intervals, record { intervals = intervals; printed = refl; covers = found.1 })
   answered Status none = (status_of market H, refl)
+  answered (Add add) none = (Refused Memory, inr refl)
 
   of_command : (command : Command) → HasReply market now (OfCommand command)
   of_command command = at (first_refusal market H command) refl
@@ -311,9 +312,12 @@ always_answered market now (OfCommand command) is_market ready = of_command mark
 always_answered market now NoCommand is_market ready = (Refused Syntax, refl)
 always_answered market now LongLine is_market ready = (Refused Long, refl)
 
-pub runs_exist : (market : Market) (lines : List Line) (old : Standing) → IsMarket market → IsReady market old → HasRun market old lines
-runs_exist market [] old is_market ready = record { replies = []; new = old; run = refl }
-runs_exist market (line ∷ lines) old is_market ready =
-    let reply = always_answered market old line is_market ready in
-    let later = runs_exist market lines (after market old line reply.0) is_market (ready_keeps market old line reply.0 ready reply.1) in
+pub runs_exist : (market : Market) (lines : List Line) (old : Standing)
+    → IsReady (present market old.history) old → HasRun market old lines
+runs_exist market [] old ready = record { replies = []; new = old; run = refl }
+runs_exist market (line ∷ lines) old ready =
+    let here = present market old.history in
+    let reply = always_answered here old line ready.stands.legal ready in
+    let next = step_keeps_ready market old line reply.0 ready reply.1 in
+    let later = runs_exist market lines (after here old line reply.0) next in
     record { replies = reply.0 ∷ later.replies; new = later.new; run = (reply.1, later.run) }

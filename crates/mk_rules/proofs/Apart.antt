@@ -16,10 +16,10 @@ use Rattle.mk_rules.specs.Refusals.{pairs_of, names_in, known_pairs, first_repea
 use Rattle.mk_rules.proofs.Unrefused.{not_mapped}
 
 -- a name occurs in a list: each test that it passes is passed by some name there
-Occurs : List ℕ → List (List ℕ) → Type 0
+unfoldable pub Occurs : List ℕ → List (List ℕ) → Type 0
 Occurs name before = (test : List ℕ → Bool) → test name ≡ true → list_any test before ≡ true
 
-occurs_longer : (name other : List ℕ) (before : List (List ℕ)) → Occurs name before → Occurs name (other ∷ before)
+pub occurs_longer : (name other : List ℕ) (before : List (List ℕ)) → Occurs name before → Occurs name (other ∷ before)
 unfolding Occurs
 occurs_longer name other before h test e = at (test other) (h test e)
   where
@@ -27,12 +27,12 @@ occurs_longer name other before h test e = at (test other) (h test e)
     at true i = refl
     at false i = i
 
-occurs_first : (name : List ℕ) (before : List (List ℕ)) → Occurs name (name ∷ before)
+pub occurs_first : (name : List ℕ) (before : List (List ℕ)) → Occurs name (name ∷ before)
 unfolding Occurs
 occurs_first name before test e = rw e refl
 
 -- the names behind the first, where none repeats one before
-later_names : (before : List (List ℕ)) (name : List ℕ) (ns : List (List ℕ)) → first_repeat before (name ∷ ns) ≡ None
+pub later_names : (before : List (List ℕ)) (name : List ℕ) (ns : List (List ℕ)) → first_repeat before (name ∷ ns) ≡ None
     → (list_any (same_text name) before ≡ false) × (first_repeat (name ∷ before) ns ≡ None)
 later_names before name ns h = at (list_any (same_text name) before) h
   where

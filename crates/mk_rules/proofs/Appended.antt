@@ -5,12 +5,12 @@ use Rattle.mk_net.specs.declared.words.PairText.{PairText}
 use Rattle.mk_net.specs.declared.words.QuestionText.{QuestionText}
 use Rattle.mk_net.specs.Asked.{Asked}
 use Rattle.mk_exact.specs.History.{Entry}
-use Rattle.mk_exact.specs.Market.{Market, network_of}
+use Rattle.mk_exact.specs.Market.{Market}
 use Rattle.mk_spread.specs.Spreads.{SpreadAsked}
 use Rattle.mk_spread.specs.Bounds.{Intervals}
 use Rattle.mk_command.specs.declared.command.Command.{Command}
 use Rattle.mk_command.specs.declared.command.Command.TheVariants.{User, Deposit, Withdraw, Price, Limits, Edit, Bounds, Spread, Worst, Resolve, Settle, Bound}
-use Rattle.mk_command.specs.declared.command.Command.TheVariants.{Prices, Position, Status}
+use Rattle.mk_command.specs.declared.command.Command.TheVariants.{Prices, Position, Status, Add}
 use Rattle.mk_reply.specs.declared.refusal.Refusal.{Refusal}
 use Rattle.mk_reply.specs.declared.reply.Reply.{Reply}
 use Rattle.mk_reply.specs.declared.reply.Reply.TheVariants.{Refused}
@@ -39,6 +39,7 @@ refused_appends P market H Bound why = tt
 refused_appends P market H (Prices v condition) why = tt
 refused_appends P market H (Position u v condition) why = tt
 refused_appends P market H Status why = tt
+refused_appends P market H (Add add) why = tt
 
 -- a reply that is known
 pub reply_appends : (P : Entry → Type 0) (market : Market) (H : List Entry) (command : Command) (reply known : Reply) → reply ≡ known → Appends P market H command known
@@ -47,8 +48,8 @@ reply_appends P market H command reply known e h = subst (λ (r : Reply). Append
 
 -- an edit appends at most what a trade does
 pub judged_appends : (P : Entry → Type 0) (market : Market) (H : List Entry) (u : List ℕ) (q : QuestionText) (X : ℕ) (seen : Option ℕ) (asked : Asked) (reply : Reply) (o : Option Interval)
-    → (IsTrade (network_of market H) H (user_number H u) asked X reply → Appends P market H (Edit u q X seen) reply)
-    → MatchOption o (IsJudgedAfresh (network_of market H) H (user_number H u) asked X reply) (λ limits. IsJudged (network_of market H) H (user_number H u) asked X limits reply)
+    → (IsTrade market.network H (user_number H u) asked X reply → Appends P market H (Edit u q X seen) reply)
+    → MatchOption o (IsJudgedAfresh market.network H (user_number H u) asked X reply) (λ limits. IsJudged market.network H (user_number H u) asked X limits reply)
     → Appends P market H (Edit u q X seen) reply
 judged_appends P market H u q X seen asked reply None fits (inl trade) = fits trade
 judged_appends P market H u q X seen asked reply None fits (inr beyond) = reply_appends P market H (Edit u q X seen) reply _ beyond.beyond.printed tt
@@ -57,9 +58,9 @@ judged_appends P market H u q X seen asked reply (Some limits) fits (inr beyond)
 
 -- and so does a spread
 pub spread_appends : (P : Entry → Type 0) (market : Market) (H : List Entry) (u v : List ℕ) (condition : ArrayVec PairText) (to : ArrayVec ℕ) (seen : Option ℕ) (spread : SpreadAsked) (reply : Reply)
-    (o : Option Intervals) → (IsSpreadTrade (network_of market H) H (user_number H u) spread to.items reply → Appends P market H (Spread u v condition to seen) reply)
-    → MatchOption o (IsSpreadJudgedAfresh (network_of market H) H (user_number H u) spread to.items reply)
-    (λ intervals. IsSpreadJudged (network_of market H) H (user_number H u) spread to.items intervals reply) → Appends P market H (Spread u v condition to seen) reply
+    (o : Option Intervals) → (IsSpreadTrade market.network H (user_number H u) spread to.items reply → Appends P market H (Spread u v condition to seen) reply)
+    → MatchOption o (IsSpreadJudgedAfresh market.network H (user_number H u) spread to.items reply)
+    (λ intervals. IsSpreadJudged market.network H (user_number H u) spread to.items intervals reply) → Appends P market H (Spread u v condition to seen) reply
 spread_appends P market H u v condition to seen spread reply None fits (inl trade) = fits trade
 spread_appends P market H u v condition to seen spread reply None fits (inr outside) = reply_appends P market H (Spread u v condition to seen) reply _ outside.outside.printed tt
 spread_appends P market H u v condition to seen spread reply (Some intervals) fits (inl trade) = fits trade.1

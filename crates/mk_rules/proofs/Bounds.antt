@@ -11,7 +11,10 @@ use Rattle.mk_net.specs.inner.TextLaws.{same_text_of_equal}
 use Rattle.mk_net.specs.Asked.{TradeRatio}
 use Rattle.mk_net.proofs.Taken.{any_at}
 use Rattle.mk_net.specs.Network.{AreDistinct}
-use Rattle.mk_exact.specs.History.{Entry, UserTrade, Join, Deposit as Deposits, Withdraw as Withdraws, Trade, Resolve as Resolves, Settle as Settles, join_in, trade_in, users, trades, is_transfer, is_settlement, is_settled}
+use Rattle.mk_exact.specs.History.{Entry, UserTrade, Join, Deposit as Deposits, Withdraw as Withdraws}
+use Rattle.mk_exact.specs.History.{Trade, Resolve as Resolves, Settle as Settles, Add}
+use Rattle.mk_exact.specs.History.{join_in, trade_in, users, trades, is_transfer, is_settlement}
+use Rattle.mk_exact.specs.History.{is_settled}
 use Rattle.mk_exact.specs.Market.{Market}
 use Rattle.mk_states.proofs.Sums.{each-append, each_weaker}
 use Rattle.mk_exact.proofs.After.{users_kept, users_more, trades_kept, trades_more}
@@ -27,6 +30,7 @@ MayFollow market H (Withdraws user bits) = IsTransferOf (length (users H)) user 
 MayFollow market H (Trade user ratio) = AllByRecursion (λ units. units < number_limit) ratio.factors × (length (trades H) < market.max_trades)
 MayFollow market H (Resolves pair) = ⊤
 MayFollow market H Settles = is_settled H ≡ false
+MayFollow market H (Add addition) = ⊤
 
 transfer_later : (m n : ℕ) → m ≤ n → (e : Entry) → FitsTransfer m e → FitsTransfer n e
 transfer_later m n p (Join name) h = tt
@@ -35,6 +39,7 @@ transfer_later m n p (Withdraws user bits) h = record { user = omega (arith, h.u
 transfer_later m n p (Trade user ratio) h = tt
 transfer_later m n p (Resolves pair) h = tt
 transfer_later m n p Settles h = tt
+transfer_later m n p (Add addition) h = tt
 
 -- what an entry adds to a count
 count_more : (test : Entry → Bool) (H : List Entry) (e : Entry) → count_by test (H ++ e ∷ []) ≡ count_by test H + (0 + cond (test e) 1 0)
@@ -66,6 +71,7 @@ room market H few (Withdraws user bits) h = h.1
 room market H few (Trade user ratio) h = (omega (arith, h.1), h.0)
 room market H few (Resolves pair) h = tt
 room market H few Settles h = tt
+room market H few (Add addition) h = tt
 
 kept_count : (test : Entry → Bool) (most : ℕ) (H : List Entry) (e : Entry) → test e ≡ false → count_by test H ≤ most → count_by test (H ++ e ∷ []) ≤ most
 kept_count test most H e not_it h =
@@ -131,4 +137,7 @@ module _ (market : Market) (H : List Entry) (few : market.max_trades ≤ max_mar
   entry_bounded (Withdraws user bits) h = not_joined (Withdraws user bits) refl h (trades_stay (Withdraws user bits) refl) h.0 (settlement_stays (Withdraws user bits) refl)
   entry_bounded (Trade user ratio) h = not_joined (Trade user ratio) refl h (one_more_trade user ratio h.1) tt (settlement_stays (Trade user ratio) refl)
   entry_bounded (Resolves pair) h = not_joined (Resolves pair) refl h (trades_stay (Resolves pair) refl) tt (settlement_stays (Resolves pair) refl)
+  entry_bounded (Add addition) h =
+      not_joined (Add addition) refl h (trades_stay (Add addition) refl) tt
+      (settlement_stays (Add addition) refl)
   entry_bounded Settles h = not_joined Settles refl h (trades_stay Settles refl) tt (let none = none_settled H h in more_count is_settlement 1 H Settles (omega arith))

@@ -1,10 +1,13 @@
 -- An allowed reply to a line that is a text leads from a bounded history to a bounded one.
-use Rattle.std.proofs.Common.{◌≡◌, ℕ, ◌+◌, ◌<◌, ◌⊎◌, inl, inr, List, [], ◌∷◌, ◌++◌, length, Option, Some, None, IfSome, MatchOption, refl, sym, subst, arith, append-nil}
+use Rattle.std.proofs.Common.{◌≡◌, ℕ, ◌+◌, ◌<◌, ◌≤◌, ◌⊎◌, inl, inr, List, [], ◌∷◌, ◌++◌}
+use Rattle.std.proofs.Common.{length, Option, Some, None, IfSome, MatchOption, refl, sym, subst}
+use Rattle.std.proofs.Common.{arith, append-nil}
 use Rattle.std.specs.Prelude.{option_to_list, option_map}
 use Rattle.std.specs.List.{AllByRecursion, count_by}
 use Rattle.std.proofs.lemmas.Bool.{leb-false}
 use Rattle.arrayvec.specs.ArrayVec.{ArrayVec}
 use Rattle.mk_net.specs.Bounds.{max_users, max_transfers, max_transfer_bits, number_limit}
+use Rattle.mk_net.specs.Bounds.{max_market_trades}
 use Rattle.mk_net.specs.declared.words.PairText.{PairText}
 use Rattle.mk_net.specs.declared.words.QuestionText.{QuestionText}
 use Rattle.mk_net.specs.Name.{IsName}
@@ -16,13 +19,13 @@ use Rattle.mk_exact.specs.Weight.{IsSmall}
 use Rattle.mk_exact.specs.Factors.{HoldsNoTrade, factor_with, least_gain}
 use Rattle.mk_exact.specs.Limits.{Side}
 use Rattle.mk_spread.specs.Bounds.{IsFairFor}
-use Rattle.mk_exact.specs.Market.{Market, network_of}
+use Rattle.mk_exact.specs.Market.{Market, present}
 use Rattle.mk_exact.proofs.ExistBounds.{fair_pair_fits}
 use Rattle.mk_spread.specs.Spreads.{SpreadAsked}
 use Rattle.mk_spread.proofs.Listed.{each_units}
 use Rattle.mk_command.specs.declared.command.Command.{Command}
 use Rattle.mk_command.specs.declared.command.Command.TheVariants.{User, Deposit, Withdraw, Price, Limits, Edit, Bounds, Spread, Worst, Resolve, Settle, Bound}
-use Rattle.mk_command.specs.declared.command.Command.TheVariants.{Prices, Position, Status}
+use Rattle.mk_command.specs.declared.command.Command.TheVariants.{Prices, Position, Status, Add}
 use Rattle.mk_reply.specs.declared.refusal.Refusal.{Refusal}
 use Rattle.mk_reply.specs.declared.refusal.Refusal.TheVariants.{Memory}
 use Rattle.mk_reply.specs.declared.reply.Reply.{Reply}
@@ -31,7 +34,6 @@ use Rattle.mk_rules.specs.Refusals.{question_named, spread_named, user_number, n
 use Rattle.mk_rules.specs.Quotes.{Quotes, last_quote, current_limits, current_bounds}
 use Rattle.mk_rules.specs.Answers.{IsTrade, IsSpreadTrade, IsWithdrawal, IsAnswer, IsAllowed, entry_of}
 use Rattle.mk_rules.specs.Transcript.{Standing, Line, OfCommand, NoCommand, LongLine, IsAllowedFor, after, Run}
-use Rattle.mk_rules.specs.Standings.{IsMarket}
 use Rattle.mk_rules.specs.Bounded.{IsLine, JoinsByName, IsTransferOf, IsBounded}
 use Rattle.mk_rules.proofs.Options.{value_of}
 use Rattle.mk_rules.proofs.Appended.{Appends, refused_appends, reply_appends, judged_appends, spread_appends}
@@ -58,7 +60,7 @@ module _ (market : Market) (H : List Entry) where
   user_follows u reply named none (inr e) = reply_appends (MayFollow market H) market H (User u) reply _ e tt
 
   withdrawal_follows : (u : List ℕ) (bits g : ℕ) (reply : Reply) → first_refusal market H (Withdraw u bits) ≡ None
-      → IsWithdrawal (IsSmall (network_of market H) H) (HoldsNoTrade H (user_number H u))
+      → IsWithdrawal (IsSmall market.network H) (HoldsNoTrade H (user_number H u))
       (factor_with H (user_number H u) g) u bits (revision H + 1) reply
       → Follows (Withdraw u bits) reply
   withdrawal_follows u bits g reply none (inl taken) =
@@ -66,10 +68,10 @@ module _ (market : Market) (H : List Entry) where
       reply_appends (MayFollow market H) market H (Withdraw u bits) reply _ taken.1 (transfer_of H u bits refused.1.0 refused.1.1.0, has_room max_transfers (count_by is_transfer H) refused.1.1.1.0)
   withdrawal_follows u bits g reply none (inr short) = reply_appends (MayFollow market H) market H (Withdraw u bits) reply _ short.printed tt
 
-  trade_follows : (u : List ℕ) (q : QuestionText) (X : ℕ) (seen : Option ℕ) (asked : Asked) (reply : Reply) → question_named (network_of market H) q ≡ Some asked
-      → length (trades H) < market.max_trades → IsTrade (network_of market H) H (user_number H u) asked X reply → Follows (Edit u q X seen) reply
+  trade_follows : (u : List ℕ) (q : QuestionText) (X : ℕ) (seen : Option ℕ) (asked : Asked) (reply : Reply) → question_named market.network q ≡ Some asked
+      → length (trades H) < market.max_trades → IsTrade market.network H (user_number H u) asked X reply → Follows (Edit u q X seen) reply
   trade_follows u q X seen asked reply named few trade = reply_appends (MayFollow market H) market H (Edit u q X seen) reply _ trade.printed
-      (rw named (fair_pair_fits (network_of market H) H (user_number H u) asked X trade.hit trade.miss trade.fair, few))
+      (rw named (fair_pair_fits market.network H (user_number H u) asked X trade.hit trade.miss trade.fair, few))
 
   -- units that are fair for a value fit, and so does one whole unit
   fits_for : (small : Type 0) (side : Option Side) (X F : ℕ) → IsFairFor small side X F → F < number_limit
@@ -78,10 +80,10 @@ module _ (market : Market) (H : List Entry) where
 
   -- a spread is one trade more
   spread_follows : (u v : List ℕ) (condition : ArrayVec PairText) (to : ArrayVec ℕ) (seen : Option ℕ) (spread : SpreadAsked) (reply : Reply)
-      → spread_named (network_of market H) v condition.items ≡ Some spread → length (trades H) < market.max_trades
-      → IsSpreadTrade (network_of market H) H (user_number H u) spread to.items reply → Follows (Spread u v condition to seen) reply
+      → spread_named market.network v condition.items ≡ Some spread → length (trades H) < market.max_trades
+      → IsSpreadTrade market.network H (user_number H u) spread to.items reply → Follows (Spread u v condition to seen) reply
   spread_follows u v condition to seen spread reply named few trade = reply_appends (MayFollow market H) market H (Spread u v condition to seen) reply _ trade.printed
-      (rw named (each_units (λ units. units < number_limit) (IsSmall (network_of market H) H) (fits_for (IsSmall (network_of market H) H)) trade.fair.sides to.items trade.factors.items trade.fair.units, few))
+      (rw named (each_units (λ units. units < number_limit) (IsSmall market.network H) (fits_for (IsSmall market.network H)) trade.fair.sides to.items trade.factors.items trade.fair.units, few))
 
   answer_follows : (quotes : Quotes) (command : Command) (reply : Reply) → JoinsByName (OfCommand command) → first_refusal market H command ≡ None → IsAnswer market H quotes command reply → Follows command reply
   answer_follows quotes (User u) reply text none h = user_follows u reply text none h
@@ -89,34 +91,38 @@ module _ (market : Market) (H : List Entry) where
       let refused = none_applies (refusals market H (Deposit u bits)) none in
       reply_appends (MayFollow market H) market H (Deposit u bits) reply _ h (transfer_of H u bits refused.1.0 refused.1.1.0, has_room max_transfers (count_by is_transfer H) refused.1.1.1.0)
   answer_follows quotes (Withdraw u bits) reply text none h =
-      let least = value_of _ (least_gain (network_of market H) H (user_number H u) always) h in
+      let least = value_of _ (least_gain market.network H (user_number H u) always) h in
       withdrawal_follows u bits least.0 reply none least.2
-  answer_follows quotes (Price q) reply text none h = reply_appends (MayFollow market H) market H (Price q) reply _ (value_of _ (question_named (network_of market H) q) h).2.printed tt
-  answer_follows quotes (Limits u q) reply text none h = reply_appends (MayFollow market H) market H (Limits u q) reply _ (value_of _ (question_named (network_of market H) q) h).2.printed tt
+  answer_follows quotes (Price q) reply text none h = reply_appends (MayFollow market H) market H (Price q) reply _ (value_of _ (question_named market.network q) h).2.printed tt
+  answer_follows quotes (Limits u q) reply text none h = reply_appends (MayFollow market H) market H (Limits u q) reply _ (value_of _ (question_named market.network q) h).2.printed tt
   answer_follows quotes (Edit u q X seen) reply text none h =
       let refused = none_applies (refusals market H (Edit u q X seen)) none in
-      let judged = value_of _ (question_named (network_of market H) q) h in
+      let judged = value_of _ (question_named market.network q) h in
       judged_appends (MayFollow market H) market H u q X seen judged.0 reply (current_limits (last_quote quotes (user_number H u)) judged.0 (revision H))
       (trade_follows u q X seen judged.0 reply judged.1 (has_room market.max_trades (length (trades H)) refused.1.1.1.1.1.1.1.1.1.0)) judged.2
   answer_follows quotes (Bounds u v condition) reply text none h =
-      reply_appends (MayFollow market H) market H (Bounds u v condition) reply _ (value_of _ (spread_named (network_of market H) v condition.items) h).2.printed tt
+      reply_appends (MayFollow market H) market H (Bounds u v condition) reply _ (value_of _ (spread_named market.network v condition.items) h).2.printed tt
   answer_follows quotes (Spread u v condition to seen) reply text none h =
       let refused = none_applies (refusals market H (Spread u v condition to seen)) none in
-      let judged = value_of _ (spread_named (network_of market H) v condition.items) h in
+      let judged = value_of _ (spread_named market.network v condition.items) h in
       spread_appends (MayFollow market H) market H u v condition to seen judged.0 reply (current_bounds (last_quote quotes (user_number H u)) judged.0 (revision H))
       (spread_follows u v condition to seen judged.0 reply judged.1 (has_room market.max_trades (length (trades H)) refused.1.1.1.1.1.1.1.1.1.1.1.1.0)) judged.2
   answer_follows quotes (Worst u) reply text none h =
-      reply_appends (MayFollow market H) market H (Worst u) reply _ (value_of _ (least_gain (network_of market H) H (user_number H u) always) h).2.printed tt
+      reply_appends (MayFollow market H) market H (Worst u) reply _ (value_of _ (least_gain market.network H (user_number H u) always) h).2.printed tt
   answer_follows quotes Bound reply text none h = reply_appends (MayFollow market H) market H Bound reply _ h.printed tt
   answer_follows quotes (Prices v condition) reply text none h =
-      let told = value_of _ (spread_named (network_of market H) v condition.items) h in
+      let told = value_of _ (spread_named market.network v condition.items) h in
       reply_appends (MayFollow market H) market H (Prices v condition) reply _ told.2.printed tt
   answer_follows quotes (Position u v condition) reply text none h =
-      let told = value_of _ (spread_named (network_of market H) v condition.items) h in
+      let told = value_of _ (spread_named market.network v condition.items) h in
       reply_appends (MayFollow market H) market H (Position u v condition) reply _ told.2.printed tt
   answer_follows quotes Status reply text none h =
       reply_appends (MayFollow market H) market H Status reply _ h tt
-  answer_follows quotes (Resolve p) reply text none h = reply_appends (MayFollow market H) market H (Resolve p) reply _ h (resolves (pair_named (network_of market H) p))
+  answer_follows quotes (Add add) reply text none (inl (words, e)) =
+      reply_appends (MayFollow market H) market H (Add add) reply _ e tt
+  answer_follows quotes (Add add) reply text none (inr e) =
+      reply_appends (MayFollow market H) market H (Add add) reply _ e tt
+  answer_follows quotes (Resolve p) reply text none h = reply_appends (MayFollow market H) market H (Resolve p) reply _ h (resolves (pair_named market.network p))
     where
       resolves : (o : Option _) → IfSome (option_map Resolves o) (MayFollow market H)
       resolves None = tt
@@ -132,16 +138,19 @@ module _ (market : Market) (H : List Entry) where
       at None none h = answer_follows quotes command reply text none h
       at (Some why) e h = reply_appends (MayFollow market H) market H command reply _ h (refused_appends (MayFollow market H) market H command why)
 
-appended_bounded : (market : Market) (H : List Entry) (o : Option Entry) → IsMarket market → IsBounded market H → IfSome o (MayFollow market H) → IsBounded market (H ++ option_to_list o)
-appended_bounded market H None is_market bounded h = subst (IsBounded market) (sym (append-nil H)) bounded
-appended_bounded market H (Some e) is_market bounded h = entry_bounded market H is_market.few_trades bounded e h
+appended_bounded : (market : Market) (H : List Entry) (o : Option Entry)
+    → market.max_trades ≤ max_market_trades → IsBounded market H → IfSome o (MayFollow market H) → IsBounded market (H ++ option_to_list o)
+appended_bounded market H None few bounded h = subst (IsBounded market) (sym (append-nil H)) bounded
+appended_bounded market H (Some e) few bounded h = entry_bounded market H few bounded e h
 
-pub names_keep_bounds : (market : Market) (now : Standing) (line : Line) (reply : Reply) → IsMarket market → JoinsByName line → IsBounded market now.history
+pub names_keep_bounds : (market : Market) (now : Standing) (line : Line) (reply : Reply)
+    → market.max_trades ≤ max_market_trades → JoinsByName line → IsBounded market now.history
     → IsAllowedFor market now line reply → IsBounded market (after market now line reply).history
-names_keep_bounds market now (OfCommand command) reply is_market joins bounded h =
-    appended_bounded market now.history (entry_of market now.history command reply) is_market bounded (allowed_follows market now.history now.quotes command reply joins h)
-names_keep_bounds market now NoCommand reply is_market joins bounded h = bounded
-names_keep_bounds market now LongLine reply is_market joins bounded h = bounded
+names_keep_bounds market now (OfCommand command) reply few joins bounded h =
+    appended_bounded market now.history (entry_of market now.history command reply) few bounded
+    (allowed_follows market now.history now.quotes command reply joins h)
+names_keep_bounds market now NoCommand reply few joins bounded h = bounded
+names_keep_bounds market now LongLine reply few joins bounded h = bounded
 
 -- a command that is a text joins a user by a name
 pub joins_by_name : (line : Line) → IsLine line → JoinsByName line
@@ -160,20 +169,43 @@ joins_by_name (OfCommand Bound) text = tt
 joins_by_name (OfCommand (Prices v condition)) text = tt
 joins_by_name (OfCommand (Position u v condition)) text = tt
 joins_by_name (OfCommand Status) text = tt
+joins_by_name (OfCommand (Add add)) text = tt
 joins_by_name NoCommand text = tt
 joins_by_name LongLine text = tt
 
-pub bounded_keeps : (market : Market) (now : Standing) (line : Line) (reply : Reply) → IsMarket market → IsLine line → IsBounded market now.history
+pub bounded_keeps : (market : Market) (now : Standing) (line : Line) (reply : Reply)
+    → market.max_trades ≤ max_market_trades → IsLine line → IsBounded market now.history
     → IsAllowedFor market now line reply → IsBounded market (after market now line reply).history
-bounded_keeps market now line reply is_market text = names_keep_bounds market now line reply is_market (joins_by_name line text)
+bounded_keeps market now line reply few text =
+    names_keep_bounds market now line reply few (joins_by_name line text)
 
-pub run_keeps_bounded : (market : Market) (old new : Standing) (lines : List Line) (replies : List Reply) → IsMarket market → AllByRecursion IsLine lines → IsBounded market old.history
-    → Run market old lines replies new → IsBounded market new.history
-run_keeps_bounded market old new [] [] is_market text bounded h = subst (λ (now : Standing). IsBounded market now.history) (sym h) bounded
-run_keeps_bounded market old new [] (reply ∷ replies) is_market text bounded h = absurd h
-run_keeps_bounded market old new (line ∷ lines) [] is_market text bounded h = absurd h
-run_keeps_bounded market old new (line ∷ lines) (reply ∷ replies) is_market text bounded h =
-    run_keeps_bounded market (after market old line reply) new lines replies is_market text.1 (bounded_keeps market old line reply is_market text.0 bounded h.0) h.1
+-- what bounds a history does not look at what was added
+pub bounded_in : (market later : Market) (H : List Entry) → market.max_trades ≡ later.max_trades
+    → IsBounded market H → IsBounded later H
+bounded_in market later H same bounded = record {
+  within = bounded.within;
+  few_users = bounded.few_users;
+  users_named = bounded.users_named;
+  users_distinct = bounded.users_distinct;
+  few_trades = omega (arith, same, bounded.few_trades);
+  transfers_fit = bounded.transfers_fit;
+  settled_once = bounded.settled_once;
+}
+
+pub run_keeps_bounded : (market : Market) (old new : Standing) (lines : List Line)
+    (replies : List Reply) → market.max_trades ≤ max_market_trades → AllByRecursion IsLine lines
+    → IsBounded market old.history → Run market old lines replies new → IsBounded market new.history
+run_keeps_bounded market old new [] [] few text bounded h =
+    subst (λ (now : Standing). IsBounded market now.history) (sym h) bounded
+run_keeps_bounded market old new [] (reply ∷ replies) few text bounded h = absurd h
+run_keeps_bounded market old new (line ∷ lines) [] few text bounded h = absurd h
+run_keeps_bounded market old new (line ∷ lines) (reply ∷ replies) few text bounded h =
+    let here = present market old.history in
+    let next = after here old line reply in
+    let bounded_here = bounded_in market here old.history refl bounded in
+    let bounded_next = bounded_keeps here old line reply few text.0 bounded_here h.0 in
+    run_keeps_bounded market next new lines replies few text.1
+    (bounded_in here market next.history refl bounded_next) h.1
 
 pub opening_is_bounded : (market : Market) → IsBounded market []
 opening_is_bounded market = record {

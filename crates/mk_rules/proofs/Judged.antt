@@ -8,7 +8,7 @@ use Rattle.mk_net.specs.Network.{Variable}
 use Rattle.mk_net.specs.Asked.{Asked}
 use Rattle.mk_exact.specs.History.{Entry, revision}
 use Rattle.mk_exact.specs.Limits.{Inside}
-use Rattle.mk_exact.specs.Market.{Market, network_of}
+use Rattle.mk_exact.specs.Market.{Market}
 use Rattle.mk_spread.specs.Spreads.{SpreadAsked}
 use Rattle.mk_spread.specs.Bounds.{Intervals, InsideEach}
 use Rattle.mk_command.specs.declared.command.Command.TheVariants.{Edit, Spread}
@@ -29,13 +29,13 @@ traded_inside network H u asked X limits reply (inr beyond) = (λ traded. absurd
 
 pub judged_exactly : (market : Market) (now : Standing) (u : List ℕ) (q : QuestionText) (X : ℕ) (seen : Option ℕ) (asked : Asked)
     (limits : Interval) (reply : Reply) → first_refusal market now.history (Edit u q X seen) ≡ None
-    → question_named (network_of market now.history) q ≡ Some asked
+    → question_named market.network q ≡ Some asked
     → current_limits (last_quote now.quotes (user_number now.history u)) asked (revision now.history) ≡ Some limits
     → IsAllowedFor market now (OfCommand (Edit u q X seen)) reply → IsTraded reply ↔ Inside limits X
 judged_exactly market now u q X seen asked limits reply none named current h =
-    traded_inside (network_of market now.history) now.history (user_number now.history u) asked X limits reply
+    traded_inside market.network now.history (user_number now.history u) asked X limits reply
     (at_some _ _ (current_limits (last_quote now.quotes (user_number now.history u)) asked (revision now.history)) limits current
-    (at_value _ (question_named (network_of market now.history) q) asked named (at_none (λ (why : Refusal). reply ≡ Refused why) (first_refusal market now.history (Edit u q X seen)) none h)))
+    (at_value _ (question_named market.network q) asked named (at_none (λ (why : Refusal). reply ≡ Refused why) (first_refusal market now.history (Edit u q X seen)) none h)))
 
 pub spread_traded_inside : (network : List Variable) (H : List Entry) (u : ℕ) (spread : SpreadAsked) (Xs : List ℕ) (intervals : Intervals) (reply : Reply)
     → IsSpreadJudged network H u spread Xs intervals reply → IsTraded reply ↔ InsideEach intervals Xs
@@ -45,11 +45,11 @@ spread_traded_inside network H u spread Xs intervals reply (inr refused) =
 
 pub spread_judged_exactly : (market : Market) (now : Standing) (u v : List ℕ) (condition : ArrayVec PairText) (to : ArrayVec ℕ) (seen : Option ℕ) (spread : SpreadAsked)
     (intervals : Intervals) (reply : Reply) → first_refusal market now.history (Spread u v condition to seen) ≡ None
-    → spread_named (network_of market now.history) v condition.items ≡ Some spread
+    → spread_named market.network v condition.items ≡ Some spread
     → current_bounds (last_quote now.quotes (user_number now.history u)) spread (revision now.history) ≡ Some intervals
     → IsAllowedFor market now (OfCommand (Spread u v condition to seen)) reply → IsTraded reply ↔ InsideEach intervals to.items
 spread_judged_exactly market now u v condition to seen spread intervals reply none named current h =
-    spread_traded_inside (network_of market now.history) now.history (user_number now.history u) spread to.items intervals reply
+    spread_traded_inside market.network now.history (user_number now.history u) spread to.items intervals reply
     (at_some _ _ (current_bounds (last_quote now.quotes (user_number now.history u)) spread (revision now.history)) intervals current
-    (at_value _ (spread_named (network_of market now.history) v condition.items) spread named
+    (at_value _ (spread_named market.network v condition.items) spread named
     (at_none (λ (why : Refusal). reply ≡ Refused why) (first_refusal market now.history (Spread u v condition to seen)) none h)))

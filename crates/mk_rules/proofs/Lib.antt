@@ -3,6 +3,9 @@ pub mod Unrefused
 pub mod Coming
 pub mod Spreads
 pub mod Apart
+pub mod Naming
+pub mod Cells
+pub mod Additions
 pub mod Spreadable
 pub mod Traded
 pub mod Appended
@@ -18,5 +21,8 @@ pub mod Answered
 pub mod Bounds
 pub mod Follows
 pub mod Revisions
+pub mod Faults
+pub mod AddTexts
 pub mod Texts
 pub mod OneKind
+pub mod Adds

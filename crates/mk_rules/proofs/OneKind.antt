@@ -12,7 +12,7 @@ use Rattle.mk_net.specs.Asked.{Asked}
 use Rattle.mk_states.specs.Events.{with_target, without_target}
 use Rattle.mk_states.specs.Ratios.{unit}
 use Rattle.mk_exact.specs.History.{Entry, revision}
-use Rattle.mk_exact.specs.Market.{Market, network_of}
+use Rattle.mk_exact.specs.Market.{Market}
 use Rattle.mk_exact.specs.Weight.{IsSmall}
 use Rattle.mk_exact.specs.Factors.{factor_with, least_gain}
 use Rattle.mk_exact.specs.Prices.{price_where, IsSolvent}
@@ -88,16 +88,16 @@ module _ (network : List Variable) (H : List Entry) (u : ℕ) (asked : Asked) (X
       (λ traded. other.1 (one.0 traded), λ traded. one.1 (other.0 traded))
 
 pub one_kind : (market : Market) (now : Standing) (u : List ℕ) (q : QuestionText) (X : ℕ) (seen : Option ℕ) (first second : Reply)
-    → IsSmall (network_of market now.history) now.history → first_refusal market now.history (Edit u q X seen) ≡ None
+    → IsSmall market.network now.history → first_refusal market now.history (Edit u q X seen) ≡ None
     → IsAllowedFor market now (OfCommand (Edit u q X seen)) first → IsAllowedFor market now (OfCommand (Edit u q X seen)) second
     → IsTraded first ↔ IsTraded second
 one_kind market now u q X seen first second small none a b =
     let refused = none_applies (refusals market now.history (Edit u q X seen)) none in
     let share = number_in_range (million - 1) X refused.1.1.1.1.1.1.1.1.0 in
-    let judged = value_of _ (question_named (network_of market now.history) q) (at_none (λ (why : Refusal). first ≡ Refused why) (first_refusal market now.history (Edit u q X seen)) none a) in
-    of_kind (network_of market now.history) now.history (user_number now.history u) judged.0 X small share.0 share.1 first second
+    let judged = value_of _ (question_named market.network q) (at_none (λ (why : Refusal). first ≡ Refused why) (first_refusal market now.history (Edit u q X seen)) none a) in
+    of_kind market.network now.history (user_number now.history u) judged.0 X small share.0 share.1 first second
     (current_limits (last_quote now.quotes (user_number now.history u)) judged.0 (revision now.history)) judged.2
-    (at_value _ (question_named (network_of market now.history) q) judged.0 judged.1
+    (at_value _ (question_named market.network q) judged.0 judged.1
     (at_none (λ (why : Refusal). second ≡ Refused why) (first_refusal market now.history (Edit u q X seen)) none b))
 
 -- the shares of a spread that is a trade are inside of all right bounds
@@ -126,18 +126,18 @@ module _ (network : List Variable) (H : List Entry) (u : ℕ) (spread : SpreadAs
       (λ traded. other.1 (one.0 traded), λ traded. one.1 (other.0 traded))
 
 pub spread_one_kind : (market : Market) (now : Standing) (u v : List ℕ) (condition : ArrayVec PairText) (to : ArrayVec ℕ) (seen : Option ℕ) (first second : Reply)
-    → IsSmall (network_of market now.history) now.history → first_refusal market now.history (Spread u v condition to seen) ≡ None
+    → IsSmall market.network now.history → first_refusal market now.history (Spread u v condition to seen) ≡ None
     → IsAllowedFor market now (OfCommand (Spread u v condition to seen)) first → IsAllowedFor market now (OfCommand (Spread u v condition to seen)) second
     → IsTraded first ↔ IsTraded second
 spread_one_kind market now u v condition to seen first second small none a b =
     let refused = none_applies (refusals market now.history (Spread u v condition to seen)) none in
-    let judged = value_of _ (spread_named (network_of market now.history) v condition.items)
+    let judged = value_of _ (spread_named market.network v condition.items)
     (at_none (λ (why : Refusal). first ≡ Refused why) (first_refusal market now.history (Spread u v condition to seen)) none a) in
     let behind = refused.1.1.1.1.1.1.1.1.1 in
-    let suited = shares_suit (network_of market now.history) now.history v condition.items judged.0 (least_share market) to.items judged.1 behind.0 behind.1.0 behind.1.1.1.1.1.1.0 behind.1.1.1.1.1.1.1.0 in
-    spread_of_kind (network_of market now.history) now.history (user_number now.history u) judged.0 to.items small suited first second
+    let suited = shares_suit market.network now.history v condition.items judged.0 (least_share market) to.items judged.1 behind.0 behind.1.0 behind.1.1.1.1.1.1.0 behind.1.1.1.1.1.1.1.0 in
+    spread_of_kind market.network now.history (user_number now.history u) judged.0 to.items small suited first second
     (current_bounds (last_quote now.quotes (user_number now.history u)) judged.0 (revision now.history)) judged.2
-    (at_value _ (spread_named (network_of market now.history) v condition.items) judged.0 judged.1
+    (at_value _ (spread_named market.network v condition.items) judged.0 judged.1
     (at_none (λ (why : Refusal). second ≡ Refused why) (first_refusal market now.history (Spread u v condition to seen)) none b))
 
 pub one_refusal : (market : Market) (now : Standing) (command : Command) (why : Refusal) (reply : Reply) → first_refusal market now.history command ≡ Some why

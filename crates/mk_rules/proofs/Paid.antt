@@ -12,14 +12,14 @@ use Rattle.mk_states.specs.Events.{always}
 use Rattle.mk_exact.specs.History.{Entry, users, revision}
 use Rattle.mk_exact.specs.Weight.{IsSmall}
 use Rattle.mk_exact.specs.Factors.{Fraction, HoldsNoTrade, factor, factor_with, least_gain}
-use Rattle.mk_exact.specs.Market.{Market, network_of}
+use Rattle.mk_exact.specs.Market.{Market}
 use Rattle.mk_exact.specs.Laws.{IsWithinCash, ArePayments, LossIsBounded}
 use Rattle.mk_exact.proofs.Gains.{settlement_bounded}
 use Rattle.mk_spread.specs.Spreads.{SpreadAsked}
 use Rattle.mk_spread.specs.Bounds.{Intervals}
 use Rattle.mk_command.specs.declared.command.Command.{Command}
 use Rattle.mk_command.specs.declared.command.Command.TheVariants.{User, Deposit, Withdraw, Price, Limits, Edit, Bounds, Spread, Worst, Resolve, Settle, Bound}
-use Rattle.mk_command.specs.declared.command.Command.TheVariants.{Prices, Position, Status}
+use Rattle.mk_command.specs.declared.command.Command.TheVariants.{Prices, Position, Status, Add}
 use Rattle.mk_reply.specs.declared.refusal.Refusal.{Refusal}
 use Rattle.mk_reply.specs.declared.payments.Payment.{Payment}
 use Rattle.mk_reply.specs.declared.reply.Reply.{Reply}
@@ -71,19 +71,19 @@ payments_in (Settled at payments) = payments
 payments_in _ = []
 
 settlement_costs : (market : Market) (H : List Entry) (at : ℕ) (payments : List Payment) → Stands market H
-    → IsSettlement (network_of market H) H market.points_per_bit (Settled at payments) → CostsAtMost market H payments
+    → IsSettlement market.network H market.points_per_bit (Settled at payments) → CostsAtMost market H payments
 unfolding payments_in
 settlement_costs market H at payments stands settlement = record {
   state = settlement.state;
   one_state = settlement.one_state;
-  bounded = subst (λ (ps : List Payment). LossIsBounded (network_of market H) H market.points_per_bit settlement.state (paid_by ps)) (sym (ap payments_in settlement.printed))
-      (All-head Bounded settlement.state [] (subst (All Bounded) settlement.one_state (settlement_bounded (network_of market H) H market.points_per_bit stands.sound stands.proper))
-      (paid_by settlement.payments) (are_payments (network_of market H) H market.points_per_bit
+  bounded = subst (λ (ps : List Payment). LossIsBounded market.network H market.points_per_bit settlement.state (paid_by ps)) (sym (ap payments_in settlement.printed))
+      (All-head Bounded settlement.state [] (subst (All Bounded) settlement.one_state (settlement_bounded market.network H market.points_per_bit stands.sound stands.proper))
+      (paid_by settlement.payments) (are_payments market.network H market.points_per_bit
       settlement.state settlement.payments settlement.paid));
 }
   where
     Bounded : List ℕ → Type 0
-    Bounded s = (paid : List ℕ) → ArePayments H market.points_per_bit s paid → LossIsBounded (network_of market H) H market.points_per_bit s paid
+    Bounded s = (paid : List ℕ) → ArePayments H market.points_per_bit s paid → LossIsBounded market.network H market.points_per_bit s paid
 
 abbrev settling : ℕ → List Payment → Reply
 settling at payments = Settled at payments
@@ -114,31 +114,33 @@ module _ (market : Market) (H : List Entry) (quotes : Quotes) (at : ℕ) (paymen
   settles_alone (User u) (inr e) = absurd (cc)
   settles_alone (Deposit u bits) h = absurd (cc)
   settles_alone (Withdraw u bits) h =
-      let least = value_of _ (least_gain (network_of market H) H (user_number H u) always) h in
-      absurd (withdrawal_settles_not (IsSmall (network_of market H) H)
+      let least = value_of _ (least_gain market.network H (user_number H u) always) h in
+      absurd (withdrawal_settles_not (IsSmall market.network H)
       (HoldsNoTrade H (user_number H u)) (factor_with H (user_number H u) least.0) u bits
       (revision H + 1) at payments least.2)
-  settles_alone (Price q) h = let e = (value_of _ (question_named (network_of market H) q) h).2.printed in absurd (cc)
-  settles_alone (Limits u q) h = let e = (value_of _ (question_named (network_of market H) q) h).2.printed in absurd (cc)
+  settles_alone (Price q) h = let e = (value_of _ (question_named market.network q) h).2.printed in absurd (cc)
+  settles_alone (Limits u q) h = let e = (value_of _ (question_named market.network q) h).2.printed in absurd (cc)
   settles_alone (Edit u q X seen) h =
-      let judged = value_of _ (question_named (network_of market H) q) h in
-      absurd (edit_settles_not (network_of market H) H (user_number H u) judged.0 X at payments (current_limits (last_quote quotes (user_number H u)) judged.0 (revision H)) judged.2)
-  settles_alone (Bounds u v condition) h = let e = (value_of _ (spread_named (network_of market H) v condition.items) h).2.printed in absurd (cc)
+      let judged = value_of _ (question_named market.network q) h in
+      absurd (edit_settles_not market.network H (user_number H u) judged.0 X at payments (current_limits (last_quote quotes (user_number H u)) judged.0 (revision H)) judged.2)
+  settles_alone (Bounds u v condition) h = let e = (value_of _ (spread_named market.network v condition.items) h).2.printed in absurd (cc)
   settles_alone (Spread u v condition to seen) h =
-      let judged = value_of _ (spread_named (network_of market H) v condition.items) h in
-      absurd (spread_settles_not (network_of market H) H (user_number H u) judged.0 to.items at payments
+      let judged = value_of _ (spread_named market.network v condition.items) h in
+      absurd (spread_settles_not market.network H (user_number H u) judged.0 to.items at payments
       (current_bounds (last_quote quotes (user_number H u)) judged.0 (revision H)) judged.2)
-  settles_alone (Worst u) h = let e = (value_of _ (least_gain (network_of market H) H (user_number H u) always) h).2.printed in absurd (cc)
+  settles_alone (Worst u) h = let e = (value_of _ (least_gain market.network H (user_number H u) always) h).2.printed in absurd (cc)
   settles_alone (Resolve p) h = absurd (cc)
   settles_alone Settle h = refl
   settles_alone Bound h = let e = h.printed in absurd (cc)
   settles_alone (Prices v condition) h =
-      let e = (value_of _ (spread_named (network_of market H) v condition.items) h).2.printed in
+      let e = (value_of _ (spread_named market.network v condition.items) h).2.printed in
       absurd (cc)
   settles_alone (Position u v condition) h =
-      let e = (value_of _ (spread_named (network_of market H) v condition.items) h).2.printed in
+      let e = (value_of _ (spread_named market.network v condition.items) h).2.printed in
       absurd (cc)
   settles_alone Status h = absurd (cc)
+  settles_alone (Add add) (inl (text, e)) = absurd (cc)
+  settles_alone (Add add) (inr e) = absurd (cc)
 
   answer_costs : (command : Command) → Stands market H → IsAnswer market H quotes command (settling at payments) → CostsAtMost market H payments
   answer_costs command stands h = settlement_costs market H at payments stands

@@ -7,7 +7,7 @@ use Rattle.mk_net.specs.declared.words.Pair.{Pair}
 use Rattle.mk_net.specs.Asked.{Asked}
 use Rattle.mk_exact.specs.History.{Entry, revision}
 use Rattle.mk_exact.specs.Sides.{AreRightLimits}
-use Rattle.mk_exact.specs.Market.{Market, network_of}
+use Rattle.mk_exact.specs.Market.{Market}
 use Rattle.mk_spread.specs.Spreads.{SpreadAsked}
 use Rattle.mk_spread.specs.Bounds.{Intervals}
 use Rattle.mk_spread.specs.Markets.{AreRightBoundsOf}
@@ -66,7 +66,7 @@ same_spread_is a b h =
 -- limits that a right quote holds for a question at the present revision are right
 module _ (market : Market) (H : List Entry) (u : ℕ) (asked : Asked) (limits : Interval) where
   abbrev AreRightHere : Asked → Interval → Type 0
-  AreRightHere question held = AreRightLimits (network_of market H) H u question held
+  AreRightHere question held = AreRightLimits market.network H u question held
 
   of_question : (question : Asked) (held : Interval) (b : Bool) → same_question question asked ≡ b → AreRightHere question held → cond b (Some held) None ≡ Some limits → AreRightHere asked limits
   of_question question held false e right h = cc
@@ -81,14 +81,14 @@ module _ (market : Market) (H : List Entry) (u : ℕ) (asked : Asked) (limits : 
   of_quote (SpreadBounds spread held) at false e right h = cc
   of_quote (SpreadBounds spread held) at true e right h = cc
 
-  pub current_right : (o : Option Quote) → IfSome o (IsRightQuote market H u) → current_limits o asked (revision H) ≡ Some limits → AreRightLimits (network_of market H) H u asked limits
+  pub current_right : (o : Option Quote) → IfSome o (IsRightQuote market H u) → current_limits o asked (revision H) ≡ Some limits → AreRightLimits market.network H u asked limits
   current_right None right h = cc
   current_right (Some quote) right h = of_quote quote.says quote.at (quote.at == revision H) refl right h
 
 -- and so are the bounds that it holds for a spread
 module _ (market : Market) (H : List Entry) (u : ℕ) (spread : SpreadAsked) (intervals : Intervals) where
   abbrev AreBoundsHere : SpreadAsked → Intervals → Type 0
-  AreBoundsHere asked held = AreRightBoundsOf (network_of market H) H u asked held
+  AreBoundsHere asked held = AreRightBoundsOf market.network H u asked held
 
   of_spread : (asked : SpreadAsked) (held : Intervals) (b : Bool) → same_spread asked spread ≡ b → AreBoundsHere asked held → cond b (Some held) None ≡ Some intervals
       → AreBoundsHere spread intervals
@@ -105,6 +105,6 @@ module _ (market : Market) (H : List Entry) (u : ℕ) (spread : SpreadAsked) (in
   bounds_of_quote (SpreadBounds asked held) at true e right h = of_spread asked held (same_spread asked spread) refl (right.right (eqb-true at (revision H) e)) h
 
   pub current_bounds_right : (o : Option Quote) → IfSome o (IsRightQuote market H u) → current_bounds o spread (revision H) ≡ Some intervals
-      → AreRightBoundsOf (network_of market H) H u spread intervals
+      → AreRightBoundsOf market.network H u spread intervals
   current_bounds_right None right h = cc
   current_bounds_right (Some quote) right h = bounds_of_quote quote.says quote.at (quote.at == revision H) refl right h

@@ -9,8 +9,10 @@ use Rattle.mk_net.specs.declared.words.Pair.{Pair}
 use Rattle.mk_net.specs.Events.{speaks_of, AreApart}
 use Rattle.mk_net.specs.Network.{Variable}
 use Rattle.mk_net.proofs.Taken.{neither_of}
-use Rattle.mk_exact.specs.History.{Entry, Join, Deposit, Withdraw, Trade, Resolve, Settle, users, trades, resolutions, is_transfer, is_settlement, revision}
-use Rattle.mk_exact.specs.Market.{Market, network_of}
+use Rattle.mk_exact.specs.History.{Entry, Join, Deposit, Withdraw, Trade, Resolve, Settle, Add}
+use Rattle.mk_exact.specs.History.{users, trades, resolutions, additions, is_transfer, is_settlement}
+use Rattle.mk_exact.specs.History.{revision}
+use Rattle.mk_exact.specs.Market.{Market}
 use Rattle.mk_states.specs.OfNetwork.{IsPairOf}
 use Rattle.mk_exact.specs.Proper.{IsProper}
 use Rattle.mk_rules.specs.Refusals.{variables_in}
@@ -19,7 +21,8 @@ use Rattle.mk_rules.specs.Bounded.{IsBounded}
 use Rattle.mk_rules.proofs.Bounds.{count_first}
 
 -- each entry is of one kind
-kinds : (H : List Entry) → length H ≡ length (users H) + count_by is_transfer H + length (trades H) + length (resolutions H) + count_by is_settlement H
+kinds : (H : List Entry) → length H ≡ length (users H) + count_by is_transfer H + length (trades H)
+    + length (resolutions H) + count_by is_settlement H + length (additions H)
 kinds [] = omega arith
 kinds (Join name ∷ H) = omega (arith, kinds H)
 kinds (Deposit user bits ∷ H) = omega (arith, kinds H, count_first is_transfer (Deposit user bits) H)
@@ -27,6 +30,7 @@ kinds (Withdraw user bits ∷ H) = omega (arith, kinds H, count_first is_transfe
 kinds (Trade user ratio ∷ H) = omega (arith, kinds H)
 kinds (Resolve pair ∷ H) = omega (arith, kinds H)
 kinds (Settle ∷ H) = omega (arith, kinds H, count_first is_settlement Settle H)
+kinds (Add addition ∷ H) = omega (arith, kinds H)
 
 -- no two pairs that are apart have one variable
 others : (variable : ℕ) (pairs : List Pair) → speaks_of pairs variable ≡ false → AllByRecursion (λ other. eqb variable other ≡ false) (variables_in pairs)
@@ -55,4 +59,15 @@ few_resolutions network H proper =
 
 pub revision_fits : (market : Market) (H : List Entry) → IsMarket market → Stands market H → IsBounded market H → revision H + 1 < 2 ^ 63
 revision_fits market H is_market stands bounded =
-    omega (arith, kinds H, bounded.few_users, bounded.within.few_transfers, bounded.within.few_trades, few_resolutions (network_of market H) H stands.proper, is_market.network.few, bounded.settled_once)
+    let few = few_resolutions market.network H stands.proper in
+    omega (
+      arith,
+      kinds H,
+      bounded.few_users,
+      bounded.within.few_transfers,
+      bounded.within.few_trades,
+      few,
+      is_market.network.few,
+      stands.few_added,
+      bounded.settled_once,
+    )

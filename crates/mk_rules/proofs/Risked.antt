@@ -1,6 +1,7 @@
 -- What a reply to `bound` says stays so: each state that is possible later was possible then.
 use Rattle.std.proofs.Common.{◌≡◌, ℕ, ◌+◌, ◌*◌, ◌≤◌, true, false, Bool, length, sum, sum_by, ◌&&◌}
-use Rattle.std.proofs.Common.{List, [], ◌∷◌, ◌++◌, Option, Some, None, MatchOption, All, filter}
+use Rattle.std.proofs.Common.{List, [], ◌∷◌, ◌++◌, map, Option, Some, None, MatchOption}
+use Rattle.std.proofs.Common.{All, filter}
 use Rattle.std.proofs.Common.{cond, refl, sym, ap, ◌∙◌, subst}
 use Rattle.std.specs.Prelude.{option_to_list}
 use Rattle.std.specs.List.{AllByRecursion}
@@ -10,11 +11,12 @@ use Rattle.mk_net.specs.declared.words.Pair.{Pair}
 use Rattle.mk_states.specs.States.{numbers_below}
 use Rattle.mk_states.specs.Events.{has, holds, always}
 use Rattle.mk_states.specs.InitialWeight.{all_states, initial_total}
-use Rattle.mk_exact.specs.History.{Entry, resolution_in, resolutions, deposited, withdrawn, users}
+use Rattle.mk_exact.specs.History.{Entry, Addition, resolution_in, resolutions, additions}
+use Rattle.mk_exact.specs.History.{deposited, withdrawn, users}
 use Rattle.mk_exact.specs.Weight.{is_possible, possible_states}
 use Rattle.mk_exact.specs.Risk.{least_weight, CoversBound}
 use Rattle.mk_exact.specs.Laws.{LossIsBounded}
-use Rattle.mk_exact.specs.Market.{Market, network_of}
+use Rattle.mk_exact.specs.Market.{Market, present}
 use Rattle.mk_exact.proofs.Risk.{bound_holds}
 use Rattle.mk_states.proofs.Sums.{list_all-append}
 use Rattle.mk_command.specs.declared.command.Command.TheVariants.{Settle, Bound}
@@ -26,9 +28,9 @@ use Rattle.mk_rules.specs.Refusals.{first_refusal}
 use Rattle.mk_rules.specs.Answers.{IsBound, entry_of}
 use Rattle.mk_rules.specs.Transcript.{Standing, opening, Line, OfCommand, NoCommand, LongLine, IsAllowedFor, after, Run}
 use Rattle.mk_rules.specs.Standings.{IsMarket}
-use Rattle.mk_rules.specs.Laws.{paid_by, CostsNoMoreThan}
+use Rattle.mk_rules.specs.Laws.{paid_by, CostsAtMost, CostsNoMoreThan}
 use Rattle.mk_rules.proofs.Options.{value_of}
-use Rattle.mk_rules.proofs.Keeps.{run_keeps, opening_stands}
+use Rattle.mk_rules.proofs.Keeps.{run_keeps, opening_present}
 use Rattle.mk_rules.proofs.Paid.{settlement_keeps}
 
 -- a state that is possible behind more entries was possible before them
@@ -48,7 +50,9 @@ run_narrows market old new [] [] run s e = ap (λ (now : Standing). is_possible 
 run_narrows market old new [] (reply ∷ replies) run s e = absurd run
 run_narrows market old new (line ∷ lines) [] run s e = absurd run
 run_narrows market old new (line ∷ lines) (reply ∷ replies) run s e =
-    line_narrows market old line reply s (run_narrows market (after market old line reply) new lines replies run.1 s e)
+    let here = present market old.history in
+    let next = after here old line reply in
+    line_narrows here old line reply s (run_narrows market next new lines replies run.1 s e)
 
 -- what holds of all that pass a test holds of those that pass a stronger one
 each_fewer : {X : Type 0} (P : X → Type 0) (p q : X → Bool) (xs : List X) → ((x : X) → q x ≡ true → p x ≡ true) → AllByRecursion P (filter p xs) → AllByRecursion P (filter q xs)
@@ -64,26 +68,40 @@ each_fewer {X} P p q (x ∷ xs) stronger h = at (p x) (q x) (stronger x) h (each
 
 -- a reply to `bound` that is allowed is one of its answers
 is_bound : (market : Market) (now : Standing) (low high : ℕ) → IsAllowedFor market now (OfCommand Bound) (Risked low high)
-    → IsBound (network_of market now.history) now.history market.points_per_bit (Risked low high)
+    → IsBound market.network now.history market.points_per_bit (Risked low high)
 is_bound market now low high h = at (first_refusal market now.history Bound) h
   where
-    at : (o : Option Refusal) → MatchOption o (IsBound (network_of market now.history) now.history market.points_per_bit (Risked low high)) (λ why. Risked low high ≡ Refused why)
-        → IsBound (network_of market now.history) now.history market.points_per_bit (Risked low high)
+    at : (o : Option Refusal) → MatchOption o (IsBound market.network now.history market.points_per_bit (Risked low high)) (λ why. Risked low high ≡ Refused why)
+        → IsBound market.network now.history market.points_per_bit (Risked low high)
     at None h = h
     at (Some why) e = absurd (cc)
 
-pub bound_is_kept : (market : Market) (middle new : Standing) (first second : List Line) (replies more : List Reply) (low high at : ℕ) (payments : List Payment)
-    → IsMarket market → Run market opening first replies middle → IsAllowedFor market middle (OfCommand Bound) (Risked low high)
-    → Run market middle second more new → IsAllowedFor market new (OfCommand Settle) (Settled at payments)
-    → CostsNoMoreThan market new.history payments high
-bound_is_kept market middle new first second replies more low high at payments is_market before asked behind settled =
-    let stands = run_keeps market middle new second more (run_keeps market opening middle first replies (opening_stands market is_market) before) behind in
-    let costs = settlement_keeps market new (OfCommand Settle) at payments stands settled in
+-- a market is what was added to it
+same_market : (market : Market) (H later : List Entry) → additions later ≡ additions H
+    → present market later ≡ present market H
+same_market market H later same = ap (λ (more : List Addition). with_additions more) same
+  where
+    with_additions : List Addition → Market
+    with_additions more = record {
+      network = market.network ++ map (λ (a : Addition). a.variable) more;
+      cliques = market.cliques ++ map (λ (a : Addition). a.clique) more;
+      points_per_bit = market.points_per_bit;
+      max_trades = market.max_trades;
+      zeros = market.zeros;
+    }
+
+-- what a settlement costs is within a reply to `bound` where each state that can come could then
+bound_covers : (market : Market) (middle new : Standing) (low high : ℕ) (payments : List Payment)
+    → IsAllowedFor market middle (OfCommand Bound) (Risked low high)
+    → ((s : List ℕ) → is_possible new.history s ≡ true → is_possible middle.history s ≡ true)
+    → CostsAtMost market new.history payments → CostsNoMoreThan market new.history payments high
+bound_covers market middle new low high payments asked narrows costs =
     let bound = is_bound market middle low high asked in
     let least = value_of (λ (n : ℕ). CoversBound (initial_total market.network) n market.points_per_bit bound.low bound.high) (least_weight market.network middle.history) bound.covers in
     let later = All-from_recursion (Holds bound.high) (possible_states market.network new.history always)
     (each_fewer (Holds bound.high) (λ s. is_possible middle.history s && always s) (λ s. is_possible new.history s && always s) (all_states market.network)
-    (λ s e. and_from (is_possible middle.history s) true (run_narrows market middle new second more behind s (and_parts (is_possible new.history s) true e).0) refl)
+    (λ s e. and_from (is_possible middle.history s) true
+    (narrows s (and_parts (is_possible new.history s) true e).0) refl)
     (recursion_from_All (Holds bound.high) (possible_states market.network middle.history always)
     (bound_holds market.network middle.history new.history market.points_per_bit least.0 bound.low bound.high (paid_by payments) least.1 least.2))) in
     record {
@@ -96,3 +114,27 @@ bound_is_kept market middle new first second replies more low high at payments i
     Holds most s = LossIsBounded market.network new.history market.points_per_bit s (paid_by payments)
         → sum (paid_by payments) + market.points_per_bit * sum_by (withdrawn new.history) (numbers_below (length (users new.history)))
         ≤ market.points_per_bit * sum_by (deposited new.history) (numbers_below (length (users new.history))) + most
+
+CostsIn : List Entry → List Payment → Market → Type 0
+CostsIn H payments market = CostsAtMost market H payments
+
+pub bound_is_kept : (market : Market) (middle new : Standing) (first second : List Line)
+    (replies more : List Reply) (low high at : ℕ) (payments : List Payment)
+    → IsMarket market → Run market opening first replies middle
+    → IsAllowedFor (present market middle.history) middle (OfCommand Bound) (Risked low high)
+    → Run market middle second more new → additions new.history ≡ additions middle.history
+    → IsAllowedFor (present market new.history) new (OfCommand Settle) (Settled at payments)
+    → CostsNoMoreThan market new.history payments high
+unfolding CostsIn
+bound_is_kept market middle new first second replies more low high at payments is_market run asked
+    behind same settled =
+    let opened = opening_present market is_market in
+    let stands = run_keeps market middle new second more
+    (run_keeps market opening middle first replies opened run) behind in
+    let here = present market new.history in
+    let costs = settlement_keeps here new (OfCommand Settle) at payments stands settled in
+    let costs_then = subst (CostsIn new.history payments)
+    (same_market market middle.history new.history same) costs in
+    let bounded = bound_covers (present market middle.history) middle new low high payments asked
+    (run_narrows market middle new second more behind) costs_then in
+    record { bound = bounded.bound }

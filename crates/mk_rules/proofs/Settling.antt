@@ -8,18 +8,19 @@ use Rattle.mk_states.specs.InitialWeight.{all_states, initial_weight, initial_to
 use Rattle.mk_states.specs.Events.{holds, always}
 use Rattle.mk_states.specs.States.{numbers_below}
 use Rattle.mk_exact.specs.History.{Entry, Settle as Settles, is_settlement, is_settled, users, deposited, withdrawn}
-use Rattle.mk_exact.specs.Market.{Market}
+use Rattle.mk_exact.specs.Market.{Market, present}
+use Rattle.mk_grown.proofs.Present.{present_after}
 use Rattle.mk_exact.proofs.After.{users_kept, resolutions_kept, deposited_kept, withdrawn_kept}
 use Rattle.mk_command.specs.declared.command.Command.{Command}
 use Rattle.mk_command.specs.declared.command.Command.TheVariants.{User, Deposit, Withdraw, Price, Limits, Edit, Bounds, Spread, Worst, Resolve, Settle, Bound}
-use Rattle.mk_command.specs.declared.command.Command.TheVariants.{Prices, Position, Status}
+use Rattle.mk_command.specs.declared.command.Command.TheVariants.{Prices, Position, Status, Add}
 use Rattle.mk_reply.specs.declared.refusal.Refusal.{Refusal}
 use Rattle.mk_reply.specs.declared.refusal.Refusal.TheVariants.{Settled as SettledBefore}
 use Rattle.mk_reply.specs.declared.payments.Payment.{Payment}
 use Rattle.mk_reply.specs.declared.reply.Reply.{Reply}
 use Rattle.mk_reply.specs.declared.reply.Reply.TheVariants.{Joined, Deposited, Withdrawn, Price as Priced, Limits as Limited, Traded, Bounded, Spreaded, Worst as Worsted, Resolved, Settled, Bound as Risked, Refused}
 use Rattle.mk_reply.specs.declared.reply.Reply.TheVariants.{Prices as Told, Position as Positioned}
-use Rattle.mk_reply.specs.declared.reply.Reply.TheVariants.{Status as Counted}
+use Rattle.mk_reply.specs.declared.reply.Reply.TheVariants.{Status as Counted, Added}
 use Rattle.mk_rules.specs.Refusals.{first_refusal}
 use Rattle.mk_rules.specs.Quotes.{Quotes}
 use Rattle.mk_rules.specs.Answers.{IsAnswer, IsAllowed, entry_of, next_history}
@@ -27,7 +28,7 @@ use Rattle.mk_rules.specs.Transcript.{Standing, Line, OfCommand, NoCommand, Long
 use Rattle.mk_rules.specs.Standings.{Stands}
 use Rattle.mk_rules.specs.Laws.{paid_by, CostsAtMost, PaysWithin}
 use Rattle.mk_rules.proofs.Appended.{refused_appends}
-use Rattle.mk_rules.proofs.Keeps.{allowed_keeps}
+use Rattle.mk_rules.proofs.Keeps.{step_keeps}
 use Rattle.mk_rules.proofs.Paid.{line_settles, settlement_keeps}
 
 -- what a command is refused for
@@ -51,6 +52,7 @@ refused_behind market H Bound s = (SettledBefore, rw s refl)
 refused_behind market H (Prices v condition) s = (SettledBefore, rw s refl)
 refused_behind market H (Position u v condition) s = (SettledBefore, rw s refl)
 refused_behind market H Status s = (SettledBefore, rw s refl)
+refused_behind market H (Add add) s = (SettledBefore, rw s refl)
 
 none_there : {X : Type 0} (o : Option X) → IfSome o (λ _. ⊥) → o ≡ None
 none_there None h = refl
@@ -79,8 +81,9 @@ run_stays market old new [] [] s run = ap (λ (now : Standing). now.history) run
 run_stays market old new [] (reply ∷ replies) s run = absurd run
 run_stays market old new (line ∷ lines) [] s run = absurd run
 run_stays market old new (line ∷ lines) (reply ∷ replies) s run =
-    let same = line_stays market old line reply s run.0 in
-    run_stays market (after market old line reply) new lines replies (ap is_settled same ∙ s) run.1 ∙ same
+    let same = line_stays (present market old.history) old line reply s run.0 in
+    let next = after (present market old.history) old line reply in
+    run_stays market next new lines replies (ap is_settled same ∙ s) run.1 ∙ same
 
 settled_now : (H : List Entry) → is_settled (H ++ Settles ∷ []) ≡ true
 settled_now [] = refl
@@ -114,20 +117,31 @@ costs_behind market H payments costs =
       };
     }
 
-settlement_pays : (market : Market) (old new : Standing) (line : Line) (at : ℕ) (payments : List Payment) (lines : List Line) (replies : List Reply)
-    → Stands market old.history → IsAllowedFor market old line (Settled at payments) → Run market (after market old line (Settled at payments)) lines replies new
-    → CostsAtMost market new.history payments
+settlement_pays : (market : Market) (old new : Standing) (line : Line) (at : ℕ)
+    (payments : List Payment) (lines : List Line) (replies : List Reply) → Stands (present market old.history) old.history
+    → IsAllowedFor (present market old.history) old line (Settled at payments)
+    → Run market (after (present market old.history) old line (Settled at payments)) lines replies
+    new → CostsAtMost (present market new.history) new.history payments
 settlement_pays market old new line at payments lines replies stands allowed run =
-    let next : (after market old line (Settled at payments)).history ≡ old.history ++ Settles ∷ [] =
-    ap (λ (l : Line). (after market old l (Settled at payments)).history) (line_settles market old line at payments allowed) in
+    let here = present market old.history in
+    let settled = after here old line (Settled at payments) in
+    let next : settled.history ≡ old.history ++ Settles ∷ [] =
+    ap (λ (l : Line). (after here old l (Settled at payments)).history)
+    (line_settles here old line at payments allowed) in
     let stays : new.history ≡ old.history ++ Settles ∷ [] =
-    run_stays market (after market old line (Settled at payments)) new lines replies (ap is_settled next ∙ settled_now old.history) run ∙ next in
-    subst (λ (H : List Entry). CostsAtMost market H payments) (sym stays)
-    (costs_behind market old.history payments (settlement_keeps market old line at payments stands allowed))
+    run_stays market settled new lines replies (ap is_settled next ∙ settled_now old.history) run
+    ∙ next in
+    let same = present_after market old.history Settles in
+    let costs = settlement_keeps here old line at payments stands allowed in
+    subst (λ (H : List Entry). CostsAtMost (present market H) H payments) (sym stays)
+    (subst (λ (m : Market). CostsAtMost m (old.history ++ Settles ∷ []) payments) (sym same)
+    (costs_behind here old.history payments costs))
 
 reply_pays : (market : Market) (old new : Standing) (line : Line) (reply : Reply) (lines : List Line) (replies : List Reply)
-    → Stands market old.history → IsAllowedFor market old line reply → Run market (after market old line reply) lines replies new
-    → PaysWithin market new.history reply
+    → Stands (present market old.history) old.history
+    → IsAllowedFor (present market old.history) old line reply
+    → Run market (after (present market old.history) old line reply) lines replies new
+    → PaysWithin (present market new.history) new.history reply
 reply_pays market old new line (Settled at payments) lines replies stands allowed run =
     settlement_pays market old new line at payments lines replies stands allowed run
 reply_pays market old new line (Joined u at) lines replies stands allowed run = tt
@@ -145,13 +159,19 @@ reply_pays market old new line (Told intervals) lines replies stands allowed run
 reply_pays market old new line (Positioned intervals) lines replies stands allowed run = tt
 reply_pays market old new line (Counted at users trades most moves more left all) lines replies
     stands allowed run = tt
+reply_pays market old new line (Added v at) lines replies stands allowed run = tt
 reply_pays market old new line (Refused why) lines replies stands allowed run = tt
 
-pub run_settles : (market : Market) (old new : Standing) (lines : List Line) (replies : List Reply) → Stands market old.history
-    → Run market old lines replies new → All (PaysWithin market new.history) replies
-run_settles market old new [] [] stands run = All-nil (PaysWithin market new.history)
+pub run_settles : (market : Market) (old new : Standing) (lines : List Line) (replies : List Reply)
+    → Stands (present market old.history) old.history → Run market old lines replies new
+    → All (PaysWithin (present market new.history) new.history) replies
+run_settles market old new [] [] stands run =
+    All-nil (PaysWithin (present market new.history) new.history)
 run_settles market old new [] (reply ∷ replies) stands run = absurd run
 run_settles market old new (line ∷ lines) [] stands run = absurd run
 run_settles market old new (line ∷ lines) (reply ∷ replies) stands run =
-    All-cons (PaysWithin market new.history) reply replies (reply_pays market old new line reply lines replies stands run.0 run.1)
-    (run_settles market (after market old line reply) new lines replies (allowed_keeps market old line reply stands run.0) run.1)
+    let next = after (present market old.history) old line reply in
+    All-cons (PaysWithin (present market new.history) new.history) reply replies
+    (reply_pays market old new line reply lines replies stands run.0 run.1)
+    (run_settles market next new lines replies (step_keeps market old line reply stands run.0)
+    run.1)

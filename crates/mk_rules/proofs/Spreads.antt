@@ -10,7 +10,7 @@ use Rattle.mk_net.specs.Network.{Variable}
 use Rattle.mk_net.specs.Named.{pair_named, variable_named}
 use Rattle.mk_net.proofs.Named.{pair_variable_in_range, pair_value_in_range}
 use Rattle.mk_exact.specs.History.{Entry}
-use Rattle.mk_exact.specs.Market.{Market, network_of, cliques_of}
+use Rattle.mk_exact.specs.Market.{Market}
 use Rattle.mk_states.specs.OfNetwork.{IsPairOf}
 use Rattle.mk_states.proofs.Sums.{each_weaker}
 use Rattle.mk_spread.specs.Spreads.{SpreadAsked, IsSpreadOf}
@@ -57,13 +57,13 @@ spread_is network v pairs spread h =
     record { variable = omega arith; condition = subst (AllByRecursion (IsPairOf network)) (sym parts.2) (known_fit network pairs) }
 
 -- a distribution that is not wide
-pub spread_not_wide : (market : Market) (H : List Entry) (v : List ℕ) (pairs : List PairText) (spread : SpreadAsked) → spread_named (network_of market H) v pairs ≡ Some spread
-    → wide_spread market H v pairs ≡ None → is_wide (cliques_of market H) (spread.variable ∷ variables_in spread.condition) ≡ false
+pub spread_not_wide : (market : Market) (H : List Entry) (v : List ℕ) (pairs : List PairText) (spread : SpreadAsked) → spread_named market.network v pairs ≡ Some spread
+    → wide_spread market H v pairs ≡ None → is_wide market.cliques (spread.variable ∷ variables_in spread.condition) ≡ false
 spread_not_wide market H v pairs spread named h = not_faulted _ _
-    (subst (λ (o : Option SpreadAsked). option_and_then (λ (s : SpreadAsked). wide (cliques_of market H) (s.variable ∷ variables_in s.condition)) o ≡ None) named h)
+    (subst (λ (o : Option SpreadAsked). option_and_then (λ (s : SpreadAsked). wide market.cliques (s.variable ∷ variables_in s.condition)) o ≡ None) named h)
 
 -- where none passes a test, each fails it
-none_found : {X : Type 0} (test : X → Bool) (xs : List X) → find test xs ≡ None → AllByRecursion (λ x. test x ≡ false) xs
+pub none_found : {X : Type 0} (test : X → Bool) (xs : List X) → find test xs ≡ None → AllByRecursion (λ x. test x ≡ false) xs
 none_found test [] h = tt
 none_found test (x ∷ xs) h = at (test x) refl (none_found test xs) h
   where

@@ -1,10 +1,10 @@
 -- In a ready standing an allowed reply to a line that is a text has a text.
-use Rattle.std.proofs.Common.{◌≡◌, ℕ, ◌+◌, ◌*◌, ◌^◌, ◌<◌, ◌≤◌, ◌⊎◌, inl, inr, Bool, true, false}
-use Rattle.std.proofs.Common.{cond, List, [], ◌∷◌, ◌++◌, length, sum, Option, Some, None, IfSome}
+use Rattle.std.proofs.Common.{◌≡◌, ℕ, ◌+◌, ◌*◌, ◌^◌, ◌<◌, ◌≤◌, ◌⊎◌, inl, inr, Bool}
+use Rattle.std.proofs.Common.{List, [], ◌∷◌, length, sum, Option, Some, None, IfSome}
 use Rattle.std.proofs.Common.{MatchOption, slice_index, slice_index_or, refl, sym, ◌∙◌, subst}
 use Rattle.std.proofs.Common.{arith}
-use Rattle.std.specs.Prelude.{option_map, option_and_then, find, All}
-use Rattle.std.specs.List.{AllByRecursion, AllZip, enumerate_from, list_any}
+use Rattle.std.specs.Prelude.{option_map, option_and_then, All}
+use Rattle.std.specs.List.{AllByRecursion, AllZip, enumerate_from}
 use Rattle.std.proofs.lemmas.Bool.{cases_lt}
 use Rattle.std.proofs.lemmas.List.Elements.{All-from_recursion, recursion_from_All}
 use Rattle.std.proofs.lemmas.List.FromFn.{length-enumerate_from, length-range_with_len}
@@ -14,7 +14,6 @@ use Rattle.arrayvec.specs.ArrayVec.{ArrayVec}
 use Rattle.mk_net.specs.declared.words.PairText.{PairText}
 use Rattle.mk_net.specs.declared.words.QuestionText.{QuestionText}
 use Rattle.mk_net.specs.Name.{IsName}
-use Rattle.mk_net.specs.Texts.{same_text}
 use Rattle.mk_net.specs.Network.{Variable, sizes, IsNetwork}
 use Rattle.mk_net.specs.Named.{variable_at, nobody}
 use Rattle.std.proofs.lemmas.List.{get_or_past}
@@ -22,7 +21,7 @@ use Rattle.mk_states.proofs.Listed.{as_many}
 use Rattle.mk_states.proofs.Shares.{size_at}
 use Rattle.mk_rules.proofs.Coming.{together_have, decided_has, sure_has, share_has, missing_has}
 use Rattle.mk_net.specs.Asked.{Asked, IsUnits}
-use Rattle.mk_net.specs.Firsts.{fault_if, first_of}
+use Rattle.mk_net.specs.Firsts.{first_of}
 use Rattle.mk_states.specs.Events.{always}
 use Rattle.mk_exact.specs.History.{Entry, users, revision}
 use Rattle.mk_exact.specs.Weight.{IsSmall}
@@ -30,7 +29,7 @@ use Rattle.mk_exact.specs.Factors.{HoldsNoTrade, factor, factor_with, least_gain
 use Rattle.mk_exact.specs.Limits.{IsWithinRange}
 use Rattle.mk_exact.specs.Prices.{exact_price}
 use Rattle.mk_exact.specs.Sides.{AreRightLimits}
-use Rattle.mk_exact.specs.Market.{Market, network_of, cliques_of}
+use Rattle.mk_exact.specs.Market.{Market}
 use Rattle.mk_exact.specs.Cash.{CoversCash}
 use Rattle.mk_exact.proofs.ExistBounds.{cash_fits, least_cash_fits}
 use Rattle.mk_states.proofs.Sums.{each_weaker}
@@ -50,16 +49,19 @@ use Rattle.mk_text.specs.Texts.{IsPairText, IsCondition, IsQuestionText}
 use Rattle.mk_command.specs.Commands.{IsCommand}
 use Rattle.mk_command.specs.declared.command.Command.{Command}
 use Rattle.mk_command.specs.declared.command.Command.TheVariants.{User, Deposit, Withdraw, Price, Limits, Edit, Bounds, Spread, Worst, Resolve, Settle, Bound}
-use Rattle.mk_command.specs.declared.command.Command.TheVariants.{Prices, Position, Status}
+use Rattle.mk_command.specs.declared.command.Command.TheVariants.{Prices, Position, Status, Add}
 use Rattle.mk_reply.specs.Refusals.{given_in, IsRefusal}
 use Rattle.mk_reply.specs.Replies.{IsReply, IsRatio, IsPayment as HasText}
 use Rattle.mk_reply.specs.declared.refusal.Refusal.{Refusal}
-use Rattle.mk_reply.specs.declared.refusal.Refusal.TheVariants.{Unknown, Twice, Impossible, Range, Unresolved}
+use Rattle.mk_reply.specs.declared.refusal.Refusal.TheVariants.{Unknown, Twice, Impossible, Unresolved}
 use Rattle.mk_reply.specs.declared.payments.Payment.{Payment}
 use Rattle.mk_reply.specs.declared.reply.Reply.{Reply}
 use Rattle.mk_reply.specs.declared.reply.Reply.TheVariants.{Refused}
-use Rattle.mk_rules.specs.Refusals.{pairs_of, names_in, variables_in, question_named, spread_named, user_number, first_repeat, settled, no_user, no_variable, unknown, twice, stale, resolved, impossible, impossible_together, sure_value, impossible_share, missing_share, least_share, wide, wide_spread, numbers, ranges, sums, trades_full, unresolved, refusals, first_refusal}
+use Rattle.mk_rules.specs.Refusals.{pairs_of, names_in, variables_in, question_named, spread_named, user_number, settled, no_user, no_variable, unknown, twice, stale, resolved, impossible, impossible_together, sure_value, impossible_share, missing_share, least_share, wide, wide_spread, numbers, ranges, sums, trades_full, unresolved, refusals, first_refusal}
 use Rattle.mk_rules.specs.Refusals.{is_resolved}
+use Rattle.mk_rules.proofs.Faults.{faulted, first_has, first_then, then_has, found_has, repeat_has}
+use Rattle.mk_rules.proofs.Faults.{name_fault, ranges_have}
+use Rattle.mk_rules.proofs.AddTexts.{add_refused}
 use Rattle.mk_text.specs.Numbers.{AreEnds}
 use Rattle.std.specs.Prelude.{not}
 use Rattle.std.specs.List.{count_by, range_with_len}
@@ -76,50 +78,9 @@ use Rattle.mk_rules.proofs.Quoted.{current_right, current_bounds_right}
 use Rattle.mk_rules.proofs.Revisions.{revision_fits}
 use Rattle.mk_rules.proofs.Answered.{can_be_asked}
 
-faulted : (test : Bool) (why : Refusal) → IsRefusal why → IfSome (fault_if test why) IsRefusal
-faulted true why h = h
-faulted false why h = tt
-
-first_has : (faults : List (Option Refusal)) → AllByRecursion (λ o. IfSome o IsRefusal) faults → IfSome (first_of faults) IsRefusal
-first_has [] h = tt
-first_has (None ∷ later) h = first_has later h.1
-first_has (Some why ∷ later) h = h.0
-
--- several faults before others
-first_then : (faults later : List (Option Refusal)) → AllByRecursion (λ o. IfSome o IsRefusal) faults → IfSome (first_of later) IsRefusal → IfSome (first_of (faults ++ later)) IsRefusal
-first_then [] later h k = k
-first_then (None ∷ faults) later h k = first_then faults later h.1 k
-first_then (Some why ∷ faults) later h k = h.0
-
--- faults that come only where one does not apply
-then_has : (o : Option Refusal) (later : List (Option Refusal)) → IfSome o IsRefusal → (o ≡ None → IfSome (first_of later) IsRefusal) → IfSome (first_of (o ∷ later)) IsRefusal
-then_has None later h k = k refl
-then_has (Some why) later h k = h
-
--- the first that passes a test is one of the list
-found_has : {X : Type 0} (P : X → Type 0) (test : X → Bool) (xs : List X) → AllByRecursion P xs → IfSome (find test xs) P
-found_has P test [] h = tt
-found_has P test (x ∷ xs) h = at (test x) (found_has P test xs h.1)
-  where
-    at : (b : Bool) → IfSome (find test xs) P → IfSome (cond b (Some x) (find test xs)) P
-    at true later = h.0
-    at false later = later
-
-repeat_has : (before names : List (List ℕ)) → AllByRecursion IsName names → IfSome (first_repeat before names) IsName
-repeat_has before [] h = tt
-repeat_has before (name ∷ names) h = at (list_any (same_text name) before) (repeat_has (name ∷ before) names h.1)
-  where
-    at : (b : Bool) → IfSome (first_repeat (name ∷ before) names) IsName → IfSome (cond b (Some name) (first_repeat (name ∷ before) names)) IsName
-    at true later = h.0
-    at false later = later
-
 pair_fault : (f : PairText → Refusal) → ((p : PairText) → IsPairText p → IsRefusal (f p)) → (o : Option PairText) → IfSome o IsPairText → IfSome (option_map f o) IsRefusal
 pair_fault f each None h = tt
 pair_fault f each (Some p) h = each p h
-
-name_fault : (o : Option (List ℕ)) → IfSome o IsName → IfSome (option_map Twice o) IsRefusal
-name_fault None h = tt
-name_fault (Some name) h = h
 
 pair_names : (pairs : List PairText) → AllByRecursion IsPairText pairs → AllByRecursion IsName (names_in pairs)
 pair_names [] h = tt
@@ -140,22 +101,15 @@ impossible_has : (network : List Variable) (H : List Entry) (pairs : List PairTe
 impossible_has network H pairs h = pair_fault Impossible (λ p text. text) _ (found_has IsPairText _ pairs h)
 
 twice_has : (pairs : List PairText) → AllByRecursion IsPairText pairs → IfSome (twice (names_in pairs)) IsRefusal
-twice_has pairs h = name_fault _ (repeat_has [] (names_in pairs) (pair_names pairs h))
+twice_has pairs h = name_fault Twice (λ name named. named) _ (repeat_has [] (names_in pairs) (pair_names pairs h))
 
 -- a variable before the pairs of a condition
 names_have : (v : List ℕ) (pairs : List PairText) → IsName v → AllByRecursion IsPairText pairs → IfSome (twice (v ∷ names_in pairs)) IsRefusal
-names_have v pairs named h = name_fault _ (repeat_has [] (v ∷ names_in pairs) (named, pair_names pairs h))
+names_have v pairs named h = name_fault Twice (λ name named. named) _ (repeat_has [] (v ∷ names_in pairs) (named, pair_names pairs h))
 
 stale_has : (H : List Entry) (seen : Option ℕ) → revision H + 1 < 2 ^ 63 → IfSome seen IsShort → IfSome (stale H seen) IsRefusal
 stale_has H None fits short = tt
 stale_has H (Some named) fits short = faulted _ _ (omega (arith, short), omega (arith, fits))
-
-number_fault : (o : Option ℕ) → IfSome o IsShort → IfSome (option_map Range o) IsRefusal
-number_fault None h = tt
-number_fault (Some n) h = omega (arith, h)
-
-ranges_have : (least most : ℕ) (numbers : List ℕ) → AllByRecursion IsShort numbers → IfSome (ranges least most numbers) IsRefusal
-ranges_have least most numbers h = number_fault _ (found_has IsShort _ numbers h)
 
 -- numbers below a million make no more than a million for each
 few_millions : (least : ℕ) (numbers : List ℕ) → AllByRecursion (λ n. (least ≤ n) × (n ≤ 999999)) numbers → sum numbers ≤ length numbers * 999999
@@ -163,9 +117,9 @@ few_millions least numbers h = sum_by-le (λ n. n) 999999 numbers
     (All-from_recursion (λ n. n ≤ 999999) numbers (each_weaker (λ n. (least ≤ n) × (n ≤ 999999)) (λ n. n ≤ 999999) (λ n inside. inside.1) numbers h))
 
 wide_spread_has : (market : Market) (H : List Entry) (v : List ℕ) (pairs : List PairText) → IfSome (wide_spread market H v pairs) IsRefusal
-wide_spread_has market H v pairs = at (spread_named (network_of market H) v pairs)
+wide_spread_has market H v pairs = at (spread_named market.network v pairs)
   where
-    at : (o : Option SpreadAsked) → IfSome (option_and_then (λ (spread : SpreadAsked). wide (cliques_of market H) (spread.variable ∷ variables_in spread.condition)) o) IsRefusal
+    at : (o : Option SpreadAsked) → IfSome (option_and_then (λ (spread : SpreadAsked). wide market.cliques (spread.variable ∷ variables_in spread.condition)) o) IsRefusal
     at None = tt
     at (Some spread) = faulted _ _ tt
 
@@ -237,7 +191,7 @@ reply_has reply known e h = subst (λ (r : Reply). IsReply r) (sym e) h
 
 module _ (market : Market) (now : Standing) (is_market : IsMarket market) (ready : IsReady market now) (bounded : IsBounded market now.history) where
   abbrev network : List Variable
-  network = network_of market now.history
+  network = market.network
 
   abbrev H : List Entry
   H = now.history
@@ -397,6 +351,7 @@ module _ (market : Market) (now : Standing) (is_market : IsMarket market) (ready
       first_then (settled H ∷ no_user H u ∷ []) (refusals_of_values v condition)
       (faulted _ _ tt, (faulted _ _ text.0, tt)) (values_have v condition text.1 pairs)
   refused_has Status text = first_has (refusals market H Status) (faulted _ _ tt, tt)
+  refused_has (Add add) text = add_refused market H add text.0 is_market
 
   refusal_has : (command : Command) (why : Refusal) → IsCommand command → first_refusal market H command ≡ Some why → IsRefusal why
   refusal_has command why text e = subst (λ (o : Option Refusal). IfSome o IsRefusal) e (refused_has command text)
@@ -528,6 +483,8 @@ module _ (market : Market) (now : Standing) (is_market : IsMarket market) (ready
         omega (arith, left, many),
         omega (arith, many),
       )
+  answer_has (Add add) reply text none (inl (words, e)) = reply_has reply _ e (words.variable, next)
+  answer_has (Add add) reply text none (inr e) = reply_has reply _ e tt
 
   command_has : (command : Command) (reply : Reply) → IsCommand command → IsAllowed market H now.quotes command reply → IsReply reply
   command_has command reply text h = at (first_refusal market H command) refl h

@@ -14,7 +14,7 @@ use Rattle.mk_net.specs.Events.{speaks_of}
 use Rattle.mk_net.specs.Firsts.{fault_if, first_of}
 use Rattle.mk_net.proofs.Named.{pair_variable_in_range, pair_value_in_range}
 use Rattle.mk_exact.specs.History.{Entry, users, resolutions}
-use Rattle.mk_exact.specs.Market.{Market, network_of, cliques_of}
+use Rattle.mk_exact.specs.Market.{Market}
 use Rattle.mk_states.specs.OfNetwork.{IsPairOf, IsQuestionOf}
 use Rattle.mk_exact.specs.Laws.{AgreesWith}
 use Rattle.mk_rules.specs.Refusals.{question_named, pairs_of, known_pairs, variables_in, user_number, has_joined, is_resolved, contradicts, passes, is_wide, no_user, unknown, resolved, impossible, wide_question, range, unresolved}
@@ -127,12 +127,12 @@ target_named network q asked h = at (pair_named network q.target) refl h
     at (Some t) e h = let same : record { target = t; condition = known_pairs network q.condition.items } ≡ asked = cc in (e ∙ ap (λ (a : Asked). Some a.target) same, ap (λ (a : Asked). a.condition) (sym same))
 
 -- a question that is not wide
-pub not_wide : (market : Market) (H : List Entry) (q : QuestionText) (asked : Asked) → question_named (network_of market H) q ≡ Some asked → wide_question market H q ≡ None
-    → is_wide (cliques_of market H) (asked.target.variable ∷ variables_in asked.condition) ≡ false
+pub not_wide : (market : Market) (H : List Entry) (q : QuestionText) (asked : Asked) → question_named market.network q ≡ Some asked → wide_question market H q ≡ None
+    → is_wide market.cliques (asked.target.variable ∷ variables_in asked.condition) ≡ false
 not_wide market H q asked named h =
-    let parts = target_named (network_of market H) q asked named in
-    ap (λ (ps : List Pair). is_wide (cliques_of market H) (asked.target.variable ∷ variables_in ps)) parts.1
-    ∙ ap (λ (o : Option Pair). is_wide (cliques_of market H) (variables_in (cons_option o (known_pairs (network_of market H) q.condition.items)))) (sym parts.0)
+    let parts = target_named market.network q asked named in
+    ap (λ (ps : List Pair). is_wide market.cliques (asked.target.variable ∷ variables_in ps)) parts.1
+    ∙ ap (λ (o : Option Pair). is_wide market.cliques (variables_in (cons_option o (known_pairs market.network q.condition.items)))) (sym parts.0)
     ∙ not_faulted _ _ h
 
 -- a question whose pairs are known is one of the network

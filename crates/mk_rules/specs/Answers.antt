@@ -8,7 +8,7 @@ use Rattle.mk_net.specs.Named.{pair_named}
 use Rattle.mk_net.specs.Asked.{Asked}
 use Rattle.mk_states.specs.InitialWeight.{initial_total}
 use Rattle.mk_states.specs.Events.{always}
-use Rattle.mk_exact.specs.History.{Entry, Join, Deposit as Deposits, Withdraw as Withdraws, Trade, Resolve as Resolves, Settle as Settles, users, revision}
+use Rattle.mk_exact.specs.History.{Entry, Join, Deposit as Deposits, Withdraw as Withdraws, Trade, Resolve as Resolves, Settle as Settles, Add as Adds, users, revision}
 use Rattle.mk_exact.specs.Weight.{IsSmall, possible_states}
 use Rattle.mk_exact.specs.Factors.{Fraction, HoldsNoTrade, factor, factor_with, least_gain}
 use Rattle.mk_exact.specs.Prices.{CoversPrice, exact_price}
@@ -17,21 +17,23 @@ use Rattle.mk_exact.specs.Risk.{least_weight, CoversBound}
 use Rattle.mk_exact.specs.Limits.{Inside}
 use Rattle.mk_exact.specs.Sides.{AreRightLimits, IsFairPair, ratio_in}
 use Rattle.mk_exact.specs.Accepted.{Covers, IsMost}
-use Rattle.mk_exact.specs.Market.{Market, network_of}
+use Rattle.mk_exact.specs.Market.{Market}
 use Rattle.mk_spread.specs.Spreads.{SpreadAsked, spread_ratio}
 use Rattle.mk_spread.specs.Bounds.{Intervals, InsideEach}
 use Rattle.mk_spread.specs.Markets.{AreRightBoundsOf, IsFairList}
 use Rattle.arrayvec.specs.ArrayVec.{ArrayVec}
 use Rattle.mk_command.specs.declared.command.Command.{Command}
 use Rattle.mk_command.specs.declared.command.Command.TheVariants.{User, Deposit, Withdraw, Price, Limits, Edit, Bounds, Spread, Worst, Resolve, Settle, Bound}
-use Rattle.mk_command.specs.declared.command.Command.TheVariants.{Prices, Position, Status}
+use Rattle.mk_command.specs.declared.command.Command.TheVariants.{Prices, Position, Status, Add}
+use Rattle.mk_addition.specs.Adds.{IsAddText}
 use Rattle.mk_reply.specs.declared.refusal.Refusal.TheVariants.{Beyond, Outside, Short, Memory}
 use Rattle.mk_reply.specs.declared.payments.Payment.{Payment}
 use Rattle.mk_reply.specs.declared.reply.Reply.{Reply}
-use Rattle.mk_reply.specs.declared.reply.Reply.TheVariants.{Joined, Deposited, Withdrawn, Price as Priced, Limits as Limited, Traded, Bounded, Spreaded, Worst as Worsted, Resolved, Settled, Bound as Risked, Refused}
+use Rattle.mk_reply.specs.declared.reply.Reply.TheVariants.{Joined, Deposited, Withdrawn, Price as Priced, Limits as Limited, Traded, Bounded, Spreaded, Worst as Worsted, Resolved, Settled, Bound as Risked, Added, Refused}
 use Rattle.mk_reply.specs.Refusals.{given_in}
 use Rattle.mk_rules.specs.Told.{ArePrices, IsPosition, status_of}
 use Rattle.mk_rules.specs.Refusals.{question_named, spread_named, user_number, first_refusal}
+use Rattle.mk_rules.specs.Additions.{addition_of}
 use Rattle.mk_rules.specs.Quotes.{Interval, Quoted, EditLimits, SpreadBounds, Quotes, last_quote, current_limits, current_bounds}
 
 -- a trade with a fair and solvent pair
@@ -155,47 +157,49 @@ abbrev pub IsAnswer : Market → List Entry → Quotes → Command → Reply →
 IsAnswer market H quotes (User u) reply = (reply ≡ Joined u (revision H + 1)) ⊎ (reply ≡ Refused Memory)
 IsAnswer market H quotes (Deposit u bits) reply = reply ≡ Deposited u bits (revision H + 1)
 IsAnswer market H quotes (Withdraw u bits) reply =
-    let network = network_of market H in
+    let network = market.network in
     let n = user_number H u in
     IsSomeAnd (least_gain network H n always)
     (λ g. IsWithdrawal (IsSmall network H) (HoldsNoTrade H n) (factor_with H n g) u bits
     (revision H + 1) reply)
 IsAnswer market H quotes (Price q) reply =
-    let network = network_of market H in
+    let network = market.network in
     IsSomeAnd (question_named network q) (λ asked. IsPrice network H asked reply)
 IsAnswer market H quotes (Limits u q) reply =
-    let network = network_of market H in
+    let network = market.network in
     IsSomeAnd (question_named network q) (λ asked. IsLimits network H (user_number H u) asked reply)
 IsAnswer market H quotes (Edit u q X seen) reply =
-    let network = network_of market H in
+    let network = market.network in
     let n = user_number H u in
     IsSomeAnd (question_named network q) (λ asked. MatchOption (current_limits (last_quote quotes n) asked (revision H))
     (IsJudgedAfresh network H n asked X reply) (λ limits. IsJudged network H n asked X limits reply))
 IsAnswer market H quotes (Bounds u v condition) reply =
-    let network = network_of market H in
+    let network = market.network in
     IsSomeAnd (spread_named network v condition.items) (λ spread. IsBounds network H (user_number H u) spread reply)
 IsAnswer market H quotes (Spread u v condition to seen) reply =
-    let network = network_of market H in
+    let network = market.network in
     let n = user_number H u in
     IsSomeAnd (spread_named network v condition.items) (λ spread. MatchOption (current_bounds (last_quote quotes n) spread (revision H))
     (IsSpreadJudgedAfresh network H n spread to.items reply) (λ intervals. IsSpreadJudged network H n spread to.items intervals reply))
 IsAnswer market H quotes (Worst u) reply =
-    let network = network_of market H in
+    let network = market.network in
     let n = user_number H u in
     IsSomeAnd (least_gain network H n always)
     (λ g. IsWorst (IsSmall network H) (HoldsNoTrade H n) (factor_with H n g)
     market.points_per_bit reply)
 IsAnswer market H quotes (Resolve p) reply = reply ≡ Resolved p (revision H + 1)
-IsAnswer market H quotes Settle reply = IsSettlement (network_of market H) H market.points_per_bit reply
-IsAnswer market H quotes Bound reply = IsBound (network_of market H) H market.points_per_bit reply
+IsAnswer market H quotes Settle reply = IsSettlement market.network H market.points_per_bit reply
+IsAnswer market H quotes Bound reply = IsBound market.network H market.points_per_bit reply
 IsAnswer market H quotes (Prices v condition) reply =
-    let network = network_of market H in
+    let network = market.network in
     IsSomeAnd (spread_named network v condition.items) (λ spread. ArePrices network H spread reply)
 IsAnswer market H quotes (Position u v condition) reply =
-    let network = network_of market H in
+    let network = market.network in
     IsSomeAnd (spread_named network v condition.items)
     (λ spread. IsPosition network H (user_number H u) market.points_per_bit spread reply)
 IsAnswer market H quotes Status reply = reply ≡ status_of market H
+IsAnswer market H quotes (Add add) reply =
+    (IsAddText add × (reply ≡ Added add.variable (revision H + 1))) ⊎ (reply ≡ Refused Memory)
 
 -- the refusal of the table that comes first is the one reply; else the command's answers
 abbrev pub IsAllowed : Market → List Entry → Quotes → Command → Reply → Type 0
@@ -208,12 +212,13 @@ entry_of market H (User u) (Joined _ _) = Some (Join u)
 entry_of market H (Deposit u bits) (Deposited _ _ _) = Some (Deposits (user_number H u) bits)
 entry_of market H (Withdraw u bits) (Withdrawn _ _ _) = Some (Withdraws (user_number H u) bits)
 entry_of market H (Edit u q X seen) (Traded hit miss _) =
-    let network = network_of market H in
+    let network = market.network in
     option_map (λ asked. Trade (user_number H u) (ratio_in network asked hit miss)) (question_named network q)
 entry_of market H (Spread u v condition to seen) (Spreaded factors _) =
-    option_map (λ spread. Trade (user_number H u) (spread_ratio spread factors.items)) (spread_named (network_of market H) v condition.items)
-entry_of market H (Resolve p) (Resolved _ _) = option_map Resolves (pair_named (network_of market H) p)
+    option_map (λ spread. Trade (user_number H u) (spread_ratio spread factors.items)) (spread_named market.network v condition.items)
+entry_of market H (Resolve p) (Resolved _ _) = option_map Resolves (pair_named market.network p)
 entry_of market H Settle (Settled _ _) = Some Settles
+entry_of market H (Add add) (Added _ _) = Some (Adds (addition_of market.network add))
 entry_of market H _ _ = None
 
 abbrev pub next_history : Market → List Entry → Command → Reply → List Entry
@@ -225,12 +230,12 @@ with_quote H quotes u said = slice_set quotes (user_number H u) (option_map (λ 
 
 -- the quotes once a user was quoted these limits of a question
 abbrev pub with_limits : Market → List Entry → Quotes → List ℕ → QuestionText → Interval → Quotes
-with_limits market H quotes u q limits = with_quote H quotes u (option_map (λ asked. EditLimits asked limits) (question_named (network_of market H) q))
+with_limits market H quotes u q limits = with_quote H quotes u (option_map (λ asked. EditLimits asked limits) (question_named market.network q))
 
 -- the quotes once a user was quoted these bounds of a spread
 abbrev pub with_bounds : Market → List Entry → Quotes → List ℕ → List ℕ → List PairText → Intervals → Quotes
 with_bounds market H quotes u v pairs intervals =
-    with_quote H quotes u (option_map (λ spread. SpreadBounds spread intervals) (spread_named (network_of market H) v pairs))
+    with_quote H quotes u (option_map (λ spread. SpreadBounds spread intervals) (spread_named market.network v pairs))
 
 -- a new user has no quote, `limits`, `beyond`, `bounds` and `outside` set the user's, and nothing else changes one
 abbrev pub next_quotes : Market → List Entry → Quotes → Command → Reply → Quotes

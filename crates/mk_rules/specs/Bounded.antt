@@ -4,7 +4,7 @@ use Rattle.std.specs.List.{AllByRecursion, count_by}
 use Rattle.mk_net.specs.Bounds.{max_users, max_transfer_bits}
 use Rattle.mk_net.specs.Name.{IsName}
 use Rattle.mk_net.specs.Network.{AreDistinct}
-use Rattle.mk_exact.specs.History.{Entry, Join, Deposit, Withdraw, Trade, Resolve, Settle, users, trades, is_settlement}
+use Rattle.mk_exact.specs.History.{Entry, Join, Deposit, Withdraw, Trade, Resolve, Settle, Add, users, trades, is_settlement}
 use Rattle.mk_exact.specs.Market.{Market}
 use Rattle.mk_exact.specs.Existing.{IsWithinBounds}
 use Rattle.mk_command.specs.Commands.{IsCommand}
@@ -36,6 +36,7 @@ FitsTransfer joined (Withdraw user bits) = IsTransferOf joined user bits
 FitsTransfer joined (Trade user ratio) = ⊤
 FitsTransfer joined (Resolve pair) = ⊤
 FitsTransfer joined Settle = ⊤
+FitsTransfer joined (Add addition) = ⊤
 
 -- at most 256 users, each with a name of its own; as many trades as the market takes; transfers of 1 to 1,000 bits by users who
 -- joined; and at most one settlement

@@ -7,9 +7,9 @@ use Rattle.mk_net.specs.declared.words.QuestionText.{QuestionText}
 use Rattle.mk_net.specs.Asked.{Asked}
 use Rattle.mk_states.specs.Events.{always}
 use Rattle.mk_states.specs.States.{numbers_below}
-use Rattle.mk_exact.specs.History.{Entry, users, revision, deposited, withdrawn}
+use Rattle.mk_exact.specs.History.{Entry, users, additions, revision, deposited, withdrawn}
 use Rattle.mk_exact.specs.Weight.{possible_states, IsSmall}
-use Rattle.mk_exact.specs.Market.{Market, network_of}
+use Rattle.mk_exact.specs.Market.{Market, present}
 use Rattle.mk_exact.specs.Limits.{Inside}
 use Rattle.mk_spread.specs.Spreads.{SpreadAsked}
 use Rattle.mk_spread.specs.Bounds.{Intervals, InsideEach}
@@ -23,24 +23,26 @@ use Rattle.mk_reply.specs.declared.reply.Reply.{Reply}
 use Rattle.mk_reply.specs.declared.reply.Reply.TheVariants.{Traded, Spreaded, Settled, Bound as Risked, Refused}
 use Rattle.mk_rules.specs.Refusals.{question_named, spread_named, user_number, first_refusal}
 use Rattle.mk_rules.specs.Quotes.{Interval, no_quotes, last_quote, current_limits, current_bounds}
-use Rattle.mk_rules.specs.Transcript.{Standing, opening, Line, OfCommand, IsAllowedFor, after, Run}
+use Rattle.mk_rules.specs.Transcript.{Standing, opening, Line, OfCommand, IsAllowedFor, after, market_after, Run}
 use Rattle.mk_rules.specs.Standings.{IsMarket, Stands, IsReady}
 use Rattle.mk_rules.specs.Bounded.{IsLine, JoinsByName, IsBounded}
 
 -- an allowed reply to any line leads from a history that stands to one that does
 abbrev pub AllowedKeeps : Type 0
 AllowedKeeps = (market : Market) (now : Standing) (line : Line) (reply : Reply)
-    → Stands market now.history → IsAllowedFor market now line reply → Stands market (after market now line reply).history
+    → Stands market now.history → IsAllowedFor market now line reply
+    → Stands (market_after market now line reply) (after market now line reply).history
 
 -- and so does each run
 abbrev pub RunKeeps : Type 0
 RunKeeps = (market : Market) (old new : Standing) (lines : List Line) (replies : List Reply)
-    → Stands market old.history → Run market old lines replies new → Stands market new.history
+    → Stands (present market old.history) old.history → Run market old lines replies new
+    → Stands (present market new.history) new.history
 
 -- the history after each run from the opening stands
 abbrev pub RunStands : Type 0
 RunStands = (market : Market) (new : Standing) (lines : List Line) (replies : List Reply)
-    → IsMarket market → Run market opening lines replies new → Stands market new.history
+    → IsMarket market → Run market opening lines replies new → Stands (present market new.history) new.history
 
 -- a history that stands is ready where its users were quoted nothing, as after a restart and at the opening
 abbrev pub UnquotedIsReady : Type 0
@@ -49,17 +51,19 @@ UnquotedIsReady = (market : Market) (H : List Entry) → Stands market H → IsR
 -- an allowed reply to any line leads from a ready standing to a ready one
 abbrev pub ReadyKeeps : Type 0
 ReadyKeeps = (market : Market) (now : Standing) (line : Line) (reply : Reply)
-    → IsReady market now → IsAllowedFor market now line reply → IsReady market (after market now line reply)
+    → IsReady market now → IsAllowedFor market now line reply
+    → IsReady (market_after market now line reply) (after market now line reply)
 
 -- and so does each run
 abbrev pub RunKeepsReady : Type 0
 RunKeepsReady = (market : Market) (old new : Standing) (lines : List Line) (replies : List Reply)
-    → IsReady market old → Run market old lines replies new → IsReady market new
+    → IsReady (present market old.history) old → Run market old lines replies new
+    → IsReady (present market new.history) new
 
 -- the standing after each run from the opening is ready
 abbrev pub RunIsReady : Type 0
 RunIsReady = (market : Market) (new : Standing) (lines : List Line) (replies : List Reply)
-    → IsMarket market → Run market opening lines replies new → IsReady market new
+    → IsMarket market → Run market opening lines replies new → IsReady (present market new.history) new
 
 -- a line has an allowed reply
 abbrev pub HasReply : Market → Standing → Line → Type 0
@@ -77,11 +81,12 @@ pub record HasRun (market : Market) (old : Standing) (lines : List Line) : Type 
 
 -- and so can any
 abbrev pub RunsExist : Type 0
-RunsExist = (market : Market) (lines : List Line) (old : Standing) → IsMarket market → IsReady market old → HasRun market old lines
+RunsExist = (market : Market) (lines : List Line) (old : Standing)
+    → IsReady (present market old.history) old → HasRun market old lines
 
 -- some state stays possible
 abbrev pub StateStaysPossible : Type 0
-StateStaysPossible = (market : Market) (H : List Entry) → IsMarket market → Stands market H → 1 ≤ length (possible_states (network_of market H) H always)
+StateStaysPossible = (market : Market) (H : List Entry) → IsMarket market → Stands market H → 1 ≤ length (possible_states market.network H always)
 
 -- an allowed reply to a line that is a text leads from a bounded history to a bounded one
 abbrev pub BoundedKeeps : Type 0
@@ -112,7 +117,8 @@ RunsJoin = (market : Market) (old middle new : Standing) (first second : List Li
 abbrev pub RunIsBounded : Type 0
 RunIsBounded = (market : Market) (new : Standing) (lines : List Line) (replies : List Reply)
     → IsMarket market → Run market opening lines replies new
-    → All (GainsAreBounded (network_of market new.history) new.history) (possible_states (network_of market new.history) new.history always)
+    → All (GainsAreBounded (present market new.history).network new.history)
+    (possible_states (present market new.history).network new.history always)
 
 -- what is paid at a settlement
 abbrev pub paid_by : List Payment → List ℕ
@@ -121,8 +127,8 @@ paid_by payments = map (λ (p : Payment). p.paid) payments
 -- in the one possible state the payments cost the operator at most the bound
 pub record CostsAtMost (market : Market) (H : List Entry) (payments : List Payment) : Type 0 where
   pub state : List ℕ
-  pub one_state : possible_states (network_of market H) H always ≡ state ∷ []
-  pub bounded : LossIsBounded (network_of market H) H market.points_per_bit state (paid_by payments)
+  pub one_state : possible_states market.network H always ≡ state ∷ []
+  pub bounded : LossIsBounded market.network H market.points_per_bit state (paid_by payments)
 
 -- a settlement that is allowed does
 abbrev pub SettlementKeeps : Type 0
@@ -137,7 +143,8 @@ PaysWithin market H _ = ⊤
 -- in each run from the opening, so do the payments of each settlement
 abbrev pub RunSettles : Type 0
 RunSettles = (market : Market) (new : Standing) (lines : List Line) (replies : List Reply)
-    → IsMarket market → Run market opening lines replies new → All (PaysWithin market new.history) replies
+    → IsMarket market → Run market opening lines replies new
+    → All (PaysWithin (present market new.history) new.history) replies
 
 -- the reply to an edit or a spread is a trade
 abbrev pub IsTraded : Reply → Type 0
@@ -150,7 +157,7 @@ IsTraded _ = ⊥
 abbrev pub JudgedExactly : Type 0
 JudgedExactly = (market : Market) (now : Standing) (u : List ℕ) (q : QuestionText) (X : ℕ) (seen : Option ℕ) (asked : Asked)
     (limits : Interval) (reply : Reply) → first_refusal market now.history (Edit u q X seen) ≡ None
-    → question_named (network_of market now.history) q ≡ Some asked
+    → question_named market.network q ≡ Some asked
     → current_limits (last_quote now.quotes (user_number now.history u)) asked (revision now.history) ≡ Some limits
     → IsAllowedFor market now (OfCommand (Edit u q X seen)) reply → IsTraded reply ↔ Inside limits X
 
@@ -158,7 +165,7 @@ JudgedExactly = (market : Market) (now : Standing) (u : List ℕ) (q : QuestionT
 abbrev pub SpreadJudgedExactly : Type 0
 SpreadJudgedExactly = (market : Market) (now : Standing) (u v : List ℕ) (condition : ArrayVec PairText) (to : ArrayVec ℕ) (seen : Option ℕ) (spread : SpreadAsked)
     (intervals : Intervals) (reply : Reply) → first_refusal market now.history (Spread u v condition to seen) ≡ None
-    → spread_named (network_of market now.history) v condition.items ≡ Some spread
+    → spread_named market.network v condition.items ≡ Some spread
     → current_bounds (last_quote now.quotes (user_number now.history u)) spread (revision now.history) ≡ Some intervals
     → IsAllowedFor market now (OfCommand (Spread u v condition to seen)) reply → IsTraded reply ↔ InsideEach intervals to.items
 
@@ -170,14 +177,14 @@ OneRefusal = (market : Market) (now : Standing) (command : Command) (why : Refus
 -- in the small case the allowed replies to an edit that no refusal of the table meets are all trades or none is
 abbrev pub OneKind : Type 0
 OneKind = (market : Market) (now : Standing) (u : List ℕ) (q : QuestionText) (X : ℕ) (seen : Option ℕ) (first second : Reply)
-    → IsSmall (network_of market now.history) now.history → first_refusal market now.history (Edit u q X seen) ≡ None
+    → IsSmall market.network now.history → first_refusal market now.history (Edit u q X seen) ≡ None
     → IsAllowedFor market now (OfCommand (Edit u q X seen)) first → IsAllowedFor market now (OfCommand (Edit u q X seen)) second
     → IsTraded first ↔ IsTraded second
 
 -- and so are those to a spread
 abbrev pub SpreadOneKind : Type 0
 SpreadOneKind = (market : Market) (now : Standing) (u v : List ℕ) (condition : ArrayVec PairText) (to : ArrayVec ℕ) (seen : Option ℕ) (first second : Reply)
-    → IsSmall (network_of market now.history) now.history → first_refusal market now.history (Spread u v condition to seen) ≡ None
+    → IsSmall market.network now.history → first_refusal market now.history (Spread u v condition to seen) ≡ None
     → IsAllowedFor market now (OfCommand (Spread u v condition to seen)) first → IsAllowedFor market now (OfCommand (Spread u v condition to seen)) second
     → IsTraded first ↔ IsTraded second
 
@@ -186,9 +193,12 @@ pub record CostsNoMoreThan (market : Market) (H : List Entry) (payments : List P
   pub bound : sum (paid_by payments) + market.points_per_bit * sum_by (withdrawn H) (numbers_below (length (users H)))
       ≤ market.points_per_bit * sum_by (deposited H) (numbers_below (length (users H))) + most
 
--- whatever comes behind an allowed reply to `bound`, an allowed settlement costs no more than the reply's high end
+-- whatever comes behind an allowed reply to `bound`, but for added questions, an allowed settlement costs no more than the
+-- reply's high end
 abbrev pub BoundIsKept : Type 0
 BoundIsKept = (market : Market) (middle new : Standing) (first second : List Line) (replies more : List Reply) (low high at : ℕ) (payments : List Payment)
-    → IsMarket market → Run market opening first replies middle → IsAllowedFor market middle (OfCommand Bound) (Risked low high)
-    → Run market middle second more new → IsAllowedFor market new (OfCommand Settle) (Settled at payments)
+    → IsMarket market → Run market opening first replies middle
+    → IsAllowedFor (present market middle.history) middle (OfCommand Bound) (Risked low high)
+    → Run market middle second more new → additions new.history ≡ additions middle.history
+    → IsAllowedFor (present market new.history) new (OfCommand Settle) (Settled at payments)
     → CostsNoMoreThan market new.history payments high

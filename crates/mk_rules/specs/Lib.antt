@@ -1,3 +1,4 @@
+pub mod Additions
 pub mod Refusals
 pub mod Quotes
 pub mod Told
@@ -9,3 +10,4 @@ pub mod Laws
 pub mod Examples
 pub mod SpreadExamples
 pub mod ToldExamples
+pub mod AddExamples

@@ -16,14 +16,17 @@ use Rattle.mk_net.specs.Firsts.{fault_if, or_else, first_of}
 use Rattle.mk_exact.specs.History.{Entry, users, trades, resolutions, is_settled, is_transfer, revision}
 use Rattle.mk_states.specs.Events.{holds, with_target, without_target}
 use Rattle.mk_exact.specs.Weight.{cannot_come}
-use Rattle.mk_exact.specs.Market.{Market, network_of, cliques_of}
+use Rattle.mk_exact.specs.Market.{Market}
 use Rattle.mk_spread.specs.Spreads.{SpreadAsked}
 use Rattle.mk_spread.specs.Markets.{value_cannot_come, values_left}
+use Rattle.mk_rules.specs.Additions.{variables_full, taken, nobody_named, no_link, uncovered}
+use Rattle.mk_rules.specs.Additions.{not_running, row_count, row_width, most_share, shares_of}
+use Rattle.mk_rules.specs.Additions.{row_sum, too_large}
 use Rattle.mk_command.specs.declared.command.Command.{Command}
 use Rattle.mk_command.specs.declared.command.Command.TheVariants.{User, Deposit, Withdraw, Price, Limits, Edit, Bounds, Spread, Worst, Resolve, Settle, Bound}
-use Rattle.mk_command.specs.declared.command.Command.TheVariants.{Prices, Position, Status}
+use Rattle.mk_command.specs.declared.command.Command.TheVariants.{Prices, Position, Status, Add}
 use Rattle.mk_reply.specs.declared.refusal.Refusal.{Refusal}
-use Rattle.mk_reply.specs.declared.refusal.Refusal.TheVariants.{Settled, User as NoUser, Exists, Users, Unknown, Twice, Stale, Resolved, Impossible, Wide, Range, Full, Unresolved, NoVariable, Numbers, Sum, Sure}
+use Rattle.mk_reply.specs.declared.refusal.Refusal.TheVariants.{Settled, User as NoUser, Exists, Users, Unknown, Twice, Stale, Resolved, Impossible, Wide, Range, Full, Unresolved, NoVariable, ValueTwice, Numbers, Sum, Sure}
 
 -- the pairs of a question as they are written, the target first
 abbrev pub pairs_of : QuestionText → List PairText
@@ -100,6 +103,10 @@ no_variable network v = fault_if (is_none (variable_named network v)) (NoVariabl
 abbrev pub twice : List (List ℕ) → Option Refusal
 twice names = option_map Twice (first_repeat [] names)
 
+-- the first value of a list that stands a second time
+abbrev pub value_twice : List (List ℕ) → Option Refusal
+value_twice values = option_map ValueTwice (first_repeat [] values)
+
 abbrev pub stale : List Entry → Option ℕ → Option Refusal
 stale H None = None
 stale H (Some named) = fault_if (not (named == revision H)) (Stale named (revision H))
@@ -115,12 +122,12 @@ wide cliques variables = fault_if (is_wide cliques variables) Wide
 
 -- a question is wide where the variables of its pairs are
 abbrev pub wide_question : Market → List Entry → QuestionText → Option Refusal
-wide_question market H q = wide (cliques_of market H) (variables_in (known_pairs (network_of market H) (pairs_of q)))
+wide_question market H q = wide market.cliques (variables_in (known_pairs market.network (pairs_of q)))
 
 -- so is one about every value of a variable where that and the variables of the condition are
 abbrev pub wide_spread : Market → List Entry → List ℕ → List PairText → Option Refusal
-wide_spread market H v pairs = option_and_then (λ (spread : SpreadAsked). wide (cliques_of market H) (spread.variable ∷ variables_in spread.condition))
-    (spread_named (network_of market H) v pairs)
+wide_spread market H v pairs = option_and_then (λ (spread : SpreadAsked). wide market.cliques (spread.variable ∷ variables_in spread.condition))
+    (spread_named market.network v pairs)
 
 -- the first pair of a list with which, beside some pairs and those before it, no possible state is left
 abbrev pub impossible_after : List Variable → List Entry → List Pair → List PairText → Option Refusal
@@ -207,63 +214,72 @@ refusals_by_record market H (User u) = settled H ∷ exists H u ∷ users_full H
 refusals_by_record market H (Deposit u bits) = settled H ∷ no_user H u ∷ range max_transfer_bits bits ∷ transfers_full H ∷ []
 refusals_by_record market H (Withdraw u bits) = settled H ∷ no_user H u ∷ range max_transfer_bits bits ∷ transfers_full H ∷ []
 refusals_by_record market H (Price q) =
-    let network = network_of market H in
+    let network = market.network in
     settled H ∷ unknown network (pairs_of q) ∷ twice (names_in (pairs_of q)) ∷ resolved network H q.target.variable
     ∷ impossible network H q.condition.items ∷ wide_question market H q ∷ []
 refusals_by_record market H (Limits u q) =
-    let network = network_of market H in
+    let network = market.network in
     settled H ∷ no_user H u ∷ unknown network (pairs_of q) ∷ twice (names_in (pairs_of q)) ∷ resolved network H q.target.variable
     ∷ impossible network H q.condition.items ∷ wide_question market H q ∷ []
 refusals_by_record market H (Edit u q to seen) =
-    let network = network_of market H in
+    let network = market.network in
     settled H ∷ no_user H u ∷ unknown network (pairs_of q) ∷ twice (names_in (pairs_of q)) ∷ stale H seen
     ∷ resolved network H q.target.variable ∷ impossible network H q.condition.items ∷ wide_question market H q
     ∷ range (million - 1) to ∷ trades_full market H ∷ []
 refusals_by_record market H (Bounds u v condition) =
-    let network = network_of market H in
+    let network = market.network in
     settled H ∷ no_user H u ∷ no_variable network v ∷ unknown network condition.items ∷ twice (v ∷ names_in condition.items)
     ∷ resolved network H v ∷ impossible network H condition.items ∷ wide_spread market H v condition.items ∷ []
 refusals_by_record market H (Spread u v condition to seen) =
-    let network = network_of market H in
+    let network = market.network in
     settled H ∷ no_user H u ∷ no_variable network v ∷ unknown network condition.items ∷ twice (v ∷ names_in condition.items)
     ∷ stale H seen ∷ resolved network H v ∷ impossible network H condition.items ∷ wide_spread market H v condition.items
     ∷ numbers network v to.items ∷ ranges (least_share market) (million - 1) to.items ∷ sums to.items ∷ trades_full market H ∷ []
 refusals_by_record market H (Worst u) = settled H ∷ no_user H u ∷ []
 refusals_by_record market H (Resolve p) =
-    let network = network_of market H in
+    let network = market.network in
     settled H ∷ unknown network (p ∷ []) ∷ resolved network H p.variable ∷ []
-refusals_by_record market H Settle = settled H ∷ unresolved (network_of market H) H ∷ []
+refusals_by_record market H Settle = settled H ∷ unresolved market.network H ∷ []
 refusals_by_record market H Bound = settled H ∷ []
 refusals_by_record market H (Prices v condition) =
-    let network = network_of market H in
+    let network = market.network in
     settled H ∷ no_variable network v ∷ unknown network condition.items
     ∷ twice (v ∷ names_in condition.items) ∷ resolved network H v
     ∷ impossible network H condition.items ∷ wide_spread market H v condition.items ∷ []
 refusals_by_record market H (Position u v condition) =
-    let network = network_of market H in
+    let network = market.network in
     settled H ∷ no_user H u ∷ no_variable network v ∷ unknown network condition.items
     ∷ twice (v ∷ names_in condition.items) ∷ resolved network H v
     ∷ impossible network H condition.items ∷ wide_spread market H v condition.items ∷ []
 refusals_by_record market H Status = settled H ∷ []
+refusals_by_record market H (Add add) =
+    let network = market.network in
+    settled H ∷ variables_full network ∷ taken network add.variable ∷ value_twice add.values.items
+    ∷ nobody_named network [] add.parents.items
+    ∷ nobody_named network (add.variable ∷ []) add.clique.items
+    ∷ twice add.parents.items ∷ twice add.clique.items ∷ no_link market.cliques add.link
+    ∷ uncovered add ∷ not_running market add ∷ row_count network add ∷ row_width add
+    ∷ ranges (least_share market) (most_share market) (shares_of add) ∷ row_sum add
+    ∷ too_large market add ∷ []
 
 -- what it is refused for by what can come, behind these
 abbrev pub refusals_by_states : Market → List Entry → Command → List (Option Refusal)
-refusals_by_states market H (Price q) = impossible_together (network_of market H) H q.condition.items ∷ []
+refusals_by_states market H (Price q) = impossible_together market.network H q.condition.items ∷ []
 refusals_by_states market H (Limits u q) =
-    let network = network_of market H in impossible_together network H q.condition.items ∷ decided network H q ∷ []
+    let network = market.network in impossible_together network H q.condition.items ∷ decided network H q ∷ []
 refusals_by_states market H (Edit u q to seen) =
-    let network = network_of market H in impossible_together network H q.condition.items ∷ decided network H q ∷ []
+    let network = market.network in impossible_together network H q.condition.items ∷ decided network H q ∷ []
 refusals_by_states market H (Bounds u v condition) =
-    let network = network_of market H in impossible_together network H condition.items ∷ sure_value network H v condition.items ∷ []
+    let network = market.network in impossible_together network H condition.items ∷ sure_value network H v condition.items ∷ []
 refusals_by_states market H (Spread u v condition to seen) =
-    let network = network_of market H in
+    let network = market.network in
     impossible_together network H condition.items ∷ sure_value network H v condition.items
     ∷ impossible_share network H v condition.items to.items ∷ missing_share network H v condition.items to.items ∷ []
-refusals_by_states market H (Resolve p) = impossible_together (network_of market H) H (p ∷ []) ∷ []
+refusals_by_states market H (Resolve p) = impossible_together market.network H (p ∷ []) ∷ []
 refusals_by_states market H (Prices v condition) =
-    impossible_together (network_of market H) H condition.items ∷ []
+    impossible_together market.network H condition.items ∷ []
 refusals_by_states market H (Position u v condition) =
-    impossible_together (network_of market H) H condition.items ∷ []
+    impossible_together market.network H condition.items ∷ []
 refusals_by_states market H _ = []
 
 -- what it is refused for, in this order

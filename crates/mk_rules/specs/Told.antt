@@ -6,7 +6,7 @@ use Rattle.mk_net.specs.Bounds.{max_transfers}
 use Rattle.mk_net.specs.Network.{Variable}
 use Rattle.mk_states.specs.States.{numbers_below}
 use Rattle.mk_exact.specs.History.{Entry, users, trades, is_transfer, revision}
-use Rattle.mk_exact.specs.Market.{Market, network_of}
+use Rattle.mk_exact.specs.Market.{Market}
 use Rattle.mk_spread.specs.Spreads.{SpreadAsked}
 use Rattle.mk_spread.specs.Told.{ArePricesOf, IsPositionOf}
 use Rattle.mk_reply.specs.declared.reply.Reply.{Reply}
@@ -34,6 +34,6 @@ open_count network H = count_by (λ v. not (is_resolved H v)) (numbers_below (le
 -- how far a market is, and how full
 abbrev pub status_of : Market → List Entry → Reply
 status_of market H =
-    let network = network_of market H in
+    let network = market.network in
     Status (revision H) (length (users H)) (length (trades H)) market.max_trades
     (count_by is_transfer H) max_transfers (open_count network H) (length network)

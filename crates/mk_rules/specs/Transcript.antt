@@ -1,13 +1,13 @@
 -- Transcripts over a list of lines: each line is answered by an allowed reply, in the standing that the earlier ones leave.
-use Rattle.std.specs.Prelude.{◌≡◌, List, [], ◌∷◌}
+use Rattle.std.specs.Prelude.{◌≡◌, List, [], ◌∷◌, Option, Some, None}
 use Rattle.mk_exact.specs.History.{Entry}
-use Rattle.mk_exact.specs.Market.{Market}
+use Rattle.mk_exact.specs.Market.{Market, present, with_entry}
 use Rattle.mk_command.specs.declared.command.Command.{Command}
 use Rattle.mk_reply.specs.declared.reply.Reply.{Reply}
 use Rattle.mk_reply.specs.declared.reply.Reply.TheVariants.{Refused}
 use Rattle.mk_reply.specs.declared.refusal.Refusal.TheVariants.{Syntax, Long}
 use Rattle.mk_rules.specs.Quotes.{Quotes}
-use Rattle.mk_rules.specs.Answers.{IsAllowed, next_history, next_quotes}
+use Rattle.mk_rules.specs.Answers.{IsAllowed, entry_of, next_history, next_quotes}
 
 -- what the earlier lines and replies leave
 pub record Standing : Type 0 where
@@ -38,10 +38,20 @@ after market now (OfCommand command) reply = record {
 after market now NoCommand reply = now
 after market now LongLine reply = now
 
--- each line is answered in turn by an allowed reply
+-- the market after a reply: with what the reply added
+abbrev pub with_entries : Option Entry → Market → Market
+with_entries None market = market
+with_entries (Some e) market = with_entry e market
+
+abbrev pub market_after : Market → Standing → Line → Reply → Market
+market_after market now (OfCommand command) reply = with_entries (entry_of market now.history command reply) market
+market_after market now NoCommand reply = market
+market_after market now LongLine reply = market
+
+-- each line is answered in turn by an allowed reply, in the market as its history leaves it
 abbrev pub Run : Market → Standing → List Line → List Reply → Standing → Type 0
 Run market old [] [] new = new ≡ old
 Run market old [] (reply ∷ replies) new = ⊥
 Run market old (line ∷ lines) [] new = ⊥
 Run market old (line ∷ lines) (reply ∷ replies) new =
-    IsAllowedFor market old line reply × Run market (after market old line reply) lines replies new
+    IsAllowedFor (present market old.history) old line reply × Run market (after (present market old.history) old line reply) lines replies new

@@ -1,6 +1,7 @@
 //! The rules at work in small markets.
 ghost use Rattle.mk_rules.specs.Examples.{AreMarkets, AreRefused, ComeInOrder, AreAnswered, AreCurrent, IsTakenOut, IsWorstPaid, IsResolved, IsPaid, IsJudgedByNewLimits, RunsThrough};
 ghost use Rattle.mk_rules.specs.ToldExamples.{ToldInOrder, IsTold};
+ghost use Rattle.mk_rules.specs.AddExamples.{AddsInOrder, IsAdded};
 ghost use Rattle.mk_rules.specs.SpreadExamples.{AreSpreadsRefused, SpreadsComeInOrder, AreSpreadsCurrent, AreSpreadsAnswered};
 
 use mk_exact::{example_cash, example_limits, example_networks};
@@ -103,4 +104,15 @@ pub fn example_told_order()
 /// Prices, positions and a status that are allowed, and replies that are not.
 pub fn example_told()
     ensures { IsTold }
+{}
+
+/// For each two neighbours among the refusals of an added question, that the first of them comes
+/// where both apply.
+pub fn example_add_order()
+    ensures { AddsInOrder }
+{}
+
+/// A question that is added, what it leaves, and replies that are not allowed.
+pub fn example_added()
+    ensures { IsAdded }
 {}

@@ -93,7 +93,8 @@ pub fn run_settles()
     ensures { RunSettles }
 {}
 
-/// Whatever comes behind an allowed reply to `bound`, an allowed settlement costs the operator no more than the reply's high end.
+/// Whatever comes behind an allowed reply to `bound`, but for added questions, an allowed settlement costs the operator no
+/// more than the reply's high end.
 pub fn bound_is_kept()
     ensures { BoundIsKept }
 {}

@@ -7,10 +7,10 @@ mod examples;
 mod laws;
 
 pub use examples::{
-    example_answers, example_judged_afresh, example_markets, example_order, example_quotes,
-    example_refusals, example_resolution, example_run, example_settlement, example_spread_order,
-    example_spread_quotes, example_spread_refusals, example_spreads, example_told,
-    example_told_order, example_withdrawal, example_worst,
+    example_add_order, example_added, example_answers, example_judged_afresh, example_markets,
+    example_order, example_quotes, example_refusals, example_resolution, example_run,
+    example_settlement, example_spread_order, example_spread_quotes, example_spread_refusals,
+    example_spreads, example_told, example_told_order, example_withdrawal, example_worst,
 };
 pub use laws::{
     allowed_keeps, always_answered, bound_is_kept, bounded_keeps, judged_exactly,

@@ -2,4 +2,5 @@ use Rattle.mk_rules.proofs.laws.bounded_keeps.Goals as goal
 use Rattle.mk_rules.proofs.Follows.{bounded_keeps}
 
 pub returns : goal.returns
-returns c = bounded_keeps
+returns c = λ market now line reply is_market.
+    bounded_keeps market now line reply is_market.few_trades
