@@ -5,18 +5,19 @@ use Rattle.std.specs.Prelude.{option_to_list, option_map}
 use Rattle.mk_net.specs.Firsts.{first_of}
 use Rattle.mk_net.specs.Asked.{Asked, TradeRatio}
 use Rattle.mk_exact.specs.History.{Entry, Join, Deposit as Deposits, Withdraw as Withdraws, Trade}
-use Rattle.mk_exact.specs.History.{Resolve as Resolves, Settle as Settles}
+use Rattle.mk_exact.specs.History.{Resolve as Resolves, Settle as Settles, Add as Adds}
+use Rattle.mk_exact.specs.Market.{present}
 use Rattle.mk_exact.specs.Sides.{ratio_in}
-use Rattle.mk_exact.specs.Market.{network_of}
 use Rattle.mk_spread.specs.Spreads.{SpreadAsked, spread_ratio}
 use Rattle.mk_command.specs.declared.command.Command.{Command}
 use Rattle.mk_command.specs.declared.command.Command.TheVariants.{User, Deposit, Withdraw, Price}
 use Rattle.mk_command.specs.declared.command.Command.TheVariants.{Limits, Edit, Bounds, Spread}
 use Rattle.mk_command.specs.declared.command.Command.TheVariants.{Worst, Resolve, Settle, Bound}
-use Rattle.mk_command.specs.declared.command.Command.TheVariants.{Prices, Position, Status}
+use Rattle.mk_command.specs.declared.command.Command.TheVariants.{Prices, Position, Status, Add}
 use Rattle.mk_rules.specs.Refusals.{user_number}
 use Rattle.mk_rules.specs.Answers.{entry_of, next_history}
 use Rattle.mk_rules.proofs.Spreadable.{spread_exists}
+use Rattle.mk_rules.specs.Additions.{addition_of}
 use Rattle.mk_rules.proofs.Unrefused.{none_applies, question_exists, pair_known}
 use Rattle.mk_restore.specs.Restoring.{Agrees, refusals_again}
 use Rattle.mk_restore.specs.Laws.{FitAppends, EachCounts}
@@ -34,7 +35,7 @@ fit_appends market H command reply fit = at command fit.unrefused fit.agrees
     at (Price q) none h = absurd h
     at (Limits u q) none h = absurd h
     at (Edit u q X seen) none trade =
-        let network = network_of market H in
+        let network = market.network in
         let asked = question_exists network q
         (none_applies (refusals_again market H (Edit u q X seen)) none).1.1.0 in
         let ratio : Asked → TradeRatio = λ asked. ratio_in network asked trade.hit trade.miss in
@@ -43,7 +44,7 @@ fit_appends market H command reply fit = at command fit.unrefused fit.agrees
         (entry asked.0, known ∙ ap (option_map entry) asked.1)
     at (Bounds u v condition) none h = absurd h
     at (Spread u v condition to seen) none trade =
-        let spread = spread_exists (network_of market H) v condition.items
+        let spread = spread_exists market.network v condition.items
         (none_applies (refusals_again market H (Spread u v condition to seen)) none).1.1.0 in
         let ratio : SpreadAsked → TradeRatio = λ spread. spread_ratio spread trade.factors.items in
         let entry : SpreadAsked → Entry = λ spread. Trade (user_number H u) (ratio spread) in
@@ -51,7 +52,7 @@ fit_appends market H command reply fit = at command fit.unrefused fit.agrees
         (entry spread.0, known ∙ ap (option_map entry) spread.1)
     at (Worst u) none h = absurd h
     at (Resolve p) none e =
-        let named = pair_known (network_of market H) p
+        let named = pair_known market.network p
         (none_applies (refusals_again market H (Resolve p)) none).1.0 in
         (Resolves named.0, ap (entry_of market H (Resolve p)) e ∙ ap (option_map Resolves) named.1)
     at Settle none settlement = (Settles, ap (entry_of market H Settle) settlement.printed)
@@ -59,14 +60,17 @@ fit_appends market H command reply fit = at command fit.unrefused fit.agrees
     at (Prices v condition) none h = absurd h
     at (Position u v condition) none h = absurd h
     at Status none h = absurd h
+    at (Add add) none agrees =
+        (Adds (addition_of market.network add), ap (entry_of market H (Add add)) agrees.1)
 
 pub each_counts : EachCounts
 each_counts market old new [] h = omega (arith, ap length h)
 each_counts market old new (change ∷ changes) h =
-    let appended = fit_appends market old (change.0) (change.1) h.0 in
-    let later = each_counts market
-    (next_history market old (change.0) (change.1)) new changes h.1 in
-    let one_more : length (next_history market old (change.0) (change.1)) ≡ length old + 1 =
+    let here = present market old in
+    let middle = next_history here old (change.0) (change.1) in
+    let appended = fit_appends here old (change.0) (change.1) h.0 in
+    let later = each_counts market middle new changes h.1 in
+    let one_more : length middle ≡ length old + 1 =
     ap (λ (o : Option Entry). length (old ++ option_to_list o)) appended.1 ∙ length-append old
     (appended.0 ∷ []) in
     omega arith

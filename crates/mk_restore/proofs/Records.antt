@@ -1,7 +1,7 @@
 -- The first LF of a record ends its command.
 use Rattle.std.proofs.Common.{◌≡◌, ◌≢◌, ℕ, Bool, true, false, not, ◌&&◌, List, []}
 use Rattle.std.proofs.Common.{◌∷◌, ◌++◌, Option, Some, None, IfSome, refl, sym, ap, ap₂, ◌∙◌, arith}
-use Rattle.std.proofs.Common.{length, length-append}
+use Rattle.std.proofs.Common.{All, length, length-append}
 use Rattle.std.specs.Prelude.{◌==◌, codes, decimal}
 use Rattle.std.specs.List.{AllByRecursion, list_all}
 use Rattle.std.proofs.lemmas.Bool.{eq-eqb, and_parts}
@@ -9,6 +9,7 @@ use Rattle.std.proofs.lemmas.Bool.Decides.{nat_tests}
 use Rattle.std.proofs.lemmas.Fmt.{decimal_is_IsNumeral}
 use Rattle.std.proofs.lemmas.List.Elements.{recursion_from_All, All-from_recursion}
 use Rattle.std.proofs.lemmas.List.Folds.{list_all-append}
+use Rattle.mk_net.specs.Bounds.{max_values}
 use Rattle.mk_net.specs.Name.{IsName, is_name_byte}
 use Rattle.mk_net.specs.declared.words.PairText.{PairText}
 use Rattle.mk_net.specs.declared.words.QuestionText.{QuestionText}
@@ -22,9 +23,12 @@ use Rattle.mk_command.specs.declared.command.Command.{Command}
 use Rattle.mk_command.specs.declared.command.Command.TheVariants.{User, Deposit, Withdraw, Price}
 use Rattle.mk_command.specs.declared.command.Command.TheVariants.{Limits, Edit, Bounds, Spread}
 use Rattle.mk_command.specs.declared.command.Command.TheVariants.{Worst, Resolve, Settle, Bound}
-use Rattle.mk_command.specs.declared.command.Command.TheVariants.{Prices, Position, Status}
+use Rattle.mk_command.specs.declared.command.Command.TheVariants.{Prices, Position, Status, Add}
+use Rattle.mk_addition.specs.declared.add.AddText.{AddText}
+use Rattle.mk_addition.specs.Adds.{AreBetween, IsAddText, joined, names_text, parents_text, row_text}
+use Rattle.mk_addition.specs.Adds.{rows_text, place_text, shares_text, add_text}
 use Rattle.mk_command.specs.Commands.{IsCommand, command_text, at_text}
-use Rattle.mk_command.proofs.LengthLaws.{command_length}
+use Rattle.mk_command.proofs.LengthLaws.{all_short}
 use Rattle.mk_command.proofs.CommandLaws.{form_tells as commands_tell}
 use Rattle.mk_reply.specs.Replies.{reply_text}
 use Rattle.mk_reply.proofs.LengthLaws.{reply_length}
@@ -124,6 +128,56 @@ named name rest is h =
 asked : (name pairs : List ℕ) → IsName name → IsOneLine pairs → IsOneLine (name & pairs)
 asked name pairs is h = both name pairs (name_in_line name is) h
 
+-- things with a separator between them
+module _ {X : Type 0} (Fits : X → Type 0) (text : X → List ℕ)
+    (each : (x : X) → Fits x → IsOneLine (text x)) where
+  joined_in_line : (separator : List ℕ) → IsOneLine separator → (xs : List X)
+      → All Fits xs → IsOneLine (joined separator text xs)
+  joined_in_line separator h xs fits = at xs (recursion_from_All Fits xs fits)
+    where
+      at : (xs : List X) → AllByRecursion Fits xs → IsOneLine (joined separator text xs)
+      at [] h = refl
+      at (x ∷ xs) fits =
+          both (text x) (items_text separator text xs) (each x fits.0)
+          (items_in_line Fits text each separator h xs fits.1)
+
+names_in_line : (names : List (List ℕ)) → All IsName names → IsOneLine (names_text names)
+names_in_line = joined_in_line IsName (λ name. name) name_in_line (codes ",") refl
+
+parents_in_line : (names : List (List ℕ)) → All IsName names → IsOneLine (parents_text names)
+parents_in_line [] are = refl
+parents_in_line (name ∷ names) are =
+    both (codes " | ") (names_text (name ∷ names)) refl (names_in_line (name ∷ names) are)
+
+row_in_line : (row : List ℕ) → AreBetween 1 max_values IsShort row → IsOneLine (row_text row)
+row_in_line row are = joined_in_line IsShort decimal number_in_line (codes " ") refl row are.each
+
+place_in_line : (add : AddText) → IsAddText add → IsOneLine (place_text add)
+place_in_line add is =
+    both (names_text add.clique.items) (codes " to " & decimal add.link)
+    (names_in_line add.clique.items is.clique.each)
+    (both (codes " to ") (decimal add.link) refl (number_in_line add.link is.link))
+
+shares_in_line : (add : AddText) → IsAddText add → IsOneLine (shares_text add)
+shares_in_line add is =
+    let placed = codes " in " & place_text add in
+    both (codes " : ") (rows_text add.rows.items & placed) refl
+    (both (rows_text add.rows.items) placed
+    (joined_in_line (AreBetween 1 max_values IsShort) row_text row_in_line (codes ", ") refl
+    add.rows.items is.rows.each)
+    (both (codes " in ") (place_text add) refl (place_in_line add is)))
+
+addition_in_line : (add : AddText) → IsAddText add → IsOneLine (add_text add)
+addition_in_line add is =
+    let behind = parents_text add.parents.items & shares_text add in
+    let values = names_text add.values.items & behind in
+    both (codes "add ") (add.variable & codes "=" & values) refl
+    (both add.variable (codes "=" & values) (name_in_line add.variable is.variable)
+    (both (codes "=") values refl
+    (both (names_text add.values.items) behind (names_in_line add.values.items is.values.each)
+    (both (parents_text add.parents.items) (shares_text add)
+    (parents_in_line add.parents.items is.parents.each) (shares_in_line add is)))))
+
 in_line : (command : Command) → IsCommand command → IsOneLine (command_text command)
 in_line (User user) is = both (codes "user ") user refl (name_in_line user is)
 in_line (Deposit user bits) is =
@@ -173,6 +227,7 @@ in_line (Position user variable condition) is =
     (named user (variable & pairs) is.0
     (asked variable pairs is.1 (condition_in_line condition.items is.2)))
 in_line Status is = refl
+in_line (Add add) is = addition_in_line add is.0
 
 not_lf : (b : ℕ) → is_within b ≡ true → b ≢ 10
 not_lf b h same = let equal = eq-eqb b 10 same in cc
@@ -234,6 +289,6 @@ pub record_is_short : RecordIsShort
 record_is_short bytes command reply is = omega (
   arith,
   ap length is.text ∙ length-append (command_text command) (10 ∷ reply_text reply),
-  command_length command is.has_texts.0,
+  all_short command is.has_texts.0,
   reply_length reply is.has_texts.1,
 )

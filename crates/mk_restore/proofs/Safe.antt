@@ -1,6 +1,6 @@
 -- A change that is taken back harms nothing, whatever its units are.
 use Rattle.std.proofs.Common.{◌≡◌, ℕ, ◌+◌, ◌<◌, ◌≤◌, List, [], ◌∷◌, ◌++◌, length, Option, Some}
-use Rattle.std.proofs.Common.{None, IfSome, refl, sym, ◌∙◌, subst, append-nil}
+use Rattle.std.proofs.Common.{None, IfSome, refl, sym, ◌∙◌, subst, arith, append-nil}
 use Rattle.std.specs.Prelude.{⊤}
 use Rattle.std.specs.Prelude.{option_to_list}
 use Rattle.std.specs.List.{AllByRecursion, All, count_by}
@@ -13,22 +13,21 @@ use Rattle.mk_net.specs.Bounds.{max_users, max_transfers, max_transfer_bits, num
 use Rattle.mk_net.specs.Network.{sizes}
 use Rattle.mk_net.specs.Firsts.{first_of}
 use Rattle.std.specs.Prelude.{slice_index}
-use Rattle.mk_exact.specs.History.{Entry, UserTrade, Join, Deposit as Deposits}
+use Rattle.mk_exact.specs.History.{Entry, Join, Deposit as Deposits}
 use Rattle.mk_exact.specs.History.{Withdraw as Withdraws, Trade, Resolve as Resolves}
-use Rattle.mk_exact.specs.History.{Settle as Settles, trade_in, users, trades, is_transfer}
+use Rattle.mk_exact.specs.History.{Settle as Settles, Add, trade_in, users, trades, is_transfer}
 use Rattle.mk_exact.specs.History.{revision}
 use Rattle.mk_exact.specs.Accepted.{IsInRange}
-use Rattle.mk_exact.specs.Market.{Market, network_of, cliques_of}
+use Rattle.mk_exact.specs.Market.{Market, present, with_entry}
 use Rattle.mk_exact.specs.Proper.{IsProper}
-use Rattle.mk_exact.proofs.Range.{empty_proper, proper_next}
-use Rattle.mk_exact.proofs.After.{trades_kept, trades_more}
-use Rattle.mk_states.proofs.Sums.{each-append, each_weaker}
+use Rattle.mk_exact.proofs.Range.{empty_proper}
+use Rattle.mk_grown.proofs.Present.{proper_after}
+use Rattle.mk_states.proofs.Sums.{each_weaker}
 use Rattle.mk_command.specs.declared.command.Command.{Command}
 use Rattle.mk_command.specs.declared.command.Command.TheVariants.{User, Deposit, Withdraw, Price}
 use Rattle.mk_command.specs.declared.command.Command.TheVariants.{Limits, Edit, Bounds, Spread}
 use Rattle.mk_command.specs.declared.command.Command.TheVariants.{Worst, Resolve, Settle, Bound}
-use Rattle.mk_command.specs.declared.command.Command.TheVariants.{Prices, Position, Status}
-use Rattle.mk_command.specs.Commands.{IsCommand}
+use Rattle.mk_command.specs.declared.command.Command.TheVariants.{Prices, Position, Status, Add as AddCommand}
 use Rattle.mk_reply.specs.declared.reply.Reply.{Reply}
 use Rattle.mk_reply.specs.declared.reply.Reply.TheVariants.{Joined, Deposited, Withdrawn, Traded}
 use Rattle.mk_reply.specs.declared.reply.Reply.TheVariants.{Spreaded, Resolved, Settled, Bounded}
@@ -38,18 +37,20 @@ use Rattle.mk_rules.specs.Refusals.{user_number, no_user, range, transfers_full}
 use Rattle.mk_rules.specs.Answers.{entry_of, next_history}
 use Rattle.mk_rules.specs.Standings.{IsMarket, IsInClique}
 use Rattle.mk_rules.specs.Bounded.{IsTransferOf, JoinsByName}
-use Rattle.mk_rules.specs.Transcript.{OfCommand}
+use Rattle.mk_rules.specs.Transcript.{OfCommand, with_entries}
 use Rattle.mk_rules.proofs.Appended.{Appends, reply_appends}
 use Rattle.mk_rules.proofs.Bounds.{MayFollow, entry_bounded}
-use Rattle.mk_rules.proofs.Follows.{opening_is_bounded, joins_by_name}
+use Rattle.mk_rules.proofs.Follows.{opening_is_bounded, joins_by_name, bounded_in}
+use Rattle.mk_rules.proofs.Keeps.{inside_after, present_with}
 use Rattle.mk_rules.proofs.Coming.{some_with_pair}
 use Rattle.mk_rules.proofs.Spreads.{spread_is, spread_not_wide}
 use Rattle.mk_rules.proofs.Spreadable.{spread_exists, as_many_shares}
 use Rattle.mk_rules.proofs.Traded.{ratio_fits, each_factor}
+use Rattle.mk_rules.proofs.Additions.{longer_is_network, market_with}
 use Rattle.mk_rules.proofs.Unrefused.{none_applies, not_faulted, user_in_range, number_in_range}
 use Rattle.mk_rules.proofs.Unrefused.{question_exists, question_known, not_wide, pair_known}
 use Rattle.mk_rules.proofs.Unrefused.{not_resolved}
-use Rattle.mk_restore.specs.Restoring.{Agrees, refusals_again, IsFit}
+use Rattle.mk_restore.specs.Restoring.{Agrees, refusals_again, IsFit, IsChange}
 use Rattle.mk_restore.specs.Laws.{IsSafe, FitIsSafe, OpeningIsSafe, RestoredIsSafe}
 
 -- the units of a reply are positive and fit 63 bits
@@ -75,6 +76,7 @@ has_units (replies.Bound low high) h = tt
 has_units (replies.Prices intervals) h = tt
 has_units (replies.Position intervals) h = tt
 has_units (replies.Status at users trades most transfers most_transfers unresolved questions) h = tt
+has_units (replies.Added variable at) h = tt
 has_units (replies.Refused why) h = tt
 
 each_of : (P Q : ℕ → Type 0) → ((n : ℕ) → P n → Q n) → (xs : List ℕ) → All P xs
@@ -83,32 +85,35 @@ each_of P Q f xs h = each_weaker P Q f xs (recursion_from_All P xs h)
 
 -- an entry after which all that safety rests on stands
 record MayBeNext (market : Market) (H : List Entry) (e : Entry) : Type 0 where
-  in_range : IsInRange (network_of market H) H e
-  narrow : IfSome (trade_in e) (IsInClique (cliques_of market H))
+  in_range : IsInRange market.network H e
+  narrow : IfSome (trade_in e) (IsInClique market.cliques)
+  legal : IsMarket market → IsMarket (with_entry e market)
   follows : MayFollow market H e
 
--- what holds of each trade before an entry and of its own holds of each trade after it
-each_trade : (P : UserTrade → Type 0) (H : List Entry) (e : Entry) → AllByRecursion P (trades H)
-    → IfSome (trade_in e) P → AllByRecursion P (trades (H ++ e ∷ []))
-each_trade P H (Join name) h k = subst (AllByRecursion P) (sym (trades_kept H (Join name) refl)) h
-each_trade P H (Deposits u bits) h k =
-    subst (AllByRecursion P) (sym (trades_kept H (Deposits u bits) refl)) h
-each_trade P H (Withdraws u bits) h k =
-    subst (AllByRecursion P) (sym (trades_kept H (Withdraws u bits) refl)) h
-each_trade P H (Trade u r) h k =
-    subst (AllByRecursion P) (sym (trades_more H u r))
-    (each-append P (trades H) (record { user = u; ratio = r } ∷ []) h (k, tt))
-each_trade P H (Resolves p) h k = subst (AllByRecursion P) (sym (trades_kept H (Resolves p) refl)) h
-each_trade P H Settles h k = subst (AllByRecursion P) (sym (trades_kept H Settles refl)) h
+-- whatever an entry adds, the market takes as many trades as before
+as_many_trades : (market : Market) (e : Entry)
+    → market.max_trades ≡ (with_entry e market).max_trades
+as_many_trades market (Join name) = refl
+as_many_trades market (Deposits u bits) = refl
+as_many_trades market (Withdraws u bits) = refl
+as_many_trades market (Trade u r) = refl
+as_many_trades market (Resolves p) = refl
+as_many_trades market Settles = refl
+as_many_trades market (Add a) = refl
 
-next_is_safe : (market : Market) (H : List Entry) (o : Option Entry) → IsMarket market
-    → IsSafe market H → IfSome o (MayBeNext market H) → IsSafe market (H ++ option_to_list o)
-next_is_safe market H None is_market safe h = rw (append-nil H) safe
-next_is_safe market H (Some e) is_market safe h = record {
-  proper = proper_next (network_of market H) H e safe.proper h.in_range;
-  none_wide = each_trade (IsInClique (cliques_of market H)) H e safe.none_wide h.narrow;
-  bounded = entry_bounded market H is_market.few_trades safe.bounded e h.follows;
-}
+next_is_safe : (market : Market) (H : List Entry) (o : Option Entry) → IsSafe market H
+    → IfSome o (MayBeNext market H) → IsSafe (with_entries o market) (H ++ option_to_list o)
+next_is_safe market H None safe h = rw (append-nil H) safe
+next_is_safe market H (Some e) safe h =
+    let inside = inside_after market H e (safe.none_wide, safe.few_added) h.narrow in
+    record {
+      legal = h.legal safe.legal;
+      proper = proper_after market H e safe.proper h.in_range;
+      none_wide = inside.0;
+      few_added = inside.1;
+      bounded = bounded_in market (with_entry e market) (H ++ e ∷ []) (as_many_trades market e)
+          (entry_bounded market H safe.legal.few_trades safe.bounded e h.follows);
+    }
 
 module _ (market : Market) (H : List Entry) where
   -- no refusal that is tried again applies
@@ -133,7 +138,7 @@ module _ (market : Market) (H : List Entry) where
       → IsUnrefused (Edit u q X seen) → Follows (Edit u q X seen) (Traded hit miss at)
   unfolding IsUnrefused
   edit_follows u q X seen hit miss at of_hit of_miss none =
-      let network = network_of market H in
+      let network = market.network in
       let refused = none_applies (refusals_again market H (Edit u q X seen)) none in
       let asked = question_exists network q refused.1.1.0 in
       let fits = question_known network q asked.0 refused.1.1.0 asked.1 in
@@ -144,6 +149,7 @@ module _ (market : Market) (H : List Entry) where
               ratio = ratio_fits network asked.0 hit miss fits of_hit.positive of_miss.positive;
             };
         narrow = not_wide market H q asked.0 asked.1 refused.1.1.1.1.1.1.1.0;
+        legal = λ is_market. is_market;
         follows = (
           each_factor (λ n. n < number_limit) asked.0.target.value
               (slice_index (sizes network) asked.0.target.variable) hit miss
@@ -160,7 +166,7 @@ module _ (market : Market) (H : List Entry) where
       → Follows (Spread u v condition to seen) (Spreaded factors at)
   unfolding IsUnrefused
   spread_follows u v condition to seen factors at units as_many none =
-      let network = network_of market H in
+      let network = market.network in
       let refused = none_applies (refusals_again market H (Spread u v condition to seen)) none in
       let spread = spread_exists network v condition.items refused.1.1.0 in
       let fits = spread_is network v condition.items spread.0 spread.1 in
@@ -179,6 +185,7 @@ module _ (market : Market) (H : List Entry) where
         };
         narrow =
             spread_not_wide market H v condition.items spread.0 spread.1 refused.1.1.1.1.1.1.1.1.0;
+        legal = λ is_market. is_market;
         follows = (
           each_of IsRatio (λ n. n < number_limit) (λ n is. is.below) factors.items units,
           leb-false market.max_trades (length (trades H))
@@ -186,11 +193,11 @@ module _ (market : Market) (H : List Entry) where
         );
       })
 
-  resolve_follows : (p : PairText) (at : ℕ) → IsProper (network_of market H) H
+  resolve_follows : (p : PairText) (at : ℕ) → IsProper market.network H
       → IsUnrefused (Resolve p) → Follows (Resolve p) (Resolved p at)
   unfolding IsUnrefused
   resolve_follows p at proper none =
-      let network = network_of market H in
+      let network = market.network in
       let refused = none_applies (refusals_again market H (Resolve p)) none in
       let named = pair_known network p refused.1.0 in
       rw named.1 (record {
@@ -200,18 +207,20 @@ module _ (market : Market) (H : List Entry) where
           some_with_pair network H proper p named.0 named.1 refused.1.1.1.0,
         );
         narrow = tt;
+        legal = λ is_market. is_market;
         follows = tt;
       })
 
-  fit_follows : (command : Command) (reply : Reply) → IsProper (network_of market H) H
+  fit_follows : (command : Command) (reply : Reply) → IsMarket market → IsProper market.network H
       → JoinsByName (OfCommand command) → HasUnits reply
       → IsUnrefused command → Agrees H command reply → Follows command reply
   unfolding IsUnrefused
-  fit_follows (User u) reply proper joins units none e =
+  fit_follows (User u) reply legal proper joins units none e =
       let refused = none_applies (refusals_again market H (User u)) none in
       reply_appends (MayBeNext market H) market H (User u) reply _ e (record {
         in_range = tt;
         narrow = tt;
+        legal = λ is_market. is_market;
         follows = (
           joins,
           leb-false max_users (length (users H))
@@ -219,74 +228,110 @@ module _ (market : Market) (H : List Entry) where
           not_faulted _ _ refused.1.0,
         );
       })
-  fit_follows (Deposit u bits) reply proper joins units none e =
+  fit_follows (Deposit u bits) reply legal proper joins units none e =
       let refused = none_applies (refusals_again market H (Deposit u bits)) none in
       reply_appends (MayBeNext market H) market H (Deposit u bits) reply _ e
       (record {
         in_range = tt;
         narrow = tt;
+        legal = λ is_market. is_market;
         follows = transfer_of u bits refused.1.0 refused.1.1.0 refused.1.1.1.0;
       })
-  fit_follows (Withdraw u bits) reply proper joins units none e =
+  fit_follows (Withdraw u bits) reply legal proper joins units none e =
       let refused = none_applies (refusals_again market H (Withdraw u bits)) none in
       reply_appends (MayBeNext market H) market H (Withdraw u bits) reply _ e
       (record {
         in_range = tt;
         narrow = tt;
+        legal = λ is_market. is_market;
         follows = transfer_of u bits refused.1.0 refused.1.1.0 refused.1.1.1.0;
       })
-  fit_follows (Price q) reply proper joins units none h = absurd h
-  fit_follows (Limits u q) reply proper joins units none h = absurd h
-  fit_follows (Edit u q X seen) reply proper joins units none trade =
+  fit_follows (Price q) reply legal proper joins units none h = absurd h
+  fit_follows (Limits u q) reply legal proper joins units none h = absurd h
+  fit_follows (Edit u q X seen) reply legal proper joins units none trade =
       let its = subst HasUnits trade.printed units in
       reply_appends (MayBeNext market H) market H (Edit u q X seen) reply _ trade.printed
       (edit_follows u q X seen trade.hit trade.miss (revision H + 1) its.0 its.1 none)
-  fit_follows (Bounds u v condition) reply proper joins units none h = absurd h
-  fit_follows (Spread u v condition to seen) reply proper joins units none trade =
+  fit_follows (Bounds u v condition) reply legal proper joins units none h = absurd h
+  fit_follows (Spread u v condition to seen) reply legal proper joins units none trade =
       let its = subst HasUnits trade.printed units in
       reply_appends (MayBeNext market H) market H
       (Spread u v condition to seen) reply _ trade.printed
       (spread_follows u v condition to seen trade.factors
       (revision H + 1) its trade.one_each none)
-  fit_follows (Worst u) reply proper joins units none h = absurd h
-  fit_follows (Resolve p) reply proper joins units none e =
+  fit_follows (Worst u) reply legal proper joins units none h = absurd h
+  fit_follows (Resolve p) reply legal proper joins units none e =
       reply_appends (MayBeNext market H) market H (Resolve p) reply _ e
       (resolve_follows p (revision H + 1) proper none)
-  fit_follows Settle reply proper joins units none settlement =
+  fit_follows Settle reply legal proper joins units none settlement =
       let refused = none_applies (refusals_again market H Settle) none in
       reply_appends (MayBeNext market H) market H Settle reply _ settlement.printed
-      (record { in_range = tt; narrow = tt; follows = not_faulted _ _ refused.0 })
-  fit_follows Bound reply proper joins units none h = absurd h
-  fit_follows (Prices v condition) reply proper joins units none h = absurd h
-  fit_follows (Position u v condition) reply proper joins units none h = absurd h
-  fit_follows Status reply proper joins units none h = absurd h
+      (record {
+        in_range = tt;
+        narrow = tt;
+        legal = λ is_market. is_market;
+        follows = not_faulted _ _ refused.0;
+      })
+  fit_follows Bound reply legal proper joins units none h = absurd h
+  fit_follows (Prices v condition) reply legal proper joins units none h = absurd h
+  fit_follows (Position u v condition) reply legal proper joins units none h = absurd h
+  fit_follows Status reply legal proper joins units none h = absurd h
+  fit_follows (AddCommand add) reply legal proper joins units none agrees =
+      reply_appends (MayBeNext market H) market H (AddCommand add) reply _ agrees.1
+      (record {
+        in_range = longer_is_network market H add legal agrees.0 none;
+        narrow = tt;
+        legal = λ is_market. market_with market H add is_market agrees.0 none;
+        follows = tt;
+      })
 
 -- a change that is taken back keeps a safe history safe, also where it was never a text
 pub fit_keeps_safe : (market : Market) (H : List Entry) (command : Command) (reply : Reply)
-    → IsMarket market → JoinsByName (OfCommand command) → HasUnits reply → IsSafe market H
-    → IsFit market H command reply → IsSafe market (next_history market H command reply)
+    → JoinsByName (OfCommand command) → HasUnits reply → IsSafe market H
+    → IsFit market H command reply
+    → IsSafe (with_entries (entry_of market H command reply) market)
+    (next_history market H command reply)
 unfolding IsUnrefused
-fit_keeps_safe market H command reply is_market joins units safe fit =
-    next_is_safe market H (entry_of market H command reply) is_market safe
-    (fit_follows market H command reply safe.proper joins units fit.unrefused fit.agrees)
+fit_keeps_safe market H command reply joins units safe fit =
+    next_is_safe market H (entry_of market H command reply) safe
+    (fit_follows market H command reply safe.legal safe.proper joins units fit.unrefused fit.agrees)
 
 pub fit_is_safe : FitIsSafe
-fit_is_safe market H command reply is_market text safe fit =
-    fit_keeps_safe market H command reply is_market (joins_by_name (OfCommand command) text.0)
+fit_is_safe market H command reply text safe fit =
+    fit_keeps_safe market H command reply (joins_by_name (OfCommand command) text.0)
     (has_units reply text.1) safe fit
 
 pub opening_is_safe : OpeningIsSafe
 opening_is_safe market is_market =
     record {
+      legal = is_market;
       proper = empty_proper
-          (network_of market []) is_market.network;
+          market.network is_market.network;
       none_wide = tt;
+      few_added = omega (arith, is_market.network.some);
       bounded = opening_is_bounded market;
     }
 
+SafeIn : List Entry → Market → Type 0
+SafeIn H market = IsSafe market H
+
+-- and keeps it so in the market of the longer history
+step_is_safe : (market : Market) (H : List Entry) (command : Command) (reply : Reply)
+    → IsChange (command, reply) → IsSafe (present market H) H
+    → IsFit (present market H) H command reply
+    → IsSafe (present market (next_history (present market H) H command reply))
+    (next_history (present market H) H command reply)
+unfolding SafeIn
+step_is_safe market H command reply text safe fit =
+    let here = present market H in
+    let entry = entry_of here H command reply in
+    subst (SafeIn (H ++ option_to_list entry)) (sym (present_with market H entry))
+    (fit_is_safe here H command reply text safe fit)
+
 pub restored_is_safe : RestoredIsSafe
-restored_is_safe market old new [] is_market text safe h = subst (IsSafe market) (sym h) safe
-restored_is_safe market old new (change ∷ changes) is_market text safe h =
-    restored_is_safe market
-    (next_history market old (change.0) (change.1)) new changes is_market text.1
-    (fit_is_safe market old (change.0) (change.1) is_market text.0 safe h.0) h.1
+restored_is_safe market old new [] text safe h =
+    subst (λ (H : List Entry). IsSafe (present market H) H) (sym h) safe
+restored_is_safe market old new (change ∷ changes) text safe h =
+    let later = next_history (present market old) old (change.0) (change.1) in
+    restored_is_safe market later new changes text.1
+    (step_is_safe market old (change.0) (change.1) text.0 safe h.0) h.1

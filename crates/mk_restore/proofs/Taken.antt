@@ -10,13 +10,13 @@ use Rattle.mk_exact.specs.History.{Entry, users, revision}
 use Rattle.mk_exact.specs.Weight.{IsSmall}
 use Rattle.mk_exact.specs.Factors.{HoldsNoTrade, factor_with, least_gain}
 use Rattle.mk_exact.specs.Limits.{Side}
-use Rattle.mk_exact.specs.Market.{Market, network_of}
+use Rattle.mk_exact.specs.Market.{Market, present}
 use Rattle.mk_spread.specs.Bounds.{AreFairUnits}
 use Rattle.mk_command.specs.declared.command.Command.{Command}
 use Rattle.mk_command.specs.declared.command.Command.TheVariants.{User, Deposit, Withdraw, Price}
 use Rattle.mk_command.specs.declared.command.Command.TheVariants.{Limits, Edit, Bounds, Spread}
 use Rattle.mk_command.specs.declared.command.Command.TheVariants.{Worst, Resolve, Settle, Bound}
-use Rattle.mk_command.specs.declared.command.Command.TheVariants.{Prices, Position, Status}
+use Rattle.mk_command.specs.declared.command.Command.TheVariants.{Prices, Position, Status, Add}
 use Rattle.mk_reply.specs.declared.refusal.Refusal.{Refusal}
 use Rattle.mk_reply.specs.declared.payments.Payment.{Payment}
 use Rattle.mk_reply.specs.declared.reply.Reply.{Reply}
@@ -27,7 +27,7 @@ use Rattle.mk_rules.specs.Quotes.{Quotes, last_quote, current_limits, current_bo
 use Rattle.mk_rules.specs.Answers.{IsWithdrawal, IsAnswer, IsAllowed, entry_of, next_history}
 use Rattle.mk_rules.specs.Transcript.{Standing, OfCommand, NoCommand, LongLine, after}
 use Rattle.mk_rules.specs.Standings.{Stands}
-use Rattle.mk_rules.proofs.Keeps.{allowed_keeps}
+use Rattle.mk_rules.proofs.Keeps.{step_keeps}
 use Rattle.mk_rules.proofs.Options.{value_of}
 use Rattle.mk_rules.proofs.Appended.{Appends, refused_appends, reply_appends, judged_appends}
 use Rattle.mk_rules.proofs.Appended.{spread_appends}
@@ -90,6 +90,9 @@ none_again market H command h = at command h
         (refusals_by_states market H (Position u v condition)) h
     at Status h =
         front_is_none (refusals_by_record market H Status) (refusals_by_states market H Status) h
+    at (Add add) h =
+        front_is_none (refusals_by_record market H (Add add))
+        (refusals_by_states market H (Add add)) h
 
 -- fair units are as many as the shares
 as_many : (small : Type 0) (sides : List (Option Side)) (Xs Fs : List ℕ)
@@ -141,30 +144,30 @@ module _ (market : Market) (H : List Entry) where
   answer_agrees quotes (Deposit u bits) reply h = agrees_as (Deposit u bits) reply _ h refl
   answer_agrees quotes (Withdraw u bits) reply h =
       let least = value_of _
-      (least_gain (network_of market H) H (user_number H u) always) h in at least.0 least.2
+      (least_gain market.network H (user_number H u) always) h in at least.0 least.2
     where
       at : (g : ℕ)
-          → IsWithdrawal (IsSmall (network_of market H) H) (HoldsNoTrade H (user_number H u))
+          → IsWithdrawal (IsSmall market.network H) (HoldsNoTrade H (user_number H u))
           (factor_with H (user_number H u) g) u bits (revision H + 1) reply
           → AgreesIf (Withdraw u bits) reply
       at g (inl taken) = agrees_as (Withdraw u bits) reply _ taken.1 refl
       at g (inr short) = quiet (Withdraw u bits) reply _ short.printed refl
   answer_agrees quotes (Price q) reply h =
-      quiet (Price q) reply _ (value_of _ (question_named (network_of market H) q) h).2.printed refl
+      quiet (Price q) reply _ (value_of _ (question_named market.network q) h).2.printed refl
   answer_agrees quotes (Limits u q) reply h =
       quiet (Limits u q) reply _
-      (value_of _ (question_named (network_of market H) q) h).2.printed refl
+      (value_of _ (question_named market.network q) h).2.printed refl
   answer_agrees quotes (Edit u q X seen) reply h =
-      let judged = value_of _ (question_named (network_of market H) q) h in
+      let judged = value_of _ (question_named market.network q) h in
       judged_appends _ market H u q X seen judged.0 reply
       (current_limits (last_quote quotes (user_number H u)) judged.0 (revision H))
       (λ trade. whatever {A = IsTradeAt (revision H + 1) reply} _
       (record { hit = trade.hit; miss = trade.miss; printed = trade.printed })) judged.2
   answer_agrees quotes (Bounds u v condition) reply h =
       quiet (Bounds u v condition) reply _
-      (value_of _ (spread_named (network_of market H) v condition.items) h).2.printed refl
+      (value_of _ (spread_named market.network v condition.items) h).2.printed refl
   answer_agrees quotes (Spread u v condition to seen) reply h =
-      let judged = value_of _ (spread_named (network_of market H) v condition.items) h in
+      let judged = value_of _ (spread_named market.network v condition.items) h in
       spread_appends _ market H u v condition to seen judged.0 reply
       (current_bounds (last_quote quotes (user_number H u)) judged.0 (revision H))
       (λ trade. whatever {A = IsSpreadAt (revision H + 1) to.items reply} _ (record {
@@ -174,7 +177,7 @@ module _ (market : Market) (H : List Entry) where
       })) judged.2
   answer_agrees quotes (Worst u) reply h =
       quiet (Worst u) reply _
-      (value_of _ (least_gain (network_of market H) H (user_number H u) always) h).2.printed refl
+      (value_of _ (least_gain market.network H (user_number H u) always) h).2.printed refl
   answer_agrees quotes (Resolve p) reply h = agrees_as (Resolve p) reply _ h (whatever _ refl)
   answer_agrees quotes Settle reply h = agrees_as Settle reply _ h.printed (record {
     payments = h.payments;
@@ -184,11 +187,14 @@ module _ (market : Market) (H : List Entry) where
   answer_agrees quotes Bound reply h = quiet Bound reply _ h.printed refl
   answer_agrees quotes (Prices v condition) reply h =
       quiet (Prices v condition) reply _
-      (value_of _ (spread_named (network_of market H) v condition.items) h).2.printed refl
+      (value_of _ (spread_named market.network v condition.items) h).2.printed refl
   answer_agrees quotes (Position u v condition) reply h =
       quiet (Position u v condition) reply _
-      (value_of _ (spread_named (network_of market H) v condition.items) h).2.printed refl
+      (value_of _ (spread_named market.network v condition.items) h).2.printed refl
   answer_agrees quotes Status reply h = quiet Status reply _ h refl
+  answer_agrees quotes (Add add) reply (inl added) =
+      agrees_as (Add add) reply _ added.1 (added.0, refl)
+  answer_agrees quotes (Add add) reply (inr e) = quiet (Add add) reply _ e refl
 
 at_entry : {X : Type 0} (P : X → Type 0) (o : Option X) (x : X) → o ≡ Some x → IfSome o P → P x
 at_entry P o x e h = subst (λ (o : Option _). IfSome o P) e h
@@ -207,71 +213,76 @@ allowed_fits market H quotes command reply e h is = at (first_refusal market H c
         (reply_appends (λ x. ⊥) market H command reply _ same
         (refused_appends (λ x. ⊥) market H command why)))
 
-line_restored : (market : Market) (H : List Entry) (quotes : Quotes) (command : Command)
-    (reply : Reply) (rest : Changes) (new : List Entry)
-    → IsAllowed market H quotes command reply
-    → Restores market (next_history market H command reply) rest new
-    → Restores market H (change_of market H (OfCommand command) reply ++ rest) new
-line_restored market H quotes command reply rest new allowed restored =
-    at (entry_of market H command reply) refl
-  where
-    at : (o : Option Entry) → entry_of market H command reply ≡ o
-        → Restores market H ((elim o [ None ↦ [] | Some e ↦ (command, reply) ∷ [] ]) ++ rest) new
-    at None e =
-        subst (λ (l : List Entry). Restores market l rest new)
-        (ap (λ (o : Option Entry). H ++ option_to_list o) e ∙ append-nil H) restored
-    at (Some entry) e = (allowed_fits market H quotes command reply entry allowed e, restored)
+-- changes that give a history that stands
+abbrev GiveStanding : Market → List Entry → Changes → Type 0
+GiveStanding market old first =
+    (middle : List Entry) × Restores market old first middle × Stands (present market middle) middle
+
+-- one line of a run
+module _ (market : Market) (H : List Entry) (quotes : Quotes) (command : Command) (reply : Reply)
+    (rest : Changes)
+    (allowed : IsAllowed (present market H) H quotes command reply) where
+  line_restored : (new : List Entry)
+      → Restores market (next_history (present market H) H command reply) rest new
+      → Restores market H (change_of (present market H) H (OfCommand command) reply ++ rest) new
+  line_restored new restored = at (entry_of (present market H) H command reply) refl
+    where
+      at : (o : Option Entry) → entry_of (present market H) H command reply ≡ o
+          → Restores market H ((elim o [ None ↦ [] | Some e ↦ (command, reply) ∷ [] ]) ++ rest) new
+      at None e =
+          subst (λ (l : List Entry). Restores market l rest new)
+          (ap (λ (o : Option Entry). H ++ option_to_list o) e ∙ append-nil H) restored
+      at (Some entry) e =
+          (allowed_fits (present market H) H quotes command reply entry allowed e, restored)
+
+  -- from a history that stands each front of a run's changes gives one that stands
+  line_front : (first second : Changes) → Stands (present market H) H
+      → ((first : Changes) → rest ≡ first ++ second
+      → GiveStanding market (next_history (present market H) H command reply) first)
+      → change_of (present market H) H (OfCommand command) reply ++ rest ≡ first ++ second
+      → GiveStanding market H first
+  line_front [] second stands later e = (H, refl, stands)
+  line_front (change ∷ first) second stands later e =
+      at (entry_of (present market H) H command reply) refl e
+    where
+      parts : (a b : Command × Reply) (xs ys : Changes) → a ∷ xs ≡ b ∷ ys → (a ≡ b) × (xs ≡ ys)
+      parts a b xs ys same = (cc, cc)
+
+      at : (o : Option Entry) → entry_of (present market H) H command reply ≡ o
+          → (elim o [ None ↦ [] | Some e ↦ (command, reply) ∷ [] ]) ++ rest
+          ≡ change ∷ (first ++ second)
+          → GiveStanding market H (change ∷ first)
+      at None none e =
+          let found = later (change ∷ first) e in
+          let same : next_history (present market H) H command reply ≡ H = ap
+          (λ (o : Option Entry). H ++ option_to_list o) none ∙ append-nil H in (
+            found.0,
+            subst
+                (λ (l : List Entry). Restores market l (change ∷ first) found.0) same found.1,
+            found.2,
+          )
+      at (Some entry) some e =
+          let same = parts (command, reply) change rest (first ++ second) e in
+          let found = later first same.1 in
+          let fit = allowed_fits (present market H) H quotes command reply entry allowed some in (
+            found.0,
+            subst (λ (c : Command × Reply). Restores market H (c ∷ first) found.0) same.0
+                (fit, found.1),
+            found.2,
+          )
 
 pub run_is_restored : RunIsRestored
 run_is_restored market old new [] [] h = ap (λ (now : Standing). now.history) h
 run_is_restored market old new [] (reply ∷ replies) h = absurd h
 run_is_restored market old new (line ∷ lines) [] h = absurd h
 run_is_restored market old new (OfCommand command ∷ lines) (reply ∷ replies) h =
-    line_restored market old.history old.quotes command reply _ new.history h.0
-    (run_is_restored market (after market old (OfCommand command) reply) new lines replies h.1)
+    let next = after (present market old.history) old (OfCommand command) reply in
+    line_restored market old.history old.quotes command reply _ h.0 new.history
+    (run_is_restored market next new lines replies h.1)
 run_is_restored market old new (NoCommand ∷ lines) (reply ∷ replies) h =
     run_is_restored market old new lines replies h.1
 run_is_restored market old new (LongLine ∷ lines) (reply ∷ replies) h =
     run_is_restored market old new lines replies h.1
-
--- from a history that stands each front of a run's changes gives one that stands
-line_front : (market : Market) (H : List Entry) (quotes : Quotes) (command : Command)
-    (reply : Reply) (rest first second : Changes)
-    → Stands market H → IsAllowed market H quotes command reply
-    → ((first : Changes) → rest ≡ first ++ second
-    → (middle : List Entry) × Restores market
-    (next_history market H command reply) first middle × Stands market middle)
-    → change_of market H (OfCommand command) reply ++ rest ≡ first ++ second
-    → (middle : List Entry) × Restores market H first middle × Stands market middle
-line_front market H quotes command reply rest [] second stands allowed later e = (H, refl, stands)
-line_front market H quotes command reply rest (change ∷ first) second stands allowed later e =
-    at (entry_of market H command reply) refl e
-  where
-    parts : (a b : Command × Reply) (xs ys : Changes) → a ∷ xs ≡ b ∷ ys → (a ≡ b) × (xs ≡ ys)
-    parts a b xs ys same = (cc, cc)
-
-    at : (o : Option Entry) → entry_of market H command reply ≡ o
-        → (elim o [ None ↦ [] | Some e ↦ (command, reply) ∷ [] ]) ++ rest ≡ change ∷
-        (first ++ second)
-        → (middle : List Entry) × Restores market H (change ∷ first) middle × Stands market middle
-    at None none e =
-        let found = later (change ∷ first) e in
-        let same : next_history market H command reply ≡ H = ap
-        (λ (o : Option Entry). H ++ option_to_list o) none ∙ append-nil H in (
-          found.0,
-          subst
-              (λ (l : List Entry). Restores market l (change ∷ first) found.0) same found.1,
-          found.2,
-        )
-    at (Some entry) some e =
-        let same = parts (command, reply) change rest (first ++ second) e in
-        let found = later first same.1 in
-        let fit = allowed_fits market H quotes command reply entry allowed some in (
-          found.0,
-          subst (λ (c : Command × Reply). Restores market H (c ∷ first) found.0) same.0
-              (fit, found.1),
-          found.2,
-        )
 
 pub front_stands : FrontStands
 front_stands market old new [] [] [] second stands h e = (old.history, refl, stands)
@@ -279,10 +290,10 @@ front_stands market old new [] [] (change ∷ first) second stands h e = cc
 front_stands market old new [] (reply ∷ replies) first second stands h e = absurd h
 front_stands market old new (line ∷ lines) [] first second stands h e = absurd h
 front_stands market old new (OfCommand command ∷ lines) (reply ∷ replies) first second stands h e =
-    line_front market old.history old.quotes command reply _ first second stands h.0
-    (λ first e. front_stands market
-    (after market old (OfCommand command) reply) new lines replies first second
-    (allowed_keeps market old (OfCommand command) reply stands h.0) h.1 e) e
+    let next = after (present market old.history) old (OfCommand command) reply in
+    line_front market old.history old.quotes command reply _ h.0 first second stands
+    (λ first e. front_stands market next new lines replies first second
+    (step_keeps market old (OfCommand command) reply stands h.0) h.1 e) e
 front_stands market old new (NoCommand ∷ lines) (reply ∷ replies) first second stands h e =
     front_stands market old new lines replies first second stands h.1 e
 front_stands market old new (LongLine ∷ lines) (reply ∷ replies) first second stands h e =

@@ -5,13 +5,13 @@ use Rattle.std.specs.Prelude.{option_to_list, option_map}
 use Rattle.std.proofs.lemmas.List.{map-append}
 use Rattle.mk_net.specs.Named.{pair_named}
 use Rattle.mk_exact.specs.History.{Entry, join_in, users}
-use Rattle.mk_exact.specs.Market.{Market, network_of}
+use Rattle.mk_exact.specs.Market.{Market}
 use Rattle.mk_exact.proofs.After.{users_kept, users_more}
 use Rattle.mk_command.specs.declared.command.Command.{Command}
 use Rattle.mk_command.specs.declared.command.Command.TheVariants.{User, Deposit, Withdraw, Price}
 use Rattle.mk_command.specs.declared.command.Command.TheVariants.{Limits, Edit, Bounds, Spread}
 use Rattle.mk_command.specs.declared.command.Command.TheVariants.{Worst, Resolve, Settle, Bound}
-use Rattle.mk_command.specs.declared.command.Command.TheVariants.{Prices, Position, Status}
+use Rattle.mk_command.specs.declared.command.Command.TheVariants.{Prices, Position, Status, Add}
 use Rattle.mk_reply.specs.declared.reply.Reply.{Reply}
 use Rattle.mk_rules.specs.Quotes.{no_quotes}
 use Rattle.mk_rules.specs.Refusals.{question_named, spread_named}
@@ -52,22 +52,24 @@ module _ (market : Market) (H : List Entry) where
   agreed_unquoted (Limits u q) reply h = absurd h
   agreed_unquoted (Edit u q X seen) reply trade =
       known_reply (Edit u q X seen) reply _ trade.printed
-      (same_places H _ (made _ (λ asked. refl) (question_named (network_of market H) q)))
+      (same_places H _ (made _ (λ asked. refl) (question_named market.network q)))
   agreed_unquoted (Bounds u v condition) reply h = absurd h
   agreed_unquoted (Spread u v condition to seen) reply trade =
       known_reply (Spread u v condition to seen) reply _ trade.printed
       (same_places H _
-      (made _ (λ spread. refl) (spread_named (network_of market H) v condition.items)))
+      (made _ (λ spread. refl) (spread_named market.network v condition.items)))
   agreed_unquoted (Worst u) reply h = absurd h
   agreed_unquoted (Resolve p) reply e =
       known_reply (Resolve p) reply _ e
-      (same_places H _ (made _ (λ pair. refl) (pair_named (network_of market H) p)))
+      (same_places H _ (made _ (λ pair. refl) (pair_named market.network p)))
   agreed_unquoted Settle reply settlement =
       known_reply Settle reply _ settlement.printed (same_places H (Some _) refl)
   agreed_unquoted Bound reply h = absurd h
   agreed_unquoted (Prices v condition) reply h = absurd h
   agreed_unquoted (Position u v condition) reply h = absurd h
   agreed_unquoted Status reply h = absurd h
+  agreed_unquoted (Add add) reply agrees =
+      known_reply (Add add) reply _ agrees.1 (same_places H (Some _) refl)
 
 pub fit_quotes_nobody : FitQuotesNobody
 fit_quotes_nobody market H command reply fit = agreed_unquoted market H command reply fit.agrees

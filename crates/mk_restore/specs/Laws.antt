@@ -1,8 +1,8 @@
 -- The laws of what is taken back. Each is the contract of a function of this crate, and so proved.
-use Rattle.std.specs.Prelude.{◌≡◌, ◌≢◌, ℕ, ◌+◌, ◌≤◌, List, [], ◌∷◌, ◌++◌, length, All, Some}
+use Rattle.std.specs.Prelude.{◌≡◌, ◌≢◌, ℕ, ◌+◌, ◌<◌, ◌≤◌, List, [], ◌∷◌, ◌++◌, length, All, Some}
 use Rattle.std.specs.List.{AllByRecursion}
-use Rattle.mk_exact.specs.History.{Entry, trades, revision}
-use Rattle.mk_exact.specs.Market.{Market, network_of, cliques_of}
+use Rattle.mk_exact.specs.History.{Entry, trades, additions, revision}
+use Rattle.mk_exact.specs.Market.{Market, present}
 use Rattle.mk_exact.specs.Proper.{IsProper}
 use Rattle.mk_command.specs.declared.command.Command.{Command}
 use Rattle.mk_command.specs.Commands.{IsCommand, command_text}
@@ -12,7 +12,7 @@ use Rattle.mk_rules.specs.Quotes.{Quotes, no_quotes}
 use Rattle.mk_rules.specs.Answers.{IsAllowed, entry_of, next_history, next_quotes}
 use Rattle.mk_rules.specs.Standings.{IsMarket, IsInClique, Stands}
 use Rattle.mk_rules.specs.Bounded.{IsBounded}
-use Rattle.mk_rules.specs.Transcript.{Standing, Line, Run}
+use Rattle.mk_rules.specs.Transcript.{Standing, Line, with_entries, Run}
 use Rattle.mk_restore.specs.Restoring.{IsFit, Changes, Restores, changes_of, IsChange, IsRecord}
 
 -- an allowed reply that appends an entry is taken back
@@ -34,15 +34,19 @@ abbrev pub FrontStands : Type 0
 FrontStands =
     (market : Market) (old new : Standing) (lines : List Line) (replies : List Reply)
     (first second : Changes)
-    → Stands market old.history → Run market old lines replies new
+    → Stands (present market old.history) old.history → Run market old lines replies new
     → changes_of market old lines replies ≡ first ++ second
-    → (middle : List Entry) × Restores market old.history first middle × Stands market middle
+    → (middle : List Entry) × Restores market old.history first middle
+    × Stands (present market middle) middle
 
--- what a market's safety rests on, sound or not: users, pairs and units are in range, some state is
--- possible, no trade is wide, and the history is bounded
+-- what a market's safety rests on, sound or not: it is a market; users, pairs and units are in
+-- range, some state is possible, no trade is wide, some question was not added, and the history is
+-- bounded
 pub record IsSafe (market : Market) (H : List Entry) : Type 0 where
-  pub proper : IsProper (network_of market H) H
-  pub none_wide : AllByRecursion (IsInClique (cliques_of market H)) (trades H)
+  pub legal : IsMarket market
+  pub proper : IsProper market.network H
+  pub none_wide : AllByRecursion (IsInClique market.cliques) (trades H)
+  pub few_added : length (additions H) < length market.network
   pub bounded : IsBounded market H
 
 -- the opening has it
@@ -51,15 +55,16 @@ OpeningIsSafe = (market : Market) → IsMarket market → IsSafe market []
 
 -- a change that is taken back keeps it, whatever its units are
 abbrev pub FitIsSafe : Type 0
-FitIsSafe = (market : Market) (H : List Entry) (command : Command) (reply : Reply) → IsMarket market
+FitIsSafe = (market : Market) (H : List Entry) (command : Command) (reply : Reply)
     → IsChange (command, reply) → IsSafe market H → IsFit market H command reply
-    → IsSafe market (next_history market H command reply)
+    → IsSafe (with_entries (entry_of market H command reply) market)
+    (next_history market H command reply)
 
 -- and so do many
 abbrev pub RestoredIsSafe : Type 0
-RestoredIsSafe = (market : Market) (old new : List Entry) (changes : Changes) → IsMarket market
-    → AllByRecursion IsChange changes → IsSafe market old → Restores market old changes new
-    → IsSafe market new
+RestoredIsSafe = (market : Market) (old new : List Entry) (changes : Changes)
+    → AllByRecursion IsChange changes → IsSafe (present market old) old
+    → Restores market old changes new → IsSafe (present market new) new
 
 -- a change that is taken back appends an entry
 abbrev pub FitAppends : Type 0

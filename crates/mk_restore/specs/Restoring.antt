@@ -3,16 +3,17 @@ use Rattle.std.specs.Prelude.{◌≡◌, ℕ, ◌+◌, List, [], ◌∷◌, ◌+
 use Rattle.arrayvec.specs.ArrayVec.{ArrayVec}
 use Rattle.mk_net.specs.Firsts.{first_of}
 use Rattle.mk_exact.specs.History.{Entry, users, revision}
-use Rattle.mk_exact.specs.Market.{Market}
+use Rattle.mk_exact.specs.Market.{Market, present}
 use Rattle.mk_command.specs.declared.command.Command.{Command}
 use Rattle.mk_command.specs.declared.command.Command.TheVariants.{User, Deposit, Withdraw, Edit}
-use Rattle.mk_command.specs.declared.command.Command.TheVariants.{Spread, Resolve, Settle}
+use Rattle.mk_command.specs.declared.command.Command.TheVariants.{Spread, Resolve, Settle, Add}
+use Rattle.mk_addition.specs.Adds.{IsAddText}
 use Rattle.mk_command.specs.Commands.{IsCommand, command_text}
 use Rattle.mk_reply.specs.declared.payments.Payment.{Payment}
 use Rattle.mk_reply.specs.declared.refusal.Refusal.{Refusal}
 use Rattle.mk_reply.specs.declared.reply.Reply.{Reply}
 use Rattle.mk_reply.specs.declared.reply.Reply.TheVariants.{Joined, Deposited, Withdrawn, Traded}
-use Rattle.mk_reply.specs.declared.reply.Reply.TheVariants.{Spreaded, Resolved, Settled}
+use Rattle.mk_reply.specs.declared.reply.Reply.TheVariants.{Spreaded, Resolved, Settled, Added}
 use Rattle.mk_reply.specs.Replies.{IsReply, reply_text}
 use Rattle.mk_rules.specs.Refusals.{refusals_by_record, refusals}
 use Rattle.mk_rules.specs.Answers.{entry_of, next_history}
@@ -45,6 +46,7 @@ Agrees H (Edit u q X seen) reply = IsTradeAt (revision H + 1) reply
 Agrees H (Spread u v condition to seen) reply = IsSpreadAt (revision H + 1) to.items reply
 Agrees H (Resolve p) reply = reply ≡ Resolved p (revision H + 1)
 Agrees H Settle reply = IsSettledAt (revision H + 1) (users H) reply
+Agrees H (Add add) reply = IsAddText add × (reply ≡ Added add.variable (revision H + 1))
 Agrees H _ reply = ⊥
 
 -- the refusals that are tried again: those by its words and by what was done; and of those by what
@@ -63,12 +65,13 @@ pub record IsFit (market : Market) (H : List Entry) (command : Command)
 abbrev pub Changes : Type 0
 Changes = List (Command × Reply)
 
--- each change fits the history that those before it give, and this is what all of them give
+-- each change fits the history that those before it give, in the market of that history, and this
+-- is what all of them give
 abbrev pub Restores : Market → List Entry → Changes → List Entry → Type 0
 Restores market H [] new = new ≡ H
 Restores market H (change ∷ changes) new =
-    IsFit market H (change.0) (change.1)
-    × Restores market (next_history market H (change.0) (change.1)) changes new
+    IsFit (present market H) H (change.0) (change.1)
+    × Restores market (next_history (present market H) H (change.0) (change.1)) changes new
 
 -- the changes among the lines of a run: those whose replies append an entry
 abbrev pub change_of : Market → List Entry → Line → Reply → Changes
@@ -81,8 +84,8 @@ abbrev pub changes_of : Market → Standing → List Line → List Reply → Cha
 changes_of market now [] replies = []
 changes_of market now (line ∷ lines) [] = []
 changes_of market now (line ∷ lines) (reply ∷ replies) =
-    change_of market now.history line reply
-    ++ changes_of market (after market now line reply) lines replies
+    change_of (present market now.history) now.history line reply
+    ++ changes_of market (after (present market now.history) now line reply) lines replies
 
 -- a change that a record can hold
 abbrev pub IsChange : Command × Reply → Type 0
