@@ -9,7 +9,7 @@ use Rattle.mk_net.specs.Bounds.{max_market_trades}
 use Rattle.mk_net.specs.Network.{Variable, IsNetwork}
 use Rattle.mk_net.specs.Zeros.{has_zero, with_zeros}
 use Rattle.mk_states.specs.States.{numbers_below}
-use Rattle.mk_exact.specs.History.{Entry, Join, Deposit, Withdraw, Trade, Resolve, Settle, UserTrade, trade_in, resolution_in, users, trades, trades_of, resolutions}
+use Rattle.mk_exact.specs.History.{Entry, Join, Deposit, Withdraw, Trade, Resolve, Settle, Add, UserTrade, trade_in, resolution_in, users, trades, trades_of, resolutions}
 use Rattle.mk_exact.specs.Proper.{IsProper, IsTradeOf}
 use Rattle.mk_exact.proofs.After.{trades_kept, trades_more, resolutions_kept, resolutions_more, trades_of_kept, trades_of_more, trades_of_other}
 use Rattle.mk_tree.specs.Given.{GivenTree}
@@ -50,6 +50,7 @@ module _ (network : List Variable) (tree : GivenTree) where
         ∙ sym (append_assoc (map RowsOf (numbers_below (length network))) (factors_of (trades H)) (RatioOf ratio ∷ [])))
     weights_grow (Resolve pair) = ap₂ weights_with (trades_kept H (Resolve pair) refl) (resolutions_more H pair)
     weights_grow Settle = weights_kept Settle refl refl
+    weights_grow (Add addition) = weights_kept (Add addition) refl refl
 
     gains_kept : (u : ℕ) (e : Entry) → trade_in e ≡ None → resolution_in e ≡ None → gains_of network tree (H ++ e ∷ []) u ≡ gains_of network tree H u
     unfolding factors_of gains_with
@@ -74,6 +75,7 @@ module _ (network : List Variable) (tree : GivenTree) where
             ∙ (rw (ne_eqb user u d) refl)
     gains_grow u (Resolve pair) = ap₂ gains_with (trades_of_kept H (Resolve pair) u refl) (resolutions_more H pair)
     gains_grow u Settle = gains_kept u Settle refl refl
+    gains_grow u (Add addition) = gains_kept u (Add addition) refl refl
 
     none_of : (n : ℕ) (ts : List UserTrade) → AllByRecursion (IsTradeOf network n) ts → filter (λ (t : UserTrade). eqb t.user n) ts ≡ []
     none_of n [] h = refl

@@ -10,7 +10,7 @@ use Rattle.mk_net.specs.Network.{Variable, sizes, IsNetwork}
 use Rattle.mk_states.specs.States.{states, numbers_below, plus_over, IsState}
 use Rattle.mk_states.specs.InitialWeight.{all_states, can_come, initial_weight, initial_total, value_at}
 use Rattle.mk_states.specs.Events.{always}
-use Rattle.mk_exact.specs.History.{Entry, Join, Deposit, Withdraw, Trade, Resolve, Settle}
+use Rattle.mk_exact.specs.History.{Entry, Join, Deposit, Withdraw, Trade, Resolve, Settle, Add}
 use Rattle.mk_exact.specs.Weight.{is_possible, possible_states}
 use Rattle.mk_exact.specs.Risk.{least_weight}
 use Rattle.mk_states.proofs.Sums.{plus_over-map, each_weaker}
@@ -66,6 +66,7 @@ module _ (network : List Variable) (tree : GivenTree) where
     rows_grow (Trade user ratio) = ap rows_with (resolutions_kept H (Trade user ratio) refl)
     rows_grow (Resolve pair) = ap rows_with (resolutions_more H pair)
     rows_grow Settle = ap rows_with (resolutions_kept H Settle refl)
+    rows_grow (Add addition) = ap rows_with (resolutions_kept H (Add addition) refl)
 
   pub rows_open : rows_of network tree [] ≡ record { network = network; tree = tree; factors = map RowsOf (numbers_below (length network)); known = [] }
   rows_open = refl

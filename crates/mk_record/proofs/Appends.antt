@@ -1,7 +1,7 @@
 -- One entry comes to a list: what is found and counted in it then.
 use Rattle.std.specs.Prelude.{◌≡◌, ◌+◌, List, [], ◌∷◌, ◌++◌, Bool, true, false, cond, Option, Some, None, length}
 use Rattle.std.specs.List.{filter_map, list_any, count_by}
-use Rattle.std.proofs.Common.{refl, ◌∙◌, arith, append-nil, add-zero}
+use Rattle.std.proofs.Common.{refl, ap, ◌∙◌, arith, append-nil, add-zero}
 use Rattle.std.proofs.Math.Bool.{or-true}
 use Rattle.std.proofs.lemmas.List.{length_push}
 use Rattle.std.proofs.lemmas.List.Elements.{filter_map-append}
@@ -11,6 +11,10 @@ use Rattle.std.proofs.lemmas.List.Sums.{sum_by-append}
 module _ {X : Type 0} (xs : List X) (x : X) where
   pub not_found : {Y : Type 0} (f : X → Option Y) → f x ≡ None → filter_map f (xs ++ x ∷ []) ≡ filter_map f xs
   not_found f e = filter_map-append f xs (x ∷ []) ∙ rw e (append-nil (filter_map f xs))
+
+  pub none_more : {Y : Type 0} (f : X → Option Y) → f x ≡ None
+      → length (filter_map f (xs ++ x ∷ [])) ≡ length (filter_map f xs)
+  none_more f e = ap length (not_found f e)
 
   pub found : {Y : Type 0} (f : X → Option Y) (y : Y) → f x ≡ Some y → filter_map f (xs ++ x ∷ []) ≡ filter_map f xs ++ y ∷ []
   found f y e = filter_map-append f xs (x ∷ []) ∙ rw e refl

@@ -1,7 +1,13 @@
 pub mod Changed
+pub mod Renewing
 pub mod Appends
 pub mod Counts
 pub mod KnownVariables
 pub mod Gathering
 pub mod Refusing
 pub mod SpreadRefusals
+pub mod Finding
+pub mod Numbered
+pub mod AddedRows
+pub mod AddedCliques
+pub mod AddRefusals

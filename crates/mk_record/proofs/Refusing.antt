@@ -196,7 +196,7 @@ not_earlier m x a (suc n) h = at (m a) (not_earlier m x (a + 1) n (omega arith))
     at true later e = rw e later
     at false later e = later
 
-among : (m : ℕ → Bool) (x a n : ℕ) → a ≤ x → x < a + n → list_any (λ v. v == x) (filter m (range_with_len a n)) ≡ m x
+pub among : (m : ℕ → Bool) (x a n : ℕ) → a ≤ x → x < a + n → list_any (λ v. v == x) (filter m (range_with_len a n)) ≡ m x
 among m x a zero h k = absurd (omega arith)
 among m x a (suc n) h k = at (cases_eq a x) (m a) refl (λ d. among m x (a + 1) n (omega (arith, d)) (omega arith))
   where

@@ -1,8 +1,13 @@
 -- What a journal is to its callers.
-use Rattle.std.specs.Prelude.{ℕ, List}
+use Rattle.std.specs.Prelude.{ℕ, ◌-◌, List}
+use Rattle.mk_net.specs.Bounds.{max_variables}
 use Rattle.mk_exact.specs.History.{Entry}
 
 -- the accepted changes in order, and the most trades among them
 pub record JournalOf : Type 0 where
   pub history : List Entry
   pub max_trades : ℕ
+
+-- questions that are added to a market: one variable at least is there when it opens
+abbrev pub max_additions : ℕ
+max_additions = max_variables - 1

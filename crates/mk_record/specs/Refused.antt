@@ -9,7 +9,7 @@ use Rattle.mk_net.specs.Network.{Variable}
 use Rattle.mk_net.specs.Asked.{Asked}
 use Rattle.mk_exact.specs.History.{Entry, users, trades, is_transfer, is_settled}
 use Rattle.mk_states.specs.OfNetwork.{IsPairOf}
-use Rattle.mk_exact.specs.Market.{Market, network_of}
+use Rattle.mk_exact.specs.Market.{Market}
 use Rattle.mk_spread.specs.Spreads.{SpreadAsked}
 use Rattle.mk_tree.specs.Given.{GivenTree}
 use Rattle.mk_reply.specs.declared.refusal.Refusal.{Refusal}
@@ -30,13 +30,13 @@ pub record IsUser (H : List Entry) (name : List ℕ) (u : ℕ) : Type 0 where
 
 -- a question in words is this one in numbers, and can be answered
 pub record IsQuestionFor (market : Market) (tree : GivenTree) (H : List Entry) (q : QuestionText) (asked : Asked) : Type 0 where
-  pub named : question_named (network_of market H) q ≡ Some asked
-  pub answered : CanBeAnswered (network_of market H) tree H asked
+  pub named : question_named market.network q ≡ Some asked
+  pub answered : CanBeAnswered market.network tree H asked
 
 -- so is a question about every value of a variable
 pub record IsSpreadQuestionFor (market : Market) (tree : GivenTree) (H : List Entry) (v : List ℕ) (condition : List PairText) (spread : SpreadAsked) : Type 0 where
-  pub named : spread_named (network_of market H) v condition ≡ Some spread
-  pub answered : CanBeSpreadHere (network_of market H) tree H spread
+  pub named : spread_named market.network v condition ≡ Some spread
+  pub answered : CanBeSpreadHere market.network tree H spread
 
 -- nobody has the name, and a user more may join
 pub record HasRoomForUser (H : List Entry) (name : List ℕ) : Type 0 where

@@ -2,3 +2,4 @@
 pub mod Counted
 pub mod Enrolled
 pub mod Gathered
+pub mod Placed

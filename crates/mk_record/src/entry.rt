@@ -1,6 +1,16 @@
 //! Accepted changes.
 
-use mk_net::{Name, Pair, Ratio};
+use arrayvec::ArrayVec;
+use mk_net::{Addition, Name, Pair, Ratio};
+
+/// A question that was added: the variable that was put behind all others, the variables of its
+/// clique, in rising order, and the number of the clique to which that is linked.
+#[derive(Debug, Drop)]
+pub struct AddedQuestion {
+    pub addition: Addition,
+    pub clique: ArrayVec<u32, 13>,
+    pub link: u32,
+}
 
 /// An accepted change of a market. Users are numbered by their joining, from 0.
 #[derive(Debug, Drop)]
@@ -11,4 +21,5 @@ pub enum Entry {
     Trade { user: u32, ratio: Ratio },
     Resolve { pair: Pair },
     Settle,
+    Add { question: Box<AddedQuestion> },
 }

@@ -4,11 +4,14 @@ ghost use Rattle.std.specs.Prelude.{◌≡◌, ◌<◌, ◌≤◌, [], ◌∷◌
 ghost use Rattle.std.specs.List.{count_by};
 ghost use Rattle.mk_net.specs.Bounds.{max_users, max_variables, max_transfers, max_market_trades};
 ghost use Rattle.mk_net.specs.Trades.{trade_ratio};
-ghost use Rattle.mk_exact.specs.History.{Join, Deposit, Withdraw, Trade, Resolve, Settle, users, trades as trades_in, resolutions, is_transfer, revision, is_settled};
+ghost use Rattle.mk_exact.specs.History.{Join, Deposit, Withdraw, Trade, Resolve, Settle, Add};
+ghost use Rattle.mk_exact.specs.History.{users, trades as trades_in, resolutions, additions};
+ghost use Rattle.mk_exact.specs.History.{is_transfer, revision, is_settled};
 ghost use Rattle.mk_rules.specs.Refusals as rules;
-ghost use Rattle.mk_record.specs.Entries.{changes};
+ghost use Rattle.mk_record.specs.Entries.{changes, addition_of};
+ghost use Rattle.mk_record.specs.Journals.{max_additions};
 
-use crate::entry::Entry;
+use crate::entry::{AddedQuestion, Entry};
 use mk_net::{Name, NoMemory, Pair, Ratio};
 use std::alloc::Global;
 use std::marker::Model;
@@ -17,6 +20,9 @@ use std::marker::Model;
 const MAX_USERS: usize = 256;
 
 const MAX_VARIABLES: usize = 256;
+
+/// The most questions that are added to a market, which has one at least when it opens.
+const MAX_ADDITIONS: usize = MAX_VARIABLES - 1;
 
 /// The most deposits and withdrawals of a market.
 const MAX_TRANSFERS: usize = 65_536;
@@ -30,6 +36,7 @@ pub struct Journal {
     joined: u32,
     trades: u32,
     transfers: u32,
+    added: u32,
     settled: bool,
 }
 
@@ -44,7 +51,8 @@ impl Model for Journal {
 
     ghost view = { λ j. record { history = changes j.entries.items; max_trades = j.max_trades } };
 
-    ghost invariant = { λ j. IsCounted (changes j.entries.items) j.max_trades j.known.items j.joined j.trades j.transfers j.settled
+    ghost invariant = { λ j. IsCounted (changes j.entries.items) j.max_trades j.known.items
+        j.joined j.trades j.transfers j.added j.settled
         × HasRoom j.max_trades (vec_capacity j.entries) (vec_capacity j.known) };
 }
 
@@ -54,7 +62,12 @@ impl Journal {
         requires { max_trades ≤ max_market_trades }
         ensures { IfOk result (λ journal. journal ≡ record { history = []; max_trades = max_trades }) }
     {
-        let most = max_trades as usize + MAX_TRANSFERS + MAX_USERS + MAX_VARIABLES + 1;
+        let most = max_trades as usize
+            + MAX_TRANSFERS
+            + MAX_USERS
+            + MAX_VARIABLES
+            + MAX_ADDITIONS
+            + 1;
         let entries = Vec::with_capacity(alloc, most)?;
         let known = Vec::with_capacity(alloc, MAX_VARIABLES)?;
         Ok(Journal {
@@ -64,6 +77,7 @@ impl Journal {
             joined: 0,
             trades: 0,
             transfers: 0,
+            added: 0,
             settled: false,
         })
     }
@@ -112,6 +126,14 @@ impl Journal {
         ensures few { result ≤ max_transfers }
     {
         self.transfers
+    }
+
+    /// How many questions were added.
+    pub fn added(&self) -> u32
+        ensures count { result ≡ length (additions self.now.history) }
+        ensures few { result ≤ max_additions }
+    {
+        self.added
     }
 
     /// Whether the market was settled.
@@ -201,5 +223,16 @@ impl Journal {
     {
         self.entries.push_reserved(Entry::Settle);
         self.settled = true;
+    }
+
+    /// Adds a question.
+    pub fn add(&mut self, question: Box<AddedQuestion>)
+        requires { length (additions self.old.history) < max_additions }
+        ensures history { self.new.history
+            ≡ self.old.history ++ Add (addition_of question.value) ∷ [] }
+        ensures limit { self.new.max_trades ≡ self.old.max_trades }
+    {
+        self.entries.push_reserved(Entry::Add { question });
+        self.added += 1;
     }
 }

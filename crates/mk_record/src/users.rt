@@ -113,6 +113,19 @@ impl<A: Engine<MinProd>> Users<A> {
         &mut member.assets
     }
 
+    /// Gives each user the assets at the user's place in the list. It takes no memory.
+    pub fn renew(&mut self, assets: Vec<Assets<A>>)
+        requires one_each { length assets.items ≡ length self.old }
+        ensures names { names_of self.new ≡ names_of self.old }
+        ensures assets { assets_of self.new ≡ assets.items }
+        ensures quotes { quotes_of self.new ≡ quotes_of self.old }
+    {
+        let mut renewed = assets.into_iter();
+        for member in self.members.iter_mut() {
+            member.assets = renewed.next().unwrap();
+        }
+    }
+
     /// Adds a user who was given no quote. Without memory the users stay as they are.
     pub fn join(&mut self, name: Name, assets: Assets<A>) -> Result<(), NoMemory>
         requires few { length self.old < max_users }
