@@ -1,11 +1,10 @@
 -- What a history's weights are once pairs are known beside it.
-use Rattle.std.proofs.Common.{◌≡◌, ℕ, ◌+◌, ◌*◌, ◌<◌, ◌^◌, Bool, true, false, ◌&&◌, List, [], ◌∷◌}
-use Rattle.std.proofs.Common.{◌++◌, map, filter, length, take, get_or, sum_by, refl, sym, ap, ap₂}
-use Rattle.std.proofs.Common.{subst, ◌∙◌, append-nil, append_assoc}
+use Rattle.std.proofs.Common.{◌≡◌, ℕ, ◌*◌, ◌<◌, ◌^◌, Bool, true, false, ◌&&◌, List, [], ◌∷◌}
+use Rattle.std.proofs.Common.{◌++◌, map, filter, length, sum_by, refl, sym, ap, ap₂}
+use Rattle.std.proofs.Common.{subst, ◌∙◌, append-nil}
 use Rattle.std.specs.List.{filter_map}
 use Rattle.std.proofs.Math.Path.{fun_ext}
 use Rattle.std.proofs.Math.Bool.{and-true}
-use Rattle.std.proofs.lemmas.List.{map-append, take_more}
 use Rattle.std.proofs.lemmas.List.Elements.{filter_map-append}
 use Rattle.mk_net.specs.declared.words.Pair.{Pair}
 use Rattle.mk_net.specs.Network.{Variable}
@@ -14,36 +13,17 @@ use Rattle.mk_exact.specs.History.{Entry, Resolve, UserTrade, trade_in, resoluti
 use Rattle.mk_exact.specs.History.{resolutions}
 use Rattle.mk_states.specs.InitialWeight.{all_states, initial_weight}
 use Rattle.mk_states.specs.Ratios.{ratio_at}
-use Rattle.mk_states.specs.States.{product_by}
+use Rattle.mk_states.specs.States.{numbers_below, product_by}
 use Rattle.mk_exact.specs.Weight.{total, IsSmall}
 use Rattle.mk_states.proofs.Sums.{list_all-append}
 use Rattle.mk_tree.specs.Given.{GivenTree}
-use Rattle.mk_engine.specs.Meaning.{Meaning, with_known}
+use Rattle.mk_engine.specs.Meaning.{Meaning, Factor, RowsOf, RatioOf}
 use Rattle.mk_beliefs.specs.Meanings.{weights_of}
-use Rattle.mk_beliefs.proofs.Grown.{weights_grow}
+use Rattle.mk_replay.specs.Known.{with_all_known}
 use Rattle.mk_best.specs.inner.Engines.{learned}
 
 pub learned_none : (H : List Entry) → learned H [] ≡ H
 learned_none H = append-nil H
-
-pub learned_more : (H : List Entry) (pairs : List Pair) (d : Pair) (i : ℕ) → i < length pairs
-    → learned H (take (i + 1) pairs) ≡ learned H (take i pairs) ++ Resolve (get_or pairs i d) ∷ []
-learned_more H pairs d i l =
-    ap (learned H) (take_more pairs i d l)
-    ∙ ap (λ (es : List Entry). H ++ es) (map-append Resolve (take i pairs) (get_or pairs i d ∷ []))
-    ∙ sym (append_assoc H (map Resolve (take i pairs)) (Resolve (get_or pairs i d) ∷ []))
-
--- one more pair of them becomes known
-pub learn_more : {E : Type 0} (stands_for : E → Meaning
-    → Type 0) (engine : E) (network : List Variable) (tree : GivenTree) (H : List Entry)
-    (pairs : List Pair) (d : Pair) (i : ℕ)
-    → i < length pairs → stands_for engine (with_known (get_or pairs i d)
-    (weights_of network tree (learned H (take i pairs))))
-    → stands_for engine (weights_of network tree (learned H (take (i + 1) pairs)))
-learn_more stands_for engine network tree H pairs d i l h =
-    subst (λ (m : Meaning). stands_for engine m)
-    (sym (weights_grow network tree (learned H (take i pairs)) (Resolve (get_or pairs i d)))
-    ∙ ap (weights_of network tree) (sym (learned_more H pairs d i l))) h
 
 no_trades : (pairs : List Pair) → filter_map trade_in (map Resolve pairs) ≡ []
 no_trades [] = refl
@@ -61,6 +41,16 @@ module _ (H : List Entry) (pairs : List Pair) where
   pub resolutions_learned : resolutions (learned H pairs) ≡ resolutions H ++ pairs
   resolutions_learned = filter_map-append resolution_in H (map Resolve pairs) ∙ ap
       (λ (ps : List Pair). resolutions H ++ ps) (all_known pairs)
+
+  -- the weights then are those with the pairs known
+  pub weights_learned : (network : List Variable) (tree : GivenTree)
+      → with_all_known pairs (weights_of network tree H) ≡ weights_of network tree (learned H pairs)
+  weights_learned network tree =
+      let factors : List UserTrade → List Factor = λ ts.
+      map RowsOf (numbers_below (length network)) ++ map (λ (t : UserTrade). RatioOf t.ratio) ts in
+      let meaning : List UserTrade → List Pair → Meaning = λ ts known.
+      record { network = network; tree = tree; factors = factors ts; known = known } in
+      ap₂ meaning (sym trades_learned) (sym resolutions_learned)
 
   module _ (network : List Variable) where
     three : (a b c : Bool) → ((a && b) && c) ≡ (a && (b && c))

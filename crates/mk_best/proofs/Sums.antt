@@ -1,7 +1,6 @@
 -- Sums over the states that pass a test, and over those that pass a narrower one.
-use Rattle.std.proofs.Common.{◌≡◌, ℕ, ◌≤◌, Bool, true, false, cond, ◌&&◌, List, [], ◌∷◌, ◌++◌}
+use Rattle.std.proofs.Common.{◌≡◌, ℕ, ◌≤◌, Bool, true, false, cond, ◌&&◌, List, [], ◌∷◌}
 use Rattle.std.proofs.Common.{filter, sum_by, refl, arith}
-use Rattle.std.specs.List.{AllByRecursion}
 use Rattle.std.proofs.lemmas.List.Sums.{sum_by-cons}
 use Rattle.mk_net.specs.Network.{Variable}
 use Rattle.mk_exact.specs.History.{Entry}
@@ -32,9 +31,3 @@ pub total_narrow : (network : List Variable) (H : List Entry) (test other : List
 total_narrow network H test other h =
     narrow (weight network H) (λ s. is_possible H s && test s) (λ s. is_possible H s && other s)
     (λ s e. and_both (is_possible H s) (other s) (test s) (h s) e) (all_states network)
-
--- the last part of what holds of each
-pub all_back : {X : Type 0} (P : X → Type 0) (xs ys : List X) → AllByRecursion P (xs ++ ys)
-    → AllByRecursion P ys
-all_back P [] ys h = h
-all_back P (x ∷ xs) ys h = all_back P xs ys h.1

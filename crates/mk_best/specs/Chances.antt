@@ -1,17 +1,13 @@
 -- Chances after a history.
-use Rattle.std.specs.Prelude.{◌≡◌, ◌≤◌, List, true, false, ◌&&◌, length, is_some}
-use Rattle.std.specs.List.{AllByRecursion}
+use Rattle.std.specs.Prelude.{◌≡◌, List, true, false, ◌&&◌}
 use Rattle.mk_net.specs.declared.words.Pair.{Pair}
-use Rattle.mk_net.specs.Asked.{ratio_pairs}
-use Rattle.mk_net.specs.Bounds.{max_market_trades}
 use Rattle.mk_net.specs.Network.{Variable}
 use Rattle.mk_states.specs.Events.{holds}
 use Rattle.mk_exact.specs.Factors.{Fraction}
-use Rattle.mk_exact.specs.History.{Entry, UserTrade, trades}
+use Rattle.mk_exact.specs.History.{Entry}
 use Rattle.mk_exact.specs.Prices.{CoversPrice, price_where}
-use Rattle.mk_exact.specs.Proper.{IsProper}
 use Rattle.mk_exact.specs.Weight.{IsSmall, cannot_come}
-use Rattle.mk_tree.specs.Given.{GivenTree, home}
+pub use Rattle.mk_replay.specs.Placed.{IsPlaced}
 use Rattle.mk_best.specs.declared.found.Chance.{Chance}
 use Rattle.mk_best.specs.declared.found.Chance.TheVariants.{Price, Impossible}
 
@@ -25,11 +21,3 @@ IsChance network H want given (Price low high) =
     (cannot_come network H (holds given) ≡ false) × CoversPrice (IsSmall network H)
     (chance_of network H want given) low high
 IsChance network H want given Impossible = cannot_come network H (holds given) ≡ true
-
--- a proper history of no more trades than a market takes, the variables of each of which a clique
--- holds together
-pub record IsPlaced (network : List Variable) (tree : GivenTree) (H : List Entry) : Type 0 where
-  pub proper : IsProper network H
-  pub few_trades : length (trades H) ≤ max_market_trades
-  pub homes : AllByRecursion (λ (t : UserTrade). is_some (home tree (ratio_pairs t.ratio)) ≡ true)
-      (trades H)

@@ -8,7 +8,8 @@ ghost use Rattle.mk_exact.specs.Weight.{IsSmall};
 ghost use Rattle.mk_tree.specs.Checked.{IsTreeOf};
 ghost use Rattle.mk_engine.specs.Meaning.{ArePairsOf};
 ghost use Rattle.mk_record.specs.Entries.{changes};
-ghost use Rattle.mk_best.specs.Chances.{IsChance, IsPlaced};
+ghost use Rattle.mk_replay.specs.Placed.{IsPlaced};
+ghost use Rattle.mk_best.specs.Chances.{IsChance};
 ghost use Rattle.mk_best.specs.inner.Engines.{CanAsk, IsLeftFor, ArePartAndWhole, HasPartAndWhole};
 ghost use Rattle.mk_beliefs.specs.Meanings.{weights_of};
 

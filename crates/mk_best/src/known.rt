@@ -17,10 +17,5 @@ pub(crate) fn know_all<R: Semiring, E: Engine<R>>(engine: &mut E, tree: &Tree, p
         → E.stands_for engine.old (weights_of network tree.now H)
         → E.stands_for engine.new (weights_of network tree.now (learned H pairs.now)) }
 {
-    for pair in pairs {
-        let Some(home) = tree.pair_home(*pair) else {
-            unreachable!()
-        };
-        engine.know(home, *pair);
-    }
+    mk_replay::know_all::<R, E>(engine, tree, pairs);
 }

@@ -8,7 +8,7 @@ use Rattle.mk_net.specs.Asked.{TradeRatio}
 use Rattle.mk_net.specs.Network.{Variable}
 use Rattle.mk_states.specs.Events.{always}
 use Rattle.mk_exact.specs.Factors.{trade_count}
-use Rattle.mk_exact.specs.History.{Entry, Join, Deposit, Withdraw, Trade, Resolve, Settle}
+use Rattle.mk_exact.specs.History.{Entry, Join, Deposit, Withdraw, Trade, Resolve, Settle, Add}
 use Rattle.mk_exact.specs.History.{UserTrade, bits_in, bits_out, trades, trades_of, deposited}
 use Rattle.mk_exact.specs.History.{withdrawn, users}
 use Rattle.mk_states.specs.OfNetwork.{IsRatioOf}
@@ -64,6 +64,7 @@ module _ (u : ℕ) where
   over_trades f (Withdraw v n ∷ P) = passed f (Withdraw v n) P refl refl (over_trades f P)
   over_trades f (Resolve p ∷ P) = passed f (Resolve p) P refl refl (over_trades f P)
   over_trades f (Settle ∷ P) = passed f Settle P refl refl (over_trades f P)
+  over_trades f (Add a ∷ P) = passed f (Add a) P refl refl (over_trades f P)
 
   -- a sum over entries, each of which adds bits or a trade
   by_kinds : (z : ℕ) (m : Entry → ℕ) (f : TradeRatio → ℕ) (P : List Entry)

@@ -4,7 +4,7 @@ use Rattle.std.specs.List.{AllByRecursion}
 use Rattle.mk_net.specs.Asked.{ratio_pairs}
 use Rattle.mk_net.specs.Network.{Variable, IsNetwork}
 use Rattle.mk_states.specs.Events.{always}
-use Rattle.mk_exact.specs.History.{Entry, Join, Deposit, Withdraw, Trade, Resolve, Settle}
+use Rattle.mk_exact.specs.History.{Entry, Join, Deposit, Withdraw, Trade, Resolve, Settle, Add}
 use Rattle.mk_exact.specs.History.{UserTrade, trades, users}
 use Rattle.mk_exact.specs.Proper.{IsTradeOf, IsProper}
 use Rattle.mk_exact.specs.Weight.{total, possible_states}
@@ -26,6 +26,7 @@ module _ (network : List Variable) (tree : GivenTree) (joined : ℕ) where
   each_fits (Withdraw user n ∷ H) fits homes = (tt, each_fits H fits homes)
   each_fits (Resolve p ∷ H) fits homes = (tt, each_fits H fits homes)
   each_fits (Settle ∷ H) fits homes = (tt, each_fits H fits homes)
+  each_fits (Add a ∷ H) fits homes = (tt, each_fits H fits homes)
 
 pub all_fit : (network : List Variable) (tree : GivenTree) (H : List Entry)
     → IsPlaced network tree H → AllByRecursion (FitsEntry network tree) H

@@ -4,7 +4,7 @@ use Rattle.std.proofs.Common.{length, arith}
 use Rattle.std.specs.List.{AllByRecursion}
 use Rattle.std.proofs.lemmas.List.Sums.{sum_by-cons}
 use Rattle.mk_net.specs.Bounds.{max_transfers, max_transfer_bits}
-use Rattle.mk_exact.specs.History.{Entry, Join, Deposit, Withdraw, Trade, Resolve, Settle}
+use Rattle.mk_exact.specs.History.{Entry, Join, Deposit, Withdraw, Trade, Resolve, Settle, Add}
 use Rattle.mk_exact.specs.History.{bits_in, bits_out, is_transfer, users}
 use Rattle.mk_rules.specs.Bounded.{FitsTransfer}
 use Rattle.mk_expect.specs.Expectation.{BoundedHasFewBits}
@@ -22,6 +22,7 @@ module _ (joined u : ℕ) where
   one_in (Trade v r) h = omega arith
   one_in (Resolve p) h = omega arith
   one_in Settle h = omega arith
+  one_in (Add a) h = omega arith
 
   one_out : (e : Entry) → FitsTransfer joined e
       → bits_out u e ≤ max_transfer_bits * cond (is_transfer e) 1 0
@@ -31,6 +32,7 @@ module _ (joined u : ℕ) where
   one_out (Trade v r) h = omega arith
   one_out (Resolve p) h = omega arith
   one_out Settle h = omega arith
+  one_out (Add a) h = omega arith
 
   all_at_most : (m : Entry → ℕ)
       → ((e : Entry) → FitsTransfer joined e → m e ≤ max_transfer_bits * cond (is_transfer e) 1 0)

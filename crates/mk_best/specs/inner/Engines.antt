@@ -1,37 +1,28 @@
 -- What the calls ask of an engine that has the weights of a history, and what is found of the
 -- states that are left.
-use Rattle.std.specs.Prelude.{◌≡◌, ℕ, ◌<◌, ◌≤◌, List, [], ◌∷◌, ◌++◌, map, length, is_some, true}
+use Rattle.std.specs.Prelude.{◌≡◌, ℕ, ◌<◌, ◌≤◌, List, ◌++◌, map, length}
 use Rattle.mk_net.specs.declared.words.Pair.{Pair}
-use Rattle.mk_net.specs.Asked.{ratio_pairs}
 use Rattle.mk_net.specs.Bounds.{max_market_trades}
 use Rattle.mk_net.specs.Network.{Variable, IsNetwork}
 use Rattle.mk_states.specs.Events.{holds, always}
-use Rattle.mk_exact.specs.History.{Entry, Trade, Resolve, trades}
+use Rattle.mk_exact.specs.History.{Entry, Resolve, trades}
 use Rattle.mk_exact.specs.Prices.{CoversPrice}
-use Rattle.mk_states.specs.OfNetwork.{IsPairOf, IsRatioOf}
+use Rattle.mk_states.specs.OfNetwork.{IsPairOf}
 use Rattle.mk_exact.specs.Weight.{IsSmall, total}
 use Rattle.mk_enclose.specs.declared.enclosure.Enclosure.{Enclosure}
 use Rattle.mk_semiring.specs.declared.held.Held.{Held}
 use Rattle.mk_semiring.specs.declared.held.Held.TheVariants.{Present}
-use Rattle.mk_tree.specs.Given.{GivenTree, home}
+use Rattle.mk_tree.specs.Given.{GivenTree}
 use Rattle.mk_tree.specs.Checked.{IsTreeOf}
-use Rattle.mk_engine.specs.Meaning.{Meaning, ArePairsOf, max_factors}
+use Rattle.mk_engine.specs.Meaning.{Meaning, ArePairsOf}
 use Rattle.mk_beliefs.specs.Meanings.{weights_of}
 use Rattle.mk_answers.specs.inner.Found.{IsBeliefIn}
 use Rattle.mk_best.specs.declared.found.Chance.{Chance}
 use Rattle.mk_best.specs.declared.found.Chance.TheVariants.{Price, Impossible}
-use Rattle.mk_best.specs.Chances.{IsPlaced}
 
 -- a history after which these pairs were resolved too
 abbrev pub learned : List Entry → List Pair → List Entry
 learned H pairs = H ++ map Resolve pairs
-
--- one entry more can be taken: a trade has a home and room, and a resolution is of the network
-abbrev pub CanTakeBy : Meaning → Entry → Type 0
-CanTakeBy m (Trade user ratio) = IsRatioOf m.network ratio ×
-    (is_some (home m.tree (ratio_pairs ratio)) ≡ true) × (length m.factors < max_factors)
-CanTakeBy m (Resolve pair) = IsPairOf m.network pair × (is_some (home m.tree (pair ∷ [])) ≡ true)
-CanTakeBy m _ = Unit {0}
 
 module _ {E : Type 0} (stands_for : E → Meaning → Type 0) where
   -- the engine has the weights of a history of a network with this tree, whose pairs these are
@@ -41,21 +32,6 @@ module _ {E : Type 0} (stands_for : E → Meaning → Type 0) where
     pub stands : stands_for engine (weights_of network tree history)
     pub tree_of_it : IsTreeOf network tree
     pub in_range : ArePairsOf network pairs
-
-  -- the engine has the weights of a network before any entry, and this is a history of it
-  pub record CanReplay (engine : E) (tree : GivenTree) (H : List Entry) : Type 0 where
-    pub network : List Variable
-    pub stands : stands_for engine (weights_of network tree [])
-    pub legal : IsNetwork network
-    pub tree_of_it : IsTreeOf network tree
-    pub placed : IsPlaced network tree H
-
-  -- the engine can take this entry
-  pub record CanTake (engine : E) (tree : GivenTree) (e : Entry) : Type 0 where
-    pub meaning : Meaning
-    pub stands : stands_for engine meaning
-    pub of_tree : meaning.tree ≡ tree
-    pub takes : CanTakeBy meaning e
 
   -- the engine has the weights of a history of this network, whose pairs these are, and of no more
   -- trades than a market takes

@@ -8,7 +8,7 @@ use Rattle.mk_beliefs.specs.Meanings.{weights_of}
 use Rattle.mk_answers.specs.inner.Found.{IsBeliefIn}
 use Rattle.mk_best.specs.BestStates.{greatest}
 use Rattle.mk_best.proofs.Maxima.{greatest_in}
-use Rattle.mk_best.proofs.Replayed.{no_home}
+use Rattle.mk_replay.proofs.HasHome.{no_home}
 use Rattle.mk_best.proofs.picks.belief_in.Goals as goal
 
 pub unreachable-requires : goal.unreachable-requires

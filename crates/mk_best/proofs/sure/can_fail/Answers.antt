@@ -6,7 +6,7 @@ use Rattle.mk_states.specs.Events.{has}
 use Rattle.mk_exact.specs.Weight.{total}
 use Rattle.mk_tree.proofs.Held.{pair_has_home}
 use Rattle.mk_beliefs.specs.Meanings.{weights_of}
-use Rattle.mk_best.proofs.Replayed.{no_home}
+use Rattle.mk_replay.proofs.HasHome.{no_home}
 use Rattle.mk_best.proofs.Shares.{is_asked, can_ask, fails_in, none_of, some_of}
 use Rattle.mk_best.proofs.sure.can_fail.Goals as goal
 

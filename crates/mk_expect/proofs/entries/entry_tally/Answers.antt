@@ -68,6 +68,9 @@ returns-in-Join-clause-adds g c = λ network H has bits are.
       | inl j ↦ subst P (sym j.1) (nothing)
       | inr rest ↦ elim rest [
         | inl r ↦ subst P (sym r.1) (nothing)
-        | inr s ↦ subst P (sym s) (nothing)
+        | inr other ↦ elim other [
+          | inl q ↦ subst P (sym q.1) (nothing)
+          | inr s ↦ subst P (sym s) (nothing)
+        ]
       ]
     ]

@@ -1,0 +1,4 @@
+pub mod HasHome
+pub mod Weighed
+pub mod Replayed
+pub mod Owned
