@@ -91,7 +91,7 @@ module _ {P A Plan : Type 0} (weights_stand : P → Meaning → Type 0) (gains_s
     deposit_kept limit deposits paid =
         let H = journal.history in
         kept_grown weights_stand gains_stand plan_for file prices prices rows rows plan members (with_assets members user now) accounts new_accounts journal new_journal payments payments
-        (Deposits user bits) (Deposit name bits) reply tt tt kept fit next
+        (Deposits user bits) (Deposit name bits) reply tt tt tt kept fit next
         (record {
           history = history;
           limit = limit;

@@ -49,7 +49,7 @@ use Rattle.mk_market.specs.inner.Keeping.{quoted, standing_of, IsKeptQuote, IsKe
 use Rattle.mk_market.specs.inner.Quoting.{IsQuoteOf}
 use Rattle.mk_market.proofs.Growing.{is_open}
 use Rattle.mk_market.proofs.Quotes.{trading, AreQuoted, quote_said, standing_quoted}
-use Rattle.mk_market.proofs.Replies.{answer_allowed, refusal_allowed, none_appended}
+use Rattle.mk_market.proofs.Replies.{answer_allowed, refusal_allowed, none_appended, nothing_added}
 use Rattle.mk_reply.specs.Replies.{IsRatio}
 use Rattle.mk_restore.specs.Restoring.{IsFit}
 use Rattle.mk_restore.proofs.Taken.{allowed_fits}
@@ -61,7 +61,7 @@ use Rattle.mk_market.proofs.Together.{condition_comes}
 refused_answered : (old : Trading) (name : List ℕ) (q : QuestionText) (X : ℕ) (seen : Option ℕ) (why : Refusal)
     → Some why ≡ first_refusal old.market old.standing.history (Edit name q X seen) → IsAnswered old old (Edit name q X seen) (Refused why)
 refused_answered old name q X seen why e = record {
-  same_market = refl;
+  market = refl;
   allowed = λ sound. refusal_allowed old.market old.standing (Edit name q X seen) why e;
   next = none_appended old.market old.standing (Edit name q X seen) (Refused why) refl
       (edit_refused old.market old.standing.history old.standing.quotes name q X seen why (sym e));
@@ -235,7 +235,7 @@ module _ {P A Plan : Type 0} (weights_stand : P → Meaning → Type 0) (gains_s
       subst (IsAnswered (trading file accounts journal members)
       (trading file accounts journal new_members) (Limits name q)) (sym printed)
       (record {
-        same_market = refl;
+        market = refl;
         allowed = λ sound. answer_allowed (market_of file) (standing_of journal members) (Limits name q) reply none
             (subst (λ (o : Option Asked). IsSomeAnd o (λ a. IsLimits file.net journal.history (user_number journal.history name) a reply)) (sym is_question.named)
             (record { limits = limits_of quote; printed = refl; right = right_for_user (subst (AreRightFor (bounds_of quote)) its right) }));
@@ -256,7 +256,7 @@ module _ {P A Plan : Type 0} (weights_stand : P → Meaning → Type 0) (gains_s
       subst (IsAnswered (trading file accounts journal members)
       (trading file accounts journal new_members) (Edit name q X seen)) (sym printed)
       (record {
-        same_market = refl;
+        market = refl;
         allowed = λ sound. edit_allowed file journal members name user is_user q asked is_question quote last X seen reply none
             (inr (record {
               limits = limits_of quote;
@@ -322,7 +322,8 @@ module _ (file : MarketFile) (journal : JournalOf) (open_for : IsOpen file.net f
         → IsAnswered (trading file accounts journal members)
         (trading file accounts new_journal new_members) (Edit name q X seen) (Traded hit miss at)
     trade_answered accounts = record {
-      same_market = refl;
+      market = nothing_added (market_of file) (standing_of journal members) (Edit name q X seen)
+          (Traded hit miss at) tt;
       allowed = λ sound. trade_allowed;
       next =
           trade_next;

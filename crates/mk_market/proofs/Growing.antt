@@ -2,9 +2,13 @@
 use Rattle.std.specs.Prelude.{◌≡◌, ℕ, ◌+◌, List, [], ◌∷◌, ◌++◌, length, false, Option, Some, slice_get}
 use Rattle.std.proofs.Common.{sym, ap, ◌∙◌, subst, arith}
 use Rattle.std.proofs.lemmas.List.{length_push}
-use Rattle.mk_net.specs.Network.{Variable, IsNetwork}
+use Rattle.mk_net.specs.Network.{Variable, IsNetwork, sizes}
+use Rattle.mk_net.specs.Sets.{is_member}
 use Rattle.mk_exact.specs.History.{Entry, users, is_settled}
+use Rattle.mk_exact.specs.Market.{Market}
+use Rattle.mk_tree.specs.Checked.{IsTreeOf}
 use Rattle.mk_tree.specs.Given.{GivenTree}
+use Rattle.mk_tree.specs.Tests.{members}
 use Rattle.mk_file.specs.declared.market_file.MarketFile.{MarketFile}
 use Rattle.mk_file.specs.MarketOf.{market_of}
 use Rattle.mk_engine.specs.Meaning.{Meaning}
@@ -18,7 +22,10 @@ use Rattle.mk_record.specs.declared.last_quote.LastQuote.{LastQuote}
 use Rattle.mk_command.specs.declared.command.Command.{Command}
 use Rattle.mk_reply.specs.declared.payments.Payment.{Payment}
 use Rattle.mk_reply.specs.declared.reply.Reply.{Reply}
+use Rattle.mk_rules.specs.Answers.{next_history}
 use Rattle.mk_rules.specs.Transcript.{Standing, OfCommand, after}
+use Rattle.mk_rules.proofs.Adds.{IsNoAddition, adds_nothing}
+use Rattle.mk_rules.proofs.Cells.{lists_known, lists_cells}
 use Rattle.mk_rules.specs.Standings.{IsMarket}
 use Rattle.mk_rules.specs.Bounded.{JoinsByName}
 use Rattle.mk_restore.specs.Laws.{IsSafe}
@@ -32,9 +39,16 @@ use Rattle.mk_market.specs.Points.{AreAccounts}
 use Rattle.mk_market.specs.inner.Keeping.{standing_of, IsKeptQuote, IsKept}
 
 -- the market of a file is one
-pub market_is : (file : MarketFile) → IsNetwork file.net → IsMarket (market_of file)
-market_is file legal = record {
+pub market_is : (file : MarketFile) → IsNetwork file.net → IsTreeOf file.net file.tree
+    → IsMarket (market_of file)
+market_is file legal tree = record {
   network = legal;
+  cliques_known = lists_known is_member (length file.net) file.tree.cliques;
+  few_cells = omega (
+    arith,
+    lists_cells (members file.net) (sizes file.net) file.tree.cliques,
+    tree.few_cells,
+  );
   some_points = file.points_positive;
   few_points = file.points_most;
   some_trades = file.trades_positive;
@@ -42,11 +56,23 @@ market_is file legal = record {
   shares = file.no_zeros;
 }
 
+-- a change that is taken back keeps its market safe, where it adds nothing to it
+abbrev pub SafeIn : List Entry → Market → Type 0
+SafeIn H market = IsSafe market H
+
+pub fit_stays_safe : (market : Market) (H : List Entry) (command : Command) (reply : Reply)
+    → JoinsByName (OfCommand command) → IsNoAddition command → HasUnits reply → IsSafe market H
+    → IsFit market H command reply → IsSafe market (next_history market H command reply)
+fit_stays_safe market H command reply joins other units safe fit =
+    subst (SafeIn (next_history market H command reply)) (adds_nothing market H command reply other)
+    (fit_keeps_safe market H command reply joins units safe fit)
+
 -- after an entry a quote is of an earlier revision
-pub quote_later : (network : List Variable) (tree : GivenTree) (H : List Entry) (e : Entry) (u : ℕ) (quote : LastQuote)
-    → IsKeptQuote network tree H u quote → IsKeptQuote network tree (H ++ e ∷ []) u quote
-quote_later network tree H e u quote kept =
-    let longer : length (H ++ e ∷ []) ≡ length H + 1 = length_push H e in
+pub quote_later : (network longer : List Variable) (tree more : GivenTree) (H : List Entry)
+    (e : Entry) (u : ℕ) (quote : LastQuote)
+    → IsKeptQuote network tree H u quote → IsKeptQuote longer more (H ++ e ∷ []) u quote
+quote_later network longer tree more H e u quote kept =
+    let pushed : length (H ++ e ∷ []) ≡ length H + 1 = length_push H e in
     record { same_user = kept.same_user; not_later = omega (arith, kept.not_later); current = λ same. absurd (omega (arith, kept.not_later)) }
 
 module _ {P A Plan : Type 0} (weights_stand : P → Meaning → Type 0) (gains_stand : A → Meaning → Type 0) (plan_for : Plan → List Variable → GivenTree → Type 0) where
@@ -77,13 +103,13 @@ module _ {P A Plan : Type 0} (weights_stand : P → Meaning → Type 0) (gains_s
   -- a reply that is taken back leads from a market that is kept to one that is
   pub kept_grown : (file : MarketFile) (prices new_prices : P) (rows new_rows : A) (plan : Plan) (members new_members : List (Member A Plan)) (accounts new_accounts : List Account)
       (journal new_journal : JournalOf) (payments new_payments : Option (List Payment)) (e : Entry) (command : Command) (reply : Reply)
-      → JoinsByName (OfCommand command) → HasUnits reply
+      → JoinsByName (OfCommand command) → IsNoAddition command → HasUnits reply
       → IsKept weights_stand gains_stand plan_for file prices rows plan members accounts journal payments
       → IsFit (market_of file) journal.history command reply
       → standing_of new_journal new_members ≡ after (market_of file) (standing_of journal members) (OfCommand command) reply
       → AreGrown file journal new_journal e prices new_prices rows new_rows members new_members new_accounts new_payments
       → IsKept weights_stand gains_stand plan_for file new_prices new_rows plan new_members new_accounts new_journal new_payments
-  kept_grown file prices new_prices rows new_rows plan members new_members accounts new_accounts journal new_journal payments new_payments e command reply joins units kept fit next are =
+  kept_grown file prices new_prices rows new_rows plan members new_members accounts new_accounts journal new_journal payments new_payments e command reply joins other units kept fit next are =
       let market = market_of file in
       let back : journal.history ++ e ∷ [] ≡ new_journal.history = sym are.history in
       record {
@@ -97,11 +123,10 @@ module _ {P A Plan : Type 0} (weights_stand : P → Meaning → Type 0) (gains_s
         named = are.names ∙ ap users back;
         owns = λ u assets at. subst (λ (H : List Entry). Owns gains_stand assets (holding_of file.net file.tree H u)) back (are.owned u assets at);
         quotes_kept = λ u quote at. subst (λ (H : List Entry). IsKeptQuote file.net file.tree H u quote) back
-            (quote_later file.net file.tree journal.history e u quote (kept.quotes_kept u quote (are.none_quoted u quote at)));
+            (quote_later file.net file.net file.tree file.tree journal.history e u quote (kept.quotes_kept u quote (are.none_quoted u quote at)));
         accounts_kept = subst (λ (H : List Entry). AreAccounts (market_of file) H new_accounts) back are.accounts;
         safe = subst (λ (now : Standing). IsSafe market now.history) (sym next)
-            (fit_keeps_safe market journal.history command reply (market_is file kept.legal) joins
-            units kept.safe fit);
+            (fit_stays_safe market journal.history command reply joins other units kept.safe fit);
         max_trades = are.limit ∙ kept.max_trades;
         room = λ unsettled. are.room (subst (λ (H : List Entry). is_settled H ≡ false) are.history unsettled);
       }

@@ -6,7 +6,6 @@ use Rattle.std.proofs.Common.{refl, sym, ◌∙◌}
 use Rattle.mk_net.specs.declared.words.Pair.{Pair}
 use Rattle.mk_net.specs.Asked.{ratio_pairs}
 use Rattle.mk_exact.specs.History.{Entry, UserTrade, trades, resolutions}
-use Rattle.mk_exact.specs.Market.{cliques_of}
 use Rattle.mk_states.specs.OfNetwork.{IsPairOf}
 use Rattle.mk_exact.specs.Proper.{IsTradeOf}
 use Rattle.mk_tree.specs.Given.{home}
@@ -23,9 +22,9 @@ some_of None none = absurd (cc)
 some_of (Some k) none = refl
 
 module _ (file : MarketFile) where
-  trades_have : (joined : ℕ) (H : List Entry) (ts : List UserTrade)
+  pub trades_have : (joined : ℕ) (H : List Entry) (ts : List UserTrade)
       → AllByRecursion (IsTradeOf file.net joined) ts
-      → AllByRecursion (IsInClique (cliques_of (market_of file) H)) ts
+      → AllByRecursion (IsInClique (market_of file).cliques) ts
       → AllByRecursion (λ (t : UserTrade). is_some (home file.tree (ratio_pairs t.ratio)) ≡ true) ts
   trades_have joined H [] fit narrow = tt
   trades_have joined H (t ∷ ts) fit narrow = (

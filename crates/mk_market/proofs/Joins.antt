@@ -38,7 +38,7 @@ use Rattle.mk_market.proofs.Replies.{answer_allowed, refused_stays, unsettled}
 -- where memory is wanting nothing changes
 pub memory_answered : (now : Trading) (name : List ℕ) → None ≡ first_refusal now.market now.standing.history (User name) → IsAnswered now now (User name) (Refused Memory)
 memory_answered now name none = record {
-  same_market = refl;
+  market = refl;
   allowed = λ sound. answer_allowed now.market now.standing (User name) (Refused Memory) none (inr refl);
   next = refused_stays now.market now.standing (User name) Memory tt;
   paid = λ u. refl;
@@ -89,7 +89,7 @@ module _ {P A Plan : Type 0} (weights_stand : P → Meaning → Type 0) (gains_s
     join_kept is_name limit opened =
         let H = journal.history in
         kept_grown weights_stand gains_stand plan_for file prices prices rows rows plan members new_members accounts new_accounts journal new_journal payments payments
-        (Join name) (User name) (Joined name (revision new_journal.history)) is_name tt kept join_fit (join_next (revision new_journal.history))
+        (Join name) (User name) (Joined name (revision new_journal.history)) is_name tt tt kept join_fit (join_next (revision new_journal.history))
         (record {
           history = history;
           limit = limit;

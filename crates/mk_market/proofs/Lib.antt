@@ -32,3 +32,5 @@ pub mod TakenBack
 pub mod TradesBack
 pub mod Booked
 pub mod Retold
+pub mod Following
+pub mod Regrowing

@@ -57,7 +57,7 @@ opening_kept weights_stand gains_stand plan_for file prices rows plan members ac
       owns = λ u assets at. absurd (cc);
       quotes_kept = λ u quote at. absurd (cc);
       accounts_kept = record { one_each = refl; each = λ u h. absurd (omega (arith, h)) };
-      safe = opening_is_safe (market_of file) (market_is file legal);
+      safe = opening_is_safe (market_of file) (market_is file legal tree);
       max_trades = refl;
       room = λ h. refl;
     })

@@ -7,7 +7,7 @@ use Rattle.std.proofs.lemmas.List.Sums.{sum_by-cons}
 use Rattle.std.proofs.lemmas.Option.{slice_get-map, get_or_from_slice_get}
 use Rattle.std.proofs.Math.Seq.{map-set_same}
 use Rattle.mk_net.specs.Network.{Variable}
-use Rattle.mk_exact.specs.History.{Entry, Join, Deposit, Withdraw, Trade, Resolve, Settle, users, resolutions, deposited, withdrawn, bits_in, bits_out, is_transfer}
+use Rattle.mk_exact.specs.History.{Entry, Join, Deposit, Withdraw, Trade, Resolve, Settle, Add, users, resolutions, deposited, withdrawn, bits_in, bits_out, is_transfer}
 use Rattle.mk_exact.specs.Proper.{IsProper}
 use Rattle.mk_exact.proofs.After.{deposited_more, withdrawn_more}
 use Rattle.mk_tree.specs.Given.{GivenTree}
@@ -163,6 +163,7 @@ module _ (n : ℕ) where
   bits_none (Trade user ratio) h = (refl, refl)
   bits_none (Resolve pair) h = (refl, refl)
   bits_none Settle h = (refl, refl)
+  bits_none (Add addition) h = (refl, refl)
 
   pub none_moved : (H : List Entry) → AllByRecursion (FitsTransfer n) H → (deposited H n ≡ 0) × (withdrawn H n ≡ 0)
   none_moved [] h = (refl, refl)
@@ -185,6 +186,7 @@ module _ (n : ℕ) where
   bits_few u (Trade user ratio) h = (omega arith, omega arith)
   bits_few u (Resolve pair) h = (omega arith, omega arith)
   bits_few u Settle h = (omega arith, omega arith)
+  bits_few u (Add addition) h = (omega arith, omega arith)
 
   pub few_moved : (u : ℕ) (H : List Entry) → AllByRecursion (FitsTransfer n) H → (deposited H u ≤ 1000 * count_by is_transfer H) × (withdrawn H u ≤ 1000 * count_by is_transfer H)
   few_moved u [] h = (omega arith, omega arith)

@@ -1,5 +1,5 @@
 -- Replies that a market allows, and those that leave its standing.
-use Rattle.std.specs.Prelude.{◌≡◌, List, [], ◌∷◌, ◌++◌, Bool, true, false, Option, Some, None, MatchOption, Result, Ok, Err, IsErrAnd}
+use Rattle.std.specs.Prelude.{◌≡◌, List, [], ◌∷◌, ◌++◌, Bool, true, false, Option, Some, None, IfSome, MatchOption, Result, Ok, Err, IsErrAnd}
 use Rattle.std.proofs.Common.{refl, sym, ap, ◌∙◌, subst, append-nil}
 use Rattle.mk_net.specs.Firsts.{fault_if, or_else, first_of}
 use Rattle.mk_exact.specs.History.{Entry, is_settled}
@@ -8,13 +8,16 @@ use Rattle.mk_command.specs.declared.command.Command.{Command}
 use Rattle.mk_command.specs.declared.command.Command.TheVariants.{User, Deposit, Withdraw, Price}
 use Rattle.mk_command.specs.declared.command.Command.TheVariants.{Limits, Edit, Bounds, Spread}
 use Rattle.mk_command.specs.declared.command.Command.TheVariants.{Worst, Resolve, Settle, Bound}
-use Rattle.mk_command.specs.declared.command.Command.TheVariants.{Prices, Position, Status}
+use Rattle.mk_command.specs.declared.command.Command.TheVariants.{Prices, Position, Status, Add}
 use Rattle.mk_reply.specs.declared.refusal.Refusal.{Refusal}
 use Rattle.mk_reply.specs.declared.reply.Reply.{Reply}
 use Rattle.mk_reply.specs.declared.reply.Reply.TheVariants.{Refused}
 use Rattle.mk_rules.specs.Refusals.{first_refusal, refusals_by_record, refusals_by_states}
 use Rattle.mk_rules.specs.Answers.{IsAnswer, entry_of, next_quotes}
-use Rattle.mk_rules.specs.Transcript.{Standing, OfCommand, IsAllowedFor, after}
+use Rattle.mk_rules.specs.Transcript.{Standing, OfCommand, IsAllowedFor, after, market_after}
+use Rattle.mk_rules.specs.Transcript.{with_entries}
+use Rattle.mk_rules.proofs.Adds.{IsNoAddition, adds_nothing}
+use Rattle.mk_rules.proofs.Appended.{refused_appends}
 use Rattle.mk_market.specs.Trading.{Trading, IsAnswered}
 use Rattle.mk_market.specs.inner.Answering.{IsAnsweredBy}
 
@@ -66,6 +69,24 @@ none_appended market now command reply no_entry same =
     ∙ ap (λ (qs : Rattle.mk_rules.specs.Quotes.Quotes). record { history = now.history ++ []; quotes = qs }) same
     ∙ ap (λ (H : List Entry). record { history = H; quotes = now.quotes }) (append-nil now.history))
 
+-- a reply to any other command than `add` adds nothing to the market
+pub nothing_added : (market : Market) (now : Standing) (command : Command) (reply : Reply)
+    → IsNoAddition command → market ≡ market_after market now (OfCommand command) reply
+nothing_added market now command reply other =
+    sym (adds_nothing market now.history command reply other)
+
+-- and a refusal appends nothing
+no_entry : (o : Option Entry) → IfSome o (λ e. ⊥) → o ≡ None
+no_entry None h = refl
+no_entry (Some e) h = absurd h
+
+pub refusal_adds_nothing : (market : Market) (now : Standing) (command : Command) (why : Refusal)
+    → market ≡ market_after market now (OfCommand command) (Refused why)
+refusal_adds_nothing market now command why =
+    ap (λ (o : Option Entry). with_entries o market) (sym
+    (no_entry (entry_of market now.history command (Refused why))
+    (refused_appends (λ e. ⊥) market now.history command why)))
+
 -- every command but an edit and a spread
 abbrev pub IsNoTrade : Command → Type 0
 IsNoTrade (Edit user question to at) = ⊥
@@ -91,11 +112,12 @@ refused_stays market now (Prices variable condition) why h = none_appended marke
 refused_stays market now (Position user variable condition) why h = none_appended market now
     (Position user variable condition) (Refused why) refl refl
 refused_stays market now Status why h = none_appended market now Status (Refused why) refl refl
+refused_stays market now (Add add) why h = none_appended market now (Add add) (Refused why) refl refl
 
 pub refused_answered : (old : Trading) (command : Command) (why : Refusal) → IsNoTrade command → Some why ≡ first_refusal old.market old.standing.history command
     → IsAnswered old old command (Refused why)
 refused_answered old command why other e = record {
-  same_market = refl;
+  market = refusal_adds_nothing old.market old.standing command why;
   allowed = λ sound. refusal_allowed old.market old.standing command why e;
   next = refused_stays old.market old.standing command why other;
   paid = λ u. refl;
@@ -133,3 +155,4 @@ unsettled market H Bound none = unsettled_first (is_settled H) _ _ none
 unsettled market H (Prices v condition) none = unsettled_first (is_settled H) _ _ none
 unsettled market H (Position u v condition) none = unsettled_first (is_settled H) _ _ none
 unsettled market H Status none = unsettled_first (is_settled H) _ _ none
+unsettled market H (Add add) none = unsettled_first (is_settled H) _ _ none

@@ -32,7 +32,6 @@ use Rattle.mk_reply.specs.declared.reply.Reply.TheVariants.{Resolved, Refused}
 use Rattle.mk_rules.specs.Refusals.{first_refusal, refusals_by_record, refusals_by_states}
 use Rattle.mk_rules.specs.Transcript.{OfCommand, IsAllowedFor, after}
 use Rattle.mk_restore.specs.Restoring.{IsFit}
-use Rattle.mk_restore.proofs.Safe.{fit_keeps_safe}
 use Rattle.mk_rules.proofs.Revisions.{few_resolutions}
 use Rattle.mk_answers.specs.Open.{IsOpen, holding_of}
 use Rattle.mk_record.specs.declared.users.Member.{Member}
@@ -44,7 +43,7 @@ use Rattle.mk_market.specs.inner.Quoting.{OwnsAt, CanBeTold}
 use Rattle.mk_market.specs.inner.Stopped.{CanAskOfPair}
 use Rattle.mk_market.proofs.Accounted.{accounts_kept}
 use Rattle.mk_record.proofs.Appends.{not_there, not_found}
-use Rattle.mk_market.proofs.Growing.{market_is, is_open, kept_grown, kept_still}
+use Rattle.mk_market.proofs.Growing.{is_open, fit_stays_safe, kept_grown, kept_still}
 use Rattle.mk_market.proofs.Owned.{holding_grows}
 use Rattle.mk_market.proofs.Replies.{stopped_by_states, unrefused, refusal_allowed, answer_allowed, unsettled}
 use Rattle.mk_market.proofs.Resolvable.{of_one}
@@ -148,8 +147,8 @@ module _ {P A Plan : Type 0} (weights_stand : P → Meaning → Type 0) (gains_s
     pub few_known : length (resolutions journal.history) < max_variables
     unfolding reply
     few_known =
-        let safe = fit_keeps_safe (market_of file) journal.history (Resolve words) reply
-        (market_is file kept.legal) tt tt kept.safe fit in
+        let safe = fit_stays_safe (market_of file) journal.history (Resolve words) reply
+        tt tt tt kept.safe fit in
         let proper : IsProper file.net (journal.history ++ Resolves pair ∷ []) = subst (λ (H : List Entry). IsProper file.net H) longer safe.proper in
         let few = few_resolutions file.net (journal.history ++ Resolves pair ∷ []) proper in
         let more = ap (λ (ps : List Pair). length ps) (resolutions_more journal.history pair) in
@@ -181,7 +180,7 @@ module _ {P A Plan : Type 0} (weights_stand : P → Meaning → Type 0) (gains_s
     resolution_kept new_prices new_rows new_members new_journal history limit known known_rows told names same_quotes =
         let H = journal.history in
         kept_grown weights_stand gains_stand plan_for file prices new_prices rows new_rows plan members new_members accounts accounts journal new_journal payments payments
-        (Resolves pair) (Resolve words) reply tt tt kept fit
+        (Resolves pair) (Resolve words) reply tt tt tt kept fit
         (ap₂ (λ (H : List Entry) (qs : List (Option LastQuote)). record { history = H; quotes = map (option_map quoted) qs }) (history ∙ sym longer) same_quotes)
         (record {
           history = history;

@@ -12,6 +12,7 @@ use Rattle.mk_record.specs.Members.{names_of}
 use Rattle.mk_reply.specs.declared.payments.Payment.{Payment}
 use Rattle.mk_reply.specs.declared.reply.Reply.{Reply}
 use Rattle.mk_reply.specs.declared.reply.Reply.TheVariants.{Joined, Deposited, Withdrawn, Resolved}
+use Rattle.mk_reply.specs.declared.reply.Reply.TheVariants.{Added}
 
 pub joined_again : (told : Reply) (user name : List ℕ) (at next : ℕ) (found : Bool)
     → told ≡ Joined user at → true ≡ same_text user name → ((found ≡ true) ↔ (at ≡ next))
@@ -81,6 +82,27 @@ withdrawn_by_another told user name moved bits at next found is other none = (
       let e : Withdrawn user moved at ≡ Withdrawn name bits next = sym is ∙ agrees in
       let same : user ≡ name = cc in
       let yes : same_text user name ≡ true = same_text_of_equal user name same in
+      absurd (cc),
+)
+
+pub added_again : (told : Reply) (variable name : List ℕ) (at next : ℕ) (found : Bool)
+    → told ≡ Added variable at → true ≡ same_text variable name → ((found ≡ true) ↔ (at ≡ next))
+    → (found ≡ true) ↔ (told ≡ Added name next)
+added_again told variable name at next found is same when = (
+  λ yes. is ∙ ap₂ (λ (v : List ℕ) (n : ℕ). Added v n)
+      (equal_of_same_text variable name (sym same)) (when.0 yes),
+  λ agrees. when.1 (let e : Added variable at ≡ Added name next = sym is ∙ agrees in cc),
+)
+
+pub another_added : (told : Reply) (variable name : List ℕ) (at next : ℕ) (found : Bool)
+    → told ≡ Added variable at → false ≡ same_text variable name → found ≡ false
+    → (found ≡ true) ↔ (told ≡ Added name next)
+another_added told variable name at next found is other none = (
+  λ yes. absurd (cc),
+  λ agrees.
+      let e : Added variable at ≡ Added name next = sym is ∙ agrees in
+      let same : variable ≡ name = cc in
+      let yes : same_text variable name ≡ true = same_text_of_equal variable name same in
       absurd (cc),
 )
 

@@ -16,7 +16,7 @@ use Rattle.mk_exact.specs.Sound.{IsSound}
 use Rattle.mk_states.specs.InitialWeight.{all_states, initial_weight}
 use Rattle.mk_states.specs.Ratios.{ratio_at}
 use Rattle.mk_states.specs.States.{product_by}
-use Rattle.mk_exact.specs.Market.{Market, network_of}
+use Rattle.mk_exact.specs.Market.{Market}
 use Rattle.mk_exact.specs.History.{Entry, UserTrade, Settle as Settles, join_in, users, revision}
 use Rattle.mk_exact.specs.History.{is_settlement, is_settled}
 use Rattle.mk_exact.specs.Weight.{IsSmall, possible_states}
@@ -80,26 +80,26 @@ idle_before : (H : List Entry) (u : ℕ) → HoldsNoTrade (H ++ Settles ∷ []) 
 idle_before H u none = subst (λ (ts : List UserTrade). length ts ≡ 0)
     (trades_of_kept H Settles u refl) none
 
-module _ (market : Market) (H : List Entry) (state : List ℕ) (one : possible_states (network_of market H) H always ≡ state ∷ []) where
+module _ (market : Market) (H : List Entry) (state : List ℕ) (one : possible_states market.network H always ≡ state ∷ []) where
   -- a user who was paid as it is printed is paid off
   is_paid_off : (u : ℕ) (name : List ℕ) (payment : Payment) (points : ℕ) → points ≡ payment.paid
-      → IsPayment (network_of market H) H market.points_per_bit state (u, name) payment
+      → IsPayment market.network H market.points_per_bit state (u, name) payment
       → IsPaidOff market (H ++ Settles ∷ []) u points
   is_paid_off u name payment points printed is = record {
     state = state;
-    one_state = ap (λ (ps : List Pair). filter (λ s. holds ps s && always s) (all_states (network_of market H))) (resolutions_kept H Settles refl) ∙ one;
+    one_state = ap (λ (ps : List Pair). filter (λ s. holds ps s && always s) (all_states market.network)) (resolutions_kept H Settles refl) ∙ one;
     high = payment.high;
-    covers = subst (λ (low : ℕ). CoversCash (IsSmall (network_of market H) (H ++ Settles ∷ []))
+    covers = subst (λ (low : ℕ). CoversCash (IsSmall market.network (H ++ Settles ∷ []))
         (HoldsNoTrade (H ++ Settles ∷ []) u) (factor (H ++ Settles ∷ []) u state)
         market.points_per_bit low payment.high)
         (sym (printed ∙ is.low_end))
-        (subst (λ (q : Fraction). CoversCash (IsSmall (network_of market H) (H ++ Settles ∷ []))
+        (subst (λ (q : Fraction). CoversCash (IsSmall market.network (H ++ Settles ∷ []))
         (HoldsNoTrade (H ++ Settles ∷ []) u) q market.points_per_bit payment.low payment.high)
         (sym (factor_kept H Settles u state (trades_of_kept H Settles u refl) refl refl))
-        (cash_when (IsSmall (network_of market H) (H ++ Settles ∷ []))
-        (IsSmall (network_of market H) H) (HoldsNoTrade (H ++ Settles ∷ []) u)
+        (cash_when (IsSmall market.network (H ++ Settles ∷ []))
+        (IsSmall market.network H) (HoldsNoTrade (H ++ Settles ∷ []) u)
         (HoldsNoTrade H u)
-        (small_before (network_of market H) H) (idle_before H u) (factor H u state)
+        (small_before market.network H) (idle_before H u) (factor H u state)
         market.points_per_bit payment.low payment.high is.covers));
   }
 
@@ -108,16 +108,16 @@ pub settlement_pays_off : SettlementPaysOff
 settlement_pays_off market H quotes old new at payments allowed paid u within =
     met (first_refusal market H Settle) allowed
   where
-    by : IsSettlement (network_of market H) H market.points_per_bit (Settled at payments)
+    by : IsSettlement market.network H market.points_per_bit (Settled at payments)
         → IsPaidOff market (H ++ Settles ∷ []) u (account_of new u).paid
     by is =
         let same : payments ≡ is.payments = (let e = is.printed in cc) in
-        let one = payment_at (IsPayment (network_of market H) H market.points_per_bit is.state)
+        let one = payment_at (IsPayment market.network H market.points_per_bit is.state)
         (users H) is.payments 0 u is.paid within in
         let zero_u : 0 + u ≡ u = omega arith in
         is_paid_off market H is.state is.one_state u (one.0) (one.1) (account_of new u).paid
         (paid u (one.1) (ap (λ (ps : List Payment). slice_get ps u) same ∙ one.2))
-        (subst (λ (k : ℕ). IsPayment (network_of market H) H market.points_per_bit is.state
+        (subst (λ (k : ℕ). IsPayment market.network H market.points_per_bit is.state
         (k, one.0) (one.1)) zero_u (one.3))
 
     met : (o : Option Refusal)
@@ -207,7 +207,7 @@ module _ {P A Plan : Type 0} (weights_stand : P → Meaning → Type 0) (gains_s
   settlement_kept new_accounts left limit names still entered =
       let H = journal.history in
       kept_grown weights_stand gains_stand plan_for file prices prices rows rows plan members new_members accounts new_accounts journal new_journal payments left
-      Settles Settle (Settled at pays) tt tt kept fit settlement_next
+      Settles Settle (Settled at pays) tt tt tt kept fit settlement_next
       (record {
         history = history;
         limit = limit;

@@ -63,7 +63,7 @@ use Rattle.mk_market.specs.inner.Keeping.{quoted, standing_of, IsKeptQuote, IsKe
 use Rattle.mk_market.specs.inner.Quoting.{IsSpreadQuoteOf, IsOutside}
 use Rattle.mk_market.proofs.Growing.{is_open}
 use Rattle.mk_market.proofs.Quotes.{trading, quote_said, standing_quoted}
-use Rattle.mk_market.proofs.Replies.{answer_allowed, refusal_allowed, none_appended}
+use Rattle.mk_market.proofs.Replies.{answer_allowed, refusal_allowed, none_appended, nothing_added}
 use Rattle.mk_reply.specs.Replies.{IsRatio}
 use Rattle.mk_restore.specs.Restoring.{IsFit}
 use Rattle.mk_restore.proofs.Taken.{allowed_fits}
@@ -74,7 +74,7 @@ use Rattle.mk_restore.proofs.Taken.{allowed_fits}
 pub refused_answered : (old : Trading) (name v : List ℕ) (condition : ArrayVec PairText) (to : ArrayVec ℕ) (seen : Option ℕ) (why : Refusal)
     → Some why ≡ first_refusal old.market old.standing.history (Spread name v condition to seen) → IsAnswered old old (Spread name v condition to seen) (Refused why)
 refused_answered old name v condition to seen why e = record {
-  same_market = refl;
+  market = refl;
   allowed = λ sound. refusal_allowed old.market old.standing (Spread name v condition to seen) why e;
   next = none_appended old.market old.standing (Spread name v condition to seen) (Refused why) refl
       (spread_refused old.market old.standing.history old.standing.quotes name v condition to seen why (sym e));
@@ -262,7 +262,7 @@ module _ {P A Plan : Type 0} (weights_stand : P → Meaning → Type 0) (gains_s
       → IsAnswered (trading file accounts journal members)
       (trading file accounts journal new_members) (Bounds name v condition) (Bounded box at)
   bounds_answered box at none given right now = record {
-    same_market = refl;
+    market = refl;
     allowed = λ sound. answer_allowed (market_of file) (standing_of journal members) (Bounds name v condition) (Bounded box at) none
         (subst (λ (o : Option SpreadAsked). IsSomeAnd o (λ s. IsBounds file.net journal.history (user_number journal.history name) s (Bounded box at))) (sym is_question.named)
         (record {
@@ -285,7 +285,7 @@ module _ {P A Plan : Type 0} (weights_stand : P → Meaning → Type 0) (gains_s
       let reply = Refused (Outside box) in
       let outside : PrintsOutside (intervals_of quote) to.items reply = record { outside = out.outside; box = box; given = out.given; printed = refl } in
       record {
-        same_market = refl;
+        market = refl;
         allowed = λ sound. spread_allowed file journal members name user is_user v condition spread is_question quote last to seen reply none
             (inr (record {
               intervals = intervals_of quote;
@@ -355,7 +355,8 @@ module _ (file : MarketFile) (journal : JournalOf) (open_for : IsOpen file.net f
         (trading file accounts new_journal new_members) (Spread name v condition to seen)
         (Spreaded factors at)
     spread_trade_answered accounts = record {
-      same_market = refl;
+      market = nothing_added (market_of file) (standing_of journal members)
+          (Spread name v condition to seen) (Spreaded factors at) tt;
       allowed = λ sound. spread_trade_allowed;
       next = spread_trade_next;
       paid = λ u. refl;

@@ -139,7 +139,7 @@ module _ {A Plan : Type 0} (file : MarketFile) (accounts : List Account) (journa
       → IsAnswered (trading file accounts journal members)
       (trading file accounts journal new_members) (Price q) (Refused why)
   price_stopped q why none e = record {
-    same_market = refl;
+    market = refl;
     allowed = λ sound. refusal_allowed (market_of file) (standing_of journal members) (Price q) why
         (stopped_by_states (market_of file) journal.history (Price q) why none (first_is _ _ why e));
     next = same_standing ∙ none_appended (market_of file) (standing_of journal members) (Price q) (Refused why) refl refl;
@@ -151,7 +151,7 @@ module _ {A Plan : Type 0} (file : MarketFile) (accounts : List Account) (journa
       → IsAnswered (trading file accounts journal members)
       (trading file accounts journal new_members) (Limits name q) (Refused why)
   limits_stopped name q why none e = record {
-    same_market = refl;
+    market = refl;
     allowed = λ sound. refusal_allowed (market_of file) (standing_of journal members) (Limits name q) why (stopped_by_states (market_of file) journal.history (Limits name q) why none e);
     next = same_standing ∙ none_appended (market_of file) (standing_of journal members) (Limits name q) (Refused why) refl refl;
     paid = λ u. refl;
@@ -164,7 +164,7 @@ module _ {A Plan : Type 0} (file : MarketFile) (accounts : List Account) (journa
   edit_stopped name q X seen why none e =
       let first = stopped_by_states (market_of file) journal.history (Edit name q X seen) why none e in
       record {
-        same_market = refl;
+        market = refl;
         allowed = λ sound. refusal_allowed (market_of file) (standing_of journal members) (Edit name q X seen) why first;
         next = same_standing ∙ none_appended (market_of file) (standing_of journal members) (Edit name q X seen) (Refused why) refl
             (edit_refused (market_of file) journal.history (map (option_map quoted) (quotes_of members)) name q X seen why (sym first));

@@ -6,7 +6,7 @@ use Rattle.mk_command.specs.declared.command.Command.{Command}
 use Rattle.mk_reply.specs.declared.refusal.Refusal.{Refusal}
 use Rattle.mk_reply.specs.declared.reply.Reply.{Reply}
 use Rattle.mk_restore.specs.Restoring.{Agrees, refusals_again}
-use Rattle.mk_rules.specs.Transcript.{OfCommand, after}
+use Rattle.mk_rules.specs.Transcript.{OfCommand, after, market_after}
 use Rattle.mk_market.specs.declared.restoring.RestoreFault.{RestoreFault}
 use Rattle.mk_market.specs.declared.restoring.RestoreFault.TheVariants.{Unfit, Memory}
 use Rattle.mk_market.specs.Trading.{Trading}
@@ -36,14 +36,14 @@ tried_unfit old new command reply (Err Memory) told left = absurd (cc)
 
 -- a change is taken back as its command does it, with the reply that its command gives
 pub taken_back : (old new : Trading) (command : Command) (reply given : Reply) → reply ≡ given
-    → new.market ≡ old.market
+    → new.market ≡ market_after old.market old.standing (OfCommand command) given
     → None ≡ first_of (refusals_again old.market old.standing.history command)
     → Agrees old.standing.history command given
     → new.standing ≡ after old.market old.standing (OfCommand command) given
     → ArePaidBy given old.accounts new.accounts → IsTakenBack old new command reply
-taken_back old new command reply given told same none agrees next paid =
+taken_back old new command reply given told market none agrees next paid =
     subst (λ (r : Reply). IsTakenBack old new command r) (sym told) (record {
-      same_market = same;
+      market = market;
       fits = record { unrefused = sym none; agrees = agrees };
       next = next;
       paid = paid;

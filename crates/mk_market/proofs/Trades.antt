@@ -18,6 +18,7 @@ use Rattle.mk_reply.specs.declared.reply.Reply.{Reply}
 use Rattle.mk_restore.specs.Restoring.{IsFit}
 use Rattle.mk_restore.proofs.Safe.{HasUnits}
 use Rattle.mk_rules.specs.Transcript.{OfCommand, after}
+use Rattle.mk_rules.proofs.Adds.{IsNoAddition}
 use Rattle.mk_rules.specs.Bounded.{JoinsByName}
 use Rattle.mk_answers.specs.Open.{holding_of}
 use Rattle.mk_record.specs.declared.last_quote.LastQuote.{LastQuote}
@@ -64,7 +65,7 @@ module _ {P A Plan : Type 0} (weights_stand : P → Meaning → Type 0) (gains_s
         }
 
     -- and where the reply to it is taken back the market is kept
-    pub trade_kept : (command : Command) (reply : Reply) → JoinsByName (OfCommand command) → HasUnits reply
+    pub trade_kept : (command : Command) (reply : Reply) → JoinsByName (OfCommand command) → IsNoAddition command → HasUnits reply
         → is_settled journal.history ≡ false
         → (new_members : List (Member A Plan)) (new_journal : JournalOf)
         → IsFit (market_of file) journal.history command reply
@@ -75,10 +76,10 @@ module _ {P A Plan : Type 0} (weights_stand : P → Meaning → Type 0) (gains_s
         → names_of new_members ≡ names_of members
         → ((u : ℕ) → OwnsAt gains_stand new_members u (holding_of file.net file.tree (journal.history ++ Trade user ratio ∷ []) u))
         → IsKept weights_stand gains_stand plan_for file new_prices rows plan new_members accounts new_journal payments
-    trade_kept command reply joins units unsettled new_members new_journal fit next history same_quotes new_prices limit grown names owned =
+    trade_kept command reply joins other units unsettled new_members new_journal fit next history same_quotes new_prices limit grown names owned =
         let H = journal.history in
         kept_grown weights_stand gains_stand plan_for file prices new_prices rows rows plan members new_members accounts accounts journal new_journal payments payments
-        (Trade user ratio) command reply joins units kept fit next
+        (Trade user ratio) command reply joins other units kept fit next
         (record {
           history = history;
           limit = limit;

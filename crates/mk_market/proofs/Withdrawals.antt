@@ -180,7 +180,7 @@ module _ {P A Plan : Type 0} (weights_stand : P → Meaning → Type 0) (gains_s
       withdrawal_kept limit withdraws paid =
           let H = journal.history in
           kept_grown weights_stand gains_stand plan_for file prices prices rows rows plan members (with_assets members user now) accounts new_accounts journal new_journal payments payments
-          (Withdraws user bits) (Withdraw name bits) reply tt tt kept fit next
+          (Withdraws user bits) (Withdraw name bits) reply tt tt tt kept fit next
           (record {
             history = history;
             limit = limit;

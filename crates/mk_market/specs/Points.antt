@@ -6,7 +6,7 @@ use Rattle.mk_exact.specs.History.{is_settled}
 use Rattle.mk_exact.specs.Weight.{IsSmall, possible_states}
 use Rattle.mk_exact.specs.Factors.{HoldsNoTrade, factor}
 use Rattle.mk_exact.specs.Cash.{CoversCash}
-use Rattle.mk_exact.specs.Market.{Market, network_of}
+use Rattle.mk_exact.specs.Market.{Market}
 use Rattle.mk_cash.specs.declared.ledger.Account.{Account}
 use Rattle.mk_cash.specs.Accounts.{account_of}
 use Rattle.mk_reply.specs.declared.payments.Payment.{Payment}
@@ -19,9 +19,9 @@ use Rattle.mk_rules.specs.Quotes.{Quotes}
 -- a user is paid off with the low end of an interval that covers the cash of the user's factor in the one possible state
 pub record IsPaidOff (market : Market) (H : List Entry) (u points : ℕ) : Type 0 where
   pub state : List ℕ
-  pub one_state : possible_states (network_of market H) H always ≡ state ∷ []
+  pub one_state : possible_states market.network H always ≡ state ∷ []
   pub high : ℕ
-  pub covers : CoversCash (IsSmall (network_of market H) H) (HoldsNoTrade H u) (factor H u state)
+  pub covers : CoversCash (IsSmall market.network H) (HoldsNoTrade H u) (factor H u state)
       market.points_per_bit points high
 
 -- a user's account: the points of the bits that went in and out, and nothing paid before the

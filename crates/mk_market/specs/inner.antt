@@ -5,3 +5,4 @@ pub mod Paying
 pub mod Stopped
 pub mod Answering
 pub mod Restored
+pub mod Adding

@@ -9,12 +9,16 @@ use std::alloc::Global;
 
 impl<P: Engine<SumProd>, A: Engine<MinProd>> Market<P, A> {
     ghost use Rattle.mk_command.specs.Commands.{command_of};
+    ghost use Rattle.mk_market.specs.Suited.{SuitsNext};
     ghost use Rattle.mk_market.specs.Trading.{IsAnswered};
 
-    /// Answers a command. Only a user who joins takes memory, all of it before anything changes.
+    /// Answers a command. Only a user who joins, and a question that is added, take memory, all of
+    /// it before anything changes. Both engines have to suit the market with that question.
     #[inline(never)]
     #[tactic(auto, unfolding(mk_command::specs::Commands::command_of))]
     pub fn apply(&mut self, alloc: Global, command: &CommandRef) -> Reply
+        requires prices { SuitsNext P.suits self.old (command_of command.now) }
+        requires assets { SuitsNext A.suits self.old (command_of command.now) }
         ensures { IsAnswered self.old self.new (command_of command.now) result }
     {
         match command {
@@ -55,6 +59,7 @@ impl<P: Engine<SumProd>, A: Engine<MinProd>> Market<P, A> {
                 condition,
             } => self.answer_position(user, variable, condition),
             CommandRef::Status => self.status(),
+            CommandRef::Add { addition } => self.answer_add(alloc, addition),
         }
     }
 }

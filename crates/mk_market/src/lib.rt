@@ -1,6 +1,7 @@
 //! A market in use: how its commands are answered, from its record, its engines and its ledger.
 #![tactic(auto)]
 
+mod adding;
 mod answering;
 mod editing;
 mod joining;
@@ -22,6 +23,7 @@ mod telling;
 mod trading;
 mod transfers;
 mod withdrawing;
+mod wording;
 
 pub use laws::{safe_has_homes, settlement_pays_off};
 pub use market::Market;
@@ -31,3 +33,4 @@ pub use possible::{
 };
 pub use resolving::home_of;
 pub use restoring::RestoreFault;
+pub use wording::has_text;

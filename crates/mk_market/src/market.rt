@@ -10,9 +10,10 @@ use mk_semiring::{MinProd, SumProd};
 use std::alloc::Global;
 use std::marker::Model;
 
-/// A market in use: its file, an engine with the weights of all states and one with their initial weights, the plan from which
-/// users' engines start, the users with their assets and last quotes, the ledger of their points, the journal of accepted changes,
-/// and room for the payments of the settlement.
+/// A market in use: its file with what was added to it, an engine with the weights of all states and
+/// one with their initial weights, the plan from which users' engines start, the users with their
+/// assets and last quotes, the ledger of their points, the journal of accepted changes, and room for
+/// the payments of the settlement.
 ///
 /// What its answers are made of is open to a crate above that asks more (`mk_evidence`): whoever
 /// writes to a part proves the market kept. A call that lends an engine could not, since it would
@@ -44,6 +45,7 @@ impl<P: Engine<SumProd>, A: Engine<MinProd>> Model for Market<P, A> {
 impl<P: Engine<SumProd>, A: Engine<MinProd>> Market<P, A> {
     ghost use Rattle.std.specs.Prelude.{◌≡◌, ◌≤◌, length};
     ghost use Rattle.mk_net.specs.Bounds.{max_variables, max_points_per_bit};
+    ghost use Rattle.mk_exact.specs.History.{additions};
     ghost use Rattle.mk_file.specs.MarketOf.{market_of};
     ghost use Rattle.mk_record.specs.Entries.{changes};
     ghost use Rattle.mk_restore.specs.Laws.{IsSafe};
@@ -65,6 +67,13 @@ impl<P: Engine<SumProd>, A: Engine<MinProd>> Market<P, A> {
         ensures few { result ≤ max_points_per_bit }
     {
         self.file.points_per_bit
+    }
+
+    /// How many questions were added since the opening.
+    pub fn added(&self) -> u32
+        ensures { result ≡ length (additions (self.now.standing).history) }
+    {
+        self.journal.added()
     }
 
     /// The accepted changes, in order. Whatever gave them, a market's safety rests on them.

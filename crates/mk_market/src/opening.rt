@@ -17,7 +17,8 @@ impl<P: Engine<SumProd>, A: Engine<MinProd>> Market<P, A> {
     ghost use Rattle.mk_rules.specs.Standings.{IsMarket};
     ghost use Rattle.mk_rules.specs.Transcript.{opening};
 
-    /// The market of a file, before any command. All memory but a user's is taken here.
+    /// The market of a file, before any command. All memory but that of a user and of an added
+    /// question is taken here.
     pub fn start(alloc: Global, file: MarketFile) -> Result<Market<P, A>, NoMemory>
         requires tree { IsTreeOf file.net file.tree }
         requires prices { P.suits file.net file.tree }

@@ -13,14 +13,15 @@ impl<P: Engine<SumProd>, A: Engine<MinProd>> Market<P, A> {
     ghost use Rattle.mk_tree.specs.Checked.{IsTreeOf};
     ghost use Rattle.mk_market.specs.Homes.{HaveHomes};
 
-    /// The network of its variables.
+    /// The network of its variables, with those that were added behind the others.
     pub fn network(&self) -> &Network
         ensures { result.now ≡ (self.now.market).network }
     {
         &self.file.net
     }
 
-    /// The tree of its cliques. A clique holds the variables of each trade together.
+    /// The tree of its cliques, with those that were added behind the others. A clique holds the
+    /// variables of each trade together.
     #[tactic(auto, using(crate::proofs::Homes::safe_has_homes))]
     pub fn tree(&self) -> &Tree
         ensures tree { IsTreeOf (self.now.market).network result.now }

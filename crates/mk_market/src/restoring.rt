@@ -39,15 +39,17 @@ impl<P: Engine<SumProd>, A: Engine<MinProd>> Market<P, A> {
     ghost use Rattle.mk_command.specs.declared.command.Command.TheVariants.{User, Deposit};
     ghost use Rattle.mk_command.specs.declared.command.Command.TheVariants.{Withdraw, Resolve};
     ghost use Rattle.mk_reply.specs.Replies.{IsReply};
-    ghost use Rattle.mk_rules.specs.Transcript.{OfCommand, after};
+    ghost use Rattle.mk_rules.specs.Transcript.{OfCommand, after, market_after};
     ghost use Rattle.mk_restore.specs.Restoring.{IsFit};
     ghost use Rattle.mk_market.specs.Points.{ArePaidBy};
+    ghost use Rattle.mk_market.specs.Suited.{SuitsNext};
     ghost use Rattle.mk_market.specs.declared.restoring.RestoreFault.TheVariants.{Unfit};
     ghost use Rattle.mk_market.specs.inner.Restored.{IsTried};
 
     /// Takes back a change that a store gives: a command with the reply that it had. Units and
     /// payments are taken as they are, and no belief is asked but whether a resolution leaves a
-    /// possible state. Only a user who joins takes memory. After a fault the market is as before.
+    /// possible state. Only a user who joins, and a question that is added, take memory; both engines
+    /// have to suit the market with that question. After a fault the market is as before.
     #[tactic(auto, unfolding(mk_command::specs::Commands::command_of))]
     pub fn restore(
         &mut self,
@@ -55,8 +57,12 @@ impl<P: Engine<SumProd>, A: Engine<MinProd>> Market<P, A> {
         command: &CommandRef,
         reply: &Reply,
     ) -> Result<(), RestoreFault>
-        requires { IsReply reply.now }
-        ensures market { self.new.market ≡ self.old.market }
+        requires told { IsReply reply.now }
+        requires prices { SuitsNext P.suits self.old (command_of command.now) }
+        requires assets { SuitsNext A.suits self.old (command_of command.now) }
+        ensures market { OnOk result (self.new.market ≡
+            market_after self.old.market self.old.standing (OfCommand (command_of command.now))
+            reply.now) }
         ensures fits { IfOk result (λ _. IsFit self.old.market (self.old.standing).history
             (command_of command.now) reply.now) }
         ensures unfit { result ≡ Err Unfit → IsFit self.old.market (self.old.standing).history
@@ -78,7 +84,9 @@ impl<P: Engine<SumProd>, A: Engine<MinProd>> Market<P, A> {
         command: &CommandRef,
         reply: &Reply,
     ) -> Result<(), RestoreFault>
-        requires { IsReply reply.now }
+        requires told { IsReply reply.now }
+        requires prices { SuitsNext P.suits self.old (command_of command.now) }
+        requires assets { SuitsNext A.suits self.old (command_of command.now) }
         ensures { IsTried self.old self.new (command_of command.now) reply.now result }
     {
         match command {
@@ -115,6 +123,7 @@ impl<P: Engine<SumProd>, A: Engine<MinProd>> Market<P, A> {
             }
             CommandRef::Resolve { pair } => self.restore_resolution(pair, reply),
             CommandRef::Settle => self.restore_settlement(reply),
+            CommandRef::Add { addition } => self.restore_add(alloc, addition, reply),
             _ => Err(RestoreFault::Unfit),
         }
     }

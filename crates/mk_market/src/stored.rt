@@ -3,11 +3,12 @@
 ghost use Rattle.std.specs.Prelude.{◌≡◌, ◌+◌, ◌↔◌, true, length, map, IfSome, IfNone};
 ghost use Rattle.mk_exact.specs.History.{revision};
 ghost use Rattle.mk_command.specs.declared.command.Command.TheVariants as command;
-ghost use Rattle.mk_reply.specs.declared.reply.Reply.TheVariants.{Traded, Spreaded, Settled};
+ghost use Rattle.mk_reply.specs.declared.reply.Reply.TheVariants.{Traded, Spreaded, Settled, Added};
 ghost use Rattle.mk_restore.specs.Restoring.{Agrees, IsTradeAt, IsSpreadAt, IsSettledAt};
 ghost use Rattle.mk_record.specs.Members.{names_of};
 
 use arrayvec::ArrayVec;
+use mk_addition::AddText;
 use mk_engine::Engine;
 use mk_net::{Name, PairText};
 use mk_record::{Journal, Users};
@@ -67,6 +68,17 @@ pub(crate) fn tells_resolution(journal: &Journal, words: &PairText, reply: &Repl
 {
     match reply {
         Reply::Resolved { pair, at } => pair == words && is_next(journal, *at),
+        _ => false,
+    }
+}
+
+/// Whether a reply tells that the question of these words was added by the next change.
+pub(crate) fn tells_addition(journal: &Journal, add: &AddText, reply: &Reply) -> bool
+    ensures { (result ≡ true) ↔ (reply.now ≡ Added add.now.variable
+        (revision journal.now.history + 1)) }
+{
+    match reply {
+        Reply::Added { variable, at } => *variable == add.variable && is_next(journal, *at),
         _ => false,
     }
 }

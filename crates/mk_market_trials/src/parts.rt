@@ -44,6 +44,7 @@ fn kind(entry: &Entry) -> u8 {
         Entry::Trade { .. } => b't',
         Entry::Resolve { .. } => b'r',
         Entry::Settle => b's',
+        Entry::Add { .. } => b'a',
     }
 }
 

@@ -74,6 +74,42 @@ bound -> bound 200..200
 settle -> settle at 5, alice 200..200 paid 200
 bound -> refused settled";
 
+/// A burglary and an earthquake, before an alarm is thought of.
+const CAUSES: &str = "points_per_bit = 100
+max_trades = 1000
+cliques = [['burglary', 'earthquake']]
+links = []
+
+[[variable]]
+name = 'burglary'
+values = ['yes', 'no']
+parents = []
+rows = [[1000, 999000]]
+
+[[variable]]
+name = 'earthquake'
+values = ['yes', 'no']
+parents = []
+rows = [[2000, 998000]]
+";
+
+/// The alarm and two neighbours are added; prices are those of the network with all five.
+const CAUSES_RUN: &str = "user alice -> user alice at 1
+deposit alice 1 -> deposit alice 1 at 2
+worst alice -> worst 100..100
+add burglary=a,b : 1 999999 in burglary to 1 -> refused taken burglary
+add alarm=yes,no | burglary : 1 999999 in alarm to 1 -> refused cover burglary
+add alarm=yes,no | burglary,earthquake : 950000 50000, 940000 60000, 290000 710000, 1000 999000 in burglary,earthquake,alarm to 1 -> add alarm at 3
+add john=yes,no | alarm : 900000 100000, 50000 950000 in alarm,john to 1 -> refused running alarm
+add john=yes,no | alarm : 900000 100000, 50000 950000 in alarm,john to 2 -> add john at 4
+add mary=yes,no | alarm : 700000 300000, 10000 990000 in alarm,mary to 2 -> add mary at 5
+worst alice -> worst 100..100
+price alarm=yes | mary=yes -> price 0.1500901177..0.1500901178
+resolve john=yes -> resolve john=yes at 6
+resolve mary=yes -> resolve mary=yes at 7
+price burglary=yes -> price 0.2841718353..0.2841718354
+settle -> refused open burglary";
+
 /// Stops unless this is what is printed of the reply to a line.
 fn expect_printed(rt: &impl Abort, reply: &Reply, line: &str, expected: &str) {
     let mut text = ArrayString::new();
@@ -89,7 +125,10 @@ fn expect_answer<P: Engine<SumProd>, A: Engine<MinProd>>(
     command: &CommandRef,
     line: &str,
     expected: &str,
-) {
+)
+    requires prices { (network : List Variable) (tree : GivenTree) → P.suits network tree }
+    requires assets { (network : List Variable) (tree : GivenTree) → A.suits network tree }
+{
     let reply = market.apply(alloc, command);
     expect_printed(rt, &reply, line, expected);
 }
@@ -101,7 +140,10 @@ fn expect_reply<P: Engine<SumProd>, A: Engine<MinProd>>(
     market: &mut Market<P, A>,
     line: &str,
     expected: &str,
-) {
+)
+    requires prices { (network : List Variable) (tree : GivenTree) → P.suits network tree }
+    requires assets { (network : List Variable) (tree : GivenTree) → A.suits network tree }
+{
     let mut words = Words::default();
     match read_command(line.as_bytes(), &mut words) {
         Ok(command) => expect_answer(rt, alloc, market, &command, line, expected),
@@ -115,7 +157,10 @@ fn expect_replies<P: Engine<SumProd>, A: Engine<MinProd>>(
     alloc: Global,
     market: &mut Market<P, A>,
     run: &str,
-) -> Result<(), Fail> {
+) -> Result<(), Fail>
+    requires prices { (network : List Variable) (tree : GivenTree) → P.suits network tree }
+    requires assets { (network : List Variable) (tree : GivenTree) → A.suits network tree }
+{
     for line in run.split("\n") {
         let (command, reply) = line.split_once(" -> ").ok_or("no arrow")?;
         expect_reply(rt, alloc, market, command, reply);
@@ -139,7 +184,10 @@ fn expect_market<P: Engine<SumProd>, A: Engine<MinProd>>(
     market: &mut Market<P, A>,
     run: &str,
     numbers: (u32, u32, usize),
-) -> Result<(), Fail> {
+) -> Result<(), Fail>
+    requires prices { (network : List Variable) (tree : GivenTree) → P.suits network tree }
+    requires assets { (network : List Variable) (tree : GivenTree) → A.suits network tree }
+{
     expect_replies(rt, alloc, market, run)?;
     assert!(rt; numbers_of(market) == numbers);
     Ok(())
@@ -180,4 +228,9 @@ fn coin_market(rt: HostRuntime) -> Result<(), Fail> {
 #[test]
 fn gate_market(rt: HostRuntime) -> Result<(), Fail> {
     expect_tree_run(&rt, rt.alloc(), GATE, GATE_RUN, (1, 100, 5))
+}
+
+#[test]
+fn growing_market(rt: HostRuntime) -> Result<(), Fail> {
+    expect_tree_run(&rt, rt.alloc(), CAUSES, CAUSES_RUN, (5, 100, 7))
 }

@@ -2,16 +2,17 @@
 use Rattle.std.specs.Prelude.{◌≡◌, Result, Ok, Err}
 use Rattle.mk_command.specs.declared.command.Command.{Command}
 use Rattle.mk_reply.specs.declared.reply.Reply.{Reply}
-use Rattle.mk_rules.specs.Transcript.{OfCommand, after}
+use Rattle.mk_rules.specs.Transcript.{OfCommand, after, market_after}
 use Rattle.mk_restore.specs.Restoring.{IsFit}
 use Rattle.mk_market.specs.declared.restoring.RestoreFault.{RestoreFault}
 use Rattle.mk_market.specs.declared.restoring.RestoreFault.TheVariants.{Unfit, Memory}
 use Rattle.mk_market.specs.Points.{ArePaidBy}
 use Rattle.mk_market.specs.Trading.{Trading}
 
--- a change that fits is taken back: its entry is appended, and its payments are booked
+-- a change that fits is taken back: its entry is appended, with what it adds, and its payments are
+-- booked
 pub record IsTakenBack (old new : Trading) (command : Command) (reply : Reply) : Type 0 where
-  pub same_market : new.market ≡ old.market
+  pub market : new.market ≡ market_after old.market old.standing (OfCommand command) reply
   pub fits : IsFit old.market old.standing.history command reply
   pub next : new.standing ≡ after old.market old.standing (OfCommand command) reply
   pub paid : ArePaidBy reply old.accounts new.accounts

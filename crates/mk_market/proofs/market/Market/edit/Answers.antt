@@ -176,7 +176,7 @@ invariant_of-self-2 g c =
     trade_kept g.P.Engine.stands_for g.A.Engine.stands_for g.A.Engine.plan_for i.file i.prices
     i.rows i.plan i.users i.ledger i.journal i.payments c.self.invariant found.request.user
     found.ensures.user.within
-    (trade_ratio ratio.result) (Edit c.args.name.now c.args.question.now c.args.to c.args.at) (Traded (c.in-Some.units.0) (c.in-Some.units.1) c.revision.result) tt
+    (trade_ratio ratio.result) (Edit c.args.name.now c.args.question.now c.args.to c.args.at) (Traded (c.in-Some.units.0) (c.in-Some.units.1) c.revision.result) tt tt
     (trade_has_units i.file i.journal opened c.args.name.now found.request.user found.ensures.user
     c.args.question.now found.request.question found.ensures.question ok.quote ok.ensures.quote
     c.args.to (c.in-Some.units.0) (c.in-Some.units.1) c.in-Some.ensures.fair)

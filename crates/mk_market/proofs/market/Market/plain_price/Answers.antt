@@ -27,7 +27,7 @@ returns-clause-priced g c =
     let found = c.in_ok-asked in
     on_some _ c.price_of.result (λ low high is.
     rw (← c.self.view_is) (record {
-      same_market = refl;
+      market = refl;
       allowed = λ sound. price_allowed g.P.Engine.stands_for g.A.Engine.stands_for g.A.Engine.plan_for _ _ _ _ _ _ _ _ c.self.invariant c.args.question.now found.asked found.ensures.question
           low high (sym found.ensures.refusal)
           (λ tree H stands open_for answered. subst (λ (o : Option (ℕ × ℕ)). IsPriceFor i.file.net H found.asked o) is (c.price_of.ensures.price tree H stands open_for answered));

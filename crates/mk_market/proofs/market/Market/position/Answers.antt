@@ -94,7 +94,7 @@ returns-in-Some g c =
     c.args.condition.now spread c.as_slice-words.ensures.value found.ensures.question in
     let none = found.ensures.refusal c.args.condition.now (sym c.as_slice-words.ensures.value) in
     rw (← c.self.view_is) (record {
-      same_market = refl;
+      market = refl;
       allowed = λ sound. position_allowed i.file (standing_of i.journal i.users) c.args.variable.now
           c.args.condition.now spread question
           c.args.name.now found.request.user found.ensures.user c.in-Some.intervals none
@@ -133,7 +133,7 @@ returns-in-None g c =
     (c.self.invariant.owns found.request.user c.assets.result.now c.assets.ensures.value) opened
     found.ensures.question.answered) in
     rw (← c.self.view_is) (record {
-      same_market = refl;
+      market = refl;
       allowed = λ sound. position_stopped i.file (standing_of i.journal i.users) c.args.variable.now
           c.args.condition.now spread question
           c.args.name.now c.refuse_condition.result none

@@ -45,7 +45,7 @@ refuse_condition-requires g c =
 pub returns-in-Some : goal.returns-in-Some
 returns-in-Some g c =
     rw (← c.self.view_is) (record {
-      same_market = refl;
+      market = refl;
       allowed = λ sound. price_allowed g.P.Engine.stands_for g.A.Engine.stands_for g.A.Engine.plan_for _ _ _ _ _ _ _ _ c.self.invariant c.args.question.now c.in_ok-asked.asked c.in_ok-asked.ensures.question
           (c.in-Some.price.0) (c.in-Some.price.1) c.in_ok-asked.ensures.refusal c.in-Some.ensures.price;
       next = price_next g.P.Engine.stands_for g.A.Engine.stands_for g.A.Engine.plan_for _ _ _ _ _ _ _ _ c.self.invariant c.args.question.now (c.in-Some.price.0) (c.in-Some.price.1);

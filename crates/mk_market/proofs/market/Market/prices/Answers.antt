@@ -68,7 +68,7 @@ returns-in-Some g c =
     c.args.condition.now spread c.as_slice-words.ensures.value found.ensures.question in
     let none = found.ensures.refusal c.args.condition.now (sym c.as_slice-words.ensures.value) in
     rw (← c.self.view_is) (record {
-      same_market = refl;
+      market = refl;
       allowed = λ sound. prices_allowed i.file (standing_of i.journal i.users) c.args.variable.now
           c.args.condition.now spread question
           c.in-Some.intervals none
@@ -103,7 +103,7 @@ returns-in-None g c =
     (c.in-None.ensures.prices i.file.tree H c.self.invariant.prices_stand opened
     found.ensures.question.answered) in
     rw (← c.self.view_is) (record {
-      same_market = refl;
+      market = refl;
       allowed = λ sound. prices_stopped i.file (standing_of i.journal i.users) c.args.variable.now
           c.args.condition.now spread question
           c.refuse_condition.result none (ap (impossible_together i.file.net H)

@@ -4,8 +4,9 @@ use Rattle.mk_beliefs.specs.Meanings.{weights_of, rows_of}
 use Rattle.mk_file.specs.MarketOf.{market_of}
 use Rattle.mk_command.specs.declared.command.Command.TheVariants.{Resolve}
 use Rattle.mk_reply.specs.declared.refusal.Refusal.TheVariants.{Impossible}
+use Rattle.mk_reply.specs.declared.reply.Reply.TheVariants.{Resolved}
 use Rattle.mk_market.specs.inner.Keeping.{standing_of}
-use Rattle.mk_market.proofs.Replies.{refused_stays}
+use Rattle.mk_market.proofs.Replies.{refused_stays, nothing_added}
 use Rattle.mk_market.proofs.Resolved.{has_home, can_be_told, can_ask, few_known, unrefused_where}
 use Rattle.mk_market.proofs.Resolved.{never_answered, asked_kept, resolution_allowed}
 use Rattle.mk_market.proofs.Resolved.{resolution_next, resolution_kept}
@@ -67,7 +68,7 @@ invariant_of-self-2 g c =
 pub returns-then-not-can_come : goal.returns-then-not-can_come
 returns-then-not-can_come g c =
     rw (← c.self.view_is) (record {
-      same_market = refl;
+      market = refl;
       allowed = λ sound. never_answered g.P.Engine.stands_for g.A.Engine.stands_for g.A.Engine.plan_for _ _ _ _ _ _ _ _ c.self.invariant c.args.words.now c.in_ok-pair.pair
           c.in_ok-pair.ensures.named c.in_ok-pair.ensures.pair c.in_ok-pair.ensures.refusal c.can_come.result c.can_come.ensures.found c.if-not-can_come.true;
       next = refused_stays (market_of c.self.inside.file) (standing_of c.self.inside.journal c.self.inside.users) (Resolve c.args.words.now) (Impossible c.args.words.now) tt;
@@ -77,7 +78,9 @@ returns-then-not-can_come g c =
 pub returns : goal.returns
 returns g c =
     rw (← c.self.view_is) (record {
-      same_market = refl;
+      market = nothing_added (market_of c.self.inside.file)
+          (standing_of c.self.inside.journal c.self.inside.users) (Resolve c.args.words.now)
+          (Resolved c.args.words.now c.revision.result) tt;
       allowed = λ sound. resolution_allowed g.P.Engine.stands_for g.A.Engine.stands_for g.A.Engine.plan_for _ _ _ _ _ _ _ _ c.self.invariant c.args.words.now c.in_ok-pair.pair
           c.in_ok-pair.ensures.named c.in_ok-pair.ensures.pair
           (unrefused_where g.P.Engine.stands_for g.A.Engine.stands_for g.A.Engine.plan_for _ _ _ _ _ _ _ _ c.self.invariant c.args.words.now c.in_ok-pair.pair

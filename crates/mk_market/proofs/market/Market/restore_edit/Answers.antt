@@ -4,10 +4,13 @@ use Rattle.mk_net.specs.Asked.{TradeRatio}
 use Rattle.mk_net.specs.Trades.{trade_ratio}
 use Rattle.mk_exact.specs.History.{Trade}
 use Rattle.mk_exact.specs.Sides.{ratio_in}
+use Rattle.mk_file.specs.MarketOf.{market_of}
 use Rattle.mk_command.specs.declared.command.Command.TheVariants.{Edit}
 use Rattle.mk_reply.specs.Replies.{IsReply}
 use Rattle.mk_rules.proofs.Traded.{ratio_fits}
+use Rattle.mk_market.specs.inner.Keeping.{standing_of}
 use Rattle.mk_market.specs.inner.Quoting.{CanBeMade}
+use Rattle.mk_market.proofs.Replies.{nothing_added}
 use Rattle.mk_market.proofs.TakenBack.{left_by_reply, left_by_refusal, tried_unfit}
 use Rattle.mk_market.proofs.Traded.{home_of_ratio}
 use Rattle.mk_market.proofs.Trades.{can_be_made, trade_kept}
@@ -62,7 +65,7 @@ invariant_of-self g c =
     trade_kept g.P.Engine.stands_for g.A.Engine.stands_for g.A.Engine.plan_for i.file i.prices
     i.rows i.plan i.users i.ledger i.journal i.payments c.self.invariant found.request.user
     found.ensures.user.within (trade_ratio ratio.result)
-    (Edit c.args.name.now wish.question.now wish.to wish.at) c.args.reply.now tt
+    (Edit c.args.name.now wish.question.now wish.to wish.at) c.args.reply.now tt tt
     (edit_units i.file i.journal c.args.name.now found.request.user found.ensures.user
     wish.question.now found.request.question found.ensures.question wish.to wish.at
     found.ensures.refusal (units.0) (units.1) c.args.reply.now told c.requires)
@@ -92,7 +95,8 @@ returns g c =
     let history = c.trade.ensures.history ∙ ap
     (λ (r : TradeRatio). i.journal.history ++ Trade found.request.user r ∷ []) ratio.ensures in
     rw (← c.self.view_is) (record {
-      same_market = refl;
+      market = nothing_added (market_of i.file) (standing_of i.journal i.users)
+          (Edit c.args.name.now wish.question.now wish.to wish.at) c.args.reply.now tt;
       fits = edit_fits i.file i.journal c.args.name.now found.request.user found.ensures.user
           wish.question.now found.request.question found.ensures.question wish.to wish.at
           found.ensures.refusal (units.0) (units.1) c.args.reply.now told;

@@ -7,7 +7,8 @@ use Rattle.mk_file.specs.MarketOf.{market_of}
 use Rattle.mk_command.specs.declared.command.Command.TheVariants.{Resolve}
 use Rattle.mk_reply.specs.declared.refusal.Refusal.TheVariants.{Impossible}
 use Rattle.mk_reply.specs.declared.reply.Reply.TheVariants.{Resolved}
-use Rattle.mk_market.proofs.Replies.{by_record}
+use Rattle.mk_market.specs.inner.Keeping.{standing_of}
+use Rattle.mk_market.proofs.Replies.{by_record, nothing_added}
 use Rattle.mk_market.proofs.Resolved.{has_home, can_be_told, can_ask, few_known, unrefused_where}
 use Rattle.mk_market.proofs.Resolved.{never_refused, asked_kept, resolution_next, resolution_kept}
 use Rattle.mk_market.proofs.Refiled.{refiled}
@@ -112,7 +113,11 @@ returns g c =
     c.can_come.result c.can_come.ensures.found c.if-not-can_come.false in
     rw (← c.self.view_is) (taken_back _ _ (Resolve c.args.words.now) c.args.reply.now
     (Resolved c.args.words.now (revision H + 1))
-    (c.tells_resolution.ensures.0 c.if-not-tells_resolution.false) refl none refl
+    (c.tells_resolution.ensures.0 c.if-not-tells_resolution.false)
+    (nothing_added (market_of c.self.inside.file)
+    (standing_of c.self.inside.journal c.self.inside.users) (Resolve c.args.words.now)
+    (Resolved c.args.words.now (revision H + 1)) tt)
+    none refl
     (resolution_next g.P.Engine.stands_for g.A.Engine.stands_for g.A.Engine.plan_for _ _ _ _ _ _ _
     _ c.self.invariant c.args.words.now c.in_ok-pair.pair
     c.in_ok-pair.ensures.named c.in_ok-pair.ensures.pair none

@@ -56,7 +56,7 @@ invariant_of-self g c =
     trade_kept g.P.Engine.stands_for g.A.Engine.stands_for g.A.Engine.plan_for i.file i.prices
     i.rows i.plan i.users i.ledger i.journal i.payments c.self.invariant found.request.user
     found.ensures.user.within (trade_ratio c.ratio_of_spread-ratio.result)
-    (Spread c.args.name.now wish.variable.now condition to wish.at) c.args.reply.now tt
+    (Spread c.args.name.now wish.variable.now condition to wish.at) c.args.reply.now tt tt
     (spread_units i.file i.journal c.args.name.now found.request.user found.ensures.user
     wish.variable.now condition spread found.ensures.question to wish.at none factors
     c.args.reply.now told c.in-Some.ensures.one_each c.requires.told)

@@ -12,7 +12,7 @@ invariant_of-self g c =
 pub returns : goal.returns
 returns g c =
     rw (← c.self.view_is) (record {
-      same_market = refl;
+      market = refl;
       allowed = λ sound. settlement_allowed g.P.Engine.stands_for g.A.Engine.stands_for g.A.Engine.plan_for _ _ _ _ _ _ _ _ c.self.invariant c.in_ok-refuse_settle.ensures.resolved c.in_ok-refuse_settle.ensures.refusal
           c.pay.new.users c.settle.new.self c.settle.ensures.history c.pay.ensures.quotes c.pay.new.payments c.pay.ensures.in_order c.revision.result c.revision.ensures c.pay.ensures.payments sound;
       next = settlement_next g.P.Engine.stands_for g.A.Engine.stands_for g.A.Engine.plan_for _ _ _ _ _ _ _ _ c.self.invariant c.in_ok-refuse_settle.ensures.resolved c.in_ok-refuse_settle.ensures.refusal

@@ -214,7 +214,7 @@ invariant_of-self-2 g c =
     trade_kept g.P.Engine.stands_for g.A.Engine.stands_for g.A.Engine.plan_for i.file i.prices
     i.rows i.plan i.users i.ledger i.journal i.payments c.self.invariant found.request.user
     found.ensures.user.within
-    (trade_ratio c.ratio_of_spread-ratio.result) (Spread c.args.name.now c.args.variable.now c.args.condition.now c.args.to.now c.args.at) (Spreaded factors c.revision.result) tt
+    (trade_ratio c.ratio_of_spread-ratio.result) (Spread c.args.name.now c.args.variable.now c.args.condition.now c.args.to.now c.args.at) (Spreaded factors c.revision.result) tt tt
     (spread_has_units i.file i.journal opened c.args.name.now found.request.user found.ensures.user
     c.args.variable.now c.args.condition.now spread question judged.quote judged.judge.its
     c.args.to.now factors judged.is_inside.fair)

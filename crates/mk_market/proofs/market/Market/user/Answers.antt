@@ -36,7 +36,7 @@ invariant_of-self-2 g c =
 pub returns : goal.returns
 returns g c =
     rw (← c.self.view_is) (record {
-      same_market = refl;
+      market = refl;
       allowed = λ sound. join_allowed g.P.Engine.stands_for g.A.Engine.stands_for g.A.Engine.plan_for _ _ _ _ _ _ _ _ c.self.invariant c.args.name.now c.in-Ok.assets c.known-known.result.now c.known-known.ensures.same
           c.in-Ok.ensures c.join.new.self c.in-Ok-join.ensures.ok c.join-2.new.self
           c.join-3.new.self c.join-3.ensures.history

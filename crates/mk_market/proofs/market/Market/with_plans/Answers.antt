@@ -1,4 +1,5 @@
 use Rattle.std.proofs.Common.{subst}
+use Rattle.mk_market.proofs.Growing.{market_is}
 use Rattle.mk_market.proofs.Openings.{opening_kept, opening_weights}
 use Rattle.mk_market.proofs.market.Market.with_plans.Goals as goal
 
@@ -8,3 +9,7 @@ invariant_of-result g c =
     c.in_ok-journal.journal c.in_ok-payments.payments c.in_ok-prices.ensures.network c.requires.tree c.requires.assets
     (subst (g.P.Engine.stands_for c.in_ok-prices.prices) (opening_weights c.args.file.net c.args.file.tree) c.in_ok-prices.ensures.stands) c.in_ok-rows.ensures.stands
     c.none.ensures c.in_ok-ledger.ensures c.in_ok-journal.ensures c.in_ok-payments.ensures
+
+pub returns-clause-is_market : goal.returns-clause-is_market
+returns-clause-is_market g c =
+    market_is c.args.file c.in_ok-prices.ensures.network c.requires.tree

@@ -26,7 +26,7 @@ invariant_of-self g c =
 pub returns-then-bits-most : goal.returns-then-bits-most
 returns-then-bits-most g c =
     rw (← c.self.view_is) (record {
-      same_market = refl;
+      market = refl;
       allowed = λ sound. short_allowed g.P.Engine.stands_for g.A.Engine.stands_for g.A.Engine.plan_for _ _ _ _ _ _ _ _ c.self.invariant c.args.name.now c.in_ok-user.user c.args.bits c.in_ok-user.ensures.user c.in_ok-user.ensures.room
           c.assets-assets.result.now c.least_of.new.assets c.assets-assets.ensures.value c.least_of.ensures.kept
           c.least_of.result c.most_bits-most.result (c.in_ok-user.ensures.withdrawal (market_of c.self.inside.file)) c.least_of.ensures.least
@@ -54,7 +54,7 @@ invariant_of-self-2 g c =
 pub returns : goal.returns
 returns g c =
     rw (← c.self.view_is) (record {
-      same_market = refl;
+      market = refl;
       allowed = λ sound. withdrawal_allowed g.P.Engine.stands_for g.A.Engine.stands_for g.A.Engine.plan_for _ _ _ _ _ _ _ _ c.self.invariant c.args.name.now c.in_ok-user.user c.args.bits c.in_ok-user.ensures.user c.in_ok-user.ensures.room
           c.assets-assets.result.now c.least_of.new.assets c.assets-assets.ensures.value c.least_of.ensures.kept
           c.least_of.result c.most_bits-most.result (c.in_ok-user.ensures.withdrawal (market_of c.self.inside.file)) c.least_of.ensures.least

@@ -22,7 +22,7 @@ pub returns : goal.returns
 returns g c =
     let found = c.in_ok-user in
     rw (← c.self.view_is) (record {
-      same_market = refl;
+      market = refl;
       allowed = λ sound. worst_allowed g.P.Engine.stands_for g.A.Engine.stands_for g.A.Engine.plan_for _ _ _ _ _ _ _ _ c.self.invariant c.args.name.now found.user found.ensures.user c.assets.result.now c.least_of-factor.new.assets c.assets.ensures.value c.least_of-factor.result c.cash.result.0 c.cash.result.1
           sound (found.ensures.refusal (market_of c.self.inside.file))
           c.least_of-factor.ensures.least c.least_of-factor.ensures.idle

@@ -1,0 +1,290 @@
+-- A market is kept with one question more.
+use Rattle.std.specs.Prelude.{◌≡◌, ℕ, ◌+◌, ◌≤◌, List, [], ◌∷◌, ◌++◌, length, false, Option}
+use Rattle.std.specs.Prelude.{Some, None, map, option_map, slice_get, ◌⊎◌}
+use Rattle.std.specs.List.{AllByRecursion}
+use Rattle.std.proofs.Common.{refl, sym, ap, ap₂, ◌∙◌, subst, arith, inl, inr}
+use Rattle.std.proofs.lemmas.List.{length_push, length-map}
+use Rattle.mk_net.specs.Network.{Variable, IsNetwork}
+use Rattle.mk_exact.specs.History.{Entry, Addition, Add as Adds, users, trades}
+use Rattle.mk_exact.specs.History.{deposited, withdrawn, join_in, is_settled, revision}
+use Rattle.mk_exact.specs.Market.{Market, with_entry}
+use Rattle.mk_exact.specs.Proper.{IsProper}
+use Rattle.mk_exact.proofs.After.{trades_kept}
+use Rattle.mk_grown.proofs.Grows.{proper_more}
+use Rattle.mk_tree.specs.Checked.{IsTreeOf}
+use Rattle.mk_tree.specs.Given.{GivenTree}
+use Rattle.mk_file.specs.declared.market_file.MarketFile.{MarketFile}
+use Rattle.mk_file.specs.MarketOf.{market_of}
+use Rattle.mk_engine.specs.Meaning.{Meaning}
+use Rattle.mk_beliefs.specs.Meanings.{weights_of, rows_of}
+use Rattle.mk_beliefs.proofs.Grown.{weights_grow}
+use Rattle.mk_beliefs.proofs.Initials.{rows_grow}
+use Rattle.mk_assets.specs.declared.assets.Assets.{Assets}
+use Rattle.mk_assets.specs.Holdings.{Owns, max_bits}
+use Rattle.mk_cash.specs.declared.ledger.Account.{Account}
+use Rattle.mk_cash.specs.Accounts.{account_of}
+use Rattle.mk_addition.specs.Adds.{IsAddText}
+use Rattle.mk_addition.specs.declared.add.AddText.{AddText}
+use Rattle.mk_command.specs.declared.command.Command.TheVariants.{Add}
+use Rattle.mk_reply.specs.declared.payments.Payment.{Payment}
+use Rattle.mk_reply.specs.declared.refusal.Refusal.TheVariants.{Memory}
+use Rattle.mk_reply.specs.declared.reply.Reply.{Reply}
+use Rattle.mk_reply.specs.declared.reply.Reply.TheVariants.{Added, Refused}
+use Rattle.mk_rules.specs.Additions.{addition_of as addition_in}
+use Rattle.mk_rules.specs.Refusals.{first_refusal}
+use Rattle.mk_rules.specs.Standings.{IsInClique}
+use Rattle.mk_rules.proofs.Keeps.{inside_after}
+use Rattle.mk_restore.specs.Laws.{IsSafe}
+use Rattle.mk_restore.specs.Restoring.{IsFit}
+use Rattle.mk_restore.proofs.Safe.{fit_keeps_safe}
+use Rattle.mk_answers.specs.Open.{holding_of}
+use Rattle.mk_record.specs.declared.last_quote.LastQuote.{LastQuote}
+use Rattle.mk_record.specs.declared.users.Member.{Member}
+use Rattle.mk_record.specs.Entries.{addition_of}
+use Rattle.mk_record.specs.Journals.{JournalOf}
+use Rattle.mk_record.specs.Members.{names_of, assets_of, quotes_of}
+use Rattle.mk_record.proofs.Appends.{not_found}
+use Rattle.mk_replay.specs.Placed.{IsPlaced}
+use Rattle.mk_market.specs.declared.adding.Regrown.{Regrown}
+use Rattle.mk_market.specs.Points.{AreAccounts}
+use Rattle.mk_market.specs.Trading.{Trading, IsAnswered}
+use Rattle.mk_market.specs.Suited.{SuitsLonger}
+use Rattle.mk_market.specs.inner.Adding.{IsLonger, OwnEach, AreRegrown, HasGrown}
+use Rattle.mk_market.specs.inner.Restored.{IsTakenBack}
+use Rattle.mk_market.specs.inner.Keeping.{quoted, standing_of, IsKeptQuote, IsKept}
+use Rattle.mk_market.proofs.Accounted.{accounts_kept}
+use Rattle.mk_market.proofs.Growing.{SafeIn, quote_later}
+use Rattle.mk_market.proofs.Homes.{trades_have}
+use Rattle.mk_market.proofs.Owned.{push_cases, holding_same, few_moved}
+use Rattle.mk_market.proofs.Replies.{answer_allowed, refused_stays, unsettled}
+use Rattle.mk_market.proofs.TakenBack.{taken_back}
+
+-- there are as many users as names
+pub as_many_users : {A Plan : Type 0} (members : List (Member A Plan)) (H : List Entry)
+    → names_of members ≡ users H → length members ≡ length (users H)
+as_many_users {A} {Plan} members H named =
+    sym (length-map members (λ (m : Member A Plan). m.name))
+    ∙ ap (λ (all : List (List ℕ)). length all) named
+
+-- no user moved more bits than assets count
+pub few_bits : (market : Market) (H : List Entry) → IsSafe market H → (u : ℕ)
+    → (deposited H u ≤ max_bits) × (withdrawn H u ≤ max_bits)
+few_bits market H safe u =
+    let few = few_moved (length (users H)) u H safe.bounded.transfers_fit in (
+      omega (arith, few.0, safe.bounded.within.few_transfers),
+      omega (arith, few.1, safe.bounded.within.few_transfers),
+    )
+
+-- an engine that suits each tree of the longer network suits that of the longer file
+pub suits_longer : (suits : List Variable → GivenTree → Type 0) (file longer : MarketFile)
+    (add : AddText) → IsLonger file (addition_in file.net add) longer
+    → SuitsLonger suits (market_of file) add → suits longer.net longer.tree
+suits_longer suits file longer add is each =
+    subst (λ (network : List Variable). suits network longer.tree) (sym is.net)
+    (each longer.tree
+    (subst (λ (network : List Variable). IsTreeOf network longer.tree) is.net is.tree))
+
+-- one user's assets more
+pub own_more : {A Plan : Type 0} (gains_stand : A → Meaning → Type 0) (file : MarketFile)
+    (H : List Entry) (all : List (Assets A Plan)) (user : ℕ) (own : Assets A Plan)
+    → length all ≡ user → OwnEach gains_stand file H all
+    → Owns gains_stand own (holding_of file.net file.tree H user)
+    → OwnEach gains_stand file H (all ++ own ∷ [])
+own_more {A} {Plan} gains_stand file H all user own count owns new u assets at =
+    each (push_cases all u own assets at)
+  where
+    each : ((u ≡ length all) × (own ≡ assets)) ⊎ (slice_get all u ≡ Some assets)
+        → Owns gains_stand assets (holding_of file.net file.tree H u)
+    each (inl h) =
+        subst (λ (k : ℕ). Owns gains_stand assets (holding_of file.net file.tree H k))
+        (sym (h.0 ∙ count))
+        (subst (λ (x : Assets A Plan). Owns gains_stand x (holding_of file.net file.tree H user))
+        (h.1) new)
+    each (inr e) = owns u assets e
+
+-- the history of a safe market is placed in a file with one question more
+module _ (file longer : MarketFile) (a : Addition) (is : IsLonger file a longer) (H : List Entry)
+    (safe : IsSafe (market_of file) H) where
+  proper : IsProper longer.net H
+  proper =
+      subst (λ (network : List Variable). IsProper network H) (sym is.net)
+      (proper_more file.net a.variable H (subst IsNetwork is.net is.legal) safe.proper)
+
+  narrow : AllByRecursion (IsInClique (market_of longer).cliques) (trades H)
+  narrow =
+      let inside = inside_after (market_of file) H (Adds a) (safe.none_wide, safe.few_added) tt in
+      subst (λ (m : Market). AllByRecursion (IsInClique m.cliques) (trades H)) (sym is.market)
+      (subst (AllByRecursion (IsInClique (with_entry (Adds a) (market_of file)).cliques))
+      (trades_kept H (Adds a) refl) inside.0)
+
+  pub is_placed : IsPlaced longer.net longer.tree H
+  is_placed = record {
+    proper = proper;
+    few_trades = omega (arith, safe.bounded.few_trades, file.trades_most);
+    homes = trades_have longer (length (users H)) H (trades H) proper.trades_fit narrow;
+  }
+
+module _ (file : MarketFile) (H : List Entry) (add : AddText) (safe : IsSafe (market_of file) H)
+    (text : IsAddText add) (none : first_refusal (market_of file) H (Add add) ≡ None) where
+  added : Addition
+  added = addition_in file.net add
+
+  fit : IsFit (market_of file) H (Add add) (Added add.variable (revision H + 1))
+  fit = record { unrefused = none; agrees = (text, refl) }
+
+  -- the market with the question is safe
+  pub longer_is_safe : IsSafe (with_entry (Adds (addition_in file.net add)) (market_of file))
+      (H ++ Adds (addition_in file.net add) ∷ [])
+  longer_is_safe =
+      fit_keeps_safe (market_of file) H (Add add) (Added add.variable (revision H + 1)) tt tt safe
+      fit
+
+-- accounts look at a market's points alone
+same_accounts : (market : Market) (a : Addition) (H : List Entry) (accounts : List Account)
+    → AreAccounts market H accounts → AreAccounts (with_entry (Adds a) market) H accounts
+same_accounts market a H accounts are = record {
+  one_each = are.one_each;
+  each = λ u within.
+      let account = are.each u within in
+      record { paid_in = account.paid_in; taken_out = account.taken_out; unpaid = account.unpaid };
+}
+
+AccountsIn : List Entry → List Account → Market → Type 0
+AccountsIn H accounts market = AreAccounts market H accounts
+
+module _ {P A E Plan : Type 0} (weights_stand : P → Meaning → Type 0)
+    (gains_stand : A → Meaning → Type 0) (plan_for : Plan → List Variable → GivenTree → Type 0)
+    (file : MarketFile) (prices : P) (rows : A) (plan : Plan)
+    (members : List (Member A Plan)) (accounts : List Account) (journal : JournalOf)
+    (payments : Option (List Payment))
+    (kept : IsKept weights_stand gains_stand plan_for file prices rows plan members accounts journal
+    payments)
+    (add : AddText) (text : IsAddText add)
+    (none : first_refusal (market_of file) journal.history (Add add) ≡ None)
+    (parts : Regrown P A E Plan)
+    (are : AreRegrown weights_stand gains_stand plan_for file journal.history
+    (addition_in file.net add) parts)
+    (new_members : List (Member A Plan)) (names : names_of new_members ≡ names_of members)
+    (assets : assets_of new_members ≡ parts.assets.items)
+    (quotes : quotes_of new_members ≡ quotes_of members)
+    (new_journal : JournalOf)
+    (history : new_journal.history
+    ≡ journal.history ++ Adds (addition_of parts.question.value) ∷ []) where
+  abbrev a : Addition
+  a = addition_in file.net add
+
+  abbrev H : List Entry
+  H = journal.history
+
+  grown : new_journal.history ≡ H ++ Adds a ∷ []
+  grown = history ∙ ap (λ (b : Addition). H ++ Adds b ∷ []) are.question
+
+  still_open : is_settled H ≡ false
+  still_open = unsettled (market_of file) H (Add add) (sym none)
+
+  new_accounts : AreAccounts (market_of parts.file) (H ++ Adds a ∷ []) accounts
+  unfolding AccountsIn
+  new_accounts =
+      subst (AccountsIn (H ++ Adds a ∷ []) accounts) (sym are.longer.market)
+      (same_accounts (market_of file) a (H ++ Adds a ∷ []) accounts
+      (accounts_kept (market_of file) H still_open (Adds a) accounts refl refl (λ u. (refl, refl))
+      kept.accounts_kept))
+
+  new_safe : IsSafe (market_of parts.file) (H ++ Adds a ∷ [])
+  new_safe =
+      subst (SafeIn (H ++ Adds a ∷ [])) (sym are.longer.market)
+      (longer_is_safe file H add kept.safe text none)
+
+  pub kept_regrown : new_journal.max_trades ≡ journal.max_trades
+      → IsKept weights_stand gains_stand plan_for parts.file parts.prices parts.rows parts.plan
+      new_members accounts new_journal payments
+  kept_regrown limit =
+      let net = parts.file.net in let tree = parts.file.tree in
+      let back : H ++ Adds a ∷ [] ≡ new_journal.history = sym grown in
+      record {
+        legal = are.longer.legal;
+        tree = are.longer.tree;
+        planned = are.planned;
+        prices_stand =
+            subst (λ (K : List Entry). weights_stand parts.prices (weights_of net tree K)) back
+            (subst (weights_stand parts.prices) (sym (weights_grow net tree H (Adds a)))
+            are.prices_stand);
+        rows_stand = subst (λ (K : List Entry). gains_stand parts.rows (rows_of net tree K)) back
+            (subst (gains_stand parts.rows) (sym (rows_grow net tree H (Adds a))) are.rows_stand);
+        named = names ∙ kept.named ∙ sym (not_found H (Adds a) join_in refl) ∙ ap users back;
+        owns = λ u own at.
+            subst (λ (K : List Entry). Owns gains_stand own (holding_of net tree K u)) back
+            (subst (Owns gains_stand own) (sym (holding_same net tree H (Adds a) u refl refl refl))
+            (are.owned u own
+            (subst (λ (all : List (Assets A Plan)). slice_get all u ≡ Some own) assets at)));
+        quotes_kept = λ u quote at.
+            subst (λ (K : List Entry). IsKeptQuote net tree K u quote) back
+            (quote_later file.net net file.tree tree H (Adds a) u quote
+            (kept.quotes_kept u quote
+            (subst (λ (qs : List (Option LastQuote)). slice_get qs u ≡ Some (Some quote)) quotes
+            at)));
+        accounts_kept =
+            subst (λ (K : List Entry). AreAccounts (market_of parts.file) K accounts) back
+            new_accounts;
+        safe = subst (IsSafe (market_of parts.file)) back new_safe;
+        max_trades = limit ∙ kept.max_trades
+            ∙ sym (ap (λ (m : Market). m.max_trades) are.longer.market);
+        room = λ open_still. kept.room still_open;
+      }
+
+  -- as its callers see it
+  pub has_grown : (old new : Trading)
+      → old ≡ record
+      { market = market_of file; standing = standing_of journal members; accounts = accounts }
+      → new ≡ record {
+        market = market_of parts.file;
+        standing = standing_of new_journal new_members;
+        accounts = accounts;
+      } → HasGrown old new add
+  has_grown old new before later =
+      rw (before, later) (record {
+        market = are.longer.market;
+        next = ap₂ (λ (K : List Entry) (qs : List (Option LastQuote)). record
+            { history = K; quotes = map (option_map quoted) qs }) grown quotes;
+        accounts = refl;
+      })
+
+-- where memory is wanting nothing changes
+pub no_memory_answered : (now : Trading) (add : AddText)
+    → None ≡ first_refusal now.market now.standing.history (Add add)
+    → IsAnswered now now (Add add) (Refused Memory)
+no_memory_answered now add none = record {
+  market = refl;
+  allowed = λ sound.
+      answer_allowed now.market now.standing (Add add) (Refused Memory) none (inr refl);
+  next = refused_stays now.market now.standing (Add add) Memory tt;
+  paid = λ u. refl;
+}
+
+-- a market that has grown answers with the next revision
+pub grown_answered : (old new : Trading) (add : AddText) → IsAddText add
+    → None ≡ first_refusal old.market old.standing.history (Add add) → HasGrown old new add
+    → (at : ℕ) → at ≡ revision new.standing.history
+    → IsAnswered old new (Add add) (Added add.variable at)
+grown_answered old new add text none has at now =
+    let H = old.standing.history in
+    let later : at ≡ revision H + 1 = now ∙ ap (λ (s : _). length s.history) has.next
+    ∙ length_push H (Adds (addition_in old.market.network add)) in
+    record {
+      market = has.market;
+      allowed = λ sound.
+          answer_allowed old.market old.standing (Add add) (Added add.variable at) none
+          (inl (text, ap (λ (n : ℕ). Added add.variable n) later));
+      next = has.next;
+      paid = λ u. ap (λ (all : List Account). (account_of all u).paid) has.accounts;
+    }
+
+-- so does one to which a question is added again
+pub grown_taken_back : (old new : Trading) (add : AddText) (reply : Reply) → IsAddText add
+    → None ≡ first_refusal old.market old.standing.history (Add add) → HasGrown old new add
+    → reply ≡ Added add.variable (revision old.standing.history + 1)
+    → IsTakenBack old new (Add add) reply
+grown_taken_back old new add reply text none has told =
+    taken_back old new (Add add) reply (Added add.variable (revision old.standing.history + 1)) told
+    has.market none (text, refl) has.next
+    (λ u. ap (λ (all : List Account). (account_of all u).paid) has.accounts)
