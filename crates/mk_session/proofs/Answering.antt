@@ -6,11 +6,11 @@ use Rattle.std.proofs.lemmas.List.Elements.{filter-append}
 use Rattle.std.proofs.lemmas.Grind.{flat_map-append}
 use Rattle.std.proofs.lemmas.List.Concat.{flat_map-cons}
 use Rattle.mk_io.specs.Stream.{StreamLine, is_not_blank}
-use Rattle.mk_exact.specs.Market.{Market}
+use Rattle.mk_exact.specs.Market.{Market, present}
 use Rattle.mk_reply.specs.declared.reply.Reply.{Reply}
-use Rattle.mk_rules.specs.Transcript.{Standing, opening, Line, IsAllowedFor, after, Run}
+use Rattle.mk_rules.specs.Transcript.{Standing, opening, Line, IsAllowedFor, after}
 use Rattle.mk_rules.specs.Standings.{IsMarket, Stands}
-use Rattle.mk_rules.proofs.Keeps.{run_keeps}
+use Rattle.mk_rules.proofs.Keeps.{run_keeps, runs_join}
 use Rattle.mk_rules.proofs.Ready.{opening_is_ready}
 use Rattle.mk_rules.proofs.Follows.{opening_is_bounded}
 use Rattle.mk_rules.proofs.Settling.{run_settles}
@@ -43,8 +43,9 @@ blank_replied market now line blank =
 -- another line is answered by one reply
 pub one_replied : (market : Market) (now : Standing) (line : StreamLine) (question : Line)
     (reply : Reply) → is_not_blank line ≡ true
-    → Asks line question → IsAllowedFor market now question reply → AreReplied market now
-    (line ∷ []) (after market now question reply) (reply ∷ [])
+    → Asks line question → IsAllowedFor (present market now.history) now question reply
+    → AreReplied market now (line ∷ []) (after (present market now.history) now question reply)
+    (reply ∷ [])
 one_replied market now line question reply busy asks allowed =
     let one : filter is_not_blank (line ∷ []) ≡ line ∷ [] = rw busy refl in
     record {
@@ -60,16 +61,6 @@ asks_behind [] ms (x ∷ xs) ys first second = absurd first
 asks_behind (l ∷ ls) ms [] ys first second = absurd first
 asks_behind (l ∷ ls) ms (x ∷ xs) ys first second = (first.0, asks_behind ls ms xs ys first.1 second)
 
-pub run_behind : (market : Market) (xs ys : List Line) (rs ss : List Reply) (old mid new : Standing)
-    → Run market old xs rs mid → Run market mid ys ss new
-    → Run market old (xs ++ ys) (rs ++ ss) new
-run_behind market [] ys [] ss old mid new first second =
-    subst (λ (s : Standing). Run market s ys ss new) first second
-run_behind market [] ys (r ∷ rs) ss old mid new first second = absurd first
-run_behind market (x ∷ xs) ys [] ss old mid new first second = absurd first
-run_behind market (x ∷ xs) ys (r ∷ rs) ss old mid new first second =
-    (first.0, run_behind market xs ys rs ss (after market old x r) mid new first.1 second)
-
 -- lines behind others that are answered
 pub then_replied : (market : Market) (old mid new : Standing) (ls ms : List StreamLine)
     (rs ss : List Reply) → AreReplied market old ls mid rs
@@ -80,7 +71,7 @@ then_replied market old mid new ls ms rs ss first second = record {
       (sym (filter-append is_not_blank ls ms))
       (asks_behind (filter is_not_blank ls) (filter is_not_blank ms) first.asked second.asked
       first.asks second.asks);
-  run = run_behind market first.asked second.asked rs ss old mid new first.run second.run;
+  run = runs_join market old mid new first.asked second.asked rs ss first.run second.run;
 }
 
 -- the same of lines whose replies are printed
@@ -151,7 +142,8 @@ pub allowed_run_of : (start : Start) → CanBegin start.market start.standing
     → AreReplied start.market start.standing lines end replies
     → IsAllowedRun start lines end replies
 allowed_run_of start begins lines end replies replied =
-    let stands : Stands start.market start.standing.history = begins.ready.stands in
+    let old = start.standing.history in
+    let stands : Stands (present start.market old) old = begins.ready.stands in
     record {
       replied = replied;
       safe = safe_on_way start.market start.standing end replied.asked replies stands replied.run;

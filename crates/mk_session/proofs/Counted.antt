@@ -14,15 +14,17 @@ use Rattle.mk_exact.specs.Market.{Market}
 use Rattle.mk_reply.specs.declared.reply.Reply.{Reply}
 use Rattle.mk_rules.specs.Standings.{IsMarket}
 use Rattle.mk_rules.specs.Transcript.{Standing, opening}
+use Rattle.mk_market.specs.Trading.{Trading}
 use Rattle.mk_session.specs.declared.counts.Tally.{Tally}
 use Rattle.mk_session.specs.declared.counts.TallyFault.{TallyFault}
 use Rattle.mk_session.specs.declared.counts.TallyFault.TheVariants.{Memory}
 use Rattle.mk_session.specs.Transcript.{from_opening, AreReplied}
 use Rattle.mk_session.specs.Complete.{AreWithin}
 use Rattle.mk_session.specs.Tally.{is_trade, is_refusal, last_reply, IsRemembered, AreCounted}
-use Rattle.mk_session.specs.Tally.{IsTally, TallyEnds}
+use Rattle.mk_session.specs.Tally.{IsTally}
 use Rattle.mk_session.specs.inner.Counting.{uncounted, is_want, IsWithin, IsCounted, CountsLine}
 use Rattle.mk_session.specs.inner.Counting.{IsCountedSoFar, IsCounting}
+use Rattle.mk_session.proofs.Present.{at_first}
 use Rattle.mk_session.proofs.Answering.{no_more, none_replied, then_replied, sound_so_far}
 use Rattle.mk_session.proofs.Answering.{allowed_run_of, opening_begins}
 use Rattle.mk_session.proofs.Underway.{are_whole, placed_next}
@@ -106,16 +108,18 @@ counted_at_start market is_market all source now told begins = record {
 none_within : IsWithin fresh.given uncounted
 none_within = record { replies = omega arith; trades = omega arith; refused = omega arith }
 
-pub counting_at_start : (market : Market) → IsMarket market → (all : List ℕ) (lines : Cutting)
-    (source : List ℕ) (now : Standing) (tally : Tally) → lines ≡ fresh → tally ≡ uncounted
-    → source ≡ all → now ≡ opening → IsCounting market market all lines source now tally
-counting_at_start market is_market all lines source now tally unread none told begins =
-    subst (λ (l : Cutting). IsCounting market market all l source now tally) (sym unread)
-    (subst (λ (t : Tally). IsCounting market market all fresh source now t) (sym none) (record {
-      same = refl;
+pub counting_at_start : (trading : Trading) → IsMarket trading.market → (all : List ℕ)
+    (lines : Cutting) (source : List ℕ) (tally : Tally) → lines ≡ fresh → tally ≡ uncounted
+    → source ≡ all → trading.standing ≡ opening
+    → IsCounting trading.market trading all lines source tally
+counting_at_start trading is_market all lines source tally unread none told begins =
+    let market = trading.market in
+    subst (λ (l : Cutting). IsCounting market trading all l source tally) (sym unread)
+    (subst (λ (t : Tally). IsCounting market trading all fresh source t) (sym none) (record {
+      market = at_first trading begins;
       goes_on = inl refl;
       fits = none_within;
-      far = counted_at_start market is_market all source now told begins;
+      far = counted_at_start market is_market all source trading.standing told begins;
     }))
 
 -- a line was given and counted
@@ -170,40 +174,32 @@ not_within market all old new source rest now tally far none over within =
 
 -- a line that is not too long: the count goes on where memory was not wanting
 pub counts_on : {T E U : Type 0} (said : Result T E) (ended : Option (Result U TallyFault))
-    (market : Market) (line : StreamLine) (old new : Cutting)
+    (is_at : Market → Type 0) (line : StreamLine) (old new : Cutting)
     (source rest : List ℕ) (now then : Standing) (before after : Tally)
     → MatchResult said (λ _. ended ≡ None) (λ _. ended ≡ Some (Err Memory))
     → old.last ≡ None → IsWithinLimits new → GivesLine line old new (stream_left old (Some source))
     (stream_left new (Some rest))
-    → OnOk said (CountsLine market now line then before after)
-    → IfNone ended ((all : List ℕ) → IsCountedSoFar market all old source now before
-    → IsCountedSoFar market all new rest then after)
-counts_on {U = U} (Ok v) ended market line old new source rest now then before after e none limits
+    → ((start : Market) → is_at start → OnOk said (CountsLine start now line then before after))
+    → IfNone ended ((start : Market) (all : List ℕ) → is_at start
+    → IsCountedSoFar start all old source now before
+    → IsCountedSoFar start all new rest then after)
+counts_on {U = U} (Ok v) ended is_at line old new source rest now then before after e none limits
     gives counted =
-    subst (λ (o : Option (Result U TallyFault)). IfNone o ((all : List ℕ) → IsCountedSoFar market
-    all old source now before → IsCountedSoFar market all new rest then after))
-    (sym e) (λ all far. counted_so_far_next market all line old new source rest now then before
-    after none limits gives counted far)
-counts_on {U = U} (Err x) ended market line old new source rest now then before after e none limits
+    subst (λ (o : Option (Result U TallyFault)). IfNone o ((start : Market) (all : List ℕ)
+    → is_at start → IsCountedSoFar start all old source now before
+    → IsCountedSoFar start all new rest then after))
+    (sym e) (λ start all here far. counted_so_far_next start all line old new source rest now then
+    before after none limits gives (counted start here) far)
+counts_on {U = U} (Err x) ended is_at line old new source rest now then before after e none limits
     gives counted =
-    subst (λ (o : Option (Result U TallyFault)). IfNone o ((all : List ℕ) → IsCountedSoFar market
-    all old source now before → IsCountedSoFar market all new rest then after))
+    subst (λ (o : Option (Result U TallyFault)). IfNone o ((start : Market) (all : List ℕ)
+    → is_at start → IsCountedSoFar start all old source now before
+    → IsCountedSoFar start all new rest then after))
     (sym e) tt
 
 -- the inputs count no fault, so no read fails
 pub no_read_fault : (old : Cutting) → old.last ≡ None → HasReadCause ReadFault old 0 0 → ⊥
 no_read_fault old none cause = none_rose (risen old 0 0 none cause).rose
-
--- the end of the count, whose market is the same all along
-pub ends_count : (start market : Market) (all : List ℕ) (lines : Cutting) (source : List ℕ)
-    (now : Standing) (tally : Tally) (ended result : Result Tally TallyFault)
-    → market ≡ start → result ≡ ended → ((all : List ℕ) → IsCountedSoFar market all lines source now
-    tally → TallyEnds ended (Ok market) all)
-    → IsCountedSoFar start all lines source now tally → TallyEnds result (Ok start) all
-ends_count start market all lines source now tally ended result same is ends far =
-    subst (λ (r : Result Tally TallyFault). TallyEnds r (Ok start) all) (sym is)
-    (subst (λ (m : Market). (all : List ℕ) → IsCountedSoFar m all lines source now tally
-    → TallyEnds ended (Ok m) all) same ends all far)
 
 -- a test as a number
 abbrev pub test_number : Bool → ℕ

@@ -193,56 +193,58 @@ broken start all part cutting source rest now before written after waited taken 
 
 -- a line that was answered: the run goes on, one line further
 pub goes_on_after : {T : Type 0} (said : Result T TellFault) (ended : Option Status)
-    (market : Market) (line : StreamLine) (old new kept : Cutting) (source rest : Option (List ℕ))
-    (now then : Standing)
+    (is_at : Market → Type 0) (line : StreamLine) (old new kept : Cutting)
+    (source rest : Option (List ℕ)) (now then : Standing)
     (written after : Option (List ℕ)) (waited waits : List ℕ)
     → ended ≡ ended_by said → kept ≡ new
     → old.last ≡ None → IsWithinLimits new
     → GivesLine line old new (stream_left old source) (stream_left new rest)
-    → OnOk said (AreGathered market now (line ∷ []) then written after waited waits)
+    → ((file : Market) → is_at file
+    → OnOk said (AreGathered file now (line ∷ []) then written after waited waits))
     → IfNone ended ((start : Start) (all : List ℕ) (before : Option (List ℕ))
-    → market ≡ start.market → IsSoFar start all old source now before written waited
+    → is_at start.market → IsSoFar start all old source now before written waited
     → IsSoFar start all kept rest then before after waits)
-goes_on_after said ended market line old new kept source rest now then written after waited waits
+goes_on_after said ended is_at line old new kept source rest now then written after waited waits
     e same none limits gives answered =
     subst (λ (o : Option Status). IfNone o ((start : Start) (all : List ℕ)
-    (before : Option (List ℕ)) → market ≡ start.market
+    (before : Option (List ℕ)) → is_at start.market
     → IsSoFar start all old source now before written waited
     → IsSoFar start all kept rest then before after waits)) (sym e) (at said answered)
   where
     at : {T : Type 0} (said : Result T TellFault)
-        → OnOk said (AreGathered market now (line ∷ []) then written after waited waits)
+        → ((file : Market) → is_at file
+        → OnOk said (AreGathered file now (line ∷ []) then written after waited waits))
         → IfNone (ended_by said) ((start : Start) (all : List ℕ) (before : Option (List ℕ))
-        → market ≡ start.market → IsSoFar start all old source now before written waited
+        → is_at start.market → IsSoFar start all old source now before written waited
         → IsSoFar start all kept rest then before after waits)
     at (Ok v) answered =
         λ start all before here far.
         subst (λ (cutting : Cutting). IsSoFar start all cutting rest then before after waits)
         (sym same)
         (so_far_next start all line old new source rest now then before written after waited
-        waits none limits gives (subst (λ (m : Market). AreGathered m now (line ∷ []) then
-        written after waited waits) here answered) far)
+        waits none limits gives (answered start.market here) far)
     at (Err Disk) answered = tt
     at (Err Sink) answered = tt
 
 -- what waited was not told: the run is broken
-pub breaks_off : {T : Type 0} (said : Result T TellFault) (ended : Option Status) (market : Market)
-    (cutting : Cutting) (part : List ℕ) (source rest : Option (List ℕ)) (now then : Standing)
+pub breaks_off : {T : Type 0} (said : Result T TellFault) (ended : Option Status)
+    (is_at : Market → Type 0) (cutting : Cutting) (part : List ℕ)
+    (source rest : Option (List ℕ)) (now then : Standing)
     (written after : Option (List ℕ)) (waited : List ℕ)
     → ended ≡ ended_by said → stream_left cutting source ≡ prepend_known part rest
     → OnErr said (AddsFront written after waited)
     → IfSome ended (λ end. (start : Start) (all : List ℕ) (before : Option (List ℕ))
-    → market ≡ start.market → IsSoFar start all cutting source now before written waited
+    → is_at start.market → IsSoFar start all cutting source now before written waited
     → IsEnded end start then all rest before after)
-breaks_off said ended market cutting part source rest now then written after waited e taken cut =
+breaks_off said ended is_at cutting part source rest now then written after waited e taken cut =
     subst (λ (o : Option Status). IfSome o (λ end. (start : Start) (all : List ℕ)
-    (before : Option (List ℕ)) → market ≡ start.market
+    (before : Option (List ℕ)) → is_at start.market
     → IsSoFar start all cutting source now before written waited
     → IsEnded end start then all rest before after)) (sym e) (at said cut)
   where
     at : {T : Type 0} (said : Result T TellFault) → OnErr said (AddsFront written after waited)
         → IfSome (ended_by said) (λ end. (start : Start) (all : List ℕ)
-        (before : Option (List ℕ)) → market ≡ start.market
+        (before : Option (List ℕ)) → is_at start.market
         → IsSoFar start all cutting source now before written waited
         → IsEnded end start then all rest before after)
     at (Ok v) cut = tt
@@ -257,49 +259,49 @@ breaks_off said ended market cutting part source rest now then written after wai
 
 -- the same where a line was given, whose reply was not told
 pub breaks_after : {T : Type 0} (said : Result T TellFault) (ended : Option Status)
-    (market : Market) (line : StreamLine) (old new : Cutting)
+    (is_at : Market → Type 0) (line : StreamLine) (old new : Cutting)
     (source rest : Option (List ℕ)) (now then : Standing) (written after : Option (List ℕ))
     (waited : List ℕ)
     → ended ≡ ended_by said
     → GivesLine line old new (stream_left old source) (stream_left new rest)
     → OnErr said (AddsFront written after waited)
     → IfSome ended (λ end. (start : Start) (all : List ℕ) (before : Option (List ℕ))
-    → market ≡ start.market → IsSoFar start all old source now before written waited
+    → is_at start.market → IsSoFar start all old source now before written waited
     → IsEnded end start then all rest before after)
-breaks_after said ended market line old new source rest now then written after waited e gives cut =
-    breaks_off said ended market old (gives.piece ++ new.left) source rest now then written after
+breaks_after said ended is_at line old new source rest now then written after waited e gives cut =
+    breaks_off said ended is_at old (gives.piece ++ new.left) source rest now then written after
     waited e (gives.taken ∙ prepend_known_twice gives.piece new.left rest) cut
 
 -- what waits was told before: the run goes on from there
-pub goes_on_from : (ended : Option Status) (market : Market) (old new : Cutting)
+pub goes_on_from : (ended : Option Status) (is_at : Market → Type 0) (old new : Cutting)
     (source rest : Option (List ℕ)) (now then : Standing)
     (written mid after : Option (List ℕ)) (waited left waits : List ℕ) → Gathers written mid waited
     [] left
     → IfNone ended ((start : Start) (all : List ℕ) (before : Option (List ℕ))
-    → market ≡ start.market → IsSoFar start all old source now before mid left
+    → is_at start.market → IsSoFar start all old source now before mid left
     → IsSoFar start all new rest then before after waits)
     → IfNone ended ((start : Start) (all : List ℕ) (before : Option (List ℕ))
-    → market ≡ start.market → IsSoFar start all old source now before written waited
+    → is_at start.market → IsSoFar start all old source now before written waited
     → IsSoFar start all new rest then before after waits)
-goes_on_from None market old new source rest now then written mid after waited left waits gathers
+goes_on_from None is_at old new source rest now then written mid after waited left waits gathers
     next =
     λ start all before here far. next start all before here (still_so_far start all old source now
     before written mid waited left gathers far)
-goes_on_from (Some end) market old new source rest now then written mid after waited left waits
+goes_on_from (Some end) is_at old new source rest now then written mid after waited left waits
     gathers next = tt
 
-pub ends_from : (ended : Option Status) (market : Market) (cutting : Cutting)
+pub ends_from : (ended : Option Status) (is_at : Market → Type 0) (cutting : Cutting)
     (source rest : Option (List ℕ)) (now then : Standing)
     (written mid after : Option (List ℕ)) (waited left : List ℕ) → Gathers written mid waited []
     left
     → IfSome ended (λ end. (start : Start) (all : List ℕ) (before : Option (List ℕ))
-    → market ≡ start.market → IsSoFar start all cutting source now before mid left
+    → is_at start.market → IsSoFar start all cutting source now before mid left
     → IsEnded end start then all rest before after)
     → IfSome ended (λ end. (start : Start) (all : List ℕ) (before : Option (List ℕ))
-    → market ≡ start.market → IsSoFar start all cutting source now before written waited
+    → is_at start.market → IsSoFar start all cutting source now before written waited
     → IsEnded end start then all rest before after)
-ends_from None market cutting source rest now then written mid after waited left gathers next = tt
-ends_from (Some end) market cutting source rest now then written mid after waited left gathers
+ends_from None is_at cutting source rest now then written mid after waited left gathers next = tt
+ends_from (Some end) is_at cutting source rest now then written mid after waited left gathers
     next =
     λ start all before here far. next start all before here (still_so_far start all cutting source
     now before written mid waited left gathers far)

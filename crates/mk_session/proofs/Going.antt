@@ -10,8 +10,7 @@ use Rattle.mk_io.specs.Stream.{max_stream_lines}
 use Rattle.mk_io.specs.Cutting.{Cutting, fresh, GoesOn}
 use Rattle.mk_io.proofs.Told.{prepend_known_none}
 use Rattle.mk_exact.specs.Market.{Market}
-use Rattle.mk_rules.specs.Transcript.{Standing}
-use Rattle.mk_market.specs.Trading.{Trading}
+use Rattle.mk_market.specs.Trading.{Trading, IsAt}
 use Rattle.mk_session.specs.Transcript.{Start}
 use Rattle.mk_session.specs.Outcome.{HasKeepCauses}
 use Rattle.mk_session.specs.inner.Progress.{IsSoFar, IsBegun}
@@ -21,14 +20,14 @@ use Rattle.mk_session.specs.inner.Loading.{IsTaken}
 use Rattle.mk_session.proofs.Answering.{no_more, none_answered}
 use Rattle.mk_session.proofs.Completing.{none_within_stream}
 
--- between two lines: the market is the same, the lines go on, no fault was counted, the keeper is
--- ready, and the run is so far
-pub record IsGoing (begun : Trading) (market : Market) (commands : Option (List ℕ))
-    (lines : Cutting) (source : Option (List ℕ)) (now : Standing)
+-- between two lines: the market is still the file's with what was added, the lines go on, no fault
+-- was counted, the keeper is ready, and the run is so far
+pub record IsGoing (begun trading : Trading) (commands : Option (List ℕ))
+    (lines : Cutting) (source : Option (List ℕ))
     (headed written : Option (List ℕ)) (waits : List ℕ) (opened_before opened : Option (List ℕ))
     (disk_before disk inputs_before inputs sink_before sink : ℕ)
     (begins is_ready : ℕ → Type 0) : Type 0 where
-  pub same : market ≡ begun.market
+  pub market : (start : Market) → IsAt start begun → IsAt start trading
   pub stays : opened ≡ opened_before
   pub goes_on : GoesOn lines.last
   pub within : lines.given ≤ max_stream_lines
@@ -36,7 +35,7 @@ pub record IsGoing (begun : Trading) (market : Market) (commands : Option (List 
   pub ready : (n : ℕ) → n + max_stream_lines + 1 < 2 ^ 40 → begins n → is_ready (n + lines.given)
   pub far : (start : Start) (all : List ℕ) (before : Option (List ℕ))
       → IsBegun start begun all commands before headed
-      → IsSoFar start all lines source now before written waits
+      → IsSoFar start all lines source trading.standing before written waits
 
 pub far_at_start : (start : Start) (trading : Trading) (all : List ℕ)
     (source before written : Option (List ℕ)) (waits : List ℕ)

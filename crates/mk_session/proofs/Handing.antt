@@ -1,12 +1,12 @@
 -- Runs that hand their market back.
 use Rattle.std.proofs.Common.{◌≡◌, ℕ, List, Option, Result, Ok, Err, MatchResult, IfErr}
-use Rattle.std.proofs.Common.{◌⊎◌, inl, inr, sym, ap, subst}
+use Rattle.std.proofs.Common.{◌⊎◌, inl, inr, refl, sym, subst}
 use Rattle.mk_io.specs.declared.status.Status.{Status}
 use Rattle.mk_io.specs.declared.status.Status.TheVariants.{Done, Memory}
 use Rattle.mk_exact.specs.Market.{Market}
 use Rattle.mk_file.specs.declared.fault.FileFault.{FileFault}
 use Rattle.mk_file.specs.File.{file_of}
-use Rattle.mk_market.specs.Trading.{Trading}
+use Rattle.mk_market.specs.Trading.{Trading, IsAt}
 use Rattle.mk_session.specs.Outcome.{Opened, Outcome, IsHandedBack, IsRunTo, IsTurnedAway}
 use Rattle.mk_session.specs.Outcome.{Ends, status_of}
 use Rattle.mk_session.proofs.Serving.{turned_from}
@@ -27,12 +27,14 @@ ends_back_at result given same all source before written e ends =
 
 -- the market that ran is handed back
 pub handed : (back : Trading) (market : Market) (all : List ℕ)
-    (source before written : Option (List ℕ)) → back.market ≡ market
+    (source before written : Option (List ℕ)) → IsAt market back
     → IsRunTo market back.standing all source before written
     → IsHandedBack back (Ok market) all source before written
-handed back market all source before written same run = record {
-  accepted = ap (λ (m : Market). Ok m) (sym same);
-  run = subst (λ (m : Market). IsRunTo m back.standing all source before written) (sym same) run;
+handed back market all source before written here run = record {
+  market = market;
+  accepted = refl;
+  at = here;
+  run = run;
 }
 
 -- the whole run, once its file was opened

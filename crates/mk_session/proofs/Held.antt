@@ -13,6 +13,7 @@ use Rattle.mk_io.specs.Cutting.{Cutting}
 use Rattle.mk_io.proofs.Told.{append_known_twice}
 use Rattle.mk_reply.specs.declared.reply.Reply.{Reply}
 use Rattle.mk_rules.specs.Transcript.{Standing, Line, Run}
+use Rattle.mk_rules.proofs.Keeps.{runs_join}
 use Rattle.mk_restore.specs.Restoring.{changes_of}
 use Rattle.mk_session.specs.declared.waiting.TellFault.{TellFault}
 use Rattle.mk_session.specs.declared.waiting.TellFault.TheVariants.{Disk, Sink}
@@ -22,7 +23,7 @@ use Rattle.mk_session.specs.Outcome.{IsFrontOf}
 use Rattle.mk_session.specs.inner.Progress.{IsPlaced}
 use Rattle.mk_session.specs.Left.{record_of, records_of, changes_from, AreTold, IsLeft}
 use Rattle.mk_session.specs.inner.Keeping.{AreSpoken, SpeaksAndTells, AreHeld, AreLeft}
-use Rattle.mk_session.proofs.Answering.{asks_behind, run_behind, sound_so_far}
+use Rattle.mk_session.proofs.Answering.{asks_behind, sound_so_far}
 use Rattle.mk_session.proofs.Endings.{whole_or_none}
 use Rattle.mk_session.proofs.Records.{are_recorded}
 use Rattle.mk_session.proofs.Keeping.{same_number, changes_behind, told_more, all_told}
@@ -47,8 +48,8 @@ module _ (start : Start) (lines more : List StreamLine) (now then : Standing)
     others = records_of (changes_of start.market now said.asked said.replies)
 
     run : Run start.market start.standing asked replies then
-    run = run_behind start.market far.asked said.asked far.replies said.replies start.standing now
-        then far.run (said.run (sound_so_far start far.begins lines now far.replies
+    run = runs_join start.market start.standing now then far.asked said.asked far.replies
+        said.replies far.run (said.run (sound_so_far start far.begins lines now far.replies
         (record { asked = far.asked; asks = far.asks; run = far.run })))
 
     asks : AllZip Asks (filter is_not_blank (lines ++ more)) asked

@@ -10,7 +10,7 @@ use Rattle.std.proofs.lemmas.List.{append-nil, take-append-le, length-take-le}
 use Rattle.std.proofs.lemmas.List.Concat.{flat_map-cons}
 use Rattle.std.proofs.lemmas.Grind.{flat_map-append}
 use Rattle.std.proofs.Math.Seq.{take-append-add}
-use Rattle.mk_exact.specs.Market.{Market}
+use Rattle.mk_exact.specs.Market.{Market, present}
 use Rattle.mk_reply.specs.declared.reply.Reply.{Reply}
 use Rattle.mk_reply.specs.Replies.{reply_text}
 use Rattle.mk_rules.specs.Transcript.{Standing, Line}
@@ -33,7 +33,7 @@ same_number market old new [] [] run = refl
 same_number market old new [] (r ∷ rs) run = absurd run
 same_number market old new (x ∷ xs) [] run = absurd run
 same_number market old new (x ∷ xs) (r ∷ rs) run =
-    ap suc (same_number market (after market old x r) new xs rs run.1)
+    ap suc (same_number market (after (present market old.history) old x r) new xs rs run.1)
 
 -- the changes of lines behind others
 pub changes_behind : (market : Market) (old mid : Standing) (xs ys : List Line) (rs ss : List Reply)
@@ -45,8 +45,9 @@ changes_behind market old mid [] ys [] ss run =
 changes_behind market old mid [] ys (r ∷ rs) ss run = absurd run
 changes_behind market old mid (x ∷ xs) ys [] ss run = absurd run
 changes_behind market old mid (x ∷ xs) ys (r ∷ rs) ss run =
-    let first : Changes = change_of market old.history x r in
-    let next : Standing = after market old x r in
+    let here : Market = present market old.history in
+    let first : Changes = change_of here old.history x r in
+    let next : Standing = after here old x r in
     ap (λ (cs : Changes). first ++ cs) (changes_behind market next mid xs ys rs ss run.1)
     ∙ sym (append_assoc first (changes_of market next xs rs) (changes_of market mid ys ss))
 
@@ -61,8 +62,9 @@ unanswered_lines market now [] ys [] few = no_lines market now ys
 unanswered_lines market now [] ys (r ∷ rs) few = absurd (omega arith)
 unanswered_lines market now (x ∷ xs) ys [] few = refl
 unanswered_lines market now (x ∷ xs) ys (r ∷ rs) few =
-    ap (λ (cs : Changes). change_of market now.history x r ++ cs)
-    (unanswered_lines market (after market now x r) xs ys rs (omega arith))
+    let here : Market = present market now.history in
+    ap (λ (cs : Changes). change_of here now.history x r ++ cs)
+    (unanswered_lines market (after here now x r) xs ys rs (omega arith))
 
 -- the first replies have no more changes than all
 fewer_changes : (market : Market) (now : Standing) (xs : List Line) (n : ℕ) (rs : List Reply)
@@ -75,8 +77,9 @@ fewer_changes market now xs zero rs = omega (
 fewer_changes market now xs (suc n) [] = omega arith
 fewer_changes market now [] (suc n) (r ∷ rs) = omega arith
 fewer_changes market now (x ∷ xs) (suc n) (r ∷ rs) =
-    let first : Changes = change_of market now.history x r in
-    let next : Standing = after market now x r in
+    let here : Market = present market now.history in
+    let first : Changes = change_of here now.history x r in
+    let next : Standing = after here now x r in
     omega (
       arith,
       fewer_changes market next xs n rs,

@@ -1,3 +1,4 @@
+pub mod Present
 pub mod Passing
 pub mod Answering
 pub mod Gathering

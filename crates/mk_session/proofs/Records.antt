@@ -3,17 +3,17 @@ use Rattle.std.proofs.Common.{refl, List, [], ◌∷◌, ◌++◌, Option, Some,
 use Rattle.std.specs.List.{AllZip, AllByRecursion}
 use Rattle.mk_io.specs.Stream.{StreamLine, text, long, is_not_blank}
 use Rattle.mk_exact.specs.History.{Entry}
-use Rattle.mk_exact.specs.Market.{Market}
+use Rattle.mk_exact.specs.Market.{Market, present}
 use Rattle.mk_command.specs.declared.command.Command.{Command}
 use Rattle.mk_reply.specs.declared.reply.Reply.{Reply}
 use Rattle.mk_reply.specs.Replies.{IsReply}
 use Rattle.mk_rules.specs.Answers.{entry_of}
 use Rattle.mk_rules.specs.Bounded.{IsLine, IsBounded}
-use Rattle.mk_rules.specs.Standings.{IsMarket, IsReady}
+use Rattle.mk_rules.specs.Standings.{IsReady}
 use Rattle.mk_rules.specs.Transcript.{Standing, Line, OfCommand, NoCommand, LongLine}
 use Rattle.mk_rules.specs.Transcript.{after, Run}
-use Rattle.mk_rules.proofs.Ready.{ready_keeps}
-use Rattle.mk_rules.proofs.Follows.{bounded_keeps}
+use Rattle.mk_rules.proofs.Ready.{step_keeps_ready}
+use Rattle.mk_rules.proofs.Follows.{bounded_keeps, bounded_in}
 use Rattle.mk_rules.proofs.Texts.{replies_have_texts}
 use Rattle.mk_restore.specs.Restoring.{Changes, IsChange, change_of, changes_of}
 use Rattle.mk_session.specs.Transcript.{Start, Asks}
@@ -52,20 +52,23 @@ both_have : (first second : Changes) → AllByRecursion IsChange first
 both_have [] second has more = more
 both_have (c ∷ first) second has more = (has.0, both_have first second has.1 more)
 
-changes_have_texts : (market : Market) → IsMarket market → (now new : Standing)
-    (asked : List Line) (replies : List Reply) → IsReady market now
+changes_have_texts : (market : Market) (now new : Standing) (asked : List Line)
+    (replies : List Reply) → IsReady (present market now.history) now
     → IsBounded market now.history → AllByRecursion IsLine asked → Run market now asked replies new
     → AllByRecursion IsChange (changes_of market now asked replies)
-changes_have_texts market is_market now new [] replies ready bounded are run = tt
-changes_have_texts market is_market now new (x ∷ xs) [] ready bounded are run = absurd run
-changes_have_texts market is_market now new (x ∷ xs) (r ∷ rs) ready bounded are run =
-    both_have (change_of market now.history x r)
-    (changes_of market (after market now x r) xs rs)
-    (change_has_text market now.history x r are.0
-    (replies_have_texts market now x r is_market ready bounded are.0 run.0))
-    (changes_have_texts market is_market (after market now x r) new xs rs
-    (ready_keeps market now x r ready run.0)
-    (bounded_keeps market now x r is_market are.0 bounded run.0) are.1 run.1)
+changes_have_texts market now new [] replies ready bounded are run = tt
+changes_have_texts market now new (x ∷ xs) [] ready bounded are run = absurd run
+changes_have_texts market now new (x ∷ xs) (r ∷ rs) ready bounded are run =
+    let here = present market now.history in
+    let next = after here now x r in
+    let legal = ready.stands.legal in
+    let bounded_here = bounded_in market here now.history refl bounded in
+    let bounded_next = bounded_keeps here now x r legal.few_trades are.0 bounded_here run.0 in
+    both_have (change_of here now.history x r) (changes_of market next xs rs)
+    (change_has_text here now.history x r are.0
+    (replies_have_texts here now x r legal ready bounded_here are.0 run.0))
+    (changes_have_texts market next new xs rs (step_keeps_ready market now x r ready run.0)
+    (bounded_in here market next.history refl bounded_next) are.1 run.1)
 
 each_recorded : (changes : Changes) → AllByRecursion IsChange changes
     → AllZip IsRecordOf (records_of changes) changes
@@ -82,5 +85,5 @@ pub are_recorded : (start : Start) → CanBegin start.market start.standing
     (changes_from start asked replies)
 are_recorded start begins lines now asked replies asks run =
     each_recorded (changes_from start asked replies)
-    (changes_have_texts start.market begins.is_market start.standing now asked replies
+    (changes_have_texts start.market start.standing now asked replies
     begins.ready begins.bounded (lines_asked (filter is_not_blank lines) asked asks) run)

@@ -16,7 +16,7 @@ use Rattle.mk_file.specs.declared.fault.FileFault.TheVariants.{TooLong}
 use Rattle.mk_file.specs.File.{file_of, of_document, document_of}
 use Rattle.mk_session.specs.Texts.{head_of, fault_line}
 use Rattle.mk_rules.specs.Transcript.{Standing, opening}
-use Rattle.mk_market.specs.Trading.{Trading}
+use Rattle.mk_market.specs.Trading.{Trading, IsAt}
 use Rattle.mk_session.specs.Transcript.{Start, started, from_opening}
 use Rattle.mk_session.specs.Begins.{CanBegin}
 use Rattle.mk_session.specs.Outcome.{Adds, Ends, Serves, Refuses, NotOpened, Opened, IsTurnedAway}
@@ -116,18 +116,20 @@ turned_from status fault source mid left before after same turned = record {
 }
 
 -- where the head of a run was written, it has begun
-pub begun_at : (trading : Trading) (recovered : Option ℕ) (all line : List ℕ)
-    (source before written : Option (List ℕ)) → CanBegin trading.market trading.standing
+pub begun_at : (start : Market) (trading : Trading) (recovered : Option ℕ) (all line : List ℕ)
+    (source before written : Option (List ℕ)) → IsAt start trading
+    → CanBegin start trading.standing
     → source ≡ Some all → written ≡ append_known before line
-    → line ≡ head_of trading.market recovered
-    → IsBegun (started trading.market trading.standing recovered) trading all source before written
-begun_at trading recovered all line source before written begins told added is = record {
-  market = refl;
-  standing = refl;
-  begins = begins;
-  told = told;
-  headed = added ∙ ap (append_known before) is;
-}
+    → line ≡ head_of start recovered
+    → IsBegun (started start trading.standing recovered) trading all source before written
+begun_at start trading recovered all line source before written here begins told added is =
+    record {
+      market = here;
+      standing = refl;
+      begins = begins;
+      told = told;
+      headed = added ∙ ap (append_known before) is;
+    }
 
 -- whatever it leaves, a run serves
 serves_anyhow : (status : Status) (start : Start) (now : Standing) (all rest output : List ℕ)

@@ -11,7 +11,7 @@ use Rattle.std.proofs.Math.Seq.{take-append_seam}
 use Rattle.mk_io.specs.Stream.{StreamLine, text, long, is_not_blank}
 use Rattle.mk_journal.specs.Keepers.{Holds}
 use Rattle.mk_exact.specs.History.{Entry}
-use Rattle.mk_exact.specs.Market.{Market}
+use Rattle.mk_exact.specs.Market.{Market, present}
 use Rattle.mk_command.specs.declared.command.Command.{Command}
 use Rattle.mk_reply.specs.declared.reply.Reply.{Reply}
 use Rattle.mk_reply.specs.declared.reply.Reply.TheVariants.{Refused}
@@ -37,7 +37,8 @@ answered_when_spoken market old line new output busy spoken sound =
     subst (AreAnswered market old (line ∷ []) new) (sym spoken.printed)
     (subst (λ (then : Standing). AreAnswered market old (line ∷ []) then (reply_line spoken.reply))
     (sym spoken.next)
-    (one_answered market old (line ∷ []) (after market old spoken.asked spoken.reply) spoken.reply
+    (one_answered market old (line ∷ [])
+    (after (present market old.history) old spoken.asked spoken.reply) spoken.reply
     (one_replied market old line spoken.asked spoken.reply busy spoken.asks
     (spoken.allowed sound))))
 
@@ -45,11 +46,13 @@ pub one_spoken : (market : Market) (old : Standing) (line : StreamLine) (new : S
     (output : List ℕ) → is_not_blank line ≡ true
     → (spoken : IsSpoken market old line new output)
     → (P : List ℕ → List (List ℕ) → Type 0)
-    → P output (records_of (change_of market old.history spoken.asked spoken.reply))
+    → P output (records_of (change_of (present market old.history) old.history spoken.asked
+    spoken.reply))
     → AreSpoken market old (line ∷ []) new P
 one_spoken market old line new output busy spoken P holds =
     let one : filter is_not_blank (line ∷ []) ≡ line ∷ [] = rw busy refl in
-    let change : Changes = change_of market old.history spoken.asked spoken.reply in
+    let change : Changes =
+    change_of (present market old.history) old.history spoken.asked spoken.reply in
     let printed : output ≡ flat_map reply_line (spoken.reply ∷ []) =
     spoken.printed ∙ sym (flat_map-cons reply_line spoken.reply []
     ∙ append-nil (reply_line spoken.reply)) in

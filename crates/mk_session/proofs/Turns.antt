@@ -148,7 +148,7 @@ kept_now start cutting all source before written now waited old holds leaves lea
 
 -- a line that was answered: the run goes on behind it, or ends there
 pub kept_after : {T : Type 0} (said : Result T TellFault) (ended : Option Status)
-    (start : Start) (market : Market) (line : StreamLine) (old new kept : Cutting) (all : List ℕ)
+    (start : Start) (line : StreamLine) (old new kept : Cutting) (all : List ℕ)
     (source rest before written after : Option (List ℕ)) (now then : Standing)
     (waited waits : List ℕ) (base : List (List ℕ))
     → ended ≡ ended_by said → kept ≡ new
@@ -156,17 +156,16 @@ pub kept_after : {T : Type 0} (said : Result T TellFault) (ended : Option Status
     → GivesLine line old new (stream_left old source) (stream_left new rest)
     → (holds holds' : ℕ → List (List ℕ) → Type 0) (leaves : List (List ℕ) → ℕ → Type 0)
     → ((least : ℕ) (all : List (List ℕ)) → holds least all
-    → SpeaksAndTells said market now (line ∷ []) then written after waited waits least all holds'
-    leaves) → market ≡ start.market
+    → SpeaksAndTells said start.market now (line ∷ []) then written after waited waits least all
+    holds' leaves)
     → IsHeldSoFar start all old source now before written waited base holds
     → MatchOption ended (IsHeldSoFar start all kept rest then before after waits base holds')
     (λ end. IsLeft start all before after base leaves)
-kept_after said ended start market line old new kept all source rest before written after now then
-    waited waits base e same none limits gives holds holds' leaves tells here far =
+kept_after said ended start line old new kept all source rest before written after now then
+    waited waits base e same none limits gives holds holds' leaves tells far =
     subst (λ (o : Option Status). MatchOption o (IsHeldSoFar start all kept rest then before after
     waits base holds') (λ end. IsLeft start all before after base leaves)) (sym e)
-    (at said (λ least rs held. subst (λ (m : Market). SpeaksAndTells said m now (line ∷ []) then
-    written after waited waits least rs holds' leaves) here (tells least rs held)))
+    (at said tells)
   where
     leave : ((lines : List StreamLine)
         → AreHeld start lines now before written waited base holds

@@ -3,6 +3,7 @@ pub mod Passed
 pub mod Transcript
 pub mod Opening
 pub mod Outcome
+pub mod Priced
 pub mod Complete
 pub mod Begins
 pub mod Left

@@ -12,7 +12,7 @@ use Rattle.mk_exact.specs.Market.{Market}
 use Rattle.mk_file.specs.declared.fault.FileFault.{FileFault}
 use Rattle.mk_file.specs.File.{file_of}
 use Rattle.mk_rules.specs.Transcript.{Standing}
-use Rattle.mk_market.specs.Trading.{Trading}
+use Rattle.mk_market.specs.Trading.{Trading, IsAt}
 use Rattle.mk_session.specs.Texts.{fault_line}
 use Rattle.mk_session.specs.Complete.{AreWithin}
 use Rattle.mk_session.specs.Transcript.{Start, from_opening, Transcript}
@@ -140,12 +140,14 @@ abbrev pub IsRunTo : Market → Standing → List ℕ → Option (List ℕ) → 
 IsRunTo market after all source before written =
     IsRunFrom (from_opening market) after all source before written
 
--- a market is handed back behind a whole run: it is the file's, and stands as the replies that were
--- written leave it
+-- a market is handed back behind a whole run: it is the file's with what was added, and stands as
+-- the replies that were written leave it
 pub record IsHandedBack (back : Trading) (given : Result Market FileFault) (all : List ℕ)
     (source before written : Option (List ℕ)) : Type 0 where
-  pub accepted : given ≡ Ok back.market
-  pub run : IsRunTo back.market back.standing all source before written
+  pub market : Market
+  pub accepted : given ≡ Ok market
+  pub at : IsAt market back
+  pub run : IsRunTo market back.standing all source before written
 
 -- the run of a refused file, whatever is told of the commands, of which none is read: the file
 -- could not be read and nothing was written, or what was written is its one line

@@ -1,6 +1,6 @@
 -- The standings that a run passes through, and what holds of each.
 use Rattle.std.specs.Prelude.{List, [], ◌∷◌, All}
-use Rattle.mk_exact.specs.Market.{Market, network_of}
+use Rattle.mk_exact.specs.Market.{Market, present}
 use Rattle.mk_states.specs.Events.{always}
 use Rattle.mk_exact.specs.Weight.{possible_states}
 use Rattle.mk_exact.specs.Laws.{GainsAreBounded}
@@ -13,11 +13,11 @@ abbrev pub standings : Market → Standing → List Line → List Reply → List
 standings market now [] replies = now ∷ []
 standings market now (line ∷ lines) [] = now ∷ []
 standings market now (line ∷ lines) (reply ∷ replies) =
-    now ∷ standings market (after market now line reply) lines replies
+    now ∷ standings market (after (present market now.history) now line reply) lines replies
 
--- nobody can be bankrupt there, and in each possible state what all users together have gained is
--- bounded
+-- nobody can be bankrupt there, in the market with what was added so far, and in each possible state
+-- what all users together have gained is bounded
 pub record IsSafe (market : Market) (now : Standing) : Type 0 where
-  pub stands : Stands market now.history
-  pub bounded : All (GainsAreBounded (network_of market now.history) now.history)
-      (possible_states (network_of market now.history) now.history always)
+  pub stands : Stands (present market now.history) now.history
+  pub bounded : All (GainsAreBounded (present market now.history).network now.history)
+      (possible_states (present market now.history).network now.history always)

@@ -3,7 +3,7 @@ use Rattle.std.specs.Prelude.{◌≡◌, ◌≢◌, ℕ, List, ◌++◌, filter,
 use Rattle.std.specs.List.{flat_map, AllZip}
 use Rattle.mk_io.specs.Stream.{StreamLine, text, long, is_not_blank}
 use Rattle.mk_exact.specs.History.{Entry, revision}
-use Rattle.mk_exact.specs.Market.{Market}
+use Rattle.mk_exact.specs.Market.{Market, present}
 use Rattle.mk_command.specs.declared.command.Command.{Command}
 use Rattle.mk_command.specs.Commands.{IsCommand, command_text}
 use Rattle.mk_reply.specs.declared.reply.Reply.{Reply}
@@ -68,7 +68,7 @@ pub record IsAllowedRun (start : Start) (lines : List StreamLine) (after : Stand
   pub replied : AreReplied start.market start.standing lines after replies
   pub safe : All (IsSafe start.market)
       (standings start.market start.standing replied.asked replies)
-  pub settled : All (PaysWithin start.market after.history) replies
+  pub settled : All (PaysWithin (present start.market after.history) after.history) replies
 
 -- what is written before the first reply, and one line for each reply of such a run
 pub record Transcript (start : Start) (lines : List StreamLine) (output : List ℕ) : Type 0 where

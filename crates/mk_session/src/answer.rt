@@ -11,13 +11,15 @@ ghost use Rattle.mk_io.specs.Cutting.{fresh, GoesOn};
 ghost use Rattle.mk_session.specs.Texts.{head_of, reply_line};
 ghost use Rattle.mk_exact.specs.Market.{Market};
 ghost use Rattle.mk_rules.specs.Transcript.{Standing};
+ghost use Rattle.mk_market.specs.Trading.{IsAt};
 ghost use Rattle.mk_command.specs.Commands.{command_of};
 ghost use Rattle.mk_session.specs.Transcript.{Start, started, AreReplied, AreAnswered};
 ghost use Rattle.mk_session.specs.Begins.{CanBegin};
 ghost use Rattle.mk_session.specs.Outcome.{IsServed, IsRunFrom, HasKeepCauses, EndsRun};
+ghost use Rattle.mk_session.specs.Priced.{IsPriced};
 ghost use Rattle.mk_session.specs.Left.{LeavesSince, IsLeft};
 ghost use Rattle.mk_session.specs.inner.Progress.{Gathers, AreGathered, IsReady, IsSoFar};
-ghost use Rattle.mk_session.specs.inner.Progress.{IsBegun, IsEnded, IsSoundAt, IsPrinted, IsPriced};
+ghost use Rattle.mk_session.specs.inner.Progress.{IsBegun, IsEnded, IsSoundAt, IsPrinted};
 ghost use Rattle.mk_session.specs.inner.Telling.{HasTellCause, CountsNoFault, ended_by};
 ghost use Rattle.mk_session.specs.inner.Keeping.{IsSpoken, AreSpoken, Tells, SpeaksAndTells};
 ghost use Rattle.mk_session.specs.inner.Keeping.{HoldsSince, IsHeldSoFar};
@@ -48,9 +50,10 @@ pub(crate) fn reply_to(
     words: &mut Words,
 ) -> Reply
     requires { list_all (λ b. b == 32) line.now ≡ false }
-    ensures market { market.new.market ≡ market.old.market }
-    ensures replied { IsSoundAt market.old.market market.old.standing →
-        AreReplied market.old.market market.old.standing (text line.now ∷ [])
+    ensures market { (start : Market) → IsAt start market.old → IsAt start market.new }
+    ensures replied { (start : Market) → IsAt start market.old →
+        IsSoundAt start market.old.standing →
+        AreReplied start market.old.standing (text line.now ∷ [])
         market.new.standing (result ∷ []) }
 {
     match read_command(line, words) {
@@ -71,9 +74,10 @@ fn print_answer(
     print: &mut LineBuffer,
 )
     requires { list_all (λ b. b == 32) line.now ≡ false }
-    ensures market { market.new.market ≡ market.old.market }
-    ensures spoken { IsSpoken market.old.market market.old.standing (text line.now)
-        market.new.standing print.new.bytes }
+    ensures market { (start : Market) → IsAt start market.old → IsAt start market.new }
+    ensures spoken { (start : Market) → IsAt start market.old →
+        IsSpoken start market.old.standing (text line.now) market.new.standing print.new.bytes }
+    ensures some { 1 ≤ length print.new.bytes }
 {
     match read_command(line, words) {
         Err(_) => print_reply_line(
@@ -167,19 +171,21 @@ pub fn serve_from<D, J: Keeper<D> + Drop, I: Inputs, S: Sink>(
 ) -> Status
     requires ready { (n : ℕ) × (n + max_stream_lines + 1 < 2 ^ 40)
         × J.is_ready keeping.keeper disk.old n }
-    ensures market { market.new.market ≡ market.old.market }
-    ensures served { (all : List ℕ) → I.commands inputs.old ≡ Some all →
-        CanBegin market.old.market market.old.standing →
-        IsServed result (started market.old.market market.old.standing keeping.recovered) all
+    ensures market { (start : Market) → IsAt start market.old → IsAt start market.new }
+    ensures served { (start : Market) (all : List ℕ) → IsAt start market.old →
+        I.commands inputs.old ≡ Some all → CanBegin start market.old.standing →
+        IsServed result (started start market.old.standing keeping.recovered) all
         (I.commands inputs.new) (S.written out.old) (S.written out.new) }
-    ensures done { result ≡ Status.Done → (all : List ℕ) → I.commands inputs.old ≡ Some all →
-        CanBegin market.old.market market.old.standing →
-        IsRunFrom (started market.old.market market.old.standing keeping.recovered)
+    ensures done { result ≡ Status.Done → (start : Market) (all : List ℕ) →
+        IsAt start market.old → I.commands inputs.old ≡ Some all →
+        CanBegin start market.old.standing →
+        IsRunFrom (started start market.old.standing keeping.recovered)
         market.new.standing all (I.commands inputs.new) (S.written out.old) (S.written out.new) }
-    ensures left { (all name bytes : List ℕ) (kept : List (List ℕ)) →
-        I.commands inputs.old ≡ Some all → CanBegin market.old.market market.old.standing →
+    ensures left { (start : Market) (all name bytes : List ℕ) (kept : List (List ℕ)) →
+        IsAt start market.old → I.commands inputs.old ≡ Some all →
+        CanBegin start market.old.standing →
         J.holds keeping.keeper disk.old name bytes kept [] →
-        IsLeft (started market.old.market market.old.standing keeping.recovered) all
+        IsLeft (started start market.old.standing keeping.recovered) all
         (S.written out.old) (S.written out.new) kept
         (LeavesSince (J.leaves disk.new name bytes) (J.passes disk.old disk.new name bytes)
         (length kept)) }
@@ -244,7 +250,7 @@ impl<J> Conversation<J> {
         requires none_waits { self.old.waiting.bytes ≡ [] }
         requires ready { (n : ℕ) × (n + max_stream_lines + 1 < 2 ^ 40)
             × J.is_ready self.old.keeper disk.old n }
-        ensures market { market.new.market ≡ market.old.market }
+        ensures market { (start : Market) → IsAt start market.old → IsAt start market.new }
         ensures ended { (start : Start) (all : List ℕ) (before : Option (List ℕ)) →
             IsBegun start market.old all (I.commands inputs.old) before (S.written out.old) →
             IsEnded result start market.new.standing all (I.commands inputs.new) before
@@ -282,26 +288,26 @@ impl<J> Conversation<J> {
         J: Keeper<D>,
         requires goes_on { GoesOn self.old.lines.last }
         requires ready { (n : ℕ) × (n + 1 < 2 ^ 40) × J.is_ready self.old.keeper disk.old n }
-        ensures market { market.new.market ≡ market.old.market }
+        ensures market { (start : Market) → IsAt start market.old → IsAt start market.new }
         ensures goes_on { IfNone result (GoesOn self.new.lines.last) }
         ensures counts { IfNone result (self.new.lines.given ≡ self.old.lines.given + 1) }
         ensures within { IfNone result (self.new.lines.given ≤ max_stream_lines) }
         ensures ready { (n : ℕ) → n + 1 < 2 ^ 40 → J.is_ready self.old.keeper disk.old n →
             IfNone result (J.is_ready self.new.keeper disk.new (n + 1)) }
         ensures so_far { IfNone result ((start : Start) (all : List ℕ) (before : Option (List ℕ)) →
-            market.old.market ≡ start.market →
+            IsAt start.market market.old →
             IsSoFar start all self.old.lines (I.commands inputs.old)
             market.old.standing before (S.written out.old) self.old.waiting.bytes →
             IsSoFar start all self.new.lines (I.commands inputs.new)
             market.new.standing before (S.written out.new) self.new.waiting.bytes) }
         ensures ended { IfSome result (λ end. (start : Start) (all : List ℕ)
-            (before : Option (List ℕ)) → market.old.market ≡ start.market →
+            (before : Option (List ℕ)) → IsAt start.market market.old →
             IsSoFar start all self.old.lines (I.commands inputs.old)
             market.old.standing before (S.written out.old) self.old.waiting.bytes →
             IsEnded end start market.new.standing all (I.commands inputs.new) before
             (S.written out.new)) }
         ensures kept { (start : Start) (begun : D) (name bytes all : List ℕ)
-            (before : Option (List ℕ)) (kept : List (List ℕ)) → market.old.market ≡ start.market →
+            (before : Option (List ℕ)) (kept : List (List ℕ)) → IsAt start.market market.old →
             IsHeldSoFar start all self.old.lines (I.commands inputs.old)
             market.old.standing before (S.written out.old) self.old.waiting.bytes
             kept (HoldsSince (J.holds self.old.keeper disk.old name bytes)
@@ -344,26 +350,26 @@ impl<J> Conversation<J> {
         requires goes_on { GoesOn self.old.lines.last }
         requires none_waits { IsReady self.old.lines self.old.waiting.bytes }
         requires ready { (n : ℕ) × (n + 1 < 2 ^ 40) × J.is_ready self.old.keeper disk.old n }
-        ensures market { market.new.market ≡ market.old.market }
+        ensures market { (start : Market) → IsAt start market.old → IsAt start market.new }
         ensures goes_on { IfNone result (GoesOn self.new.lines.last) }
         ensures counts { IfNone result (self.new.lines.given ≡ self.old.lines.given + 1) }
         ensures within { IfNone result (self.new.lines.given ≤ max_stream_lines) }
         ensures ready { (n : ℕ) → n + 1 < 2 ^ 40 → J.is_ready self.old.keeper disk.old n →
             IfNone result (J.is_ready self.new.keeper disk.new (n + 1)) }
         ensures so_far { IfNone result ((start : Start) (all : List ℕ) (before : Option (List ℕ)) →
-            market.old.market ≡ start.market →
+            IsAt start.market market.old →
             IsSoFar start all self.old.lines (I.commands inputs.old)
             market.old.standing before (S.written out.old) self.old.waiting.bytes →
             IsSoFar start all self.new.lines (I.commands inputs.new)
             market.new.standing before (S.written out.new) self.new.waiting.bytes) }
         ensures ended { IfSome result (λ end. (start : Start) (all : List ℕ)
-            (before : Option (List ℕ)) → market.old.market ≡ start.market →
+            (before : Option (List ℕ)) → IsAt start.market market.old →
             IsSoFar start all self.old.lines (I.commands inputs.old)
             market.old.standing before (S.written out.old) self.old.waiting.bytes →
             IsEnded end start market.new.standing all (I.commands inputs.new) before
             (S.written out.new)) }
         ensures kept { (start : Start) (begun : D) (name bytes all : List ℕ)
-            (before : Option (List ℕ)) (kept : List (List ℕ)) → market.old.market ≡ start.market →
+            (before : Option (List ℕ)) (kept : List (List ℕ)) → IsAt start.market market.old →
             IsHeldSoFar start all self.old.lines (I.commands inputs.old)
             market.old.standing before (S.written out.old) self.old.waiting.bytes
             kept (HoldsSince (J.holds self.old.keeper disk.old name bytes)
@@ -405,21 +411,23 @@ impl<J> Conversation<J> {
         J: Keeper<D>,
         requires short { length self.old.lines.line ≤ max_line_bytes }
         requires ready { (n : ℕ) × (n + 1 < 2 ^ 40) × J.is_ready self.old.keeper disk.old n }
-        ensures market { market.new.market ≡ market.old.market }
+        ensures market { (start : Market) → IsAt start market.old → IsAt start market.new }
         ensures lines { self.new.lines ≡ self.old.lines }
         ensures ready { (n : ℕ) → n + 1 < 2 ^ 40 → J.is_ready self.old.keeper disk.old n →
             OnOk result (J.is_ready self.new.keeper disk.new (n + 1)) }
         ensures cause { HasTellCause result (J.faults disk.old) (J.faults disk.new)
             (S.faults out.old) (S.faults out.new) }
-        ensures answered { OnOk result (AreGathered market.old.market market.old.standing
+        ensures answered { (start : Market) → IsAt start market.old →
+            OnOk result (AreGathered start market.old.standing
             (text self.old.lines.line ∷ []) market.new.standing
             (S.written out.old) (S.written out.new) self.old.waiting.bytes self.new.waiting.bytes) }
         ensures front { OnErr result
             (AddsFront (S.written out.old) (S.written out.new) self.old.waiting.bytes) }
-        ensures tells { (begun : D) (name bytes : List ℕ) (first least : ℕ)
+        ensures tells { (start : Market) → IsAt start market.old →
+            (begun : D) (name bytes : List ℕ) (first least : ℕ)
             (all : List (List ℕ)) → HoldsSince (J.holds self.old.keeper disk.old name bytes)
             (J.passes begun disk.old name bytes) first least all →
-            SpeaksAndTells result market.old.market market.old.standing
+            SpeaksAndTells result start market.old.standing
             (text self.old.lines.line ∷ []) market.new.standing (S.written out.old)
             (S.written out.new) self.old.waiting.bytes self.new.waiting.bytes least all
             (HoldsSince (J.holds self.new.keeper disk.new name bytes)
@@ -452,19 +460,21 @@ impl<J> Conversation<J> {
         requires busy { list_all (λ b. b == 32) self.old.lines.line ≡ false }
         requires short { length self.old.lines.line ≤ max_line_bytes }
         requires ready { (n : ℕ) × (n < 2 ^ 40) × J.is_ready self.old.keeper disk.old n }
-        ensures market { market.new.market ≡ market.old.market }
+        ensures market { (start : Market) → IsAt start market.old → IsAt start market.new }
         ensures lines { self.new.lines ≡ self.old.lines }
         ensures waiting { self.new.waiting ≡ self.old.waiting }
         ensures ready { (n : ℕ) → n < 2 ^ 40 → J.is_ready self.old.keeper disk.old n →
             OnOk result (J.is_ready self.new.keeper disk.new (n + 1)) }
         ensures cause { HasCause (J.faults disk.old) (J.faults disk.new) result }
-        ensures answered { IsSoundAt market.old.market market.old.standing →
-            AreAnswered market.old.market market.old.standing (text self.old.lines.line ∷ [])
+        ensures answered { (start : Market) → IsAt start market.old →
+            IsSoundAt start market.old.standing →
+            AreAnswered start market.old.standing (text self.old.lines.line ∷ [])
             market.new.standing self.new.line.bytes }
-        ensures spoken { (begun : D) (name bytes : List ℕ) (first least : ℕ)
+        ensures spoken { (start : Market) → IsAt start market.old →
+            (begun : D) (name bytes : List ℕ) (first least : ℕ)
             (all : List (List ℕ)) → HoldsSince (J.holds self.old.keeper disk.old name bytes)
             (J.passes begun disk.old name bytes) first least all →
-            AreSpoken market.old.market market.old.standing (text self.old.lines.line ∷ [])
+            AreSpoken start market.old.standing (text self.old.lines.line ∷ [])
             market.new.standing (λ output records. (self.new.line.bytes ≡ output) ×
             MatchResult result
             (λ _. HoldsSince (J.holds self.new.keeper disk.new name bytes)

@@ -10,6 +10,7 @@ ghost use Rattle.mk_file.specs.MarketOf.{market_of};
 ghost use Rattle.mk_exact.specs.Market.{Market};
 ghost use Rattle.mk_rules.specs.Standings.{IsMarket};
 ghost use Rattle.mk_rules.specs.Transcript.{Standing, opening};
+ghost use Rattle.mk_market.specs.Trading.{IsAt};
 ghost use Rattle.mk_session.specs.Tally.{TallyEnds};
 ghost use Rattle.mk_session.specs.inner.Counting.{is_want, IsWithin, HasRoom, CountsLine};
 ghost use Rattle.mk_session.specs.inner.Counting.{IsCountedSoFar, counted_as};
@@ -112,20 +113,18 @@ fn take_count(
 ) -> Option<Result<(), TallyFault>>
     requires goes_on { GoesOn lines.old.last }
     requires fits { IsWithin lines.old.given tally.old }
-    ensures market { market.new.market ≡ market.old.market }
+    ensures market { (start : Market) → IsAt start market.old → IsAt start market.new }
     ensures goes_on { IfNone result (GoesOn lines.new.last) }
     ensures counts { IfNone result (lines.new.given ≡ lines.old.given + 1) }
     ensures within { lines.new.given ≤ max_stream_lines }
     ensures fits { IfNone result (IsWithin lines.new.given tally.new) }
-    ensures so_far { IfNone result ((all : List ℕ) →
-        IsCountedSoFar market.old.market all lines.old inputs.old.commands market.old.standing
-        tally.old →
-        IsCountedSoFar market.old.market all lines.new inputs.new.commands market.new.standing
-        tally.new) }
-    ensures ended { IfSome result (λ end. (all : List ℕ) →
-        IsCountedSoFar market.old.market all lines.old inputs.old.commands market.old.standing
-        tally.old →
-        TallyEnds (counted_as end tally.new) (Ok market.old.market) all) }
+    ensures so_far { IfNone result ((start : Market) (all : List ℕ) → IsAt start market.old →
+        IsCountedSoFar start all lines.old inputs.old.commands market.old.standing tally.old →
+        IsCountedSoFar start all lines.new inputs.new.commands market.new.standing tally.new) }
+    ensures ended { IfSome result (λ end. (start : Market) (all : List ℕ) →
+        IsAt start market.old →
+        IsCountedSoFar start all lines.old inputs.old.commands market.old.standing tally.old →
+        TallyEnds (counted_as end tally.new) (Ok start) all) }
 {
     match lines.next(inputs) {
         Next::Line => end_where_short(count_text(alloc, market, lines.line(), tally)),
@@ -160,9 +159,10 @@ fn count_text(
     tally: &mut Tally,
 ) -> Result<(), NoMemory>
     requires room { HasRoom max_stream_lines tally.old }
-    ensures market { market.new.market ≡ market.old.market }
+    ensures market { (start : Market) → IsAt start market.old → IsAt start market.new }
     ensures fits { IsWithin (tally.old.replies + 1) tally.new }
-    ensures counted { OnOk result (CountsLine market.old.market market.old.standing (text line.now)
+    ensures counted { (start : Market) → IsAt start market.old →
+        OnOk result (CountsLine start market.old.standing (text line.now)
         market.new.standing tally.old tally.new) }
 {
     if is_blank(line) {

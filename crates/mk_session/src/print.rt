@@ -1,9 +1,11 @@
 //! The lines of the output: the text of each stands in a buffer of fixed size, and its LF is put
 //! behind.
 
-ghost use Rattle.std.specs.Prelude.{◌≡◌, ◌≢◌, ◌≤◌, ◌++◌};
+ghost use Rattle.std.specs.Prelude.{◌≡◌, ◌≢◌, ◌≤◌, ◌++◌, length};
 ghost use Rattle.arrayvec.specs.ArrayString.{array_string_len};
 ghost use Rattle.mk_file.specs.declared.fault.FileFault.TheVariants.{Memory};
+ghost use Rattle.mk_exact.specs.Market.{Market};
+ghost use Rattle.mk_market.specs.Trading.{IsAt};
 ghost use Rattle.mk_session.specs.Texts.{head_of, ready_line, resumed_line};
 ghost use Rattle.mk_session.specs.Texts.{reply_line, fault_line};
 
@@ -17,9 +19,10 @@ use mk_text::put_number;
 pub type LineBuffer = ArrayString<32768>;
 
 /// Puts what a run writes before its first reply into `line`, in place of what it held: the ready
-/// line of its market, and how many changes a store gave back, where one did.
+/// line of its file's market, and how many changes a store gave back, where one did.
 pub fn print_head(market: &TreeMarket, recovered: Option<u64>, line: &mut ArrayString<32768>)
-    ensures { line.new.bytes ≡ head_of market.now.market recovered }
+    ensures { (start : Market) → IsAt start market.now →
+        line.new.bytes ≡ head_of start recovered }
 {
     print_ready(market, line);
     if let Some(revision) = recovered {
@@ -27,17 +30,28 @@ pub fn print_head(market: &TreeMarket, recovered: Option<u64>, line: &mut ArrayS
     }
 }
 
-/// Puts the first line of a run of this market into `line`, in place of what it held.
+/// Puts the first line of a run of this market into `line`, in place of what it held. It tells what
+/// the file has, also where a store gave added questions back.
 fn print_ready(market: &TreeMarket, line: &mut ArrayString<32768>)
-    ensures bytes { line.new.bytes ≡ ready_line market.now.market }
+    ensures bytes { (start : Market) → IsAt start market.now →
+        line.new.bytes ≡ ready_line start }
     ensures short { array_string_len line.new ≤ 128 }
 {
     line.clear();
     line.push_str("ready ");
-    put_number(line, market.variables() as u64);
+    put_number(line, file_variables(market) as u64);
     line.push_str(" ");
     put_number(line, market.points_per_bit() as u64);
     line.push_str("\n");
+}
+
+/// How many variables the file of a market has: those that were not added.
+fn file_variables(market: &TreeMarket) -> u32
+    ensures { (start : Market) → IsAt start market.now → result ≡ length start.network }
+{
+    // Tells the proof that some question was not added.
+    let _ = market.history();
+    market.variables() - market.added()
 }
 
 /// Puts the number of changes that a store gave back behind the ready line.

@@ -9,6 +9,7 @@ ghost use Rattle.mk_file.specs.MarketOf.{market_of};
 ghost use Rattle.mk_exact.specs.Market.{Market};
 ghost use Rattle.mk_rules.specs.Standings.{IsMarket};
 ghost use Rattle.mk_rules.specs.Transcript.{opening};
+ghost use Rattle.mk_market.specs.Trading.{IsAt};
 ghost use Rattle.mk_file.specs.declared.fault.FileFault.{FileFault};
 ghost use Rattle.mk_session.specs.Outcome.{Adds, Ends, Opened, Outcome, IsTurnedAway, HasCauses};
 ghost use Rattle.mk_session.specs.Outcome.{Refuses, IsRunTo, IsHandedBack, status_of};
@@ -255,7 +256,11 @@ fn answer_file<I: Inputs, S: Sink>(
     match open(alloc, file) {
         Err(_) => Err(Status::Memory),
         Ok(mut market) => match answer_market(alloc, &mut market, inputs, out) {
-            Status::Done => Ok(market),
+            Status::Done => {
+                // Tells the proof that what was added left a market.
+                let _ = market.history();
+                Ok(market)
+            }
             status => {
                 // The process ends next, also where the ready line could not be written.
                 mem::forget(market);
@@ -280,7 +285,7 @@ fn answer_market<I: Inputs, S: Sink>(
     ensures done { result ≡ Status.Done → (all : List ℕ) → I.commands inputs.old ≡ Some all →
         IsHandedBack market.new (Ok market.old.market) all (I.commands inputs.new)
         (S.written out.old) (S.written out.new) }
-    ensures same { market.new.market ≡ market.old.market }
+    ensures market { (start : Market) → IsAt start market.old → IsAt start market.new }
     ensures opened { I.market inputs.new ≡ I.market inputs.old }
     ensures causes { HasCauses result (I.faults inputs.old) (I.faults inputs.new)
         (S.faults out.old) (S.faults out.new) }

@@ -1,5 +1,6 @@
--- How far the count of a run's replies has come.
-use Rattle.std.specs.Prelude.{◌≡◌, ℕ, ◌<◌, ◌≤◌, List, [], ◌∷◌, ◌++◌, Some, None, Result, Ok, Err}
+-- How far the count of a run's replies has come. A market that is named beside a standing is the
+-- file's.
+use Rattle.std.specs.Prelude.{ℕ, ◌<◌, ◌≤◌, List, [], ◌∷◌, ◌++◌, Some, None, Result, Ok, Err}
 use Rattle.std.specs.Prelude.{All, Bool, true, false}
 use Rattle.mk_io.specs.Stream.{StreamLine}
 use Rattle.mk_io.specs.Cutting.{Cutting, GoesOn}
@@ -9,6 +10,7 @@ use Rattle.mk_reply.specs.declared.reply.Reply.{Reply}
 use Rattle.mk_reply.specs.declared.reply.Reply.TheVariants.{Refused}
 use Rattle.mk_rules.specs.Transcript.{Standing, opening}
 use Rattle.mk_rules.specs.Standings.{IsMarket}
+use Rattle.mk_market.specs.Trading.{Trading, IsAt}
 use Rattle.mk_session.specs.declared.counts.Tally.{Tally}
 use Rattle.mk_session.specs.declared.counts.TallyFault.{TallyFault}
 use Rattle.mk_session.specs.Transcript.{AreReplied}
@@ -63,11 +65,11 @@ abbrev pub is_want : Reply → Bool
 is_want (Refused OutOfMemory) = true
 is_want _ = false
 
--- between two lines: the market is the same, the lines go on, the counts are within the lines that
--- were given, and the count is so far
-pub record IsCounting (start market : Market) (all : List ℕ) (lines : Cutting) (source : List ℕ)
-    (now : Standing) (tally : Tally) : Type 0 where
-  pub same : market ≡ start
+-- between two lines: the market is the file's with what was added, the lines go on, the counts are
+-- within the lines that were given, and the count is so far
+pub record IsCounting (start : Market) (trading : Trading) (all : List ℕ) (lines : Cutting)
+    (source : List ℕ) (tally : Tally) : Type 0 where
+  pub market : IsAt start trading
   pub goes_on : GoesOn lines.last
   pub fits : IsWithin lines.given tally
-  pub far : IsCountedSoFar start all lines source now tally
+  pub far : IsCountedSoFar start all lines source trading.standing tally

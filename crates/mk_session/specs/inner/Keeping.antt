@@ -1,4 +1,5 @@
--- What of the changes of a run is kept before its replies are written, and what a crash leaves.
+-- What of the changes of a run is kept before its replies are written, and what a crash leaves. A
+-- market that is named beside a standing is the file's.
 use Rattle.std.specs.Prelude.{◌≡◌, ℕ, ◌≤◌, List, ◌++◌, length, filter}
 use Rattle.std.specs.Prelude.{Option, Result, Ok, Err, ◌⊎◌}
 use Rattle.std.specs.List.{flat_map, AllZip}
@@ -6,7 +7,7 @@ use Rattle.mk_io.specs.Outside.{append_known, AddsFront}
 use Rattle.mk_io.specs.Stream.{StreamLine, is_not_blank}
 use Rattle.mk_io.specs.Cutting.{Cutting}
 use Rattle.mk_journal.specs.Keepers.{Holds}
-use Rattle.mk_exact.specs.Market.{Market}
+use Rattle.mk_exact.specs.Market.{Market, present}
 use Rattle.mk_reply.specs.declared.reply.Reply.{Reply}
 use Rattle.mk_rules.specs.Transcript.{Standing, Line, IsAllowedFor, after, Run}
 use Rattle.mk_restore.specs.Restoring.{changes_of}
@@ -25,8 +26,8 @@ pub record IsSpoken (market : Market) (old : Standing) (line : StreamLine) (new 
   pub asked : Line
   pub reply : Reply
   pub asks : Asks line asked
-  pub allowed : IsSoundAt market old → IsAllowedFor market old asked reply
-  pub next : new ≡ after market old asked reply
+  pub allowed : IsSoundAt market old → IsAllowedFor (present market old.history) old asked reply
+  pub next : new ≡ after (present market old.history) old asked reply
   pub printed : output ≡ reply_line reply
 
 -- some lines got replies, which are allowed once the history before them is sound; P holds of the

@@ -1,4 +1,5 @@
--- How far a run has come: what each line leaves, and what stands between two lines.
+-- How far a run has come: what each line leaves, and what stands between two lines. A market that
+-- is named beside a standing is the file's.
 use Rattle.std.specs.Prelude.{◌≡◌, ℕ, List, [], ◌++◌, length, Option, Some, None, ◌⊎◌}
 use Rattle.mk_io.specs.declared.status.Status.{Status}
 use Rattle.mk_io.specs.declared.status.Status.TheVariants.{Done}
@@ -6,15 +7,12 @@ use Rattle.mk_io.specs.declared.lines.Next.{Next}
 use Rattle.mk_io.specs.Outside.{append_known}
 use Rattle.mk_io.specs.Stream.{StreamLine, stream_lines, AreWholeLines}
 use Rattle.mk_io.specs.Cutting.{Cutting, HoldsLine, stream_left}
-use Rattle.mk_exact.specs.Market.{Market, network_of}
+use Rattle.mk_exact.specs.Market.{Market, present}
 use Rattle.mk_exact.specs.Sound.{IsSound}
 use Rattle.mk_rules.specs.Transcript.{Standing}
-use Rattle.mk_net.specs.declared.words.QuestionText.{QuestionText}
 use Rattle.mk_command.specs.declared.command.Command.{Command}
-use Rattle.mk_command.specs.declared.command.Command.TheVariants.{Price}
 use Rattle.mk_reply.specs.declared.reply.Reply.{Reply}
-use Rattle.mk_reply.specs.declared.reply.Reply.TheVariants.{Price as Priced}
-use Rattle.mk_market.specs.Trading.{Trading, IsAnswered}
+use Rattle.mk_market.specs.Trading.{Trading, IsAt, IsAnswered}
 use Rattle.mk_session.specs.Texts.{reply_line}
 use Rattle.mk_session.specs.Transcript.{Start, AreAnswered}
 use Rattle.mk_session.specs.Begins.{CanBegin}
@@ -28,24 +26,15 @@ pub record Gathers (before after : Option (List ℕ)) (waited bytes waits : List
   pub added : after ≡ append_known before gone
   pub parts : waited ++ bytes ≡ gone ++ waits
 
--- the history of a standing is sound
+-- the history of a standing is sound in the market with what was added so far
 abbrev pub IsSoundAt : Market → Standing → Type 0
-IsSoundAt market now = IsSound (network_of market now.history) now.history
+IsSoundAt market now = IsSound (present market now.history).network now.history
 
 -- a market answered a command by a reply, whose line this is
 pub record IsPrinted (old new : Trading) (command : Command) (line : List ℕ) : Type 0 where
   pub reply : Reply
   pub answered : IsAnswered old new command reply
   pub printed : line ≡ reply_line reply
-
--- a market told the price of a question, and this is the line
-pub record IsPriced (old new : Trading) (command : Command) (line : List ℕ) : Type 0 where
-  pub question : QuestionText
-  pub low : ℕ
-  pub high : ℕ
-  pub asked : command ≡ Price question
-  pub answered : IsAnswered old new (Price question) (Priced low high)
-  pub printed : line ≡ reply_line (Priced low high)
 
 -- some lines are answered, once the history before them is sound, and their answers are written or
 -- wait
@@ -101,7 +90,7 @@ IsSoFar start all cutting source now before written waits =
 -- written
 pub record IsBegun (start : Start) (trading : Trading) (all : List ℕ)
     (source before written : Option (List ℕ)) : Type 0 where
-  pub market : trading.market ≡ start.market
+  pub market : IsAt start.market trading
   pub standing : trading.standing ≡ start.standing
   pub begins : CanBegin start.market start.standing
   pub told : source ≡ Some all

@@ -1,6 +1,5 @@
 use Rattle.std.proofs.Common.{sym, subst}
 use Rattle.mk_command.specs.declared.command.Command.{Command}
-use Rattle.mk_command.specs.Commands.{command_of}
 use Rattle.mk_reply.specs.declared.reply.Reply.TheVariants.{Price}
 use Rattle.mk_market.specs.Trading.{IsAnswered}
 use Rattle.mk_session.proofs.answer.print_answer_to.Goals as goal

@@ -4,8 +4,8 @@ use Rattle.mk_session.specs.inner.Counting.{IsCounting}
 use Rattle.mk_session.proofs.counting.count_replies.Given as goal
 
 abbrev pub invariant-loop-ended : goal.invariant-loop-ended
-invariant-loop-ended l = IsCounting l.fn.market.market l.market.market l.fn.commands.items l.lines
-    l.inputs.commands l.market.standing l.tally
+invariant-loop-ended l = IsCounting l.fn.market.market l.market l.fn.commands.items l.lines
+    l.inputs.commands l.tally
 
 abbrev pub decreases-loop-ended : goal.decreases-loop-ended
 decreases-loop-ended l = max_stream_lines - l.lines.given

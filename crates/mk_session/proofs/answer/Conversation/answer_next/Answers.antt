@@ -1,5 +1,6 @@
 use Rattle.std.proofs.Common.{refl, length}
 use Rattle.mk_io.specs.Stream.{text, long}
+use Rattle.mk_market.specs.Trading.{IsAt}
 use Rattle.mk_io.specs.declared.lines.Next.TheVariants.{Line, Long, End, ReadFault, TooMany}
 use Rattle.mk_session.proofs.Endings.{ended_done, ended_read_fault, ended_too_many, goes_on_after}
 use Rattle.mk_session.proofs.Endings.{breaks_after, causes_after, fresh_answer, none_stays}
@@ -19,7 +20,8 @@ returns-in-Line-clause-so_far g c =
     let gives = fresh_answer Line c.args.self.now.lines c.next.new.self
     (g.I.Inputs.commands c.args.inputs.now) (g.I.Inputs.commands c.next.new.inputs) none
     c.in-Line.ensures.answer in
-    goes_on_after c.answer_text.result c.end_after.result c.args.market.now.market
+    goes_on_after c.answer_text.result c.end_after.result
+    (λ start. IsAt start c.args.market.now)
     (text c.next.new.self.line) c.args.self.now.lines c.next.new.self
     c.answer_text.new.self.lines
     (g.I.Inputs.commands c.args.inputs.now) (g.I.Inputs.commands c.next.new.inputs)
@@ -36,7 +38,8 @@ returns-in-Line-clause-ended g c =
     let gives = fresh_answer Line c.args.self.now.lines c.next.new.self
     (g.I.Inputs.commands c.args.inputs.now) (g.I.Inputs.commands c.next.new.inputs) none
     c.in-Line.ensures.answer in
-    breaks_after c.answer_text.result c.end_after.result c.args.market.now.market
+    breaks_after c.answer_text.result c.end_after.result
+    (λ start. IsAt start c.args.market.now)
     (text c.next.new.self.line) c.args.self.now.lines c.next.new.self
     (g.I.Inputs.commands c.args.inputs.now) (g.I.Inputs.commands c.next.new.inputs)
     c.args.market.now.standing c.answer_text.new.market.standing
@@ -61,14 +64,15 @@ returns-in-Long-clause-so_far g c =
     let gives = fresh_answer Long c.args.self.now.lines c.next.new.self
     (g.I.Inputs.commands c.args.inputs.now) (g.I.Inputs.commands c.next.new.inputs) none
     c.in-Long.ensures.answer in
-    goes_on_after c.answer_long.result c.end_after-in-Long.result c.args.market.now.market long
+    goes_on_after c.answer_long.result c.end_after-in-Long.result
+    (λ start. IsAt start c.args.market.now) long
     c.args.self.now.lines c.next.new.self c.answer_long.new.self.lines
     (g.I.Inputs.commands c.args.inputs.now) (g.I.Inputs.commands c.next.new.inputs)
     c.args.market.now.standing c.args.market.now.standing
     (g.S.Sink.written c.args.out.now) (g.S.Sink.written c.answer_long.new.out)
     c.args.self.now.waiting.bytes c.answer_long.new.self.waiting.bytes
     c.end_after-in-Long.ensures c.answer_long.ensures.lines none c.next.ensures.within gives.0
-    (c.answer_long.ensures.answered c.args.market.now.market c.args.market.now.standing)
+    (λ file here. c.answer_long.ensures.answered file c.args.market.now.standing)
 
 pub returns-in-Long-clause-ended : goal.returns-in-Long-clause-ended
 returns-in-Long-clause-ended g c =
@@ -78,7 +82,8 @@ returns-in-Long-clause-ended g c =
     let gives = fresh_answer Long c.args.self.now.lines c.next.new.self
     (g.I.Inputs.commands c.args.inputs.now) (g.I.Inputs.commands c.next.new.inputs) none
     c.in-Long.ensures.answer in
-    breaks_after c.answer_long.result c.end_after-in-Long.result c.args.market.now.market long
+    breaks_after c.answer_long.result c.end_after-in-Long.result
+    (λ start. IsAt start c.args.market.now) long
     c.args.self.now.lines c.next.new.self
     (g.I.Inputs.commands c.args.inputs.now) (g.I.Inputs.commands c.next.new.inputs)
     c.args.market.now.standing c.args.market.now.standing
@@ -185,7 +190,7 @@ returns-in-Line-clause-kept g c = λ start begun name bytes all before kept here
     let gives = fresh_answer Line c.args.self.now.lines c.next.new.self
     (g.I.Inputs.commands c.args.inputs.now) (g.I.Inputs.commands c.next.new.inputs) none
     c.in-Line.ensures.answer in
-    kept_after c.answer_text.result c.end_after.result start c.args.market.now.market
+    kept_after c.answer_text.result c.end_after.result start
     (text c.next.new.self.line) c.args.self.now.lines c.next.new.self
     c.answer_text.new.self.lines all
     (g.I.Inputs.commands c.args.inputs.now) (g.I.Inputs.commands c.next.new.inputs) before
@@ -199,7 +204,7 @@ returns-in-Line-clause-kept g c = λ start begun name bytes all before kept here
     (g.J.Keeper.passes begun c.answer_text.new.disk name bytes) (length kept))
     (LeavesSince (g.J.Keeper.leaves c.answer_text.new.disk name bytes)
     (g.J.Keeper.passes begun c.answer_text.new.disk name bytes) (length kept))
-    (c.answer_text.ensures.tells begun name bytes (length kept)) here far
+    (c.answer_text.ensures.tells start.market here begun name bytes (length kept)) far
 
 pub returns-in-Long-clause-kept : goal.returns-in-Long-clause-kept
 returns-in-Long-clause-kept g c = λ start begun name bytes all before kept here far.
@@ -209,7 +214,7 @@ returns-in-Long-clause-kept g c = λ start begun name bytes all before kept here
     let gives = fresh_answer Long c.args.self.now.lines c.next.new.self
     (g.I.Inputs.commands c.args.inputs.now) (g.I.Inputs.commands c.next.new.inputs) none
     c.in-Long.ensures.answer in
-    kept_after c.answer_long.result c.end_after-in-Long.result start c.args.market.now.market
+    kept_after c.answer_long.result c.end_after-in-Long.result start
     long c.args.self.now.lines c.next.new.self
     c.answer_long.new.self.lines all
     (g.I.Inputs.commands c.args.inputs.now) (g.I.Inputs.commands c.next.new.inputs) before
@@ -223,8 +228,8 @@ returns-in-Long-clause-kept g c = λ start begun name bytes all before kept here
     (g.J.Keeper.passes begun c.answer_long.new.disk name bytes) (length kept))
     (LeavesSince (g.J.Keeper.leaves c.answer_long.new.disk name bytes)
     (g.J.Keeper.passes begun c.answer_long.new.disk name bytes) (length kept))
-    (c.answer_long.ensures.tells c.args.market.now.market c.args.market.now.standing begun name
-    bytes (length kept)) here far
+    (c.answer_long.ensures.tells start.market c.args.market.now.standing begun name
+    bytes (length kept)) far
 
 pub returns-in-End-clause-kept : goal.returns-in-End-clause-kept
 returns-in-End-clause-kept g c = λ start begun name bytes all before kept here far.

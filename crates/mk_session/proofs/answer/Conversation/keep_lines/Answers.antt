@@ -16,7 +16,7 @@ loop-end-init g c =
     let now = c.args.market.now in
     record {
       going = record {
-        same = refl;
+        market = λ start here. here;
         stays = refl;
         goes_on = inl (ap (λ (x : Cutting). x.last) c.requires.unread);
         within = omega arith;
@@ -49,15 +49,20 @@ take_turn-requires-clause-ready g c =
       c.loop-end.invariant.going.ready n c.requires.ready.1 c.requires.ready.2,
     )
 
+pub returns-in-Some-clause-market : goal.returns-in-Some-clause-market
+returns-in-Some-clause-market g c = λ start here. c.take_turn.ensures.market start
+    (c.loop-end.invariant.going.market start here)
+
 pub returns-in-Some-clause-ended : goal.returns-in-Some-clause-ended
 returns-in-Some-clause-ended g c = λ start all before begun.
-    c.in-Some.ensures.ended start all before (c.loop-end.invariant.going.same ∙ begun.market)
+    c.in-Some.ensures.ended start all before
+    (c.loop-end.invariant.going.market start.market begun.market)
     (c.loop-end.invariant.going.far start all before begun)
 
 pub returns-in-Some-clause-left : goal.returns-in-Some-clause-left
 returns-in-Some-clause-left g c = λ start all name bytes before kept begun holds.
     c.in-Some.ensures.kept start c.args.disk.now name bytes all before kept
-    (c.loop-end.invariant.going.same ∙ begun.market)
+    (c.loop-end.invariant.going.market start.market begun.market)
     (c.loop-end.invariant.held start all name bytes before kept begun holds)
 
 pub loop-end-preserved : goal.loop-end-preserved
@@ -66,7 +71,7 @@ loop-end-preserved g c =
     let said = c.in_default.ensures in
     record {
       going = record {
-        same = c.take_turn.ensures.market ∙ inv.going.same;
+        market = λ start here. c.take_turn.ensures.market start (inv.going.market start here);
         stays = c.take_turn.ensures.opened ∙ inv.going.stays;
         goes_on = said.goes_on;
         within = said.within;
@@ -85,10 +90,11 @@ loop-end-preserved g c =
             subst (g.J.Keeper.is_ready c.take_turn.new.self.keeper c.take_turn.new.disk) next
             (said.ready n_now room (inv.going.ready n few is));
         far = λ start all before begun.
-            said.so_far start all before (inv.going.same ∙ begun.market)
+            said.so_far start all before (inv.going.market start.market begun.market)
             (inv.going.far start all before begun);
       };
       held = λ start all name bytes before kept begun holds.
-          said.kept start c.args.disk.now name bytes all before kept (inv.going.same ∙ begun.market)
+          said.kept start c.args.disk.now name bytes all before kept
+          (inv.going.market start.market begun.market)
           (inv.held start all name bytes before kept begun holds);
     }

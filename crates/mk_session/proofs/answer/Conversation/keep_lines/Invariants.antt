@@ -8,9 +8,9 @@ use Rattle.mk_session.proofs.answer.Conversation.keep_lines.Given as goal
 
 abbrev pub invariant-loop-end : goal.invariant-loop-end
 invariant-loop-end g l = record {
-  going : IsGoing l.fn.market l.market.market
+  going : IsGoing l.fn.market l.market
       (g.I.Inputs.commands l.fn.inputs) l.self.lines (g.I.Inputs.commands l.inputs)
-      l.market.standing (g.S.Sink.written l.fn.out) (g.S.Sink.written l.out) l.self.waiting.bytes
+      (g.S.Sink.written l.fn.out) (g.S.Sink.written l.out) l.self.waiting.bytes
       (g.I.Inputs.market l.fn.inputs) (g.I.Inputs.market l.inputs)
       (g.J.Keeper.faults l.fn.disk) (g.J.Keeper.faults l.disk)
       (g.I.Inputs.faults l.fn.inputs) (g.I.Inputs.faults l.inputs)

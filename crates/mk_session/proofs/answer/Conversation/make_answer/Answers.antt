@@ -3,6 +3,7 @@ use Rattle.std.proofs.Common.{ap, ap₂, subst, ◌∙◌, MatchResult, true}
 use Rattle.std.proofs.lemmas.List.{append-nil, length-map}
 use Rattle.mk_io.specs.Stream.{text, is_not_blank}
 use Rattle.mk_exact.specs.History.{Entry}
+use Rattle.mk_exact.specs.Market.{present}
 use Rattle.mk_record.specs.Entries.{change_of as entry_of_record}
 use Rattle.mk_restore.specs.Restoring.{change_of}
 use Rattle.mk_session.specs.Left.{records_of, LeavesSince}
@@ -12,55 +13,56 @@ use Rattle.mk_session.proofs.Spoken.{one_record, text_of_line}
 use Rattle.mk_session.proofs.answer.Conversation.make_answer.Goals as goal
 
 pub returns-then-history-before-clause-answered : goal.returns-then-history-before-clause-answered
-returns-then-history-before-clause-answered g c =
+returns-then-history-before-clause-answered g c = λ start here.
     let m = c.args.market.now in
     let line = c.args.self.now.lines.line in
     let new = c.print_answer.new.market.standing in
     let printed = c.print_answer.new.print.bytes in
     let busy : is_not_blank (text line) ≡ true = rw c.requires.busy refl in
-    let spoken : IsSpoken m.market m.standing (text line) new printed =
-    subst (λ (l : List ℕ). IsSpoken m.market m.standing (text l) new printed) c.line.ensures
-    c.print_answer.ensures.spoken in
-    answered_when_spoken m.market m.standing (text line) new printed busy spoken
+    let spoken : IsSpoken start m.standing (text line) new printed =
+    subst (λ (l : List ℕ). IsSpoken start m.standing (text l) new printed) c.line.ensures
+    (c.print_answer.ensures.spoken start here) in
+    answered_when_spoken start m.standing (text line) new printed busy spoken
 
 pub returns-else-history-before-clause-answered : goal.returns-else-history-before-clause-answered
-returns-else-history-before-clause-answered g c =
+returns-else-history-before-clause-answered g c = λ start here.
     let m = c.args.market.now in
     let line = c.args.self.now.lines.line in
     let new = c.print_answer.new.market.standing in
     let printed = c.print_answer.new.print.bytes in
     let busy : is_not_blank (text line) ≡ true = rw c.requires.busy refl in
-    let spoken : IsSpoken m.market m.standing (text line) new printed =
-    subst (λ (l : List ℕ). IsSpoken m.market m.standing (text l) new printed) c.line.ensures
-    c.print_answer.ensures.spoken in
-    answered_when_spoken m.market m.standing (text line) new printed busy spoken
+    let spoken : IsSpoken start m.standing (text line) new printed =
+    subst (λ (l : List ℕ). IsSpoken start m.standing (text l) new printed) c.line.ensures
+    (c.print_answer.ensures.spoken start here) in
+    answered_when_spoken start m.standing (text line) new printed busy spoken
 
 pub returns-else-keeps-clause-answered : goal.returns-else-keeps-clause-answered
-returns-else-keeps-clause-answered g c =
+returns-else-keeps-clause-answered g c = λ start here.
     let m = c.args.market.now in
     let line = c.args.self.now.lines.line in
     let new = c.print_answer.new.market.standing in
     let printed = c.print_answer.new.print.bytes in
     let busy : is_not_blank (text line) ≡ true = rw c.requires.busy refl in
-    let spoken : IsSpoken m.market m.standing (text line) new printed =
-    subst (λ (l : List ℕ). IsSpoken m.market m.standing (text l) new printed) c.line.ensures
-    c.print_answer.ensures.spoken in
-    answered_when_spoken m.market m.standing (text line) new printed busy spoken
+    let spoken : IsSpoken start m.standing (text line) new printed =
+    subst (λ (l : List ℕ). IsSpoken start m.standing (text l) new printed) c.line.ensures
+    (c.print_answer.ensures.spoken start here) in
+    answered_when_spoken start m.standing (text line) new printed busy spoken
 
 pub returns-else-keeps-clause-spoken : goal.returns-else-keeps-clause-spoken
-returns-else-keeps-clause-spoken g c = λ begun name bytes first least all held.
+returns-else-keeps-clause-spoken g c = λ start here begun name bytes first least all held.
     let m = c.args.market.now in
     let line = c.args.self.now.lines.line in
     let new = c.print_answer.new.market.standing in
     let printed = c.print_answer.new.print.bytes in
     let busy : is_not_blank (text line) ≡ true = rw c.requires.busy refl in
-    let spoken : IsSpoken m.market m.standing (text line) new printed =
-    subst (λ (l : List ℕ). IsSpoken m.market m.standing (text l) new printed) c.line.ensures
-    c.print_answer.ensures.spoken in
+    let spoken : IsSpoken start m.standing (text line) new printed =
+    subst (λ (l : List ℕ). IsSpoken start m.standing (text l) new printed) c.line.ensures
+    (c.print_answer.ensures.spoken start here) in
     let holds = g.J.Keeper.holds c.args.self.now.keeper c.args.disk.now name bytes in
     let passes = g.J.Keeper.passes begun c.args.disk.now name bytes in
-    let records = records_of (change_of m.market m.standing.history spoken.asked spoken.reply) in
-    one_spoken m.market m.standing (text line) new printed busy spoken
+    let market = present start m.standing.history in
+    let records = records_of (change_of market m.standing.history spoken.asked spoken.reply) in
+    one_spoken start m.standing (text line) new printed busy spoken
     (λ output records. (printed ≡ output) × HoldsSince holds passes first least (all ++ records)) (
       refl,
       spared_since holds passes (λ change kept waiting h. c.keeps.ensures c.if-keeps.false
@@ -70,15 +72,15 @@ returns-else-keeps-clause-spoken g c = λ begun name bytes first least all held.
     )
 
 pub returns-else-history-before-clause-spoken : goal.returns-else-history-before-clause-spoken
-returns-else-history-before-clause-spoken g c = λ begun name bytes first least all held.
+returns-else-history-before-clause-spoken g c = λ start here begun name bytes first least all held.
     let m = c.args.market.now in
     let line = c.args.self.now.lines.line in
     let new = c.print_answer.new.market.standing in
     let printed = c.print_answer.new.print.bytes in
     let busy : is_not_blank (text line) ≡ true = rw c.requires.busy refl in
-    let spoken : IsSpoken m.market m.standing (text line) new printed =
-    subst (λ (l : List ℕ). IsSpoken m.market m.standing (text l) new printed) c.line.ensures
-    c.print_answer.ensures.spoken in
+    let spoken : IsSpoken start m.standing (text line) new printed =
+    subst (λ (l : List ℕ). IsSpoken start m.standing (text l) new printed) c.line.ensures
+    (c.print_answer.ensures.spoken start here) in
     let was : length c.history-before.result.now ≡ length m.standing.history =
     sym (length-map c.history-before.result.now entry_of_record)
     ∙ ap (λ (l : List Entry). length l) c.history-before.ensures.same in
@@ -87,9 +89,9 @@ returns-else-history-before-clause-spoken g c = λ begun name bytes first least 
     ∙ ap (λ (l : List Entry). length l) c.history.ensures.same in
     let holds = g.J.Keeper.holds c.args.self.now.keeper c.args.disk.now name bytes in
     let passes = g.J.Keeper.passes begun c.args.disk.now name bytes in
-    let none = ap records_of (no_change m.market m.standing new spoken.asked spoken.reply
-    spoken.next (sym is ∙ c.if-history-before.false ∙ was)) in
-    one_spoken m.market m.standing (text line) new printed busy spoken
+    let none = ap records_of (no_change (present start m.standing.history) m.standing new
+    spoken.asked spoken.reply spoken.next (sym is ∙ c.if-history-before.false ∙ was)) in
+    one_spoken start m.standing (text line) new printed busy spoken
     (λ output records. (printed ≡ output) × HoldsSince holds passes first least (all ++ records)) (
       refl,
       subst (λ (rs : List (List ℕ)). HoldsSince holds passes first least (all ++ rs)) (sym none)
@@ -98,15 +100,15 @@ returns-else-history-before-clause-spoken g c = λ begun name bytes first least 
     )
 
 pub returns-then-history-before-clause-spoken : goal.returns-then-history-before-clause-spoken
-returns-then-history-before-clause-spoken g c = λ begun name bytes first least all held.
+returns-then-history-before-clause-spoken g c = λ start here begun name bytes first least all held.
     let m = c.args.market.now in
     let line = c.args.self.now.lines.line in
     let new = c.print_answer.new.market.standing in
     let printed = c.print_answer.new.print.bytes in
     let busy : is_not_blank (text line) ≡ true = rw c.requires.busy refl in
-    let spoken : IsSpoken m.market m.standing (text line) new printed =
-    subst (λ (l : List ℕ). IsSpoken m.market m.standing (text l) new printed) c.line.ensures
-    c.print_answer.ensures.spoken in
+    let spoken : IsSpoken start m.standing (text line) new printed =
+    subst (λ (l : List ℕ). IsSpoken start m.standing (text l) new printed) c.line.ensures
+    (c.print_answer.ensures.spoken start here) in
     let was : length c.history-before.result.now ≡ length m.standing.history =
     sym (length-map c.history-before.result.now entry_of_record)
     ∙ ap (λ (l : List Entry). length l) c.history-before.ensures.same in
@@ -117,12 +119,12 @@ returns-then-history-before-clause-spoken g c = λ begun name bytes first least 
     let leaves = g.J.Keeper.leaves c.take_change.new.disk name bytes in
     let passes = g.J.Keeper.passes begun c.take_change.new.disk name bytes in
     let said = c.take_change.result in
-    let one = one_record m.market m.standing new line spoken.asked spoken.reply spoken.asks
-    spoken.next (λ same. c.if-history-before.true (is ∙ same ∙ sym was)) in
+    let one = one_record (present start m.standing.history) m.standing new line spoken.asked
+    spoken.reply spoken.asks spoken.next (λ same. c.if-history-before.true (is ∙ same ∙ sym was)) in
     let text_is = text_of_line spoken.reply c.as_bytes-printed.result.now
     (c.as_bytes-printed.ensures.value ∙ c.as_str.ensures.value ∙ spoken.printed) in
     let same = ap₂ (λ (l t : List ℕ). (l ++ 10 ∷ t) ∷ []) c.line-line.ensures text_is ∙ sym one in
-    one_spoken m.market m.standing (text line) new printed busy spoken
+    one_spoken start m.standing (text line) new printed busy spoken
     (λ output records. (printed ≡ output) × MatchResult said
     (λ _. HoldsSince holds passes first least (all ++ records))
     (λ _. LeavesSince leaves passes first (all ++ records) least)) (

@@ -1,4 +1,5 @@
 use Rattle.std.proofs.Common.{refl, length}
+use Rattle.mk_market.specs.Trading.{IsAt}
 use Rattle.mk_session.proofs.Endings.{goes_on_from, ends_from, causes_from, breaks_off}
 use Rattle.mk_session.proofs.Endings.{causes_after}
 use Rattle.mk_session.specs.Left.{LeavesSince}
@@ -8,7 +9,7 @@ use Rattle.mk_session.proofs.answer.Conversation.take_turn.Goals as goal
 
 pub returns-in-Ok-clause-so_far : goal.returns-in-Ok-clause-so_far
 returns-in-Ok-clause-so_far g c =
-    goes_on_from c.answer_next.result c.args.market.now.market c.args.self.now.lines
+    goes_on_from c.answer_next.result (λ start. IsAt start c.args.market.now) c.args.self.now.lines
     c.answer_next.new.self.lines
     (g.I.Inputs.commands c.args.inputs.now) (g.I.Inputs.commands c.answer_next.new.inputs)
     c.args.market.now.standing c.answer_next.new.market.standing
@@ -20,7 +21,7 @@ returns-in-Ok-clause-so_far g c =
 
 pub returns-in-Ok-clause-ended : goal.returns-in-Ok-clause-ended
 returns-in-Ok-clause-ended g c =
-    ends_from c.answer_next.result c.args.market.now.market c.args.self.now.lines
+    ends_from c.answer_next.result (λ start. IsAt start c.args.market.now) c.args.self.now.lines
     (g.I.Inputs.commands c.args.inputs.now) (g.I.Inputs.commands c.answer_next.new.inputs)
     c.args.market.now.standing c.answer_next.new.market.standing
     (g.S.Sink.written c.args.out.now) (g.S.Sink.written c.write_before_read-told.new.out)
@@ -39,7 +40,8 @@ returns-in-Ok-clause-causes g c =
 
 pub returns-in-Err-clause-ended : goal.returns-in-Err-clause-ended
 returns-in-Err-clause-ended g c =
-    breaks_off c.write_before_read-told.result c.end_after.result c.args.market.now.market
+    breaks_off c.write_before_read-told.result c.end_after.result
+    (λ start. IsAt start c.args.market.now)
     c.args.self.now.lines c.args.self.now.lines.left
     (g.I.Inputs.commands c.args.inputs.now) (g.I.Inputs.commands c.args.inputs.now)
     c.args.market.now.standing c.args.market.now.standing
