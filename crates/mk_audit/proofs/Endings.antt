@@ -6,11 +6,14 @@ use Rattle.mk_io.specs.Stream.{StreamLine, stream_lines, max_stream_lines, max_s
 use Rattle.mk_io.specs.Cutting.{Cutting, fresh, stream_left, first_size, Overruns, IsTooMuch}
 use Rattle.mk_exact.specs.Market.{Market}
 use Rattle.mk_rules.specs.Quotes.{Quotes}
-use Rattle.mk_rules.specs.Standings.{IsMarket}
+use Rattle.mk_rules.specs.Standings.{IsMarket, IsReady}
+use Rattle.mk_rules.specs.Bounded.{IsBounded}
+use Rattle.mk_rules.proofs.Keeps.{opening_stands}
+use Rattle.mk_rules.proofs.Ready.{unquoted_is_ready}
+use Rattle.mk_rules.proofs.Follows.{opening_is_bounded}
 use Rattle.mk_rules.specs.Transcript.{Standing, opening}
 use Rattle.mk_session.specs.Texts.{ready_line}
 use Rattle.mk_session.specs.Transcript.{from_opening}
-use Rattle.mk_session.specs.Begins.{CanBegin}
 use Rattle.mk_session.specs.Complete.{AreWithin}
 use Rattle.mk_session.proofs.Answering.{no_more, none_replied, opening_begins, allowed_run_of}
 use Rattle.mk_session.proofs.Underway.{are_whole}
@@ -21,7 +24,8 @@ use Rattle.mk_audit.specs.declared.verdict.Verdict.{Verdict}
 use Rattle.mk_audit.specs.declared.verdict.Verdict.TheVariants.{Yes, No, Unsure}
 use Rattle.mk_audit.specs.declared.front.Front.{Front}
 use Rattle.mk_audit.specs.Verdicts.{IsWrongAt, Longer, Means}
-use Rattle.mk_audit.specs.inner.Progress.{IsAt, standing_at, left_of, EndsBehind, IsHeld, IsSoFar}
+use Rattle.mk_audit.specs.inner.Progress.{StandsAt, standing_at, left_of, EndsBehind, IsHeld}
+use Rattle.mk_audit.specs.inner.Progress.{IsSoFar}
 
 -- a transcript begins with a line, as a test says
 pub begins_with : (transcript line ready : List ℕ) (place : ℕ) → line ≡ ready
@@ -128,13 +132,16 @@ opened_at now quotes begins none =
     ap (λ (q : Quotes). record { history = []; quotes = q }) (sym none)
     ∙ ap (λ (s : Standing). record { history = s.history; quotes = quotes }) (sym begins)
 
-pub is_at_opening : (market : Market) → IsMarket market → (now : Standing) (front : Front)
+pub stands_at_opening : (market : Market) → IsMarket market → (now : Standing) (front : Front)
     → now ≡ opening → IsKnown market [] front.known → front.known.quotes ≡ []
-    → IsAt market now front
-is_at_opening market is_market now front begins known none = record {
+    → StandsAt market now front
+stands_at_opening market is_market now front begins known none = record {
   known = subst (λ (s : Standing). IsKnown market s.history front.known) (sym begins) known;
-  begins = subst (λ (s : Standing). CanBegin market s)
-      (opened_at now front.known.quotes begins none) (opening_begins market is_market);
+  ready = subst (λ (s : Standing). IsReady market s)
+      (opened_at now front.known.quotes begins none)
+      (unquoted_is_ready market [] (opening_stands market is_market));
+  bounded = subst (λ (s : Standing). IsBounded market s.history) (sym begins)
+      (opening_is_bounded market);
 }
 
 -- before the first line the ready line is right

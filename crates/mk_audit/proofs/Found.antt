@@ -8,8 +8,8 @@ use Rattle.std.proofs.lemmas.List.Concat.{flat_map-cons}
 use Rattle.std.specs.List.{list_all}
 use Rattle.std.specs.Prelude.{◌==◌}
 use Rattle.mk_io.specs.Stream.{StreamLine, text, long, is_not_blank}
-use Rattle.mk_exact.specs.History.{Entry}
-use Rattle.mk_exact.specs.Market.{Market}
+use Rattle.mk_exact.specs.History.{Entry, Join, Deposit, Withdraw, Trade, Resolve, Settle, Add}
+use Rattle.mk_exact.specs.Market.{Market, present}
 use Rattle.mk_command.specs.declared.command.Command.{Command}
 use Rattle.mk_command.specs.declared.command.Command.TheVariants.{Price}
 use Rattle.mk_command.specs.Commands.{IsCommand, command_text}
@@ -17,17 +17,21 @@ use Rattle.mk_reply.specs.declared.reply.Reply.{Reply}
 use Rattle.mk_reply.specs.declared.reply.Reply.TheVariants.{Price as Priced, Refused}
 use Rattle.mk_reply.specs.declared.refusal.Refusal.TheVariants.{Syntax, Long}
 use Rattle.mk_reply.specs.Replies.{IsReply, reply_text}
-use Rattle.mk_market.specs.Trading.{Trading}
-use Rattle.mk_rules.specs.Answers.{IsAllowed, next_history, next_quotes}
+use Rattle.mk_market.specs.Trading.{Trading, IsAt}
+use Rattle.mk_rules.specs.Answers.{IsAllowed, entry_of, next_history, next_quotes}
 use Rattle.mk_rules.specs.Quotes.{Quotes}
 use Rattle.mk_rules.specs.Transcript.{Standing, Line, OfCommand, NoCommand, LongLine}
-use Rattle.mk_rules.specs.Transcript.{IsAllowedFor, after}
+use Rattle.mk_rules.specs.Transcript.{IsAllowedFor, after, with_entries, market_after}
+use Rattle.mk_rules.specs.Standings.{IsReady}
+use Rattle.mk_rules.specs.Bounded.{IsBounded}
+use Rattle.mk_rules.proofs.Keeps.{present_with}
+use Rattle.mk_rules.proofs.Ready.{ready_keeps}
+use Rattle.mk_rules.proofs.Follows.{bounded_keeps, bounded_in}
 use Rattle.mk_session.specs.Texts.{reply_line}
-use Rattle.mk_session.specs.Transcript.{Asks, AreReplied}
-use Rattle.mk_session.specs.Begins.{CanBegin}
+use Rattle.mk_session.specs.Transcript.{Asks}
 use Rattle.mk_session.specs.Outcome.{IsFrontOf}
-use Rattle.mk_session.specs.inner.Progress.{IsPriced}
-use Rattle.mk_session.proofs.Answering.{no_more, one_replied, blank_replied}
+use Rattle.mk_session.specs.Priced.{IsPriced}
+use Rattle.mk_session.proofs.Answering.{no_more}
 use Rattle.mk_verify.specs.Clear.{IsOpen}
 use Rattle.mk_verify.specs.Known.{Knowledge, IsKnown, standing_with}
 use Rattle.mk_audit.specs.declared.verdict.Verdict.{Verdict}
@@ -35,11 +39,12 @@ use Rattle.mk_audit.specs.declared.verdict.Verdict.TheVariants.{Yes, No, Unsure}
 use Rattle.mk_audit.specs.declared.verdict.AuditFault.{AuditFault}
 use Rattle.mk_audit.specs.declared.verdict.AuditFault.TheVariants.{Read, TooMany, Memory}
 use Rattle.mk_audit.specs.declared.front.Front.{Front}
-use Rattle.mk_audit.specs.inner.Progress.{IsFirstLine, IsAt, standing_at, left_of, HoldsBytes}
+use Rattle.mk_audit.specs.inner.Progress.{IsFirstLine, StandsAt, standing_at, left_of}
+use Rattle.mk_audit.specs.inner.Progress.{HoldsBytes}
 use Rattle.mk_audit.specs.inner.Progress.{HoldsReply, GoesOnBy, IsPassed, IsStuck, EndsAt}
 use Rattle.mk_audit.specs.inner.Progress.{Holds}
 use Rattle.mk_audit.proofs.OneLine.{line_and, reply_is_first, one_reply, no_line}
-use Rattle.mk_audit.proofs.OneRun.{has_text, begins_after}
+use Rattle.mk_audit.proofs.OneRun.{has_text}
 
 -- some bytes stand next, and what is left begins behind them
 pub bytes_passed : (transcript bytes : List ℕ) (before after : Front)
@@ -61,7 +66,7 @@ pub blank_passed : (market : Market) (now : Standing) (line : StreamLine) (left 
     (count : ℕ) → is_not_blank line ≡ false → IsPassed market now now line left left count count
 blank_passed market now line left count blank = record {
   replies = [];
-  replied = blank_replied market now line blank;
+  replied = (blank, refl);
   stand = refl;
   counted = omega arith;
 }
@@ -75,8 +80,13 @@ reply_passed : (market : Market) (old new : Standing) (line : StreamLine) (asked
 reply_passed market old new line asked reply left rest before count busy asks allowed same stands
     more = record {
       replies = reply ∷ [];
-      replied = subst (λ (then : Standing). AreReplied market old (line ∷ []) then (reply ∷ []))
-          (sym same) (one_replied market old line asked reply busy asks allowed);
+      replied = record {
+        not_blank = busy;
+        asked = asked;
+        asks = asks;
+        allowed = allowed;
+        leads = same;
+      };
       stand = stands ∙ ap (λ (bytes : List ℕ). bytes ++ rest)
           (sym (flat_map-cons reply_line reply [] ∙ no_more (reply_line reply)));
       counted = more;
@@ -138,32 +148,34 @@ syntax_found ended market now line transcript before behind busy none known foun
     (busy_line line busy) none (λ now. refl) (λ now other same. same) (λ now. refl) known found
 
 -- a line with no LF, or one that is no reply's text
-pub unread_stuck : (market : Market) (now : Standing) (line : StreamLine) (command : Command)
-    (left : List ℕ) → CanBegin market now → is_not_blank line ≡ true
+unread_stuck : (market : Market) (now : Standing) (front : Front) (line : StreamLine)
+    (command : Command) (left : List ℕ) → StandsAt market now front → is_not_blank line ≡ true
     → Asks line (OfCommand command)
     → ((reply : Reply) → IsReply reply → ¬ IsFrontOf left (reply_line reply))
-    → IsStuck market now line left
-unread_stuck market now line command left begins busy asks none = record {
+    → IsStuck market (standing_at now front) line left
+unread_stuck market now front line command left stands busy asks none = record {
   not_blank = busy;
   asked = OfCommand command;
   asks = asks;
-  none = λ reply allowed. none reply (has_text market now begins line (OfCommand command) reply asks
-      allowed);
+  none = λ reply allowed. none reply (has_text market (standing_at now front) stands.ready
+      stands.bounded line (OfCommand command) reply asks allowed);
 }
 
-pub no_line_stuck : (market : Market) (now : Standing) (line : StreamLine) (command : Command)
-    (left : List ℕ) → CanBegin market now → is_not_blank line ≡ true
-    → Asks line (OfCommand command) → All (λ b. b ≢ 10) left → IsStuck market now line left
-no_line_stuck market now line command left begins busy asks none =
-    unread_stuck market now line command left begins busy asks
+pub no_line_stuck : (market : Market) (now : Standing) (front : Front) (line : StreamLine)
+    (command : Command) (left : List ℕ) → StandsAt market now front → is_not_blank line ≡ true
+    → Asks line (OfCommand command) → All (λ b. b ≢ 10) left
+    → IsStuck market (standing_at now front) line left
+no_line_stuck market now front line command left stands busy asks none =
+    unread_stuck market now front line command left stands busy asks
     (λ reply is front. no_line reply left front.rest none front.parts)
 
-pub no_reply_stuck : (market : Market) (now : Standing) (line : StreamLine) (command : Command)
-    (left first : List ℕ) → CanBegin market now → is_not_blank line ≡ true
-    → Asks line (OfCommand command) → IsFirstLine first left
-    → ((reply : Reply) → IsReply reply → first ≢ reply_text reply) → IsStuck market now line left
-no_reply_stuck market now line command left first begins busy asks is_first none =
-    unread_stuck market now line command left begins busy asks
+pub no_reply_stuck : (market : Market) (now : Standing) (front : Front) (line : StreamLine)
+    (command : Command) (left first : List ℕ) → StandsAt market now front
+    → is_not_blank line ≡ true → Asks line (OfCommand command) → IsFirstLine first left
+    → ((reply : Reply) → IsReply reply → first ≢ reply_text reply)
+    → IsStuck market (standing_at now front) line left
+no_reply_stuck market now front line command left first stands busy asks is_first none =
+    unread_stuck market now front line command left stands busy asks
     (λ reply is front. none reply is (reply_is_first reply first is_first.rest front.rest is
     is_first.no_lf (sym is_first.parts ∙ front.parts)))
 
@@ -190,7 +202,7 @@ rest_behind first transcript place behind is_first passed =
 pub read_found : (ended : Option (Result Verdict AuditFault)) (market : Market)
     (now then : Standing) (line : StreamLine) (command : Command) (reply : Reply)
     (first transcript : List ℕ) (before behind : Front)
-    → CanBegin market (standing_at now before) → is_not_blank line ≡ true
+    → StandsAt market now before → is_not_blank line ≡ true
     → Asks line (OfCommand command) → IsFirstLine first (left_of transcript before)
     → IsReply reply → first ≡ reply_text reply
     → IfNone ended (behind.place ≡ before.place + (length first + 1))
@@ -198,7 +210,7 @@ pub read_found : (ended : Option (Result Verdict AuditFault)) (market : Market)
     → HoldsReply ended market (standing_at now before) (standing_at then behind) command reply
     before.right
     → Holds ended market now then line transcript before behind
-read_found None market now then line command reply first transcript before behind begins busy asks
+read_found None market now then line command reply first transcript before behind stands busy asks
     is_first is told passed more found =
     reply_passed market (standing_at now before) (standing_at then behind) line (OfCommand command)
     reply (left_of transcript before) (left_of transcript behind) before.right behind.right busy
@@ -207,9 +219,9 @@ read_found None market now then line command reply first transcript before behin
     ∙ ap (λ (xs : List ℕ). reply_line reply ++ xs)
     (rest_behind first transcript before.place behind.place is_first passed)) more
 read_found (Some (Ok (Yes n))) market now then line command reply first transcript before behind
-    begins busy asks is_first is told passed more found = absurd found
+    stands busy asks is_first is told passed more found = absurd found
 read_found (Some (Ok (No n))) market now then line command reply first transcript before behind
-    begins busy asks is_first is told passed more found =
+    stands busy asks is_first is told passed more found =
     let left = left_of transcript before in
     let old = standing_at now before in
     let stuck : IsStuck market old line left = record {
@@ -218,14 +230,14 @@ read_found (Some (Ok (No n))) market now then line command reply first transcrip
       asks = asks;
       none = λ other also front.
           let same = one_reply reply other is_first.rest front.rest is
-          (has_text market old begins line (OfCommand command) other asks also)
+          (has_text market old stands.ready stands.bounded line (OfCommand command) other asks also)
           (sym (read_stands first left reply is_first told) ∙ front.parts) in
           found.1 (subst (λ (r : Reply). IsAllowed market old.history old.quotes command r)
           (sym same.0) also);
     } in
     (found.0, stuck)
 read_found (Some (Ok (Unsure n))) market now then line command reply first transcript before behind
-    begins busy asks is_first is told passed more found = (
+    stands busy asks is_first is told passed more found = (
       found.0,
       record {
         not_blank = busy;
@@ -241,11 +253,11 @@ read_found (Some (Ok (Unsure n))) market now then line command reply first trans
       },
     )
 read_found (Some (Err Read)) market now then line command reply first transcript before behind
-    begins busy asks is_first is told passed more found = absurd found
+    stands busy asks is_first is told passed more found = absurd found
 read_found (Some (Err TooMany)) market now then line command reply first transcript before behind
-    begins busy asks is_first is told passed more found = absurd found
+    stands busy asks is_first is told passed more found = absurd found
 read_found (Some (Err Memory)) market now then line command reply first transcript before behind
-    begins busy asks is_first is told passed more found = tt
+    stands busy asks is_first is told passed more found = tt
 
 abbrev standing_of : List Entry → Quotes → Standing
 standing_of h q = record { history = h; quotes = q }
@@ -259,46 +271,85 @@ pub stands_next : (market : Market) (now then : Standing) (before behind : Front
 stands_next market now then before behind command reply history quotes =
     ap₂ (λ (h : List Entry) (q : Quotes). standing_of h q) history quotes
 
-is_at_next : (market other : Market) (now then : Standing) (before behind : Front)
-    (command : Command) (reply : Reply) → other ≡ market → IsCommand command
+-- what is added leaves the most trades
+most_stays : (o : Option Entry) (market : Market)
+    → market.max_trades ≡ (with_entries o market).max_trades
+most_stays None market = refl
+most_stays (Some (Join name)) market = refl
+most_stays (Some (Deposit user bits)) market = refl
+most_stays (Some (Withdraw user bits)) market = refl
+most_stays (Some (Trade user ratio)) market = refl
+most_stays (Some (Resolve pair)) market = refl
+most_stays (Some Settle) market = refl
+most_stays (Some (Add addition)) market = refl
+
+stands_behind : (market other : Market) (now then : Standing) (before behind : Front)
+    (command : Command) (reply : Reply) → IsCommand command
     → IsAllowed market now.history before.known.quotes command reply
-    → IsAt market now before
+    → StandsAt market now before → other ≡ market_after market now (OfCommand command) reply
     → standing_at then behind ≡ after market (standing_at now before) (OfCommand command) reply
-    → IsKnown other then.history behind.known → IsAt other then behind
-is_at_next market other now then before behind command reply same is allowed at next known =
+    → IsKnown other then.history behind.known → StandsAt other then behind
+stands_behind market other now then before behind command reply is allowed stands leads next known =
+    let old = standing_at now before in
+    let most : market.max_trades ≡ other.max_trades =
+    most_stays (entry_of market now.history command reply) market
+    ∙ ap (λ (m : Market). m.max_trades) (sym leads) in
     record {
       known = known;
-      begins = subst (λ (m : Market). CanBegin m (standing_at then behind)) (sym same)
-          (subst (λ (s : Standing). CanBegin market s) (sym next)
-          (begins_after market (standing_at now before) at.begins (OfCommand command) reply is
-          allowed));
+      ready = subst (λ (m : Market). IsReady m (standing_at then behind)) (sym leads)
+          (subst (λ (s : Standing). IsReady (market_after market now (OfCommand command) reply) s)
+          (sym next) (ready_keeps market old (OfCommand command) reply stands.ready allowed));
+      bounded = bounded_in market other then.history most
+          (subst (λ (s : Standing). IsBounded market s.history) (sym next)
+          (bounded_keeps market old (OfCommand command) reply stands.ready.stands.legal.few_trades
+          is stands.bounded allowed));
     }
 
 -- a reply was judged allowed where the history stands, and the audit goes on behind it
-pub goes_on_by : (ended : Option (Result Verdict AuditFault)) (market : Market)
-    (now then : Standing) (before behind : Front) (command : Command) (reply : Reply)
-    → IsAllowed market now.history before.known.quotes command reply
-    → GoesOnBy ended market now then before behind command reply
-    → HoldsReply ended market (standing_at now before) (standing_at then behind) command reply
-    before.right
-goes_on_by None market now then before behind command reply allowed next =
-    (allowed, (next allowed).0)
-goes_on_by (Some end) market now then before behind command reply allowed is =
-    subst (λ (e : Result Verdict AuditFault). HoldsReply (Some e) market (standing_at now before)
-    (standing_at then behind) command reply before.right) (sym is) tt
+pub goes_on_by : (ended : Option (Result Verdict AuditFault)) (old new : Trading)
+    (before behind : Front) (command : Command) (reply : Reply)
+    → IsAllowed old.market old.standing.history before.known.quotes command reply
+    → GoesOnBy ended old new before behind command reply
+    → HoldsReply ended old.market (standing_at old.standing before)
+    (standing_at new.standing behind) command reply before.right
+goes_on_by None old new before behind command reply allowed next = (allowed, (next allowed).1)
+goes_on_by (Some end) old new before behind command reply allowed is =
+    subst (λ (e : Result Verdict AuditFault). HoldsReply (Some e) old.market
+    (standing_at old.standing before) (standing_at new.standing behind) command reply before.right)
+    (sym is.0) tt
 
 -- there each line has an allowed reply
-pub is_at_by : (ended : Option (Result Verdict AuditFault)) (market other : Market)
-    (now then : Standing) (before behind : Front) (command : Command) (reply : Reply)
-    → other ≡ market → IsCommand command
-    → IsAllowed market now.history before.known.quotes command reply → IsAt market now before
-    → GoesOnBy ended market now then before behind command reply
-    → IfNone ended (IsAt other then behind)
-is_at_by None market other now then before behind command reply same is allowed at next =
+pub stands_by : (ended : Option (Result Verdict AuditFault)) (old new : Trading)
+    (before behind : Front) (command : Command) (reply : Reply) → IsCommand command
+    → IsAllowed old.market old.standing.history before.known.quotes command reply
+    → StandsAt old.market old.standing before
+    → GoesOnBy ended old new before behind command reply
+    → IfNone ended (StandsAt new.market new.standing behind)
+stands_by None old new before behind command reply is allowed stands next =
     let goes = next allowed in
-    is_at_next market other now then before behind command reply same is allowed at goes.0
-    (subst (λ (m : Market). IsKnown m then.history behind.known) (sym same) goes.1)
-is_at_by (Some end) market other now then before behind command reply same is allowed at next = tt
+    stands_behind old.market new.market old.standing new.standing before behind command reply is
+    allowed stands goes.0 goes.1 goes.2
+stands_by (Some end) old new before behind command reply is allowed stands next = tt
+
+-- a market that goes on behind a reply is still the file's with what was added so far
+pub at_by : (ended : Option (Result Verdict AuditFault)) (old new : Trading)
+    (before behind : Front) (command : Command) (reply : Reply)
+    → IsAllowed old.market old.standing.history before.known.quotes command reply
+    → GoesOnBy ended old new before behind command reply
+    → (start : Market) → IsAt start old → IsAt start new
+at_by None old new before behind command reply allowed next start at =
+    let goes = next allowed in
+    let entry = entry_of old.market old.standing.history command reply in
+    goes.0 ∙ ap (with_entries entry) at ∙ sym (present_with start old.standing.history entry)
+    ∙ ap (λ (s : Standing). present start s.history) (sym goes.1)
+at_by (Some end) old new before behind command reply allowed next start at =
+    subst (IsAt start) (sym next.1) at
+
+-- and so is one that stands as it did
+pub still_at : (old new : Trading) → new.market ≡ old.market → new.standing ≡ old.standing
+    → (start : Market) → IsAt start old → IsAt start new
+still_at old new same stays start at =
+    same ∙ at ∙ ap (λ (s : Standing). present start s.history) (sym stays)
 
 -- a market that told a price stands as before
 pub price_leaves : (old new : Trading) (command : Command) (bytes : List ℕ)
@@ -309,7 +360,7 @@ price_leaves old new command bytes priced =
 
 -- the price that the market told stands next, and is one right line more
 pub price_passed : (old new : Trading) (line : StreamLine) (command : Command)
-    (bytes transcript : List ℕ) (before behind : Front) → IsAt old.market old.standing before
+    (bytes transcript : List ℕ) (before behind : Front) → StandsAt old.market old.standing before
     → is_not_blank line ≡ true → Asks line (OfCommand command) → IsPriced old new command bytes
     → behind.known ≡ before.known
     → left_of transcript before ≡ bytes ++ left_of transcript behind
@@ -322,30 +373,30 @@ price_passed old new line command bytes transcript before behind at busy asks pr
     reply_passed old.market (standing_at old.standing before) (standing_at new.standing behind) line
     (OfCommand (Price q)) reply (left_of transcript before) (left_of transcript behind) before.right
     behind.right busy (subst (λ (c : Command). Asks line (OfCommand c)) priced.asked asks)
-    (priced.answered.allowed at.begins.ready.stands.sound)
+    (priced.answered.allowed at.ready.stands.sound)
     (stands_next old.market old.standing new.standing before behind (Price q) reply
     (ap (λ (s : Standing). s.history) priced.answered.next)
     (ap (λ (k : Knowledge). k.quotes) known))
     (stands ∙ ap (λ (xs : List ℕ). xs ++ left_of transcript behind) priced.printed) more
 
 -- the same market and history
-pub still_at : (market other : Market) (now : Standing) (before behind : Front) → other ≡ market
-    → behind.known ≡ before.known → IsAt market now before → IsAt other now behind
-still_at market other now before behind same known at = record {
-  known = subst (λ (m : Market). IsKnown m now.history behind.known) (sym same)
-      (subst (λ (k : Knowledge). IsKnown market now.history k) (sym known) at.known);
-  begins = subst (λ (m : Market). CanBegin m (standing_at now behind)) (sym same)
-      (subst (λ (k : Knowledge). CanBegin market (standing_with now.history k))
-      (sym known) at.begins);
-}
+still_stands : (market other : Market) (now : Standing) (before behind : Front) → other ≡ market
+    → behind.known ≡ before.known → StandsAt market now before → StandsAt other now behind
+still_stands market other now before behind same known stands =
+    subst (λ (m : Market). StandsAt m now behind) (sym same) (record {
+      known = subst (λ (k : Knowledge). IsKnown market now.history k) (sym known) stands.known;
+      ready = subst (λ (k : Knowledge). IsReady market (standing_with now.history k)) (sym known)
+          stands.ready;
+      bounded = stands.bounded;
+    })
 
 -- and at the same standing
 pub still_there : (market other : Market) (now then : Standing) (before behind : Front)
-    → other ≡ market → then ≡ now → behind.known ≡ before.known → IsAt market now before
-    → IsAt other then behind
-still_there market other now then before behind same stays known at =
-    subst (λ (s : Standing). IsAt other s behind) (sym stays)
-    (still_at market other now before behind same known at)
+    → other ≡ market → then ≡ now → behind.known ≡ before.known → StandsAt market now before
+    → StandsAt other then behind
+still_there market other now then before behind same stays known stands =
+    subst (λ (s : Standing). StandsAt other s behind) (sym stays)
+    (still_stands market other now before behind same known stands)
 
 -- what is found from the same market and place is found from here
 pub found_there : (ended : Option (Result Verdict AuditFault)) (market other : Market)
@@ -360,11 +411,11 @@ found_there ended market other now then new line transcript before same_front be
     (subst (λ (f : Front). Holds ended other then new line transcript f behind) front found))
 
 pub still_if : (ended : Option (Result Verdict AuditFault)) (market : Market) (now : Standing)
-    (before behind : Front) → behind.known ≡ before.known → IsAt market now before
-    → IfNone ended (IsAt market now behind)
-still_if None market now before behind known at =
-    still_at market market now before behind refl known at
-still_if (Some end) market now before behind known at = tt
+    (before behind : Front) → behind.known ≡ before.known → StandsAt market now before
+    → IfNone ended (StandsAt market now behind)
+still_if None market now before behind known stands =
+    still_stands market market now before behind refl known stands
+still_if (Some end) market now before behind known stands = tt
 
 -- a verdict by its number
 pub stuck_ends : (verdict : Verdict) (market : Market) (now : Standing) (line : StreamLine)

@@ -8,12 +8,16 @@ use Rattle.std.proofs.lemmas.List.{append_cancel_left}
 use Rattle.mk_io.specs.Stream.{StreamLine, stream_lines, AreWholeLines, is_not_blank}
 use Rattle.mk_io.specs.Cutting.{Cutting, stream_left, GivesLine, IsWithinLimits}
 use Rattle.mk_io.proofs.WholeLines.{whole_lines-append}
-use Rattle.mk_exact.specs.Market.{Market}
-use Rattle.mk_rules.specs.Transcript.{Standing, opening}
+use Rattle.mk_exact.specs.Market.{Market, present}
+use Rattle.mk_reply.specs.declared.reply.Reply.{Reply}
+use Rattle.mk_rules.specs.Standings.{IsMarket}
+use Rattle.mk_rules.specs.Transcript.{Standing, opening, IsAllowedFor, after}
+use Rattle.mk_session.specs.Transcript.{AreReplied}
 use Rattle.mk_session.specs.Texts.{ready_line, reply_line}
 use Rattle.mk_session.specs.Outcome.{IsFrontOf}
-use Rattle.mk_session.proofs.Answering.{no_more, then_replied}
+use Rattle.mk_session.proofs.Answering.{no_more, blank_replied, one_replied, then_replied}
 use Rattle.mk_session.proofs.Underway.{are_whole, behind, placed_next}
+use Rattle.mk_verify.specs.Clear.{IsOpen}
 use Rattle.mk_audit.specs.declared.verdict.Verdict.{Verdict}
 use Rattle.mk_audit.specs.declared.verdict.Verdict.TheVariants.{Yes, No, Unsure}
 use Rattle.mk_audit.specs.declared.verdict.AuditFault.{AuditFault}
@@ -22,25 +26,40 @@ use Rattle.mk_audit.specs.declared.front.Front.{Front}
 use Rattle.mk_audit.specs.Verdicts.{IsReached, IsWrongNext, IsWrongAt, Disallowed, IsOpenNext}
 use Rattle.mk_audit.specs.Verdicts.{AuditEnds, HasAuditCause}
 use Rattle.mk_audit.specs.inner.Progress.{standing_at, left_of, IsPassed, IsStuck, IsUndecided}
-use Rattle.mk_audit.specs.inner.Progress.{EndsAt, Holds, IsHeld, IsSoFar}
+use Rattle.mk_audit.specs.inner.Progress.{AreRepliesTo, EndsAt, Holds, IsHeld, IsSoFar}
 
-held_next : (market : Market) (lines : List StreamLine) (line : StreamLine) (old new : Standing)
-    (transcript left rest : List ℕ) (before after : ℕ)
-    → IsPassed market old new line left rest before after
-    → IsHeld market lines old transcript left before
-    → IsHeld market (lines ++ line ∷ []) new transcript rest after
-held_next market lines line old new transcript left rest before after passed held =
+-- the replies to a line in the market as it stands are those of a run of the file's market
+step_replied : (start market : Market) (old new : Standing) (line : StreamLine)
+    (replies : List Reply) → market ≡ present start old.history
+    → AreRepliesTo line market old new replies → AreReplied start old (line ∷ []) new replies
+step_replied start market old new line [] at blank =
+    subst (λ (s : Standing). AreReplied start old (line ∷ []) s []) (sym blank.1)
+    (blank_replied start old line blank.0)
+step_replied start market old new line (reply ∷ []) at its =
+    subst (λ (s : Standing). AreReplied start old (line ∷ []) s (reply ∷ []))
+    (sym (its.leads ∙ ap (λ (m : Market). after m old its.asked reply) at))
+    (one_replied start old line its.asked reply its.not_blank its.asks
+    (subst (λ (m : Market). IsAllowedFor m old its.asked reply) at its.allowed))
+step_replied start market old new line (reply ∷ another ∷ replies) at none = absurd none
+
+held_next : (start market : Market) (lines : List StreamLine) (line : StreamLine)
+    (old new : Standing) (transcript left rest : List ℕ) (before after : ℕ)
+    → market ≡ present start old.history → IsPassed market old new line left rest before after
+    → IsHeld start lines old transcript left before
+    → IsHeld start (lines ++ line ∷ []) new transcript rest after
+held_next start market lines line old new transcript left rest before after at passed held =
     let right = held.right in
     let bytes = flat_map reply_line passed.replies in
     record {
       front = held.front ++ bytes;
       right = record {
         replies = right.replies ++ passed.replies;
-        replied = then_replied market opening old new lines (line ∷ []) right.replies passed.replies
-            right.replied passed.replied;
+        replied = then_replied start opening old new lines (line ∷ []) right.replies passed.replies
+            right.replied
+            (step_replied start market old new line passed.replies at passed.replied);
         printed = ap (λ (xs : List ℕ). xs ++ bytes) right.printed
-            ∙ append_assoc (ready_line market) (flat_map reply_line right.replies) bytes
-            ∙ ap (λ (xs : List ℕ). ready_line market ++ xs)
+            ∙ append_assoc (ready_line start) (flat_map reply_line right.replies) bytes
+            ∙ ap (λ (xs : List ℕ). ready_line start ++ xs)
             (sym (flat_map-append reply_line right.replies passed.replies));
         counted = omega (
           arith,
@@ -54,24 +73,25 @@ held_next market lines line old new transcript left rest before after passed hel
     }
 
 -- a line was given and passed
-so_far_next : (market : Market) (all : List ℕ) (line : StreamLine) (old new : Cutting)
+so_far_next : (start market : Market) (all : List ℕ) (line : StreamLine) (old new : Cutting)
     (source rest : Option (List ℕ)) (now then : Standing) (transcript : List ℕ)
-    (before after : Front) → old.last ≡ None → IsWithinLimits new
+    (before after : Front) → market ≡ present start now.history → old.last ≡ None
+    → IsWithinLimits new
     → GivesLine line old new (stream_left old source) (stream_left new rest)
     → IsPassed market (standing_at now before) (standing_at then after) line
     (left_of transcript before) (left_of transcript after) before.right after.right
-    → IsSoFar market all old source now transcript before
-    → IsSoFar market all new rest then transcript after
-so_far_next market all line old new source rest now then transcript before after none limits gives
-    passed far =
+    → IsSoFar start all old source now transcript before
+    → IsSoFar start all new rest then transcript after
+so_far_next start market all line old new source rest now then transcript before after at none
+    limits gives passed far =
     placed_next all line old new source rest
-    (λ lines. IsHeld market lines (standing_at now before) transcript (left_of transcript before)
+    (λ lines. IsHeld start lines (standing_at now before) transcript (left_of transcript before)
     before.right)
-    (λ lines. IsHeld market lines (standing_at then after) transcript (left_of transcript after)
+    (λ lines. IsHeld start lines (standing_at then after) transcript (left_of transcript after)
     after.right) none limits gives
-    (λ lines held. held_next market lines line (standing_at now before) (standing_at then after)
-    transcript (left_of transcript before) (left_of transcript after) before.right after.right
-    passed held) far
+    (λ lines held. held_next start market lines line (standing_at now before)
+    (standing_at then after) transcript (left_of transcript before) (left_of transcript after)
+    before.right after.right at passed held) far
 
 -- all lines are those that are done, the one that was given, and those that are left
 lines_of : (all done piece left : List ℕ) (line : StreamLine) → all ≡ (done ++ piece) ++ left
@@ -135,29 +155,34 @@ in_front transcript bytes left line parts front = record {
       ∙ sym (append_assoc bytes line front.rest);
 }
 
-wrong_next : (market : Market) (all : List ℕ) (line : StreamLine) (old new : Cutting)
+wrong_next : (start market : Market) (all : List ℕ) (line : StreamLine) (old new : Cutting)
     (source rest : Option (List ℕ)) (now : Standing) (transcript : List ℕ) (front : Front)
-    → old.last ≡ None → GivesLine line old new (stream_left old source) (stream_left new rest)
+    → market ≡ present start now.history → old.last ≡ None
+    → GivesLine line old new (stream_left old source) (stream_left new rest)
     → IsStuck market (standing_at now front) line (left_of transcript front)
-    → IsSoFar market all old source now transcript front
-    → IsWrongNext market (stream_lines all) transcript front.right
-wrong_next market all line old new source rest now transcript front none gives stuck far =
-    reached market all line old new source rest now transcript front _ none gives stuck.not_blank
+    → IsSoFar start all old source now transcript front
+    → IsWrongNext start (stream_lines all) transcript front.right
+wrong_next start market all line old new source rest now transcript front at none gives stuck far =
+    reached start all line old new source rest now transcript front _ none gives stuck.not_blank
     (λ others bytes parts. (
       stuck.asked,
       stuck.asks,
-      λ gone. stuck.none gone.reply gone.allowed (behind_front transcript bytes
-          (left_of transcript front) (reply_line gone.reply) parts gone.stands),
+      λ gone. stuck.none gone.reply
+          (subst (λ (m : Market). IsAllowedFor m (standing_at now front) stuck.asked gone.reply)
+          (sym at) gone.allowed)
+          (behind_front transcript bytes (left_of transcript front) (reply_line gone.reply) parts
+          gone.stands),
     )) far
 
-open_next : (market : Market) (all : List ℕ) (line : StreamLine) (old new : Cutting)
+open_next : (start market : Market) (all : List ℕ) (line : StreamLine) (old new : Cutting)
     (source rest : Option (List ℕ)) (now : Standing) (transcript : List ℕ) (front : Front)
-    → old.last ≡ None → GivesLine line old new (stream_left old source) (stream_left new rest)
+    → market ≡ present start now.history → old.last ≡ None
+    → GivesLine line old new (stream_left old source) (stream_left new rest)
     → IsUndecided market (standing_at now front) line (left_of transcript front)
-    → IsSoFar market all old source now transcript front
-    → IsOpenNext market (stream_lines all) transcript front.right
-open_next market all line old new source rest now transcript front none gives told far =
-    reached market all line old new source rest now transcript front _ none gives told.not_blank
+    → IsSoFar start all old source now transcript front
+    → IsOpenNext start (stream_lines all) transcript front.right
+open_next start market all line old new source rest now transcript front at none gives told far =
+    reached start all line old new source rest now transcript front _ none gives told.not_blank
     (λ others bytes parts. (
       told.command,
       told.reply,
@@ -165,33 +190,37 @@ open_next market all line old new source rest now transcript front none gives to
       told.is_reply,
       in_front transcript bytes (left_of transcript front) (reply_line told.reply) parts
           told.stands,
-      told.is_open,
+      subst (λ (m : Market). IsOpen m now.history front.known.quotes told.command told.reply) at
+          told.is_open,
     )) far
 
 -- the audit ends at a line that was given
-ends_there : (end : Result Verdict AuditFault) (market : Market) (all : List ℕ) (line : StreamLine)
-    (old new : Cutting) (source rest : Option (List ℕ)) (now : Standing) (transcript : List ℕ)
-    (front : Front) → old.last ≡ None
+ends_there : (end : Result Verdict AuditFault) (start market : Market) (all : List ℕ)
+    (line : StreamLine) (old new : Cutting) (source rest : Option (List ℕ)) (now : Standing)
+    (transcript : List ℕ) (front : Front) → market ≡ present start now.history → old.last ≡ None
     → GivesLine line old new (stream_left old source) (stream_left new rest)
     → EndsAt end market (standing_at now front) line (left_of transcript front) front.right
-    → IsSoFar market all old source now transcript front → AuditEnds end market all transcript
-ends_there (Ok (Yes n)) market all line old new source rest now transcript front none gives h far =
-    absurd h
-ends_there (Ok (No n)) market all line old new source rest now transcript front none gives h far =
-    subst (IsWrongAt market (stream_lines all) transcript) (sym h.0)
-    (Disallowed front.right (wrong_next market all line old new source rest now transcript front
-    none gives h.1 far))
-ends_there (Ok (Unsure n)) market all line old new source rest now transcript front none gives h
-    far = (
+    → IsSoFar start all old source now transcript front → AuditEnds end start all transcript
+ends_there (Ok (Yes n)) start market all line old new source rest now transcript front at none gives
+    h far = absurd h
+ends_there (Ok (No n)) start market all line old new source rest now transcript front at none gives
+    h far =
+    subst (IsWrongAt start (stream_lines all) transcript) (sym h.0)
+    (Disallowed front.right (wrong_next start market all line old new source rest now transcript
+    front at none gives h.1 far))
+ends_there (Ok (Unsure n)) start market all line old new source rest now transcript front at none
+    gives h far = (
       front.right,
       h.0,
-      open_next market all line old new source rest now transcript front none gives h.1 far,
+      open_next start market all line old new source rest now transcript front at none gives h.1
+          far,
     )
-ends_there (Err Read) market all line old new source rest now transcript front none gives h far = tt
-ends_there (Err TooMany) market all line old new source rest now transcript front none gives h far =
-    absurd h
-ends_there (Err Memory) market all line old new source rest now transcript front none gives h far =
-    tt
+ends_there (Err Read) start market all line old new source rest now transcript front at none gives
+    h far = tt
+ends_there (Err TooMany) start market all line old new source rest now transcript front at none
+    gives h far = absurd h
+ends_there (Err Memory) start market all line old new source rest now transcript front at none gives
+    h far = tt
 
 -- what is found of a line that was given, where the audit goes on
 pub goes_on_behind : (ended : Option (Result Verdict AuditFault)) (market : Market)
@@ -199,12 +228,13 @@ pub goes_on_behind : (ended : Option (Result Verdict AuditFault)) (market : Mark
     (transcript : List ℕ) (before after : Front) → old.last ≡ None → IsWithinLimits new
     → GivesLine line old new (stream_left old source) (stream_left new rest)
     → Holds ended market now then line transcript before after
-    → IfNone ended ((all : List ℕ) → IsSoFar market all old source now transcript before
-    → IsSoFar market all new rest then transcript after)
+    → IfNone ended ((start : Market) (all : List ℕ) → market ≡ present start now.history
+    → IsSoFar start all old source now transcript before
+    → IsSoFar start all new rest then transcript after)
 goes_on_behind None market line old new source rest now then transcript before after none limits
     gives passed =
-    λ all far. so_far_next market all line old new source rest now then transcript before after
-    none limits gives passed far
+    λ start all at far. so_far_next start market all line old new source rest now then transcript
+    before after at none limits gives passed far
 goes_on_behind (Some end) market line old new source rest now then transcript before after none
     limits gives h = tt
 
@@ -214,12 +244,13 @@ pub ends_behind : (ended : Option (Result Verdict AuditFault)) (market : Market)
     (transcript : List ℕ) (before after : Front) → old.last ≡ None
     → GivesLine line old new (stream_left old source) (stream_left new rest)
     → Holds ended market now then line transcript before after
-    → IfSome ended (λ end. (all : List ℕ) → IsSoFar market all old source now transcript before
-    → AuditEnds end market all transcript)
+    → IfSome ended (λ end. (start : Market) (all : List ℕ) → IsMarket start
+    → market ≡ present start now.history → IsSoFar start all old source now transcript before
+    → AuditEnds end start all transcript)
 ends_behind None market line old new source rest now then transcript before after none gives h = tt
 ends_behind (Some end) market line old new source rest now then transcript before after none gives
-    h = λ all far. ends_there end market all line old new source rest now transcript before none
-    gives h far
+    h = λ start all is_market at far. ends_there end start market all line old new source rest now
+    transcript before at none gives h far
 
 -- no read failed at a line that was given
 cause_there : (end : Result Verdict AuditFault) (market : Market) (now : Standing)

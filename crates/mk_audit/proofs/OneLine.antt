@@ -29,6 +29,7 @@ use Rattle.mk_reply.specs.declared.reply.Reply.TheVariants.{Joined, Deposited, W
 use Rattle.mk_reply.specs.declared.reply.Reply.TheVariants.{Limits, Traded, Bounded, Spreaded}
 use Rattle.mk_reply.specs.declared.reply.Reply.TheVariants.{Worst, Resolved, Settled, Bound}
 use Rattle.mk_reply.specs.declared.reply.Reply.TheVariants.{Prices, Position, Status, Refused}
+use Rattle.mk_reply.specs.declared.reply.Reply.TheVariants.{Added}
 use Rattle.mk_reply.specs.declared.refusal.Refusal.{Refusal}
 use Rattle.mk_reply.specs.declared.refusal.Refusal.TheVariants.{Syntax, Long, Settled as Over}
 use Rattle.mk_reply.specs.declared.refusal.Refusal.TheVariants.{User, Exists, Users, Unknown}
@@ -37,6 +38,9 @@ use Rattle.mk_reply.specs.declared.refusal.Refusal.TheVariants.{Impossible, Wide
 use Rattle.mk_reply.specs.declared.refusal.Refusal.TheVariants.{Beyond, Short, Unresolved}
 use Rattle.mk_reply.specs.declared.refusal.Refusal.TheVariants.{NoVariable, Numbers, Sum, Outside}
 use Rattle.mk_reply.specs.declared.refusal.Refusal.TheVariants.{Sure, Memory}
+use Rattle.mk_reply.specs.declared.refusal.Refusal.TheVariants.{Variables, Taken, ValueTwice}
+use Rattle.mk_reply.specs.declared.refusal.Refusal.TheVariants.{RowCount, RowWidth, Cells, Link}
+use Rattle.mk_reply.specs.declared.refusal.Refusal.TheVariants.{Uncovered, NotRunning}
 use Rattle.mk_reply.proofs.ReplyLaws.{form_tells}
 use Rattle.mk_session.specs.Texts.{reply_line}
 use Rattle.mk_audit.specs.Laws.{ReplyIsOneLine}
@@ -194,6 +198,22 @@ why_in_line (Sum sum) is = both (codes "sum ") (decimal sum) refl (number sum (o
 why_in_line (Outside told) is =
     both (codes "outside ") (intervals_text (given_in told)) refl (intervals (given_in told) is)
 why_in_line (Sure words) is = both (codes "sure ") (pair_text words) refl (pair words is)
+why_in_line (Variables held) is =
+    both (codes "variables ") (decimal held) refl (number held (omega (arith, is)))
+why_in_line (Taken variable) is = both (codes "taken ") variable refl (name variable is)
+why_in_line (ValueTwice value) is = both (codes "value ") value refl (name value is)
+why_in_line (RowCount given) is =
+    both (codes "rows ") (decimal given) refl (number given (omega (arith, is)))
+why_in_line (RowWidth row given) is =
+    both (codes "width ") (decimal row & codes " " & decimal given) refl
+    (both (decimal row) (codes " " & decimal given) (number row (omega (arith, is.0)))
+    (both (codes " ") (decimal given) refl (number given (omega (arith, is.1)))))
+why_in_line (Cells total) is =
+    both (codes "cells ") (decimal total) refl (number total (omega (arith, is)))
+why_in_line (Link place) is =
+    both (codes "link ") (decimal place) refl (number place (omega (arith, is)))
+why_in_line (Uncovered variable) is = both (codes "cover ") variable refl (name variable is)
+why_in_line (NotRunning variable) is = both (codes "running ") variable refl (name variable is)
 why_in_line Memory is = refl
 
 -- a user, a number and a revision
@@ -268,6 +288,9 @@ in_line (Status at users trades most transfers most_transfers unresolved questio
     (both (of_text (transfers, most_transfers)) (codes " open " & left)
     (pair_of transfers most_transfers is.4 is.5)
     (both (codes " open ") left refl (pair_of unresolved questions is.6 is.7)))))))))
+in_line (Added variable at) is =
+    both (codes "add ") (variable & at_text at) refl
+    (both variable (at_text at) (name variable is.0) (revision at is.1))
 in_line (Refused why) is = both (codes "refused ") (refusal_text why) refl (why_in_line why is)
 
 not_lf : (b : ℕ) → is_within b ≡ true → b ≢ 10

@@ -5,17 +5,18 @@ use Rattle.std.specs.List.{AllZip, flat_map}
 use Rattle.std.proofs.lemmas.List.{append_cancel_left}
 use Rattle.std.proofs.lemmas.List.Concat.{flat_map-cons}
 use Rattle.mk_io.specs.Stream.{StreamLine, text, long, is_not_blank}
-use Rattle.mk_exact.specs.Market.{Market}
+use Rattle.mk_exact.specs.Market.{Market, present}
 use Rattle.mk_command.specs.declared.command.Command.{Command}
 use Rattle.mk_command.proofs.CommandLaws.{form_tells}
 use Rattle.mk_text.proofs.ReadingLaws.{whole_one}
 use Rattle.mk_reply.specs.declared.reply.Reply.{Reply}
 use Rattle.mk_reply.specs.Replies.{IsReply}
-use Rattle.mk_rules.specs.Bounded.{IsLine}
+use Rattle.mk_rules.specs.Bounded.{IsLine, IsBounded}
+use Rattle.mk_rules.specs.Standings.{IsReady}
 use Rattle.mk_rules.specs.Transcript.{Standing, opening, Line, OfCommand, NoCommand, LongLine}
 use Rattle.mk_rules.specs.Transcript.{IsAllowedFor, after, Run}
-use Rattle.mk_rules.proofs.Ready.{ready_keeps}
-use Rattle.mk_rules.proofs.Follows.{bounded_keeps}
+use Rattle.mk_rules.proofs.Ready.{step_keeps_ready}
+use Rattle.mk_rules.proofs.Follows.{bounded_keeps, bounded_in}
 use Rattle.mk_rules.proofs.Texts.{replies_have_texts}
 use Rattle.mk_session.specs.Texts.{ready_line, reply_line}
 use Rattle.mk_session.specs.Transcript.{Asks}
@@ -50,22 +51,40 @@ asks_one long NoCommand b h k = absurd h
 asks_one long (OfCommand c) b h k = absurd h
 
 -- an allowed reply to a line of the stream has a text
-pub has_text : (market : Market) (now : Standing) → CanBegin market now → (line : StreamLine)
-    (asked : Line) (reply : Reply) → Asks line asked → IsAllowedFor market now asked reply
-    → IsReply reply
-has_text market now begins line asked reply asks allowed =
-    replies_have_texts market now asked reply begins.is_market begins.ready begins.bounded
+pub has_text : (market : Market) (now : Standing) → IsReady market now
+    → IsBounded market now.history → (line : StreamLine) (asked : Line) (reply : Reply)
+    → Asks line asked → IsAllowedFor market now asked reply → IsReply reply
+has_text market now ready bounded line asked reply asks allowed =
+    replies_have_texts market now asked reply ready.stands.legal ready bounded
     (line_asked line asked asks) allowed
+
+-- in a run, where the market is the file's with what was added so far
+bounded_here : (market : Market) (now : Standing) → CanBegin market now
+    → IsBounded (present market now.history) now.history
+bounded_here market now begins =
+    bounded_in market (present market now.history) now.history refl begins.bounded
+
+run_has_text : (market : Market) (now : Standing) → CanBegin market now → (line : StreamLine)
+    (asked : Line) (reply : Reply) → Asks line asked
+    → IsAllowedFor (present market now.history) now asked reply → IsReply reply
+run_has_text market now begins =
+    has_text (present market now.history) now begins.ready (bounded_here market now begins)
 
 -- and behind it the run can go on
 pub begins_after : (market : Market) (now : Standing) → CanBegin market now → (asked : Line)
-    (reply : Reply) → IsLine asked → IsAllowedFor market now asked reply
-    → CanBegin market (after market now asked reply)
-begins_after market now begins asked reply is allowed = record {
-  is_market = begins.is_market;
-  ready = ready_keeps market now asked reply begins.ready allowed;
-  bounded = bounded_keeps market now asked reply begins.is_market is begins.bounded allowed;
-}
+    (reply : Reply) → IsLine asked
+    → IsAllowedFor (present market now.history) now asked reply
+    → CanBegin market (after (present market now.history) now asked reply)
+begins_after market now begins asked reply is allowed =
+    let here = present market now.history in
+    let next = after here now asked reply in
+    record {
+      is_market = begins.is_market;
+      ready = step_keeps_ready market now asked reply begins.ready allowed;
+      bounded = bounded_in here market next.history refl
+          (bounded_keeps here now asked reply begins.is_market.few_trades is
+          (bounded_here market now begins) allowed);
+    }
 
 -- the first of some replies in front of the others
 pub first_and : (reply : Reply) (replies : List Reply) (behind : List ℕ)
@@ -83,11 +102,12 @@ pub record IsOneStep (x y : Line) (r s : Reply) (behind rest : List ℕ) : Type 
 
 pub one_step : (market : Market) (now : Standing) → CanBegin market now → (line : StreamLine)
     (x y : Line) (r s : Reply) (behind rest : List ℕ) → Asks line x → Asks line y
-    → IsAllowedFor market now x r → IsAllowedFor market now y s
+    → IsAllowedFor (present market now.history) now x r
+    → IsAllowedFor (present market now.history) now y s
     → reply_line r ++ behind ≡ reply_line s ++ rest → IsOneStep x y r s behind rest
 one_step market now begins line x y r s behind rest first second allowed also e =
-    let same = one_reply r s behind rest (has_text market now begins line x r first allowed)
-    (has_text market now begins line y s second also) e in
+    let same = one_reply r s behind rest (run_has_text market now begins line x r first allowed)
+    (run_has_text market now begins line y s second also) e in
     record {
       asked = asks_one line y x second first;
       reply = sym same.0;
@@ -120,9 +140,10 @@ one_run market old new then begins (l ∷ ls) (x ∷ xs) (y ∷ ys) (r ∷ rs) (
     let step = one_step market old begins l x y r s (flat_map reply_line rs ++ u)
     (flat_map reply_line ss ++ v) a.0 b.0 run.0 other.0
     (sym (first_and r rs u) ∙ e ∙ first_and s ss v) in
-    let next = subst (λ (q : Reply). Run market (after market old x q) ys ss then) step.reply
-    (subst (λ (q : Line). Run market (after market old q s) ys ss then) step.asked other.1) in
-    let later = one_run market (after market old x r) new then
+    let here = present market old.history in
+    let next = subst (λ (q : Reply). Run market (after here old x q) ys ss then) step.reply
+    (subst (λ (q : Line). Run market (after here old q s) ys ss then) step.asked other.1) in
+    let later = one_run market (after here old x r) new then
     (begins_after market old begins x r (line_asked l x a.0) run.0) ls xs ys rs ss u v a.1 b.1
     run.1 next step.behind_both in
     record {

@@ -1,7 +1,6 @@
 -- What is written of an audit, by how it ends.
 use Rattle.std.proofs.Common.{◌≡◌, ℕ, ◌+◌, ◌<◌, ◌≤◌, List, [], length, take, Option, ◌⊎◌, inl, inr}
 use Rattle.std.proofs.Common.{Result, Ok, Err, refl, sym, ap, subst, ◌∙◌, arith, IsOk}
-use Rattle.std.proofs.lemmas.Bool.{cases_lt}
 use Rattle.std.proofs.lemmas.List.{take_all, length-take}
 use Rattle.mk_io.specs.declared.status.Status.{Status}
 use Rattle.mk_io.specs.declared.status.Status.TheVariants.{Done, Usage, MarketRefused, ReadFault}
@@ -13,7 +12,7 @@ use Rattle.mk_exact.specs.Market.{Market}
 use Rattle.mk_file.specs.declared.fault.FileFault.{FileFault}
 use Rattle.mk_file.specs.declared.fault.FileFault.TheVariants.{Memory as FileMemory}
 use Rattle.mk_session.specs.Outcome.{Adds, Refuses, HasCauses, IsTurnedAway}
-use Rattle.mk_audit.specs.AuditOutcome.{IsJudged, IsUnjudged, IsAudited, AuditsTo, EndsAudit}
+use Rattle.mk_audit.specs.AuditOutcome.{IsJudged, IsAudited, AuditsTo, EndsAudit}
 use Rattle.mk_audit.specs.AuditOutcome.{max_transcript_bytes}
 use Rattle.mk_audit.specs.inner.Telling.{Says}
 

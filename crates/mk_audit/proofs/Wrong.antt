@@ -5,7 +5,7 @@ use Rattle.std.specs.List.{AllZip, flat_map}
 use Rattle.std.proofs.lemmas.List.{append_cancel_left}
 use Rattle.std.proofs.lemmas.List.Elements.{filter-append}
 use Rattle.mk_io.specs.Stream.{StreamLine, is_not_blank}
-use Rattle.mk_exact.specs.Market.{Market}
+use Rattle.mk_exact.specs.Market.{Market, present}
 use Rattle.mk_reply.specs.declared.reply.Reply.{Reply}
 use Rattle.mk_rules.specs.Standings.{IsMarket}
 use Rattle.mk_rules.specs.Transcript.{Standing, opening, Line, IsAllowedFor, after, Run}
@@ -24,7 +24,7 @@ use Rattle.mk_audit.proofs.OneRun.{behind_ready}
 record IsNextReply (market : Market) (now : Standing) (asked : Line) (behind : List ℕ) : Type
     0 where
   pub reply : Reply
-  pub allowed : IsAllowedFor market now asked reply
+  pub allowed : IsAllowedFor (present market now.history) now asked reply
   pub stands : IsFrontOf behind (reply_line reply)
 
 next_reply : (market : Market) (old now last : Standing) → CanBegin market old
@@ -39,9 +39,9 @@ next_reply market old now last begins [] ms line asked [] (y ∷ ys) [] [] u v a
 next_reply market old now last begins [] ms line asked [] (y ∷ ys) [] (s ∷ ss) u v a b asks run
     other e = record {
       reply = s;
-      allowed = subst (λ (n : Standing). IsAllowedFor market n asked s) (sym run)
-          (subst (λ (q : Line). IsAllowedFor market old q s) (asks_one line y asked b.0 asks)
-          other.0);
+      allowed = subst (λ (n : Standing). IsAllowedFor (present market n.history) n asked s)
+          (sym run) (subst (λ (q : Line). IsAllowedFor (present market old.history) old q s)
+          (asks_one line y asked b.0 asks) other.0);
       stands = record { rest = flat_map reply_line ss ++ v; parts = e ∙ first_and s ss v };
     }
 next_reply market old now last begins [] ms line asked [] ys (r ∷ rs) ss u v a b asks run other e =
@@ -61,9 +61,10 @@ next_reply market old now last begins (l ∷ ls) ms line asked (x ∷ xs) (y ∷
     let step = one_step market old begins l x y r s (flat_map reply_line rs ++ u)
     (flat_map reply_line ss ++ v) a.0 b.0 run.0 other.0
     (sym (first_and r rs u) ∙ e ∙ first_and s ss v) in
-    let next = subst (λ (q : Reply). Run market (after market old x q) ys ss last) step.reply
-    (subst (λ (q : Line). Run market (after market old q s) ys ss last) step.asked other.1) in
-    next_reply market (after market old x r) now last
+    let here = present market old.history in
+    let next = subst (λ (q : Reply). Run market (after here old x q) ys ss last) step.reply
+    (subst (λ (q : Line). Run market (after here old q s) ys ss last) step.asked other.1) in
+    next_reply market (after here old x r) now last
     (begins_after market old begins x r (line_asked l x a.0) run.0) ls ms line asked xs ys rs ss u v
     a.1 b.1 asks run.1 next step.behind_both
 

@@ -4,7 +4,7 @@ use Rattle.std.specs.Prelude.{Result, Ok, Err}
 use Rattle.std.specs.List.{flat_map}
 use Rattle.mk_io.specs.Outside.{CountsFault}
 use Rattle.mk_io.specs.Stream.{StreamLine, stream_lines, is_not_blank}
-use Rattle.mk_exact.specs.Market.{Market}
+use Rattle.mk_exact.specs.Market.{Market, present}
 use Rattle.mk_command.specs.declared.command.Command.{Command}
 use Rattle.mk_reply.specs.declared.reply.Reply.{Reply}
 use Rattle.mk_reply.specs.Replies.{IsReply}
@@ -28,11 +28,12 @@ pub record IsRightFront (market : Market) (lines : List StreamLine) (now : Stand
   pub printed : front ≡ ready_line market ++ flat_map reply_line replies
   pub counted : count ≡ 1 + length replies
 
--- a transcript begins with the right line of an allowed reply behind a front
+-- a transcript begins with the right line of a reply behind a front, which is allowed in the market
+-- with what was added so far
 pub record IsGoneOn (market : Market) (now : Standing) (asked : Line)
     (transcript front : List ℕ) : Type 0 where
   pub reply : Reply
-  pub allowed : IsAllowedFor market now asked reply
+  pub allowed : IsAllowedFor (present market now.history) now asked reply
   pub stands : IsFrontOf transcript (front ++ reply_line reply)
 
 -- the first lines of the commands that have a right front in a transcript, and the next line that
@@ -81,7 +82,7 @@ abbrev pub IsOpenNext : Market → List StreamLine → List ℕ → ℕ → Type
 IsOpenNext market lines transcript n = IsReached market lines transcript n
     (λ line rest now front. (command : Command) × (reply : Reply) × Asks line (OfCommand command)
     × IsReply reply × IsFrontOf transcript (front ++ reply_line reply)
-    × IsOpen market now.history now.quotes command reply)
+    × IsOpen (present market now.history) now.history now.quotes command reply)
 
 -- what a verdict says of a market, the lines of its commands, and a transcript: all of it is
 -- allowed, and has so many lines; its line of this number is not allowed; or may be left undecided

@@ -5,12 +5,14 @@ ghost use Rattle.std.specs.Prelude.{◌≡◌, ℕ, ◌+◌, ◌≤◌, List, le
 ghost use Rattle.std.specs.Prelude.{IfNone, IfSome, MatchOption};
 ghost use Rattle.mk_io.specs.Stream.{max_stream_lines};
 ghost use Rattle.mk_io.specs.Cutting.{fresh, GoesOn};
+ghost use Rattle.mk_exact.specs.Market.{Market};
 ghost use Rattle.mk_tree.specs.Checked.{IsTreeOf};
 ghost use Rattle.mk_file.specs.MarketOf.{market_of};
 ghost use Rattle.mk_rules.specs.Standings.{IsMarket};
 ghost use Rattle.mk_rules.specs.Transcript.{opening};
+ghost use Rattle.mk_market.specs.Trading.{IsAt};
 ghost use Rattle.mk_audit.specs.Verdicts.{AuditEnds, HasAuditCause};
-ghost use Rattle.mk_audit.specs.inner.Progress.{IsAt, IsSoFar};
+ghost use Rattle.mk_audit.specs.inner.Progress.{StandsAt, IsSoFar};
 
 use crate::front::{Front, Room};
 use crate::ready::behind_ready_line;
@@ -105,11 +107,11 @@ impl Auditor {
         requires unread { self.old.lines ≡ fresh }
         requires place { self.old.front.place ≤ length transcript.now }
         requires count { self.old.front.right ≡ 1 }
-        requires known { IsAt market.old.market market.old.standing self.old.front }
-        ensures ends { (all : List ℕ) →
-            IsSoFar market.old.market all self.old.lines (I.commands inputs.old)
-            market.old.standing transcript.now self.old.front →
-            AuditEnds result market.old.market all transcript.now }
+        requires known { StandsAt market.old.market market.old.standing self.old.front }
+        ensures ends { (start : Market) (all : List ℕ) → IsMarket start → IsAt start market.old →
+            IsSoFar start all self.old.lines (I.commands inputs.old) market.old.standing
+            transcript.now self.old.front →
+            AuditEnds result start all transcript.now }
         ensures causes { HasAuditCause result (I.faults inputs.old) (I.faults inputs.new) }
         ensures opened { I.market inputs.new ≡ I.market inputs.old }
     {
@@ -132,24 +134,25 @@ impl Auditor {
         requires goes_on { GoesOn self.old.lines.last }
         requires place { self.old.front.place ≤ length transcript.now }
         requires count { self.old.front.right ≤ self.old.lines.given + 1 }
-        requires known { IsAt market.old.market market.old.standing self.old.front }
-        ensures market { market.new.market ≡ market.old.market }
+        requires known { StandsAt market.old.market market.old.standing self.old.front }
+        ensures market { (start : Market) → IsAt start market.old → IsAt start market.new }
         ensures goes_on { IfNone result (GoesOn self.new.lines.last) }
         ensures given { IfNone result (self.new.lines.given ≡ self.old.lines.given + 1) }
         ensures within { self.new.lines.given ≤ max_stream_lines }
         ensures place { IfNone result (self.new.front.place ≤ length transcript.now) }
         ensures count { IfNone result (self.new.front.right ≤ self.new.lines.given + 1) }
         ensures known { IfNone result
-            (IsAt market.new.market market.new.standing self.new.front) }
-        ensures so_far { IfNone result ((all : List ℕ) →
-            IsSoFar market.old.market all self.old.lines (I.commands inputs.old)
-            market.old.standing transcript.now self.old.front →
-            IsSoFar market.old.market all self.new.lines (I.commands inputs.new)
-            market.new.standing transcript.now self.new.front) }
-        ensures ended { IfSome result (λ end. (all : List ℕ) →
-            IsSoFar market.old.market all self.old.lines (I.commands inputs.old)
-            market.old.standing transcript.now self.old.front →
-            AuditEnds end market.old.market all transcript.now) }
+            (StandsAt market.new.market market.new.standing self.new.front) }
+        ensures so_far { IfNone result ((start : Market) (all : List ℕ) → IsAt start market.old →
+            IsSoFar start all self.old.lines (I.commands inputs.old) market.old.standing
+            transcript.now self.old.front →
+            IsSoFar start all self.new.lines (I.commands inputs.new) market.new.standing
+            transcript.now self.new.front) }
+        ensures ended { IfSome result (λ end. (start : Market) (all : List ℕ) → IsMarket start →
+            IsAt start market.old →
+            IsSoFar start all self.old.lines (I.commands inputs.old) market.old.standing
+            transcript.now self.old.front →
+            AuditEnds end start all transcript.now) }
         ensures causes { MatchOption result (I.faults inputs.new ≡ I.faults inputs.old)
             (λ end. HasAuditCause end (I.faults inputs.old) (I.faults inputs.new)) }
         ensures opened { I.market inputs.new ≡ I.market inputs.old }

@@ -3,13 +3,15 @@
 ghost use Rattle.std.specs.Prelude.{◌≡◌, ◌+◌, ◌^◌, ◌<◌, ◌≤◌, ◌++◌, true, false, length};
 ghost use Rattle.std.specs.Prelude.{None, IfNone};
 ghost use Rattle.mk_io.specs.Stream.{StreamLine, text, is_not_blank, max_stream_lines};
+ghost use Rattle.mk_exact.specs.Market.{Market};
 ghost use Rattle.mk_command.specs.Commands.{IsCommand, command_of};
 ghost use Rattle.mk_reply.specs.Replies.{IsReply};
 ghost use Rattle.mk_rules.specs.Transcript.{OfCommand};
+ghost use Rattle.mk_market.specs.Trading.{IsAt};
 ghost use Rattle.mk_session.specs.Transcript.{Asks};
 ghost use Rattle.mk_session.specs.Outcome.{IsFrontOf};
 ghost use Rattle.mk_verify.specs.Known.{IsKnown};
-ghost use Rattle.mk_audit.specs.inner.Progress.{IsAt, standing_at, left_of};
+ghost use Rattle.mk_audit.specs.inner.Progress.{StandsAt, standing_at, left_of};
 ghost use Rattle.mk_audit.specs.inner.Progress.{HoldsBytes, HoldsReply, GoesOnBy, Holds};
 ghost use Rattle.mk_audit.specs.inner.Progress.{EndsBehind};
 
@@ -57,11 +59,12 @@ impl Front {
     ) -> Option<Result<Verdict, AuditFault>>
         requires place { self.old.place ≤ length transcript.now }
         requires count { self.old.right ≤ max_stream_lines }
-        requires known { IsAt market.old.market market.old.standing self.old }
-        ensures market { market.new.market ≡ market.old.market }
+        requires known { StandsAt market.old.market market.old.standing self.old }
+        ensures market { (start : Market) → IsAt start market.old → IsAt start market.new }
         ensures place { IfNone result (self.new.place ≤ length transcript.now) }
         ensures count { IfNone result (self.new.right ≤ self.old.right + 1) }
-        ensures known { IfNone result (IsAt market.new.market market.new.standing self.new) }
+        ensures known { IfNone result
+            (StandsAt market.new.market market.new.standing self.new) }
         ensures found { Holds result market.old.market market.old.standing market.new.standing
             (text line.now) transcript.now self.old self.new }
     {
@@ -128,12 +131,13 @@ impl Front {
     ) -> Option<Result<Verdict, AuditFault>>
         requires place { self.old.place ≤ length transcript.now }
         requires count { self.old.right ≤ max_stream_lines }
-        requires known { IsAt market.old.market market.old.standing self.old }
+        requires known { StandsAt market.old.market market.old.standing self.old }
         requires command { IsCommand (command_of command.now) }
-        ensures market { market.new.market ≡ market.old.market }
+        ensures market { (start : Market) → IsAt start market.old → IsAt start market.new }
         ensures place { IfNone result (self.new.place ≤ length transcript.now) }
         ensures count { IfNone result (self.new.right ≤ self.old.right + 1) }
-        ensures known { IfNone result (IsAt market.new.market market.new.standing self.new) }
+        ensures known { IfNone result
+            (StandsAt market.new.market market.new.standing self.new) }
         ensures found { (line : StreamLine) → is_not_blank line ≡ true →
             Asks line (OfCommand (command_of command.now)) →
             Holds result market.old.market market.old.standing market.new.standing line
@@ -158,7 +162,7 @@ impl Front {
     ) -> bool
         requires place { self.old.place ≤ length transcript.now }
         requires count { self.old.right ≤ max_stream_lines }
-        requires known { IsAt market.old.market market.old.standing self.old }
+        requires known { StandsAt market.old.market market.old.standing self.old }
         ensures market { market.new.market ≡ market.old.market }
         ensures standing { market.new.standing ≡ market.old.standing }
         ensures place { self.new.place ≤ length transcript.now }
@@ -187,12 +191,13 @@ impl Front {
     ) -> Option<Result<Verdict, AuditFault>>
         requires place { self.old.place ≤ length transcript.now }
         requires count { self.old.right ≤ max_stream_lines }
-        requires known { IsAt market.old.market market.old.standing self.old }
+        requires known { StandsAt market.old.market market.old.standing self.old }
         requires command { IsCommand (command_of command.now) }
-        ensures market { market.new.market ≡ market.old.market }
+        ensures market { (start : Market) → IsAt start market.old → IsAt start market.new }
         ensures place { IfNone result (self.new.place ≤ length transcript.now) }
         ensures count { IfNone result (self.new.right ≤ self.old.right + 1) }
-        ensures known { IfNone result (IsAt market.new.market market.new.standing self.new) }
+        ensures known { IfNone result
+            (StandsAt market.new.market market.new.standing self.new) }
         ensures found { (line : StreamLine) → is_not_blank line ≡ true →
             Asks line (OfCommand (command_of command.now)) →
             Holds result market.old.market market.old.standing market.new.standing line
@@ -219,13 +224,14 @@ impl Front {
     ) -> Option<Result<Verdict, AuditFault>>
         requires room { self.old.place + size < 2 ^ 64 }
         requires count { self.old.right ≤ max_stream_lines }
-        requires known { IsAt market.old.market market.old.standing self.old }
+        requires known { StandsAt market.old.market market.old.standing self.old }
         requires command { IsCommand (command_of command.now) }
         requires reply { IsReply reply.now }
-        ensures market { market.new.market ≡ market.old.market }
+        ensures market { (start : Market) → IsAt start market.old → IsAt start market.new }
         ensures place { IfNone result (self.new.place ≡ self.old.place + size) }
         ensures count { IfNone result (self.new.right ≡ self.old.right + 1) }
-        ensures known { IfNone result (IsAt market.new.market market.new.standing self.new) }
+        ensures known { IfNone result
+            (StandsAt market.new.market market.new.standing self.new) }
         ensures found { HoldsReply result market.old.market
             (standing_at market.old.standing self.old) (standing_at market.new.standing self.new)
             (command_of command.now) reply.now self.old.right }
@@ -250,11 +256,10 @@ impl Front {
         requires count { self.old.right ≤ max_stream_lines }
         requires known { IsKnown market.old.market (market.old.standing).history self.old.known }
         requires reply { IsReply reply.now }
-        ensures market { market.new.market ≡ market.old.market }
         ensures place { IfNone result (self.new.place ≡ self.old.place + size) }
         ensures count { IfNone result (self.new.right ≡ self.old.right + 1) }
-        ensures next { GoesOnBy result market.old.market market.old.standing market.new.standing
-            self.old self.new (command_of command.now) reply.now }
+        ensures next { GoesOnBy result market.old market.new self.old self.new
+            (command_of command.now) reply.now }
     {
         match follow(alloc, market, &mut self.known, command, reply) {
             Ok(()) => {

@@ -11,7 +11,7 @@ use Rattle.mk_states.specs.Events.{always, with_target}
 use Rattle.mk_exact.specs.Factors.{gain}
 use Rattle.mk_exact.specs.History.{Entry, users}
 use Rattle.mk_exact.specs.Limits.{Side}
-use Rattle.mk_exact.specs.Market.{Market, network_of}
+use Rattle.mk_exact.specs.Market.{Market}
 use Rattle.mk_exact.specs.Sides.{AreSides}
 use Rattle.mk_exact.specs.Weight.{possible_states}
 use Rattle.mk_spread.specs.Spreads.{SpreadAsked, asked_of}
@@ -45,7 +45,7 @@ IsAskedFor market H command (Err why) evidence = first_refusal market H command 
 -- of a question's price
 abbrev pub IsPriceEvidence : Market → List Entry → QuestionText → PriceBounds → Type 0
 IsPriceEvidence market H q bounds =
-    let network = network_of market H in
+    let network = market.network in
     IsSomeAnd (question_named network q)
     (λ asked. AreBoundsOfPrice (evidence_grade market H) network H asked bounds)
 
@@ -53,7 +53,7 @@ IsPriceEvidence market H q bounds =
 abbrev pub ArePricesEvidence :
     Market → List Entry → List ℕ → ArrayVec PairText → ArrayVec (Option PriceBounds) → Type 0
 ArePricesEvidence market H v condition bounds =
-    let network = network_of market H in
+    let network = market.network in
     IsSomeAnd (spread_named network v condition.items) (λ spread.
     AllZip (λ value price. IsSomeAnd price
     (AreBoundsOfPrice (evidence_grade market H) network H (asked_of spread value)))
@@ -64,14 +64,14 @@ ArePricesEvidence market H v condition bounds =
 -- of what a user is worth at least, whatever comes
 abbrev pub IsWorstEvidence : Market → List Entry → List ℕ → Factor → Type 0
 IsWorstEvidence market H name factor =
-    IsLeastFactorOf (evidence_grade market H) (network_of market H) H (user_number H name) always
+    IsLeastFactorOf (evidence_grade market H) market.network H (user_number H name) always
     factor
 
 -- of what a user is worth at least where each value of a variable comes, in order
 abbrev pub IsPositionEvidence :
     Market → List Entry → List ℕ → List ℕ → ArrayVec PairText → ArrayVec (Option Factor) → Type 0
 IsPositionEvidence market H name v condition factors =
-    let network = network_of market H in
+    let network = market.network in
     IsSomeAnd (spread_named network v condition.items) (λ spread.
     AllZip (λ value factor. IsSureFactor (evidence_grade market H) network H (user_number H name)
     (with_target (asked_of spread value)) factor) (values_of network spread) factors.items)
@@ -79,14 +79,14 @@ IsPositionEvidence market H name v condition factors =
 -- of what a user is worth in the one state that is left
 abbrev pub IsPaymentEvidence : Market → List Entry → ℕ → Factor → Type 0
 IsPaymentEvidence market H u factor =
-    let network = network_of market H in
+    let network = market.network in
     (state : List ℕ) → possible_states network H always ≡ state ∷ []
     → IsFactorOf (evidence_grade market H) network H u (gain H u state) factor
 
 -- of the most that the operator can lose
 abbrev pub IsBoundEvidence : Market → List Entry → Enclosure → Type 0
 IsBoundEvidence market H least =
-    IsLeastWeight (evidence_grade market H) (network_of market H) H least
+    IsLeastWeight (evidence_grade market H) market.network H least
 
 -- ---- sides
 
@@ -95,28 +95,28 @@ pub record AreEditSides (market : Market) (H : List Entry) (u : ℕ) (asked : As
     (bounds : Bounds) : Type 0 where
   pub hit : Side
   pub miss : Side
-  pub exist : AreSides (network_of market H) H u asked hit miss
-  pub hit_bounds : (hit miss : Side) → AreSides (network_of market H) H u asked hit miss
-      → AreBoundsOfSide (evidence_grade market H) (network_of market H) H u (hit_side bounds) hit
-  pub miss_bounds : (hit miss : Side) → AreSides (network_of market H) H u asked hit miss
-      → AreBoundsOfSide (evidence_grade market H) (network_of market H) H u (miss_side bounds) miss
+  pub exist : AreSides market.network H u asked hit miss
+  pub hit_bounds : (hit miss : Side) → AreSides market.network H u asked hit miss
+      → AreBoundsOfSide (evidence_grade market H) market.network H u (hit_side bounds) hit
+  pub miss_bounds : (hit miss : Side) → AreSides market.network H u asked hit miss
+      → AreBoundsOfSide (evidence_grade market H) market.network H u (miss_side bounds) miss
 
 -- of an edit: its user and its question in numbers, with the bounds of both sides
 pub record IsEditEvidence (market : Market) (H : List Entry) (name : List ℕ) (q : QuestionText)
     (evidence : EditEvidence) : Type 0 where
   pub user : evidence.user ≡ user_number H name
   pub within : evidence.user < length (users H)
-  pub named : question_named (network_of market H) q ≡ Some evidence.question
+  pub named : question_named market.network q ≡ Some evidence.question
   pub sides : AreEditSides market H evidence.user evidence.question evidence.bounds
 
 -- there are the sides of each value for a user, and these are their bounds
 pub record AreSpreadSides (market : Market) (H : List Entry) (u : ℕ) (spread : SpreadAsked)
     (bounds : SpreadBounds) : Type 0 where
   pub sides : List (Option Side)
-  pub exist : AreValueSides (network_of market H) H u spread sides
+  pub exist : AreValueSides market.network H u spread sides
   pub bounds_of : (sides : List (Option Side))
-      → AreValueSides (network_of market H) H u spread sides
-      → AllZip (IsBoundedValue (evidence_grade market H) (network_of market H) H u)
+      → AreValueSides market.network H u spread sides
+      → AllZip (IsBoundedValue (evidence_grade market H) market.network H u)
       (sides_in bounds) sides
 
 -- of a spread: its user and its question in numbers, with the bounds of each value
@@ -124,7 +124,7 @@ pub record IsSpreadEvidence (market : Market) (H : List Entry) (name v : List �
     (condition : ArrayVec PairText) (evidence : SpreadEvidence) : Type 0 where
   pub user : evidence.user ≡ user_number H name
   pub within : evidence.user < length (users H)
-  pub named : spread_named (network_of market H) v condition.items
+  pub named : spread_named market.network v condition.items
       ≡ Some (spread_in evidence.question)
-  pub two_left : 2 ≤ length (values_left (network_of market H) H (spread_in evidence.question))
+  pub two_left : 2 ≤ length (values_left market.network H (spread_in evidence.question))
   pub sides : AreSpreadSides market H evidence.user (spread_in evidence.question) evidence.bounds

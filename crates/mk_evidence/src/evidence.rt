@@ -6,7 +6,6 @@
 ghost use Rattle.std.specs.Prelude.{◌≡◌, ◌<◌, ◌≤◌, length};
 ghost use Rattle.mk_command.specs.declared.command.Command.TheVariants as command;
 ghost use Rattle.mk_exact.specs.History.{users};
-ghost use Rattle.mk_exact.specs.Market.{network_of};
 ghost use Rattle.mk_evidence.specs.Grades.{all_cells};
 ghost use Rattle.mk_evidence.specs.Evidence.{IsAskedFor, IsPriceEvidence, ArePricesEvidence};
 ghost use Rattle.mk_evidence.specs.Evidence.{IsWorstEvidence, IsPositionEvidence};
@@ -159,7 +158,7 @@ pub fn bound_evidence<P: TreeGraded<SumProd>, A: TreeGraded<MinProd>>(
     ensures same { market.new ≡ market.old }
     ensures evidence { IsAskedFor market.old.market (market.old.standing).history command.Bound
         result (IsBoundEvidence market.old.market (market.old.standing).history) }
-    ensures cells { length (network_of market.old.market (market.old.standing).history)
+    ensures cells { length market.old.market.network
         ≤ all_cells market.old.market (market.old.standing).history }
 {
     not_settled(&market.journal)?;

@@ -13,4 +13,6 @@ pub use evidence::{
 };
 pub use evidence_of_edits::{EditEvidence, edit_evidence, limits_evidence};
 pub use evidence_of_spreads::{SpreadEvidence, bounds_evidence, spread_evidence};
-pub use refused::{refused_deposit, refused_join, refused_resolution, refused_settlement};
+pub use refused::{
+    refused_addition, refused_deposit, refused_join, refused_resolution, refused_settlement,
+};

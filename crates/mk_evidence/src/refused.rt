@@ -3,14 +3,14 @@
 ghost use Rattle.std.specs.Prelude.{◌≡◌, IfOk};
 ghost use Rattle.mk_command.specs.declared.command.Command.TheVariants as command;
 ghost use Rattle.mk_exact.specs.Existing.{HasOutcome};
-ghost use Rattle.mk_exact.specs.Market.{network_of};
 ghost use Rattle.mk_rules.specs.Refusals.{first_refusal};
 ghost use Rattle.mk_record.specs.Refused.{refusal_in};
 
+use mk_addition::AddText;
 use mk_engine::Engine;
 use mk_market::{Market, can_come, home_of};
 use mk_net::{Name, PairText};
-use mk_record::{refuse_resolve, refuse_settle, refuse_transfer, refuse_user};
+use mk_record::{refuse_add, refuse_resolve, refuse_settle, refuse_transfer, refuse_user};
 use mk_reply::Refusal;
 use mk_semiring::{MinProd, SumProd};
 
@@ -62,8 +62,19 @@ pub fn refused_settlement<P: Engine<SumProd>, A: Engine<MinProd>>(
     ensures refusal { refusal_in result ≡ first_refusal market.now.market
         (market.now.standing).history command.Settle }
     ensures outcome { IfOk result (λ _. HasOutcome
-        (network_of market.now.market (market.now.standing).history)
+        market.now.market.network
         (market.now.standing).history) }
 {
     refuse_settle(&market.file, &market.journal)
+}
+
+/// What `add` would be refused for, but for want of memory.
+pub fn refused_addition<P: Engine<SumProd>, A: Engine<MinProd>>(
+    market: &Market<P, A>,
+    add: &AddText,
+) -> Result<(), Refusal>
+    ensures { refusal_in result ≡ first_refusal market.now.market (market.now.standing).history
+        (command.Add add.now) }
+{
+    refuse_add(&market.file, &market.journal, add)
 }

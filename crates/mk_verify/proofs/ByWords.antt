@@ -1,12 +1,12 @@
 -- Judgements of replies that are decided by their words alone.
-use Rattle.std.proofs.Common.{◌≡◌, ◌↔◌, ◌⊎◌, ℕ, inl, inr, Bool, true, false, refl, sym, ◌∙◌, List, Option, None}
+use Rattle.std.proofs.Common.{◌≡◌, ◌↔◌, ◌⊎◌, ℕ, inl, inr, Bool, true, false, refl, sym, ◌∙◌, List, None}
 use Rattle.mk_exact.specs.History.{Entry}
 use Rattle.mk_exact.specs.Market.{Market}
 use Rattle.mk_command.specs.declared.command.Command.{Command}
 use Rattle.mk_command.specs.declared.command.Command.TheVariants.{Status}
 use Rattle.mk_reply.specs.declared.refusal.Refusal.TheVariants.{Memory}
 use Rattle.mk_reply.specs.declared.reply.Reply.{Reply}
-use Rattle.mk_reply.specs.declared.reply.Reply.TheVariants.{Joined, Refused}
+use Rattle.mk_reply.specs.declared.reply.Reply.TheVariants.{Joined, Added, Refused}
 use Rattle.mk_reply.specs.contracts.reply.ReplyPartialEq.TheImpl.{ghosts as reply_ghosts}
 use Rattle.mk_rules.specs.Answers.{IsAnswer, IsAllowed}
 use Rattle.mk_rules.specs.Standings.{Stands}
@@ -37,6 +37,32 @@ or_memory told user at b S is says = (
   λ either. elim either [
     | inl s ↦ says.1 s
     | inr refused ↦ absurd (let e : Joined user at ≡ Refused Memory = sym is ∙ refused in cc)
+  ],
+)
+
+-- nor was one who added a question, whose words stand in a line
+pub added_or_memory : (told : Reply) (variable : List ℕ) (at : ℕ) (b : Bool) (T S : Type 0)
+    → told ≡ Added variable at → T → ((b ≡ true) ↔ S)
+    → (b ≡ true) ↔ ((T × S) ⊎ (told ≡ Refused Memory))
+added_or_memory told variable at b T S is text says = (
+  λ yes. inl (text, says.0 yes),
+  λ either. elim either [
+    | inl added ↦ says.1 added.1
+    | inr refused ↦
+        absurd (let e : Added variable at ≡ Refused Memory = sym is ∙ refused in cc)
+  ],
+)
+
+-- words that stand in none add nothing
+pub added_without_text : (told : Reply) (variable : List ℕ) (at : ℕ) (b : Bool) (T S : Type 0)
+    → told ≡ Added variable at → (T → ⊥) → b ≡ false
+    → (b ≡ true) ↔ ((T × S) ⊎ (told ≡ Refused Memory))
+added_without_text told variable at b T S is unwritten none = (
+  λ yes. absurd (let e : false ≡ true = sym none ∙ yes in cc),
+  λ either. elim either [
+    | inl added ↦ absurd (unwritten added.0)
+    | inr refused ↦
+        absurd (let e : Added variable at ≡ Refused Memory = sym is ∙ refused in cc)
   ],
 )
 

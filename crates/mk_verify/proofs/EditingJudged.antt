@@ -6,7 +6,7 @@ use Rattle.mk_net.specs.Asked.{Asked}
 use Rattle.mk_exact.specs.History.{Entry, revision}
 use Rattle.mk_exact.specs.Factors.{HoldsNoTrade}
 use Rattle.mk_exact.specs.Limits.{Side, IsFairAndSolvent, Inside, AreRight}
-use Rattle.mk_exact.specs.Market.{Market, network_of}
+use Rattle.mk_exact.specs.Market.{Market}
 use Rattle.mk_exact.specs.Sides.{IsSide, AreSides, AreRightLimits}
 use Rattle.mk_states.specs.Events.{with_target, without_target}
 use Rattle.mk_exact.specs.Factors.{factor_with, least_gain}
@@ -88,10 +88,10 @@ one_side network H u asked test a b h k = at (least_gain network H u test) h k
 
 -- units of one side
 pub units_judged : (market : Market) (H : List Entry) (u : ℕ) (of : SideBounds) (small : Bool) (side : Side) (X F : ℕ) (j : Judged) → TellsSmall small market H
-    → AreBoundsOfSide (evidence_grade market H) (network_of market H) H u of side
+    → AreBoundsOfSide (evidence_grade market H) market.network H u of side
     → JudgesUnits j of small X F
-    → Judges j (IsFairAndSolvent (IsSmall (network_of market H) H) side X F)
-    ((¬ IsSmall (network_of market H) H) × AreUnitsOpen (near_steps market H)
+    → Judges j (IsFairAndSolvent (IsSmall market.network H) side X F)
+    ((¬ IsSmall market.network H) × AreUnitsOpen (near_steps market H)
     (HoldsNoTrade H u) side X F)
 units_judged market H u of small side X F j tells its says =
     let are = its.bounds_of small tells.0 in
@@ -101,7 +101,7 @@ units_judged market H u of small side X F j tells its says =
     (λ e. let near = says.unclear e side are in (
       not_told small _ tells near.large,
       units_open (evidence_grade market H) (grade_room market H)
-          (network_of market H) H u of side its small F X near,
+          market.network H u of side its small F X near,
     ))
 
 -- a trade's units are fair on both sides
@@ -119,10 +119,10 @@ fair_units network H u asked X hit miss at a b sides trade =
           (subst (λ (side : Side). IsFairAndSolvent (IsSmall network H) side (million - X) trade.miss) miss_is trade.fair.miss_units),
     )
 
-trade_open : (market : Market) (H : List Entry) (u : ℕ) (asked : Asked) (X hit miss : ℕ) (a b : Side) → AreSides (network_of market H) H u asked a b
-    → ((¬ IsSmall (network_of market H) H) × AreUnitsOpen (near_steps market H)
+trade_open : (market : Market) (H : List Entry) (u : ℕ) (asked : Asked) (X hit miss : ℕ) (a b : Side) → AreSides market.network H u asked a b
+    → ((¬ IsSmall market.network H) × AreUnitsOpen (near_steps market H)
     (HoldsNoTrade H u) a X hit)
-    ⊎ ((¬ IsSmall (network_of market H) H) × AreUnitsOpen (near_steps market H) (HoldsNoTrade H u) b
+    ⊎ ((¬ IsSmall market.network H) × AreUnitsOpen (near_steps market H) (HoldsNoTrade H u) b
     (million - X) miss)
     → IsTradeOpen market H u asked X hit miss
 trade_open market H u asked X hit miss a b sides (inl of) = record { hit = a; miss = b; sides = sides; large = of.0; near = inl of.1 }
@@ -141,14 +141,14 @@ trade_left market H u asked X quoted told o = absurd o
 
 module _ (market : Market) (H : List Entry) (name : List ℕ) (q : QuestionText) (bounds : Bounds) (small : Bool) (now : ℕ)
     (its : AreEditBounds market H name q bounds small now) where
-  two_sides : (hit miss : Side) → AreSides (network_of market H) H (user_number H name) its.asked hit miss → AreTwoSides bounds small hit miss
+  two_sides : (hit miss : Side) → AreSides market.network H (user_number H name) its.asked hit miss → AreTwoSides bounds small hit miss
   two_sides hit miss are = record {
     of_hit = (its.both.hit hit miss are).bounds_of small its.tells.0;
     of_miss = (its.both.miss hit miss are).bounds_of small its.tells.0;
   }
 
   pub limits_judged : (limits : Interval) (j : Judged) → JudgesLimits j bounds small limits
-      → Judges j (AreRightLimits (network_of market H) H (user_number H name) its.asked limits) (AreLimitsOpen market H (user_number H name) its.asked limits)
+      → Judges j (AreRightLimits market.network H (user_number H name) its.asked limits) (AreLimitsOpen market H (user_number H name) its.asked limits)
   limits_judged limits j says = judges_by j _ _
       (λ e. record {
         hit = its.hit;
@@ -162,7 +162,7 @@ module _ (market : Market) (H : List Entry) (name : List ℕ) (q : QuestionText)
         miss = its.miss;
         sides = its.exist;
         large = not_told small _ its.tells (says.clear e);
-        near = limits_open (evidence_grade market H) (grade_room market H) (network_of market H) H
+        near = limits_open (evidence_grade market H) (grade_room market H) market.network H
             (user_number H name) bounds its.hit its.miss limits
             (its.both.hit its.hit its.miss its.exist) (its.both.miss its.hit its.miss its.exist)
             (says.unclear e its.hit its.miss (two_sides its.hit its.miss its.exist));
@@ -170,11 +170,11 @@ module _ (market : Market) (H : List Entry) (name : List ℕ) (q : QuestionText)
 
   -- limits that are told
   pub told_limits : (limits : Interval) (at : ℕ) (j : Judged) → at ≡ now → JudgesLimits j bounds small limits
-      → Judges j (IsLimits (network_of market H) H (user_number H name) its.asked (reply.Limits limits at))
+      → Judges j (IsLimits market.network H (user_number H name) its.asked (reply.Limits limits at))
       (AreLimitsLeftOpen market H (user_number H name) its.asked (reply.Limits limits at))
   told_limits limits at j same says = judges_as j _ _ _ _
       (λ right. record { limits = limits; printed = ap (λ (n : ℕ). reply.Limits limits n) (same ∙ its.present); right = right })
-      (λ h. let e : h.limits ≡ limits = cc (h.printed) in subst (AreRightLimits (network_of market H) H (user_number H name) its.asked) e h.right)
+      (λ h. let e : h.limits ≡ limits = cc (h.printed) in subst (AreRightLimits market.network H (user_number H name) its.asked) e h.right)
       (λ o. o)
       (limits_judged limits j says)
 
@@ -183,7 +183,7 @@ module _ (market : Market) (H : List Entry) (name : List ℕ) (q : QuestionText)
   -- ---- trades
 
   pub told_trade : (X hit miss at : ℕ) (j k : Judged) → at ≡ now + 1 → JudgesUnits j (hit_side bounds) small X hit → JudgesUnits k (miss_side bounds) small (million - X) miss
-      → Judges (both j k) (IsTrade (network_of market H) H (user_number H name) its.asked X (reply.Traded hit miss at))
+      → Judges (both j k) (IsTrade market.network H (user_number H name) its.asked X (reply.Traded hit miss at))
       (IsTradeLeftOpen market H (user_number H name) its.asked X (reply.Traded hit miss at))
   told_trade X hit miss at j k same says_hit says_miss = judges_as (both j k) _ _ _ _
       (λ fair. record {
@@ -192,7 +192,7 @@ module _ (market : Market) (H : List Entry) (name : List ℕ) (q : QuestionText)
         printed = ap (λ (n : ℕ). reply.Traded hit miss n) (same ∙ ap (λ (n : ℕ). n + 1) its.present);
         fair = record { hit = its.hit; miss = its.miss; sides = its.exist; hit_units = fair.0; miss_units = fair.1 };
       })
-      (fair_units (network_of market H) H (user_number H name) its.asked X hit miss at its.hit its.miss its.exist)
+      (fair_units market.network H (user_number H name) its.asked X hit miss at its.hit its.miss its.exist)
       (trade_open market H (user_number H name) its.asked X hit miss its.hit its.miss its.exist)
       (judges_both j k _ _ _ _
       (units_judged market H (user_number H name) (hit_side bounds) small its.hit X hit j its.tells (its.both.hit its.hit its.miss its.exist) says_hit)
@@ -202,36 +202,36 @@ module _ (market : Market) (H : List Entry) (name : List ℕ) (q : QuestionText)
 
   -- inside of quoted limits
   pub inside_judged : (X : ℕ) (limits : Interval) (told : Reply) (j : Judged) → Inside limits X
-      → Judges j (IsTrade (network_of market H) H (user_number H name) its.asked X told) (IsTradeLeftOpen market H (user_number H name) its.asked X told)
-      → Judges j (IsJudged (network_of market H) H (user_number H name) its.asked X limits told) (IsTradeLeftOpen market H (user_number H name) its.asked X told)
+      → Judges j (IsTrade market.network H (user_number H name) its.asked X told) (IsTradeLeftOpen market H (user_number H name) its.asked X told)
+      → Judges j (IsJudged market.network H (user_number H name) its.asked X limits told) (IsTradeLeftOpen market H (user_number H name) its.asked X told)
   inside_judged X limits told j inside judged = judges_as j _ _ _ _ (λ trade. inl (inside, trade)) from (λ o. o) judged
     where
-      from : IsJudged (network_of market H) H (user_number H name) its.asked X limits told → IsTrade (network_of market H) H (user_number H name) its.asked X told
+      from : IsJudged market.network H (user_number H name) its.asked X limits told → IsTrade market.network H (user_number H name) its.asked X told
       from (inl trade) = trade.1
       from (inr beyond) = absurd (beyond.outside inside)
 
   -- outside of them
   pub outside_judged : (X : ℕ) (limits : Interval) (told : Reply) (j : Judged) → (Inside limits X → ⊥) → Judges j (told ≡ reply.Refused (Beyond limits)) ⊥
-      → Judges j (IsJudged (network_of market H) H (user_number H name) its.asked X limits told) (IsTradeLeftOpen market H (user_number H name) its.asked X told)
+      → Judges j (IsJudged market.network H (user_number H name) its.asked X limits told) (IsTradeLeftOpen market H (user_number H name) its.asked X told)
   outside_judged X limits told j outside judged = judges_as j _ _ _ _ (λ e. inr (record { outside = outside; printed = e })) from (λ never. absurd never) judged
     where
-      from : IsJudged (network_of market H) H (user_number H name) its.asked X limits told → told ≡ reply.Refused (Beyond limits)
+      from : IsJudged market.network H (user_number H name) its.asked X limits told → told ≡ reply.Refused (Beyond limits)
       from (inl trade) = absurd (outside trade.0)
       from (inr beyond) = beyond.printed
 
   -- without limits of the present revision: a reply that is no refusal by limits
   pub afresh_judged : (X : ℕ) (told : Reply) (j : Judged) → beyond_told told ≡ None
-      → Judges j (IsTrade (network_of market H) H (user_number H name) its.asked X told) (IsTradeLeftOpen market H (user_number H name) its.asked X told)
-      → Judges j (IsJudgedAfresh (network_of market H) H (user_number H name) its.asked X told) (IsTradeLeftOpen market H (user_number H name) its.asked X told)
+      → Judges j (IsTrade market.network H (user_number H name) its.asked X told) (IsTradeLeftOpen market H (user_number H name) its.asked X told)
+      → Judges j (IsJudgedAfresh market.network H (user_number H name) its.asked X told) (IsTradeLeftOpen market H (user_number H name) its.asked X told)
   afresh_judged X told j none judged = judges_as j _ _ _ _ (λ trade. inl trade) from (λ o. o) judged
     where
-      from : IsJudgedAfresh (network_of market H) H (user_number H name) its.asked X told → IsTrade (network_of market H) H (user_number H name) its.asked X told
+      from : IsJudgedAfresh market.network H (user_number H name) its.asked X told → IsTrade market.network H (user_number H name) its.asked X told
       from (inl trade) = trade
       from (inr refused) = absurd (let e : Some refused.limits ≡ None = sym (ap beyond_told refused.beyond.printed) ∙ none in cc)
 
   -- and one that is such a refusal
   pub beyond_inside : (X : ℕ) (limits : Interval) (told : Reply) → told ≡ reply.Refused (Beyond limits) → Inside limits X
-      → IsJudgedAfresh (network_of market H) H (user_number H name) its.asked X told → ⊥
+      → IsJudgedAfresh market.network H (user_number H name) its.asked X told → ⊥
   beyond_inside X limits told e inside (inl trade) = let no : reply.Refused (Beyond limits) ≡ reply.Traded trade.hit trade.miss (revision H + 1) = sym e ∙ trade.printed in cc
   beyond_inside X limits told e inside (inr refused) =
       let no : reply.Refused (Beyond limits) ≡ reply.Refused (Beyond refused.limits) = sym e ∙ refused.beyond.printed in
@@ -239,18 +239,18 @@ module _ (market : Market) (H : List Entry) (name : List ℕ) (q : QuestionText)
       refused.beyond.outside (subst (λ (l : Interval). Inside l X) same inside)
 
   pub beyond_judged : (X : ℕ) (limits : Interval) (told : Reply) (j : Judged) → told ≡ reply.Refused (Beyond limits) → (Inside limits X → ⊥) → JudgesLimits j bounds small limits
-      → Judges j (IsJudgedAfresh (network_of market H) H (user_number H name) its.asked X told) (AreLimitsOpen market H (user_number H name) its.asked limits)
+      → Judges j (IsJudgedAfresh market.network H (user_number H name) its.asked X told) (AreLimitsOpen market H (user_number H name) its.asked limits)
   beyond_judged X limits told j e outside says = judges_as j _ _ _ _
       (λ right. inr (record { limits = limits; right = right; beyond = record { outside = outside; printed = e } })) from (λ o. o) (limits_judged limits j says)
     where
-      from : IsJudgedAfresh (network_of market H) H (user_number H name) its.asked X told → AreRightLimits (network_of market H) H (user_number H name) its.asked limits
+      from : IsJudgedAfresh market.network H (user_number H name) its.asked X told → AreRightLimits market.network H (user_number H name) its.asked limits
       from (inl trade) = absurd (let no : reply.Refused (Beyond limits) ≡ reply.Traded trade.hit trade.miss (revision H + 1) = sym e ∙ trade.printed in cc)
       from (inr refused) =
           let no : reply.Refused (Beyond limits) ≡ reply.Refused (Beyond refused.limits) = sym e ∙ refused.beyond.printed in
           let same : refused.limits ≡ limits = cc in
-          subst (AreRightLimits (network_of market H) H (user_number H name) its.asked) same refused.right
+          subst (AreRightLimits market.network H (user_number H name) its.asked) same refused.right
 
   pub beyond_edit : (X : ℕ) (limits : Interval) (told : Reply) (j : Judged) → beyond_told told ≡ Some limits → (Inside limits X → ⊥) → JudgesLimits j bounds small limits
-      → Judges j (IsJudgedAfresh (network_of market H) H (user_number H name) its.asked X told) (IsEditLeftOpen market H (user_number H name) its.asked X None told)
+      → Judges j (IsJudgedAfresh market.network H (user_number H name) its.asked X told) (IsEditLeftOpen market H (user_number H name) its.asked X None told)
   beyond_edit X limits told j h outside says = rw (beyond_is told limits h) (judges_as j _ _ _ _ (λ x. x) (λ x. x) (λ o. (refl, o))
       (beyond_judged X limits (reply.Refused (Beyond limits)) j refl outside says))

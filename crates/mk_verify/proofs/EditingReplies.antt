@@ -3,7 +3,7 @@ use Rattle.std.proofs.Common.{◌≡◌, ℕ, ◌-◌, ◌≤◌, Bool, List, Op
 use Rattle.mk_net.specs.Bounds.{million}
 use Rattle.mk_net.specs.declared.words.QuestionText.{QuestionText}
 use Rattle.mk_exact.specs.History.{Entry, revision}
-use Rattle.mk_exact.specs.Market.{Market, network_of}
+use Rattle.mk_exact.specs.Market.{Market}
 use Rattle.mk_exact.specs.Sides.{AreSides}
 use Rattle.mk_command.specs.declared.command.Command.TheVariants.{Edit, Limits}
 use Rattle.mk_reply.specs.declared.refusal.Refusal.TheVariants.{Beyond}
@@ -36,9 +36,9 @@ edit_bounds market H name q evidence small now of tells present = record {
   named = of.named;
   hit = of.sides.hit;
   miss = of.sides.miss;
-  exist = subst (λ (u : ℕ). AreSides (network_of market H) H u evidence.question of.sides.hit of.sides.miss) of.user of.sides.exist;
+  exist = subst (λ (u : ℕ). AreSides market.network H u evidence.question of.sides.hit of.sides.miss) of.user of.sides.exist;
   both = subst (λ (u : ℕ). AreBoundsOfBoth (evidence_grade market H)
-      (network_of market H) H u evidence.question evidence.bounds) of.user
+      market.network H u evidence.question evidence.bounds) of.user
       (record { hit = of.sides.hit_bounds; miss = of.sides.miss_bounds });
 }
 
@@ -62,7 +62,7 @@ module _ (market : Market) (H : List Entry) (quotes : Quotes) (name : List ℕ) 
   limits_left told o = absurd o
 
   pub limits_allowed : (told : Reply) (j : Judged) → first_refusal market H (Limits name q) ≡ None
-      → Judges j (IsLimits (network_of market H) H (user_number H name) its.asked told) (AreLimitsLeftOpen market H (user_number H name) its.asked told)
+      → Judges j (IsLimits market.network H (user_number H name) its.asked told) (AreLimitsLeftOpen market H (user_number H name) its.asked told)
       → Judges j (IsAllowed market H quotes (Limits name q) told) (IsOpen market H quotes (Limits name q) told)
   limits_allowed told j none judged = judges_answer market H quotes (Limits name q) told j _ none
       (judges_as j _ _ _ _ (λ h. rw its.named h) (λ h. rw its.named at h) (limits_left told) judged)
@@ -76,13 +76,13 @@ module _ (market : Market) (H : List Entry) (quotes : Quotes) (name : List ℕ) 
   pub edit_allowed : (X : ℕ) (seen : Option ℕ) (quoted : Option Interval) (told : Reply) (j : Judged)
       → quoted ≡ current_limits (last_quote quotes (user_number H name)) its.asked (revision H) → first_refusal market H (Edit name q X seen) ≡ None
       → Judges j
-      (MatchOption quoted (IsJudgedAfresh (network_of market H) H (user_number H name) its.asked X told)
-      (λ limits. IsJudged (network_of market H) H (user_number H name) its.asked X limits told))
+      (MatchOption quoted (IsJudgedAfresh market.network H (user_number H name) its.asked X told)
+      (λ limits. IsJudged market.network H (user_number H name) its.asked X limits told))
       (IsEditLeftOpen market H (user_number H name) its.asked X quoted told)
       → Judges j (IsAllowed market H quotes (Edit name q X seen) told) (IsOpen market H quotes (Edit name q X seen) told)
   edit_allowed X seen quoted told j is none judged = judges_answer market H quotes (Edit name q X seen) told j _ none
       (judges_as j _ _ _ _ (λ h. rw its.named (subst answers is h)) (λ h. subst answers (sym is) (rw its.named at h)) (edit_left X seen quoted is told) judged)
     where
       answers : Option Interval → Type 0
-      answers o = MatchOption o (IsJudgedAfresh (network_of market H) H (user_number H name) its.asked X told)
-          (λ limits. IsJudged (network_of market H) H (user_number H name) its.asked X limits told)
+      answers o = MatchOption o (IsJudgedAfresh market.network H (user_number H name) its.asked X told)
+          (λ limits. IsJudged market.network H (user_number H name) its.asked X limits told)

@@ -3,7 +3,7 @@ use Rattle.std.proofs.Common.{◌≡◌, ℕ, ◌^◌, ◌⊎◌, ◌↔◌, inl
 use Rattle.std.proofs.lemmas.Bool.{false≢true}
 use Rattle.mk_net.specs.Asked.{Asked}
 use Rattle.mk_exact.specs.History.{Entry}
-use Rattle.mk_exact.specs.Market.{Market, network_of}
+use Rattle.mk_exact.specs.Market.{Market}
 use Rattle.mk_exact.specs.Weight.{IsSmall}
 use Rattle.mk_exact.specs.Factors.{Fraction, HoldsNoTrade, factor_with}
 use Rattle.mk_exact.specs.Prices.{exact_price, CoversPrice}
@@ -57,14 +57,14 @@ pub not_small : (small : Bool) (S : Type 0) → ((small ≡ true) ↔ S) → sma
 not_small small S tells large is = false≢true (sym large ∙ tells.1 is)
 
 pub price_judged : (market : Market) (H : List Entry) (asked : Asked) (bounds : PriceBounds)
-    (small : Bool) (low high : ℕ) (j : Judged) → ((small ≡ true) ↔ IsSmall (network_of market H) H)
-    → AreBoundsOfPrice (evidence_grade market H) (network_of market H) H asked bounds
+    (small : Bool) (low high : ℕ) (j : Judged) → ((small ≡ true) ↔ IsSmall market.network H)
+    → AreBoundsOfPrice (evidence_grade market H) market.network H asked bounds
     → JudgesPrice j bounds small low high
     → Judges j
-    (CoversPrice (IsSmall (network_of market H) H) (exact_price (network_of market H) H asked) low
+    (CoversPrice (IsSmall market.network H) (exact_price market.network H asked) low
     high) (IsPriceOpen market H asked (low, high))
 price_judged market H asked bounds small low high j tells evidence says =
-    let price = exact_price (network_of market H) H asked in
+    let price = exact_price market.network H asked in
     let its = evidence.bounds_of small tells.0 in
     judges_by j _ _
     (λ e. price_for (IsTrue small) _ price low high tells.1 (says.allowed e price its))
@@ -106,12 +106,12 @@ near_powers true S q b low high steps tells near = inr (tells.0 refl, near)
 near_powers false S q b low high steps tells near = inl near
 
 pub cash_judged : (market : Market) (H : List Entry) (u g : ℕ) (factor : Factor) (small : Bool)
-    (b low high : ℕ) (j : Judged) → ((small ≡ true) ↔ IsSmall (network_of market H) H)
-    → IsSound (network_of market H) H → IsFactorOf (evidence_grade market H)
-    (network_of market H) H u g factor
+    (b low high : ℕ) (j : Judged) → ((small ≡ true) ↔ IsSmall market.network H)
+    → IsSound market.network H → IsFactorOf (evidence_grade market H)
+    market.network H u g factor
     → b ≡ market.points_per_bit → JudgesCash j factor small b low high
     → Judges j
-    (CoversCash (IsSmall (network_of market H) H) (HoldsNoTrade H u) (factor_with H u g)
+    (CoversCash (IsSmall market.network H) (HoldsNoTrade H u) (factor_with H u g)
     market.points_per_bit low high) (IsCashOpen market H u (factor_with H u g) (low, high))
 cash_judged market H u g factor small b low high j tells sound evidence points says =
     let q = factor_with H u g in
@@ -142,8 +142,8 @@ pub record JudgesCovered (j : Judged) (factor : Factor) (bits : ℕ) : Type 0 wh
   pub unclear : j ≡ Unclear → (q : Fraction) → IsOwned factor q → IsBitsNear factor q bits
 
 pub covered_judged : (market : Market) (H : List Entry) (u g : ℕ) (factor : Factor) (bits : ℕ)
-    (j : Judged) → IsSound (network_of market H) H
-    → IsFactorOf (evidence_grade market H) (network_of market H) H u g factor
+    (j : Judged) → IsSound market.network H
+    → IsFactorOf (evidence_grade market H) market.network H u g factor
     → JudgesCovered j factor bits
     → Judges j (Covers (factor_with H u g) bits) (AreBitsOpen market H u (factor_with H u g) bits)
 covered_judged market H u g factor bits j sound evidence says =
@@ -176,11 +176,11 @@ most_for small large idle alone q k to by h = record {
 }
 
 pub most_judged : (market : Market) (H : List Entry) (u g : ℕ) (factor : Factor) (small : Bool)
-    (most : ℕ) (j : Judged) → ((small ≡ true) ↔ IsSmall (network_of market H) H)
-    → IsSound (network_of market H) H → IsFactorOf (evidence_grade market H)
-    (network_of market H) H u g factor
+    (most : ℕ) (j : Judged) → ((small ≡ true) ↔ IsSmall market.network H)
+    → IsSound market.network H → IsFactorOf (evidence_grade market H)
+    market.network H u g factor
     → JudgesMost j factor small most
-    → Judges j (IsMost (IsSmall (network_of market H) H) (HoldsNoTrade H u) (factor_with H u g)
+    → Judges j (IsMost (IsSmall market.network H) (HoldsNoTrade H u) (factor_with H u g)
     most) (IsMostOpen market H u (factor_with H u g) most)
 most_judged market H u g factor small most j tells sound evidence says =
     let q = factor_with H u g in

@@ -5,7 +5,8 @@ use Rattle.mk_net.specs.Texts.{same_text}
 use Rattle.mk_net.specs.inner.TextLaws.{equal_of_same_text, same_text_of_equal}
 use Rattle.mk_exact.specs.History.{users}
 use Rattle.mk_record.specs.declared.entry.Entry.{Entry}
-use Rattle.mk_record.specs.declared.entry.Entry.TheVariants.{Join, Deposit, Withdraw, Trade, Resolve, Settle}
+use Rattle.mk_record.specs.declared.entry.Entry.TheVariants.{Join, Deposit, Withdraw, Trade}
+use Rattle.mk_record.specs.declared.entry.Entry.TheVariants.{Resolve, Settle, Add}
 use Rattle.mk_record.specs.Entries.{changes}
 use Rattle.mk_reply.specs.declared.payments.Payment.{Payment}
 
@@ -72,6 +73,7 @@ other_rest W payments entries n i entry inside stands other before =
     none_joins (Trade user ratio) rest other = refl
     none_joins (Resolve pair) rest other = refl
     none_joins Settle rest other = refl
+    none_joins (Add question) rest other = refl
 
 -- a user joined, and no payment is left, or the next is to another
 pub none_left : (payments : List Payment) (entries : List Entry) (n i : ℕ) (entry : Entry)

@@ -8,6 +8,9 @@ use Rattle.mk_net.specs.Texts.{same_text}
 use Rattle.mk_net.specs.inner.TextLaws.{both, equal_of_same_text}
 use Rattle.mk_reply.specs.declared.refusal.Refusal.{Refusal}
 use Rattle.mk_reply.specs.declared.refusal.Refusal.TheVariants.{Syntax, Long, Settled, User, Exists, Users, Unknown, Twice, Stale, Resolved, Impossible, Wide, Range, Full, Beyond, Short, Unresolved, NoVariable, Numbers, Sum, Outside, Sure, Memory}
+use Rattle.mk_reply.specs.declared.refusal.Refusal.TheVariants.{Variables, Taken, ValueTwice}
+use Rattle.mk_reply.specs.declared.refusal.Refusal.TheVariants.{RowCount, RowWidth, Cells, Link}
+use Rattle.mk_reply.specs.declared.refusal.Refusal.TheVariants.{Uncovered, NotRunning}
 use Rattle.mk_reply.specs.declared.reply.Reply.{Reply}
 use Rattle.mk_reply.specs.declared.reply.Reply.TheVariants.{Status, Refused}
 use Rattle.mk_reply.specs.contracts.refusal.RefusalPartialEq.TheImpl.{ghosts}
@@ -74,6 +77,17 @@ same_refusal (Numbers a) (Numbers b) same = ap Numbers (eqb-true a b same)
 same_refusal (Sum a) (Sum b) same = ap Sum (eqb-true a b same)
 same_refusal (Outside a) (Outside b) same = ap Outside (same_box a b same)
 same_refusal (Sure a) (Sure b) same = ap Sure (same_words a b same)
+same_refusal (Variables a) (Variables b) same = ap Variables (eqb-true a b same)
+same_refusal (Taken a) (Taken b) same = ap Taken (equal_of_same_text a b same)
+same_refusal (ValueTwice a) (ValueTwice b) same = ap ValueTwice (equal_of_same_text a b same)
+same_refusal (RowCount a) (RowCount b) same = ap RowCount (eqb-true a b same)
+same_refusal (RowWidth a m) (RowWidth b n) same =
+    let parts = both (a == b) (m == n) same in
+    ap₂ RowWidth (eqb-true a b parts.0) (eqb-true m n parts.1)
+same_refusal (Cells a) (Cells b) same = ap Cells (eqb-true a b same)
+same_refusal (Link a) (Link b) same = ap Link (eqb-true a b same)
+same_refusal (Uncovered a) (Uncovered b) same = ap Uncovered (equal_of_same_text a b same)
+same_refusal (NotRunning a) (NotRunning b) same = ap NotRunning (equal_of_same_text a b same)
 same_refusal Memory Memory same = refl
 same_refusal a b same = cc
 

@@ -1,12 +1,12 @@
 -- Judgements of settlements.
-use Rattle.std.proofs.Common.{◌≡◌, ℕ, ◌+◌, ◌<◌, ◌↔◌, Bool, List, [], ◌∷◌, length, map, Option, Some, None, slice_get, refl, sym, ap, subst, ◌∙◌, arith}
+use Rattle.std.proofs.Common.{◌≡◌, ℕ, ◌+◌, Bool, List, [], ◌∷◌, length, map, None, refl, sym, subst, ◌∙◌, arith}
 use Rattle.std.proofs.lemmas.Option.{slice_get_within}
 use Rattle.std.specs.List.{AllZip, enumerate_from}
 use Rattle.mk_net.specs.Network.{Variable}
 use Rattle.mk_states.specs.Events.{always}
 use Rattle.mk_exact.specs.Existing.{HasOutcome}
 use Rattle.mk_exact.specs.History.{Entry, users, revision}
-use Rattle.mk_exact.specs.Market.{Market, network_of}
+use Rattle.mk_exact.specs.Market.{Market}
 use Rattle.mk_exact.specs.Sound.{IsSound}
 use Rattle.mk_exact.specs.Weight.{possible_states}
 use Rattle.mk_command.specs.declared.command.Command.TheVariants.{Settle}
@@ -31,7 +31,7 @@ use Rattle.mk_verify.proofs.Verdicts.{judges_answer}
 
 module _ (market : Market) (H : List Entry) where
   abbrev network : List Variable
-  network = network_of market H
+  network = market.network
 
   abbrev named : Payment → List ℕ
   named p = p.user

@@ -5,7 +5,7 @@ use Rattle.mk_net.specs.Network.{Variable}
 use Rattle.mk_exact.specs.History.{Entry}
 use Rattle.mk_exact.specs.Factors.{HoldsNoTrade}
 use Rattle.mk_exact.specs.Limits.{Side}
-use Rattle.mk_exact.specs.Market.{Market, network_of}
+use Rattle.mk_exact.specs.Market.{Market}
 use Rattle.mk_exact.specs.Weight.{IsSmall}
 use Rattle.mk_spread.specs.Spreads.{SpreadAsked}
 use Rattle.mk_spread.specs.Markets.{IsValueSide}
@@ -34,7 +34,7 @@ in_range most network H u (Some bounds ∷ values) (Some side ∷ sides) h =
 
 -- and encloses what it is of, exactly so where the history is small
 pub each_side : (market : Market) (H : List Entry) (u : ℕ) (small : Bool) → TellsSmall small market H → (values : List (Option SideBounds)) (sides : List (Option Side))
-    → AllZip (IsBoundedValue (evidence_grade market H) (network_of market H) H u) values sides
+    → AllZip (IsBoundedValue (evidence_grade market H) market.network H u) values sides
     → AreEachSideBounds values small sides
 each_side market H u small tells [] [] h = tt
 each_side market H u small tells [] (side ∷ sides) h = absurd h
@@ -54,11 +54,11 @@ next_place all rest x a at k = ap (slice_get all) (let e : a + 1 + k ≡ a + suc
 first_place : {X : Type 0} (all rest : List X) (x : X) (a : ℕ) → ((k : ℕ) → slice_get all (a + k) ≡ slice_get (x ∷ rest) k) → slice_get all a ≡ Some x
 first_place all rest x a at = ap (slice_get all) (let e : a ≡ a + 0 = omega arith in e) ∙ at 0
 
-module _ (market : Market) (H : List Entry) (u : ℕ) (spread : SpreadAsked) (large : ¬ IsSmall (network_of market H) H) where
+module _ (market : Market) (H : List Entry) (u : ℕ) (spread : SpreadAsked) (large : ¬ IsSmall market.network H) where
   -- by a share of some value
   pub wanted_open : (values : List (Option SideBounds)) (sides : List (Option Side)) (a n : ℕ)
-      → AllZip (IsBoundedValue (evidence_grade market H) (network_of market H) H u) values sides
-      → AllZip (IsValueSide (network_of market H) H u spread) (range_with_len a n) sides
+      → AllZip (IsBoundedValue (evidence_grade market H) market.network H u) values sides
+      → AllZip (IsValueSide market.network H u spread) (range_with_len a n) sides
       → IsSomeWantedNear values sides → IsValueOpen market H u spread (λ value side. IsShareOpen (near_steps market H) side)
   wanted_open [] sides a n its are near = absurd near
   wanted_open (value ∷ values) [] a n its are near = absurd near
@@ -72,13 +72,13 @@ module _ (market : Market) (H : List Entry) (u : ℕ) (spread : SpreadAsked) (la
     is_side = are.0;
     large = large;
     is_open = share_open (evidence_grade market H) (grade_room market H)
-        (network_of market H) H u bounds side its.0 here;
+        market.network H u bounds side its.0 here;
   }
 
   -- by the interval of some value
   pub intervals_open : (all : List (ℕ × ℕ)) (values : List (Option SideBounds)) (sides : List (Option Side)) (intervals : List (ℕ × ℕ)) (a n : ℕ)
-      → AllZip (IsBoundedValue (evidence_grade market H) (network_of market H) H u) values sides
-      → AllZip (IsValueSide (network_of market H) H u spread) (range_with_len a n) sides
+      → AllZip (IsBoundedValue (evidence_grade market H) market.network H u) values sides
+      → AllZip (IsValueSide market.network H u spread) (range_with_len a n) sides
       → ((k : ℕ) → slice_get all (a + k) ≡ slice_get intervals k) → IsSomeIntervalNear values sides intervals
       → IsValueOpen market H u spread
       (λ value side. (low : ℕ) × (high : ℕ) × (slice_get all value ≡ Some (low, high)) × IsIntervalOpen (near_steps market H) (HoldsNoTrade H u) side low high)
@@ -101,14 +101,14 @@ module _ (market : Market) (H : List Entry) (u : ℕ) (spread : SpreadAsked) (la
       first_place all intervals (low, high) a at,
       interval_open
           (evidence_grade market H) (grade_room market H)
-          (network_of market H) H u bounds side its.0 low high here,
+          market.network H u bounds side its.0 low high here,
     );
   }
 
   -- by the units of some value
   pub factors_open : (small : Bool) (all_shares all_units : List ℕ) (values : List (Option SideBounds)) (sides : List (Option Side)) (Xs Fs : List ℕ) (a n : ℕ)
-      → AllZip (IsBoundedValue (evidence_grade market H) (network_of market H) H u) values sides
-      → AllZip (IsValueSide (network_of market H) H u spread) (range_with_len a n) sides
+      → AllZip (IsBoundedValue (evidence_grade market H) market.network H u) values sides
+      → AllZip (IsValueSide market.network H u spread) (range_with_len a n) sides
       → ((k : ℕ) → slice_get all_shares (a + k) ≡ slice_get Xs k) → ((k : ℕ) → slice_get all_units (a + k) ≡ slice_get Fs k) → AreSomeUnitsNear small values sides Xs Fs
       → IsValueOpen market H u spread
       (λ value side. (X : ℕ) × (F : ℕ) × (slice_get all_shares value ≡ Some X) × (slice_get all_units value ≡ Some F) × AreUnitsOpen (near_steps market H) (HoldsNoTrade H u) side X F)
@@ -133,6 +133,6 @@ module _ (market : Market) (H : List Entry) (u : ℕ) (spread : SpreadAsked) (la
       first_place all_units Fs F a of,
       units_open
           (evidence_grade market H) (grade_room market H)
-          (network_of market H) H u bounds side its.0 small F X here,
+          market.network H u bounds side its.0 small F X here,
     );
   }

@@ -7,7 +7,7 @@ use Rattle.mk_net.specs.Bounds.{million}
 use Rattle.mk_net.specs.declared.words.PairText.{PairText}
 use Rattle.mk_exact.specs.History.{Entry, revision}
 use Rattle.mk_exact.specs.Limits.{Side}
-use Rattle.mk_exact.specs.Market.{Market, network_of}
+use Rattle.mk_exact.specs.Market.{Market}
 use Rattle.mk_states.proofs.Sums.{each_weaker}
 use Rattle.mk_spread.specs.Bounds.{Intervals}
 use Rattle.mk_spread.specs.Markets.{AreValueSides}
@@ -46,9 +46,9 @@ each_bounds market H name v condition evidence small now of tells present = reco
   spread = spread_in evidence.question;
   named = of.named;
   sides = of.sides.sides;
-  exist = subst (λ (u : ℕ). AreValueSides (network_of market H) H u (spread_in evidence.question) of.sides.sides) of.user of.sides.exist;
-  each = subst (λ (u : ℕ). (sides : List (Option Side)) → AreValueSides (network_of market H) H u (spread_in evidence.question) sides
-      → AllZip (IsBoundedValue (evidence_grade market H) (network_of market H) H u)
+  exist = subst (λ (u : ℕ). AreValueSides market.network H u (spread_in evidence.question) of.sides.sides) of.user of.sides.exist;
+  each = subst (λ (u : ℕ). (sides : List (Option Side)) → AreValueSides market.network H u (spread_in evidence.question) sides
+      → AllZip (IsBoundedValue (evidence_grade market H) market.network H u)
       (sides_in evidence.bounds) sides) of.user of.sides.bounds_of;
 }
 
@@ -65,7 +65,7 @@ spread_quoted market H quotes name v condition evidence small now quoted of tell
 pub evidence_in_range : (market : Market) (H : List Entry) (name v : List ℕ) (condition : ArrayVec PairText) (evidence : SpreadEvidence)
     → IsSpreadEvidence market H name v condition evidence → HaveTradeRange (sides_in evidence.bounds)
 evidence_in_range market H name v condition evidence of =
-    in_range (evidence_grade market H) (network_of market H) H evidence.user
+    in_range (evidence_grade market H) market.network H evidence.user
     (sides_in evidence.bounds) of.sides.sides (of.sides.bounds_of of.sides.sides of.sides.exist)
 
 -- the shares of a spread that nothing refuses
@@ -82,7 +82,7 @@ module _ (market : Market) (H : List Entry) (quotes : Quotes) (name v : List ℕ
   bounds_left told o = absurd o
 
   pub bounds_allowed : (told : Reply) (j : Judged) → first_refusal market H (Bounds name v condition) ≡ None
-      → Judges j (IsBounds (network_of market H) H (user_number H name) its.spread told) (AreBoundsLeftOpen market H (user_number H name) its.spread told)
+      → Judges j (IsBounds market.network H (user_number H name) its.spread told) (AreBoundsLeftOpen market H (user_number H name) its.spread told)
       → Judges j (IsAllowed market H quotes (Bounds name v condition) told) (IsOpen market H quotes (Bounds name v condition) told)
   bounds_allowed told j none judged = judges_answer market H quotes (Bounds name v condition) told j _ none
       (judges_as j _ _ _ _ (λ h. rw its.named h) (λ h. rw its.named at h) (bounds_left told) judged)
@@ -96,13 +96,13 @@ module _ (market : Market) (H : List Entry) (quotes : Quotes) (name v : List ℕ
   pub spread_allowed : (to : ArrayVec ℕ) (seen : Option ℕ) (quoted : Option Intervals) (told : Reply) (j : Judged)
       → quoted ≡ current_bounds (last_quote quotes (user_number H name)) its.spread (revision H) → first_refusal market H (Spread name v condition to seen) ≡ None
       → Judges j
-      (MatchOption quoted (IsSpreadJudgedAfresh (network_of market H) H (user_number H name) its.spread to.items told)
-      (λ intervals. IsSpreadJudged (network_of market H) H (user_number H name) its.spread to.items intervals told))
+      (MatchOption quoted (IsSpreadJudgedAfresh market.network H (user_number H name) its.spread to.items told)
+      (λ intervals. IsSpreadJudged market.network H (user_number H name) its.spread to.items intervals told))
       (IsSpreadLeftOpen market H (user_number H name) its.spread to.items quoted told)
       → Judges j (IsAllowed market H quotes (Spread name v condition to seen) told) (IsOpen market H quotes (Spread name v condition to seen) told)
   spread_allowed to seen quoted told j is none judged = judges_answer market H quotes (Spread name v condition to seen) told j _ none
       (judges_as j _ _ _ _ (λ h. rw its.named (subst answers is h)) (λ h. subst answers (sym is) (rw its.named at h)) (spread_left_open to seen quoted is told) judged)
     where
       answers : Option Intervals → Type 0
-      answers o = MatchOption o (IsSpreadJudgedAfresh (network_of market H) H (user_number H name) its.spread to.items told)
-          (λ intervals. IsSpreadJudged (network_of market H) H (user_number H name) its.spread to.items intervals told)
+      answers o = MatchOption o (IsSpreadJudgedAfresh market.network H (user_number H name) its.spread to.items told)
+          (λ intervals. IsSpreadJudged market.network H (user_number H name) its.spread to.items intervals told)

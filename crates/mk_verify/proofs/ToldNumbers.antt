@@ -6,7 +6,7 @@ use Rattle.mk_net.specs.Bounds.{million}
 use Rattle.mk_states.specs.InitialWeight.{initial_total}
 use Rattle.mk_states.specs.Events.{always}
 use Rattle.mk_exact.specs.History.{Entry, revision}
-use Rattle.mk_exact.specs.Market.{Market, network_of}
+use Rattle.mk_exact.specs.Market.{Market}
 use Rattle.mk_exact.specs.Weight.{IsSmall}
 use Rattle.mk_exact.specs.Factors.{Fraction, HoldsNoTrade, factor_with, least_gain}
 use Rattle.mk_exact.specs.Prices.{exact_price, CoversPrice}
@@ -47,12 +47,12 @@ judges_same market H command reply told j is judged =
 
 pub price_told : (market : Market) (H : List Entry) (q : QuestionText) (bounds : PriceBounds)
     (small : Bool) (low high : ℕ) (j : Judged) → first_refusal market H (Price q) ≡ None
-    → IsSomeAnd (question_named (network_of market H) q)
-    (λ asked. AreBoundsOfPrice (evidence_grade market H) (network_of market H) H asked bounds)
+    → IsSomeAnd (question_named market.network q)
+    (λ asked. AreBoundsOfPrice (evidence_grade market H) market.network H asked bounds)
     → TellsSmall small market H → JudgesPrice j bounds small low high
     → JudgesReply market H (Price q) (Priced low high) j
 price_told market H q bounds small low high j none evidence tells says quotes stands =
-    let network = network_of market H in
+    let network = market.network in
     judges_answer market H quotes (Price q) (Priced low high) j _ none
     (judges_some (question_named network q) _ (λ asked. IsPrice network H asked (Priced low high))
     (λ asked. IsPriceOpen market H asked (low, high)) j evidence
@@ -77,10 +77,10 @@ pub no_price : (market : Market) (H : List Entry) (q : QuestionText) (reply : Re
 no_price market H q reply none other quotes stands =
     judges_answer market H quotes (Price q) reply Wrong (IsOpen market H quotes (Price q) reply)
     none
-    (other_at (question_named (network_of market H) q))
+    (other_at (question_named market.network q))
   where
     other_at : (o : Option Asked)
-        → IsSomeAnd o (λ asked. IsPrice (network_of market H) H asked reply) → ⊥
+        → IsSomeAnd o (λ asked. IsPrice market.network H asked reply) → ⊥
     other_at None h = h
     other_at (Some asked) h = other h.low h.high h.printed
 
@@ -88,13 +88,13 @@ no_price market H q reply none other quotes stands =
 
 pub worst_told : (market : Market) (H : List Entry) (name : List ℕ) (factor : Factor)
     (small : Bool) (b low high : ℕ) (j : Judged) → first_refusal market H (Worst name) ≡ None
-    → IsLeastFactorOf (evidence_grade market H) (network_of market H) H
+    → IsLeastFactorOf (evidence_grade market H) market.network H
     (user_number H name) always factor
     → TellsSmall small market H → b ≡ market.points_per_bit
     → JudgesCash j factor small b low high
     → JudgesReply market H (Worst name) (Worsted low high) j
 worst_told market H name factor small b low high j none evidence tells points says quotes stands =
-    let network = network_of market H in
+    let network = market.network in
     let u = user_number H name in
     judges_answer market H quotes (Worst name) (Worsted low high) j _ none
     (judges_some (least_gain network H u always) _
@@ -124,10 +124,10 @@ pub no_worst : (market : Market) (H : List Entry) (name : List ℕ) (reply : Rep
 no_worst market H name reply none other quotes stands =
     judges_answer market H quotes (Worst name) reply Wrong
     (IsOpen market H quotes (Worst name) reply) none
-    (other_at (least_gain (network_of market H) H (user_number H name) always))
+    (other_at (least_gain market.network H (user_number H name) always))
   where
     other_at : (o : Option ℕ)
-        → IsSomeAnd o (λ g. IsWorst (IsSmall (network_of market H) H)
+        → IsSomeAnd o (λ g. IsWorst (IsSmall market.network H)
         (HoldsNoTrade H (user_number H name)) (factor_with H (user_number H name) g)
         market.points_per_bit reply) → ⊥
     other_at None h = h
@@ -141,15 +141,15 @@ module _ (market : Market) (H : List Entry) (name : List ℕ) (bits : ℕ)
   its_number = user_number H name
 
   abbrev IsTaken : Reply → ℕ → Type 0
-  IsTaken reply g = IsWithdrawal (IsSmall (network_of market H) H) (HoldsNoTrade H its_number)
+  IsTaken reply g = IsWithdrawal (IsSmall market.network H) (HoldsNoTrade H its_number)
       (factor_with H its_number g) name bits (revision H + 1) reply
 
   pub withdrawn_told : (factor : Factor) (j : Judged)
-      → IsLeastFactorOf (evidence_grade market H) (network_of market H) H its_number always factor
+      → IsLeastFactorOf (evidence_grade market H) market.network H its_number always factor
       → JudgesCovered j factor bits
       → JudgesReply market H (Withdraw name bits) (Withdrawn name bits (revision H + 1)) j
   withdrawn_told factor j evidence says quotes stands =
-      let network = network_of market H in
+      let network = market.network in
       let told = Withdrawn name bits (revision H + 1) in
       judges_answer market H quotes (Withdraw name bits) told j _ none
       (judges_some (least_gain network H its_number always) _ (IsTaken told)
@@ -164,11 +164,11 @@ module _ (market : Market) (H : List Entry) (name : List ℕ) (bits : ℕ)
       from g (inr short) = absurd (let e = short.printed in cc)
 
   pub short_told : (factor : Factor) (small : Bool) (most : ℕ) (j : Judged) → most < bits
-      → IsLeastFactorOf (evidence_grade market H) (network_of market H) H its_number always factor
+      → IsLeastFactorOf (evidence_grade market H) market.network H its_number always factor
       → TellsSmall small market H → JudgesMost j factor small most
       → JudgesReply market H (Withdraw name bits) (Refused (Short most)) j
   short_told factor small most j less evidence tells says quotes stands =
-      let network = network_of market H in
+      let network = market.network in
       let told = Refused (Short most) in
       judges_answer market H quotes (Withdraw name bits) told j _ none
       (judges_some (least_gain network H its_number always) _ (IsTaken told)
@@ -180,7 +180,7 @@ module _ (market : Market) (H : List Entry) (name : List ℕ) (bits : ℕ)
       (most_judged market H its_number g factor small most j tells stands.sound its says)))
     where
       from : (g : ℕ) → IsTaken (Refused (Short most)) g
-          → IsMost (IsSmall (network_of market H) H) (HoldsNoTrade H its_number)
+          → IsMost (IsSmall market.network H) (HoldsNoTrade H its_number)
           (factor_with H its_number g) most
       from g (inl taken) = absurd (let e = taken.1 in cc)
       from g (inr short) =
@@ -196,7 +196,7 @@ module _ (market : Market) (H : List Entry) (name : List ℕ) (bits : ℕ)
   not_taken reply other another quotes stands =
       judges_answer market H quotes (Withdraw name bits) reply Wrong
       (IsOpen market H quotes (Withdraw name bits) reply) none
-      (other_at (least_gain (network_of market H) H its_number always))
+      (other_at (least_gain market.network H its_number always))
     where
       neither : (g : ℕ) → IsTaken reply g → ⊥
       neither g (inl taken) = other taken.1
@@ -218,8 +218,8 @@ pub record JudgesBound (j : Judged) (least : Enclosure) (variables b low high : 
 
 module _ (market : Market) (H : List Entry) (none : first_refusal market H Bound ≡ None) where
   module _ (least : Enclosure) (low high : ℕ) (j : Judged)
-      (evidence : IsLeastWeight (evidence_grade market H) (network_of market H) H least)
-      (cells : length (network_of market H) ≤ all_cells market H) where
+      (evidence : IsLeastWeight (evidence_grade market H) market.network H least)
+      (cells : length market.network ≤ all_cells market H) where
     abbrev points : ℕ
     points = market.points_per_bit
 
@@ -229,11 +229,11 @@ module _ (market : Market) (H : List Entry) (none : first_refusal market H Bound
         (ArePowersNear (nearness total) (quotient total m) points low high
         (points * near_steps market H))
 
-    of_weight : (variables b : ℕ) → variables ≡ length (network_of market H)
+    of_weight : (variables b : ℕ) → variables ≡ length market.network
         → b ≡ points → JudgesBound j least variables b low high
-        → IsJudgedOf (million ^ length (network_of market H)) evidence.weight
+        → IsJudgedOf (million ^ length market.network) evidence.weight
     of_weight variables b count same says =
-        let n = length (network_of market H) in
+        let n = length market.network in
         let m = evidence.weight in
         let said : JudgesBound j least n points low high =
         subst (λ (k : ℕ). JudgesBound j least k points low high) count
@@ -253,11 +253,11 @@ module _ (market : Market) (H : List Entry) (none : first_refusal market H Bound
         (IsSomeAnd o (λ w. ArePowersNear (nearness total) (quotient total w) points low high
         (points * near_steps market H)))) (sym is) judged
 
-    pub bound_told : (variables b : ℕ) → variables ≡ length (network_of market H)
+    pub bound_told : (variables b : ℕ) → variables ≡ length market.network
         → b ≡ points → JudgesBound j least variables b low high
         → JudgesReply market H Bound (Risked low high) j
     bound_told variables b count same says quotes stands =
-        let network = network_of market H in
+        let network = market.network in
         judges_answer market H quotes Bound (Risked low high) j _ none
         (judges_as j (IsSomeAnd (least_weight network H)
         (λ w. CoversBound (initial_total network) w points low high)) _ _ _
@@ -266,9 +266,9 @@ module _ (market : Market) (H : List Entry) (none : first_refusal market H Bound
         (subst (λ (t : ℕ). IsJudgedOf t evidence.weight) (sym evidence.whole)
         (of_weight variables b count same says))))
       where
-        from : IsBound (network_of market H) H points (Risked low high)
-            → IsSomeAnd (least_weight (network_of market H) H)
-            (λ w. CoversBound (initial_total (network_of market H)) w points low high)
+        from : IsBound market.network H points (Risked low high)
+            → IsSomeAnd (least_weight market.network H)
+            (λ w. CoversBound (initial_total market.network) w points low high)
         from h =
             let e : Risked low high ≡ Risked h.low h.high = h.printed in
             let l : low ≡ h.low = cc in

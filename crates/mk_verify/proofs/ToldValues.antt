@@ -1,6 +1,6 @@
 -- Judgements of replies that tell a number of each value of a variable.
-use Rattle.std.proofs.Common.{◌≡◌, ℕ, List, Bool, ◌≤◌, Option, Some, None, IsSomeAnd, IfSome, refl, sym, subst}
-use Rattle.std.specs.List.{AllZip, All}
+use Rattle.std.proofs.Common.{◌≡◌, ℕ, List, Bool, ◌≤◌, Option, Some, None, IsSomeAnd, IfSome, refl}
+use Rattle.std.specs.List.{All}
 use Rattle.arrayvec.specs.ArrayVec.{ArrayVec}
 use Rattle.mk_net.specs.declared.words.PairText.{PairText}
 use Rattle.mk_net.specs.Asked.{Asked}
@@ -17,7 +17,7 @@ use Rattle.mk_judge.specs.declared.judged.Judged.TheVariants.{Wrong}
 use Rattle.mk_judge.specs.declared.price.PriceBounds.{PriceBounds}
 use Rattle.mk_judge.proofs.Judging.{judges_as}
 use Rattle.mk_exact.specs.History.{Entry}
-use Rattle.mk_exact.specs.Market.{Market, network_of}
+use Rattle.mk_exact.specs.Market.{Market}
 use Rattle.mk_exact.specs.Sound.{IsSound}
 use Rattle.mk_exact.specs.Weight.{IsSmall}
 use Rattle.mk_exact.specs.Cash.{CoversCash}
@@ -40,13 +40,13 @@ use Rattle.mk_verify.proofs.Verdicts.{judges_some, judges_answer}
 
 pub least_judged : (market : Market) (H : List Entry) (u : ℕ) (test : List ℕ → Bool)
     (factor : Factor) (small : Bool) (b low high : ℕ) (j : Judged) → TellsSmall small market H
-    → IsSound (network_of market H) H → b ≡ market.points_per_bit
-    → IsLeastFactorOf (evidence_grade market H) (network_of market H) H u test factor
+    → IsSound market.network H → b ≡ market.points_per_bit
+    → IsLeastFactorOf (evidence_grade market H) market.network H u test factor
     → JudgesCash j factor small b low high
-    → Judges j (CoversLeast (network_of market H) H u market.points_per_bit test (low, high))
+    → Judges j (CoversLeast market.network H u market.points_per_bit test (low, high))
     (IsLeastCashOpen market H u test (low, high))
 least_judged market H u test factor small b low high j tells sound points evidence says =
-    let network = network_of market H in
+    let network = market.network in
     judges_some (least_gain network H u test)
     (λ g. IsFactorOf (evidence_grade market H) network H u g factor)
     (λ g. CoversCash (IsSmall network H) (HoldsNoTrade H u) (factor_with H u g)
@@ -60,14 +60,14 @@ module _ (market : Market) (H : List Entry) (v : List ℕ) (condition : ArrayVec
     (none : first_refusal market H (Prices v condition) ≡ None) where
   pub prices_told : (bounds : List (Option PriceBounds)) (intervals : ArrayVec (ℕ × ℕ))
       (small : Bool) (j : Judged) → TellsSmall small market H
-      → IsSomeAnd (spread_named (network_of market H) v condition.items)
+      → IsSomeAnd (spread_named market.network v condition.items)
       (λ spread. AreBoundsOfPrices market H spread bounds)
       → ((spread : SpreadAsked) → AreBoundsOfPrices market H spread bounds
-      → Judges j (ArePricesOf (network_of market H) H spread intervals.items)
+      → Judges j (ArePricesOf market.network H spread intervals.items)
       (IsPlaceOpen intervals.items (λ value ends. IsPriceOpen market H (asked_of spread value) ends)))
       → JudgesReply market H (Prices v condition) (PricesTold intervals) j
   prices_told bounds intervals small j tells evidence judged quotes stands =
-      let network = network_of market H in
+      let network = market.network in
       judges_answer market H quotes (Prices v condition) (PricesTold intervals) j _ none
       (judges_some (spread_named network v condition.items)
       (λ spread. AreBoundsOfPrices market H spread bounds)
@@ -78,8 +78,8 @@ module _ (market : Market) (H : List Entry) (v : List ℕ) (condition : ArrayVec
       (λ covers. record { intervals = intervals; printed = refl; covers = covers }) (from spread)
       (λ o. o) (judged spread its)))
     where
-      from : (spread : SpreadAsked) → ArePrices (network_of market H) H spread (PricesTold intervals)
-          → ArePricesOf (network_of market H) H spread intervals.items
+      from : (spread : SpreadAsked) → ArePrices market.network H spread (PricesTold intervals)
+          → ArePricesOf market.network H spread intervals.items
       from spread h =
           let e : PricesTold intervals ≡ PricesTold h.intervals = h.printed in
           let same : intervals ≡ h.intervals = cc in
@@ -92,10 +92,10 @@ module _ (market : Market) (H : List Entry) (v : List ℕ) (condition : ArrayVec
   no_prices reply other quotes stands =
       judges_answer market H quotes (Prices v condition) reply Wrong
       (IsOpen market H quotes (Prices v condition) reply) none
-      (other_at (spread_named (network_of market H) v condition.items))
+      (other_at (spread_named market.network v condition.items))
     where
       other_at : (o : Option SpreadAsked)
-          → IsSomeAnd o (λ spread. ArePrices (network_of market H) H spread reply) → ⊥
+          → IsSomeAnd o (λ spread. ArePrices market.network H spread reply) → ⊥
       other_at None h = h
       other_at (Some spread) h = other h.intervals h.printed
 
@@ -108,20 +108,20 @@ module _ (market : Market) (H : List Entry) (name v : List ℕ) (condition : Arr
 
   abbrev IsTold : SpreadAsked → Reply → Type 0
   IsTold spread reply =
-      IsPosition (network_of market H) H its_number market.points_per_bit spread reply
+      IsPosition market.network H its_number market.points_per_bit spread reply
 
   pub position_told : (factors : List (Option Factor)) (intervals : ArrayVec (Option (ℕ × ℕ)))
       (j : Judged)
-      → IsSomeAnd (spread_named (network_of market H) v condition.items)
+      → IsSomeAnd (spread_named market.network v condition.items)
       (λ spread. AreSureFactorsOf market H its_number spread factors)
-      → ((spread : SpreadAsked) → IsSound (network_of market H) H
+      → ((spread : SpreadAsked) → IsSound market.network H
       → AreSureFactorsOf market H its_number spread factors
-      → Judges j (IsPositionOf (network_of market H) H its_number market.points_per_bit spread
+      → Judges j (IsPositionOf market.network H its_number market.points_per_bit spread
       intervals.items) (IsPlaceOpen intervals.items (λ value ends. IsSomeAnd ends
       (IsLeastCashOpen market H its_number (with_target (asked_of spread value))))))
       → JudgesReply market H (Position name v condition) (PositionTold intervals) j
   position_told factors intervals j evidence judged quotes stands =
-      let network = network_of market H in
+      let network = market.network in
       judges_answer market H quotes (Position name v condition) (PositionTold intervals) j _ none
       (judges_some (spread_named network v condition.items)
       (λ spread. AreSureFactorsOf market H its_number spread factors)
@@ -134,7 +134,7 @@ module _ (market : Market) (H : List Entry) (name v : List ℕ) (condition : Arr
       (λ o. o) (judged spread stands.sound its)))
     where
       from : (spread : SpreadAsked) → IsTold spread (PositionTold intervals)
-          → IsPositionOf (network_of market H) H its_number market.points_per_bit spread
+          → IsPositionOf market.network H its_number market.points_per_bit spread
           intervals.items
       from spread h =
           let e : PositionTold intervals ≡ PositionTold h.intervals = h.printed in
@@ -148,7 +148,7 @@ module _ (market : Market) (H : List Entry) (name v : List ℕ) (condition : Arr
   no_position reply other quotes stands =
       judges_answer market H quotes (Position name v condition) reply Wrong
       (IsOpen market H quotes (Position name v condition) reply) none
-      (other_at (spread_named (network_of market H) v condition.items))
+      (other_at (spread_named market.network v condition.items))
     where
       other_at : (o : Option SpreadAsked) → IsSomeAnd o (λ spread. IsTold spread reply) → ⊥
       other_at None h = h
@@ -168,9 +168,9 @@ pub prices_in_range : (market : Market) (H : List Entry) (o : Option SpreadAsked
 prices_in_range market H None bounds h = absurd h
 prices_in_range market H (Some spread) bounds h =
     each_ranged (λ value price. IsSomeAnd price
-    (AreBoundsOfPrice (evidence_grade market H) (network_of market H) H (asked_of spread value)))
+    (AreBoundsOfPrice (evidence_grade market H) market.network H (asked_of spread value)))
     (λ found. IfSome found HavePriceRange) 0 _ bounds h
-    (λ value found its. some_price (evidence_grade market H) (network_of market H) H
+    (λ value found its. some_price (evidence_grade market H) market.network H
     (asked_of spread value) found its)
 
 least_range : (most : ℕ) (network : List Variable) (H : List Entry) (u : ℕ) (o : Option ℕ)
@@ -182,15 +182,15 @@ least_range most network H u (Some g) factor b few h = h.cash b few
 
 pub worst_range : (market : Market) (H : List Entry) (u : ℕ) (test : List ℕ → Bool)
     (factor : Factor) (b : ℕ) → b ≤ max_points_per_bit
-    → IsLeastFactorOf (evidence_grade market H) (network_of market H) H u test factor
+    → IsLeastFactorOf (evidence_grade market H) market.network H u test factor
     → HasCashRange factor b
 worst_range market H u test factor b few h = least_range (evidence_grade market H)
-    (network_of market H) H u
-    (least_gain (network_of market H) H u test) factor b few h
+    market.network H u
+    (least_gain market.network H u test) factor b few h
 
 some_sure : (market : Market) (H : List Entry) (u : ℕ) (test : List ℕ → Bool)
     (found : Option Factor) (b : ℕ) → b ≤ max_points_per_bit
-    → IsSureFactor (evidence_grade market H) (network_of market H) H u test found
+    → IsSureFactor (evidence_grade market H) market.network H u test found
     → IfSome found (λ factor. HasCashRange factor b)
 some_sure market H u test None b few h = tt
 some_sure market H u test (Some factor) b few h = worst_range market H u test factor b few h
@@ -201,7 +201,7 @@ pub position_in_range : (market : Market) (H : List Entry) (u : ℕ) (o : Option
     → All (λ found. IfSome found (λ factor. HasCashRange factor b)) factors
 position_in_range market H u None factors b few h = absurd h
 position_in_range market H u (Some spread) factors b few h =
-    each_ranged (λ value factor. IsSureFactor (evidence_grade market H) (network_of market H) H u
+    each_ranged (λ value factor. IsSureFactor (evidence_grade market H) market.network H u
     (with_target (asked_of spread value)) factor)
     (λ found. IfSome found (λ factor. HasCashRange factor b)) 0 _ factors h
     (λ value found its. some_sure market H u (with_target (asked_of spread value)) found b few its)

@@ -15,7 +15,7 @@ use Rattle.mk_exact.specs.Prices.{exact_price}
 use Rattle.mk_exact.specs.Risk.{least_weight, nearness}
 use Rattle.mk_exact.specs.Limits.{Side}
 use Rattle.mk_exact.specs.Sides.{AreSides}
-use Rattle.mk_exact.specs.Market.{Market, network_of}
+use Rattle.mk_exact.specs.Market.{Market}
 use Rattle.mk_spread.specs.Spreads.{SpreadAsked, asked_of}
 use Rattle.mk_spread.specs.Markets.{IsValueSide}
 use Rattle.mk_command.specs.declared.command.Command.{Command}
@@ -51,8 +51,8 @@ near_steps market H = 4 * evidence_grade market H
 -- a price and its printed ends, outside of the small case
 pub record IsPriceOpen (market : Market) (H : List Entry) (asked : Asked) (ends : ℕ × ℕ) : Type
     0 where
-  pub large : ¬ IsSmall (network_of market H) H
-  pub near : AreNearUnits (exact_price (network_of market H) H asked) (ends.0) (ends.1)
+  pub large : ¬ IsSmall market.network H
+  pub near : AreNearUnits (exact_price market.network H asked) (ends.0) (ends.1)
       (near_steps market H)
 
 -- the cash of a factor and its printed ends; never of a user who holds no trade. Small histories
@@ -62,25 +62,25 @@ pub record IsCashOpen (market : Market) (H : List Entry) (u : ℕ) (q : Fraction
   pub traded : ¬ HoldsNoTrade H u
   pub near : ArePowersNear (2 ^ 42) q market.points_per_bit (ends.0) (ends.1)
       (market.points_per_bit * near_steps market H)
-      ⊎ IsSmall (network_of market H) H × ArePowersNear (2 ^ 59) q market.points_per_bit (ends.0)
+      ⊎ IsSmall market.network H × ArePowersNear (2 ^ 59) q market.points_per_bit (ends.0)
       (ends.1) (market.points_per_bit * near_steps market H)
 
 -- the least factor over the possible states that pass a test
 abbrev pub IsLeastCashOpen : Market → List Entry → ℕ → (List ℕ → Bool) → ℕ × ℕ → Type 0
-IsLeastCashOpen market H u test ends = IsSomeAnd (least_gain (network_of market H) H u test)
+IsLeastCashOpen market H u test ends = IsSomeAnd (least_gain market.network H u test)
     (λ g. IsCashOpen market H u (factor_with H u g) ends)
 
 -- the bits of a withdrawal, outside of the small case, of a user who holds some trade
 pub record AreBitsOpen (market : Market) (H : List Entry) (u : ℕ) (q : Fraction) (bits : ℕ) : Type 0
   where
-    pub large : ¬ IsSmall (network_of market H) H
+    pub large : ¬ IsSmall market.network H
     pub traded : ¬ HoldsNoTrade H u
     pub near : AreNear (2 ^ bits * q.den) q.num (near_steps market H)
 
 -- the most bits that can be taken out, told to who asked for more
 pub record IsMostOpen (market : Market) (H : List Entry) (u : ℕ) (q : Fraction) (most : ℕ) : Type 0
   where
-    pub large : ¬ IsSmall (network_of market H) H
+    pub large : ¬ IsSmall market.network H
     pub traded : ¬ HoldsNoTrade H u
     pub near : AreNear (2 ^ most * q.den) q.num (near_steps market H)
         ⊎ AreNear (2 ^ (most + 1) * 2 ^ 43 * q.den) (q.num * (2 ^ 43 - 1)) (near_steps market H)
@@ -126,8 +126,8 @@ pub record IsTradeOpen (market : Market) (H : List Entry) (u : ℕ) (asked : Ask
     (X hit_units miss_units : ℕ) : Type 0 where
   pub hit : Side
   pub miss : Side
-  pub sides : AreSides (network_of market H) H u asked hit miss
-  pub large : ¬ IsSmall (network_of market H) H
+  pub sides : AreSides market.network H u asked hit miss
+  pub large : ¬ IsSmall market.network H
   pub near : AreUnitsOpen (near_steps market H) (HoldsNoTrade H u) hit X hit_units
       ⊎ AreUnitsOpen (near_steps market H) (HoldsNoTrade H u) miss (million - X) miss_units
 
@@ -141,8 +141,8 @@ pub record AreLimitsOpen (market : Market) (H : List Entry) (u : ℕ) (asked : A
     (limits : Interval) : Type 0 where
   pub hit : Side
   pub miss : Side
-  pub sides : AreSides (network_of market H) H u asked hit miss
-  pub large : ¬ IsSmall (network_of market H) H
+  pub sides : AreSides market.network H u asked hit miss
+  pub large : ¬ IsSmall market.network H
   pub near : AreSidesOpen (near_steps market H) (HoldsNoTrade H u) hit miss limits
 
 -- ---- a value of a whole distribution
@@ -151,8 +151,8 @@ pub record IsValueOpen (market : Market) (H : List Entry) (u : ℕ) (spread : Sp
     (unclear : ℕ → Side → Type 0) : Type 0 where
   pub value : ℕ
   pub side : Side
-  pub is_side : IsValueSide (network_of market H) H u spread value (Some side)
-  pub large : ¬ IsSmall (network_of market H) H
+  pub is_side : IsValueSide market.network H u spread value (Some side)
+  pub large : ¬ IsSmall market.network H
   pub is_open : unclear value side
 
 -- its units for its share
@@ -181,7 +181,7 @@ pub record IsPlaceOpen {T : Type 0} (intervals : List T) (unclear : ℕ → T �
 -- one of the payments
 pub record IsPaymentOpen (market : Market) (H : List Entry) (payments : List Payment) : Type 0 where
   pub state : List ℕ
-  pub one_state : possible_states (network_of market H) H always ≡ state ∷ []
+  pub one_state : possible_states market.network H always ≡ state ∷ []
   pub user : ℕ
   pub payment : Payment
   pub stands : slice_get payments user ≡ Some payment
@@ -189,8 +189,8 @@ pub record IsPaymentOpen (market : Market) (H : List Entry) (payments : List Pay
 
 -- the operator's bound
 abbrev pub IsBoundOpen : Market → List Entry → ℕ × ℕ → Type 0
-IsBoundOpen market H ends = IsSomeAnd (least_weight (network_of market H) H)
-    (λ least. let total = initial_total (network_of market H) in
+IsBoundOpen market H ends = IsSomeAnd (least_weight market.network H)
+    (λ least. let total = initial_total market.network in
     ArePowersNear (nearness total) (quotient total least) market.points_per_bit (ends.0) (ends.1)
     (market.points_per_bit * near_steps market H))
 
@@ -199,46 +199,46 @@ IsBoundOpen market H ends = IsSomeAnd (least_weight (network_of market H) H)
 abbrev pub IsOpen : Market → List Entry → Quotes → Command → Reply → Type 0
 IsOpen market H quotes (Withdraw u bits) (Withdrawn user taken at) =
     let n = user_number H u in
-    IsSomeAnd (least_gain (network_of market H) H n always)
+    IsSomeAnd (least_gain market.network H n always)
     (λ g. AreBitsOpen market H n (factor_with H n g) bits)
 IsOpen market H quotes (Withdraw u bits) (Refused (Short most)) =
     let n = user_number H u in
-    IsSomeAnd (least_gain (network_of market H) H n always)
+    IsSomeAnd (least_gain market.network H n always)
     (λ g. IsMostOpen market H n (factor_with H n g) most)
 IsOpen market H quotes (Price q) (Priced low high) =
-    IsSomeAnd (question_named (network_of market H) q)
+    IsSomeAnd (question_named market.network q)
     (λ asked. IsPriceOpen market H asked (low, high))
 IsOpen market H quotes (Prices v condition) (PricesTold intervals) =
-    IsSomeAnd (spread_named (network_of market H) v condition.items)
+    IsSomeAnd (spread_named market.network v condition.items)
     (λ spread. IsPlaceOpen intervals.items
     (λ value ends. IsPriceOpen market H (asked_of spread value) ends))
 IsOpen market H quotes (Worst u) (Worsted low high) =
     IsLeastCashOpen market H (user_number H u) always (low, high)
 IsOpen market H quotes (Position u v condition) (PositionTold intervals) =
-    IsSomeAnd (spread_named (network_of market H) v condition.items)
+    IsSomeAnd (spread_named market.network v condition.items)
     (λ spread. IsPlaceOpen intervals.items
     (λ value told. IsSomeAnd told (IsLeastCashOpen market H (user_number H u)
     (with_target (asked_of spread value)))))
 IsOpen market H quotes Settle (Settled at payments) = IsPaymentOpen market H payments
 IsOpen market H quotes Bound (Risked low high) = IsBoundOpen market H (low, high)
 IsOpen market H quotes (Edit u q X seen) (Traded hit miss at) =
-    IsSomeAnd (question_named (network_of market H) q)
+    IsSomeAnd (question_named market.network q)
     (λ asked. IsTradeOpen market H (user_number H u) asked X hit miss)
 IsOpen market H quotes (Limits u q) (Limited limits at) =
-    IsSomeAnd (question_named (network_of market H) q)
+    IsSomeAnd (question_named market.network q)
     (λ asked. AreLimitsOpen market H (user_number H u) asked limits)
 IsOpen market H quotes (Edit u q X seen) (Refused (Beyond limits)) =
-    IsSomeAnd (question_named (network_of market H) q)
+    IsSomeAnd (question_named market.network q)
     (λ asked. (current_limits (last_quote quotes (user_number H u)) asked (revision H) ≡ None)
     × AreLimitsOpen market H (user_number H u) asked limits)
 IsOpen market H quotes (Spread u v condition to seen) (Spreaded factors at) =
-    IsSomeAnd (spread_named (network_of market H) v condition.items)
+    IsSomeAnd (spread_named market.network v condition.items)
     (λ spread. AreFactorsOpen market H (user_number H u) spread to.items factors.items)
 IsOpen market H quotes (Bounds u v condition) (Bounded box at) =
-    IsSomeAnd (spread_named (network_of market H) v condition.items)
+    IsSomeAnd (spread_named market.network v condition.items)
     (λ spread. AreBoundsOpen market H (user_number H u) spread (given_in box))
 IsOpen market H quotes (Spread u v condition to seen) (Refused (Outside box)) =
-    IsSomeAnd (spread_named (network_of market H) v condition.items)
+    IsSomeAnd (spread_named market.network v condition.items)
     (λ spread. (current_bounds (last_quote quotes (user_number H u)) spread (revision H) ≡ None)
     × AreBoundsOpen market H (user_number H u) spread (given_in box))
 IsOpen market H quotes _ _ = ⊥

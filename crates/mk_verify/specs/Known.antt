@@ -2,7 +2,7 @@
 use Rattle.std.specs.Prelude.{◌≡◌, Bool, true, List, length, ◌↔◌}
 use Rattle.mk_exact.specs.History.{Entry, users}
 use Rattle.mk_exact.specs.Weight.{IsSmall}
-use Rattle.mk_exact.specs.Market.{Market, network_of}
+use Rattle.mk_exact.specs.Market.{Market}
 use Rattle.mk_rules.specs.Quotes.{Quotes}
 use Rattle.mk_rules.specs.Transcript.{Standing}
 
@@ -11,10 +11,10 @@ pub record Knowledge : Type 0 where
   pub quotes : Quotes
   pub small : Bool
 
--- it is knowledge of a market behind a history
+-- it is knowledge of a market as it stands behind a history
 pub record IsKnown (market : Market) (H : List Entry) (known : Knowledge) : Type 0 where
   pub one_place_each : length known.quotes ≡ length (users H)
-  pub small : (known.small ≡ true) ↔ IsSmall (network_of market H) H
+  pub small : (known.small ≡ true) ↔ IsSmall market.network H
 
 -- where the history and what is known of its quotes stand
 abbrev pub standing_with : List Entry → Knowledge → Standing

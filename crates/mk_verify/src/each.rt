@@ -6,7 +6,7 @@ ghost use Rattle.mk_net.specs.Bounds.{max_points_per_bit};
 ghost use Rattle.mk_text.specs.Numbers.{AreEnds};
 ghost use Rattle.mk_states.specs.Events.{with_target};
 ghost use Rattle.mk_exact.specs.History.{Entry};
-ghost use Rattle.mk_exact.specs.Market.{Market, network_of};
+ghost use Rattle.mk_exact.specs.Market.{Market};
 ghost use Rattle.mk_exact.specs.Sound.{IsSound};
 ghost use Rattle.mk_exact.specs.Weight.{IsSmall};
 ghost use Rattle.mk_exact.specs.Prices.{exact_price, CoversPrice};
@@ -28,7 +28,7 @@ pub fn judge_each_price(bounds: &[Option<PriceBounds>], small: bool, told: &[(u6
     requires range { All (λ found. IfSome found HavePriceRange) bounds.now }
     ensures { (market : Market) (H : List Entry) (spread : SpreadAsked)
         → TellsSmall small market H → AreBoundsOfPrices market H spread bounds.now
-        → Judges result (ArePricesOf (network_of market H) H spread told.now)
+        → Judges result (ArePricesOf market.network H spread told.now)
         (IsPlaceOpen told.now (λ value ends. IsPriceOpen market H (asked_of spread value) ends)) }
 {
     if bounds.len() != told.len() {
@@ -46,9 +46,9 @@ fn judge_value_price(bounds: &Option<PriceBounds>, small: bool, told: (u64, u64)
     requires range { IfSome bounds.now HavePriceRange }
     ensures { (market : Market) (H : List Entry) (asked : Asked) → TellsSmall small market H
         → IsSomeAnd bounds.now (AreBoundsOfPrice (evidence_grade market H)
-        (network_of market H) H asked)
-        → Judges result (CoversPrice (IsSmall (network_of market H) H)
-        (exact_price (network_of market H) H asked) told.0 told.1)
+        market.network H asked)
+        → Judges result (CoversPrice (IsSmall market.network H)
+        (exact_price market.network H asked) told.0 told.1)
         (IsPriceOpen market H asked told) }
 {
     match bounds {
@@ -70,11 +70,11 @@ pub fn judge_each_position(
         factors.now }
     requires fits { All AreEnds told.now }
     ensures { (market : Market) (H : List Entry) (u : ℕ) (spread : SpreadAsked)
-        → TellsSmall small market H → IsSound (network_of market H) H
+        → TellsSmall small market H → IsSound market.network H
         → points_per_bit ≡ market.points_per_bit
         → AreSureFactorsOf market H u spread factors.now
         → Judges result
-        (IsPositionOf (network_of market H) H u market.points_per_bit spread told.now)
+        (IsPositionOf market.network H u market.points_per_bit spread told.now)
         (IsPlaceOpen told.now (λ value ends. IsSomeAnd ends
         (IsLeastCashOpen market H u (with_target (asked_of spread value))))) }
 {
@@ -100,13 +100,13 @@ fn judge_value_cash(
     requires range { IfSome factor.now (λ factor. HasCashRange factor points_per_bit) }
     requires fits { AreEnds told }
     ensures { (market : Market) (H : List Entry) (u value : ℕ) (spread : SpreadAsked)
-        → TellsSmall small market H → IsSound (network_of market H) H
+        → TellsSmall small market H → IsSound market.network H
         → points_per_bit ≡ market.points_per_bit
-        → IsSureFactor (evidence_grade market H) (network_of market H) H u
+        → IsSureFactor (evidence_grade market H) market.network H u
         (with_target (asked_of spread value))
         factor.now
         → Judges result
-        (IsSureOf (network_of market H) H u market.points_per_bit spread value told)
+        (IsSureOf market.network H u market.points_per_bit spread value told)
         (IsSomeAnd told (IsLeastCashOpen market H u (with_target (asked_of spread value)))) }
 {
     match (factor, told) {

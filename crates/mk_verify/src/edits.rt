@@ -5,7 +5,7 @@ ghost use Rattle.std.specs.Prelude.{◌<◌, ◌≤◌, ◌↔◌, List, None, M
 ghost use Rattle.mk_net.specs.declared.words.QuestionText.{QuestionText};
 ghost use Rattle.mk_exact.specs.History.{Entry};
 ghost use Rattle.mk_exact.specs.Limits.{Inside};
-ghost use Rattle.mk_exact.specs.Market.{Market, network_of};
+ghost use Rattle.mk_exact.specs.Market.{Market};
 ghost use Rattle.mk_quote.specs.Bounds as side;
 ghost use Rattle.mk_judge.specs.Judged.{Judges};
 ghost use Rattle.mk_judge.specs.Units.{HasTradeRange};
@@ -32,7 +32,7 @@ pub(crate) fn judge_told_limits(bounds: &Bounds, small: bool, now: u64, reply: &
     ensures { (market : Market) (H : List Entry) (name : List ℕ) (q : QuestionText)
         → (its : AreEditBounds market H name q bounds.now small now)
         → Judges result
-        (IsLimits (network_of market H) H (user_number H name) its.asked reply.now)
+        (IsLimits market.network H (user_number H name) its.asked reply.now)
         (AreLimitsLeftOpen market H (user_number H name) its.asked reply.now) }
 {
     match reply {
@@ -65,8 +65,8 @@ pub(crate) fn judge_edit(
         → (its : AreEditBounds market H name q bounds.now small now)
         → Judges result
         (MatchOption quoted
-        (IsJudgedAfresh (network_of market H) H (user_number H name) its.asked to reply.now)
-        (λ limits. IsJudged (network_of market H) H (user_number H name) its.asked to limits
+        (IsJudgedAfresh market.network H (user_number H name) its.asked to reply.now)
+        (λ limits. IsJudged market.network H (user_number H name) its.asked to limits
         reply.now))
         (IsEditLeftOpen market H (user_number H name) its.asked to quoted reply.now) }
 {
@@ -92,7 +92,7 @@ fn judge_by_quote(
     ensures { (market : Market) (H : List Entry) (name : List ℕ) (q : QuestionText)
         → (its : AreEditBounds market H name q bounds.now small now)
         → Judges result
-        (IsJudged (network_of market H) H (user_number H name) its.asked to limits reply.now)
+        (IsJudged market.network H (user_number H name) its.asked to limits reply.now)
         (IsTradeLeftOpen market H (user_number H name) its.asked to reply.now) }
 {
     if is_inside(limits, to) {
@@ -111,7 +111,7 @@ fn judge_afresh(bounds: &Bounds, small: bool, now: u64, to: u32, reply: &Reply) 
     ensures { (market : Market) (H : List Entry) (name : List ℕ) (q : QuestionText)
         → (its : AreEditBounds market H name q bounds.now small now)
         → Judges result
-        (IsJudgedAfresh (network_of market H) H (user_number H name) its.asked to reply.now)
+        (IsJudgedAfresh market.network H (user_number H name) its.asked to reply.now)
         (IsEditLeftOpen market H (user_number H name) its.asked to None reply.now) }
 {
     match beyond_told(reply) {
@@ -135,7 +135,7 @@ fn judge_trade(bounds: &Bounds, small: bool, now: u64, to: u32, reply: &Reply) -
     ensures { (market : Market) (H : List Entry) (name : List ℕ) (q : QuestionText)
         → (its : AreEditBounds market H name q bounds.now small now)
         → Judges result
-        (IsTrade (network_of market H) H (user_number H name) its.asked to reply.now)
+        (IsTrade market.network H (user_number H name) its.asked to reply.now)
         (IsTradeLeftOpen market H (user_number H name) its.asked to reply.now) }
 {
     match reply {

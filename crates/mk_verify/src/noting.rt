@@ -2,7 +2,7 @@
 
 ghost use Rattle.std.specs.Prelude.{◌≡◌, ◌∷◌, ℕ, List, length, None, OnOk};
 ghost use Rattle.mk_exact.specs.History.{Entry, users, revision};
-ghost use Rattle.mk_exact.specs.Market.{Market as TheMarket, network_of};
+ghost use Rattle.mk_exact.specs.Market.{Market as TheMarket};
 ghost use Rattle.mk_command.specs.Commands.{command_of};
 ghost use Rattle.mk_command.specs.declared.command.Command.TheVariants.{User, Limits, Edit};
 ghost use Rattle.mk_command.specs.declared.command.Command.TheVariants.{Bounds, Spread};

@@ -5,10 +5,11 @@ ghost use Rattle.mk_command.specs.declared.command.Command.TheVariants as comman
 ghost use Rattle.mk_verify.specs.inner.Judging.{JudgesReply, IsPlainAnswer, by_words};
 
 use crate::refused::judge_refused;
+use mk_addition::AddText;
 use mk_engine::Engine;
-use mk_evidence::{refused_deposit, refused_join, refused_resolution};
+use mk_evidence::{refused_addition, refused_deposit, refused_join, refused_resolution};
 use mk_judge::Judged;
-use mk_market::Market;
+use mk_market::{Market, has_text};
 use mk_net::{Name, PairText};
 use mk_reply::{Refusal, Reply};
 use mk_semiring::{MinProd, SumProd};
@@ -56,6 +57,39 @@ fn tells_join<P: Engine<SumProd>, A: Engine<MinProd>>(
 {
     match reply {
         Reply::Joined { user, at } => user == name && is_next(market, *at),
+        Reply::Refused { why } => matches!(why, Refusal::Memory),
+        _ => false,
+    }
+}
+
+/// Judges a reply to `add`: the question was added by the next change, or memory was wanting. A
+/// question whose words no line could have wants memory.
+pub fn judge_addition<P: Engine<SumProd>, A: Engine<MinProd>>(
+    market: &Market<P, A>,
+    add: &AddText,
+    reply: &Reply,
+) -> Judged
+    ensures { JudgesReply market.now.market (market.now.standing).history (command.Add add.now)
+        reply.now result }
+{
+    match refused_addition(market, add) {
+        Err(why) => judge_refused(&why, reply),
+        Ok(()) => judge_words(tells_addition(market, add, reply)),
+    }
+}
+
+fn tells_addition<P: Engine<SumProd>, A: Engine<MinProd>>(
+    market: &Market<P, A>,
+    add: &AddText,
+    reply: &Reply,
+) -> bool
+    ensures { (result ≡ true) ↔ IsPlainAnswer (market.now.standing).history
+        (command.Add add.now) reply.now }
+{
+    match reply {
+        Reply::Added { variable, at } => {
+            has_text(add) && *variable == add.variable && is_next(market, *at)
+        }
         Reply::Refused { why } => matches!(why, Refusal::Memory),
         _ => false,
     }

@@ -3,7 +3,6 @@ ghost use Rattle.std.specs.Prelude.{◌≡◌, ◌<◌, ◌^◌, ◌↔◌, ℕ,
 ghost use Rattle.mk_states.specs.Events.{always};
 ghost use Rattle.mk_exact.specs.Existing.{HasOutcome};
 ghost use Rattle.mk_exact.specs.History.{users};
-ghost use Rattle.mk_exact.specs.Market.{network_of};
 ghost use Rattle.mk_exact.specs.Sound.{IsSound};
 ghost use Rattle.mk_exact.specs.Weight.{possible_states};
 ghost use Rattle.mk_command.specs.declared.command.Command.TheVariants as command;
@@ -69,16 +68,16 @@ fn judge_payments<P: TreeGraded<SumProd>, A: TreeGraded<MinProd>>(
     payments: &[Payment],
 ) -> Judged
     requires small { TellsSmall small market.old.market (market.old.standing).history }
-    requires outcome { HasOutcome (network_of market.old.market (market.old.standing).history)
+    requires outcome { HasOutcome market.old.market.network
         (market.old.standing).history }
     requires in_order { map (λ p. p.user) payments.now ≡ users (market.old.standing).history }
     requires fits { All IsReadPayment payments.now }
     requires few { length payments.now < 2 ^ 32 }
     ensures same { market.new ≡ market.old }
     ensures judged { (state : List ℕ)
-        → IsSound (network_of market.old.market (market.old.standing).history)
+        → IsSound market.old.market.network
         (market.old.standing).history
-        → possible_states (network_of market.old.market (market.old.standing).history)
+        → possible_states market.old.market.network
         (market.old.standing).history always ≡ state ∷ []
         → Judges result (PayEach market.old.market (market.old.standing).history state payments.now)
         (IsPaymentOpen market.old.market (market.old.standing).history payments.now) }
@@ -98,15 +97,15 @@ fn judge_payment<P: TreeGraded<SumProd>, A: TreeGraded<MinProd>>(
     payment: &Payment,
 ) -> Judged
     requires small { TellsSmall small market.old.market (market.old.standing).history }
-    requires outcome { HasOutcome (network_of market.old.market (market.old.standing).history)
+    requires outcome { HasOutcome market.old.market.network
         (market.old.standing).history }
     requires user { user < length (users (market.old.standing).history) }
     requires fits { IsReadPayment payment.now }
     ensures same { market.new ≡ market.old }
     ensures judged { (state : List ℕ)
-        → IsSound (network_of market.old.market (market.old.standing).history)
+        → IsSound market.old.market.network
         (market.old.standing).history
-        → possible_states (network_of market.old.market (market.old.standing).history)
+        → possible_states market.old.market.network
         (market.old.standing).history always ≡ state ∷ []
         → Judges result
         (PaysCash market.old.market (market.old.standing).history state user payment.now)

@@ -8,7 +8,7 @@ ghost use Rattle.mk_net.specs.declared.words.PairText.{PairText};
 ghost use Rattle.mk_exact.specs.History.{Entry};
 ghost use Rattle.std.specs.List.{AllZip};
 ghost use Rattle.mk_exact.specs.Limits.{Inside};
-ghost use Rattle.mk_exact.specs.Market.{Market, network_of};
+ghost use Rattle.mk_exact.specs.Market.{Market};
 ghost use Rattle.mk_spread.specs.Bounds.{InsideEach};
 ghost use Rattle.mk_quote.specs.Values.{sides_in};
 ghost use Rattle.mk_judge.specs.Judged.{Judges};
@@ -41,7 +41,7 @@ pub(crate) fn judge_told_bounds(
         (condition : TheArrayVec PairText)
         → (its : AreEachBounds market H name v condition bounds.now small now)
         → Judges result
-        (IsBounds (network_of market H) H (user_number H name) its.spread reply.now)
+        (IsBounds market.network H (user_number H name) its.spread reply.now)
         (AreBoundsLeftOpen market H (user_number H name) its.spread reply.now) }
 {
     match reply {
@@ -73,9 +73,9 @@ pub(crate) fn judge_spread(
         → (its : AreEachBounds market H name v condition bounds.now small now)
         → Judges result
         (MatchOption (option_map given_in (option_copied quoted.entry))
-        (IsSpreadJudgedAfresh (network_of market H) H (user_number H name) its.spread to.now
+        (IsSpreadJudgedAfresh market.network H (user_number H name) its.spread to.now
         reply.now)
-        (λ intervals. IsSpreadJudged (network_of market H) H (user_number H name) its.spread
+        (λ intervals. IsSpreadJudged market.network H (user_number H name) its.spread
         to.now intervals reply.now))
         (IsSpreadLeftOpen market H (user_number H name) its.spread to.now
         (option_map given_in (option_copied quoted.entry)) reply.now) }
@@ -101,7 +101,7 @@ fn judge_by_quote(
         (condition : TheArrayVec PairText)
         → (its : AreEachBounds market H name v condition bounds.now small now)
         → Judges result
-        (IsSpreadJudged (network_of market H) H (user_number H name) its.spread to.now
+        (IsSpreadJudged market.network H (user_number H name) its.spread to.now
         (given_in intervals.now) reply.now)
         (IsSpreadTradeLeftOpen market H (user_number H name) its.spread to.now reply.now) }
 {
@@ -120,7 +120,7 @@ fn judge_afresh(bounds: &SpreadBounds, small: bool, now: u64, to: &[u32], reply:
         (condition : TheArrayVec PairText)
         → (its : AreEachBounds market H name v condition bounds.now small now)
         → Judges result
-        (IsSpreadJudgedAfresh (network_of market H) H (user_number H name) its.spread to.now
+        (IsSpreadJudgedAfresh market.network H (user_number H name) its.spread to.now
         reply.now)
         (IsSpreadLeftOpen market H (user_number H name) its.spread to.now None reply.now) }
 {
@@ -150,7 +150,7 @@ fn judge_spread_trade(
         (condition : TheArrayVec PairText)
         → (its : AreEachBounds market H name v condition bounds.now small now)
         → Judges result
-        (IsSpreadTrade (network_of market H) H (user_number H name) its.spread to.now reply.now)
+        (IsSpreadTrade market.network H (user_number H name) its.spread to.now reply.now)
         (IsSpreadTradeLeftOpen market H (user_number H name) its.spread to.now reply.now) }
 {
     match reply {

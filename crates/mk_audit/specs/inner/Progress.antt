@@ -1,5 +1,6 @@
--- How far an audit has come, and what it finds of one line more.
-use Rattle.std.specs.Prelude.{◌≡◌, ◌≢◌, ℕ, ◌+◌, List, [], ◌∷◌, ◌++◌, length, drop, true, ⊤}
+-- How far an audit has come, and what it finds of one line more. What is found of a line speaks of
+-- the market as it stands; what is held of all lines so far speaks of the file's.
+use Rattle.std.specs.Prelude.{◌≡◌, ◌≢◌, ℕ, ◌+◌, List, [], ◌∷◌, ◌++◌, length, drop, true, false, ⊤}
 use Rattle.std.specs.Prelude.{Option, Some, None, Result, Ok, Err, MatchOption, All}
 use Rattle.std.specs.List.{flat_map}
 use Rattle.mk_io.specs.Cutting.{Cutting}
@@ -9,10 +10,13 @@ use Rattle.mk_command.specs.declared.command.Command.{Command}
 use Rattle.mk_reply.specs.declared.reply.Reply.{Reply}
 use Rattle.mk_reply.specs.Replies.{IsReply}
 use Rattle.mk_rules.specs.Answers.{IsAllowed}
+use Rattle.mk_rules.specs.Bounded.{IsBounded}
+use Rattle.mk_rules.specs.Standings.{IsReady}
 use Rattle.mk_rules.specs.Transcript.{Standing, Line, OfCommand, IsAllowedFor, after}
+use Rattle.mk_rules.specs.Transcript.{market_after}
+use Rattle.mk_market.specs.Trading.{Trading}
 use Rattle.mk_session.specs.Texts.{reply_line}
-use Rattle.mk_session.specs.Transcript.{Asks, AreReplied}
-use Rattle.mk_session.specs.Begins.{CanBegin}
+use Rattle.mk_session.specs.Transcript.{Asks}
 use Rattle.mk_session.specs.Outcome.{IsFrontOf}
 use Rattle.mk_session.specs.inner.Progress.{IsPlaced}
 use Rattle.mk_verify.specs.Clear.{IsOpen}
@@ -38,10 +42,12 @@ standing_at now front = standing_with now.history front.known
 abbrev pub left_of : List ℕ → Front → List ℕ
 left_of transcript front = drop front.place transcript
 
--- between two lines: what is known of the market is so, and each line has an allowed reply
-pub record IsAt (market : Market) (now : Standing) (front : Front) : Type 0 where
+-- between two lines: what is known of the market as it stands is so, and each line has an allowed
+-- reply, which has a text
+pub record StandsAt (market : Market) (now : Standing) (front : Front) : Type 0 where
   pub known : IsKnown market now.history front.known
-  pub begins : CanBegin market (standing_at now front)
+  pub ready : IsReady market (standing_at now front)
+  pub bounded : IsBounded market now.history
 
 -- some bytes stand next, and make one right line more; or they do not, and that line is wrong
 abbrev pub HoldsBytes : Option (Result Verdict AuditFault) → List ℕ → List ℕ → Front → Front
@@ -52,14 +58,17 @@ HoldsBytes None bytes transcript before after =
 HoldsBytes (Some end) bytes transcript before after =
     (end ≡ Ok (No (before.right + 1))) × ¬ IsFrontOf (left_of transcript before) bytes
 
--- where a reply to a command is allowed, the audit goes on where it leads; or memory was wanting
-abbrev pub GoesOnBy : Option (Result Verdict AuditFault) → Market → Standing → Standing → Front
-    → Front → Command → Reply → Type 0
-GoesOnBy None market old new before behind command reply =
-    IsAllowed market old.history before.known.quotes command reply
-    → (standing_at new behind ≡ after market (standing_at old before) (OfCommand command) reply)
-    × IsKnown market new.history behind.known
-GoesOnBy (Some end) market old new before behind command reply = end ≡ Err Memory
+-- where a reply to a command is allowed, the audit goes on where it leads; or memory was wanting,
+-- and the market is as it was
+abbrev pub GoesOnBy : Option (Result Verdict AuditFault) → Trading → Trading → Front → Front
+    → Command → Reply → Type 0
+GoesOnBy None old new before behind command reply =
+    IsAllowed old.market old.standing.history before.known.quotes command reply
+    → (new.market ≡ market_after old.market old.standing (OfCommand command) reply)
+    × (standing_at new.standing behind
+    ≡ after old.market (standing_at old.standing before) (OfCommand command) reply)
+    × IsKnown new.market new.standing.history behind.known
+GoesOnBy (Some end) old new before behind command reply = (end ≡ Err Memory) × (new ≡ old)
 
 -- a reply to a command is allowed, and the audit goes on behind it; or how it ends
 abbrev pub HoldsReply : Option (Result Verdict AuditFault) → Market → Standing → Standing → Command
@@ -76,11 +85,26 @@ HoldsReply (Some (Err Memory)) market old new command reply count = ⊤
 HoldsReply (Some (Err TooMany)) market old new command reply count = ⊥
 HoldsReply (Some (Err Read)) market old new command reply count = ⊥
 
--- a line has its right replies, none or one, and they stand next
+-- an allowed reply to a line, in the market as it stands, and where it leads
+pub record IsReplyTo (line : StreamLine) (market : Market) (old new : Standing)
+    (reply : Reply) : Type 0 where
+  pub not_blank : is_not_blank line ≡ true
+  pub asked : Line
+  pub asks : Asks line asked
+  pub allowed : IsAllowedFor market old asked reply
+  pub leads : new ≡ after market old asked reply
+
+-- the replies to a line: none where it is blank, and else one
+abbrev pub AreRepliesTo : StreamLine → Market → Standing → Standing → List Reply → Type 0
+AreRepliesTo line market old new [] = (is_not_blank line ≡ false) × (new ≡ old)
+AreRepliesTo line market old new (reply ∷ []) = IsReplyTo line market old new reply
+AreRepliesTo line market old new (reply ∷ another ∷ replies) = ⊥
+
+-- a line has its right replies, and they stand next
 pub record IsPassed (market : Market) (old new : Standing) (line : StreamLine)
     (left behind : List ℕ) (before after : ℕ) : Type 0 where
   pub replies : List Reply
-  pub replied : AreReplied market old (line ∷ []) new replies
+  pub replied : AreRepliesTo line market old new replies
   pub stand : left ≡ flat_map reply_line replies ++ behind
   pub counted : after ≡ before + length replies
 
@@ -130,7 +154,7 @@ EndsBehind (Yes n) left count = (n ≡ count) × (left ≡ [])
 EndsBehind (No n) left count = (n ≡ count + 1) × (left ≢ [])
 EndsBehind (Unsure n) left count = ⊥
 
--- some lines of a market have right replies, so many lines in all, and this is left of the
+-- some lines of a file's market have right replies, so many lines in all, and this is left of the
 -- transcript behind them
 pub record IsHeld (market : Market) (lines : List StreamLine) (now : Standing)
     (transcript left : List ℕ) (count : ℕ) : Type 0 where

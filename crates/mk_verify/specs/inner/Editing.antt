@@ -4,7 +4,7 @@ use Rattle.mk_net.specs.declared.words.QuestionText.{QuestionText}
 use Rattle.mk_net.specs.Asked.{Asked}
 use Rattle.mk_exact.specs.History.{Entry, revision}
 use Rattle.mk_exact.specs.Limits.{Side}
-use Rattle.mk_exact.specs.Market.{Market, network_of}
+use Rattle.mk_exact.specs.Market.{Market}
 use Rattle.mk_exact.specs.Sides.{AreSides}
 use Rattle.mk_quote.specs.declared.bounds.Bounds.{Bounds}
 use Rattle.mk_reply.specs.declared.reply.Reply.{Reply}
@@ -23,11 +23,11 @@ pub record AreEditBounds (market : Market) (H : List Entry) (name : List ℕ) (q
   pub tells : TellsSmall small market H
   pub present : now ≡ revision H
   pub asked : Asked
-  pub named : question_named (network_of market H) q ≡ Some asked
+  pub named : question_named market.network q ≡ Some asked
   pub hit : Side
   pub miss : Side
-  pub exist : AreSides (network_of market H) H (user_number H name) asked hit miss
-  pub both : AreBoundsOfBoth (evidence_grade market H) (network_of market H) H
+  pub exist : AreSides market.network H (user_number H name) asked hit miss
+  pub both : AreBoundsOfBoth (evidence_grade market H) market.network H
       (user_number H name) asked bounds
 
 -- a trade may be left open

@@ -4,19 +4,21 @@ use Rattle.std.specs.Prelude.{slice_get, ◌↔◌, ◌⊎◌}
 use Rattle.std.specs.List.{AllZip}
 use Rattle.mk_states.specs.Events.{with_target}
 use Rattle.mk_exact.specs.History.{Entry, revision}
-use Rattle.mk_exact.specs.Market.{Market, network_of}
+use Rattle.mk_exact.specs.Market.{Market}
 use Rattle.mk_exact.specs.Weight.{IsSmall}
 use Rattle.mk_exact.specs.Factors.{HoldsNoTrade, factor}
 use Rattle.mk_exact.specs.Cash.{CoversCash}
 use Rattle.mk_spread.specs.Spreads.{SpreadAsked, asked_of}
 use Rattle.mk_spread.specs.Markets.{values_of}
 use Rattle.mk_enclose.specs.declared.factor.Factor.{Factor}
+use Rattle.mk_addition.specs.Adds.{IsAddText}
 use Rattle.mk_command.specs.declared.command.Command.{Command}
-use Rattle.mk_command.specs.declared.command.Command.TheVariants.{User, Deposit, Resolve}
+use Rattle.mk_command.specs.declared.command.Command.TheVariants.{User, Deposit, Resolve, Add}
 use Rattle.mk_reply.specs.declared.refusal.Refusal.TheVariants.{Memory}
 use Rattle.mk_reply.specs.declared.payments.Payment.{Payment}
 use Rattle.mk_reply.specs.declared.reply.Reply.{Reply}
-use Rattle.mk_reply.specs.declared.reply.Reply.TheVariants.{Joined, Deposited, Resolved, Refused}
+use Rattle.mk_reply.specs.declared.reply.Reply.TheVariants.{Joined, Deposited, Resolved, Added}
+use Rattle.mk_reply.specs.declared.reply.Reply.TheVariants.{Refused}
 use Rattle.mk_rules.specs.Answers.{IsAllowed}
 use Rattle.mk_rules.specs.Quotes.{Quotes}
 use Rattle.mk_rules.specs.Standings.{Stands}
@@ -30,7 +32,7 @@ use Rattle.mk_verify.specs.Clear.{IsOpen, IsCashOpen}
 
 -- the flag is set exactly where the history is small
 abbrev pub TellsSmall : Bool → Market → List Entry → Type 0
-TellsSmall small market H = (small ≡ true) ↔ IsSmall (network_of market H) H
+TellsSmall small market H = (small ≡ true) ↔ IsSmall market.network H
 
 -- the judgement of a reply to a command, whatever users were quoted
 abbrev pub JudgesReply : Market → List Entry → Command → Reply → Judged → Type 0
@@ -49,6 +51,8 @@ IsPlainAnswer H (User u) reply =
     (reply ≡ Joined u (revision H + 1)) ⊎ (reply ≡ Refused Memory)
 IsPlainAnswer H (Deposit u bits) reply = reply ≡ Deposited u bits (revision H + 1)
 IsPlainAnswer H (Resolve p) reply = reply ≡ Resolved p (revision H + 1)
+IsPlainAnswer H (Add add) reply =
+    (IsAddText add × (reply ≡ Added add.variable (revision H + 1))) ⊎ (reply ≡ Refused Memory)
 IsPlainAnswer H command reply = ⊥
 
 -- ---- lists of evidence
@@ -58,22 +62,22 @@ abbrev pub AreBoundsOfPrices :
     Market → List Entry → SpreadAsked → List (Option PriceBounds) → Type 0
 AreBoundsOfPrices market H spread bounds =
     AllZip (λ value price. IsSomeAnd price
-    (AreBoundsOfPrice (evidence_grade market H) (network_of market H) H (asked_of spread value)))
-    (values_of (network_of market H) spread) bounds
+    (AreBoundsOfPrice (evidence_grade market H) market.network H (asked_of spread value)))
+    (values_of market.network spread) bounds
 
 -- factors of what a user is sure of where each value comes, in order, and none where it cannot
 abbrev pub AreSureFactorsOf :
     Market → List Entry → ℕ → SpreadAsked → List (Option Factor) → Type 0
 AreSureFactorsOf market H u spread factors =
-    AllZip (λ value factor. IsSureFactor (evidence_grade market H) (network_of market H) H u
-    (with_target (asked_of spread value)) factor) (values_of (network_of market H) spread) factors
+    AllZip (λ value factor. IsSureFactor (evidence_grade market H) market.network H u
+    (with_target (asked_of spread value)) factor) (values_of market.network spread) factors
 
 -- ---- settlements
 
 -- a payment to a user covers the cash of its factor in a state, and is the low end
 pub record PaysCash (market : Market) (H : List Entry) (state : List ℕ) (u : ℕ)
     (payment : Payment) : Type 0 where
-  pub covers : CoversCash (IsSmall (network_of market H) H) (HoldsNoTrade H u) (factor H u state)
+  pub covers : CoversCash (IsSmall market.network H) (HoldsNoTrade H u) (factor H u state)
       market.points_per_bit payment.low payment.high
   pub low_end : payment.paid ≡ payment.low
 

@@ -5,7 +5,7 @@ use Rattle.arrayvec.specs.ArrayVec.{ArrayVec}
 use Rattle.mk_net.specs.declared.words.PairText.{PairText}
 use Rattle.mk_exact.specs.History.{Entry, revision}
 use Rattle.mk_exact.specs.Limits.{Side}
-use Rattle.mk_exact.specs.Market.{Market, network_of}
+use Rattle.mk_exact.specs.Market.{Market}
 use Rattle.mk_spread.specs.Spreads.{SpreadAsked}
 use Rattle.mk_spread.specs.Bounds.{Intervals, AreRightBounds}
 use Rattle.mk_spread.specs.Markets.{AreValueSides}
@@ -30,12 +30,12 @@ pub record AreEachBounds (market : Market) (H : List Entry) (name v : List ℕ)
   pub tells : TellsSmall small market H
   pub present : now ≡ revision H
   pub spread : SpreadAsked
-  pub named : spread_named (network_of market H) v condition.items ≡ Some spread
+  pub named : spread_named market.network v condition.items ≡ Some spread
   pub sides : List (Option Side)
-  pub exist : AreValueSides (network_of market H) H (user_number H name) spread sides
+  pub exist : AreValueSides market.network H (user_number H name) spread sides
   pub each : (sides : List (Option Side))
-      → AreValueSides (network_of market H) H (user_number H name) spread sides
-      → AllZip (IsBoundedValue (evidence_grade market H) (network_of market H) H
+      → AreValueSides market.network H (user_number H name) spread sides
+      → AllZip (IsBoundedValue (evidence_grade market H) market.network H
       (user_number H name))
       (sides_in bounds) sides
 

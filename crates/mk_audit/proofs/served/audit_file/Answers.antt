@@ -1,4 +1,4 @@
-use Rattle.std.proofs.Common.{List, ℕ, ap, sym, subst, ◌∙◌}
+use Rattle.std.proofs.Common.{◌∙◌}
 use Rattle.mk_file.specs.MarketOf.{market_of}
 use Rattle.mk_audit.proofs.Telling.{told_of_part}
 use Rattle.mk_audit.proofs.served.audit_file.Goals as goal

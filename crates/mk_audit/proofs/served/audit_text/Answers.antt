@@ -1,5 +1,4 @@
-use Rattle.std.proofs.Common.{ℕ, List, Result, ap, sym, subst, ◌∙◌, refl}
-use Rattle.mk_io.specs.Outside.{Rose}
+use Rattle.std.proofs.Common.{refl}
 use Rattle.mk_file.specs.MarketOf.{market_of}
 use Rattle.mk_audit.specs.AuditOutcome.{AuditsTo}
 use Rattle.mk_io.specs.declared.status.Status.TheVariants.{TooMany}

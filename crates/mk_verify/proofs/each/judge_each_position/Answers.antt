@@ -2,7 +2,6 @@ use Rattle.std.proofs.Common.{◌<◌, None, IsSomeAnd, length, get_or, slice_in
 use Rattle.mk_net.specs.Network.{sizes}
 use Rattle.std.proofs.lemmas.Option.{slice_get_read, slice_get-get_or}
 use Rattle.mk_states.specs.Events.{with_target}
-use Rattle.mk_exact.specs.Market.{network_of}
 use Rattle.mk_spread.specs.Spreads.{asked_of}
 use Rattle.mk_spread.specs.Told.{IsSureOf}
 use Rattle.mk_verify.specs.Clear.{IsLeastCashOpen}
@@ -23,7 +22,7 @@ loop-value-preserved c market H u spread tells sound points evidence =
     let found = slice_get_read c.args.factors.now (length c.args.factors.now) n
     c.index-factors-value.result refl c.loop-value-test.true c.index-factors-value.is in
     rw c.and-judged.ensures (one_more told
-    (IsSureOf (network_of market H) H u market.points_per_bit spread)
+    (IsSureOf market.network H u market.points_per_bit spread)
     (λ value ends. IsSomeAnd ends
     (IsLeastCashOpen market H u (with_target (asked_of spread value)))) c.loop-value.judged
     c.judge_value_cash.result n (get_or told n None) (slice_get-get_or told n None within)
@@ -34,8 +33,8 @@ loop-value-preserved c market H u spread tells sound points evidence =
 pub returns : goal.returns
 returns c market H u spread tells sound points evidence =
     let long = ranged_long _ 0 _ c.args.factors.now evidence in
-    let count = slice_index (sizes (network_of market H)) spread.variable in
-    all_judged c.args.told.now (IsSureOf (network_of market H) H u market.points_per_bit spread)
+    let count = slice_index (sizes market.network) spread.variable in
+    all_judged c.args.told.now (IsSureOf market.network H u market.points_per_bit spread)
     (λ value ends. IsSomeAnd ends
     (IsLeastCashOpen market H u (with_target (asked_of spread value)))) c.loop-value.judged
     c.loop-value.value count (sym c.if-factors-told.false ∙ long) (omega (arith, long))

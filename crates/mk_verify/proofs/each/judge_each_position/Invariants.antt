@@ -1,7 +1,7 @@
 use Rattle.std.specs.Prelude.{◌≡◌, ℕ, List, IsSomeAnd}
 use Rattle.mk_states.specs.Events.{with_target}
 use Rattle.mk_exact.specs.History.{Entry}
-use Rattle.mk_exact.specs.Market.{Market, network_of}
+use Rattle.mk_exact.specs.Market.{Market}
 use Rattle.mk_exact.specs.Sound.{IsSound}
 use Rattle.mk_spread.specs.Spreads.{SpreadAsked, asked_of}
 use Rattle.mk_spread.specs.Told.{IsSureOf}
@@ -13,8 +13,8 @@ use Rattle.mk_verify.proofs.each.judge_each_position.Given as goal
 abbrev pub invariant-loop-value : goal.invariant-loop-value
 invariant-loop-value l =
     (market : Market) (H : List Entry) (u : ℕ) (spread : SpreadAsked)
-    → TellsSmall l.small market H → IsSound (network_of market H) H
+    → TellsSmall l.small market H → IsSound market.network H
     → l.points_per_bit ≡ market.points_per_bit → AreSureFactorsOf market H u spread l.factors
-    → JudgesBelow l.told (IsSureOf (network_of market H) H u market.points_per_bit spread)
+    → JudgesBelow l.told (IsSureOf market.network H u market.points_per_bit spread)
     (λ value ends. IsSomeAnd ends
     (IsLeastCashOpen market H u (with_target (asked_of spread value)))) l.judged l.value

@@ -1,7 +1,6 @@
 use Rattle.std.proofs.Common.{◌<◌, length, get_or, slice_index, refl, sym, ◌∙◌, arith}
 use Rattle.mk_net.specs.Network.{sizes}
 use Rattle.std.proofs.lemmas.Option.{slice_get_read, slice_get-get_or}
-use Rattle.mk_exact.specs.Market.{network_of}
 use Rattle.mk_spread.specs.Spreads.{asked_of}
 use Rattle.mk_spread.specs.Told.{CoversValue}
 use Rattle.mk_verify.specs.Clear.{IsPriceOpen}
@@ -21,7 +20,7 @@ loop-value-preserved c market H spread tells evidence =
     let within : n < length told = omega arith in
     let found = slice_get_read c.args.bounds.now (length c.args.bounds.now) n
     c.index-bounds-value.result refl c.loop-value-test.true c.index-bounds-value.is in
-    rw c.and-judged.ensures (one_more told (CoversValue (network_of market H) H spread)
+    rw c.and-judged.ensures (one_more told (CoversValue market.network H spread)
     (λ value ends. IsPriceOpen market H (asked_of spread value) ends) c.loop-value.judged
     c.judge_value_price.result n (get_or told n (0, 0)) (slice_get-get_or told n (0, 0) within)
     (c.loop-value.invariant market H spread tells evidence)
@@ -31,8 +30,8 @@ loop-value-preserved c market H spread tells evidence =
 pub returns : goal.returns
 returns c market H spread tells evidence =
     let long = ranged_long _ 0 _ c.args.bounds.now evidence in
-    let count = slice_index (sizes (network_of market H)) spread.variable in
-    all_judged c.args.told.now (CoversValue (network_of market H) H spread)
+    let count = slice_index (sizes market.network) spread.variable in
+    all_judged c.args.told.now (CoversValue market.network H spread)
     (λ value ends. IsPriceOpen market H (asked_of spread value) ends) c.loop-value.judged
     c.loop-value.value count (sym c.if-bounds-told.false ∙ long) (omega (arith, long))
     (c.loop-value.invariant market H spread tells evidence)

@@ -1,6 +1,6 @@
 use Rattle.std.specs.Prelude.{List}
 use Rattle.mk_exact.specs.History.{Entry}
-use Rattle.mk_exact.specs.Market.{Market, network_of}
+use Rattle.mk_exact.specs.Market.{Market}
 use Rattle.mk_spread.specs.Spreads.{SpreadAsked, asked_of}
 use Rattle.mk_spread.specs.Told.{CoversValue}
 use Rattle.mk_verify.specs.Clear.{IsPriceOpen}
@@ -12,5 +12,5 @@ abbrev pub invariant-loop-value : goal.invariant-loop-value
 invariant-loop-value l =
     (market : Market) (H : List Entry) (spread : SpreadAsked) → TellsSmall l.small market H
     → AreBoundsOfPrices market H spread l.bounds
-    → JudgesBelow l.told (CoversValue (network_of market H) H spread)
+    → JudgesBelow l.told (CoversValue market.network H spread)
     (λ value ends. IsPriceOpen market H (asked_of spread value) ends) l.judged l.value

@@ -45,3 +45,8 @@ pub returns-in-Status-clause-judged : goal.returns-in-Status-clause-judged
 unfolding command_of
 returns-in-Status-clause-judged g c stands =
     rw c.in-Status.is (c.judge_status.ensures c.args.known.now.quotes stands)
+
+pub returns-in-Add-clause-judged : goal.returns-in-Add-clause-judged
+unfolding command_of
+returns-in-Add-clause-judged g c stands =
+    rw c.in-Add.is (c.judge_addition.ensures c.args.known.now.quotes stands)

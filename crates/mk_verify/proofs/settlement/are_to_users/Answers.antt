@@ -1,4 +1,4 @@
-use Rattle.std.proofs.Common.{◌≡◌, length, arith}
+use Rattle.std.proofs.Common.{arith}
 use Rattle.mk_verify.proofs.Paying.{joined_rest, other_rest, none_left, another_next, at_end}
 use Rattle.mk_verify.proofs.settlement.are_to_users.Goals as goal
 use Rattle.mk_verify.proofs.settlement.are_to_users.Goals.{then-paid-payments-via-then-paid-payments, then-paid-payments-via-else-paid-payments+then-ne}

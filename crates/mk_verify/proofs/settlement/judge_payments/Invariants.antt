@@ -1,6 +1,5 @@
 use Rattle.std.specs.Prelude.{◌≡◌, ℕ, List, [], ◌∷◌}
 use Rattle.mk_states.specs.Events.{always}
-use Rattle.mk_exact.specs.Market.{network_of}
 use Rattle.mk_exact.specs.Sound.{IsSound}
 use Rattle.mk_exact.specs.Weight.{possible_states}
 use Rattle.mk_verify.proofs.Settled.{JudgesPaid}
@@ -12,7 +11,7 @@ invariant-loop-user g l =
     let H = l.initial.market.standing.history in
     record {
       same : l.market ≡ l.initial.market;
-      judged : (state : List ℕ) → IsSound (network_of market H) H
-          → possible_states (network_of market H) H always ≡ state ∷ []
+      judged : (state : List ℕ) → IsSound market.network H
+          → possible_states market.network H always ≡ state ∷ []
           → JudgesPaid market H state l.payments l.judged l.user;
     }

@@ -64,22 +64,22 @@ returns-in-Long-clause-ended g c =
     c.hold_bytes.ensures.found)
 
 pub returns-in-End-clause-ended : goal.returns-in-End-clause-ended
-returns-in-End-clause-ended g c = λ all far.
+returns-in-End-clause-ended g c = λ start all is_market at far.
     let source = g.I.Inputs.commands c.args.inputs.now in
     let empty = none_left c.args.self.now.lines c.next.new.self source
     (g.I.Inputs.commands c.next.new.inputs) far.done far.left c.requires.goes_on
     c.in-End.ensures.answer far.known far.between in
-    means_at_end c.end.result c.args.market.now.market c.requires.known.begins.is_market all
+    means_at_end c.end.result start is_market all
     c.args.self.now.lines source c.args.market.now.standing c.args.transcript.now
     c.args.self.now.front c.end.ensures far empty
 
 pub returns-in-TooMany-clause-ended : goal.returns-in-TooMany-clause-ended
-returns-in-TooMany-clause-ended g c = λ all far.
+returns-in-TooMany-clause-ended g c = λ start all is_market at far.
     let source = g.I.Inputs.commands c.args.inputs.now in
     let rest = g.I.Inputs.commands c.next.new.inputs in
     let none = none_stays TooMany c.args.self.now.lines c.next.new.self source rest (λ e. (cc))
     c.requires.goes_on c.in-TooMany.ensures.answer in
     let over = fresh_answer TooMany c.args.self.now.lines c.next.new.self source rest none
     c.in-TooMany.ensures.answer in
-    not_within c.args.market.now.market all c.args.self.now.lines c.next.new.self source rest
+    not_within start all c.args.self.now.lines c.next.new.self source rest
     c.args.market.now.standing c.args.transcript.now c.args.self.now.front none over far

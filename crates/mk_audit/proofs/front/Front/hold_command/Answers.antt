@@ -1,5 +1,15 @@
-use Rattle.mk_audit.proofs.Found.{still_there, found_there}
+use Rattle.mk_audit.proofs.Found.{still_at, still_there, found_there}
 use Rattle.mk_audit.proofs.front.Front.hold_command.Goals as goal
+
+pub returns-then-passes_price-clause-market : goal.returns-then-passes_price-clause-market
+returns-then-passes_price-clause-market c =
+    still_at c.args.market.now c.passes_price.new.market c.passes_price.ensures.market
+    c.passes_price.ensures.standing
+
+pub returns-else-passes_price-clause-market : goal.returns-else-passes_price-clause-market
+returns-else-passes_price-clause-market c = λ start at.
+    c.hold_line.ensures.market start (still_at c.args.market.now c.passes_price.new.market
+    c.passes_price.ensures.market c.passes_price.ensures.standing start at)
 
 pub returns-then-passes_price-clause-known : goal.returns-then-passes_price-clause-known
 returns-then-passes_price-clause-known c =

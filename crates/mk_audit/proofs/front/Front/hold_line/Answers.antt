@@ -12,8 +12,8 @@ returns-in_default-clause-found c = λ line busy asks.
     let now = standing_at m.standing c.args.self.now in
     let left = left_of c.args.transcript.now c.args.self.now in
     stuck_ends c.wrong.result m.market now line left c.args.self.now.right c.wrong.ensures
-    (no_line_stuck m.market now line (command_of c.args.command.now) left c.requires.known.begins
-    busy asks (subst (λ (bytes : List ℕ). All (λ b. b ≢ 10) bytes) c.left.ensures
+    (no_line_stuck m.market m.standing c.args.self.now line (command_of c.args.command.now) left
+    c.requires.known busy asks (subst (λ (bytes : List ℕ). All (λ b. b ≢ 10) bytes) c.left.ensures
     c.in_default.ensures))
 
 pub returns-in-Ok-clause-found : goal.returns-in-Ok-clause-found
@@ -21,7 +21,7 @@ returns-in-Ok-clause-found c = λ line busy asks.
     let m = c.args.market.now in
     read_found c.hold_reply.result m.market m.standing c.hold_reply.new.market.standing line
     (command_of c.args.command.now) c.in-Ok.reply c.in-Some.line.now c.args.transcript.now
-    c.args.self.now c.hold_reply.new.self c.requires.known.begins busy asks
+    c.args.self.now c.hold_reply.new.self c.requires.known busy asks
     (subst (λ (bytes : List ℕ). IsFirstLine c.in-Some.line.now bytes) c.left.ensures
     c.in-Some.ensures) c.in-Ok.ensures.found.0 c.in-Ok.ensures.found.1 c.hold_reply.ensures.place
     c.hold_reply.ensures.count c.hold_reply.ensures.found
@@ -33,8 +33,8 @@ returns-in-Err-Syntax-clause-found c = λ line busy asks.
     let left = left_of c.args.transcript.now c.args.self.now in
     stuck_ends c.wrong-in-Err-Syntax.result m.market now line left c.args.self.now.right
     c.wrong-in-Err-Syntax.ensures
-    (no_reply_stuck m.market now line (command_of c.args.command.now) left c.in-Some.line.now
-    c.requires.known.begins busy asks
+    (no_reply_stuck m.market m.standing c.args.self.now line (command_of c.args.command.now) left
+    c.in-Some.line.now c.requires.known busy asks
     (subst (λ (bytes : List ℕ). IsFirstLine c.in-Some.line.now bytes) c.left.ensures
     c.in-Some.ensures)
     (subst (λ (u : Unread). IsUnread c.in-Some.line.now u) c.in-Err-Syntax.field-0-is

@@ -1,13 +1,12 @@
-use Rattle.std.proofs.Common.{◌≡◌, ℕ, List, ◌++◌, ap, subst, ◌∙◌}
+use Rattle.std.proofs.Common.{◌≡◌, ℕ, List, ◌++◌, subst, ◌∙◌}
 use Rattle.mk_command.specs.Commands.{command_of}
-use Rattle.mk_market.specs.Trading.{Trading}
 use Rattle.mk_audit.specs.inner.Progress.{left_of}
 use Rattle.mk_audit.proofs.Found.{price_leaves, price_passed}
 use Rattle.mk_audit.proofs.front.Front.passes_price.Goals as goal
 
 pub returns-then-print_plain_price-clause-market : goal.returns-then-print_plain_price-clause-market
 returns-then-print_plain_price-clause-market c =
-    (c.print_plain_price.ensures.priced c.if-print_plain_price.true).answered.same_market
+    (c.print_plain_price.ensures.priced c.if-print_plain_price.true).answered.market
 
 pub returns-then-print_plain_price-clause-standing :
     goal.returns-then-print_plain_price-clause-standing
